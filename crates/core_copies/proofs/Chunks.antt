@@ -1,5 +1,6 @@
 -- A chunk of entries as it grows.
-use Rattle.std.proofs.Common.{◌≡◌, ◌≢◌, ◌⊎◌, inl, inr, ⊎_elim, ℕ, ◌+◌, ◌-◌, ◌<◌, ◌≤◌, Bool, true, false, get_or, cond, List, [], ◌∷◌, ◌++◌, length, Option, Some, None, zero, suc, slice_get, refl, sym, ap, subst, ◌∙◌, arith, length-append}
+use Rattle.std.proofs.Common.{◌≡◌, ◌≢◌, ◌⊎◌, inl, inr, ⊎_elim, ℕ, ◌+◌, ◌-◌, ◌<◌, ◌≤◌, Bool, true, false, get_or, cond, List, [], ◌∷◌, ◌++◌, length, Option}
+use Rattle.std.proofs.Common.{Some, None, zero, suc, slice_get, refl, sym, ap, subst, ◌∙◌, arith, length-append}
 use Rattle.std.proofs.lemmas.Option.{slice_get_cases, slice_get_past}
 use Rattle.std.specs.FinMap.{empty, entries, entries-from_sorted, find, from_sorted, get, get-from_sorted, len-empty, len-entries}
 use Rattle.std.specs.Ordering.{eq_by_cmp}
@@ -70,7 +71,8 @@ none_yet all above items none = subst (AreCopied all above above) (sym none) (re
     no_entries : entries (empty {X = Mark} {R = pair_cmp}) ≡ []
     no_entries = no_more (entries (empty {X = Mark} {R = pair_cmp})) (sym (len-entries (empty {X = Mark} {R = pair_cmp})) ∙ len-empty pair_cmp Mark)
 
-module _ (all : Index) (above last : Option Pair) (items : List Entry) (h : AreCopied all above last items) (e : Entry) (least : IsLeastAbove all last (Some e)) where
+module _ (all : Index) (above last : Option Pair) (items : List Entry) (h : AreCopied all above last items) (e : Entry)
+    (least : IsLeastAbove all last (Some e)) where
   -- the map with only this entry
   abbrev single : Index
   single = from_sorted (e ∷ [])
@@ -102,7 +104,8 @@ module _ (all : Index) (above last : Option Pair) (items : List Entry) (h : AreC
 
   next_listed : entries next ≡ items ++ e ∷ []
   next_listed =
-      joined_entries pair_exact h.more single (λ p q a b here there. subst (λ x. pair_cmp p x ≡ Less) (sym (single_is q b there)) (below_up all above last h.more h.copied p a here e.0 least.0))
+      joined_entries pair_exact h.more single (λ p q a b here there.
+      subst (λ x. pair_cmp p x ≡ Less) (sym (single_is q b there)) (below_up all above last h.more h.copied p a here e.0 least.0))
       ∙ ap (λ xs. xs ++ entries single) h.listed
       ∙ ap (λ xs. items ++ xs) (entries-from_sorted pair_cmp (e ∷ []) tt)
 
@@ -120,7 +123,8 @@ module _ (all : Index) (above last : Option Pair) (items : List Entry) (h : AreC
 
 -- ---- as a chunk
 
-module _ (v : CoreValue) (inside : (p : Pair) → get v.index.entries p ≢ None → p.rid.page < v.heap.pages) (above last : Option Pair) (items : List Entry) (h : AreCopied v.index.entries above last items) where
+module _ (v : CoreValue) (inside : (p : Pair) → get v.index.entries p ≢ None
+    → p.rid.page < v.heap.pages) (above last : Option Pair) (items : List Entry) (h : AreCopied v.index.entries above last items) where
   some_mark : (m : Mark) → (◌≡◌ {A = Option Mark} (Some m) None) → ⊥
   some_mark m e = absurd cc
 
@@ -143,7 +147,8 @@ module _ (v : CoreValue) (inside : (p : Pair) → get v.index.entries p ≢ None
       some_there : slice_get items (CHUNK_ENTRIES - 1) ≡ None → ⊥
       some_there none = by (slice_get_cases items (CHUNK_ENTRIES - 1)).1
         where
-          by : ((x : Entry) × (CHUNK_ENTRIES - 1 < length items) × (slice_get items (CHUNK_ENTRIES - 1) ≡ Some x) × (get_or items (CHUNK_ENTRIES - 1) x ≡ x)) ⊎ ((length items ≤ CHUNK_ENTRIES - 1) × (slice_get items (CHUNK_ENTRIES - 1) ≡ None)) → ⊥
+          by : ((x : Entry) × (CHUNK_ENTRIES - 1 < length items) × (slice_get items (CHUNK_ENTRIES - 1) ≡ Some x) × (get_or items (CHUNK_ENTRIES - 1) x ≡ x))
+              ⊎ ((length items ≤ CHUNK_ENTRIES - 1) × (slice_get items (CHUNK_ENTRIES - 1) ≡ None)) → ⊥
           by (inl some) = no_entry some.0 (sym none ∙ some.2)
           by (inr past) = absurd (omega (arith, many, past.0))
 

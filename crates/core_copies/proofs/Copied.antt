@@ -1,5 +1,6 @@
 -- Entries that are copied one after another, in order.
-use Rattle.std.proofs.Common.{◌≡◌, ◌≢◌, ◌⊎◌, inl, inr, ⊎_elim, ℕ, ◌+◌, ◌<◌, ◌≤◌, Bool, true, false, cond, List, [], ◌∷◌, Option, Some, None, refl, sym, ap, subst, ◌∙◌, arith}
+use Rattle.std.proofs.Common.{◌≡◌, ◌≢◌, ◌⊎◌, inl, inr, ⊎_elim, ℕ, ◌+◌, ◌<◌, ◌≤◌, Bool, true, false, cond, List, [], ◌∷◌, Option, Some, None, refl, sym, ap}
+use Rattle.std.proofs.Common.{subst, ◌∙◌, arith}
 use Rattle.std.proofs.lemmas.Bool.{false≢true}
 use Rattle.std.specs.FinMap.{empty, entries, find, get, get-empty, get-entries}
 use Rattle.std.specs.Cmp.{tied_itself}
@@ -64,7 +65,8 @@ none_copied all above = record {
 some_none : (m : Mark) → (◌≡◌ {A = Option Mark} None (Some m)) → ⊥
 some_none m e = absurd cc
 
-module _ (all : Index) (above last : Option Pair) (more : Index) (h : AreUpTo all above last more) (e : Pair × Mark) (least : IsLeastAbove all last (Some e)) where
+module _ (all : Index) (above last : Option Pair) (more : Index) (h : AreUpTo all above last more) (e : Pair
+    × Mark) (least : IsLeastAbove all last (Some e)) where
   -- up to the next one is what was up to the last one, and the next one
   split : (p : Pair) → IsUpTo (Some e.0) p → IsUpTo last p ⊎ (¬ IsUpTo last p) × ((p ≡ e.0) ⊎ (pair_cmp p e.0 ≡ Less))
   split p up = ⊎_elim (λ old. inl old) (λ new. inr (new, by (pair_cmp p e.0) refl)) (up_to_or_not last p)
@@ -104,7 +106,8 @@ module _ (all : Index) (above last : Option Pair) (more : Index) (h : AreUpTo al
 
   -- the entry is put into a map
   pub one_put : AreUpTo all above (Some e.0) (set_at more e.0 (Some e.1))
-  one_put = one_copied (set_at more e.0 (Some e.1)) (get-set_at_same pair_exact more e.0 (Some e.1)) (λ p apart. get-set_at_other pair_exact more e.0 (Some e.1) p apart)
+  one_put = one_copied (set_at more e.0 (Some e.1)) (get-set_at_same pair_exact more e.0 (Some e.1)) (λ p apart.
+      get-set_at_other pair_exact more e.0 (Some e.1) p apart)
 
 module _ (all : Index) (above last : Option Pair) (more : Index) (h : AreUpTo all above last more) where
   -- no entry after the last one is copied
@@ -116,8 +119,10 @@ module _ (all : Index) (above last : Option Pair) (more : Index) (h : AreUpTo al
   below_up p a here q after = ⊎_elim (λ up. below_after last p q up after) (λ past. absurd (some_none a (sym (h.past p past) ∙ here))) (up_to_or_not last p)
 
 -- no entry is left
-pub all_copied : (all : Index) (above last : Option Pair) (more : Index) → AreUpTo all above last more → IsLeastAbove all last None → (p : Pair) → ¬ IsUpTo above p → get more p ≡ get all p
-all_copied all above last more h none p not = ⊎_elim (λ up. h.there p not up) (λ past. h.past p past ∙ sym (none p (is_after last p past))) (up_to_or_not last p)
+pub all_copied : (all : Index) (above last : Option Pair) (more : Index) → AreUpTo all above last more → IsLeastAbove all last None → (p : Pair)
+    → ¬ IsUpTo above p → get more p ≡ get all p
+all_copied all above last more h none p not = ⊎_elim (λ up. h.there p not up) (λ past. h.past p past
+    ∙ sym (none p (is_after last p past))) (up_to_or_not last p)
 
 pub whole_copied : (all : Index) (last : Option Pair) (more : Index) → AreUpTo all None last more → IsLeastAbove all last None → more ≡ all
 whole_copied all last more h none = alike pair_exact more all (λ p. all_copied all None last more h none p (λ up. up))
@@ -169,7 +174,8 @@ module _ (f g : Pair → Bool) (weaker : (q : Pair) → f q ≡ true → g q ≡
   fewer [] m found = absurd (some_none m found)
   fewer (e ∷ es) m found = by (fewer es m) (eq_by_cmp pair_cmp p e.0) refl found
     where
-      by : (find pair_cmp p es ≡ Some m → passing f es < passing g es) → (b : Bool) → eq_by_cmp pair_cmp p e.0 ≡ b → cond b (Some e.1) (find pair_cmp p es) ≡ Some m → passing f (e ∷ es) < passing g (e ∷ es)
+      by : (find pair_cmp p es ≡ Some m → passing f es < passing g es) → (b : Bool) → eq_by_cmp pair_cmp p e.0 ≡ b
+          → cond b (Some e.1) (find pair_cmp p es) ≡ Some m → passing f (e ∷ es) < passing g (e ∷ es)
       by rest true is found =
           let same : p ≡ e.0 = key_is pair_exact p e.0 is in
           fewer_here (f e.0) (g e.0) (passing f es) (passing g es) (ap f (sym same) ∙ out) (ap g (sym same) ∙ within) (no_more es)

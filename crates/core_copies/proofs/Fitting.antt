@@ -1,5 +1,6 @@
 -- An image of its store has room for the cells of a core.
-use Rattle.std.proofs.Common.{◌≡◌, ◌≢◌, ℕ, ◌+◌, ◌<◌, ◌≤◌, Bool, true, false, cond, List, [], ◌∷◌, length, Option, Some, None, unwrap_or, eqb, refl, sym, ap, subst, ◌∙◌, arith}
+use Rattle.std.proofs.Common.{◌≡◌, ◌≢◌, ℕ, ◌+◌, ◌<◌, ◌≤◌, Bool, true, false, cond, List, [], ◌∷◌, length, Option, Some, None, unwrap_or, eqb, refl, sym, ap}
+use Rattle.std.proofs.Common.{subst, ◌∙◌, arith}
 use Rattle.std.proofs.lemmas.List.Elements.{All-cons, All-nil}
 use Rattle.std.proofs.Math.Logic.{∥∥₁_elim}
 use Rattle.std.specs.Coded.{Coded-set, Unit-prop, coded_ℕ, le_prop}
@@ -39,9 +40,11 @@ use Rattle.core_copies.proofs.Paged.{AreRowsInside}
 -- ---- the changes of a transaction
 
 -- each is at its position, and of a row of the pages
-numbered : (holder : Place → Option ℕ) (pages : ℕ) (t : ℕ) → ((r : Place) → holder r ≡ Some t → r.page < pages) → (changes : Changes) → IsHolderOf holder t changes → IsNumbered changes → ArePlaced pages 0 (as_list changes)
+numbered : (holder : Place → Option ℕ) (pages : ℕ) (t : ℕ) → ((r : Place) → holder r ≡ Some t → r.page < pages) → (changes : Changes)
+    → IsHolderOf holder t changes → IsNumbered changes → ArePlaced pages 0 (as_list changes)
 numbered holder pages t held Unchanged names is = tt
-numbered holder pages t held (older ▹ c) names is = placed_one_more pages 0 (as_list older) c (numbered holder pages t held older names.1 is.1) (omega (arith, is.0)) (held c.rid names.0)
+numbered holder pages t held (older ▹ c) names is =
+    placed_one_more pages 0 (as_list older) c (numbered holder pages t held older names.1 is.1) (omega (arith, is.0)) (held c.rid names.0)
 
 placed_prop : (pages n : ℕ) (changes : List ChangeValue) (a b : ArePlaced pages n changes) → a ≡ b
 placed_prop pages n [] a b = Unit-prop a b
@@ -49,7 +52,8 @@ placed_prop pages n (c ∷ changes) a b = λ i. (Coded-set coded_ℕ c.position 
 
 placed_within : (pages n : ℕ) (changes : List ChangeValue) → ArePlaced pages n changes → AreChangesWithin pages changes
 placed_within pages n [] placed = All-nil (λ (c : ChangeValue). c.rid.page < pages)
-placed_within pages n (c ∷ changes) placed = All-cons (λ (c : ChangeValue). c.rid.page < pages) c changes placed.1 (placed_within pages (n + 1) changes placed.2)
+placed_within pages n (c ∷ changes) placed = All-cons (λ (c : ChangeValue). c.rid.page < pages) c changes placed.1
+    (placed_within pages (n + 1) changes placed.2)
 
 same_state : (x y : TxnState) → (◌≡◌ {A = Option TxnState} (Some x) (Some y)) → x ≡ y
 same_state x y e = cc
@@ -76,7 +80,8 @@ pub record IsKnown (v : CoreValue) : Type 0 where
 
 module _ (v : CoreValue) (s : State) (k : Standing) (st : IsState v s k) where
   entries_inside : (p : Pair) → get v.index.entries p ≢ None → p.rid.page < v.heap.pages
-  entries_inside p there = subst (λ n. p.rid.page < n) st.shown.pages (st.fit.inside.entries p (λ none. there (ap (λ m. get m p) (sym st.shown.entries) ∙ none)))
+  entries_inside p there = subst (λ n. p.rid.page < n) st.shown.pages
+      (st.fit.inside.entries p (λ none. there (ap (λ m. get m p) (sym st.shown.entries) ∙ none)))
 
   highest_inside : (p : Pair) → v.life ≡ Building (Some p) → p.rid.page < v.heap.pages
   highest_inside p is = subst (λ n. p.rid.page < n) st.shown.pages (st.fit.inside.highest p (st.shown.life ∙ is))
@@ -90,7 +95,8 @@ module _ (v : CoreValue) (s : State) (k : Standing) (st : IsState v s k) where
   changes_placed : (t : ℕ) (x : TxnState) → AreOne (Some x) (s.txns t) → ArePlaced v.heap.pages 0 x.changes
   changes_placed t x one =
       let fit = st.fit.txns t one.0 one.1 in
-      subst (λ n. ArePlaced n 0 x.changes) st.shown.pages (subst (ArePlaced s.pages 0) one.2.changes (numbered s.holder s.pages t (λ r at. st.fit.held r t at) one.0.changes fit.names fit.numbered))
+      subst (λ n. ArePlaced n 0 x.changes) st.shown.pages
+      (subst (ArePlaced s.pages 0) one.2.changes (numbered s.holder s.pages t (λ r at. st.fit.held r t at) one.0.changes fit.names fit.numbered))
 
 module _ (v : CoreValue) (safe : ∥ IsSafe v ∥₁) where
   pub entries_known : (p : Pair) → get v.index.entries p ≢ None → p.rid.page < v.heap.pages
@@ -102,14 +108,16 @@ module _ (v : CoreValue) (safe : ∥ IsSafe v ∥₁) where
     entries = entries_known;
     highest = λ p is. ∥∥₁_elim safe le_prop (λ (h : IsSafe v). highest_inside v h.state h.standing h.is p is);
     room = ∥∥₁_elim safe le_prop (λ (h : IsSafe v). entries_room v h.state h.standing h.is);
-    placed = λ t x here. ∥∥₁_elim safe (placed_prop v.heap.pages 0 x.changes) (λ (h : IsSafe v). changes_placed v h.state h.standing h.is t x (subst (λ o. AreOne o (h.state.txns t)) here (h.is.shown.txns t)));
+    placed = λ t x here. ∥∥₁_elim safe (placed_prop v.heap.pages 0 x.changes) (λ (h : IsSafe v).
+        changes_placed v h.state h.standing h.is t x (subst (λ o. AreOne o (h.state.txns t)) here (h.is.shown.txns t)));
   }
 
 -- ---- the cells
 
 module _ (v : CoreValue) (is : IsKnown v) (sound : IsSound v.txns) (cells : Cells) (h : IsCellsOf v cells) where
   -- what holds of no change, and of the changes of each active transaction
-  each_list : (P : List ChangeValue → Type 0) → P [] → ((t : ℕ) (x : TxnState) → state_of t v.txns.active ≡ Some x → P x.changes) → (t : ℕ) → P (list_of cells.pending t)
+  each_list : (P : List ChangeValue → Type 0) → P [] → ((t : ℕ) (x : TxnState) → state_of t v.txns.active ≡ Some x → P x.changes) → (t : ℕ)
+      → P (list_of cells.pending t)
   each_list P none each t = subst P (sym (ap (λ (o : Option (List ChangeValue)). unwrap_or o []) (h.pending t))) (by (state_of t v.txns.active) refl)
     where
       held : (x : TxnState) → state_of t v.txns.active ≡ Some x → (b : Bool) → P (unwrap_or (cond b (Some x.changes) None) [])
@@ -127,25 +135,30 @@ module _ (v : CoreValue) (is : IsKnown v) (sound : IsSound v.txns) (cells : Cell
   are_inside = record {
     rows = λ q row at. (is.rows q (is_some q row at)).0;
     entries = λ p there. is.entries p (λ none. there (ap (λ m. get m p) h.entries ∙ none));
-    changes = each_list (AreChangesWithin v.heap.pages) (placed_within v.heap.pages 0 [] tt) (λ t x here. placed_within v.heap.pages 0 x.changes (is.placed t x here));
+    changes = each_list (AreChangesWithin v.heap.pages) (placed_within v.heap.pages 0 [] tt) (λ t x here.
+        placed_within v.heap.pages 0 x.changes (is.placed t x here));
     life = λ p at. is.highest p (sym h.life ∙ at);
   }
 
-  fits_own : (slots : ℕ) → length (entries cells.pending) ≤ length v.txns.active → FitsImage (record { pages = v.heap.pages; entries = v.index.capacity; slots = slots }) cells
+  fits_own : (slots : ℕ) → length (entries cells.pending) ≤ length v.txns.active
+      → FitsImage (record { pages = v.heap.pages; entries = v.index.capacity; slots = slots }) cells
   fits_own slots few = record {
     inside = are_inside;
     slots = λ q row at. (is.rows q (is_some q row at)).1;
-    room = let room = is.room in let same : length (entries cells.entries) ≡ len v.index.entries = ap (λ m. length (entries m)) h.entries ∙ sym (len-entries v.index.entries) in omega (arith, room, same);
+    room = let room = is.room in let same : length (entries cells.entries) ≡ len v.index.entries = ap (λ m. length (entries m)) h.entries
+        ∙ sym (len-entries v.index.entries) in omega (arith, room, same);
     txns = omega (arith, few, sound.few);
     changes = each_list (λ list. length list ≤ CHANGES_MAX) (omega arith) (λ t x here. few_changes t v.txns.active x sound.txns here);
     placed = each_list (ArePlaced v.heap.pages 0) tt is.placed;
   }
 
   pub fits_store : length (entries cells.pending) ≤ length v.txns.active → FitsStoreOf v cells
-  fits_store few g of = subst (λ (g : GeometryValue). FitsImage g cells) (λ i. record { pages = of.pages i; entries = of.entries i; slots = g.slots }) (fits_own g.slots few)
+  fits_store few g of = subst (λ (g : GeometryValue). FitsImage g cells) (λ i. record { pages = of.pages i; entries = of.entries i; slots = g.slots })
+      (fits_own g.slots few)
 
 -- an image has room for life and lists of cells that it has room for
-start_fits : (g : GeometryValue) (cells : Cells) → FitsImage g cells → FitsImage g (record { rows = empty; entries = empty; pending = cells.pending; life = cells.life })
+start_fits : (g : GeometryValue) (cells : Cells) → FitsImage g cells
+    → FitsImage g (record { rows = empty; entries = empty; pending = cells.pending; life = cells.life })
 start_fits g cells fits = record {
   inside = record {
     rows = λ q row at. absurd (no_row row (sym (get-empty rid_cmp q) ∙ at));
@@ -166,13 +179,15 @@ start_fits g cells fits = record {
     no_entries : length (entries (empty {X = Mark} {R = pair_cmp})) ≡ 0
     no_entries = sym (len-entries (empty {X = Mark} {R = pair_cmp})) ∙ len-empty pair_cmp Mark
 
-pub is_start : (v : CoreValue) → IsKnown v → IsSound v.txns → (life : Life) (lists : Pending) → life ≡ v.life → ((t : ℕ) → get lists t ≡ list_shown (state_of t v.txns.active)) → len lists ≤ length v.txns.active
+pub is_start : (v : CoreValue) → IsKnown v → IsSound v.txns → (life : Life) (lists : Pending) → life ≡ v.life
+    → ((t : ℕ) → get lists t ≡ list_shown (state_of t v.txns.active)) → len lists ≤ length v.txns.active
     → (cells : Cells) → IsCellsOf v cells → IsStartOf v cells life lists
 is_start v is sound life lists life_is each few cells h = record {
   life-is = life_is ∙ sym h.life;
   lists-are = same;
   inside = are_inside v is sound cells h;
-  fits = λ g of. subst (λ (x : Life × Pending). FitsImage g (record { rows = empty; entries = empty; pending = x.1; life = x.0 })) (λ i. (sym (life_is ∙ sym h.life) i, sym same i)) (start_fits g cells (fits_store v is sound cells h fewer g of));
+  fits = λ g of. subst (λ (x : Life × Pending). FitsImage g (record { rows = empty; entries = empty; pending = x.1; life = x.0 })) (λ i.
+      (sym (life_is ∙ sym h.life) i, sym same i)) (start_fits g cells (fits_store v is sound cells h fewer g of));
 }
   where
     same : lists ≡ cells.pending
@@ -181,9 +196,11 @@ is_start v is sound life lists life_is each few cells h = record {
     fewer : length (entries cells.pending) ≤ length v.txns.active
     fewer = subst (λ (m : Pending). length (entries m) ≤ length v.txns.active) same (let counted = len-entries lists in omega (arith, few, counted))
 
-pub is_whole : (v : CoreValue) → IsKnown v → IsSound v.txns → (cells : Cells) → cells.rows ≡ v.heap.rows → cells.entries ≡ v.index.entries → ((t : ℕ) → get cells.pending t ≡ list_shown (state_of t v.txns.active)) → len cells.pending ≤ length v.txns.active → cells.life ≡ v.life
+pub is_whole : (v : CoreValue) → IsKnown v → IsSound v.txns → (cells : Cells) → cells.rows ≡ v.heap.rows → cells.entries ≡ v.index.entries
+    → ((t : ℕ) → get cells.pending t ≡ list_shown (state_of t v.txns.active)) → len cells.pending ≤ length v.txns.active → cells.life ≡ v.life
     → IsCellsOf v cells × FitsStoreOf v cells
-is_whole v is sound cells rows entries_are each few life = (h, fits_store v is sound cells h (let counted = len-entries cells.pending in omega (arith, few, counted)))
+is_whole v is sound cells rows entries_are each few life =
+    (h, fits_store v is sound cells h (let counted = len-entries cells.pending in omega (arith, few, counted)))
   where
     h : IsCellsOf v cells
     h = record { rows = rows; entries = entries_are; pending = each; life = life }
@@ -196,15 +213,23 @@ is_page v page rows is cells h = record {
   slots = is.slots;
 }
 
-pub are_entries : (v : CoreValue) (above : Option Pair) (entries : List (Pair × Mark)) → AreEntriesOf v (unlisted v) above entries → (cells : Cells) → IsCellsOf v cells → AreEntriesOf v cells above entries
+pub are_entries : (v : CoreValue) (above : Option Pair) (entries : List (Pair × Mark)) → AreEntriesOf v (unlisted v) above entries → (cells : Cells)
+    → IsCellsOf v cells → AreEntriesOf v cells above entries
 are_entries v above entries are cells h = record {
   more = are.more;
   listed = are.listed;
   most = are.most;
-  full = λ last at. let next = are.full last at in record { further = next.further; there = λ p not up. next.there p not up ∙ ap (λ m. get m p) (sym h.entries); below = next.below; past = next.past };
+  full = λ last at. let next = are.full last at in record {
+    further = next.further;
+    there = λ p not up. next.there p not up
+        ∙ ap (λ m. get m p) (sym h.entries);
+    below = next.below;
+    past = next.past;
+  };
   rest = λ none. let next = are.rest none in record { there = λ p not. next.there p not ∙ ap (λ m. get m p) (sym h.entries); below = next.below };
   inside = are.inside;
 }
 
-pub at_place : {A : Type 0} (v : CoreValue) (cells : Cells) (piece : Piece A) (place other : CopyPlace) → place ≡ other → IsPieceOf v cells other piece → IsPieceOf v cells place piece
+pub at_place : {A : Type 0} (v : CoreValue) (cells : Cells) (piece : Piece A) (place other : CopyPlace) → place ≡ other → IsPieceOf v cells other piece
+    → IsPieceOf v cells place piece
 at_place v cells piece place other is of = subst (λ (p : CopyPlace). IsPieceOf v cells p piece) (sym is) of

@@ -17,7 +17,8 @@ use Rattle.core_model.specs.Histories.{Opened, opened}
 use Rattle.core_model.specs.Invariants.{IsHolderOf, IsWellFormed}
 use Rattle.core_model.specs.Records.{action_of, begun_action, first_action, next_action, place_action, set_by_any, undo_action}
 use Rattle.core_model.specs.States.{Active, Made, NewMarked, OldMarked, OldSet, Phase, Pledges, RowSet, State}
-use Rattle.core_model.specs.Steps.{Attempt, Begin, Checkpoint, Clean, Commit, Create, Drop, End, Finish, IsEnabled, Keep, MachineStep, Next, Start, Take, Undo, Wrap, after, carried_on, freed, is_indexed, left, started, txn_at, undone, undone_first, update}
+use Rattle.core_model.specs.Steps.{Attempt, Begin, Checkpoint, Clean, Commit, Create, Drop, End, Finish, IsEnabled, Keep, MachineStep, Next, Start, Take, Undo}
+use Rattle.core_model.specs.Steps.{Wrap, after, carried_on, freed, is_indexed, left, started, txn_at, undone, undone_first, update}
 use Rattle.core_copies.specs.Lists.{HasLists}
 
 some_none : {X : Type 0} (x : X) → (◌≡◌ {A = Option X} (Some x) None) → ⊥
@@ -43,7 +44,8 @@ record AreListed (holder : Place → Option ℕ) (pending : Pending) : Type 0 wh
 
 module _ (holder : Place → Option ℕ) (pending : Pending) (h : AreListed holder pending) (t : ℕ) where
   -- a transaction that holds a row gets a list, and no other's rows change
-  put_list : (new : Place → Option ℕ) (list : List ChangeValue) (r : Place) → new r ≡ Some t → ((u : ℕ) (q : Place) → u ≢ t → new q ≡ Some u → holder q ≡ Some u) → ((u : ℕ) (q : Place) → u ≢ t → holder q ≡ Some u → new q ≡ Some u)
+  put_list : (new : Place → Option ℕ) (list : List ChangeValue) (r : Place) → new r ≡ Some t
+      → ((u : ℕ) (q : Place) → u ≢ t → new q ≡ Some u → holder q ≡ Some u) → ((u : ℕ) (q : Place) → u ≢ t → holder q ≡ Some u → new q ≡ Some u)
       → AreListed new (with_list pending t (Some list))
   put_list new list r own before behind = record {
     listed = λ u q at. ⊎_elim
@@ -61,7 +63,8 @@ module _ (holder : Place → Option ℕ) (pending : Pending) (h : AreListed hold
   same_holders list r own = put_list holder list r own (λ u q apart at. at) (λ u q apart at. at)
 
   -- one that takes a row that is free, or its own
-  taken_row : (list : List ChangeValue) (r : Place) → (holder r ≡ None) ⊎ (holder r ≡ Some t) → AreListed (update rid_cmp holder r (Some t)) (with_list pending t (Some list))
+  taken_row : (list : List ChangeValue) (r : Place) → (holder r ≡ None) ⊎ (holder r ≡ Some t)
+      → AreListed (update rid_cmp holder r (Some t)) (with_list pending t (Some list))
   unfolding update
   taken_row list r mine = put_list (update rid_cmp holder r (Some t)) list r (ap (λ b. cond b (Some t) (holder r)) (same_key rid_exact r))
       (λ u q apart at. before u q apart (eq_by_cmp rid_cmp q r) at)
@@ -85,7 +88,11 @@ module _ (holder : Place → Option ℕ) (pending : Pending) (h : AreListed hold
     where
       by : (b : Bool) → eq_by_cmp nat_cmp w t ≡ b → cond b None (Some w) ≡ Some u → (◌≡◌ {A = Option ℕ} (Some w) (Some u)) × (u ≢ t)
       by true is at = absurd (some_none u (sym at))
-      by false is at = (at, λ same. let equal : eq_by_cmp nat_cmp w t ≡ true = ap (λ n. eq_by_cmp nat_cmp n t) (same_some w u at ∙ same) ∙ same_key nat_exact t in absurd cc)
+      by false is at = (
+        at,
+        λ same. let equal : eq_by_cmp nat_cmp w t ≡ true = ap (λ n. eq_by_cmp nat_cmp n t) (same_some w u at ∙ same)
+            ∙ same_key nat_exact t in absurd cc,
+      )
 
   freed_other : (u : ℕ) → u ≢ t → freed t (Some u) ≡ Some u
   freed_other u apart = ap (λ b. cond b None (Some u)) (other_key nat_exact u t apart)
@@ -108,11 +115,13 @@ abbrev with_pledges : State → Pledges → State
 with_pledges s pledges = record s { pledges = pledges }
 
 module _ (s : State) (cells : Cells) (h : AreListed s.holder cells.pending) (t : ℕ) (pledges : Pledges) where
-  start_lists : (x : Active) (c : ChangeValue) → (s.holder c.rid ≡ None) ⊎ (s.holder c.rid ≡ Some t) → (o : Option Pair) → HasLists (with_pledges (started s t x c o) pledges) (set_by_any cells (Some (first_action t c o)))
+  start_lists : (x : Active) (c : ChangeValue) → (s.holder c.rid ≡ None) ⊎ (s.holder c.rid ≡ Some t) → (o : Option Pair)
+      → HasLists (with_pledges (started s t x c o) pledges) (set_by_any cells (Some (first_action t c o)))
   start_lists x c mine None = has _ _ (taken_row s.holder cells.pending h t _ c.rid mine)
   start_lists x c mine (Some p) = has _ _ (taken_row s.holder cells.pending h t _ c.rid mine)
 
-  next_lists : (x : Active) (changes : Changes) (phase : Phase) → IsHolderOf s.holder t changes → HasLists (with_pledges (carried_on s t x changes phase) pledges) (set_by_any cells (next_action t changes phase))
+  next_lists : (x : Active) (changes : Changes) (phase : Phase) → IsHolderOf s.holder t changes
+      → HasLists (with_pledges (carried_on s t x changes phase) pledges) (set_by_any cells (next_action t changes phase))
   next_lists x Unchanged phase names = has _ _ h
   next_lists x (older ▹ c) OldMarked names = has _ _ (same_holders s.holder cells.pending h t _ c.rid names.0)
   next_lists x (older ▹ c) RowSet names = has _ _ (same_holders s.holder cells.pending h t _ c.rid names.0)
@@ -120,11 +129,13 @@ module _ (s : State) (cells : Cells) (h : AreListed s.holder cells.pending) (t :
   next_lists x (older ▹ c) (NewMarked applied) names = has _ _ h
   next_lists x (older ▹ c) OldSet names = has _ _ h
 
-  undo_begun : (x : Active) (c : ChangeValue) (older : Changes) (applied : Bool) → s.holder c.rid ≡ Some t → (old new : Option Pair) → HasLists (with_pledges (undone_first s t x c older applied new) pledges) (set_by_any cells (Some (begun_action t c old new)))
+  undo_begun : (x : Active) (c : ChangeValue) (older : Changes) (applied : Bool) → s.holder c.rid ≡ Some t → (old new : Option Pair)
+      → HasLists (with_pledges (undone_first s t x c older applied new) pledges) (set_by_any cells (Some (begun_action t c old new)))
   undo_begun x c older applied own old None = has _ _ (same_holders s.holder cells.pending h t _ c.rid own)
   undo_begun x c older applied own old (Some p) = has _ _ (same_holders s.holder cells.pending h t _ c.rid own)
 
-  undo_lists : (x : Active) (changes : Changes) (phase : Phase) → IsHolderOf s.holder t changes → HasLists (with_pledges (undone s t x changes phase) pledges) (set_by_any cells (undo_action (is_indexed s.life) t changes phase))
+  undo_lists : (x : Active) (changes : Changes) (phase : Phase) → IsHolderOf s.holder t changes
+      → HasLists (with_pledges (undone s t x changes phase) pledges) (set_by_any cells (undo_action (is_indexed s.life) t changes phase))
   undo_lists x Unchanged phase names = has _ _ h
   undo_lists x (older ▹ c) OldMarked names = undo_begun x c older false names.0 (old_pair (is_indexed s.life) c) (new_pair (is_indexed s.life) c)
   undo_lists x (older ▹ c) RowSet names = undo_begun x c older true names.0 (old_pair (is_indexed s.life) c) (new_pair (is_indexed s.life) c)
@@ -141,11 +152,15 @@ lists_begin o = record {
   holds = λ t there. absurd (there (get-empty nat_cmp t));
 }
 
-pub lists_go_on : (s : State) (e : MachineStep) (cells : Cells) → IsWellFormed s → IsEnabled s e → HasLists s cells → HasLists (after s e) (set_by_any cells (action_of s e))
+pub lists_go_on : (s : State) (e : MachineStep) (cells : Cells) → IsWellFormed s → IsEnabled s e → HasLists s cells
+    → HasLists (after s e) (set_by_any cells (action_of s e))
 lists_go_on s (Begin t) cells fit enabled h = record { listed = h.listed; holds = h.holds }
-lists_go_on s (Start t c) cells fit enabled h = start_lists s cells (record { listed = h.listed; holds = h.holds }) t _ (txn_at s t) c enabled.mine (old_pair (is_indexed s.life) c)
-lists_go_on s (Next t) cells fit enabled h = next_lists s cells (record { listed = h.listed; holds = h.holds }) t _ (txn_at s t) (txn_at s t).changes (txn_at s t).phase (fit.txns t (txn_at s t) enabled.0).names
-lists_go_on s (Undo t) cells fit enabled h = undo_lists s cells (record { listed = h.listed; holds = h.holds }) t _ (txn_at s t) (txn_at s t).changes (txn_at s t).phase (fit.txns t (txn_at s t) enabled).names
+lists_go_on s (Start t c) cells fit enabled h = start_lists s cells (record { listed = h.listed; holds = h.holds }) t _ (txn_at s t) c enabled.mine
+    (old_pair (is_indexed s.life) c)
+lists_go_on s (Next t) cells fit enabled h = next_lists s cells (record { listed = h.listed; holds = h.holds }) t _ (txn_at s t) (txn_at s t).changes
+    (txn_at s t).phase (fit.txns t (txn_at s t) enabled.0).names
+lists_go_on s (Undo t) cells fit enabled h = undo_lists s cells (record { listed = h.listed; holds = h.holds }) t _ (txn_at s t) (txn_at s t).changes
+    (txn_at s t).phase (fit.txns t (txn_at s t) enabled).names
 lists_go_on s (End t) cells fit enabled h = left_lists s cells (record { listed = h.listed; holds = h.holds }) t _ _ _ refl
 lists_go_on s (Commit t) cells fit enabled h = left_lists s cells (record { listed = h.listed; holds = h.holds }) t _ _ _ refl
 lists_go_on s Create cells fit enabled h = record { listed = h.listed; holds = h.holds }

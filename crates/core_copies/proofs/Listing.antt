@@ -1,5 +1,6 @@
 -- The lists of the active transactions, one after another.
-use Rattle.std.proofs.Common.{◌≡◌, ◌≢◌, ◌⊎◌, inl, inr, ⊎_elim, ℕ, ◌+◌, ◌<◌, ◌≤◌, Bool, true, false, cond, List, [], ◌∷◌, length, Option, Some, None, zero, suc, eqb, slice_get, option_map, refl, sym, ap, subst, ◌∙◌, arith}
+use Rattle.std.proofs.Common.{◌≡◌, ◌≢◌, ◌⊎◌, inl, inr, ⊎_elim, ℕ, ◌+◌, ◌<◌, ◌≤◌, Bool, true, false, cond, List, [], ◌∷◌, length, Option, Some, None, zero, suc}
+use Rattle.std.proofs.Common.{eqb, slice_get, option_map, refl, sym, ap, subst, ◌∙◌, arith}
 use Rattle.std.proofs.lemmas.Bool.{cases_eq, cases_lt, eqb-true}
 use Rattle.std.specs.FinMap.{contains_key, empty, get, get-empty, len, len-empty, len-insert}
 use Rattle.std.specs.Cmp.{nat_cmp_total}
@@ -25,7 +26,8 @@ placed : (t : ℕ) (es : List Txn) (x : TxnState) → state_of t es ≡ Some x �
 placed t [] x here = absurd (no_state x here)
 placed t (d ∷ es) x here = by (placed t es x) (eqb t d.0) refl here
   where
-    by : (state_of t es ≡ Some x → (i : ℕ) × (e : Txn) × (i < length es) × (slice_get es i ≡ Some e) × (e.0 ≡ t)) → (b : Bool) → eqb t d.0 ≡ b → cond b (Some d.1) (state_of t es) ≡ Some x → (i : ℕ) × (e : Txn) × (i < length (d ∷ es)) × (slice_get (d ∷ es) i ≡ Some e) × (e.0 ≡ t)
+    by : (state_of t es ≡ Some x → (i : ℕ) × (e : Txn) × (i < length es) × (slice_get es i ≡ Some e) × (e.0 ≡ t)) → (b : Bool) → eqb t d.0 ≡ b
+        → cond b (Some d.1) (state_of t es) ≡ Some x → (i : ℕ) × (e : Txn) × (i < length (d ∷ es)) × (slice_get (d ∷ es) i ≡ Some e) × (e.0 ≡ t)
     by rest true is here = (0, d, omega arith, refl, sym (eqb-true t d.0 is))
     by rest false is here = let later = rest here in let within = later.2 in (suc later.0, later.1, omega (arith, within), later.3, later.4)
 
@@ -43,7 +45,8 @@ none_listed active = record {
 }
 
 module _ (active : List Txn) (n : ℕ) (lists : Pending) (h : AreListedTo active n lists) (t : ℕ) (its : (e : Txn) → slice_get active n ≡ Some e → e.0 ≡ t) where
-  next_listed : (new : Pending) → get new t ≡ list_shown (state_of t active) → ((u : ℕ) → u ≢ t → get new u ≡ get lists u) → len new ≤ len lists + 1 → AreListedTo active (n + 1) new
+  next_listed : (new : Pending) → get new t ≡ list_shown (state_of t active) → ((u : ℕ) → u ≢ t → get new u ≡ get lists u) → len new ≤ len lists + 1
+      → AreListedTo active (n + 1) new
   next_listed new own same more = record {
     done = λ i e below at. ⊎_elim
         (λ mine. ap (get new) mine ∙ own ∙ ap (λ u. list_shown (state_of u active)) (sym mine))
@@ -57,7 +60,8 @@ module _ (active : List Txn) (n : ℕ) (lists : Pending) (h : AreListedTo active
   }
     where
       earlier : (i : ℕ) (e : Txn) → i < n + 1 → slice_get active i ≡ Some e → e.0 ≢ t → i < n
-      earlier i e below at apart = ⊎_elim (λ less. less) (λ past. let same_place : i ≡ n = omega (arith, below, past) in absurd (apart (its e (ap (slice_get active) (sym same_place) ∙ at)))) (cases_lt i n)
+      earlier i e below at apart = ⊎_elim (λ less. less) (λ past. let same_place : i ≡ n = omega (arith, below, past) in
+          absurd (apart (its e (ap (slice_get active) (sym same_place) ∙ at)))) (cases_lt i n)
 
   -- one that has no list
   pub one_unlisted : None ≡ list_shown (state_of t active) → AreListedTo active (n + 1) lists
@@ -68,7 +72,8 @@ module _ (active : List Txn) (n : ℕ) (lists : Pending) (h : AreListedTo active
   length_more false m = omega arith
 
   -- one that has this list
-  pub one_listed : (new : Pending) (list : List ChangeValue) → Some list ≡ list_shown (state_of t active) → new ≡ with_list lists t (Some list) → AreListedTo active (n + 1) new
+  pub one_listed : (new : Pending) (list : List ChangeValue) → Some list ≡ list_shown (state_of t active) → new ≡ with_list lists t (Some list)
+      → AreListedTo active (n + 1) new
   one_listed new list shown is = subst (AreListedTo active (n + 1)) (sym is) (next_listed (with_list lists t (Some list))
       (get-set_at_same nat_exact lists t (Some list) ∙ shown)
       (λ u apart. get-set_at_other nat_exact lists t (Some list) u apart)
@@ -88,11 +93,13 @@ pub none_shown : (o : Option TxnState) → holds_rows o ≡ false → list_shown
 none_shown None none = refl
 none_shown (Some x) none = ap (λ b. cond b (Some x.changes) None) none
 
-pub some_shown : (o : Option TxnState) (changes : List ChangeValue) → holds_rows o ≡ true → Some changes ≡ option_map (λ (x : TxnState). x.changes) o → list_shown o ≡ Some changes
+pub some_shown : (o : Option TxnState) (changes : List ChangeValue) → holds_rows o ≡ true → Some changes ≡ option_map (λ (x : TxnState). x.changes) o
+    → list_shown o ≡ Some changes
 some_shown None changes holds is = absurd cc
 some_shown (Some x) changes holds is = ap (λ b. cond b (Some x.changes) None) holds ∙ sym is
 
-pub one_put : (active : List Txn) (n : ℕ) (lists new : Pending) → AreListedTo active n lists → (t : ℕ) → Some t ≡ option_map (λ (e : Txn). e.0) (slice_get active n) → HasListPut (list_shown (state_of t active)) t lists new → AreListedTo active (n + 1) new
+pub one_put : (active : List Txn) (n : ℕ) (lists new : Pending) → AreListedTo active n lists → (t : ℕ)
+    → Some t ≡ option_map (λ (e : Txn). e.0) (slice_get active n) → HasListPut (list_shown (state_of t active)) t lists new → AreListedTo active (n + 1) new
 one_put active n lists new h t is = by (list_shown (state_of t active)) refl
   where
     its : (e : Txn) → slice_get active n ≡ Some e → e.0 ≡ t

@@ -23,24 +23,30 @@ use Rattle.core_copies.proofs.Owned.{cells_shown}
 use Rattle.core_copies.specs.Lists.{HasLists}
 use Rattle.core_copies.specs.Shown.{IsCellsOf, IsOfGeometry}
 
-after_first : (cells : Cells) (last : ℕ) (o : Option Action) (records : List RecordValue) → cells_after cells (one_record last o ++ records) ≡ cells_after (set_by_any cells o) records
+after_first : (cells : Cells) (last : ℕ) (o : Option Action) (records : List RecordValue)
+    → cells_after cells (one_record last o ++ records) ≡ cells_after (set_by_any cells o) records
 after_first cells last None records = refl
 after_first cells last (Some action) records = refl
 
-run_lists : (s new : State) (steps : List MachineStep) → Runs s steps new → IsWellFormed s → (last : ℕ) (cells : Cells) → HasLists s cells → HasLists new (cells_after cells (records_from s last steps))
+run_lists : (s new : State) (steps : List MachineStep) → Runs s steps new → IsWellFormed s → (last : ℕ) (cells : Cells) → HasLists s cells
+    → HasLists new (cells_after cells (records_from s last steps))
 run_lists s new steps no_step fit last cells h = h
 run_lists s new steps (one_step e rest enabled run) fit last cells h =
     subst (HasLists new) (sym (after_first cells last (action_of s e) (records_from (after s e) (next_number last (action_of s e)) rest)))
-    (run_lists (after s e) new rest run (fit_step s e fit enabled) (next_number last (action_of s e)) (set_by_any cells (action_of s e)) (lists_go_on s e cells fit enabled h))
+    (run_lists (after s e) new rest run (fit_step s e fit enabled) (next_number last (action_of s e)) (set_by_any cells (action_of s e))
+    (lists_go_on s e cells fit enabled h))
 
-made_lists : (o : Opened) → CanOpen o → (made : List RecordValue) (items : List Item) (writes : ℕ → List Write) (s : State) → HasMade o made items writes s → HasLists s (cells_after (opening_cells o.given) made)
+made_lists : (o : Opened) → CanOpen o → (made : List RecordValue) (items : List Item) (writes : ℕ → List Write) (s : State) → HasMade o made items writes s
+    → HasLists s (cells_after (opening_cells o.given) made)
 made_lists o can made items writes s h =
     subst (λ records. HasLists s (cells_after (opening_cells o.given) records)) (sym h.records)
     (run_lists (opened o) s h.steps h.run (opened_fit o can.fits) o.given.last (opening_cells o.given) (lists_begin o))
 
-module _ (o : Opened) (made : List RecordValue) (pairs : List (Event × Reply)) (v : CoreValue) (s : State) (k : Standing) (h : HasServed o made pairs s k) (is : IsState v s k) where
+module _ (o : Opened) (made : List RecordValue) (pairs : List (Event × Reply)) (v : CoreValue) (s : State) (k : Standing) (h : HasServed o made pairs s k)
+    (is : IsState v s k) where
   pub made_shown : CanOpen o → IsSound v.txns → IsCellsOf v (cells_after (opening_cells o.given) made)
-  made_shown can sound = cells_shown v s k (cells_after (opening_cells o.given) made) sound is (made_cells o can made _ _ s h.log) (made_lists o can made _ _ s h.log)
+  made_shown can sound = cells_shown v s k (cells_after (opening_cells o.given) made) sound is (made_cells o can made _ _ s h.log)
+      (made_lists o can made _ _ s h.log)
 
   pub store_kept : (g : GeometryValue) → g.pages ≡ o.pages → g.entries ≡ o.places → IsOfGeometry v g
   store_kept g pages entries =

@@ -1,5 +1,6 @@
 -- The cells that the log has are those of the core.
-use Rattle.std.proofs.Common.{◌≡◌, ◌≢◌, ℕ, ◌<◌, Bool, true, false, cond, List, [], ◌∷◌, Option, Some, None, refl, sym, ap, subst, ◌∙◌, arith, eqb, ◌&&◌, ◌||◌, eq-eqb}
+use Rattle.std.proofs.Common.{◌≡◌, ◌≢◌, ℕ, ◌<◌, Bool, true, false, cond, List, [], ◌∷◌, Option, Some, None, refl, sym, ap, subst, ◌∙◌, arith, eqb, ◌&&◌, ◌||◌}
+use Rattle.std.proofs.Common.{eq-eqb}
 use Rattle.std.proofs.lemmas.Bool.{eqb-true, false≢true}
 use Rattle.std.specs.FinMap.{get}
 use Rattle.records.specs.ChangeValue.{ChangeValue}
@@ -43,11 +44,13 @@ holder_above low high t r (e ∷ es) rises at = by (holder_above e.0 high t r es
     by rest false is = omega (arith, rises.0, rest is)
 
 -- a row is among those of its holder
-holds_it : (low high t : ℕ) (r : Place) (es : Txns) (x : TxnState) → Rises low es high → state_of t es ≡ Some x → holder_of r es ≡ Some t → is_among r x.rows ≡ true
+holds_it : (low high t : ℕ) (r : Place) (es : Txns) (x : TxnState) → Rises low es high → state_of t es ≡ Some x → holder_of r es ≡ Some t
+    → is_among r x.rows ≡ true
 holds_it low high t r [] x rises here at = absurd (no_holder t at)
 holds_it low high t r (e ∷ es) x rises here at = by (holds_it e.0 high t r es x rises.1) (is_among r e.1.rows) refl at (eqb t e.0) refl here
   where
-    by : (state_of t es ≡ Some x → holder_of r es ≡ Some t → is_among r x.rows ≡ true) → (b : Bool) → is_among r e.1.rows ≡ b → cond b (Some e.0) (holder_of r es) ≡ Some t → (c : Bool) → eqb t e.0 ≡ c → cond c (Some e.1) (state_of t es) ≡ Some x → is_among r x.rows ≡ true
+    by : (state_of t es ≡ Some x → holder_of r es ≡ Some t → is_among r x.rows ≡ true) → (b : Bool) → is_among r e.1.rows ≡ b
+        → cond b (Some e.0) (holder_of r es) ≡ Some t → (c : Bool) → eqb t e.0 ≡ c → cond c (Some e.1) (state_of t es) ≡ Some x → is_among r x.rows ≡ true
     by rest true among at true is here = ap (λ (y : TxnState). is_among r y.rows) (sym (same_state e.1 x here)) ∙ among
     by rest true among at false is here = absurd (false≢true (sym is ∙ ap (λ n. eqb t n) (number_is e.0 t at) ∙ itself t))
     by rest false among at true is here =
@@ -61,7 +64,8 @@ is_holder : (t : ℕ) (r : Place) (es : Txns) (x : TxnState) → OneHolder es �
 is_holder t r [] x one here among = absurd cc
 is_holder t r (e ∷ es) x one here among = by (λ later. is_holder t r es x one.1 later among) (eqb t e.0) refl here (is_among r e.1.rows) refl
   where
-    by : (state_of t es ≡ Some x → holder_of r es ≡ Some t) → (c : Bool) → eqb t e.0 ≡ c → cond c (Some e.1) (state_of t es) ≡ Some x → (b : Bool) → is_among r e.1.rows ≡ b → cond b (Some e.0) (holder_of r es) ≡ Some t
+    by : (state_of t es ≡ Some x → holder_of r es ≡ Some t) → (c : Bool) → eqb t e.0 ≡ c → cond c (Some e.1) (state_of t es) ≡ Some x → (b : Bool)
+        → is_among r e.1.rows ≡ b → cond b (Some e.0) (holder_of r es) ≡ Some t
     by rest true is here true its = ap Some (sym (eqb-true t e.0 is))
     by rest true is here false its = absurd (false≢true (sym its ∙ ap (λ (y : TxnState). is_among r y.rows) (same_state e.1 x here) ∙ among))
     by rest false is here true its = absurd (no_holder t (sym (one.0 r its) ∙ rest here))
@@ -89,7 +93,8 @@ module _ (v : CoreValue) (s : State) (k : Standing) (cells : Cells) (sound : IsS
       let among = holds_it 0 v.txns.begun t held.0 v.txns.active x sound.rising here (sym (st.shown.holder held.0) ∙ held.1) in
       false≢true (sym (ap (is_among held.0) rows) ∙ among)
 
-  of_active : (x : TxnState) → state_of t v.txns.active ≡ Some x → (a : Active) → as_list a.changes ≡ x.changes → (l : Option (List ChangeValue)) → get cells.pending t ≡ l → IsListOf l (Some a) → (rows : List Place) → x.rows ≡ rows → l ≡ cond (has_any rows) (Some x.changes) None
+  of_active : (x : TxnState) → state_of t v.txns.active ≡ Some x → (a : Active) → as_list a.changes ≡ x.changes → (l : Option (List ChangeValue))
+      → get cells.pending t ≡ l → IsListOf l (Some a) → (rows : List Place) → x.rows ≡ rows → l ≡ cond (has_any rows) (Some x.changes) None
   of_active x here a changes None is list [] rows = refl
   of_active x here a changes None is list (r ∷ rs) rows = absurd (holding x here r rs rows is)
   of_active x here a changes (Some l) is list [] rows = absurd (free x here rows (λ none. some_list l (sym is ∙ none)))
@@ -99,11 +104,14 @@ module _ (v : CoreValue) (s : State) (k : Standing) (cells : Cells) (sound : IsS
   no_txn None list = refl
   no_txn (Some l) list = absurd list
 
-  list_is : (o : Option TxnState) → state_of t v.txns.active ≡ o → AreOne o (s.txns t) → IsListOf (get cells.pending t) (s.txns t) → get cells.pending t ≡ list_shown o
+  list_is : (o : Option TxnState) → state_of t v.txns.active ≡ o → AreOne o (s.txns t) → IsListOf (get cells.pending t) (s.txns t)
+      → get cells.pending t ≡ list_shown o
   list_is None here one list = no_txn (get cells.pending t) (subst (IsListOf (get cells.pending t)) one list)
-  list_is (Some x) here one list = of_active x here one.0 one.2.changes (get cells.pending t) refl (subst (IsListOf (get cells.pending t)) one.1 list) x.rows refl
+  list_is (Some x) here one list = of_active x here one.0 one.2.changes (get cells.pending t) refl
+      (subst (IsListOf (get cells.pending t)) one.1 list) x.rows refl
 
-pub cells_shown : (v : CoreValue) (s : State) (k : Standing) (cells : Cells) → IsSound v.txns → IsState v s k → HasCells s cells → HasLists s cells → IsCellsOf v cells
+pub cells_shown : (v : CoreValue) (s : State) (k : Standing) (cells : Cells) → IsSound v.txns → IsState v s k → HasCells s cells → HasLists s cells
+    → IsCellsOf v cells
 cells_shown v s k cells sound st has h = record {
   rows = has.rows ∙ st.shown.rows;
   entries = has.entries ∙ st.shown.entries;

@@ -1,5 +1,6 @@
 -- The rows of pages that are copied.
-use Rattle.std.proofs.Common.{◌≡◌, ◌≢◌, ⊎_elim, ℕ, zero, suc, ◌+◌, ◌<◌, ◌≤◌, List, [], ◌∷◌, length, replicate, slice_get, Option, Some, None, refl, sym, ap, subst, ◌∙◌, arith}
+use Rattle.std.proofs.Common.{◌≡◌, ◌≢◌, ⊎_elim, ℕ, zero, suc, ◌+◌, ◌<◌, ◌≤◌, List, [], ◌∷◌, length, replicate, slice_get, Option, Some, None, refl, sym, ap}
+use Rattle.std.proofs.Common.{subst, ◌∙◌, arith}
 use Rattle.std.specs.Prelude.{IsSome}
 use Rattle.std.proofs.lemmas.Bool.{cases_eq, cases_lt}
 use Rattle.std.proofs.lemmas.Option.{same_Some}
@@ -42,7 +43,8 @@ none_put all page old none = record {
   others = λ q apart. refl;
 }
 
-module _ (all : Table) (page slot : ℕ) (old mid : Table) (row : Option Row) (found : row ≡ get all (record { page = page; slot = slot })) (h : ArePutTo all page slot old mid) where
+module _ (all : Table) (page slot : ℕ) (old mid : Table) (row : Option Row) (found : row ≡ get all (record { page = page; slot = slot }))
+    (h : ArePutTo all page slot old mid) where
   abbrev spot : Place
   spot = record { page = page; slot = slot }
 
@@ -58,13 +60,16 @@ module _ (all : Table) (page slot : ℕ) (old mid : Table) (row : Option Row) (f
         (λ own. subst (λ p. get (set_at mid spot row) p ≡ get all p) (spot_is q same own) (get-set_at_same rid_exact mid spot row ∙ found))
         (λ apart. other q (λ p. apart (ap (λ (x : Place). x.slot) p)) ∙ h.here q same (omega (arith, below, apart)))
         (cases_eq q.slot slot);
-    rest = λ q same past. other q (λ p. let own : q.slot ≡ slot = ap (λ (x : Place). x.slot) p in omega (arith, past, own)) ∙ h.rest q same (omega (arith, past));
+    rest = λ q same past. other q (λ p. let own : q.slot ≡ slot = ap (λ (x : Place). x.slot) p in omega (arith, past, own))
+        ∙ h.rest q same (omega (arith, past));
     others = λ q apart. other q (λ p. apart (ap (λ (x : Place). x.page) p)) ∙ h.others q apart;
   })
 
-pub page_put : (heap : HeapValue) → AreRowsInside heap → (page : ℕ) (old new : Table) → ArePutTo heap.rows page SLOTS_PER_PAGE old new → HasPagePut heap.rows page old new
+pub page_put : (heap : HeapValue) → AreRowsInside heap → (page : ℕ) (old new : Table) → ArePutTo heap.rows page SLOTS_PER_PAGE old new
+    → HasPagePut heap.rows page old new
 page_put heap inside page old new h = record {
-  here = λ q same. ⊎_elim (λ below. h.here q same below) (λ past. h.rest q same past ∙ sym (no_row heap inside q (λ there. let slot = there.1 in omega (arith, slot, past)))) (cases_lt q.slot SLOTS_PER_PAGE);
+  here = λ q same. ⊎_elim (λ below. h.here q same below) (λ past. h.rest q same past
+      ∙ sym (no_row heap inside q (λ there. let slot = there.1 in omega (arith, slot, past)))) (cases_lt q.slot SLOTS_PER_PAGE);
   others = h.others;
 }
 
@@ -80,19 +85,23 @@ get-replicate (suc n) zero x low = refl
 get-replicate (suc n) (suc i) x low = get-replicate n i x (omega (arith, low))
 
 -- slots without rows have those of a page where there are none
-pub none_there : (all : Table) (page : ℕ) → ((slot : ℕ) → slot < SLOTS_PER_PAGE → get all (record { page = page; slot = slot }) ≡ None) → AreSlotsTo all page SLOTS_PER_PAGE (replicate SLOTS_PER_PAGE None)
+pub none_there : (all : Table) (page : ℕ) → ((slot : ℕ) → slot < SLOTS_PER_PAGE → get all (record { page = page; slot = slot }) ≡ None)
+    → AreSlotsTo all page SLOTS_PER_PAGE (replicate SLOTS_PER_PAGE None)
 none_there all page none = λ k low. get-replicate SLOTS_PER_PAGE k None low ∙ ap Some (sym (none k low))
 
 -- a table of these slots alone has the rows of the page
-pub page_filled : (v : CoreValue) → AreRowsInside v.heap → (page : ℕ) (slots : List (Option Row)) (rows : Table) → AreSlotsTo v.heap.rows page SLOTS_PER_PAGE slots → AreSlotsTo rows page SLOTS_PER_PAGE slots
-    → ((q : Place) → q.page ≢ page → get rows q ≡ None) → ((q : Place) (r : Row) → get rows q ≡ Some r → q.slot < SLOTS_PER_PAGE) → IsPageOf (unlisted v) page rows
+pub page_filled : (v : CoreValue) → AreRowsInside v.heap → (page : ℕ) (slots : List (Option Row)) (rows : Table)
+    → AreSlotsTo v.heap.rows page SLOTS_PER_PAGE slots → AreSlotsTo rows page SLOTS_PER_PAGE slots
+    → ((q : Place) → q.page ≢ page → get rows q ≡ None) → ((q : Place) (r : Row) → get rows q ≡ Some r → q.slot < SLOTS_PER_PAGE)
+    → IsPageOf (unlisted v) page rows
 page_filled v inside page slots rows all there elsewhere low = record {
   rows-are = record { there = λ q same. ⊎_elim (here q same) (past q) (cases_lt q.slot SLOTS_PER_PAGE); elsewhere = elsewhere };
   slots = low;
 }
   where
     here : (q : Place) → q.page ≡ page → q.slot < SLOTS_PER_PAGE → get rows q ≡ get v.heap.rows q
-    here q same below = subst (λ (p : Place). get rows p ≡ get v.heap.rows p) (λ i. record { page = sym same i; slot = q.slot }) (same_Some _ _ (sym (there q.slot below) ∙ all q.slot below))
+    here q same below = subst (λ (p : Place). get rows p ≡ get v.heap.rows p) (λ i. record { page = sym same i; slot = q.slot })
+        (same_Some _ _ (sym (there q.slot below) ∙ all q.slot below))
 
     none : (q : Place) → SLOTS_PER_PAGE ≤ q.slot → (o : Option Row) → get rows q ≡ o → get rows q ≡ None
     none q beyond None is = is
@@ -102,8 +111,10 @@ page_filled v inside page slots rows all there elsewhere low = record {
     past q beyond = none q beyond (get rows q) refl ∙ sym (no_row v.heap inside q (λ place. let slot = place.1 in omega (arith, slot, beyond)))
 
 -- a table without rows has those of a page where there are none
-pub none_filled : (v : CoreValue) → AreRowsInside v.heap → (page : ℕ) (rows : Table) → rows ≡ empty → ((slot : ℕ) → slot < SLOTS_PER_PAGE → get v.heap.rows (record { page = page; slot = slot }) ≡ None) → IsPageOf (unlisted v) page rows
-none_filled v inside page rows is none = page_filled v inside page (replicate SLOTS_PER_PAGE None) rows (none_there v.heap.rows page none) (none_there rows page (λ slot low. gone (record { page = page; slot = slot }))) (λ q apart. gone q) low
+pub none_filled : (v : CoreValue) → AreRowsInside v.heap → (page : ℕ) (rows : Table) → rows ≡ empty
+    → ((slot : ℕ) → slot < SLOTS_PER_PAGE → get v.heap.rows (record { page = page; slot = slot }) ≡ None) → IsPageOf (unlisted v) page rows
+none_filled v inside page rows is none = page_filled v inside page (replicate SLOTS_PER_PAGE None) rows (none_there v.heap.rows page none)
+    (none_there rows page (λ slot low. gone (record { page = page; slot = slot }))) (λ q apart. gone q) low
   where
     gone : (q : Place) → get rows q ≡ None
     gone q = ap (λ (t : Table). get t q) is ∙ get-empty rid_cmp q

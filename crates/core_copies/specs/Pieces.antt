@@ -40,11 +40,13 @@ pub record IsPageOf (cells : Cells) (page : ℕ) (rows : Table) : Type 0 where
   pub slots : (q : Place) (r : Row) → map.get rows q ≡ Some r → q.slot < SLOTS_PER_PAGE
 
 -- the next entries of these cells above a pair, in order: as many as a chunk takes, or all that are left
-pub record AreEntriesOf (v : CoreValue) (cells : Cells) (above : Option Pair) (entries : List (Pair × Mark)) : Type 0 where
+pub record AreEntriesOf (v : CoreValue) (cells : Cells) (above : Option Pair)
+    (entries : List (Pair × Mark)) : Type 0 where
   pub more : Index
   pub listed : map.entries more ≡ entries
   pub most : length entries ≤ CHUNK_ENTRIES
-  pub full : (last : Pair × Mark) → slice_get entries (CHUNK_ENTRIES - 1) ≡ Some last → AreNextEntries cells above (Some last.0) more
+  pub full : (last : Pair × Mark) → slice_get entries (CHUNK_ENTRIES - 1) ≡ Some last
+      → AreNextEntries cells above (Some last.0) more
   pub rest : slice_get entries (CHUNK_ENTRIES - 1) ≡ None → AreLastEntries cells above more
   pub inside : (i : ℕ) (e : Pair × Mark) → slice_get entries i ≡ Some e → e.0.rid.page < v.heap.pages
 

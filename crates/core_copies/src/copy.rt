@@ -20,9 +20,9 @@ pub trait Copies<A: Allocator> {
     /// The one error is `NoMemory`.
     fn copy_whole(&self, alloc: A) -> Result<Chunk<A>, Error>;
 
-    /// The next chunk of an image whose copying has come to this place, with the number of the last record made: first the
-    /// index's life and the lists of changes, then the rows of a page, and behind the last page `CHUNK_ENTRIES` entries at
-    /// most, fewer where no more are left.
+    /// The next chunk of an image whose copying has come to this place, with the number of the last record made: first
+    /// the index's life and the lists of changes, then the rows of a page, and behind the last page `CHUNK_ENTRIES`
+    /// entries at most, fewer where no more are left.
     ///
     /// The one error is `NoMemory`.
     fn copy_step(&self, alloc: A, place: CopyPlace) -> Result<Chunk<A>, Error>;
@@ -51,7 +51,8 @@ impl<A: Allocator + Copy> Copies<A> for Core<A> {
 
     fn copy_step(&self, alloc: A, place: CopyPlace) -> Result<Chunk<A>, Error>
         ensures number { IfOk result (λ chunk. chunk.number ≡ (value_of self.now).last) }
-        ensures piece { IfOk result (λ chunk. (cells : Cells) → IsCellsOf (value_of self.now) cells → IsPieceOf (value_of self.now) cells place chunk.piece) }
+        ensures piece { IfOk result (λ chunk. (cells : Cells) → IsCellsOf (value_of self.now) cells
+            → IsPieceOf (value_of self.now) cells place chunk.piece) }
         ensures sound { IsSound (value_of self.now).txns }
         ensures no_memory { IfErr result (λ e. e ≡ Error.NoMemory) }
     {

@@ -83,9 +83,11 @@ fn put_page<A: Allocator + Copy>(
     page: u32,
     rows: &mut Vec<(Rid, Row), A>,
 ) -> Result<(), Error>
-    requires inside { (r : Place) → IsSome (map.get (value_of core.now).heap.rows r) → IsPlaceInside (value_of core.now).heap r }
+    requires inside { (r : Place) → IsSome (map.get (value_of core.now).heap.rows r)
+        → IsPlaceInside (value_of core.now).heap r }
     requires none { (q : Place) → q.page ≡ page → map.get (table_of rows.old.items) q ≡ None }
-    ensures put { OnOk result (HasPagePut (value_of core.now).heap.rows page (table_of rows.old.items) (table_of rows.new.items)) }
+    ensures put { OnOk result (HasPagePut (value_of core.now).heap.rows page (table_of rows.old.items)
+        (table_of rows.new.items)) }
     ensures no_memory { IfErr result (λ e. e ≡ Error.NoMemory) }
 {
     for slot in 0..SLOTS_PER_PAGE {
@@ -169,7 +171,8 @@ pub(crate) fn next_entries<A: Allocator + Copy>(
     core: &Core<A>,
     above: Option<Pair>,
 ) -> Result<Vec<(Pair, Mark), A>, Error>
-    ensures entries { IfOk result (λ entries. AreEntriesOf (value_of core.now) (unlisted (value_of core.now)) above entries.items) }
+    ensures entries { IfOk result (λ entries. AreEntriesOf (value_of core.now)
+        (unlisted (value_of core.now)) above entries.items) }
     ensures no_memory { IfErr result (λ e. e ≡ Error.NoMemory) }
 {
     let _pages = core.pages();

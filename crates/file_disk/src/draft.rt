@@ -114,11 +114,12 @@ where
     sync_folder(rt, path)
 }
 
-/// Makes a file of so many sectors of zeros, all of them safe, and a disk over it, under the name `PATH.new`: [`publish`] gives it
-/// its own. So a crash meanwhile leaves no half of a store under it. Where it is refused, no file is left, if that can be removed.
+/// Makes a file of so many sectors of zeros, all of them safe, and a disk over it, under the name `PATH.new`:
+/// [`publish`] gives it its own. So a crash meanwhile leaves no half of a store under it. Where it is refused, no file
+/// is left, if that can be removed.
 ///
-/// `Exists` where something has the name `PATH`. Where something has the name `PATH.new`, `DraftInUse` if another process makes it
-/// now, and `DraftExists` if one was cut off as it did. `BadLength` for no sector or more than 2^20.
+/// `Exists` where something has the name `PATH`. Where something has the name `PATH.new`, `DraftInUse` if another
+/// process makes it now, and `DraftExists` if one was cut off as it did. `BadLength` for no sector or more than 2^20.
 pub fn create<R: Files + AllocGlobal, A: Allocator>(
     rt: &R,
     alloc: A,
@@ -166,8 +167,8 @@ fn link<R: Files>(rt: &R, draft: &str, path: &str) -> Result<(), OpenError> {
     Err(OpenError::from(error))
 }
 
-/// Gives the file that was made for this path its name, in one step, which is safe then. A file that has the name stays as it is.
-/// (It is only tested.)
+/// Gives the file that was made for this path its name, in one step, which is safe then. A file that has the name stays
+/// as it is. (It is only tested.)
 ///
 /// `Exists` where something has this name.
 pub fn publish<R: Files + AllocGlobal>(rt: &R, path: &str) -> Result<(), OpenError>

@@ -18,7 +18,8 @@ pub trait StoreFile: FileExt + OpenFile + Drop {
     /// Locks it against those that would lock it alone.
     fn try_lock_shared(&self) -> Result<(), TryLockError>;
 
-    /// The same file, under a number that no standard stream has: what is meant for one that was closed must not land in the file.
+    /// The same file, under a number that no standard stream has: what is meant for one that was closed must not land
+    /// in the file.
     fn apart(self) -> io::Result<Self>
     where
         Self: Sized;

@@ -1,5 +1,6 @@
 //! A disk over what is below: reads are answered from a mirror in memory, and writes go through.
-ghost use Rattle.std.specs.Prelude.{◌≡◌, ◌+◌, ◌^◌, ◌-◌, ◌<◌, length, ◌≤◌, min, replicate, nat_le, IfOk, IsOk, OnOk, OnErr, false, true};
+ghost use Rattle.std.specs.Prelude.{◌≡◌, ◌+◌, ◌^◌, ◌-◌, ◌<◌, length, ◌≤◌, min, replicate, nat_le, IfOk, IsOk, OnOk};
+ghost use Rattle.std.specs.Prelude.{OnErr, false, true};
 ghost use Rattle.sector_device.specs.Disk.{sector, after_write, after_sync, IsSynced, IsFailedWrite};
 ghost use Rattle.sector_device.specs.History.{Elapses, CountsFailure, Rises};
 ghost use Rattle.sector_device.specs.Values.{zero_sector};
@@ -16,8 +17,8 @@ use std::io;
 // How many sectors are read and written in one call where a disk is opened.
 const RUN: usize = 128;
 
-/// A disk over what is below. Once a write or sync of that failed, nothing is written any more and each write and sync fails: what
-/// is below is not known then, until it is read again. (That nothing reaches it then is only tested.)
+/// A disk over what is below. Once a write or sync of that failed, nothing is written any more and each write and sync
+/// fails: what is below is not known then, until it is read again. (That nothing reaches it then is only tested.)
 #[derive(Drop)]
 pub struct FileDisk<F, A: Allocator> {
     below: F,
@@ -43,7 +44,8 @@ fn zeros<A: Allocator>(alloc: A, sectors: usize) -> Result<Vec<[u8; SECTOR_SIZE]
 impl<F: Drop, A: Allocator> FileDisk<F, A> {
     ghost use Rattle.file_disk.specs.FileDisk.{history_of, failures_of};
 
-    /// A disk of zeros over what is below, which is to hold zeros, all of them safe. The error is that memory was refused.
+    /// A disk of zeros over what is below, which is to hold zeros, all of them safe. The error is that memory was
+    /// refused.
     pub fn new(alloc: A, below: F, sectors: usize) -> Result<Self, AllocError>
         ensures zeros { IfOk result (λ d. (history_of d).disk.content ≡ replicate sectors zero_sector) }
         ensures synced { IfOk result (λ d. IsSynced (history_of d).disk) }
@@ -58,8 +60,8 @@ impl<F: Drop, A: Allocator> FileDisk<F, A> {
         })
     }
 
-    /// A disk over what is below that holds these sectors, all of them safe, as what is below is to. The error is that memory was
-    /// refused.
+    /// A disk over what is below that holds these sectors, all of them safe, as what is below is to. The error is that
+    /// memory was refused.
     pub fn holding(alloc: A, below: F, sectors: &[[u8; SECTOR_SIZE]]) -> Result<Self, AllocError>
         ensures content { IfOk result (λ d. (history_of d).disk.content ≡ sectors.now) }
         ensures synced { IfOk result (λ d. IsSynced (history_of d).disk) }
@@ -193,8 +195,8 @@ impl<F: Stored + Drop, A: Allocator> FileDisk<F, A> {
         self.below.sync()
     }
 
-    /// A disk over what is below, which holds the sectors that that does. Each that was read is written back, and all are synced,
-    /// before one counts as safe: after a sync that failed, what is read may be on no device.
+    /// A disk over what is below, which holds the sectors that that does. Each that was read is written back, and all
+    /// are synced, before one counts as safe: after a sync that failed, what is read may be on no device.
     pub fn over(alloc: A, below: F, sectors: usize) -> Result<Self, OpenError>
         ensures synced { IfOk result (λ d. IsSynced (history_of d).disk) }
         ensures failures { IfOk result (λ d. failures_of d ≡ 0) }

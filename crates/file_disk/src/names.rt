@@ -59,8 +59,8 @@ fn has_draft<R: Files, A: Allocator>(
     }
 }
 
-/// Whether the file, which is a regular one, has this name and that of its draft, from a publication that was cut off. It is refused
-/// where it has neither one nor those two alone.
+/// Whether the file, which is a regular one, has this name and that of its draft, from a publication that was cut off.
+/// It is refused where it has neither one nor those two alone.
 pub(crate) fn has_both<R: Files, H: OpenFile, A: Allocator>(
     rt: &R,
     alloc: &A,

@@ -34,12 +34,12 @@ fn remove_draft<R: Files, A: Allocator>(rt: &R, alloc: &A, path: &str) -> Result
     Ok(())
 }
 
-/// A disk over the file at the path, which holds what the file does, all of it safe: what was read is written back, and synced, as
-/// the file may show what no device holds, after a sync that failed. The file is locked until the disk is dropped: an advisory lock,
-/// which goes with the process.
+/// A disk over the file at the path, which holds what the file does, all of it safe: what was read is written back, and
+/// synced, as the file may show what no device holds, after a sync that failed. The file is locked until the disk is
+/// dropped: an advisory lock, which goes with the process.
 ///
-/// `Busy` where another process has it open, `NotAFile` and `Linked` where the path names no regular file, a link, or one of several
-/// names of a file, `BadLength` where its length is no number of sectors from 1 to 2^20.
+/// `Busy` where another process has it open, `NotAFile` and `Linked` where the path names no regular file, a link, or
+/// one of several names of a file, `BadLength` where its length is no number of sectors from 1 to 2^20.
 pub fn open<R: Files, A: Allocator>(
     rt: &R,
     alloc: A,
@@ -66,8 +66,8 @@ where
     FileDisk::over(alloc, below, sectors_in(length)? as usize)
 }
 
-/// A disk in memory that holds what the file at the path does. What is written to it never reaches the file, which is locked until
-/// the disk is dropped.
+/// A disk in memory that holds what the file at the path does. What is written to it never reaches the file, which is
+/// locked until the disk is dropped.
 ///
 /// The refusals are those of [`open`]; other processes may read the file at the same time.
 pub fn hold<R: Files, A: Allocator>(

@@ -1,5 +1,6 @@
 -- What becomes of an area's groups where sectors change.
-use Rattle.std.proofs.Common.{Option, Some, None, MatchOption, ◌≡◌, ◌≢◌, ⊎_elim, ℕ, ◌+◌, ◌*◌, ◌<◌, ◌≤◌, List, [], ◌∷◌, ◌++◌, length, slice_index, slice_index_or, take, refl, sym, ap, subst, ◌∙◌, arith, length-append}
+use Rattle.std.proofs.Common.{Option, Some, None, MatchOption, ◌≡◌, ◌≢◌, ⊎_elim, ℕ, ◌+◌, ◌*◌, ◌<◌, ◌≤◌, List, [], ◌∷◌, ◌++◌, length, slice_index}
+use Rattle.std.proofs.Common.{slice_index_or, take, refl, sym, ap, subst, ◌∙◌, arith, length-append}
 use Rattle.std.specs.List.{concat}
 use Rattle.std.proofs.lemmas.Bool.{cases_eq, cases_lt}
 use Rattle.std.proofs.lemmas.List.{get_or_at, get_or_append_left, ext_get_or, take_more, flat_map_more}
@@ -25,12 +26,16 @@ same_body : (area : Area) (a b : Image) (i : ℕ) → length b ≡ length a → 
 same_body area a b i long same =
     ap concat (same_part b a (gate area i + 1) (gate area i + 8) long (λ k low high. same k (omega arith) high))
 
-module _ (area : Area) (image c : Image) (groups : List (List RecordValue)) (long : length c ≡ length image) (held : HoldsGroups area image groups) (others : (i : ℕ) → i < area.slots → i ≢ length groups → SameSlot area image c i) where
+module _ (area : Area) (image c : Image) (groups : List (List RecordValue)) (long : length c ≡ length image) (held : HoldsGroups area image groups)
+    (others : (i : ℕ) → i < area.slots → i ≢ length groups → SameSlot area image c i) where
   opened_there : (i : ℕ) → i < length groups → IsOpen c (gate area i) × IsGroup (slice_index_or groups i []) (body c (gate area i))
   opened_there i lt =
       let same = others i (omega (arith, held.room)) (omega arith) in
-      let was = held.opened i lt in
-      (ap (λ (s : List ℕ). slice_index s 0) (same_gate area image c i same) ∙ was.0, subst (IsGroup (slice_index_or groups i [])) (sym (same_body area image c i long same)) was.1)
+      let was = held.opened i lt in (
+        ap (λ (s : List ℕ). slice_index s 0) (same_gate area image c i same)
+            ∙ was.0,
+        subst (IsGroup (slice_index_or groups i [])) (sym (same_body area image c i long same)) was.1,
+      )
 
   closed_there : (i : ℕ) → length groups ≤ i → i ≢ length groups → i < area.slots → ¬ IsOpen c (gate area i)
   closed_there i le other lt is_open =
@@ -48,12 +53,16 @@ module _ (area : Area) (image c : Image) (groups : List (List RecordValue)) (lon
   }
 
   -- the next slot's gate is open, and its body is a group
-  pub holds_after : (records : List RecordValue) → length groups < area.slots → IsOpen c (gate area (length groups)) → IsGroup records (body c (gate area (length groups))) → HoldsGroups area c (groups ++ records ∷ [])
+  pub holds_after : (records : List RecordValue) → length groups < area.slots → IsOpen c (gate area (length groups))
+      → IsGroup records (body c (gate area (length groups))) → HoldsGroups area c (groups ++ records ∷ [])
   holds_after records room is_open group = record {
     room = omega (arith, size);
     opened = λ i lt. ⊎_elim
-        (λ same. subst (λ n. IsOpen c (gate area n) × IsGroup (slice_index_or (groups ++ records ∷ []) n []) (body c (gate area n))) (sym same)
-        (is_open, subst (λ (g : List RecordValue). IsGroup g (body c (gate area (length groups)))) (sym (get_or_at groups records [] [] (length groups) refl)) group))
+        (λ same. subst (λ n. IsOpen c (gate area n) × IsGroup (slice_index_or (groups ++ records ∷ []) n []) (body c (gate area n))) (sym same) (
+          is_open,
+          subst (λ (g : List RecordValue). IsGroup g (body c (gate area (length groups))))
+              (sym (get_or_at groups records [] [] (length groups) refl)) group,
+        ))
         (λ other.
         let below : i < length groups = omega (arith, lt, size, other) in
         let there = opened_there i below in
@@ -74,14 +83,17 @@ holds_none area image zeros = record {
 }
 
 -- what an image holds is told by the sectors of the area
-pub holds_same : (area : Area) (image c : Image) (groups : List (List RecordValue)) → length c ≡ length image → ((n : ℕ) → InArea area n → sector c n ≡ sector image n) → HoldsGroups area image groups → HoldsGroups area c groups
+pub holds_same : (area : Area) (image c : Image) (groups : List (List RecordValue)) → length c ≡ length image
+    → ((n : ℕ) → InArea area n → sector c n ≡ sector image n) → HoldsGroups area image groups → HoldsGroups area c groups
 holds_same area image c groups long same held =
     holds_before area image c groups long held
     (λ i lt other k low high. same k (omega (arith, low), omega (arith, high, lt)))
-    (λ lt is_open. held.closed (length groups) (omega arith) lt (ap (λ (b : List ℕ). slice_index b 0) (sym (same (gate area (length groups)) (omega arith, omega (arith, lt)))) ∙ is_open))
+    (λ lt is_open. held.closed (length groups) (omega arith) lt
+    (ap (λ (b : List ℕ). slice_index b 0) (sym (same (gate area (length groups)) (omega arith, omega (arith, lt)))) ∙ is_open))
 
 -- an image holds one list of groups at most
-pub one_list : (v : Version) (area : Area) (image : Image) (a b : List (List RecordValue)) → HoldsGroupsIn v area image a → HoldsGroupsIn v area image b → length a ≡ length b
+pub one_list : (v : Version) (area : Area) (image : Image) (a b : List (List RecordValue)) → HoldsGroupsIn v area image a → HoldsGroupsIn v area image b
+    → length a ≡ length b
 one_list v area image a b p q =
     ⊎_elim
     (λ less. absurd (p.closed (length a) (omega arith) (omega (arith, less, q.room)) (q.opened (length a) less).0))
@@ -94,25 +106,34 @@ one_list v area image a b p q =
 -- ---- reading
 
 -- one slot more, whose gate is closed
-pub one_closed : (v : Version) (first slot : ℕ) (image : Image) (groups : List (List RecordValue)) → HoldsGroupsIn v (record { first = first; slots = slot }) image groups → ¬ IsOpen image (first + 8 * slot) → HoldsGroupsIn v (record { first = first; slots = slot + 1 }) image groups
+pub one_closed : (v : Version) (first slot : ℕ) (image : Image) (groups : List (List RecordValue))
+    → HoldsGroupsIn v (record { first = first; slots = slot }) image groups → ¬ IsOpen image (first + 8 * slot)
+    → HoldsGroupsIn v (record { first = first; slots = slot + 1 }) image groups
 one_closed v first slot image groups held shut = record {
   room = omega (arith, held.room);
   opened = held.opened;
-  closed = λ i le lt. ⊎_elim (λ same. subst (λ n. ¬ IsOpen image (first + 8 * n)) (sym same) shut) (λ other. held.closed i le (omega (arith, lt, other))) (cases_eq i slot);
+  closed = λ i le lt. ⊎_elim (λ same. subst (λ n. ¬ IsOpen image (first + 8 * n)) (sym same) shut) (λ other. held.closed i le (omega (arith, lt, other)))
+      (cases_eq i slot);
 }
 
 -- one slot more, with a group, where all before it are open
-pub one_open : (v : Version) (first slot : ℕ) (image : Image) (groups : List (List RecordValue)) (records : List RecordValue) → HoldsGroupsIn v (record { first = first; slots = slot }) image groups → length groups ≡ slot
-    → IsOpen image (first + 8 * slot) → IsGroupIn v records (body image (first + 8 * slot)) → HoldsGroupsIn v (record { first = first; slots = slot + 1 }) image (groups ++ records ∷ [])
+pub one_open : (v : Version) (first slot : ℕ) (image : Image) (groups : List (List RecordValue)) (records : List RecordValue)
+    → HoldsGroupsIn v (record { first = first; slots = slot }) image groups → length groups ≡ slot
+    → IsOpen image (first + 8 * slot) → IsGroupIn v records (body image (first + 8 * slot))
+    → HoldsGroupsIn v (record { first = first; slots = slot + 1 }) image (groups ++ records ∷ [])
 one_open v first slot image groups records held all is_open group = record {
   room = omega (arith, size, all);
   opened = λ i lt. ⊎_elim
-      (λ same. subst (λ n. IsOpen image (first + 8 * n) × IsGroupIn v (slice_index_or (groups ++ records ∷ []) n []) (body image (first + 8 * n))) (sym (same ∙ all))
+      (λ same. subst (λ n. IsOpen image (first + 8 * n) × IsGroupIn v (slice_index_or (groups ++ records ∷ []) n []) (body image (first + 8 * n)))
+      (sym (same ∙ all))
       (is_open, subst (λ (g : List RecordValue). IsGroupIn v g (body image (first + 8 * slot))) (sym (get_or_at groups records [] [] slot all)) group))
       (λ other.
       let below : i < length groups = omega (arith, lt, size, other) in
-      let there = held.opened i below in
-      (there.0, subst (λ (g : List RecordValue). IsGroupIn v g (body image (first + 8 * i))) (sym (get_or_append_left groups (records ∷ []) [] i below)) there.1))
+      let there = held.opened i below in (
+        there.0,
+        subst (λ (g : List RecordValue). IsGroupIn v g (body image (first + 8 * i)))
+            (sym (get_or_append_left groups (records ∷ []) [] i below)) there.1,
+      ))
       (cases_eq i (length groups));
   closed = λ i le lt. absurd (omega (arith, le, lt, size, all));
 }
@@ -121,7 +142,9 @@ one_open v first slot image groups records held all is_open group = record {
     size = omega (arith, length-append {A = List RecordValue} groups (records ∷ []))
 
 -- an open slot that so many open ones are before: the first one is open
-pub first_open : (v : Version) (first slot slots : ℕ) (image : Image) (groups : List (List RecordValue)) → slot < slots → HoldsGroupsIn v (record { first = first; slots = slot }) image groups → length groups ≡ slot → IsOpen image (first + 8 * slot) → (0 < slots) × IsOpen image first
+pub first_open : (v : Version) (first slot slots : ℕ) (image : Image) (groups : List (List RecordValue)) → slot < slots
+    → HoldsGroupsIn v (record { first = first; slots = slot }) image groups → length groups ≡ slot → IsOpen image (first + 8 * slot) → (0 < slots)
+    × IsOpen image first
 first_open v first slot slots image groups inside held all opened = (
   omega (arith, inside),
   ⊎_elim
@@ -131,7 +154,9 @@ first_open v first slot slots image groups inside held all opened = (
 )
 
 -- no slot so far is damaged
-pub undamaged : (v : Version) (first slot slots : ℕ) (image : Image) (groups : List (List RecordValue)) → HoldsGroupsIn v (record { first = first; slots = slot }) image groups → (i : ℕ) → i < slot → ¬ IsDamagedIn v (record { first = first; slots = slots }) image i
+pub undamaged : (v : Version) (first slot slots : ℕ) (image : Image) (groups : List (List RecordValue))
+    → HoldsGroupsIn v (record { first = first; slots = slot }) image groups → (i : ℕ) → i < slot
+    → ¬ IsDamagedIn v (record { first = first; slots = slots }) image i
 undamaged v first slot slots image groups held i lt damaged = ⊎_elim
     (λ below. ⊎_elim
     (λ shut. shut.2 (held.opened shut.0 (omega (arith, shut.1, below))).0)
@@ -141,8 +166,11 @@ undamaged v first slot slots image groups held i lt damaged = ⊎_elim
     (cases_lt i (length groups))
 
 -- the first damaged slot
-pub first_damaged : (v : Version) (first slot slots : ℕ) (image : Image) (groups : List (List RecordValue)) → slot < slots → HoldsGroupsIn v (record { first = first; slots = slot }) image groups → IsDamagedIn v (record { first = first; slots = slots }) image slot → IsFirstDamagedSlotIn v (record { first = first; slots = slots }) image (first + 8 * slot)
-first_damaged v first slot slots image groups inside held damaged = record { slot = slot; inside = inside; gate-is = refl; damaged = damaged; before = undamaged v first slot slots image groups held }
+pub first_damaged : (v : Version) (first slot slots : ℕ) (image : Image) (groups : List (List RecordValue)) → slot < slots
+    → HoldsGroupsIn v (record { first = first; slots = slot }) image groups → IsDamagedIn v (record { first = first; slots = slots }) image slot
+    → IsFirstDamagedSlotIn v (record { first = first; slots = slots }) image (first + 8 * slot)
+first_damaged v first slot slots image groups inside held damaged =
+    record { slot = slot; inside = inside; gate-is = refl; damaged = damaged; before = undamaged v first slot slots image groups held }
 
 pub none_here : {T : Type 0} (o : Option T) (P : Type 0) (Q : T → Type 0) → o ≡ None → MatchOption o P Q → P
 none_here o P Q is h = subst (λ x. MatchOption x P Q) is h
@@ -151,11 +179,15 @@ pub some_here : {T : Type 0} (o : Option T) (x : T) (P : Type 0) (Q : T → Type
 some_here o x P Q is h = subst (λ y. MatchOption y P Q) is h
 
 -- a group that is read in a slot is the one that is held there
-pub held_there : (v : Version) (area : Area) (image : Image) (groups : List (List RecordValue)) (slot : ℕ) (records : List RecordValue) → HoldsGroupsIn v area image groups → slot < length groups → IsGroupIn v records (body image (gate area slot)) → length records ≡ length (slice_index_or groups slot [])
-held_there v area image groups slot records held lt group = ap length (one_group v records (slice_index_or groups slot []) (body image (gate area slot)) group (held.opened slot lt).1)
+pub held_there : (v : Version) (area : Area) (image : Image) (groups : List (List RecordValue)) (slot : ℕ) (records : List RecordValue)
+    → HoldsGroupsIn v area image groups → slot < length groups → IsGroupIn v records (body image (gate area slot))
+    → length records ≡ length (slice_index_or groups slot [])
+held_there v area image groups slot records held lt group =
+    ap length (one_group v records (slice_index_or groups slot []) (body image (gate area slot)) group (held.opened slot lt).1)
 
 -- the records of one group more
-pub records_more : (groups : List (List RecordValue)) (slot : ℕ) → slot < length groups → length (records_of (take (slot + 1) groups)) ≡ length (records_of (take slot groups)) + length (slice_index_or groups slot [])
+pub records_more : (groups : List (List RecordValue)) (slot : ℕ) → slot < length groups
+    → length (records_of (take (slot + 1) groups)) ≡ length (records_of (take slot groups)) + length (slice_index_or groups slot [])
 records_more groups slot lt =
     ap (λ (gs : List (List RecordValue)). length (records_of gs)) (take_more groups slot [] lt)
     ∙ ap length (sym (flat_map_more (λ (group : List RecordValue). group) [] (take slot groups) (slice_index_or groups slot [])))
@@ -163,12 +195,15 @@ records_more groups slot lt =
 
 -- ---- laws
 
-pub one_reading : (v : Version) (area : Area) (image : Image) (a b : List (List RecordValue)) → HoldsGroupsIn v area image a → HoldsGroupsIn v area image b → a ≡ b
+pub one_reading : (v : Version) (area : Area) (image : Image) (a b : List (List RecordValue)) → HoldsGroupsIn v area image a → HoldsGroupsIn v area image b
+    → a ≡ b
 one_reading v area image a b p q =
     let long = one_list v area image a b p q in
-    ext_get_or [] a b long (λ i lt. one_group v (slice_index_or a i []) (slice_index_or b i []) (body image (gate area i)) (p.opened i lt).1 (q.opened i (omega (arith, lt, long))).1)
+    ext_get_or [] a b long (λ i lt. one_group v (slice_index_or a i []) (slice_index_or b i []) (body image (gate area i)) (p.opened i lt).1
+    (q.opened i (omega (arith, lt, long))).1)
 
-pub not_damaged : (v : Version) (area : Area) (image : Image) (sector : ℕ) (groups : List (List RecordValue)) → IsFirstDamagedSlotIn v area image sector → ¬ HoldsGroupsIn v area image groups
+pub not_damaged : (v : Version) (area : Area) (image : Image) (sector : ℕ) (groups : List (List RecordValue)) → IsFirstDamagedSlotIn v area image sector
+    → ¬ HoldsGroupsIn v area image groups
 not_damaged v area image sector groups first held = undamaged v area.first area.slots area.slots image groups held first.slot first.inside first.damaged
 
 pub one_damage : (v : Version) (area : Area) (image : Image) (a b : ℕ) → IsFirstDamagedSlotIn v area image a → IsFirstDamagedSlotIn v area image b → a ≡ b

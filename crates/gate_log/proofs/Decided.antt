@@ -1,6 +1,7 @@
 -- An image is read in one way or another: whether bytes are a group is decided, and so slot by slot is where an area is damaged.
 use Rattle.std.specs.Prelude.{◌⊎◌}
-use Rattle.std.proofs.Common.{◌≡◌, inl, inr, ⊎_elim, ℕ, zero, suc, ◌+◌, ◌-◌, ◌*◌, ◌<◌, ◌≤◌, List, [], ◌∷◌, ◌++◌, length, slice_index, slice_range, take, drop, All, refl, sym, ap, subst, ◌∙◌, arith, length-append}
+use Rattle.std.proofs.Common.{◌≡◌, inl, inr, ⊎_elim, ℕ, zero, suc, ◌+◌, ◌-◌, ◌*◌, ◌<◌, ◌≤◌, List, [], ◌∷◌, ◌++◌, length, slice_index, slice_range, take, drop}
+use Rattle.std.proofs.Common.{All, refl, sym, ap, subst, ◌∙◌, arith, length-append}
 use Rattle.std.specs.List.{concat}
 use Rattle.std.proofs.lemmas.Bool.{cases_eq, cases_lt}
 use Rattle.std.proofs.lemmas.List.{get_or_append_left, get_or-append_right, drop_at}
@@ -25,17 +26,20 @@ use Rattle.gate_log.proofs.Areas.{one_closed, one_open, first_damaged}
 
 -- the bytes are so many records, or they are not
 abbrev SpelledOr : ℕ → List ℕ → Type 0
-SpelledOr count bytes = ((records : List RecordValue) × AreSpelled Two records count bytes) ⊎ ((records : List RecordValue) → ¬ AreSpelled Two records count bytes)
+SpelledOr count bytes = ((records : List RecordValue) × AreSpelled Two records count bytes)
+    ⊎ ((records : List RecordValue) → ¬ AreSpelled Two records count bytes)
 
 -- of no others, if not of the records behind the first one
-none_behind : (r : RecordValue) (rest bytes : List ℕ) (n : ℕ) → bytes ≡ spelling r ++ rest → Fits r → ((records : List RecordValue) → ¬ AreSpelled Two records n rest) → (records : List RecordValue) → ¬ AreSpelled Two records (suc n) bytes
+none_behind : (r : RecordValue) (rest bytes : List ℕ) (n : ℕ) → bytes ≡ spelling r ++ rest → Fits r
+    → ((records : List RecordValue) → ¬ AreSpelled Two records n rest) → (records : List RecordValue) → ¬ AreSpelled Two records (suc n) bytes
 none_behind r rest bytes n is good none [] are = absurd (omega (arith, are.count-is))
 none_behind r rest bytes n is good none (x ∷ xs) are =
     let split = one_spelling r x rest (spellings xs) good (All-head Fits x xs are.each) (sym is ∙ are.spelled ∙ spellings-cons x xs) in
     none xs (record { each = All-tail Fits x xs are.each; count-is = omega (arith, are.count-is); spelled = split.1 })
 
 -- of these, if of the records behind the first one
-one_behind : (r : RecordValue) (rest bytes : List ℕ) (n : ℕ) (records : List RecordValue) → bytes ≡ spelling r ++ rest → Fits r → AreSpelled Two records n rest → AreSpelled Two (r ∷ records) (suc n) bytes
+one_behind : (r : RecordValue) (rest bytes : List ℕ) (n : ℕ) (records : List RecordValue) → bytes ≡ spelling r ++ rest → Fits r → AreSpelled Two records n rest
+    → AreSpelled Two (r ∷ records) (suc n) bytes
 one_behind r rest bytes n records is good are = record {
   each = All-cons Fits r records good are.each;
   count-is = omega (arith, are.count-is);
@@ -44,7 +48,8 @@ one_behind r rest bytes n records is good are = record {
 
 spelled_or : (count : ℕ) (bytes : List ℕ) → IsBytes bytes → SpelledOr count bytes
 spelled_or zero [] fits = inl ([], record { each = All-nil Fits; count-is = refl; spelled = sym spellings-nil })
-spelled_or zero (b ∷ bytes) fits = inr (more_spelled Two [] 0 (b ∷ bytes) (b ∷ bytes) (All-nil Fits) refl (ap (λ (t : List ℕ). t ++ (b ∷ bytes)) (sym spellings-nil)) (omega arith))
+spelled_or zero (b ∷ bytes) fits =
+    inr (more_spelled Two [] 0 (b ∷ bytes) (b ∷ bytes) (All-nil Fits) refl (ap (λ (t : List ℕ). t ++ (b ∷ bytes)) (sym spellings-nil)) (omega arith))
 spelled_or (suc n) bytes fits = ⊎_elim
     (λ begins.
     let r = begins.0 in
@@ -68,12 +73,17 @@ zeros_or (x ∷ xs) = ⊎_elim
     (cases_eq x 0)
 
 -- the bytes are a group, or they are not
-group_or : (bytes : List ℕ) → length bytes ≡ 3584 → IsBytes bytes → ((records : List RecordValue) × IsGroup records bytes) ⊎ ((records : List RecordValue) → ¬ IsGroup records bytes)
+group_or : (bytes : List ℕ) → length bytes ≡ 3584 → IsBytes bytes → ((records : List RecordValue) × IsGroup records bytes)
+    ⊎ ((records : List RecordValue) → ¬ IsGroup records bytes)
 group_or bytes long fits = ⊎_elim
     (λ some. ⊎_elim
     (λ short. ⊎_elim
     (λ zeros. ⊎_elim
-    (λ spelled. inl (spelled.0, from_parts Two spelled.0 bytes rest count len long is (record { some = some; short = omega (arith, short); are = spelled.1; zeros-are = zeros })))
+    (λ spelled. inl (
+      spelled.0,
+      from_parts Two spelled.0 bytes rest count len long is
+          (record { some = some; short = omega (arith, short); are = spelled.1; zeros-are = zeros }),
+    ))
     (λ none. inr (λ records group. none records (parts records group).are))
     (spelled_or count (take len rest) (IsBytes-take len rest (IsBytes-drop 4 bytes fits))))
     (λ others. inr (λ records group. others (parts records group).zeros-are))
@@ -96,7 +106,8 @@ group_or bytes long fits = ⊎_elim
     is = header_front bytes (drop 2 bytes) count len fits (omega (arith, long)) refl refl refl
 
     parts : (records : List RecordValue) → IsGroup records bytes → IsParted Two records count len (take len rest) (drop len rest)
-    parts records group = parted Two records bytes rest count len (big_from-lt 0 2 bytes fits) (big_from-lt 0 2 (drop 2 bytes) (IsBytes-drop 2 bytes fits)) is group
+    parts records group = parted Two records bytes rest count len (big_from-lt 0 2 bytes fits)
+        (big_from-lt 0 2 (drop 2 bytes) (IsBytes-drop 2 bytes fits)) is group
 
 -- ---- bodies
 
@@ -120,7 +131,11 @@ joined image low whole (suc n) room =
     let last = whole (low + n) (omega (arith, room)) in
     let front : List ℕ = concat (slice_range image low (low + n)) in
     let more = part_more image low n (low + suc n) (omega (arith, room)) (omega arith) in
-    subst (λ (b : List ℕ). AreJoined b (suc n)) (sym more) (record { size = omega (arith, length-append {A = ℕ} front (sector image (low + n)), before.size, last.size); fits = IsBytes-append front (sector image (low + n)) before.fits last.are_bytes })
+    subst (λ (b : List ℕ). AreJoined b (suc n)) (sym more)
+    (record {
+      size = omega (arith, length-append {A = ℕ} front (sector image (low + n)), before.size, last.size);
+      fits = IsBytes-append front (sector image (low + n)) before.fits last.are_bytes;
+    })
 
 joined_body : (image : Image) (n : ℕ) → IsDiskWhole image → n + 8 ≤ length image → AreJoined (body image n) 7
 joined_body image n whole room =
@@ -132,23 +147,39 @@ joined_body image n whole room =
 module _ (area : Area) (image : Image) (whole : IsDiskWhole image) (inside : IsAreaInside area image) where
   -- the first slots hold groups, or the area is damaged
   abbrev ReadOr : ℕ → Type 0
-  ReadOr n = ((groups : List (List RecordValue)) × HoldsGroups (record { first = area.first; slots = n }) image groups) ⊎ ((s : ℕ) × IsFirstDamagedSlot area image s)
+  ReadOr n = ((groups : List (List RecordValue)) × HoldsGroups (record { first = area.first; slots = n }) image groups)
+      ⊎ ((s : ℕ) × IsFirstDamagedSlot area image s)
 
   -- one slot more
   next_slot : (n : ℕ) (groups : List (List RecordValue)) → n < area.slots → HoldsGroups (record { first = area.first; slots = n }) image groups → ReadOr (n + 1)
   next_slot n groups lt held = ⊎_elim
       (λ opened. ⊎_elim
-      (λ less. inr (_, first_damaged Two area.first n area.slots image groups lt held (opened, inl (length groups, less, held.closed (length groups) (omega arith) less))))
+      (λ less. inr (
+        _,
+        first_damaged Two area.first n area.slots image groups lt held (
+          opened,
+          inl (length groups, less, held.closed (length groups) (omega arith) less),
+        ),
+      ))
       (λ all. ⊎_elim
       (λ group. inl (groups ++ group.0 ∷ [], one_open Two area.first n image groups group.0 held (omega (arith, all, held.room)) opened group.1))
       (λ none. inr (_, first_damaged Two area.first n area.slots image groups lt held (opened, inr none)))
-      (let there = joined_body image (area.first + 8 * n) whole (omega (arith, lt, inside)) in group_or (body image (area.first + 8 * n)) there.size there.fits))
+      (let there = joined_body image (area.first + 8 * n) whole (omega (arith, lt, inside)) in
+      group_or (body image (area.first + 8 * n)) there.size there.fits))
       (cases_lt (length groups) n))
       (λ shut. inl (groups, one_closed Two area.first n image groups held shut))
       (cases_eq (slice_index (sector image (area.first + 8 * n)) 0) MARK)
 
   read_or : (n : ℕ) → n ≤ area.slots → ReadOr n
-  read_or zero le = inl ([], record { room = omega arith; opened = λ slot low. absurd (omega (arith, low)); closed = λ slot low high. absurd (omega (arith, high)) })
+  read_or zero le = inl (
+    [],
+    record {
+      room = omega arith;
+      opened = λ slot low. absurd (omega (arith, low));
+      closed = λ slot low high.
+          absurd (omega (arith, high));
+    },
+  )
   read_or (suc n) le =
       let same : n + 1 ≡ suc n = omega arith in
       ⊎_elim
@@ -157,5 +188,6 @@ module _ (area : Area) (image : Image) (whole : IsDiskWhole image) (inside : IsA
       (read_or n (omega (arith, le)))
 
 -- the area holds groups, or it is damaged
-pub some_reading : (area : Area) (image : Image) → IsDiskWhole image → IsAreaInside area image → ((groups : List (List RecordValue)) × HoldsGroups area image groups) ⊎ ((n : ℕ) × IsFirstDamagedSlot area image n)
+pub some_reading : (area : Area) (image : Image) → IsDiskWhole image → IsAreaInside area image
+    → ((groups : List (List RecordValue)) × HoldsGroups area image groups) ⊎ ((n : ℕ) × IsFirstDamagedSlot area image n)
 some_reading area image whole inside = read_or area image whole inside area.slots (omega arith)

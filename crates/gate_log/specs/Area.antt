@@ -1,5 +1,6 @@
 -- What an area of a log holds: slots of eight sectors each, a gate and a body of seven.
-use Rattle.std.specs.Prelude.{◌≡◌, ◌⊎◌, ℕ, ◌+◌, ◌*◌, ◌<◌, ◌≤◌, true, List, [], ◌∷◌, ◌++◌, length, take, slice_index_or, slice_range}
+use Rattle.std.specs.Prelude.{◌≡◌, ◌⊎◌, ℕ, ◌+◌, ◌*◌, ◌<◌, ◌≤◌, true, List, [], ◌∷◌, ◌++◌, length, take, slice_index_or}
+use Rattle.std.specs.Prelude.{slice_range}
 use Rattle.std.specs.List.{concat, flat_map}
 use Rattle.sector_device.specs.Disk.{Image, sector, Disk, SameOutside}
 use Rattle.sector_device.specs.History.{Rises}
@@ -61,7 +62,8 @@ body image n = concat (slice_range image (n + 1) (n + SLOT_SECTORS))
 -- In the content the first slots of the area are open, one for each of the groups in order, and the others are closed.
 pub record HoldsGroupsIn (v : Version) (area : Area) (image : Image) (groups : List (List RecordValue)) : Type 0 where
   pub room : length groups ≤ area.slots
-  pub opened : (slot : ℕ) → slot < length groups → IsOpen image (gate area slot) × IsGroupIn v (slice_index_or groups slot []) (body image (gate area slot))
+  pub opened : (slot : ℕ) → slot < length groups → IsOpen image (gate area slot)
+      × IsGroupIn v (slice_index_or groups slot []) (body image (gate area slot))
   pub closed : (slot : ℕ) → length groups ≤ slot → slot < area.slots → ¬ IsOpen image (gate area slot)
 
 -- of version 2, which is written
@@ -91,7 +93,8 @@ pub record IsGateOf (area : Area) (groups : List (List RecordValue)) (index sect
 -- groups the log stood for, the area holds them, or them with the whole new group behind.
 pub record IsAppended (log : Log) (old : Disk) (records : List RecordValue) (image : Image) : Type 0 where
   pub outside : SameOutside (λ n. InSlot log.area log.open_slots n ⊎ (old.unsynced n ≡ true)) old.content image
-  pub groups : (groups : List (List RecordValue)) → Stands log old.content groups → HoldsGroups log.area image groups ⊎ HoldsGroups log.area image (groups ++ records ∷ [])
+  pub groups : (groups : List (List RecordValue)) → Stands log old.content groups → HoldsGroups log.area image groups
+      ⊎ HoldsGroups log.area image (groups ++ records ∷ [])
 
 -- ---- damage
 
@@ -99,7 +102,8 @@ pub record IsAppended (log : Log) (old : Disk) (records : List RecordValue) (ima
 abbrev pub IsDamagedIn : Version → Area → Image → ℕ → Type 0
 IsDamagedIn v area image slot =
     IsOpen image (gate area slot)
-    × (((earlier : ℕ) × (earlier < slot) × (¬ IsOpen image (gate area earlier))) ⊎ ((records : List RecordValue) → ¬ IsGroupIn v records (body image (gate area slot))))
+    × (((earlier : ℕ) × (earlier < slot) × (¬ IsOpen image (gate area earlier)))
+    ⊎ ((records : List RecordValue) → ¬ IsGroupIn v records (body image (gate area slot))))
 
 -- the gate of the first slot that can't be
 pub record IsFirstDamagedSlotIn (v : Version) (area : Area) (image : Image) (sector : ℕ) : Type 0 where

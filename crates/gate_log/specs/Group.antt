@@ -24,7 +24,8 @@ pub record FitsGroup (records : List RecordValue) : Type 0 where
 pub record IsGroupIn (v : Version) (records : List RecordValue) (body : List ℕ) : Type 0 where
   pub fits : FitsGroup records
   pub each : All (FitsIn v) records
-  pub spelled : body ≡ header (length records) (length (spellings records)) ++ (spellings records ++ replicate (GROUP_MAX - length (spellings records)) 0)
+  pub spelled : body ≡ header (length records) (length (spellings records))
+      ++ (spellings records ++ replicate (GROUP_MAX - length (spellings records)) 0)
 
 -- of version 2, which is written
 abbrev pub IsGroup : List RecordValue → List ℕ → Type 0

@@ -1,11 +1,14 @@
 //! The area of a log.
-ghost use Rattle.std.specs.Prelude.{◌≡◌, ◌≢◌, ◌⊎◌, ◌↔◌, ◌+◌, ◌*◌, ◌^◌, ◌≤◌, ◌<◌, ◌++◌, ◌∷◌, [], ℕ, List, false, true, length, OnOk, OnErr, IfOk, IfErr, MatchOption};
+ghost use Rattle.std.specs.Prelude.{◌≡◌, ◌≢◌, ◌⊎◌, ◌↔◌, ◌+◌, ◌*◌, ◌^◌, ◌≤◌, ◌<◌, ◌++◌, ◌∷◌, [], ℕ, List, false, true};
+ghost use Rattle.std.specs.Prelude.{length, OnOk, OnErr, IfOk, IfErr, MatchOption};
 ghost use Rattle.sector_device.specs.Disk.{Image, sector, IsSynced, IsCrashImage, SameOutside};
 ghost use Rattle.sector_device.specs.History.{RunsWithin, OnlyReads, LeavesOnly, CountsFailure, Rises};
 ghost use Rattle.sector_device.specs.Values.{marked_sector};
 ghost use Rattle.records.specs.RecordValue.{RecordValue};
 ghost use Rattle.gate_log.specs.Group.{FitsGroup, IsGroup, IsSpelledGroup};
-ghost use Rattle.gate_log.specs.Area.{gate, InArea, InSlot, IsGate, IsOpen, IsAreaInside, AreGatesZero, HoldsGroups, HoldsGroupsIn, Stands, StandsIn, records_of, IsGateOf, IsAppended, IsFirstDamagedSlotIn, Refuses};
+ghost use Rattle.gate_log.specs.Area.{gate, InArea, InSlot, IsGate, IsOpen, IsAreaInside, AreGatesZero, HoldsGroups};
+ghost use Rattle.gate_log.specs.Area.{HoldsGroupsIn, Stands, StandsIn, records_of, IsGateOf, IsAppended};
+ghost use Rattle.gate_log.specs.Area.{IsFirstDamagedSlotIn, Refuses};
 
 use crate::group::spell;
 use crate::slot::{is_open, read_group, write_group};
@@ -65,7 +68,8 @@ impl LogArea {
     }
 
     /// Adds a group in the first closed slot, if there is one, by seven writes of its body, a sync, a write of its
-    /// gate, and a sync. That it makes just these calls is only tested. `fits` tells whether the records can be a group.
+    /// gate, and a sync. That it makes just these calls is only tested. `fits` tells whether the records can be a
+    /// group.
     ///
     /// A crash at any moment of the call leaves the groups as they were, or with the whole new group behind them, and
     /// from the moment it answers `Done` the latter. `NoMemory` means that nothing was written. After `DeviceFailed`
@@ -79,7 +83,8 @@ impl LogArea {
         requires fits { FitsGroup records.now }
         requires inside { IsAreaInside self.old.area (D.history device.old).disk.content }
         requires synced { (n : ℕ) → InArea self.old.area n → (D.history device.old).disk.unsynced n ≡ false }
-        requires stands { (groups : List (List RecordValue)) × Stands self.old (D.history device.old).disk.content groups }
+        requires stands { (groups : List (List RecordValue))
+            × Stands self.old (D.history device.old).disk.content groups }
 
         // The groups are those that the log stands for at the call.
         ensures done { result ≡ Ok Appended.Done → (groups : List (List RecordValue))
@@ -95,12 +100,15 @@ impl LogArea {
         ensures full { (result ≡ Ok Appended.Full) ↔ (self.old.open_slots ≡ self.old.area.slots) }
 
         // A crash at any moment of the call, whatever it answers.
-        ensures any_moment { LeavesOnly (D.history device.old) (D.history device.new) (IsAppended self.old (D.history device.old).disk records.now) }
+        ensures any_moment { LeavesOnly (D.history device.old) (D.history device.new)
+            (IsAppended self.old (D.history device.old).disk records.now) }
 
-        ensures outside { SameOutside (InSlot self.old.area self.old.open_slots) (D.history device.old).disk.content (D.history device.new).disk.content }
+        ensures outside { SameOutside (InSlot self.old.area self.old.open_slots) (D.history device.old).disk.content
+            (D.history device.new).disk.content }
         ensures area { self.new.area ≡ self.old.area }
         ensures err { OnErr result (self.new ≡ self.old) }
-        ensures unchanged { (result ≡ Ok Appended.Full) ⊎ (result ≡ Err Error.NoMemory) → (self.new ≡ self.old) × (device.new ≡ device.old) }
+        ensures unchanged { (result ≡ Ok Appended.Full) ⊎ (result ≡ Err Error.NoMemory) → (self.new ≡ self.old)
+            × (device.new ≡ device.old) }
         ensures refused { IfErr result (Refuses (D.failures device.old) (D.failures device.new)) }
         ensures quiet { OnOk result (D.failures device.new ≡ D.failures device.old) }
         ensures later { D.failures device.old ≤ D.failures device.new }
@@ -122,16 +130,19 @@ impl LogArea {
         requires spelled { IsSpelledGroup body.now }
         requires inside { IsAreaInside self.old.area (D.history device.old).disk.content }
         requires synced { (n : ℕ) → InArea self.old.area n → (D.history device.old).disk.unsynced n ≡ false }
-        requires stands { (groups : List (List RecordValue)) × Stands self.old (D.history device.old).disk.content groups }
+        requires stands { (groups : List (List RecordValue))
+            × Stands self.old (D.history device.old).disk.content groups }
 
         // The records are those that the body spells.
-        ensures done { result ≡ Ok Appended.Done → (records : List RecordValue) (groups : List (List RecordValue)) → IsGroup records body.now
+        ensures done { result ≡ Ok Appended.Done → (records : List RecordValue) (groups : List (List RecordValue))
+            → IsGroup records body.now
             → Stands self.old (D.history device.old).disk.content groups
             → Stands self.new (D.history device.new).disk.content (groups ++ records ∷ []) }
         ensures marked { result ≡ Ok Appended.Done
             → sector (D.history device.new).disk.content (gate self.old.area self.old.open_slots) ≡ marked_sector }
         ensures synced { result ≡ Ok Appended.Done → IsSynced (D.history device.new).disk }
-        ensures survives { result ≡ Ok Appended.Done → (records : List RecordValue) (groups : List (List RecordValue)) (image : Image) → IsGroup records body.now
+        ensures survives { result ≡ Ok Appended.Done
+            → (records : List RecordValue) (groups : List (List RecordValue)) (image : Image) → IsGroup records body.now
             → Stands self.old (D.history device.old).disk.content groups
             → IsCrashImage (D.history device.new).disk image
             → HoldsGroups self.new.area image (groups ++ records ∷ []) }
@@ -139,13 +150,16 @@ impl LogArea {
 
         // A crash at any moment of the call, whatever it answers.
         ensures any_moment { (records : List RecordValue) → IsGroup records body.now
-            → LeavesOnly (D.history device.old) (D.history device.new) (IsAppended self.old (D.history device.old).disk records) }
+            → LeavesOnly (D.history device.old) (D.history device.new)
+            (IsAppended self.old (D.history device.old).disk records) }
 
-        ensures outside { SameOutside (InSlot self.old.area self.old.open_slots) (D.history device.old).disk.content (D.history device.new).disk.content }
+        ensures outside { SameOutside (InSlot self.old.area self.old.open_slots) (D.history device.old).disk.content
+            (D.history device.new).disk.content }
         ensures area { self.new.area ≡ self.old.area }
         ensures err { OnErr result (self.new ≡ self.old) }
         ensures unchanged { result ≡ Ok Appended.Full → (self.new ≡ self.old) × (device.new ≡ device.old) }
-        ensures refused { IfErr result (λ e. (e ≡ Error.DeviceFailed) × Rises (D.failures device.old) (D.failures device.new)) }
+        ensures refused { IfErr result (λ e. (e ≡ Error.DeviceFailed)
+            × Rises (D.failures device.old) (D.failures device.new)) }
         ensures quiet { OnOk result (D.failures device.new ≡ D.failures device.old) }
         ensures later { D.failures device.old ≤ D.failures device.new }
     {
@@ -160,11 +174,12 @@ impl LogArea {
         Ok(Appended::Done)
     }
 
-    /// The records of all groups of a version of the format, in order. From then on the log knows how many slots are open.
+    /// The records of all groups of a version of the format, in order. From then on the log knows how many slots are
+    /// open.
     ///
     /// `Damaged` names the gate of the first slot that can't be: an open one after a closed one, or an open one whose
-    /// body is no group. `DeviceFailed` where the device failed in the call, and only then. No memory is wanted where the first
-    /// gate is closed (`memory`). Nothing is written.
+    /// body is no group. `DeviceFailed` where the device failed in the call, and only then. No memory is wanted where
+    /// the first gate is closed (`memory`). Nothing is written.
     pub fn read_all<D: Device, A: Allocator + Copy>(
         &mut self,
         alloc: A,
@@ -178,13 +193,15 @@ impl LogArea {
             × StandsIn version self.new (D.history device.old).disk.content groups
             × (records.items ≡ records_of groups)) }
         ensures refused { IfErr result (λ e. Refuses (D.failures device.old) (D.failures device.new) e
-            ⊎ ((sector : ℕ) × (e ≡ Error.Damaged sector) × IsFirstDamagedSlotIn version self.old.area (D.history device.old).disk.content sector)) }
+            ⊎ ((sector : ℕ) × (e ≡ Error.Damaged sector)
+            × IsFirstDamagedSlotIn version self.old.area (D.history device.old).disk.content sector)) }
         ensures area { self.new.area ≡ self.old.area }
         ensures err { OnErr result (self.new ≡ self.old) }
         ensures reads { OnlyReads (D.history device.old) (D.history device.new) }
         ensures quiet { OnOk result (D.failures device.new ≡ D.failures device.old) }
         ensures told { IfErr result (λ e. e ≢ Error.DeviceFailed → D.failures device.new ≡ D.failures device.old) }
-        ensures memory { IfErr result (λ e. e ≡ Error.NoMemory → (0 < self.old.area.slots) × IsOpen (D.history device.old).disk.content self.old.area.first) }
+        ensures memory { IfErr result (λ e. e ≡ Error.NoMemory → (0 < self.old.area.slots)
+            × IsOpen (D.history device.old).disk.content self.old.area.first) }
         ensures later { D.failures device.old ≤ D.failures device.new }
     {
         let (records, open_slots) = read_slots(alloc, version, device, self.first, self.slots)?;
@@ -194,8 +211,8 @@ impl LogArea {
 
     /// The gate of the group that a record is in, by the record's index in what `read_all` gave, or `None` where there
     /// is no such record. So a caller can say where a record lies that can't follow the one before it. The groups are
-    /// read again, and nothing is written. `DeviceFailed` where the device failed in the call, and only then. No memory is
-    /// wanted of a log that knows of no open slot (`memory`).
+    /// read again, and nothing is written. `DeviceFailed` where the device failed in the call, and only then. No memory
+    /// is wanted of a log that knows of no open slot (`memory`).
     pub fn gate_of<D: Device, A: Allocator + Copy>(
         &self,
         alloc: A,
@@ -217,18 +234,22 @@ impl LogArea {
         gate_of_record(alloc, version, device, self.first, self.open_slots, index)
     }
 
-    /// Closes every gate, by a sector of zeros, and syncs. Until then the area may hold anything, and after `DeviceFailed` it may too.
+    /// Closes every gate, by a sector of zeros, and syncs. Until then the area may hold anything, and after
+    /// `DeviceFailed` it may too.
     pub fn clear<D: Device>(&mut self, device: &mut D) -> Result<(), Error>
         requires inside { IsAreaInside self.old.area (D.history device.old).disk.content }
         ensures cleared { OnOk result (Stands self.new (D.history device.new).disk.content []) }
         ensures zeros { OnOk result (AreGatesZero self.old.area (D.history device.new).disk.content) }
         ensures synced { OnOk result (IsSynced (D.history device.new).disk) }
-        ensures outside { SameOutside (IsGate self.old.area) (D.history device.old).disk.content (D.history device.new).disk.content }
+        ensures outside { SameOutside (IsGate self.old.area) (D.history device.old).disk.content
+            (D.history device.new).disk.content }
         ensures any_moment { LeavesOnly (D.history device.old) (D.history device.new)
-            (SameOutside (λ n. IsGate self.old.area n ⊎ ((D.history device.old).disk.unsynced n ≡ true)) (D.history device.old).disk.content) }
+            (SameOutside (λ n. IsGate self.old.area n ⊎ ((D.history device.old).disk.unsynced n ≡ true))
+            (D.history device.old).disk.content) }
         ensures area { self.new.area ≡ self.old.area }
         ensures err { OnErr result (self.new ≡ self.old) }
-        ensures refused { IfErr result (λ e. (e ≡ Error.DeviceFailed) × Rises (D.failures device.old) (D.failures device.new)) }
+        ensures refused { IfErr result (λ e. (e ≡ Error.DeviceFailed)
+            × Rises (D.failures device.old) (D.failures device.new)) }
         ensures quiet { OnOk result (D.failures device.new ≡ D.failures device.old) }
         ensures later { D.failures device.old ≤ D.failures device.new }
     {
@@ -262,11 +283,14 @@ fn read_slots<D: Device, A: Allocator + Copy>(
         × HoldsGroupsIn version (record { first = first; slots = slots }) (D.history device.old).disk.content groups
         × (found.1 ≡ length groups) × (found.0.items ≡ records_of groups)) }
     ensures refused { IfErr result (λ e. Refuses (D.failures device.old) (D.failures device.new) e
-        ⊎ ((sector : ℕ) × (e ≡ Error.Damaged sector) × IsFirstDamagedSlotIn version (record { first = first; slots = slots }) (D.history device.old).disk.content sector)) }
+        ⊎ ((sector : ℕ) × (e ≡ Error.Damaged sector)
+        × IsFirstDamagedSlotIn version (record { first = first; slots = slots })
+        (D.history device.old).disk.content sector)) }
     ensures reads { OnlyReads (D.history device.old) (D.history device.new) }
     ensures quiet { OnOk result (D.failures device.new ≡ D.failures device.old) }
     ensures told { IfErr result (λ e. e ≢ Error.DeviceFailed → D.failures device.new ≡ D.failures device.old) }
-    ensures memory { IfErr result (λ e. e ≡ Error.NoMemory → (0 < slots) × IsOpen (D.history device.old).disk.content first) }
+    ensures memory { IfErr result (λ e. e ≡ Error.NoMemory → (0 < slots)
+        × IsOpen (D.history device.old).disk.content first) }
     ensures later { D.failures device.old ≤ D.failures device.new }
 {
     let mut count = 0;
@@ -303,7 +327,8 @@ fn gate_of_record<D: Device, A: Allocator + Copy>(
     ensures found { IfOk result (λ found. (groups : List (List RecordValue))
         → HoldsGroupsIn version (record { first = first; slots = slots }) (D.history device.old).disk.content groups
         → length groups ≡ slots
-        → MatchOption found (length (records_of groups) ≤ index) (IsGateOf (record { first = first; slots = slots }) groups index)) }
+        → MatchOption found (length (records_of groups) ≤ index)
+        (IsGateOf (record { first = first; slots = slots }) groups index)) }
     ensures refused { IfErr result (Refuses (D.failures device.old) (D.failures device.new)) }
     ensures reads { OnlyReads (D.history device.old) (D.history device.new) }
     ensures quiet { OnOk result (D.failures device.new ≡ D.failures device.old) }
@@ -329,10 +354,14 @@ fn gate_of_record<D: Device, A: Allocator + Copy>(
 fn close_gates<D: Device>(device: &mut D, first: u64, slots: u64) -> Result<(), Failed>
     requires inside { first + SLOT_SECTORS * slots ≤ length (D.history device.old).disk.content }
     requires number { first + SLOT_SECTORS * slots < 2 ^ 64 }
-    ensures zeros { OnOk result (AreGatesZero (record { first = first; slots = slots }) (D.history device.new).disk.content) }
-    ensures outside { SameOutside (IsGate (record { first = first; slots = slots })) (D.history device.old).disk.content (D.history device.new).disk.content }
+    ensures zeros { OnOk result (AreGatesZero (record { first = first; slots = slots })
+        (D.history device.new).disk.content) }
+    ensures outside { SameOutside (IsGate (record { first = first; slots = slots })) (D.history device.old).disk.content
+        (D.history device.new).disk.content }
     ensures synced { OnOk result (IsSynced (D.history device.new).disk) }
-    ensures within { RunsWithin (λ n. IsGate (record { first = first; slots = slots }) n ⊎ ((D.history device.old).disk.unsynced n ≡ true)) (D.history device.old).disk.content (D.history device.old) (D.history device.new) }
+    ensures within { RunsWithin (λ n. IsGate (record { first = first; slots = slots }) n
+        ⊎ ((D.history device.old).disk.unsynced n ≡ true)) (D.history device.old).disk.content (D.history device.old)
+        (D.history device.new) }
     ensures counts { CountsFailure (D.failures device.old) (D.failures device.new) result }
 {
     write_zeros(device, first, SLOT_SECTORS, slots)?;

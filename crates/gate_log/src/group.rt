@@ -1,5 +1,6 @@
 //! Groups of records, as the bytes of a slot's body.
-ghost use Rattle.std.specs.Prelude.{◌≡◌, ◌↔◌, ◌+◌, ◌-◌, ◌≤◌, ◌<◌, ◌++◌, ℕ, List, length, take, drop, All, IfOk, OnOk, IfErr, IsTrue, MatchOption};
+ghost use Rattle.std.specs.Prelude.{◌≡◌, ◌↔◌, ◌+◌, ◌-◌, ◌≤◌, ◌<◌, ◌++◌, ℕ, List, length, take, drop, All, IfOk, OnOk};
+ghost use Rattle.std.specs.Prelude.{IfErr, IsTrue, MatchOption};
 ghost use Rattle.records.specs.RecordValue.{RecordValue};
 ghost use Rattle.records.specs.Spelling.{Fits};
 ghost use Rattle.gate_log.specs.Group.{spellings, header, FitsGroup, IsGroup, IsGroupIn};
@@ -71,8 +72,8 @@ fn header(count: u16, len: u16) -> [u8; HEADER_SIZE]
     bytes
 }
 
-/// The body of a group of these records, as `LogArea::append_spelled` writes it. `fits` tells whether the records can be a
-/// group. So the memory for a group is taken before the first write, also of several.
+/// The body of a group of these records, as `LogArea::append_spelled` writes it. `fits` tells whether the records can
+/// be a group. So the memory for a group is taken before the first write, also of several.
 pub fn spell<A: Allocator + Copy>(alloc: A, records: &[Record]) -> Result<Vec<u8, A>, Error>
     requires { FitsGroup records.now }
     ensures ok { IfOk result (λ body. IsGroup records.now body.items) }

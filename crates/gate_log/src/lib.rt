@@ -1,9 +1,9 @@
 //! The log of a store: an area of slots, each for one group of records. A group is there, whole, from the moment its
 //! slot's gate is open and synced, and a crash before that leaves no trace of it.
 //!
-//! Proved: an append that answers `Done` has added just the new group, synced (`done`, `synced`). At any moment of it a crash
-//! leaves the old groups, or them with the whole new one (`any_moment`). `Full` comes just where each slot is open (`full`).
-//! Reading gives just the records that are there (`read`), or names the first damaged gate (`refused`).
+//! Proved: an append that answers `Done` has added just the new group, synced (`done`, `synced`). At any moment of it a
+//! crash leaves the old groups, or them with the whole new one (`any_moment`). `Full` comes just where each slot is
+//! open (`full`). Reading gives just the records that are there (`read`), or names the first damaged gate (`refused`).
 //! Only tested, through a store: a group byte by byte. Neither: time, and how many calls the device gets.
 #![tactic(auto)]
 

@@ -1,5 +1,6 @@
 // One slot: how its group is written, and how it is read.
-ghost use Rattle.std.specs.Prelude.{◌≡◌, ◌≢◌, ◌↔◌, ◌+◌, ◌^◌, ◌≤◌, ◌<◌, List, false, length, OnOk, IfOk, IfErr, IsTrue, MatchOption};
+ghost use Rattle.std.specs.Prelude.{◌≡◌, ◌≢◌, ◌↔◌, ◌+◌, ◌^◌, ◌≤◌, ◌<◌, List, false, length, OnOk, IfOk, IfErr, IsTrue};
+ghost use Rattle.std.specs.Prelude.{MatchOption};
 ghost use Rattle.sector_device.specs.Disk.{sector, IsSynced, SameOutside};
 ghost use Rattle.sector_device.specs.History.{RunsWithin, OnlyReads, LeavesOnly, CountsFailure};
 ghost use Rattle.sector_device.specs.Values.{marked_sector};
@@ -19,9 +20,11 @@ fn write_body<D: Device>(device: &mut D, gate: u64, bytes: &[u8]) -> Result<(), 
     requires inside { gate + SLOT_SECTORS ≤ length (D.history device.old).disk.content }
     requires number { gate + SLOT_SECTORS < 2 ^ 64 }
     ensures written { OnOk result (body (D.history device.new).disk.content gate ≡ bytes.now) }
-    ensures outside { SameOutside (λ n. (gate + 1 ≤ n) × (n < gate + SLOT_SECTORS)) (D.history device.old).disk.content (D.history device.new).disk.content }
+    ensures outside { SameOutside (λ n. (gate + 1 ≤ n)
+        × (n < gate + SLOT_SECTORS)) (D.history device.old).disk.content (D.history device.new).disk.content }
     ensures synced { OnOk result (IsSynced (D.history device.new).disk) }
-    ensures within { RunsWithin (MayDiffer (D.history device.old).disk (gate + 1) (gate + SLOT_SECTORS)) (D.history device.old).disk.content (D.history device.old) (D.history device.new) }
+    ensures within { RunsWithin (MayDiffer (D.history device.old).disk (gate + 1) (gate + SLOT_SECTORS))
+        (D.history device.old).disk.content (D.history device.old) (D.history device.new) }
     ensures counts { CountsFailure (D.failures device.old) (D.failures device.new) result }
 {
     let (sectors, _) = bytes.as_chunks::<SECTOR_SIZE>();
@@ -37,7 +40,8 @@ fn open_gate<D: Device>(device: &mut D, gate: u64) -> Result<(), Failed>
     requires synced { IsSynced (D.history device.old).disk }
     ensures opened { OnOk result (sector (D.history device.new).disk.content gate ≡ marked_sector) }
     ensures synced { OnOk result (IsSynced (D.history device.new).disk) }
-    ensures within { RunsWithin (λ n. n ≡ gate) (D.history device.old).disk.content (D.history device.old) (D.history device.new) }
+    ensures within { RunsWithin (λ n. n ≡ gate) (D.history device.old).disk.content (D.history device.old)
+        (D.history device.new) }
     ensures counts { CountsFailure (D.failures device.old) (D.failures device.new) result }
 {
     let opened = marked_sector();
@@ -53,9 +57,11 @@ pub(crate) fn write_group<D: Device>(device: &mut D, gate: u64, bytes: &[u8]) ->
     requires synced { (D.history device.old).disk.unsynced gate ≡ false }
     ensures opened { OnOk result (sector (D.history device.new).disk.content gate ≡ marked_sector) }
     ensures written { OnOk result (body (D.history device.new).disk.content gate ≡ bytes.now) }
-    ensures outside { SameOutside (λ n. (gate ≤ n) × (n < gate + SLOT_SECTORS)) (D.history device.old).disk.content (D.history device.new).disk.content }
+    ensures outside { SameOutside (λ n. (gate ≤ n) × (n < gate + SLOT_SECTORS)) (D.history device.old).disk.content
+        (D.history device.new).disk.content }
     ensures synced { OnOk result (IsSynced (D.history device.new).disk) }
-    ensures any_moment { LeavesOnly (D.history device.old) (D.history device.new) (IsPartlyWritten (D.history device.old).disk gate bytes.now) }
+    ensures any_moment { LeavesOnly (D.history device.old) (D.history device.new)
+        (IsPartlyWritten (D.history device.old).disk gate bytes.now) }
     ensures counts { CountsFailure (D.failures device.old) (D.failures device.new) result }
 {
     write_body(device, gate, bytes)?;

@@ -1,5 +1,6 @@
 -- One day more.
-use Rattle.std.proofs.Common.{max, ◌≡◌, ℕ, ◌+◌, ◌<◌, ◌≤◌, true, false, zero, suc, List, [], ◌∷◌, ◌++◌, Ok, Err, length, take, refl, sym, ap, subst, ◌∙◌, append-nil, append_assoc, arith}
+use Rattle.std.proofs.Common.{max, ◌≡◌, ℕ, ◌+◌, ◌<◌, ◌≤◌, true, false, zero, suc, List, [], ◌∷◌, ◌++◌, Ok, Err, length, take, refl, sym, ap, subst, ◌∙◌}
+use Rattle.std.proofs.Common.{append-nil, append_assoc, arith}
 use Rattle.std.specs.List.{All}
 use Rattle.std.specs.declared.vec.Vec.{Vec}
 use Rattle.std.proofs.lemmas.Bool.{false≢true}
@@ -83,10 +84,12 @@ day_last (d ∷ days) (a ∷ answers) earlier last answer today are day = (
 
 -- the numbers of the items that allowed replies tell rise
 abbrev pub Rise : Type 0
-Rise = (o : Opened) (last : ℕ) (pairs : List (core.Event × core.Reply)) (s : State) (k : core.Standing) → ServesAll (opened o) (standing_at last) pairs s k → AreRising last (items_of no_writes pairs)
+Rise = (o : Opened) (last : ℕ) (pairs : List (core.Event × core.Reply)) (s : State) (k : core.Standing) → ServesAll (opened o) (standing_at last) pairs s k
+    → AreRising last (items_of no_writes pairs)
 
 module _ {D M : Type 0} (history : D → History) (g : GeometryValue) (given : Given) (day : Day M) (replies : Vec (Reply M) M) (engine : Parts D M)
-    (rise : Rise) (at : IsAt history (and_then (opening g given) day.requests.items replies.items) engine) (horizon j : ℕ) (image : Image) (left : SurvivesAt (opening g given) day.requests.items replies.items horizon j image) where
+    (rise : Rise) (at : IsAt history (and_then (opening g given) day.requests.items replies.items) engine) (horizon j : ℕ) (image : Image)
+    (left : SurvivesAt (opening g given) day.requests.items replies.items horizon j image) where
   abbrev items : List Item
   items = told_over no_writes (take (j + 1) day.requests.items) (take (j + 1) replies.items)
 
@@ -124,7 +127,8 @@ module _ {D M : Type 0} (history : D → History) (g : GeometryValue) (given : G
     whole = all;
     lost = split.0;
     told = split.1;
-    safe = All-weaker (IsAbove left.given.last) (λ (item : Item). acknowledged (take j replies.items) < item.number) (λ item above. omega (arith, above, low)) split.0 split.2;
+    safe = All-weaker (IsAbove left.given.last) (λ (item : Item). acknowledged (take j replies.items) < item.number) (λ item above.
+        omega (arith, above, low)) split.0 split.2;
   }
 
   pub kept_told : kept_of ≡ up_to left.given.last (items_of no_writes (core_calls (take (j + 1) day.requests.items) (take (j + 1) replies.items)))

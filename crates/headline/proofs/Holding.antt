@@ -1,5 +1,6 @@
 -- What a store holds that was opened behind its days.
-use Rattle.std.proofs.Common.{IfErr, IfOk, ◌≡◌, ◌⊎◌, IfSome, Option, ◌↔◌, Result, Ok, Err, inl, inr, ℕ, Bool, true, false, List, [], None, Some, refl, sym, ap, subst, ◌∙◌}
+use Rattle.std.proofs.Common.{IfErr, IfOk, ◌≡◌, ◌⊎◌, IfSome, Option, ◌↔◌, Result, Ok, Err, inl, inr, ℕ, Bool, true, false, List, [], None, Some, refl, sym, ap}
+use Rattle.std.proofs.Common.{subst, ◌∙◌}
 use Rattle.std.specs.FinMap as map
 use Rattle.records.specs.GeometryValue.{GeometryValue}
 use Rattle.records.specs.declared.error.Error.{Error}
@@ -51,7 +52,8 @@ never_both life none complete = cc
 
 -- ---- a store that begins with this
 
-pub begun : {D : Type 0} (M : Type 0) (history : D → History) (g : GeometryValue) (given : Given) (old found : D) → Gives (history old).disk.content g given → CanOpen (over g given) → IsSynced (history old).disk → IsFoundAs (history old).disk (history found)
+pub begun : {D : Type 0} (M : Type 0) (history : D → History) (g : GeometryValue) (given : Given) (old found : D) → Gives (history old).disk.content g given
+    → CanOpen (over g given) → IsSynced (history old).disk → IsFoundAs (history old).disk (history found)
     → KeepsDays {M = M} history g given [] [] found
 begun M history g given old found gives opens synced is = record { anew = is.anew; each = each }
   where
@@ -68,7 +70,8 @@ begun M history g given old found gives opens synced is = record { anew = is.ane
 
 -- ---- a store that was opened
 
-module _ {D M : Type 0} (history : D → History) (g : GeometryValue) (began : Given) (days : List (Day M)) (answers : List (Answer M)) (before : D) (keeps : KeepsDays history g began days answers before) (images : Images) (engine : Parts D M) (is : IsOpened history before engine) where
+module _ {D M : Type 0} (history : D → History) (g : GeometryValue) (began : Given) (days : List (Day M)) (answers : List (Answer M)) (before : D)
+    (keeps : KeepsDays history g began days answers before) (images : Images) (engine : Parts D M) (is : IsOpened history before engine) where
   abbrev gives : GivesDays g began days answers (history before).disk.content
   gives = now_gives history g began days answers before keeps
 
@@ -98,12 +101,15 @@ module _ {D M : Type 0} (history : D → History) (g : GeometryValue) (began : G
   }
 
   -- it was left as it was opened, or its build was carried to its end
-  pub behind : (build : Bool) (after : Parts D M) → (build ≡ false → after ≡ engine) → (build ≡ true → BuildsWhole (core_of engine) (core_of after)) → Holds began days answers build (core_of after)
+  pub behind : (build : Bool) (after : Parts D M) → (build ≡ false → after ≡ engine) → (build ≡ true → BuildsWhole (core_of engine) (core_of after))
+      → Holds began days answers build (core_of after)
   behind false after same builds = subst (λ (e : Parts D M). Holds began days answers false (core_of e)) (sym (same refl)) held
   behind true after same builds = built (core_of after) (builds refl (is.come sound) (ap (λ (v : CoreValue). v.txns.active) is.core))
 
   -- its build was refused, or wasn't
-  pub unbuilt : (build : Bool) (after : CoreValue) (why : Option Error) → IfSome why (λ e. build ≡ true) → IfSome why (λ e. HasCome (core_of engine) → IsNotBuilt e (core_of engine) after) → IfSome why (λ e. (build ≡ true) × IsUnbuilt began days answers e after)
+  pub unbuilt : (build : Bool) (after : CoreValue) (why : Option Error) → IfSome why (λ e. build ≡ true)
+      → IfSome why (λ e. HasCome (core_of engine) → IsNotBuilt e (core_of engine) after)
+      → IfSome why (λ e. (build ≡ true) × IsUnbuilt began days answers e after)
   unbuilt build after None wanted refused = tt
   unbuilt build after (Some e) wanted refused = (wanted, record { opened = core_of engine; held = held; refused = refused (is.come sound) })
 

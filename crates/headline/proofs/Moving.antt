@@ -17,7 +17,8 @@ use Rattle.restart.specs.Store.{over}
 use Rattle.headline.specs.Moved.{IsToldLater, IsNotLived}
 
 module _ (old new : Image) (old_before old_after : ℕ) where
-  pub not_moved : {E : Type 0} (history : E → History) (failures : E → ℕ) (before after : E) (e : MigrateError) → (history before).disk.content ≡ new → IsNotMigrated old old_before old_after history failures before after e → IsNotLived old new old_before old_after e
+  pub not_moved : {E : Type 0} (history : E → History) (failures : E → ℕ) (before after : E) (e : MigrateError) → (history before).disk.content ≡ new
+      → IsNotMigrated old old_before old_after history failures before after e → IsNotLived old new old_before old_after e
   not_moved history failures before after (Old e) is why = why.0
   not_moved history failures before after (New e) is why = ⊎_elim
       (λ small. inl (small.0, subst (λ (i : Image). IsSmallerThan old i) is small.1))
@@ -25,8 +26,10 @@ module _ (old new : Image) (old_before old_after : ℕ) where
       why
   not_moved history failures before after NoMemory is why = tt
 
-  pub not_opened : (g : GeometryValue) (given : Given) → GivesIn One old g given → (e : Error) (refusal : MigrateError) → IsToldLater e refusal → (CanOpen (over g given) → (e ≡ errors.NoMemory) ⊎ (e ≡ DeviceFailed)) → IsNotLived old new old_before old_after refusal
+  pub not_opened : (g : GeometryValue) (given : Given) → GivesIn One old g given → (e : Error) (refusal : MigrateError) → IsToldLater e refusal
+      → (CanOpen (over g given) → (e ≡ errors.NoMemory) ⊎ (e ≡ DeviceFailed)) → IsNotLived old new old_before old_after refusal
   not_opened g given gave e refusal told why = ⊎_elim
       (λ none. subst (IsNotLived old new old_before old_after) (sym none.1) tt)
-      (λ other. subst (IsNotLived old new old_before old_after) (sym other.1) (inr (record { geometry = g; given = given; gave = gave; failed = λ can. ⊎_elim (λ memory. absurd (other.0 memory)) (λ failed. failed) (why can) })))
+      (λ other. subst (IsNotLived old new old_before old_after) (sym other.1)
+      (inr (record { geometry = g; given = given; gave = gave; failed = λ can. ⊎_elim (λ memory. absurd (other.0 memory)) (λ failed. failed) (why can) })))
       told

@@ -15,7 +15,8 @@ IsAbove n item = n < item.number
 
 all_above : (n m : ℕ) (items : List Item) → n ≤ m → AreRising m items → All (IsAbove n) items
 all_above n m [] le rise = All-nil (IsAbove n)
-all_above n m (item ∷ items) le rise = All-cons (IsAbove n) item items (omega (arith, le, rise.0)) (all_above n item.number items (omega (arith, le, rise.0)) rise.1)
+all_above n m (item ∷ items) le rise = All-cons (IsAbove n) item items (omega (arith, le, rise.0))
+    (all_above n item.number items (omega (arith, le, rise.0)) rise.1)
 
 -- those up to a number, and the others behind them
 pub split_up : (n m : ℕ) (items : List Item) → AreRising m items → (lost : List Item) × (items ≡ up_to n items ++ lost) × All (IsAbove n) lost

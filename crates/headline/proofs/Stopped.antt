@@ -1,5 +1,6 @@
 -- What a device keeps of a store's days, as one day more goes by.
-use Rattle.std.proofs.Common.{max, ◌≡◌, ◌⊎◌, ⊎_elim, inl, inr, ℕ, Bool, true, false, ◌+◌, ◌<◌, ◌≤◌, List, [], ◌∷◌, ◌++◌, Ok, Err, IfOk, IfErr, OnErr, length, get_or, take, sym, refl, ap, subst, ◌∙◌, append-nil, arith}
+use Rattle.std.proofs.Common.{max, ◌≡◌, ◌⊎◌, ⊎_elim, inl, inr, ℕ, Bool, true, false, ◌+◌, ◌<◌, ◌≤◌, List, [], ◌∷◌, ◌++◌, Ok, Err, IfOk, IfErr, OnErr, length}
+use Rattle.std.proofs.Common.{get_or, take, sym, refl, ap, subst, ◌∙◌, append-nil, arith}
 use Rattle.std.proofs.lemmas.Bool.{false≢true}
 use Rattle.std.proofs.lemmas.List.{take_all, take_more}
 use Rattle.std.specs.declared.vec.Vec.{Vec}
@@ -41,17 +42,22 @@ abbrev pub GivesBack : Type 0
 GivesBack = (old image : Image) → IsWrittenBack old image → (g : GeometryValue) (given : Given) → Gives old g given → Gives image g given
 
 -- what all of the requests leave is what the last border leaves
-survives_all : {M : Type 0} (past : Past M) (horizon : ℕ) (events : List Event) (replies : List (Reply M)) (image : Image) → length replies ≡ length events → acknowledged_by (and_then past events replies) ≤ horizon
+survives_all : {M : Type 0} (past : Past M) (horizon : ℕ) (events : List Event) (replies : List (Reply M)) (image : Image) → length replies ≡ length events
+    → acknowledged_by (and_then past events replies) ≤ horizon
     → Survives (and_then past events replies) horizon image → SurvivesAt past events replies horizon (length events) image
 survives_all past horizon events replies image even safe it =
     let j = length events in
     let same : horizon ≡ max horizon (acknowledged_by (and_then past (take j events) replies)) = omega (arith, safe) in
-    subst (λ (rs : List (Reply _)). Survives (and_then past (take (j + 1) events) (take (j + 1) replies)) (max horizon (acknowledged_by (and_then past (take j events) rs))) image) (sym (take_all j replies (omega (arith, even))))
-    (subst (λ (rs : List (Reply _)). Survives (and_then past (take (j + 1) events) rs) (max horizon (acknowledged_by (and_then past (take j events) replies))) image) (sym (take_all (j + 1) replies (omega (arith, even))))
-    (subst (λ (es : List Event). Survives (and_then past es replies) (max horizon (acknowledged_by (and_then past (take j events) replies))) image) (sym (take_all (j + 1) events (omega arith)))
+    subst (λ (rs : List (Reply _)). Survives (and_then past (take (j + 1) events) (take (j + 1) replies))
+    (max horizon (acknowledged_by (and_then past (take j events) rs))) image) (sym (take_all j replies (omega (arith, even))))
+    (subst (λ (rs : List (Reply _)). Survives (and_then past (take (j + 1) events) rs)
+    (max horizon (acknowledged_by (and_then past (take j events) replies))) image) (sym (take_all (j + 1) replies (omega (arith, even))))
+    (subst (λ (es : List Event). Survives (and_then past es replies) (max horizon (acknowledged_by (and_then past (take j events) replies))) image)
+    (sym (take_all (j + 1) events (omega arith)))
     (subst (λ (floor : ℕ). Survives (and_then past events replies) floor image) same it)))
 
-module _ {D M : Type 0} (history : D → History) (g : GeometryValue) (began : Given) (days : List (Day M)) (answers : List (Answer M)) (before : D) (keeps : KeepsDays history g began days answers before) where
+module _ {D M : Type 0} (history : D → History) (g : GeometryValue) (began : Given) (days : List (Day M)) (answers : List (Answer M)) (before : D)
+    (keeps : KeepsDays history g began days answers before) where
   -- what the device gives now
   pub now_gives : GivesDays g began days answers (history before).disk.content
   now_gives = keeps.each (history before).disk.content (content_is_image (history before).disk (history before).whole)
@@ -59,7 +65,8 @@ module _ {D M : Type 0} (history : D → History) (g : GeometryValue) (began : G
   -- ---- while it is opened
 
   pub between : GivesBack → (after : D) → IsTurned history before after → LeavesOnly (history before) (history after) (GivesDays g began days answers)
-  between back after turned = weaker (history before) (history after) (ReopeningLeaves (history before).disk) (GivesDays g began days answers) each turned.images
+  between back after turned = weaker (history before) (history after) (ReopeningLeaves (history before).disk)
+      (GivesDays g began days answers) each turned.images
     where
       each : (image : Image) → ReopeningLeaves (history before).disk image → GivesDays g began days answers image
       each image = ⊎_elim
@@ -91,7 +98,8 @@ module _ {D M : Type 0} (history : D → History) (g : GeometryValue) (began : G
     can = subst (λ (x : GeometryValue). CanOpen (over x is.given)) (sym size) (subst (λ (x : Given). CanOpen (over g x)) (sym same) now_gives.opens)
 
     pub begins : IsAt history (opening g now_gives.given) engine
-    begins = subst (λ (x : Given). IsAt history (opening g x) engine) same (subst (λ (x : GeometryValue). IsAt history (opening x is.given) engine) size (is.begins can))
+    begins = subst (λ (x : Given). IsAt history (opening g x) engine) same
+        (subst (λ (x : GeometryValue). IsAt history (opening x is.given) engine) size (is.begins can))
 
     pub table_is : is.given.table ≡ table_after began.table now_gives.kept
     table_is = ap (λ (x : Given). x.table) same ∙ now_gives.table
@@ -111,30 +119,36 @@ module _ {D M : Type 0} (history : D → History) (g : GeometryValue) (began : G
       given = gives.given;
       gives = gives.gives;
       kept = gives.kept;
-      days-are = subst (AreDays (days ++ today ∷ []) (answers ++ answer ∷ [])) (append-nil gives.kept) (day_last days answers gives.kept today answer [] gives.days-are is);
+      days-are = subst (AreDays (days ++ today ∷ []) (answers ++ answer ∷ [])) (append-nil gives.kept)
+          (day_last days answers gives.kept today answer [] gives.days-are is);
       table = gives.table;
       life = gives.life;
       opens = gives.opens;
     }
 
     -- the device stopped
-    stopped : (after found : D) → LeavesOnly (history before) (history after) Then → HasStopped (history after) (history found) → KeepsDays history g began (days ++ today ∷ []) (answers ++ answer ∷ []) found
+    stopped : (after found : D) → LeavesOnly (history before) (history after) Then → HasStopped (history after) (history found)
+        → KeepsDays history g began (days ++ today ∷ []) (answers ++ answer ∷ []) found
     stopped after found leaves stop = record {
       anew = stop.found-as.anew;
       each = λ image crash. leaves.each stop.moment image (omega (arith, keeps.anew)) stop.until (stop.found-as.left image crash);
     }
 
   -- nothing was served
-  pub day_passed : (today : Day M) (e : Error) → IsAnswered {M = M} today.requests.items (Err e) → GivesBack → (after found : D) → IsTurned history before after → HasStopped (history after) (history found) → KeepsDays history g began (days ++ today ∷ []) (answers ++ Err e ∷ []) found
+  pub day_passed : (today : Day M) (e : Error) → IsAnswered {M = M} today.requests.items (Err e) → GivesBack → (after found : D) → IsTurned history before after
+      → HasStopped (history after) (history found) → KeepsDays history g began (days ++ today ∷ []) (answers ++ Err e ∷ []) found
   day_passed today e is back after found turned stop =
       stopped today (Err e) after found
-      (weaker (history before) (history after) (GivesDays g began days answers) (GivesDays g began (days ++ today ∷ []) (answers ++ Err e ∷ [])) (quiet today (Err e) (refused_day today e is)) (between back after turned)) stop
+      (weaker (history before) (history after) (GivesDays g began days answers) (GivesDays g began (days ++ today ∷ []) (answers ++ Err e ∷ []))
+      (quiet today (Err e) (refused_day today e is)) (between back after turned)) stop
 
   -- ---- a day that is served
 
   module _ (images : Images) (back : GivesBack) (rise : Rise) (today : Day M) (engine : Parts D M) (is : IsOpened history before engine) where
-    module _ (replies : Vec (Reply M) M) (after : Parts D M) (at : IsAt history (and_then (opening g now_gives.given) today.requests.items replies.items) after) where
-      survived : (horizon : ℕ) (image : Image) (j : ℕ) → (today.within ≡ false → j ≡ length today.requests.items) → SurvivesAt (opening g now_gives.given) today.requests.items replies.items horizon j image
+    module _ (replies : Vec (Reply M) M) (after : Parts D M)
+        (at : IsAt history (and_then (opening g now_gives.given) today.requests.items replies.items) after) where
+      survived : (horizon : ℕ) (image : Image) (j : ℕ) → (today.within ≡ false → j ≡ length today.requests.items)
+          → SurvivesAt (opening g now_gives.given) today.requests.items replies.items horizon j image
           → GivesDays g began (days ++ today ∷ []) (answers ++ Ok replies ∷ []) image
       survived horizon image j all left =
           let kept = kept_of history g now_gives.given today replies after rise at horizon j image left in
@@ -143,7 +157,8 @@ module _ {D M : Type 0} (history : D → History) (g : GeometryValue) (began : G
             given = left.given;
             gives = left.gives;
             kept = now_gives.kept ++ kept;
-            days-are = day_last days answers now_gives.kept today (Ok replies) kept now_gives.days-are (served_day history g now_gives.given today replies after rise at horizon j image left all);
+            days-are = day_last days answers now_gives.kept today (Ok replies) kept now_gives.days-are
+                (served_day history g now_gives.given today replies after rise at horizon j image left all);
             table =
                 left.beginning.table ∙ sym (ap (table_after now_gives.given.table) told)
                 ∙ ap (λ (t : Table). table_after t kept) now_gives.table ∙ sym (table_after-append began.table now_gives.kept kept);
@@ -154,15 +169,24 @@ module _ {D M : Type 0} (history : D → History) (g : GeometryValue) (began : G
           }
 
       -- it stopped within the day
-      within : today.within ≡ true → SurvivesAnyCrash history today.requests.items replies.items engine after → (found : D) → HasStopped (history (device_of after)) (history found)
+      within : today.within ≡ true → SurvivesAnyCrash history today.requests.items replies.items engine after → (found : D)
+          → HasStopped (history (device_of after)) (history found)
           → KeepsDays history g began (days ++ today ∷ []) (answers ++ Ok replies ∷ []) found
       within so run found stop =
           let opened : LeavesOnly (history before) (history (device_of engine)) (GivesDays g began (days ++ today ∷ []) (answers ++ Ok replies ∷ [])) =
-          weaker (history before) (history (device_of engine)) (GivesDays g began days answers) (GivesDays g began (days ++ today ∷ []) (answers ++ Ok replies ∷ [])) (quiet today (Ok replies) (quiet_day today (Ok replies) so at.answered)) (between back (device_of engine) is.device) in
-          let served : LeavesOnly (history (device_of engine)) (history (device_of after)) (GivesDays g began (days ++ today ∷ []) (answers ++ Ok replies ∷ [])) =
-          weaker (history (device_of engine)) (history (device_of after)) (λ image. (j : ℕ) × (j ≤ length today.requests.items) × SurvivesAt (opening g now_gives.given) today.requests.items replies.items (horizon_of engine) j image) (GivesDays g began (days ++ today ∷ []) (answers ++ Ok replies ∷ []))
-          (λ image it. survived (horizon_of engine) image it.0 (λ behind. absurd (false≢true (sym behind ∙ so))) it.2) (run (opening g now_gives.given) (begins images engine is)) in
-          stopped today (Ok replies) (device_of after) found (joined (history before) (history (device_of engine)) (history (device_of after)) (GivesDays g began (days ++ today ∷ []) (answers ++ Ok replies ∷ [])) opened served) stop
+          weaker (history before) (history (device_of engine)) (GivesDays g began days answers)
+          (GivesDays g began (days ++ today ∷ []) (answers ++ Ok replies ∷ [])) (quiet today (Ok replies) (quiet_day today (Ok replies) so at.answered))
+          (between back (device_of engine) is.device) in
+          let served : LeavesOnly (history (device_of engine)) (history (device_of after))
+          (GivesDays g began (days ++ today ∷ []) (answers ++ Ok replies ∷ [])) =
+          weaker (history (device_of engine)) (history (device_of after)) (λ image. (j : ℕ) × (j ≤ length today.requests.items)
+          × SurvivesAt (opening g now_gives.given) today.requests.items replies.items (horizon_of engine) j image)
+          (GivesDays g began (days ++ today ∷ []) (answers ++ Ok replies ∷ []))
+          (λ image it. survived (horizon_of engine) image it.0 (λ behind. absurd (false≢true (sym behind ∙ so))) it.2)
+          (run (opening g now_gives.given) (begins images engine is)) in
+          stopped today (Ok replies) (device_of after) found
+          (joined (history before) (history (device_of engine)) (history (device_of after))
+          (GivesDays g began (days ++ today ∷ []) (answers ++ Ok replies ∷ [])) opened served) stop
 
       -- it stopped behind the last reply
       behind : KeepsWholeRun history today.requests.items replies.items engine after → (found : D) → IsFoundAs (history (device_of after)).disk (history found)
@@ -171,19 +195,24 @@ module _ {D M : Type 0} (history : D → History) (g : GeometryValue) (began : G
         anew = stop.anew;
         each = λ image crash.
             survived (horizon_of after) image (length today.requests.items) (λ so. refl)
-            (survives_all (opening g now_gives.given) (horizon_of after) today.requests.items replies.items image at.answered at.safe (whole (opening g now_gives.given) (begins images engine is) image (stop.left image crash)));
+            (survives_all (opening g now_gives.given) (horizon_of after) today.requests.items replies.items image at.answered at.safe
+            (whole (opening g now_gives.given) (begins images engine is) image (stop.left image crash)));
       }
 
-      ended : (b : Bool) → today.within ≡ b → SurvivesAnyCrash history today.requests.items replies.items engine after → KeepsWholeRun history today.requests.items replies.items engine after → (found : D)
-          → HasStopped (history (device_of after)) (history found) → (b ≡ false → IsFoundAs (history (device_of after)).disk (history found)) → KeepsDays history g began (days ++ today ∷ []) (answers ++ Ok replies ∷ []) found
+      ended : (b : Bool) → today.within ≡ b → SurvivesAnyCrash history today.requests.items replies.items engine after
+          → KeepsWholeRun history today.requests.items replies.items engine after → (found : D)
+          → HasStopped (history (device_of after)) (history found) → (b ≡ false → IsFoundAs (history (device_of after)).disk (history found))
+          → KeepsDays history g began (days ++ today ∷ []) (answers ++ Ok replies ∷ []) found
       ended true so run whole found stop now = within so run found stop
       ended false so run whole found stop now = behind whole found (now refl)
 
     -- the answer of the run, and the engine behind it
     pub day_served : (answer : Answer M) (after : Parts D M) (device found : D)
-        → IfOk answer (λ replies. SurvivesAnyCrash history today.requests.items replies.items engine after) → IfOk answer (λ replies. KeepsWholeRun history today.requests.items replies.items engine after)
+        → IfOk answer (λ replies. SurvivesAnyCrash history today.requests.items replies.items engine after)
+        → IfOk answer (λ replies. KeepsWholeRun history today.requests.items replies.items engine after)
         → IfOk answer (λ replies. RunsOn history today.requests.items replies.items engine after)
-        → OnErr answer (after ≡ engine) → IfErr answer (λ e. e ≡ NoMemory) → device ≡ device_of after → HasStopped (history device) (history found) → (today.within ≡ false → IsFoundAs (history device).disk (history found))
+        → OnErr answer (after ≡ engine) → IfErr answer (λ e. e ≡ NoMemory) → device ≡ device_of after → HasStopped (history device) (history found)
+        → (today.within ≡ false → IsFoundAs (history device).disk (history found))
         → KeepsDays history g began (days ++ today ∷ []) (answers ++ answer ∷ []) found
     day_served (Ok replies) after device found crash whole ran unmoved memory out stop now =
         ended replies after (ran (opening g now_gives.given) (begins images engine is)).at today.within refl crash whole found
@@ -195,7 +224,8 @@ module _ {D M : Type 0} (history : D → History) (g : GeometryValue) (began : G
 
 -- ---- the days so far
 
-pub day_more : {D M : Type 0} (history : D → History) (g : GeometryValue) (began : Given) (days : List (Day M)) (i : ℕ) (day : Day M) (answers new : List (Answer M)) (answer : Answer M) (found : D) → i < length days → day ≡ get_or days i day → new ≡ answers ++ answer ∷ []
+pub day_more : {D M : Type 0} (history : D → History) (g : GeometryValue) (began : Given) (days : List (Day M)) (i : ℕ) (day : Day M)
+    (answers new : List (Answer M)) (answer : Answer M) (found : D) → i < length days → day ≡ get_or days i day → new ≡ answers ++ answer ∷ []
     → KeepsDays history g began (take i days ++ day ∷ []) (answers ++ answer ∷ []) found → KeepsDays history g began (take (i + 1) days) new found
 day_more history g began days i day answers new answer found below is made keeps =
     subst (λ (ds : List (Day _)). KeepsDays history g began ds new found) (sym (take_more days i day below))

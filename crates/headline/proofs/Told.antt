@@ -23,7 +23,8 @@ record Same (e : Event) (x : core.Event) : Type 0 where
   pub turns : turn_of e ≡ served.turn_of x
 
 -- a reply with a ticket
-ticket : (w : Writes) (e : Event) (x : core.Event) (same : Same e x) (rest : List (core.Event × core.Reply)) (deeds : List Deed) (other : ℕ → core.Reply) (n : ℕ) (commit : Option ℕ)
+ticket : (w : Writes) (e : Event) (x : core.Event) (same : Same e x) (rest : List (core.Event × core.Reply)) (deeds : List Deed) (other : ℕ
+    → core.Reply) (n : ℕ) (commit : Option ℕ)
     → items_at w (other n) x ≡ numbered n deeds → asked_after w (other n) x ≡ asked_by w None x
     → items_of w ((x, ticket_by other n commit) ∷ rest) ≡ numbered n (deeds_told w e deeds commit) ++ items_of (written_by w e None) rest
 ticket w e x same rest deeds other n None items after =
@@ -49,7 +50,8 @@ module _ (w : Writes) (e : Event) (x : core.Event) (same : Same e x) (rest : Lis
   in_core (reply.Built (build.Scanned page)) kind = on None
   in_core (reply.Built (build.Placed pair)) kind = on None
   in_core (reply.Built (build.Rejected pair)) kind = on None
-  in_core (reply.Built (build.Marked pair t)) kind = ticket w e x same rest (Checkpointed pair ∷ []) (λ n. core.Built (core.BuildReply.Marked pair n)) t.record t.commit refl refl
+  in_core (reply.Built (build.Marked pair t)) kind =
+      ticket w e x same rest (Checkpointed pair ∷ []) (λ n. core.Built (core.BuildReply.Marked pair n)) t.record t.commit refl refl
   in_core (reply.Built (build.Done t)) kind = ticket w e x same rest (Completed ∷ []) (λ n. core.Built (core.Done n)) t.record t.commit refl refl
   in_core (reply.Built build.Idle) kind = on None
   in_core (reply.Cleaned (clean.Cleaned pair)) kind = on None
@@ -67,21 +69,37 @@ module _ (w : Writes) (e : Event) (x : core.Event) (same : Same e x) (rest : Lis
   in_core (reply.Refused error) kind = refl
 
 -- a reply of its request's kind
-one_told : {M : Type 0} (w : Writes) (e : Event) (r : Reply M) (rest : List (core.Event × core.Reply)) → IsOfKind e r → items_of w (both (asked e) (answered r) ++ rest) ≡ told_by w e r ++ items_of (written w e r) rest
-one_told w event.Begin r rest kind = in_core w event.Begin core.Begin (record { writes = λ v place. refl; commits = λ v deeds c. refl; turns = refl }) rest r kind
-one_told w (event.Insert txn key body) r rest kind = in_core w (event.Insert txn key body) (core.Insert txn (record { key = key; body = body })) (record { writes = λ v. elim [ None ↦ refl | Some place ↦ refl ]; commits = λ v deeds c. refl; turns = refl }) rest r kind
-one_told w (event.Delete txn rid) r rest kind = in_core w (event.Delete txn rid) (core.Delete txn rid) (record { writes = λ v place. refl; commits = λ v deeds c. refl; turns = refl }) rest r kind
-one_told w (event.Update txn rid key body) r rest kind = in_core w (event.Update txn rid key body) (core.Update txn rid (record { key = key; body = body })) (record { writes = λ v place. refl; commits = λ v deeds c. refl; turns = refl }) rest r kind
-one_told w (event.Step txn) r rest kind = in_core w (event.Step txn) (core.Step txn) (record { writes = λ v place. refl; commits = λ v deeds c. refl; turns = refl }) rest r kind
-one_told w (event.Undo txn) r rest kind = in_core w (event.Undo txn) (core.Undo txn) (record { writes = λ v place. refl; commits = λ v deeds c. refl; turns = refl }) rest r kind
-one_told w (event.End txn) r rest kind = in_core w (event.End txn) (core.End txn) (record { writes = λ v place. refl; commits = λ v deeds c. refl; turns = refl }) rest r kind
-one_told w (event.Commit txn) r rest kind = in_core w (event.Commit txn) (core.Commit txn) (record { writes = λ v place. refl; commits = λ v deeds c. refl; turns = refl }) rest r kind
-one_told w event.Create r rest kind = in_core w event.Create core.Create (record { writes = λ v place. refl; commits = λ v deeds c. refl; turns = refl }) rest r kind
+one_told : {M : Type 0} (w : Writes) (e : Event) (r : Reply M) (rest : List (core.Event × core.Reply)) → IsOfKind e r
+    → items_of w (both (asked e) (answered r) ++ rest) ≡ told_by w e r ++ items_of (written w e r) rest
+one_told w event.Begin r rest kind = in_core w event.Begin core.Begin
+    (record { writes = λ v place. refl; commits = λ v deeds c. refl; turns = refl }) rest r kind
+one_told w (event.Insert txn key body) r rest kind =
+    in_core w (event.Insert txn key body) (core.Insert txn (record { key = key; body = body }))
+    (record { writes = λ v. elim [ None ↦ refl | Some place ↦ refl ]; commits = λ v deeds c. refl; turns = refl }) rest r kind
+one_told w (event.Delete txn rid) r rest kind = in_core w (event.Delete txn rid) (core.Delete txn rid)
+    (record { writes = λ v place. refl; commits = λ v deeds c. refl; turns = refl }) rest r kind
+one_told w (event.Update txn rid key body) r rest kind =
+    in_core w (event.Update txn rid key body) (core.Update txn rid (record { key = key; body = body }))
+    (record { writes = λ v place. refl; commits = λ v deeds c. refl; turns = refl }) rest r kind
+one_told w (event.Step txn) r rest kind = in_core w (event.Step txn) (core.Step txn)
+    (record { writes = λ v place. refl; commits = λ v deeds c. refl; turns = refl }) rest r kind
+one_told w (event.Undo txn) r rest kind = in_core w (event.Undo txn) (core.Undo txn)
+    (record { writes = λ v place. refl; commits = λ v deeds c. refl; turns = refl }) rest r kind
+one_told w (event.End txn) r rest kind = in_core w (event.End txn) (core.End txn)
+    (record { writes = λ v place. refl; commits = λ v deeds c. refl; turns = refl }) rest r kind
+one_told w (event.Commit txn) r rest kind = in_core w (event.Commit txn) (core.Commit txn)
+    (record { writes = λ v place. refl; commits = λ v deeds c. refl; turns = refl }) rest r kind
+one_told w event.Create r rest kind = in_core w event.Create core.Create
+    (record { writes = λ v place. refl; commits = λ v deeds c. refl; turns = refl }) rest r kind
 one_told w event.Drop r rest kind = in_core w event.Drop core.Drop (record { writes = λ v place. refl; commits = λ v deeds c. refl; turns = refl }) rest r kind
-one_told w event.Build r rest kind = in_core w event.Build core.Build (record { writes = λ v place. refl; commits = λ v deeds c. refl; turns = refl }) rest r kind
-one_told w event.Clean r rest kind = in_core w event.Clean core.Clean (record { writes = λ v place. refl; commits = λ v deeds c. refl; turns = refl }) rest r kind
-one_told w (event.Get rid) r rest kind = in_core w (event.Get rid) (core.Get rid) (record { writes = λ v place. refl; commits = λ v deeds c. refl; turns = refl }) rest r kind
-one_told w (event.Find key) r rest kind = in_core w (event.Find key) (core.Find key) (record { writes = λ v place. refl; commits = λ v deeds c. refl; turns = refl }) rest r kind
+one_told w event.Build r rest kind = in_core w event.Build core.Build
+    (record { writes = λ v place. refl; commits = λ v deeds c. refl; turns = refl }) rest r kind
+one_told w event.Clean r rest kind = in_core w event.Clean core.Clean
+    (record { writes = λ v place. refl; commits = λ v deeds c. refl; turns = refl }) rest r kind
+one_told w (event.Get rid) r rest kind = in_core w (event.Get rid) (core.Get rid)
+    (record { writes = λ v place. refl; commits = λ v deeds c. refl; turns = refl }) rest r kind
+one_told w (event.Find key) r rest kind = in_core w (event.Find key) (core.Find key)
+    (record { writes = λ v place. refl; commits = λ v deeds c. refl; turns = refl }) rest r kind
 one_told w event.Life r rest kind = in_core w event.Life core.Life (record { writes = λ v place. refl; commits = λ v deeds c. refl; turns = refl }) rest r kind
 one_told w event.Flush (reply.Horizon n) rest kind = refl
 one_told w event.Flush reply.LogFull rest kind = refl
@@ -93,7 +111,8 @@ one_told w event.Copy reply.Again rest kind = refl
 one_told w event.Copy (reply.Refused error) rest kind = refl
 one_told w event.Copy r rest kind = absurd kind
 
-pub told_is : {M : Type 0} (w : Writes) (events : List Event) (replies : List (Reply M)) → AreOfKind events replies → told_over w events replies ≡ items_of w (core_calls events replies)
+pub told_is : {M : Type 0} (w : Writes) (events : List Event) (replies : List (Reply M)) → AreOfKind events replies
+    → told_over w events replies ≡ items_of w (core_calls events replies)
 told_is w [] [] kinds = refl
 told_is w [] (r ∷ replies) kinds = absurd kinds
 told_is w (e ∷ events) [] kinds = absurd kinds
@@ -109,13 +128,17 @@ kinds_take (suc k) [] (r ∷ replies) kinds = absurd kinds
 kinds_take (suc k) (e ∷ events) [] kinds = absurd kinds
 kinds_take (suc k) (e ∷ events) (r ∷ replies) kinds = (kinds.0, kinds_take k events replies kinds.1)
 
-pub told_take : {M : Type 0} (k : ℕ) (w : Writes) (events : List Event) (replies : List (Reply M)) → (more : List Item) × (told_over w events replies ≡ told_over w (take k events) (take k replies) ++ more)
+pub told_take : {M : Type 0} (k : ℕ) (w : Writes) (events : List Event) (replies : List (Reply M)) → (more : List Item)
+    × (told_over w events replies ≡ told_over w (take k events) (take k replies) ++ more)
 told_take zero w events replies = (told_over w events replies, refl)
 told_take (suc k) w [] replies = ([], refl)
 told_take (suc k) w (e ∷ events) [] = ([], refl)
 told_take (suc k) w (e ∷ events) (r ∷ replies) =
-    let rest = told_take k (written w e r) events replies in
-    (rest.0, ap (λ (l : List Item). told_by w e r ++ l) rest.1 ∙ sym (append_assoc (told_by w e r) (told_over (written w e r) (take k events) (take k replies)) rest.0))
+    let rest = told_take k (written w e r) events replies in (
+      rest.0,
+      ap (λ (l : List Item). told_by w e r ++ l) rest.1
+          ∙ sym (append_assoc (told_by w e r) (told_over (written w e r) (take k events) (take k replies)) rest.0),
+    )
 
 -- ---- what is safe
 

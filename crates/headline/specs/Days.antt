@@ -25,8 +25,9 @@ abbrev pub IsAnswered : {M : Type 0} → List Event → Answer M → Type 0
 IsAnswered requests (Ok replies) = length replies.items ≡ length requests
 IsAnswered requests (Err e) = (e ≡ NoMemory) ⊎ (e ≡ DeviceFailed)
 
--- The day's requests were answered so until the store stopped, when the first of them were done, and one more may have been begun; all
--- were done, unless it stopped within the day. Of what they tell these items were kept: the first ones, with each that was acknowledged.
+-- The day's requests were answered so until the store stopped, when the first of them were done, and one more may have
+-- been begun; all were done, unless it stopped within the day. Of what they tell these items were kept: the first ones,
+-- with each that was acknowledged.
 pub record IsDay {M : Type 0} (day : Day M) (answer : Answer M) (kept : List Item) : Type 0 where
   pub answered : IsAnswered day.requests.items answer
   pub done : ℕ
@@ -41,5 +42,6 @@ pub record IsDay {M : Type 0} (day : Day M) (answer : Answer M) (kept : List Ite
 -- These were the days, one after another; and this was kept of all of them.
 abbrev pub AreDays : {M : Type 0} → List (Day M) → List (Answer M) → List Item → Type 0
 AreDays [] [] kept = kept ≡ []
-AreDays (day ∷ days) (answer ∷ answers) kept = (today : List Item) × (later : List Item) × (kept ≡ today ++ later) × IsDay day answer today × AreDays days answers later
+AreDays (day ∷ days) (answer ∷ answers) kept = (today : List Item) × (later : List Item) × (kept ≡ today ++ later)
+    × IsDay day answer today × AreDays days answers later
 AreDays days answers kept = ⊥

@@ -25,31 +25,34 @@ IsBuiltTo (Building None) pair = ⊥
 IsBuiltTo (Building (Some highest)) pair = is_lt (pair_cmp highest pair) ≡ false
 IsBuiltTo Complete pair = Unit {0}
 
--- Each visible entry is the pair of a row; as far as the index is built, the pair of each row is visible; and where there is no index,
--- also since it was dropped, no entry is left, visible or marked.
+-- Each visible entry is the pair of a row; as far as the index is built, the pair of each row is visible; and where
+-- there is no index, also since it was dropped, no entry is left, visible or marked.
 pub record IsIndexOf (rows : Table) (life : Life) (entries : Index) : Type 0 where
   pub sound : (pair : Pair) → map.get entries pair ≡ Some Live → IsPairOf rows pair
   pub whole : (pair : Pair) → IsBuiltTo life pair → IsPairOf rows pair → map.get entries pair ≡ Some Live
   pub gone : life ≡ Absent → (pair : Pair) → map.get entries pair ≡ None
 
--- The rows are those that the store began with, and then of all commits that were kept, in order. The index's life is what was kept
--- of it, or it was built to its end now.
-pub record Holds {M : Type 0} (began : Given) (days : List (Day M)) (answers : List (Answer M)) (built : Bool) (core : CoreValue) : Type 0 where
+-- The rows are those that the store began with, and then of all commits that were kept, in order. The index's life is
+-- what was kept of it, or it was built to its end now.
+pub record Holds {M : Type 0} (began : Given) (days : List (Day M)) (answers : List (Answer M)) (built : Bool)
+    (core : CoreValue) : Type 0 where
   pub kept : List Item
   pub days-are : AreDays days answers kept
   pub rows : core.heap.rows ≡ table_after began.table kept
   pub life : core.life ≡ (if built then Complete else life_after began.life kept)
   pub index : IsIndexOf core.heap.rows core.life core.index.entries
 
--- A build was refused, and the rows stay. There was no index; or each of its places is taken or reserved; or no number is left for
--- a record; or there was no memory.
+-- A build was refused, and the rows stay. There was no index; or each of its places is taken or reserved; or no number
+-- is left for a record; or there was no memory.
 pub record IsNotBuilt (error : Error) (old new : CoreValue) : Type 0 where
   pub rows : new.heap.rows ≡ old.heap.rows
   pub unfinished : old.life ≢ Complete
-  pub why : ((error ≡ NoIndex) × (old.life ≡ Absent)) ⊎ ((error ≡ IndexFull) × IsIndexFull new) ⊎ ((error ≡ Exhausted) × (LAST_NUMBER ≤ new.last)) ⊎ (error ≡ NoMemory)
+  pub why : ((error ≡ NoIndex) × (old.life ≡ Absent)) ⊎ ((error ≡ IndexFull) × IsIndexFull new)
+      ⊎ ((error ≡ Exhausted) × (LAST_NUMBER ≤ new.last)) ⊎ (error ≡ NoMemory)
 
 -- The build was refused of a store that was opened with what was kept of the days.
-pub record IsUnbuilt {M : Type 0} (began : Given) (days : List (Day M)) (answers : List (Answer M)) (error : Error) (core : CoreValue) : Type 0 where
+pub record IsUnbuilt {M : Type 0} (began : Given) (days : List (Day M)) (answers : List (Answer M)) (error : Error)
+    (core : CoreValue) : Type 0 where
   pub opened : CoreValue
   pub held : Holds began days answers false opened
   pub refused : IsNotBuilt error opened core

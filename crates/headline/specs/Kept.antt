@@ -11,9 +11,10 @@ use Rattle.restart.specs.Store.{over}
 use Rattle.headline.specs.declared.day.Day.{Day}
 use Rattle.headline.specs.Days.{Answer, AreDays}
 
--- the crash state gives what the store began with, with the table and the index's life of what was kept of the days since; and a core
--- may begin with it
-pub record GivesDays {M : Type 0} (geometry : GeometryValue) (began : Given) (days : List (Day M)) (answers : List (Answer M)) (image : Image) : Type 0 where
+-- the crash state gives what the store began with, with the table and the index's life of what was kept of the days
+-- since; and a core may begin with it
+pub record GivesDays {M : Type 0} (geometry : GeometryValue) (began : Given) (days : List (Day M))
+    (answers : List (Answer M)) (image : Image) : Type 0 where
   pub given : Given
   pub gives : Gives image geometry given
   pub kept : List Item
@@ -23,6 +24,7 @@ pub record GivesDays {M : Type 0} (geometry : GeometryValue) (began : Given) (da
   pub opens : CanOpen (over geometry given)
 
 -- whatever a crash leaves of the device gives that; and its moments count from now on
-pub record KeepsDays {D M : Type 0} (history : D → History) (geometry : GeometryValue) (began : Given) (days : List (Day M)) (answers : List (Answer M)) (device : D) : Type 0 where
+pub record KeepsDays {D M : Type 0} (history : D → History) (geometry : GeometryValue) (began : Given)
+    (days : List (Day M)) (answers : List (Answer M)) (device : D) : Type 0 where
   pub anew : (history device).moment ≡ 0
   pub each : (image : Image) → IsCrashImage (history device).disk image → GivesDays geometry began days answers image

@@ -18,14 +18,16 @@ use Rattle.headline.specs.declared.day.Day.{Day}
 use Rattle.headline.specs.Days.{Answer}
 use Rattle.headline.specs.Held.{Holds, IsUnbuilt}
 
--- The old device gives something by version 1. Where a core may begin with that, the store began with it, and holds what its days
--- have made of it; or the build of its index, which was to be carried on, was refused.
-pub record HoldsMoved {M : Type 0} (old : Image) (days : List (Day M)) (answers : List (Answer M)) (built : Bool) (unbuilt : Option Error) (core : CoreValue) : Type 0 where
+-- The old device gives something by version 1. Where a core may begin with that, the store began with it, and holds
+-- what its days have made of it; or the build of its index, which was to be carried on, was refused.
+pub record HoldsMoved {M : Type 0} (old : Image) (days : List (Day M)) (answers : List (Answer M)) (built : Bool)
+    (unbuilt : Option Error) (core : CoreValue) : Type 0 where
   pub geometry : GeometryValue
   pub given : Given
   pub gave : GivesIn One old geometry given
   pub holds : CanOpen (over geometry given) → unbuilt ≡ None → Holds given days answers built core
-  pub refused : CanOpen (over geometry given) → IfSome unbuilt (λ e. (built ≡ true) × IsUnbuilt given days answers e core)
+  pub refused : CanOpen (over geometry given) → IfSome unbuilt (λ e. (built ≡ true)
+      × IsUnbuilt given days answers e core)
 
 -- The old device gives something by version 1. Where a core may begin with that, the new one failed.
 pub record HasFailedLater (old : Image) (e : Error) : Type 0 where

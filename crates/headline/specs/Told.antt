@@ -22,9 +22,11 @@ with_write writes txn rid row = update nat_cmp writes txn (writes txn ++ record 
 
 -- after a request that was accepted; an insertion's place is told by its reply
 abbrev pub written_by : Writes → Event → Option Place → Writes
-written_by writes (event.Insert txn key body) (Some rid) = with_write writes txn rid (Some (record { key = key; body = body }))
+written_by writes (event.Insert txn key body) (Some rid) =
+    with_write writes txn rid (Some (record { key = key; body = body }))
 written_by writes (event.Delete txn rid) place = with_write writes txn rid None
-written_by writes (event.Update txn rid key body) place = with_write writes txn rid (Some (record { key = key; body = body }))
+written_by writes (event.Update txn rid key body) place =
+    with_write writes txn rid (Some (record { key = key; body = body }))
 written_by writes (event.End txn) place = update nat_cmp writes txn []
 written_by writes (event.Commit txn) place = update nat_cmp writes txn []
 written_by writes request place = writes
@@ -42,7 +44,8 @@ turn_of event.Create = Created ∷ []
 turn_of event.Drop = Dropped ∷ []
 turn_of request = []
 
--- what a ticket tells: with the number of a commit, that its transaction's writes were committed; without one, these deeds
+-- what a ticket tells: with the number of a commit, that its transaction's writes were committed; without one, these
+-- deeds
 abbrev pub deeds_told : Writes → Event → List Deed → (commit : Option ℕ) → List Deed
 deeds_told writes request deeds None = deeds
 deeds_told writes (event.Commit txn) deeds (Some commit) = Committed (writes txn) ∷ []
@@ -52,16 +55,21 @@ deeds_told writes request deeds (Some commit) = []
 abbrev pub numbered : ℕ → List Deed → List Item
 numbered number deeds = map (λ deed. record { number = number; deed = deed }) deeds
 
--- what a reply tells: a commit, the index's creation, a checkpoint of its builder, the end of its build, or its dropping
+-- what a reply tells: a commit, the index's creation, a checkpoint of its builder, the end of its build, or its
+-- dropping
 abbrev pub told_by : {M : Type 0} → Writes → Event → Reply M → List Item
-told_by writes request (reply.Ticket ticket) = numbered ticket.record (deeds_told writes request (turn_of request) ticket.commit)
-told_by writes request (reply.Built (build.Marked pair ticket)) = numbered ticket.record (deeds_told writes request (Checkpointed pair ∷ []) ticket.commit)
-told_by writes request (reply.Built (build.Done ticket)) = numbered ticket.record (deeds_told writes request (Completed ∷ []) ticket.commit)
+told_by writes request (reply.Ticket ticket) = numbered ticket.record
+    (deeds_told writes request (turn_of request) ticket.commit)
+told_by writes request (reply.Built (build.Marked pair ticket)) =
+    numbered ticket.record (deeds_told writes request (Checkpointed pair ∷ []) ticket.commit)
+told_by writes request (reply.Built (build.Done ticket)) =
+    numbered ticket.record (deeds_told writes request (Completed ∷ []) ticket.commit)
 told_by writes request answer = []
 
 -- what the replies to these requests tell, in order
 abbrev pub told_over : {M : Type 0} → Writes → List Event → List (Reply M) → List Item
-told_over writes (request ∷ requests) (answer ∷ answers) = told_by writes request answer ++ told_over (written writes request answer) requests answers
+told_over writes (request ∷ requests) (answer ∷ answers) =
+    told_by writes request answer ++ told_over (written writes request answer) requests answers
 told_over writes requests answers = []
 
 -- each record up to this number is safe, as the replies tell

@@ -22,15 +22,15 @@ fn later(error: Error) -> MigrateError
     }
 }
 
-/// Moves the store of version 1 on the old device to the new one, and lives through the days there, as [`live_through`] does behind
-/// the formatting: what the store then holds is what the old device gave, with the days' kept commits behind it, where a core may
-/// begin with that (`holds`). The old device is only read (`kept`).
+/// Moves the store of version 1 on the old device to the new one, and lives through the days there, as [`live_through`]
+/// does behind the formatting: what the store then holds is what the old device gave, with the days' kept commits
+/// behind it, where a core may begin with that (`holds`). The old device is only read (`kept`).
 ///
-/// `Old` where the old device failed in the move, or gives nothing by version 1. `New` with `DeviceTooSmall` where the new device has
-/// too few sectors; and else, where a core may begin with what the old one gave, with `DeviceFailed` alone. `NoMemory` at any time
-/// (`refused`). Where the old device gives something and the new one has too few sectors for it, that is told, also where memory was
-/// wanting; but a failure of the old one comes first (`too_small`, `room`). With any answer but `Old` with `DeviceFailed` the old device
-/// has not failed (`told`, `quiet`).
+/// `Old` where the old device failed in the move, or gives nothing by version 1. `New` with `DeviceTooSmall` where the
+/// new device has too few sectors; and else, where a core may begin with what the old one gave, with `DeviceFailed`
+/// alone. `NoMemory` at any time (`refused`). Where the old device gives something and the new one has too few sectors
+/// for it, that is told, also where memory was wanting; but a failure of the old one comes first (`too_small`, `room`).
+/// With any answer but `Old` with `DeviceFailed` the old device has not failed (`told`, `quiet`).
 ///
 /// [`live_through`]: crate::live_through
 pub fn live_on<O: Device, D: Mortal, A: Allocator + Copy>(
@@ -40,13 +40,18 @@ pub fn live_on<O: Device, D: Mortal, A: Allocator + Copy>(
     days: &[Day<A>],
     build: bool,
 ) -> Result<Lived<D, A>, MigrateError>
-    ensures holds { IfOk result (λ lived. HoldsMoved (O.history old.old).disk.content days.now lived.answers.items build lived.unbuilt (core_of lived.engine)) }
+    ensures holds { IfOk result (λ lived.
+        HoldsMoved (O.history old.old).disk.content days.now lived.answers.items build lived.unbuilt
+        (core_of lived.engine)) }
     ensures kept { OnlyReads (O.history old.old) (O.history old.new) }
-    ensures refused { IfErr result (IsNotLived (O.history old.old).disk.content (D.history device).disk.content (O.failures old.old) (O.failures old.new)) }
+    ensures refused { IfErr result (IsNotLived (O.history old.old).disk.content (D.history device).disk.content
+        (O.failures old.old) (O.failures old.new)) }
     ensures room { OnOk result (IsTooSmall (O.history old.old).disk.content (D.history device).disk.content → ⊥) }
-    ensures too_small { IsTooSmall (O.history old.old).disk.content (D.history device).disk.content → IfErr result IsSmallAnswer }
+    ensures too_small { IsTooSmall (O.history old.old).disk.content (D.history device).disk.content
+        → IfErr result IsSmallAnswer }
     ensures quiet { OnOk result (O.failures old.new ≡ O.failures old.old) }
-    ensures told { IfErr result (λ e. e ≢ MigrateError.Old Error.DeviceFailed → O.failures old.new ≡ O.failures old.old) }
+    ensures told { IfErr result (λ e. e ≢ MigrateError.Old Error.DeviceFailed
+        → O.failures old.new ≡ O.failures old.old) }
 {
     let engine = match migrate(alloc, old, device) {
         Ok(engine) => engine,

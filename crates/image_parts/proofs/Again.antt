@@ -1,5 +1,6 @@
 -- What was spelled is read again.
-use Rattle.std.proofs.Common.{◌≡◌, ℕ, suc, ◌+◌, ◌*◌, ◌-◌, ◌≤◌, true, false, ltb, eqb, List, [], ◌∷◌, ◌++◌, length, take, drop, Option, Some, None, refl, sym, ap, subst, ◌∙◌, append_assoc, arith, length-append, append-nil, Bor}
+use Rattle.std.proofs.Common.{◌≡◌, ℕ, suc, ◌+◌, ◌*◌, ◌-◌, ◌≤◌, true, false, ltb, eqb, List, [], ◌∷◌, ◌++◌, length, take, drop, Option, Some, None, refl, sym}
+use Rattle.std.proofs.Common.{ap, subst, ◌∙◌, append_assoc, arith, length-append, append-nil, Bor}
 use Rattle.std.proofs.lemmas.Bool.{le-ltb, ne_eqb}
 use Rattle.std.proofs.lemmas.List.{take_at, drop_at}
 use Rattle.std.specs.Option.{option_map}
@@ -20,7 +21,8 @@ use Rattle.model.specs.declared.life.Life.TheVariants.{Absent, Building, Complet
 use Rattle.image_parts.specs.declared.head.Head.{Head}
 use Rattle.image_parts.specs.declared.header.Header.{Header}
 use Rattle.image_parts.specs.declared.item.UndoItem.{UndoItem}
-use Rattle.image_parts.specs.Spelling.{zeros, padded, row_size, pair_size, item_size, row_in, pair_in, mark, entry_in, head, item_in, highest_in, life_in, header_in, RowFitsInIfSome, HeadFits, HeadFitsIfSome, ItemFitsIn, PairFitsInIfSome, LifeFitsIn, HeaderFitsIn}
+use Rattle.image_parts.specs.Spelling.{zeros, padded, row_size, pair_size, item_size, row_in, pair_in, mark, entry_in, head, item_in, highest_in, life_in}
+use Rattle.image_parts.specs.Spelling.{header_in, RowFitsInIfSome, HeadFits, HeadFitsIfSome, ItemFitsIn, PairFitsInIfSome, LifeFitsIn, HeaderFitsIn}
 use Rattle.image_parts.specs.Reading.{are_zeros, skipped, padded_at, row_at, pair_at, highest_at, life_at, header_at, head_at, item_at, entry_at}
 use Rattle.image_parts.proofs.Bytes.{length-zeros}
 use Rattle.image_parts.proofs.Zeros.{zeros_tested}
@@ -35,14 +37,16 @@ padded_again max x rest le =
     let front : take (length x) ((x ++ z) ++ rest) ≡ x = ap (take (length x)) (append_assoc x z rest) ∙ take_at x (z ++ rest) (length x) refl in
     let behind : drop (length x) ((x ++ z) ++ rest) ≡ z ++ rest = ap (drop (length x)) (append_assoc x z rest) ∙ drop_at x (z ++ rest) (length x) refl in
     let padding : are_zeros (take (max - length x) (drop (length x) ((x ++ z) ++ rest))) ≡ true =
-    ap (λ (t : List ℕ). are_zeros (take (max - length x) t)) behind ∙ ap are_zeros (take_at z rest (max - length x) (length-zeros (max - length x))) ∙ zeros_tested (max - length x) in
+    ap (λ (t : List ℕ). are_zeros (take (max - length x) t)) behind ∙ ap are_zeros (take_at z rest (max - length x) (length-zeros (max - length x)))
+    ∙ zeros_tested (max - length x) in
     rw (low, long, padding, front, drop_at (x ++ z) rest max size) refl
 
 pub skipped_again : (count : ℕ) (rest : List ℕ) → skipped count (zeros count ++ rest) ≡ Some rest
 unfolding skipped
 skipped_again count rest =
     let long : ltb (length (zeros count ++ rest)) count ≡ false = le-ltb _ _ (omega (arith, length-zeros count, length-append {A = ℕ} (zeros count) rest)) in
-    let tested : are_zeros (take count (zeros count ++ rest)) ≡ true = ap are_zeros (take_at (zeros count) rest count (length-zeros count)) ∙ zeros_tested count in
+    let tested : are_zeros (take count (zeros count ++ rest)) ≡ true = ap are_zeros (take_at (zeros count) rest count (length-zeros count))
+    ∙ zeros_tested count in
     rw (long, tested, drop_at (zeros count) rest count (length-zeros count)) refl
 
 zeros_more : (n : ℕ) → zeros (suc n) ≡ 0 ∷ zeros n
@@ -56,17 +60,20 @@ no_row : (v : Version) (rest : List ℕ) → row_at v (0 ∷ (zeros (row_size v 
 unfolding row_at byte_at
 no_row v rest = rw (skipped_again (row_size v - 1) rest) refl
 
-some_row : (v : Version) (r : Row) (rest : List ℕ) → RowFitsInIfSome v (Some r) → row_at v (1 ∷ (padded (key_max v) r.key ++ (padded (body_max v) r.body ++ rest))) ≡ Some (Some r, rest)
+some_row : (v : Version) (r : Row) (rest : List ℕ) → RowFitsInIfSome v (Some r)
+    → row_at v (1 ∷ (padded (key_max v) r.key ++ (padded (body_max v) r.body ++ rest))) ≡ Some (Some r, rest)
 unfolding row_at byte_at
 some_row v r rest fits = rw (padded_again (key_max v) r.key (padded (body_max v) r.body ++ rest) fits.key, padded_again (body_max v) r.body rest fits.body) refl
 
 pub row_again : (v : Version) (o : Option Row) (rest : List ℕ) → RowFitsInIfSome v o → row_at v (row_in v o ++ rest) ≡ Some (o, rest)
 row_again v None rest fits = ap (λ (t : List ℕ). row_at v (t ++ rest)) (zeros_cons (row_size v) (omega arith)) ∙ no_row v rest
-row_again v (Some r) rest fits = ap (λ (t : List ℕ). row_at v (1 ∷ t)) (append_assoc (padded (key_max v) r.key) (padded (body_max v) r.body) rest) ∙ some_row v r rest fits
+row_again v (Some r) rest fits = ap (λ (t : List ℕ). row_at v (1 ∷ t)) (append_assoc (padded (key_max v) r.key) (padded (body_max v) r.body) rest)
+    ∙ some_row v r rest fits
 
 pub pair_again : (v : Version) (p : Pair) (rest : List ℕ) → PairFitsIn v p → pair_at v (pair_in v p ++ rest) ≡ Some (p, rest)
 unfolding pair_at
-pair_again v p rest fits = ap (pair_at v) (append_assoc (padded (key_max v) p.key) (rid p.rid) rest) ∙ rw (padded_again (key_max v) p.key (rid p.rid ++ rest) fits.key, rid_again p.rid rest fits.rid) refl
+pair_again v p rest fits = ap (pair_at v) (append_assoc (padded (key_max v) p.key) (rid p.rid) rest)
+    ∙ rw (padded_again (key_max v) p.key (rid p.rid ++ rest) fits.key, rid_again p.rid rest fits.rid) refl
 
 no_highest : (v : Version) (rest : List ℕ) → highest_at v (0 ∷ (zeros (pair_size v) ++ rest)) ≡ Some (None, rest)
 unfolding highest_at byte_at
@@ -77,7 +84,8 @@ unfolding highest_at byte_at
 some_highest v p rest fits = rw (pair_again v p rest fits) refl
 
 pub highest_again : (v : Version) (o : Option Pair) (rest : List ℕ) → PairFitsInIfSome v o → highest_at v (highest_in v o ++ rest) ≡ Some (o, rest)
-highest_again v None rest fits = ap (λ (t : List ℕ). highest_at v (t ++ rest)) (zeros_cons (1 + pair_size v) (omega arith) ∙ ap (λ (n : ℕ). 0 ∷ zeros n) (let e : 1 + pair_size v - 1 ≡ pair_size v = omega arith in e)) ∙ no_highest v rest
+highest_again v None rest fits = ap (λ (t : List ℕ). highest_at v (t ++ rest)) (zeros_cons (1 + pair_size v) (omega arith)
+    ∙ ap (λ (n : ℕ). 0 ∷ zeros n) (let e : 1 + pair_size v - 1 ≡ pair_size v = omega arith in e)) ∙ no_highest v rest
 highest_again v (Some p) rest fits = some_highest v p rest fits
 
 pub life_again : (v : Version) (l : Life) (rest : List ℕ) → LifeFitsIn v l → life_at v (life_in v l ++ rest) ≡ Some (l, rest)
@@ -86,17 +94,25 @@ life_again v Absent rest fits = rw (skipped_again (1 + pair_size v) rest) refl
 life_again v (Building p) rest fits = rw (highest_again v p rest fits) refl
 life_again v Complete rest fits = rw (skipped_again (1 + pair_size v) rest) refl
 
-pub header_front : (v : Version) (h : Header) (rest : List ℕ) → HeaderFitsIn v h → header_at v (life_in v h.life ++ (u64 h.base ++ (u32 h.entries ++ rest))) ≡ Some (h, rest)
+pub header_front : (v : Version) (h : Header) (rest : List ℕ) → HeaderFitsIn v h
+    → header_at v (life_in v h.life ++ (u64 h.base ++ (u32 h.entries ++ rest))) ≡ Some (h, rest)
 unfolding header_at
-header_front v h rest fits = rw (life_again v h.life (u64 h.base ++ (u32 h.entries ++ rest)) fits.life, u64_again h.base (u32 h.entries ++ rest) (omega (arith, fits.base)), u32_again h.entries rest fits.entries) refl
+header_front v h rest fits = rw (
+  life_again v h.life (u64 h.base ++ (u32 h.entries ++ rest)) fits.life,
+  u64_again h.base (u32 h.entries ++ rest) (omega (arith, fits.base)),
+  u32_again h.entries rest fits.entries,
+) refl
 
 abbrev pub IsReadAgain : {X : Type 0} → (List ℕ → Option (X × List ℕ)) → List ℕ → X → Type 0
 IsReadAgain at bytes x = (rest : List ℕ) × (at bytes ≡ Some (x, rest))
 
 unfoldable pub header_read_again : (v : Version) (h : Header) → HeaderFitsIn v h → IsReadAgain (header_at v) (header_in v h) h
 header_read_again v h fits =
-    let z : List ℕ = zeros (512 - length (life_in v h.life ++ (u64 h.base ++ u32 h.entries))) in
-    (z, ap (header_at v) (append_assoc (life_in v h.life) (u64 h.base ++ u32 h.entries) z ∙ ap (λ (t : List ℕ). life_in v h.life ++ t) (append_assoc (u64 h.base) (u32 h.entries) z)) ∙ header_front v h z fits)
+    let z : List ℕ = zeros (512 - length (life_in v h.life ++ (u64 h.base ++ u32 h.entries))) in (
+      z,
+      ap (header_at v) (append_assoc (life_in v h.life) (u64 h.base ++ u32 h.entries) z
+          ∙ ap (λ (t : List ℕ). life_in v h.life ++ t) (append_assoc (u64 h.base) (u32 h.entries) z)) ∙ header_front v h z fits,
+    )
 
 pub behind_header : (v : Version) (h : Header) (fits : HeaderFitsIn v h) → are_zeros (header_read_again v h fits).0 ≡ true
 unfolding header_read_again
@@ -138,7 +154,8 @@ new_fits v (Inserted new) fits = fits
 new_fits v (Deleted old) fits = tt
 new_fits v (Updated old new) fits = fits.1
 
-pub item_front : (v : Version) (i : UndoItem) (rest : List ℕ) → ItemFitsIn v i → item_at v (1 ∷ (rid i.rid ++ (row_in v (old_row i.rows) ++ (row_in v (new_row i.rows) ++ rest)))) ≡ Some (i, rest)
+pub item_front : (v : Version) (i : UndoItem) (rest : List ℕ) → ItemFitsIn v i
+    → item_at v (1 ∷ (rid i.rid ++ (row_in v (old_row i.rows) ++ (row_in v (new_row i.rows) ++ rest)))) ≡ Some (i, rest)
 unfolding item_at byte_at
 item_front v i rest fits = rw (
   rid_again i.rid (row_in v (old_row i.rows) ++ (row_in v (new_row i.rows) ++ rest)) fits.rid,
@@ -151,8 +168,11 @@ unfoldable pub item_read_again : (v : Version) (i : UndoItem) → ItemFitsIn v i
 item_read_again v i fits =
     let a : List ℕ = row_in v (old_row i.rows) in
     let b : List ℕ = row_in v (new_row i.rows) in
-    let z : List ℕ = zeros (item_size v - length (1 ∷ (rid i.rid ++ (a ++ b)))) in
-    (z, ap (λ (t : List ℕ). item_at v (1 ∷ t)) (append_assoc (rid i.rid) (a ++ b) z ∙ ap (λ (t : List ℕ). rid i.rid ++ t) (append_assoc a b z)) ∙ item_front v i z fits)
+    let z : List ℕ = zeros (item_size v - length (1 ∷ (rid i.rid ++ (a ++ b)))) in (
+      z,
+      ap (λ (t : List ℕ). item_at v (1 ∷ t)) (append_assoc (rid i.rid) (a ++ b) z ∙ ap (λ (t : List ℕ). rid i.rid ++ t) (append_assoc a b z))
+          ∙ item_front v i z fits,
+    )
 
 pub behind_item : (v : Version) (i : UndoItem) (fits : ItemFitsIn v i) → are_zeros (item_read_again v i fits).0 ≡ true
 unfolding item_read_again
@@ -182,10 +202,12 @@ no_value r x none some = subst IsNone (sym none ∙ some) tt
 abbrev front : {X : Type 0} → X × Bor (List ℕ) → X × List ℕ
 front y = (y.0, y.1.now)
 
-pub read_as : {X : Type 0} (at : List ℕ → Option (X × List ℕ)) (bytes : List ℕ) (found : Option (X × Bor (List ℕ))) (y : X × Bor (List ℕ)) → option_map front found ≡ at bytes → found ≡ Some y → at bytes ≡ Some (y.0, y.1.now)
+pub read_as : {X : Type 0} (at : List ℕ → Option (X × List ℕ)) (bytes : List ℕ) (found : Option (X × Bor (List ℕ))) (y : X × Bor (List ℕ))
+    → option_map front found ≡ at bytes → found ≡ Some y → at bytes ≡ Some (y.0, y.1.now)
 read_as at bytes found y read is = sym read ∙ ap (option_map front) is
 
-module _ {X : Type 0} (at : List ℕ → Option (X × List ℕ)) (bytes text : List ℕ) (x : X) (found : Option (X × Bor (List ℕ))) (read : option_map front found ≡ at bytes) (same : bytes ≡ text) (again : IsReadAgain at text x) where
+module _ {X : Type 0} (at : List ℕ → Option (X × List ℕ)) (bytes text : List ℕ) (x : X) (found : Option (X × Bor (List ℕ)))
+    (read : option_map front found ≡ at bytes) (same : bytes ≡ text) (again : IsReadAgain at text x) where
   both : option_map front found ≡ Some (x, again.0)
   both = read ∙ ap at same ∙ again.1
 

@@ -1,5 +1,6 @@
 -- Bytes in front of zeros.
-use Rattle.std.proofs.Common.{◌≡◌, ℕ, ◌+◌, ◌-◌, ◌≤◌, List, ◌++◌, length, take, drop, sym, ap, ◌∙◌, arith, take-append-drop, length-take-le, length-append, length-drop, append_assoc}
+use Rattle.std.proofs.Common.{◌≡◌, ℕ, ◌+◌, ◌-◌, ◌≤◌, List, ◌++◌, length, take, drop, sym, ap, ◌∙◌, arith, take-append-drop, length-take-le, length-append}
+use Rattle.std.proofs.Common.{length-drop, append_assoc}
 use Rattle.std.proofs.lemmas.List.{drop-replicate, length-replicate, drop_at, drop-drop, take-replicate}
 use Rattle.std.proofs.Math.Seq.{take-add}
 use borrow.Rule.Slice.PartMut.{put_mid}
@@ -36,7 +37,8 @@ module _ (size len : ℕ) (bytes : List ℕ) (is : IsBuffer size len bytes) wher
     zeros_more = (
       room,
       is.1,
-      sym (drop-drop count len bytes) ∙ ap (drop count) is.2 ∙ drop-zeros count (size - len) ∙ ap zeros (let e : size - len - count ≡ size - (len + count) = omega arith in e),
+      sym (drop-drop count len bytes) ∙ ap (drop count) is.2 ∙ drop-zeros count (size - len)
+          ∙ ap zeros (let e : size - len - count ≡ size - (len + count) = omega arith in e),
     )
 
     pub zeros_put : take (len + count) bytes ≡ take len bytes ++ zeros count
@@ -46,7 +48,8 @@ module _ (size len : ℕ) (bytes : List ℕ) (is : IsBuffer size len bytes) wher
   pushed more ys k same count room =
       let front : List ℕ = take len bytes ++ more in
       let rest : List ℕ = drop k (drop len bytes) in
-      let parts : put_mid len k bytes ys ≡ front ++ rest = ap (λ (t : List ℕ). take len bytes ++ (t ++ rest)) same ∙ sym (append_assoc (take len bytes) more rest) in
+      let parts : put_mid len k bytes ys ≡ front ++ rest = ap (λ (t : List ℕ). take len bytes ++ (t ++ rest)) same
+      ∙ sym (append_assoc (take len bytes) more rest) in
       let long : length front ≡ len + length more = omega (arith, length-append {A = ℕ} (take len bytes) more, length_of) in (
         room,
         ap length parts ∙ omega (arith, length-append {A = ℕ} front rest, long, length-drop k (drop len bytes), length-drop len bytes, is.1, count, room),

@@ -41,11 +41,13 @@ and_true true = refl
 and_true false = refl
 
 -- the bytes up to the i-th, put together, and those behind
-pub more_tested : (bytes : List ℕ) (i a : ℕ) → i < length bytes → are_zeros bytes ≡ (eqb a 0 && are_zeros (drop i bytes)) → are_zeros bytes ≡ (eqb (bit_or a (get_or bytes i 0)) 0 && are_zeros (drop (i + 1) bytes))
+pub more_tested : (bytes : List ℕ) (i a : ℕ) → i < length bytes → are_zeros bytes ≡ (eqb a 0 && are_zeros (drop i bytes))
+    → are_zeros bytes ≡ (eqb (bit_or a (get_or bytes i 0)) 0 && are_zeros (drop (i + 1) bytes))
 unfolding are_zeros
 more_tested bytes i a below was =
     let b : ℕ = get_or bytes i 0 in
-    let next : drop i bytes ≡ b ∷ drop (i + 1) bytes = drop-cons bytes i 0 below ∙ ap (λ (k : ℕ). b ∷ drop k bytes) (let e : suc i ≡ i + 1 = omega arith in e) in
+    let next : drop i bytes ≡ b ∷ drop (i + 1) bytes = drop-cons bytes i 0 below
+    ∙ ap (λ (k : ℕ). b ∷ drop k bytes) (let e : suc i ≡ i + 1 = omega arith in e) in
     was
     ∙ ap (λ (t : List ℕ). eqb a 0 && are_zeros t) next
     ∙ and_assoc (eqb a 0) (eqb b 0) (are_zeros (drop (i + 1) bytes))

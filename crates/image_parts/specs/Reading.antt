@@ -1,6 +1,7 @@
--- Words for the private steps of reading: what stands at the front of some bytes. Padding within a field is zeros; behind the
--- last field there may be anything. No public clause cites them.
-use Rattle.std.specs.Prelude.{ℕ, ◌+◌, ◌-◌, List, [], ◌∷◌, length, take, drop, slice_range, Option, Some, None, Bool, true, ◌&&◌, if◌then◌else◌, nat_lt, ◌==◌}
+-- Words for the private steps of reading: what stands at the front of some bytes. Padding within a field is zeros;
+-- behind the last field there may be anything. No public clause cites them.
+use Rattle.std.specs.Prelude.{ℕ, ◌+◌, ◌-◌, List, [], ◌∷◌, length, take, drop, slice_range, Option, Some, None, Bool}
+use Rattle.std.specs.Prelude.{true, ◌&&◌, if◌then◌else◌, nat_lt, ◌==◌}
 use Rattle.records.specs.Version.{key_max, body_max}
 use Rattle.records.specs.declared.version.Version.{Version}
 use Rattle.records.specs.declared.change.TheConstants.{CHANGES_MAX}
@@ -22,17 +23,21 @@ are_zeros [] = true
 are_zeros (b ∷ rest) = (b == 0) && are_zeros rest
 
 unfoldable pub skipped : ℕ → List ℕ → Option (List ℕ)
-skipped count bytes = if nat_lt (length bytes) count then None else if are_zeros (take count bytes) then Some (drop count bytes) else None
+skipped count bytes = if nat_lt (length bytes) count then None else if are_zeros (take count bytes) then Some
+    (drop count bytes) else None
 
 unfoldable pub padded_at : ℕ → List ℕ → Option (List ℕ × List ℕ)
 padded_at max bytes = do
   n ← byte_at bytes
-  if nat_lt max n.0 then None else if nat_lt (length n.1) max then None else if are_zeros (slice_range n.1 n.0 max) then Some (take n.0 n.1, drop max n.1) else None
+  if nat_lt max n.0 then None else if nat_lt (length n.1) max then None else if are_zeros
+      (slice_range n.1 n.0 max) then Some (take n.0 n.1, drop max n.1) else None
 
 unfoldable pub row_at : Version → List ℕ → Option (Option Row × List ℕ)
 row_at v bytes = do
   tag ← byte_at bytes
-  if tag.0 == 0 then (skipped (row_size v - 1) tag.1 >>= λ rest. Some (None, rest)) else if tag.0 == 1 then (padded_at (key_max v) tag.1 >>= λ key. padded_at (body_max v) key.1 >>= λ body. Some (Some (record { key = key.0; body = body.0 }), body.1)) else None
+  if tag.0 == 0 then (skipped (row_size v - 1) tag.1 >>= λ rest. Some (None, rest)) else if tag.0 == 1 then
+      (padded_at (key_max v) tag.1 >>= λ key. padded_at (body_max v) key.1 >>= λ body.
+      Some (Some (record { key = key.0; body = body.0 }), body.1)) else None
 
 unfoldable pub pair_at : Version → List ℕ → Option (Pair × List ℕ)
 pair_at v bytes = do
@@ -43,12 +48,15 @@ pair_at v bytes = do
 unfoldable pub highest_at : Version → List ℕ → Option (Option Pair × List ℕ)
 highest_at v bytes = do
   tag ← byte_at bytes
-  if tag.0 == 0 then (skipped (pair_size v) tag.1 >>= λ rest. Some (None, rest)) else if tag.0 == 1 then (pair_at v tag.1 >>= λ p. Some (Some p.0, p.1)) else None
+  if tag.0 == 0 then (skipped (pair_size v) tag.1 >>= λ rest. Some (None, rest)) else if tag.0 == 1 then
+      (pair_at v tag.1 >>= λ p. Some (Some p.0, p.1)) else None
 
 unfoldable pub life_at : Version → List ℕ → Option (Life × List ℕ)
 life_at v bytes = do
   tag ← byte_at bytes
-  if tag.0 == 0 then (skipped (1 + pair_size v) tag.1 >>= λ rest. Some (Absent, rest)) else if tag.0 == 1 then (highest_at v tag.1 >>= λ h. Some (Building h.0, h.1)) else if tag.0 == 2 then (skipped (1 + pair_size v) tag.1 >>= λ rest. Some (Complete, rest)) else None
+  if tag.0 == 0 then (skipped (1 + pair_size v) tag.1 >>= λ rest. Some (Absent, rest)) else if tag.0 == 1 then
+      (highest_at v tag.1 >>= λ h. Some (Building h.0, h.1)) else if tag.0 == 2 then
+      (skipped (1 + pair_size v) tag.1 >>= λ rest. Some (Complete, rest)) else None
 
 unfoldable pub header_at : Version → List ℕ → Option (Header × List ℕ)
 header_at v bytes = do
@@ -61,7 +69,8 @@ unfoldable pub head_at : List ℕ → Option (Option Head × List ℕ)
 head_at bytes = do
   txn ← u64_at bytes
   changes ← u16_at txn.1
-  if txn.0 == 0 then Some (None, changes.1) else if nat_lt CHANGES_MAX changes.0 then None else Some (Some (record { txn = txn.0; changes = changes.0 }), changes.1)
+  if txn.0 == 0 then Some (None, changes.1) else if nat_lt CHANGES_MAX changes.0 then None else Some
+      (Some (record { txn = txn.0; changes = changes.0 }), changes.1)
 
 unfoldable pub item_at : Version → List ℕ → Option (UndoItem × List ℕ)
 item_at v bytes = do

@@ -1,5 +1,6 @@
 -- How the parts of an image are spelled, and which values have a spelling.
-use Rattle.std.specs.Prelude.{ℕ, ◌<◌, ◌≤◌, ◌^◌, ◌+◌, ◌*◌, ◌-◌, List, [], ◌∷◌, ◌++◌, length, replicate, Option, Some, None}
+use Rattle.std.specs.Prelude.{ℕ, ◌<◌, ◌≤◌, ◌^◌, ◌+◌, ◌*◌, ◌-◌, List, [], ◌∷◌, ◌++◌, length, replicate, Option, Some}
+use Rattle.std.specs.Prelude.{None}
 use Rattle.sector_device.specs.declared.device.TheConstants.{SECTOR_SIZE}
 use Rattle.records.specs.Version.{key_max, body_max}
 use Rattle.records.specs.declared.version.Version.{Version}
@@ -10,7 +11,8 @@ use Rattle.records.specs.declared.row.Row.{Row}
 use Rattle.records.specs.declared.pair.Pair.{Pair}
 use Rattle.records.specs.declared.pair.Mark.{Mark}
 use Rattle.records.specs.declared.pair.Mark.TheVariants.{Live, Marked}
-use Rattle.records.specs.Spelling.{short, rid, u16, u32, u64, old_row, new_row, RidFits, RowFitsIn, RowsFitIn, PairFitsIn, IsTxn}
+use Rattle.records.specs.Spelling.{short, rid, u16, u32, u64, old_row, new_row, RidFits, RowFitsIn, RowsFitIn}
+use Rattle.records.specs.Spelling.{PairFitsIn, IsTxn}
 use Rattle.model.specs.declared.life.Life.{Life}
 use Rattle.model.specs.declared.life.Life.TheVariants.{Absent, Building, Complete}
 use Rattle.image_parts.specs.declared.head.TheConstants.{HEAD_SIZE}

@@ -64,7 +64,8 @@ pub fn read_entry_in(version: Version, bytes: &[u8]) -> Option<(Pair, Mark)>
     requires { length bytes.now ≡ entry_size version }
     ensures found { IfSome result (λ found. bytes.now ≡ entry_in version found) }
     ensures fits { IfSome result (λ found. PairFitsIn version found.0) }
-    ensures again { (value : Pair × Mark) → PairFitsIn version value.0 → bytes.now ≡ entry_in version value → result ≡ Some value }
+    ensures again { (value : Pair × Mark) → PairFitsIn version value.0 → bytes.now ≡ entry_in version value
+        → result ≡ Some value }
 {
     let Some(found) = entry_of(version, bytes) else {
         return None;

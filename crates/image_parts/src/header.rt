@@ -3,7 +3,8 @@ ghost use Rattle.std.specs.Prelude.{◌≡◌, ◌≤◌, ◌+◌, ◌++◌, Som
 ghost use Rattle.std.specs.Option.{option_map};
 ghost use Rattle.image_parts.specs.declared.header.Header.{Header};
 ghost use Rattle.image_parts.specs.Reading.{highest_at, life_at, header_at};
-ghost use Rattle.image_parts.specs.Spelling.{header, header_in, highest, life, PairFitsIfSome, LifeFits, HeaderFits, HeaderFitsIn};
+ghost use Rattle.image_parts.specs.Spelling.{header, header_in, highest, life, PairFitsIfSome, LifeFits, HeaderFits};
+ghost use Rattle.image_parts.specs.Spelling.{HeaderFitsIn};
 
 use crate::buffer::Buffer;
 use crate::fields::{PAIR_SIZE, put_pair, put_u32, put_u64};
@@ -146,7 +147,8 @@ fn header_of(version: Version, bytes: &[u8]) -> Option<(Header, &[u8])>
 pub fn read_header_in(version: Version, bytes: &[u8; SECTOR_SIZE]) -> Option<Header>
     ensures found { IfSome result (λ found. bytes.now ≡ header_in version found) }
     ensures fits { IfSome result (HeaderFitsIn version) }
-    ensures again { (value : Header) → HeaderFitsIn version value → bytes.now ≡ header_in version value → result ≡ Some value }
+    ensures again { (value : Header) → HeaderFitsIn version value → bytes.now ≡ header_in version value
+        → result ≡ Some value }
 {
     let Some(found) = header_of(version, bytes) else {
         return None;

@@ -71,7 +71,8 @@ pub fn read_item_in(version: Version, bytes: &[u8]) -> Option<UndoItem>
     requires { length bytes.now ≡ item_size version }
     ensures found { IfSome result (λ found. bytes.now ≡ item_in version found) }
     ensures fits { IfSome result (ItemFitsIn version) }
-    ensures again { (value : UndoItem) → ItemFitsIn version value → bytes.now ≡ item_in version value → result ≡ Some value }
+    ensures again { (value : UndoItem) → ItemFitsIn version value → bytes.now ≡ item_in version value
+        → result ≡ Some value }
 {
     let Some(found) = item_of(version, bytes) else {
         return None;

@@ -1,9 +1,9 @@
-//! How the parts of a store's image are spelled: header, transaction heads, undo items, rows and entries. Each value has one
-//! spelling, and what is not read as a value is the spelling of none.
+//! How the parts of a store's image are spelled: header, transaction heads, undo items, rows and entries. Each value
+//! has one spelling, and what is not read as a value is the spelling of none.
 //!
-//! Proved: each `spell_` function gives the spelling (`spelled`). Each `read_` function gives a value just where the bytes are its
-//! spelling, zeros included, within its limits (`found`, `fits`, `again`).
-//! Only tested (`value_tests`): one of each byte by byte, both ways.
+//! Proved: each `spell_` function gives the spelling (`spelled`). Each `read_` function gives a value just where the
+//! bytes are its spelling, zeros included, within its limits (`found`, `fits`, `again`). Only tested (`value_tests`):
+//! one of each byte by byte, both ways.
 #![tactic(auto)]
 
 mod buffer;

@@ -33,7 +33,8 @@ pub fn read_row_in(version: Version, bytes: &[u8]) -> Option<Option<Row>>
     requires { length bytes.now ≡ row_size version }
     ensures found { IfSome result (λ found. bytes.now ≡ row_in version found) }
     ensures fits { IfSome result (RowFitsInIfSome version) }
-    ensures again { (value : Option Row) → RowFitsInIfSome version value → bytes.now ≡ row_in version value → result ≡ Some value }
+    ensures again { (value : Option Row) → RowFitsInIfSome version value → bytes.now ≡ row_in version value
+        → result ≡ Some value }
 {
     let Some(found) = row_of(version, bytes) else {
         return None;

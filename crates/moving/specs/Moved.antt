@@ -14,8 +14,9 @@ use Rattle.store_reader.specs.Contents.{Gives, GivesIn}
 use Rattle.moving.specs.declared.old.NotVersionOne.{NotVersionOne}
 use Rattle.moving.specs.declared.old.NotVersionOne.TheVariants.{Newer, Refused}
 
--- The disk holds, all of it safe, what the old content holds in version 1: it gives in version 2 the same rows, the same entries
--- with their states, the same life with its highest pair, and the same number of the last record, with the same geometry.
+-- The disk holds, all of it safe, what the old content holds in version 1: it gives in version 2 the same rows, the
+-- same entries with their states, the same life with its highest pair, and the same number of the last record, with the
+-- same geometry.
 pub record HoldsStoreOf (old : Image) (disk : Disk) : Type 0 where
   pub geometry : GeometryValue
   pub given : Given
@@ -27,8 +28,9 @@ pub record HoldsStoreOf (old : Image) (disk : Disk) : Type 0 where
 abbrev pub IsStoreOf : Version → GeometryValue → Image → Type 0
 IsStoreOf v geometry image = (half : Half) × IsStoreIn v geometry half image
 
--- why the content is no store of version 1: it is one of version 2; or the disk failed in the call; or the reader of version 1
--- refuses it so, and that of version 2 refuses it too
+-- why the content is no store of version 1: it is one of version 2; or the disk failed in the call; or the reader of
+-- version 1 refuses it so, and that of version 2 refuses it too
 abbrev pub IsNotVersionOne : Image → (before after : ℕ) → NotVersionOne → Type 0
 IsNotVersionOne image before after Newer = (geometry : GeometryValue) × IsStoreOf Two geometry image
-IsNotVersionOne image before after (Refused e) = ((e ≡ DeviceFailed) × Rises before after) ⊎ (IsRefusedIn One image e × ((other : Error) × IsRefusedIn Two image other))
+IsNotVersionOne image before after (Refused e) = ((e ≡ DeviceFailed) × Rises before after)
+    ⊎ (IsRefusedIn One image e × ((other : Error) × IsRefusedIn Two image other))

@@ -30,13 +30,15 @@ fn is_failure(error: Error) -> bool
 
 /// How large the store of version 1 on the disk is. Nothing is written.
 ///
-/// `Newer` where a store of version 2 is on the disk. Else the refusal is that of `Halves::open_in`: `DeviceFailed` where the disk
-/// failed in the call, and only then.
+/// `Newer` where a store of version 2 is on the disk. Else the refusal is that of `Halves::open_in`: `DeviceFailed`
+/// where the disk failed in the call, and only then.
 pub fn old_geometry<D: Device>(disk: &mut D) -> Result<Geometry, NotVersionOne>
     ensures found { IfOk result (λ geometry. IsStoreOf One geometry (D.history disk.old).disk.content) }
-    ensures refused { IfErr result (IsNotVersionOne (D.history disk.old).disk.content (D.failures disk.old) (D.failures disk.new)) }
+    ensures refused { IfErr result (IsNotVersionOne (D.history disk.old).disk.content (D.failures disk.old)
+        (D.failures disk.new)) }
     ensures kept { OnlyReads (D.history disk.old) (D.history disk.new) }
-    ensures told { IfErr result (λ e. e ≢ NotVersionOne.Refused Error.DeviceFailed → D.failures disk.new ≡ D.failures disk.old) }
+    ensures told { IfErr result (λ e. e ≢ NotVersionOne.Refused Error.DeviceFailed
+        → D.failures disk.new ≡ D.failures disk.old) }
     ensures quiet { OnOk result (D.failures disk.new ≡ D.failures disk.old) }
 {
     let refusal = match Halves::open_in(Version::One, disk) {
@@ -58,22 +60,28 @@ pub fn old_geometry<D: Device>(disk: &mut D) -> Result<Geometry, NotVersionOne>
 
 /// Moves the store of version 1 on the old disk to the new one, which is given back. The old one is only read.
 ///
-/// The refusals are those of `migrate`, in that order: where the old disk gives something by version 1 and the new one has too few
-/// sectors for it, that is told, also where memory was wanting; but a failure of the old disk comes first (`too_small`, `room`).
+/// The refusals are those of `migrate`, in that order: where the old disk gives something by version 1 and the new one
+/// has too few sectors for it, that is told, also where memory was wanting; but a failure of the old disk comes first
+/// (`too_small`, `room`).
 pub fn move_disk<O: Device, N: Device, A: Allocator + Copy>(
     alloc: A,
     old: &mut O,
     new: N,
 ) -> Result<N, (MigrateError, N)>
     ensures moved { IfOk result (λ disk. HoldsStoreOf (O.history old.old).disk.content (N.history disk).disk) }
-    ensures refused { IfErr result (λ r. IsNotMigrated (O.history old.old).disk.content (O.failures old.old) (O.failures old.new) N.history N.failures new r.1 r.0) }
+    ensures refused { IfErr result (λ r. IsNotMigrated (O.history old.old).disk.content (O.failures old.old)
+        (O.failures old.new) N.history N.failures new r.1 r.0) }
     ensures kept { OnlyReads (O.history old.old) (O.history old.new) }
     ensures around { IfOk result (λ disk. WritesTheStoreAlone (O.history old.old).disk.content N.history new disk) }
-    ensures memory { IfErr result (λ r. r.0 ≡ MigrateError.NoMemory → HasHeaderIn One (O.history old.old).disk.content) }
+    ensures memory { IfErr result (λ r. r.0 ≡ MigrateError.NoMemory
+        → HasHeaderIn One (O.history old.old).disk.content) }
     ensures room { OnOk result (IsTooSmall (O.history old.old).disk.content (N.history new).disk.content → ⊥) }
-    ensures too_small { IsTooSmall (O.history old.old).disk.content (N.history new).disk.content → IfErr result (λ r. IsSmallAnswer r.0) }
-    ensures told { IfErr result (λ r. r.0 ≢ MigrateError.Old Error.DeviceFailed → O.failures old.new ≡ O.failures old.old) }
-    ensures quiet { IfOk result (λ disk. (O.failures old.new ≡ O.failures old.old) × (N.failures disk ≡ N.failures new)) }
+    ensures too_small { IsTooSmall (O.history old.old).disk.content (N.history new).disk.content
+        → IfErr result (λ r. IsSmallAnswer r.0) }
+    ensures told { IfErr result (λ r. r.0 ≢ MigrateError.Old Error.DeviceFailed
+        → O.failures old.new ≡ O.failures old.old) }
+    ensures quiet { IfOk result (λ disk. (O.failures old.new ≡ O.failures old.old)
+        × (N.failures disk ≡ N.failures new)) }
 {
     let engine = migrate(alloc, old, new)?;
     Ok(engine.into_device())

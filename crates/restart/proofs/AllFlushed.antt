@@ -1,5 +1,6 @@
 -- One flush after another.
-use Rattle.std.proofs.Common.{◌≡◌, ◌≢◌, ◌∙◌, ◌⊎◌, ◌<◌, ◌≤◌, ◌&&◌, ◌+◌, ℕ, zero, suc, Bool, true, false, nat_lt, List, [], ◌∷◌, ◌-◌, drop, Option, Some, None, slice_index, refl, sym, ap, subst, inl, inr, ⊎_elim, arith, ltb-true, ltb-false}
+use Rattle.std.proofs.Common.{◌≡◌, ◌≢◌, ◌∙◌, ◌⊎◌, ◌<◌, ◌≤◌, ◌&&◌, ◌+◌, ℕ, zero, suc, Bool, true, false, nat_lt, List, [], ◌∷◌, ◌-◌, drop, Option, Some, None}
+use Rattle.std.proofs.Common.{slice_index, refl, sym, ap, subst, inl, inr, ⊎_elim, arith, ltb-true, ltb-false}
 use Rattle.std.specs.List.Sorted.{IsStrictlyIncreasing}
 use Rattle.std.specs.Option.{option_map_or}
 use Rattle.std.proofs.lemmas.List.Elements.{All-nil, All-cons}
@@ -97,7 +98,8 @@ module _ {D M : Type 0} (history : D → History) (failures : D → ℕ) where
   }
 
   -- a reply that asks for another flush, before those that follow
-  pub one_more : (last : ℕ) (told : Option ℕ) (old next new : Parts D M) (r : Reply M) → asks_again last told r ≡ true → FlushesOnce history failures r old next → FlushesOn history failures last (Some (horizon_of next)) next new → FlushesOn history failures last told old new
+  pub one_more : (last : ℕ) (told : Option ℕ) (old next new : Parts D M) (r : Reply M) → asks_again last told r ≡ true → FlushesOnce history failures r old next
+      → FlushesOn history failures last (Some (horizon_of next)) next new → FlushesOn history failures last told old new
   one_more last told old next new (reply.Txn t) again flushed on = cc
   one_more last told old next new (reply.Rid r) again flushed on = cc
   one_more last told old next new reply.Stepped again flushed on = cc
@@ -127,7 +129,8 @@ module _ {D M : Type 0} (history : D → History) (failures : D → ℕ) where
   one_more last told old next new (reply.Refused e) again flushed on = cc
 
   -- a reply that asks for another flush tells of more than were told before, and not yet of all up to the last
-  pub rises : (last : ℕ) (told : Option ℕ) (old new : Parts D M) (r : Reply M) → asks_again last told r ≡ true → FlushesOnce history failures r old new → (is_further told (horizon_of new) ≡ true) × (horizon_of new < last)
+  pub rises : (last : ℕ) (told : Option ℕ) (old new : Parts D M) (r : Reply M) → asks_again last told r ≡ true → FlushesOnce history failures r old new
+      → (is_further told (horizon_of new) ≡ true) × (horizon_of new < last)
   rises last told old new (reply.Txn t) again flushed = cc
   rises last told old new (reply.Rid r) again flushed = cc
   rises last told old new reply.Stepped again flushed = cc
@@ -163,18 +166,22 @@ module _ {D M : Type 0} (history : D → History) (failures : D → ℕ) where
   -- a final flush that told no more than the one before had none to sync
   none_waits : (n : ℕ) (old new : Parts D M) → n ≤ horizon_of old → FlushesOnce history failures (reply.Horizon n) old new → unwritten new ≡ []
   none_waits n old new no_further (inl flushed) = none_left n old new flushed.1 no_further
-  none_waits n old new no_further (inr (mid, full, inl (k, current, taken, wrote))) = none_left n current new wrote (omega (arith, no_further, full.lawful.4.keeps.horizon, image_rises (reply.Flipped k) mid current taken))
+  none_waits n old new no_further (inr (mid, full, inl (k, current, taken, wrote))) =
+      none_left n current new wrote (omega (arith, no_further, full.lawful.4.keeps.horizon, image_rises (reply.Flipped k) mid current taken))
   none_waits n old new no_further (inr (mid, full, inr (no_flip, taken))) = absurd taken.final_copy.lawful
 
-  pub is_final : (last : ℕ) (told : Option ℕ) (old new : Parts D M) (r : Reply M) → asks_again last told r ≡ false → ((m : ℕ) → told ≡ Some m → horizon_of old ≡ m)
+  pub is_final : (last : ℕ) (told : Option ℕ) (old new : Parts D M) (r : Reply M) → asks_again last told r ≡ false
+      → ((m : ℕ) → told ≡ Some m → horizon_of old ≡ m)
       → FlushesOnce history failures r old new → (n : ℕ) → r ≡ reply.Horizon n → (last ≤ n) ⊎ (unwritten new ≡ [])
   is_final last told old new r settled known flushed n is =
       by told known (one_fails (nat_lt n last) (is_further told n) (subst (λ x. asks_again last told x ≡ false) is settled))
     where
-      by : (before : Option ℕ) → ((m : ℕ) → before ≡ Some m → horizon_of old ≡ m) → (is_further before n ≡ false) ⊎ (nat_lt n last ≡ false) → (last ≤ n) ⊎ (unwritten new ≡ [])
+      by : (before : Option ℕ) → ((m : ℕ) → before ≡ Some m → horizon_of old ≡ m) → (is_further before n ≡ false) ⊎ (nat_lt n last ≡ false) → (last ≤ n)
+          ⊎ (unwritten new ≡ [])
       by before was (inr e) = inl (ltb-false n last e)
       by None was (inl e) = cc
-      by (Some m) was (inl e) = inr (none_waits n old new (omega (arith, ltb-false m n e, was m refl)) (subst (λ x. FlushesOnce history failures x old new) is flushed))
+      by (Some m) was (inl e) = inr (none_waits n old new (omega (arith, ltb-false m n e, was m refl))
+          (subst (λ x. FlushesOnce history failures x old new) is flushed))
 
   -- behind an image the log has room
   pub has_room : (old new : Parts D M) (r : Reply M) → FlushesOnce history failures r old new → r ≡ reply.LogFull → (log_of new).open_slots ≡ 0

@@ -14,7 +14,8 @@ use Rattle.restart.specs.History.{answered}
 use Rattle.restart.specs.Lawful.{IsInCore, ServesInCore}
 use Rattle.restart.specs.Parts.{core_of}
 
-module _ {D M T : Type 0} (e : core.Event) (f : T → core.Reply) (result : Result T Error) (old new : Parts D M) (serves : view.Serves (core_of old) e (reply_by f result) (core_of new)) (rest : new ≡ record old { core = new.core }) where
+module _ {D M T : Type 0} (e : core.Event) (f : T → core.Reply) (result : Result T Error) (old new : Parts D M)
+    (serves : view.Serves (core_of old) e (reply_by f result) (core_of new)) (rest : new ≡ record old { core = new.core }) where
   pub answered_ok : (x : T) (answer : Reply M) → result ≡ Ok x → answered answer ≡ Some (f x) → ServesInCore e answer old new
   answered_ok x answer is same = record {
     reply = f x;
@@ -33,7 +34,8 @@ module _ {D M T : Type 0} (e : core.Event) (f : T → core.Reply) (result : Resu
 
 -- a request that the core's condition refuses, or that only reads
 module _ {D M : Type 0} (e : core.Event) (old : Parts D M) where
-  pub answered_still : (answer : Reply M) (r : core.Reply) → answered answer ≡ Some r → view.Serves (core_of old) e r (core_of old) → ServesInCore e answer old old
+  pub answered_still : (answer : Reply M) (r : core.Reply) → answered answer ≡ Some r → view.Serves (core_of old) e r (core_of old)
+      → ServesInCore e answer old old
   answered_still answer r same serves = record { reply = r; reply_is = same; serves = serves; rest = refl }
 
 -- what is answered to a request, where it is known which one it is

@@ -52,7 +52,9 @@ module _ {D M : Type 0} (history : D → History) (old new : Parts D M) (hands :
       log = moved.2.log;
       lists = moved.2.lists;
       many =
-          let told : is.standing.made ≡ last_made past = ap (λ (x : Standing). x.made) (stands_over (opened (over past.geometry past.given)) (standing_at past.given.last) (core_calls past.events past.replies) is.state is.standing is.served.served) in
+          let told : is.standing.made ≡ last_made past = ap (λ (x : Standing). x.made)
+          (stands_over (opened (over past.geometry past.given)) (standing_at past.given.last)
+          (core_calls past.events past.replies) is.state is.standing is.served.served) in
           omega (arith, told, is.served.number);
       writer = subst (λ n. IsWriter history (run_of past is.made) n (writer_of new)) (to_the_end all) moved.2.writer;
       safe = omega (arith, is.safe, hands.horizon);
@@ -64,7 +66,8 @@ module _ {D M : Type 0} (history : D → History) (old new : Parts D M) (hands :
   pub are_parts : unhanded new ≡ [] → ArePartsOf old (core_of new) (writer_of new)
   are_parts all = record {
     core-is = hands.moves.core ∙ ap (λ (o : List RecordValue). record (core_of old) { outbox = o }) (both_none new.outgoing.items (core_of new).outbox all);
-    waiting = sym (ap (λ (l : List RecordValue). writer.waiting_of (writer_of new) ++ l) all ∙ append-nil (writer.waiting_of (writer_of new))) ∙ hands.unwritten-are;
+    waiting = sym (ap (λ (l : List RecordValue). writer.waiting_of (writer_of new) ++ l) all ∙ append-nil (writer.waiting_of (writer_of new)))
+        ∙ hands.unwritten-are;
     device = hands.device;
     halves = hands.halves;
     log = hands.log;
@@ -74,4 +77,13 @@ module _ {D M : Type 0} (history : D → History) (old new : Parts D M) (hands :
   }
 
   pub given_back : unhanded new ≢ [] → IsGivenBack history old new
-  given_back some = record { some = some; at = at_over; core = hands.moves.core; unwritten-are = hands.unwritten-are; keeps = keeps_over history old new hands; failed = hands.failed; geometry = hands.geometry; copying = hands.copying }
+  given_back some = record {
+    some = some;
+    at = at_over;
+    core = hands.moves.core;
+    unwritten-are = hands.unwritten-are;
+    keeps = keeps_over history old new hands;
+    failed = hands.failed;
+    geometry = hands.geometry;
+    copying = hands.copying;
+  }

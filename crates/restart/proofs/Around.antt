@@ -61,14 +61,16 @@ module _ {D M : Type 0} (history : D → History) (old : Parts D M) where
         (λ here. inl (subst (λ (l : Log). InSlot l.area l.open_slots n) over.log here))
         (λ there. inr (subst (λ (i : Option NewImage). InNewSlot i n) over.image there))
 
-    pub slots_then : (w : Writer D M) → WritesOnly history (InOpenedSlots (writer_of mid)) (device_of mid) (writer.device_of w) → WritesOnly history (InOpenedSlots (writer_of old)) (device_of old) (writer.device_of w)
+    pub slots_then : (w : Writer D M) → WritesOnly history (InOpenedSlots (writer_of mid)) (device_of mid) (writer.device_of w)
+        → WritesOnly history (InOpenedSlots (writer_of old)) (device_of old) (writer.device_of w)
     slots_then w wrote = subst (λ d. WritesOnly history (InOpenedSlots (writer_of old)) d (writer.device_of w)) over.device
         (alone_wider history (InOpenedSlots (writer_of mid)) (InOpenedSlots (writer_of old)) same_slots (device_of mid) (writer.device_of w) wrote)
 
 -- ---- how many sectors there are
 
 -- a request leaves their number, since each call that writes leaves it
-pub keeps_sectors : {D M : Type 0} (history : D → History) (event : Event) (old new : Parts D M) → (event ≢ requests.Copy → KeepsAround history old new) → (event ≡ requests.Copy → CopiesAround history old new) → KeepsSectors history old new
+pub keeps_sectors : {D M : Type 0} (history : D → History) (event : Event) (old new : Parts D M) → (event ≢ requests.Copy → KeepsAround history old new)
+    → (event ≡ requests.Copy → CopiesAround history old new) → KeepsSectors history old new
 keeps_sectors history requests.Begin old new around copied = (around (λ e. cc)).now.sectors
 keeps_sectors history (requests.Insert txn key body) old new around copied = (around (λ e. cc)).now.sectors
 keeps_sectors history (requests.Delete txn rid) old new around copied = (around (λ e. cc)).now.sectors

@@ -31,9 +31,16 @@ module _ (v : CoreValue) (kept : List RecordValue) where
 
   module _ {A : Type 0} where
     is_before : (cells : Cells) (place : CopyPlace) (piece : Piece A) → IsPieceOf w cells place piece → IsPieceOf v cells place piece
-    is_before cells at.Start (Start life lists) of = record { life-is = of.life-is; lists-are = of.lists-are; inside = of.inside; fits = λ g is. of.fits g (of_then g is) }
+    is_before cells at.Start (Start life lists) of = record {
+      life-is = of.life-is;
+      lists-are = of.lists-are;
+      inside = of.inside;
+      fits = λ g is.
+          of.fits g (of_then g is);
+    }
     is_before cells (at.Page page) (Page copied rows) of = of
-    is_before cells (at.Entries above) (Entries entries) of = record { more = of.more; listed = of.listed; most = of.most; full = of.full; rest = of.rest; inside = of.inside }
+    is_before cells (at.Entries above) (Entries entries) of =
+        record { more = of.more; listed = of.listed; most = of.most; full = of.full; rest = of.rest; inside = of.inside }
     is_before cells at.Start (Whole copied) of = absurd of
     is_before cells at.Start (Page page rows) of = absurd of
     is_before cells at.Start (Entries entries) of = absurd of
@@ -51,7 +58,8 @@ module _ (v : CoreValue) (kept : List RecordValue) where
 
 module _ {A D M : Type 0} where
   -- whether a piece must be refused is seen of the image, the log and the halves alone
-  pub must_as : (piece : Piece A) (old new : Writer D M) → new.image ≡ old.image → new.log ≡ old.log → new.halves ≡ old.halves → MustStartAgain piece old → MustStartAgain piece new
+  pub must_as : (piece : Piece A) (old new : Writer D M) → new.image ≡ old.image → new.log ≡ old.log → new.halves ≡ old.halves → MustStartAgain piece old
+      → MustStartAgain piece new
   must_as piece old new image log halves must =
       from piece
       (subst (λ (i : Option NewImage). MustStartAgain piece (record old { image = i; log = new.log; halves = new.halves })) (sym image)
@@ -65,7 +73,8 @@ module _ {A D M : Type 0} where
       from (Entries entries) is = is
 
   -- and what a piece makes of an image, of the image
-  pub has_as : (number : ℕ) (piece : Piece A) (old new : Writer D M) (image : NewImage) → old.image ≡ new.image → HasPiece number piece old image → HasPiece number piece new image
+  pub has_as : (number : ℕ) (piece : Piece A) (old new : Writer D M) (image : NewImage) → old.image ≡ new.image → HasPiece number piece old image
+      → HasPiece number piece new image
   has_as number piece old new image same has = from piece (subst (λ (i : Option NewImage). HasPiece number piece (record old { image = i }) image) same has)
     where
       from : (piece : Piece A) → HasPiece number piece (record old { image = new.image }) image → HasPiece number piece new image

@@ -52,18 +52,25 @@ keeps_due s k core.Idle = record { rows = refl; active = refl; made = omega arit
 same_keeps : (s : State) (k : Standing) → Keeps s k s k
 same_keeps s k = record { rows = refl; active = refl; made = omega arith }
 
-keeps : (s : State) (k : Standing) (r : core.Reply) (step : Option MachineStep) → IsAllowed s k core.Build r step → Keeps s k (after_any s step) (standing_after k r)
+keeps : (s : State) (k : Standing) (r : core.Reply) (step : Option MachineStep) → IsAllowed s k core.Build r step
+    → Keeps s k (after_any s step) (standing_after k r)
 keeps s k _ _ (unknown a) = same_keeps s k
 keeps s k _ _ (skipped a p) = same_keeps s k
 keeps s k _ _ (refused a p error f) = same_keeps s k
 keeps s k _ _ (refused_last a p f r x due error g) = same_keeps s k
 keeps s k _ _ (no_memory a p f r x due g w) = same_keeps s k
 keeps s k r step (accepted a p f _ _ due g) =
-    subst (λ x. Keeps s k (after_any s step) (standing_after k x)) (sym due.2) (subst (λ x. Keeps s k (after_any s x) (standing_after k (core.Built due.0))) (sym due.3) (keeps_due s k due.0))
+    subst (λ x. Keeps s k (after_any s step) (standing_after k x)) (sym due.2)
+    (subst (λ x. Keeps s k (after_any s x) (standing_after k (core.Built due.0))) (sym due.3) (keeps_due s k due.0))
 
 module _ (v v' : CoreValue) (r : core.Reply) (serves : view.Serves v core.Build r v') where
   stays_safe : IsSafe v → IsSafe v'
-  stays_safe safe = let a : Answers v safe.state safe.standing core.Build r v' = serves safe.state safe.standing safe.is in record { state = after_any safe.state a.step; standing = standing_after safe.standing r; is = stands v v' safe.state safe.standing core.Build r safe.is a }
+  stays_safe safe = let a : Answers v safe.state safe.standing core.Build r v' = serves safe.state safe.standing safe.is in
+      record {
+        state = after_any safe.state a.step;
+        standing = standing_after safe.standing r;
+        is = stands v v' safe.state safe.standing core.Build r safe.is a;
+      }
 
   module _ (come : HasCome v) where
     answer : Answers v come.state come.standing core.Build r v'
@@ -99,17 +106,20 @@ pub record ComesOn (v v' : CoreValue) : Type 0 where
 
 module _ {D M : Type 0} where
   pub comes_on : (replies : List (Reply M)) (old new : Parts D M) → AreBuilt replies old new → HasCome (core_of old) → ComesOn (core_of old) (core_of new)
-  comes_on [] old new same come = subst (λ (e : Parts D M). ComesOn (core_of old) (core_of e)) (sym same) (record { come = come; rows = refl; quiet = λ none. none })
+  comes_on [] old new same come = subst (λ (e : Parts D M). ComesOn (core_of old) (core_of e)) (sym same)
+      (record { come = come; rows = refl; quiet = λ none. none })
   comes_on (r ∷ replies) old new built come =
       let serves = built.1.serves in
-      let rest : ComesOn (core_of built.0) (core_of new) = comes_on replies built.0 new built.2 (comes (core_of old) (core_of built.0) built.1.reply serves come) in
+      let rest : ComesOn (core_of built.0) (core_of new) =
+      comes_on replies built.0 new built.2 (comes (core_of old) (core_of built.0) built.1.reply serves come) in
       record {
         come = rest.come;
         rows = rest.rows ∙ same_rows (core_of old) (core_of built.0) built.1.reply serves come;
         quiet = λ none. rest.quiet (none_active (core_of old) (core_of built.0) built.1.reply serves come none);
       }
 
-  pub one_more_built : (replies : List (Reply M)) (r : Reply M) (old mid new : Parts D M) → AreBuilt replies old mid → ServesInCore core.Build r mid new → AreBuilt (replies ++ r ∷ []) old new
+  pub one_more_built : (replies : List (Reply M)) (r : Reply M) (old mid new : Parts D M) → AreBuilt replies old mid → ServesInCore core.Build r mid new
+      → AreBuilt (replies ++ r ∷ []) old new
   one_more_built [] r old mid new same serves = (new, subst (λ (e : Parts D M). ServesInCore core.Build r e new) same serves, refl)
   one_more_built (x ∷ replies) r old mid new built serves = (built.0, built.1, one_more_built replies r built.0 mid new built.2 serves)
 
@@ -121,23 +131,31 @@ module _ {D M : Type 0} where
     laws_on : (old mid : Parts D M) → mid ≡ record old { core = mid.core } → Laws history (writer_of old) → Laws history (writer_of mid)
     laws_on old mid rest laws = subst (Laws history) (sym (ap (λ (e : Parts D M). writer_of e) rest)) laws
 
-    pub at_built : (replies : List (Reply M)) (old new : Parts D M) → AreBuilt replies old new → Laws history (writer_of old) → (past : Past M) → IsAt history past old → IsAt history (and_then past (builds replies) replies) new
+    pub at_built : (replies : List (Reply M)) (old new : Parts D M) → AreBuilt replies old new → Laws history (writer_of old) → (past : Past M)
+        → IsAt history past old → IsAt history (and_then past (builds replies) replies) new
     at_built [] old new same laws past is = subst (λ (p : Past M). IsAt history p new) (sym (and_then_none past)) (subst (IsAt history past) (sym same) is)
     at_built (r ∷ replies) old new built laws past is =
         subst (λ (p : Past M). IsAt history p new) (and_then_both past (event.Build ∷ []) (builds replies) (r ∷ []) replies)
-        (at_built replies built.0 new built.2 (laws_on old built.0 built.1.rest laws) (and_then past (event.Build ∷ []) (r ∷ [])) (served_by_core history failures event.Build r old built.0 built.1 laws past is).0)
+        (at_built replies built.0 new built.2 (laws_on old built.0 built.1.rest laws) (and_then past (event.Build ∷ []) (r ∷ []))
+        (served_by_core history failures event.Build r old built.0 built.1 laws past is).0)
 
-    pub can_run_built : (replies : List (Reply M)) (old new : Parts D M) → AreBuilt replies old new → Laws history (writer_of old) → CanRun history old → CanRun history new
+    pub can_run_built : (replies : List (Reply M)) (old new : Parts D M) → AreBuilt replies old new → Laws history (writer_of old) → CanRun history old
+        → CanRun history new
     can_run_built [] old new same laws can = subst (CanRun history) (sym same) can
-    can_run_built (r ∷ replies) old new built laws can = can_run_built replies built.0 new built.2 (laws_on old built.0 built.1.rest laws) (can_run_by_core history failures event.Build r old built.0 built.1 laws can)
+    can_run_built (r ∷ replies) old new built laws can =
+        can_run_built replies built.0 new built.2 (laws_on old built.0 built.1.rest laws)
+        (can_run_by_core history failures event.Build r old built.0 built.1 laws can)
 
-    pub survives_built : (replies : List (Reply M)) (old new : Parts D M) → AreBuilt replies old new → Laws history (writer_of old) → (past : Past M) → IsAt history past old
+    pub survives_built : (replies : List (Reply M)) (old new : Parts D M) → AreBuilt replies old new → Laws history (writer_of old) → (past : Past M)
+        → IsAt history past old
         → LeavesOnly (history (device_of old)) (history (device_of new)) (Survives (and_then past (builds replies) replies) (horizon_of old))
     survives_built replies old new built laws past is =
         let same : writer_of new ≡ writer_of old = writer_on replies old new built in
-        subst (λ w. LeavesOnly (history (writer.device_of w)) (history (device_of new)) (Survives (and_then past (builds replies) replies) (horizon_of old))) same
+        subst (λ w. LeavesOnly (history (writer.device_of w)) (history (device_of new)) (Survives (and_then past (builds replies) replies) (horizon_of old)))
+        same
         (started (history (device_of new)) (Survives (and_then past (builds replies) replies) (horizon_of old))
-        (crash_since history (and_then past (builds replies) replies) new (at_built replies old new built laws past is) (horizon_of old) (omega (arith, ap (λ w. writer.synced_of w) same))))
+        (crash_since history (and_then past (builds replies) replies) new (at_built replies old new built laws past is) (horizon_of old)
+        (omega (arith, ap (λ w. writer.synced_of w) same))))
 
 -- ---- what is built
 

@@ -20,19 +20,36 @@ record IsLast (items : List Item) (pair : Pair) : Type 0 where
 
 -- one item more before them
 one_before : (item : Item) (items : List Item) (pair : Pair) → IsLast items pair → IsLast (item ∷ items) pair
-one_before item items pair is = record { number = is.number; before = item ∷ is.before; behind = is.behind; there = ap (λ (xs : List Item). item ∷ xs) is.there; commits = is.commits }
+one_before item items pair is = record {
+  number = is.number;
+  before = item ∷ is.before;
+  behind = is.behind;
+  there = ap (λ (xs : List Item). item ∷ xs) is.there;
+  commits = is.commits;
+}
 
 -- one item, where all behind it are commits
-first : (life : Life) (number : ℕ) (deed : Deed) (items : List Item) (pair : Pair) → life_with life deed ≡ Building (Some pair) → All (λ (item : Item). IsCommit item.deed) items
-    → ((life ≡ Building (Some pair)) × All (λ (item : Item). IsCommit item.deed) (record { number = number; deed = deed } ∷ items)) ⊎ IsLast (record { number = number; deed = deed } ∷ items) pair
-first life number (Committed writes) items pair same all = inl (same, All-cons (λ (item : Item). IsCommit item.deed) (record { number = number; deed = Committed writes }) items tt all)
+first : (life : Life) (number : ℕ) (deed : Deed) (items : List Item) (pair : Pair) → life_with life deed ≡ Building (Some pair)
+    → All (λ (item : Item). IsCommit item.deed) items
+    → ((life ≡ Building (Some pair)) × All (λ (item : Item). IsCommit item.deed) (record { number = number; deed = deed } ∷ items))
+    ⊎ IsLast (record { number = number; deed = deed } ∷ items) pair
+first life number (Committed writes) items pair same all =
+    inl (same, All-cons (λ (item : Item). IsCommit item.deed) (record { number = number; deed = Committed writes }) items tt all)
 first life number Created items pair same all = absurd cc
-first life number (Checkpointed p) items pair same all = inr (record { number = number; before = []; behind = items; there = ap (λ (q : Pair). record { number = number; deed = Checkpointed q } ∷ items) (let e : p ≡ pair = cc in e); commits = all })
+first life number (Checkpointed p) items pair same all =
+    inr (record {
+      number = number;
+      before = [];
+      behind = items;
+      there = ap (λ (q : Pair). record { number = number; deed = Checkpointed q } ∷ items) (let e : p ≡ pair = cc in e);
+      commits = all;
+    })
 first life number Completed items pair same all = absurd cc
 first life number Dropped items pair same all = absurd cc
 
 -- the life is what it was, and all are commits; or there is a last one
-found : (life : Life) (items : List Item) (pair : Pair) → life_after life items ≡ Building (Some pair) → ((life ≡ Building (Some pair)) × All (λ (item : Item). IsCommit item.deed) items) ⊎ IsLast items pair
+found : (life : Life) (items : List Item) (pair : Pair) → life_after life items ≡ Building (Some pair)
+    → ((life ≡ Building (Some pair)) × All (λ (item : Item). IsCommit item.deed) items) ⊎ IsLast items pair
 found life [] pair same = inl (same, λ i d below. absurd (omega (arith, below)))
 found life (item ∷ items) pair same = ⊎_elim
     (λ all. first life item.number item.deed items pair all.0 all.1)
@@ -45,14 +62,17 @@ counted n [] [] behind item same = absurd cc
 counted n [] (x ∷ before) behind item same = absurd cc
 counted n (y ∷ items) [] behind item same = ⊎_elim
     (λ above. let out : up_to n (y ∷ items) ≡ up_to n items = rw (lt-leb y.number n above) refl in counted n items [] behind item (sym out ∙ same))
-    (λ within. let here : up_to n (y ∷ items) ≡ y ∷ up_to n items = rw (le-leb y.number n within) refl in let e : y ≡ item = cc (here, same) in omega (arith, within, ap (λ (i : Item). i.number) e))
+    (λ within. let here : up_to n (y ∷ items) ≡ y ∷ up_to n items = rw (le-leb y.number n within) refl in let e : y ≡ item = cc (here, same) in
+    omega (arith, within, ap (λ (i : Item). i.number) e))
     (cases_lt n y.number)
 counted n (y ∷ items) (x ∷ before) behind item same = ⊎_elim
     (λ above. let out : up_to n (y ∷ items) ≡ up_to n items = rw (lt-leb y.number n above) refl in counted n items (x ∷ before) behind item (sym out ∙ same))
-    (λ within. let here : up_to n (y ∷ items) ≡ y ∷ up_to n items = rw (le-leb y.number n within) refl in let e : up_to n items ≡ before ++ item ∷ behind = cc (here, same) in counted n items before behind item e)
+    (λ within. let here : up_to n (y ∷ items) ≡ y ∷ up_to n items = rw (le-leb y.number n within) refl in
+    let e : up_to n items ≡ before ++ item ∷ behind = cc (here, same) in counted n items before behind item e)
     (cases_lt n y.number)
 
-pub last_of_left : (story : Story) (given : Given) (pair : Pair) → IsLeftOf story given → given.life ≡ Building (Some pair) → IsLastCheckpoint story.items given.last pair ⊎ IsFirstCheckpoint story.began story.items given.last pair
+pub last_of_left : (story : Story) (given : Given) (pair : Pair) → IsLeftOf story given → given.life ≡ Building (Some pair)
+    → IsLastCheckpoint story.items given.last pair ⊎ IsFirstCheckpoint story.began story.items given.last pair
 last_of_left story given pair is building = ⊎_elim
     (λ all. inr all)
     (λ last. inl (record {

@@ -1,5 +1,6 @@
 -- Why a build comes to its end: an attempt leaves one entry above it less, or one free place less.
-use Rattle.std.proofs.Common.{Bool, List, None, Option, Some, [], ap, arith, cond, false, is_some, nat_le, refl, subst, sym, true, ℕ, ◌*◌, ◌+◌, ◌-◌, ◌<◌, ◌∙◌, ◌∷◌, ◌≡◌, ◌≤◌}
+use Rattle.std.proofs.Common.{Bool, List, None, Option, Some, [], ap, arith, cond, false, is_some, nat_le, refl, subst, sym, true, ℕ, ◌*◌, ◌+◌, ◌-◌, ◌<◌, ◌∙◌}
+use Rattle.std.proofs.Common.{◌∷◌, ◌≡◌, ◌≤◌}
 use Rattle.std.proofs.Math.Nat.{mul-le-mul_left}
 use Rattle.std.proofs.lemmas.Bool.{false≢true, le-leb}
 use Rattle.std.specs.Cmp.{tied_itself}
@@ -58,7 +59,8 @@ module _ (f g : Pair → Bool) (weaker : (q : Pair) → f q ≡ true → g q ≡
   fewer (e ∷ es) = weaker_test (f e.0) (g e.0) (passing f es) (passing g es) (weaker e.0) (fewer es)
 
   module _ (p : Pair) (out : f p ≡ false) (within : g p ≡ true) where
-    one_fewer_at : (e : Pair × Mark) (es : List (Pair × Mark)) (mark : Mark) → find pair_cmp p (e ∷ es) ≡ Some mark → (find pair_cmp p es ≡ Some mark → passing f es < passing g es) → (b : Bool) → eq_by_cmp pair_cmp p e.0 ≡ b → passing f (e ∷ es) < passing g (e ∷ es)
+    one_fewer_at : (e : Pair × Mark) (es : List (Pair × Mark)) (mark : Mark) → find pair_cmp p (e ∷ es) ≡ Some mark
+        → (find pair_cmp p es ≡ Some mark → passing f es < passing g es) → (b : Bool) → eq_by_cmp pair_cmp p e.0 ≡ b → passing f (e ∷ es) < passing g (e ∷ es)
     one_fewer_at e es mark found rest true is =
         let same : p ≡ e.0 = key_is pair_exact p e.0 is in
         less_here (f e.0) (g e.0) (passing f es) (passing g es) (ap f (sym same) ∙ out) (ap g (sym same) ∙ within) (fewer es)
@@ -71,7 +73,9 @@ module _ (f g : Pair → Bool) (weaker : (q : Pair) → f q ≡ true → g q ≡
     one_fewer (e ∷ es) mark found = one_fewer_at e es mark found (one_fewer es mark) (eq_by_cmp pair_cmp p e.0) refl
 
 -- an entry that is put in and doesn't pass adds none
-put_apart_at : (f : Pair → Bool) (p : Pair) (mark : Mark) → f p ≡ false → (e : Pair × Mark) (es : List (Pair × Mark)) → passing f (put pair_cmp p mark es) ≤ passing f es → (o : Ordering) → passing f (by_order o ((p, mark) ∷ e ∷ es) ((e.0, mark) ∷ es) (e ∷ put pair_cmp p mark es)) ≤ passing f (e ∷ es)
+put_apart_at : (f : Pair → Bool) (p : Pair) (mark : Mark) → f p ≡ false → (e : Pair × Mark) (es : List (Pair × Mark))
+    → passing f (put pair_cmp p mark es) ≤ passing f es → (o : Ordering)
+    → passing f (by_order o ((p, mark) ∷ e ∷ es) ((e.0, mark) ∷ es) (e ∷ put pair_cmp p mark es)) ≤ passing f (e ∷ es)
 put_apart_at f p mark out e es rest Less = subst (λ b. cond b 1 0 + passing f (e ∷ es) ≤ passing f (e ∷ es)) (sym out) (omega arith)
 put_apart_at f p mark out e es rest Equal = omega arith
 put_apart_at f p mark out e es rest Greater = weaker_test (f e.0) (f e.0) (passing f (put pair_cmp p mark es)) (passing f es) (λ t. t) rest
@@ -90,13 +94,15 @@ module _ (index : Index) (bound : Option Pair) (p : Pair) (rising : above bound 
   itself = ap is_lt (tied_itself pair_cmp_total p)
 
   put_in : (mark : Mark) → entries_above (insert index p mark) (Some p) ≤ passing (above (Some p)) (entries index)
-  put_in mark = subst (λ es. passing (above (Some p)) es ≤ passing (above (Some p)) (entries index)) (sym (entries-insert pair_cmp_total index p mark)) (put_apart (above (Some p)) p mark itself (entries index))
+  put_in mark = subst (λ es. passing (above (Some p)) es ≤ passing (above (Some p)) (entries index)) (sym (entries-insert pair_cmp_total index p mark))
+      (put_apart (above (Some p)) p mark itself (entries index))
 
   len_new : (mark : Mark) → len (insert index p mark) ≡ cond (is_some (get index p)) (len index) (len index + 1)
   len_new mark = len-insert pair_cmp_total index p mark
 
   attempt_falls_by : (places : ℕ) (o : Option Mark) → get index p ≡ o → (o ≡ None → len index < places)
-      → (places - len (set_at index p (after_action BuildPut o))) + entries_above (set_at index p (after_action BuildPut o)) (Some p) < (places - len index) + entries_above index bound
+      → (places - len (set_at index p (after_action BuildPut o))) + entries_above (set_at index p (after_action BuildPut o)) (Some p) <
+      (places - len index) + entries_above index bound
   attempt_falls_by places None none room =
       let longer : len (insert index p Live) ≡ len index + 1 = len_new Live ∙ ap (λ o. cond (is_some o) (len index) (len index + 1)) none in
       omega (arith, longer, room refl, put_in Live, fewer (above (Some p)) (above bound) passed (entries index))
@@ -105,13 +111,20 @@ module _ (index : Index) (bound : Option Pair) (p : Pair) (rising : above bound 
       omega (arith, same, put_in Live, one_fewer (above (Some p)) (above bound) passed p itself rising (entries index) Live (sym (get-entries index p) ∙ there))
   attempt_falls_by places (Some Marked) there room =
       let same : len (insert index p Marked) ≡ len index = len_new Marked ∙ ap (λ o. cond (is_some o) (len index) (len index + 1)) there in
-      omega (arith, same, put_in Marked, one_fewer (above (Some p)) (above bound) passed p itself rising (entries index) Marked (sym (get-entries index p) ∙ there))
+      omega (
+        arith,
+        same,
+        put_in Marked,
+        one_fewer (above (Some p)) (above bound) passed p itself rising (entries index) Marked (sym (get-entries index p)
+            ∙ there),
+      )
 
 -- ---- the work that is left
 
 -- the attempts that may come, each with a checkpoint and a taking of every page, and what comes before the next one
 abbrev pub work : (pages places : ℕ) → Index → Option Pair → (tried scanned : ℕ) → ℕ
-work pages places index bound tried scanned = (2 * pages + 2) * ((places - len index) + entries_above index bound) + (cond (nat_le ATTEMPTS_PER_CHECKPOINT tried) (pages + 1) 0 + (pages - scanned))
+work pages places index bound tried scanned = (2 * pages + 2) * ((places - len index) + entries_above index bound) +
+    (cond (nat_le ATTEMPTS_PER_CHECKPOINT tried) (pages + 1) 0 + (pages - scanned))
 
 fewer_attempts : (width less more extra rest : ℕ) → less < more → extra < width → width * less + extra < width * more + rest
 fewer_attempts width less more extra rest lt small = omega (arith, small, mul-le-mul_left width (suc_le less more lt))
@@ -129,9 +142,12 @@ module _ (pages places : ℕ) (index : Index) (bound : Option Pair) (tried scann
 
   pub mark_falls : ATTEMPTS_PER_CHECKPOINT ≤ tried → work pages places index bound 0 scanned < work pages places index bound tried scanned
   mark_falls many =
-      subst (λ b. (2 * pages + 2) * ((places - len index) + entries_above index bound) + (0 + (pages - scanned)) < (2 * pages + 2) * ((places - len index) + entries_above index bound) + (cond b (pages + 1) 0 + (pages - scanned)))
+      subst (λ b. (2 * pages + 2) * ((places - len index) + entries_above index bound) + (0 + (pages - scanned)) < (2 * pages + 2) *
+      ((places - len index) + entries_above index bound) + (cond b (pages + 1) 0 + (pages - scanned)))
       (sym (le-leb ATTEMPTS_PER_CHECKPOINT tried many)) (omega arith)
 
-  pub attempt_falls : (p : Pair) → above bound p ≡ true → (get index p ≡ None → len index < places) → work pages places (set_at index p (after_action BuildPut (get index p))) (Some p) (tried + 1) 0 < work pages places index bound tried scanned
+  pub attempt_falls : (p : Pair) → above bound p ≡ true → (get index p ≡ None → len index < places)
+      → work pages places (set_at index p (after_action BuildPut (get index p))) (Some p) (tried + 1) 0 < work pages places index bound tried scanned
   attempt_falls p rising room =
-      fewer_attempts (2 * pages + 2) _ _ _ _ (attempt_falls_by index bound p rising places (get index p) refl room) (omega (arith, at_most (nat_le ATTEMPTS_PER_CHECKPOINT (tried + 1)) (pages + 1)))
+      fewer_attempts (2 * pages + 2) _ _ _ _ (attempt_falls_by index bound p rising places (get index p) refl room)
+      (omega (arith, at_most (nat_le ATTEMPTS_PER_CHECKPOINT (tried + 1)) (pages + 1)))

@@ -1,5 +1,6 @@
 -- What a copy of the core is to the writer, and what is answered to it.
-use Rattle.std.proofs.Common.{[], ◌≡◌, ◌≢◌, ◌⊎◌, false, inl, inr, ℕ, ◌-◌, ◌/◌, ◌≤◌, ◌<◌, List, ◌++◌, Option, None, Some, IfSome, length, take, sym, ◌∙◌, ap, subst, arith, append-nil, ⊎_elim}
+use Rattle.std.proofs.Common.{[], ◌≡◌, ◌≢◌, ◌⊎◌, false, inl, inr, ℕ, ◌-◌, ◌/◌, ◌≤◌, ◌<◌, List, ◌++◌, Option, None, Some, IfSome, length, take, sym, ◌∙◌, ap}
+use Rattle.std.proofs.Common.{subst, arith, append-nil, ⊎_elim}
 use Rattle.std.proofs.lemmas.List.{take_all}
 use Rattle.records.specs.GeometryValue.{GeometryValue}
 use Rattle.records.specs.RecordValue.{RecordValue}
@@ -28,7 +29,8 @@ use Rattle.sector_device.specs.History.{History}
 use Rattle.store_writer.specs.Image.{IsUnderway}
 use Rattle.store_writer.specs.Parts as writer
 use Rattle.store_writer.specs.Places.{AreEntriesNow, AreRowsNow, IsAtPiece, IsAtPlace}
-use Rattle.store_writer.specs.Writer.{CanFlip, HasBegun, HasPiece, IsChunk, IsFlipReply, IsLogFull, IsEntriesChunk, IsPageChunk, IsStepReply, IsWholeChunk, IsWriter, MustStartAgain}
+use Rattle.store_writer.specs.Writer.{CanFlip, HasBegun, HasPiece, IsChunk, IsFlipReply, IsLogFull, IsEntriesChunk, IsPageChunk, IsStepReply, IsWholeChunk}
+use Rattle.store_writer.specs.Writer.{IsWriter, MustStartAgain}
 use Rattle.store_writer.specs.declared.image.Stage.TheVariants as stage
 use Rattle.store_writer.specs.declared.writer.FlipReply.TheVariants.{Flipped}
 use Rattle.store_writer.specs.declared.writer.StepReply.TheVariants.{StartAgain, Taken}
@@ -36,7 +38,8 @@ use Rattle.store_writer.specs.declared.image.NewImage.{NewImage}
 use Rattle.store_writer.specs.declared.writer.Writer.{Writer}
 use Rattle.txn_table.specs.Sound.{IsSound}
 use Rattle.restart.specs.declared.parts.Parts.{Parts}
-use Rattle.restart.specs.Copies.{CannotFlip, CannotTake, IsCopying, IsPieceDue, IsHalfOpen, IsPieceNow, MakesCurrent, MayFlip, TakesPiece, copies_left, copies_to_flip, left_at, next_place}
+use Rattle.restart.specs.Copies.{CannotFlip, CannotTake, IsCopying, IsPieceDue, IsHalfOpen, IsPieceNow, MakesCurrent, MayFlip, TakesPiece, copies_left}
+use Rattle.restart.specs.Copies.{copies_to_flip, left_at, next_place}
 use Rattle.image_model.specs.Places.{place_behind}
 use Rattle.restart.proofs.Fewer.{fewer_taken, flip_bounds, two_left}
 use Rattle.restart.proofs.Keeping.{keeps_same}
@@ -47,18 +50,23 @@ use Rattle.restart.specs.declared.copying.Copying.TheVariants.{GivenUp, Idle, St
 use Rattle.restart.specs.Store.{CanRun, StandsAt}
 
 -- a piece of an image that is there, at its place
-there : (pages : ℕ) (place : Option CopyPlace) (image : Option NewImage) → (image ≢ None) → (image ≡ None) ⊎ IsAtPlace pages place image → IsAtPlace pages place image
+there : (pages : ℕ) (place : Option CopyPlace) (image : Option NewImage) → (image ≢ None) → (image ≡ None) ⊎ IsAtPlace pages place image
+    → IsAtPlace pages place image
 there pages place image some either = ⊎_elim (λ none. absurd (some none)) (λ is. is) either
 
 not_none : (image : Option NewImage) (i : NewImage) → image ≡ Some i → image ≢ None
 not_none image i is none = cc
 
-module _ {D M : Type 0} (history : D → History) (run : Run) (handed : ℕ) (s : State) (k : Standing) (engine : Parts D M) (is : StandsAt history run handed s k engine) (sound : has_failed engine ≡ false) (txns : IsSound (core_of engine).txns)
-    (shown : (v : CoreValue) (s : State) (k : Standing) (cells : Cells) → IsSound v.txns → IsState v s k → HasCells s cells → HasLists s cells → IsCellsOf v cells)
+module _ {D M : Type 0} (history : D → History) (run : Run) (handed : ℕ) (s : State) (k : Standing) (engine : Parts D M)
+    (is : StandsAt history run handed s k engine) (sound : has_failed engine ≡ false) (txns : IsSound (core_of engine).txns)
+    (shown : (v : CoreValue) (s : State) (k : Standing) (cells : Cells) → IsSound v.txns → IsState v s k → HasCells s cells → HasLists s cells
+    → IsCellsOf v cells)
     (one : (v : CoreValue) (a b : Cells) → IsCellsOf v a → IsCellsOf v b → a ≡ b)
-    (page_next : (run : Run) (handed page : ℕ) (rows : Table) → IsWriter history run handed (writer_of engine) → has_failed engine ≡ false → end_of run ≤ LAST_NUMBER → IsAtPlace run.geometry.pages (Some (at.Page page)) (writer.image_of (writer_of engine))
+    (page_next : (run : Run) (handed page : ℕ) (rows : Table) → IsWriter history run handed (writer_of engine) → has_failed engine ≡ false
+    → end_of run ≤ LAST_NUMBER → IsAtPlace run.geometry.pages (Some (at.Page page)) (writer.image_of (writer_of engine))
     → AreRowsNow run page rows → (i : NewImage) → writer.image_of (writer_of engine) ≡ Some i → IsPageChunk run i (end_of run) page rows)
-    (entries_next : (run : Run) (handed : ℕ) (above : Option Pair) (entries : List (Pair × Mark)) → IsWriter history run handed (writer_of engine) → has_failed engine ≡ false → end_of run ≤ LAST_NUMBER → IsAtPlace run.geometry.pages (Some (at.Entries above)) (writer.image_of (writer_of engine))
+    (entries_next : (run : Run) (handed : ℕ) (above : Option Pair) (entries : List (Pair × Mark)) → IsWriter history run handed (writer_of engine)
+    → has_failed engine ≡ false → end_of run ≤ LAST_NUMBER → IsAtPlace run.geometry.pages (Some (at.Entries above)) (writer.image_of (writer_of engine))
     → AreEntriesNow run above entries → (i : NewImage) → writer.image_of (writer_of engine) ≡ Some i → IsEntriesChunk run i (end_of run) entries) where
   abbrev v : CoreValue
   v = core_of engine
@@ -91,13 +99,20 @@ module _ {D M : Type 0} (history : D → History) (run : Run) (handed : ℕ) (s 
   pub whole_chunk : {A : Type 0} (number : ℕ) (piece : Piece A) → number ≡ v.last → IsWholeOf v piece → IsChunk run (writer_of engine) number piece
   whole_chunk number (Whole copied) told of =
       subst (λ n. IsWholeChunk run (horizon_of engine) n (cells_of copied)) (sym (told ∙ last_is))
-      (record { late = late; made = omega arith; small = small; cells-are = one v (cells_of copied) cells of.0 cells_now; fits = of.1 run.geometry of_geometry })
+      (record {
+        late = late;
+        made = omega arith;
+        small = small;
+        cells-are = one v (cells_of copied) cells of.0 cells_now;
+        fits = of.1 run.geometry of_geometry;
+      })
   whole_chunk number (Start life lists) told of = absurd of
   whole_chunk number (Page page rows) told of = absurd of
   whole_chunk number (Entries entries) told of = absurd of
 
   -- piece by piece
-  pub next_chunk : {A : Type 0} (number : ℕ) (place : CopyPlace) (piece : Piece A) → number ≡ v.last → IsPieceDue run.geometry.pages place (writer.image_of (writer_of engine)) → IsPieceOf v cells place piece → IsChunk run (writer_of engine) number piece
+  pub next_chunk : {A : Type 0} (number : ℕ) (place : CopyPlace) (piece : Piece A) → number ≡ v.last
+      → IsPieceDue run.geometry.pages place (writer.image_of (writer_of engine)) → IsPieceOf v cells place piece → IsChunk run (writer_of engine) number piece
   next_chunk number at.Start (Start life lists) told due of = record {
     late = omega (arith, late, told, last_is);
     made = omega (arith, told, last_is);
@@ -110,12 +125,24 @@ module _ {D M : Type 0} (history : D → History) (run : Run) (handed : ℕ) (s 
   next_chunk number (at.Page page) (Page copied rows) told due of = λ image there_is.
       subst (λ n. IsPageChunk run image n copied rows) (sym (told ∙ last_is))
       (subst (λ p. IsPageChunk run image (end_of run) p rows) (sym of.0)
-      (page_next run handed page rows is.writer sound small (there run.geometry.pages (Some (at.Page page)) (writer.image_of (writer_of engine)) (not_none (writer.image_of (writer_of engine)) image there_is) due)
+      (page_next run handed page rows is.writer sound small
+      (there run.geometry.pages (Some (at.Page page)) (writer.image_of (writer_of engine))
+      (not_none (writer.image_of (writer_of engine)) image there_is) due)
       (record { rows-are = of.1.rows-are; slots = of.1.slots }) image there_is))
   next_chunk number (at.Entries above) (Entries entries) told due of = λ image there_is.
       subst (λ n. IsEntriesChunk run image n entries.items) (sym (told ∙ last_is))
-      (entries_next run handed above entries.items is.writer sound small (there run.geometry.pages (Some (at.Entries above)) (writer.image_of (writer_of engine)) (not_none (writer.image_of (writer_of engine)) image there_is) due)
-      (record { more = of.more; listed = of.listed; most = of.most; full = of.full; rest = of.rest; inside = λ i e found. subst (λ n. e.0.rid.page < n) pages_are (of.inside i e found) })
+      (entries_next run handed above entries.items is.writer sound small
+      (there run.geometry.pages (Some (at.Entries above)) (writer.image_of (writer_of engine))
+      (not_none (writer.image_of (writer_of engine)) image there_is) due)
+      (record {
+        more = of.more;
+        listed = of.listed;
+        most = of.most;
+        full = of.full;
+        rest = of.rest;
+        inside = λ i e found.
+            subst (λ n. e.0.rid.page < n) pages_are (of.inside i e found);
+      })
       image there_is)
   next_chunk number at.Start (Whole copied) told due of = absurd of
   next_chunk number at.Start (Page page rows) told due of = absurd of
@@ -127,8 +154,11 @@ module _ {D M : Type 0} (history : D → History) (run : Run) (handed : ℕ) (s 
   next_chunk number (at.Entries above) (Start life lists) told due of = absurd of
   next_chunk number (at.Entries above) (Page page rows) told due of = absurd of
 
-  pub next_of : {A : Type 0} (number : ℕ) (place : CopyPlace) (piece : Piece A) → number ≡ v.last → IsPieceDue engine.geometry.pages place (writer.image_of (writer_of engine)) → ((cells : Cells) → IsCellsOf v cells → IsPieceOf v cells place piece) → IsChunk run (writer_of engine) number piece
-  next_of number place piece told due of = next_chunk number place piece told (subst (λ (x : GeometryValue). IsPieceDue x.pages place (writer.image_of (writer_of engine))) is.geometry due) (of cells cells_now)
+  pub next_of : {A : Type 0} (number : ℕ) (place : CopyPlace) (piece : Piece A) → number ≡ v.last
+      → IsPieceDue engine.geometry.pages place (writer.image_of (writer_of engine)) → ((cells : Cells) → IsCellsOf v cells → IsPieceOf v cells place piece)
+      → IsChunk run (writer_of engine) number piece
+  next_of number place piece told due of = next_chunk number place piece told
+      (subst (λ (x : GeometryValue). IsPieceDue x.pages place (writer.image_of (writer_of engine))) is.geometry due) (of cells cells_now)
 
 -- where the copying goes on its piece is due
 pub due_there : (pages : ℕ) (place : CopyPlace) (image : Option NewImage) → IsCopying pages (Steps (Some place)) image → IsPieceDue pages place image
@@ -136,7 +166,8 @@ due_there pages at.Start image is = tt
 due_there pages (at.Page page) image is = is
 due_there pages (at.Entries above) image is = is
 
-pub due_now : {D M : Type 0} (history : D → History) (engine : Parts D M) (place : CopyPlace) → CanRun history engine → has_failed engine ≡ false → engine.copying ≡ Steps (Some place) → IsPieceDue engine.geometry.pages place (writer.image_of (writer_of engine))
+pub due_now : {D M : Type 0} (history : D → History) (engine : Parts D M) (place : CopyPlace) → CanRun history engine → has_failed engine ≡ false
+    → engine.copying ≡ Steps (Some place) → IsPieceDue engine.geometry.pages place (writer.image_of (writer_of engine))
 due_now history engine place can sound copying =
     let is : StandsAt history can.0 can.1 can.2 can.3 engine = can.4 in
     due_there engine.geometry.pages place (writer.image_of (writer_of engine))
@@ -144,11 +175,14 @@ due_now history engine place can sound copying =
     (subst (λ (x : GeometryValue). IsCopying x.pages engine.copying (writer.image_of (writer_of engine))) (sym is.geometry) (is.copying sound)))
 
 -- a piece that is taken comes where the copying is
-pub at_piece : {A D M : Type 0} (v : CoreValue) (cells : Cells) (w : Writer D M) (pages : ℕ) (place : CopyPlace) (piece : Piece A) → IsPieceOf v cells place piece → IsPieceDue pages place (writer.image_of w) → ¬ MustStartAgain piece w → IsAtPiece pages piece (writer.image_of w)
+pub at_piece : {A D M : Type 0} (v : CoreValue) (cells : Cells) (w : Writer D M) (pages : ℕ) (place : CopyPlace) (piece : Piece A)
+    → IsPieceOf v cells place piece → IsPieceDue pages place (writer.image_of w) → ¬ MustStartAgain piece w → IsAtPiece pages piece (writer.image_of w)
 at_piece v cells w pages at.Start (Start life lists) of due taken = tt
 at_piece v cells w pages (at.Page page) (Page copied rows) of due taken =
-    subst (λ p. IsAtPlace pages (Some (at.Page p)) (writer.image_of w)) (sym of.0) (there pages (Some (at.Page page)) (writer.image_of w) (λ none. taken (inl none)) due)
-at_piece v cells w pages (at.Entries above) (Entries entries) of due taken = (above, there pages (Some (at.Entries above)) (writer.image_of w) (λ none. taken (inl none)) due)
+    subst (λ p. IsAtPlace pages (Some (at.Page p)) (writer.image_of w)) (sym of.0)
+    (there pages (Some (at.Page page)) (writer.image_of w) (λ none. taken (inl none)) due)
+at_piece v cells w pages (at.Entries above) (Entries entries) of due taken =
+    (above, there pages (Some (at.Entries above)) (writer.image_of w) (λ none. taken (inl none)) due)
 at_piece v cells w pages at.Start (Whole copied) of due taken = absurd of
 at_piece v cells w pages at.Start (Page page rows) of due taken = absurd of
 at_piece v cells w pages at.Start (Entries entries) of due taken = absurd of
@@ -162,17 +196,23 @@ at_piece v cells w pages (at.Entries above) (Page page rows) of due taken = absu
 -- what the layers below say of a copy of this core and of this writer
 pub record CopyLaws {D M : Type 0} (history : D → History) (engine : Parts D M) : Type 0 where
   pub txns : IsSound (core_of engine).txns
-  pub shown : (v : CoreValue) (s : State) (k : Standing) (cells : Cells) → IsSound v.txns → IsState v s k → HasCells s cells → HasLists s cells → IsCellsOf v cells
+  pub shown : (v : CoreValue) (s : State) (k : Standing) (cells : Cells) → IsSound v.txns → IsState v s k → HasCells s cells → HasLists s cells
+      → IsCellsOf v cells
   pub one : (v : CoreValue) (a b : Cells) → IsCellsOf v a → IsCellsOf v b → a ≡ b
-  pub page : (run : Run) (handed page : ℕ) (rows : Table) → IsWriter history run handed (writer_of engine) → has_failed engine ≡ false → end_of run ≤ LAST_NUMBER → IsAtPlace run.geometry.pages (Some (at.Page page)) (writer.image_of (writer_of engine))
+  pub page : (run : Run) (handed page : ℕ) (rows : Table) → IsWriter history run handed (writer_of engine) → has_failed engine ≡ false
+      → end_of run ≤ LAST_NUMBER → IsAtPlace run.geometry.pages (Some (at.Page page)) (writer.image_of (writer_of engine))
       → AreRowsNow run page rows → (i : NewImage) → writer.image_of (writer_of engine) ≡ Some i → IsPageChunk run i (end_of run) page rows
-  pub entries : (run : Run) (handed : ℕ) (above : Option Pair) (entries : List (Pair × Mark)) → IsWriter history run handed (writer_of engine) → has_failed engine ≡ false → end_of run ≤ LAST_NUMBER → IsAtPlace run.geometry.pages (Some (at.Entries above)) (writer.image_of (writer_of engine))
+  pub entries : (run : Run) (handed : ℕ) (above : Option Pair) (entries : List (Pair × Mark)) → IsWriter history run handed (writer_of engine)
+      → has_failed engine ≡ false → end_of run ≤ LAST_NUMBER → IsAtPlace run.geometry.pages (Some (at.Entries above)) (writer.image_of (writer_of engine))
       → AreEntriesNow run above entries → (i : NewImage) → writer.image_of (writer_of engine) ≡ Some i → IsEntriesChunk run i (end_of run) entries
 
 -- a piece leaves the log of its image as it is, and the first one has none
-taken_open : {A D M : Type 0} (slots number : ℕ) (piece : Piece A) (old new : Writer D M) → IsStepReply number piece Taken old new → IsHalfOpen slots old.image → IsHalfOpen slots new.image
-taken_open slots number (Whole cells) old new is was i there = let same : is.1.0 ≡ i = cc (is.1.1.0, there) in omega (arith, ap (λ (x : NewImage). x.log.open_slots) (sym same) ∙ is.1.2.3)
-taken_open slots number (Start life lists) old new is was i there = let same : is.1.0 ≡ i = cc (is.1.1.0, there) in omega (arith, ap (λ (x : NewImage). x.log.open_slots) (sym same) ∙ is.1.2.3)
+taken_open : {A D M : Type 0} (slots number : ℕ) (piece : Piece A) (old new : Writer D M) → IsStepReply number piece Taken old new → IsHalfOpen slots old.image
+    → IsHalfOpen slots new.image
+taken_open slots number (Whole cells) old new is was i there = let same : is.1.0 ≡ i = cc (is.1.1.0, there) in
+    omega (arith, ap (λ (x : NewImage). x.log.open_slots) (sym same) ∙ is.1.2.3)
+taken_open slots number (Start life lists) old new is was i there = let same : is.1.0 ≡ i = cc (is.1.1.0, there) in
+    omega (arith, ap (λ (x : NewImage). x.log.open_slots) (sym same) ∙ is.1.2.3)
 taken_open slots number (Page page rows) old new (may, (image, kept, (from, count, highest, life, from_is, at_stage, is))) was i there =
     let same : image ≡ i = cc (kept.0, there) in
     let level : i.log.open_slots ≡ from.log.open_slots = ap (λ (x : NewImage). x.log.open_slots) (sym same ∙ is) in
@@ -183,20 +223,27 @@ taken_open slots number (Entries entries) old new (may, (image, kept, (from, pag
     omega (arith, level, was from from_is)
 
 -- the next piece, whatever run the engine is of
-module _ {A D M : Type 0} (history : D → History) (engine : Parts D M) (laws : CopyLaws history engine) (sound : has_failed engine ≡ false) (number : ℕ) (place : CopyPlace) (piece : Piece A) (told : number ≡ (core_of engine).last)
-    (due : IsPieceDue engine.geometry.pages place (writer.image_of (writer_of engine))) (of : (cells : Cells) → IsCellsOf (core_of engine) cells → IsPieceOf (core_of engine) cells place piece) where
+module _ {A D M : Type 0} (history : D → History) (engine : Parts D M) (laws : CopyLaws history engine) (sound : has_failed engine ≡ false) (number : ℕ)
+    (place : CopyPlace) (piece : Piece A) (told : number ≡ (core_of engine).last)
+    (due : IsPieceDue engine.geometry.pages place (writer.image_of (writer_of engine))) (of : (cells : Cells) → IsCellsOf (core_of engine) cells
+    → IsPieceOf (core_of engine) cells place piece) where
   pub piece_is : (run : Run) (handed : ℕ) (s : State) (k : Standing) → StandsAt history run handed s k engine → IsChunk run (writer_of engine) number piece
-  piece_is run handed s k is = next_of history run handed s k engine is sound laws.txns laws.shown laws.one laws.page laws.entries number place piece told due of
+  piece_is run handed s k is = next_of history run handed s k engine is sound laws.txns laws.shown laws.one laws.page laws.entries number place piece told due
+      of
 
   -- and where the copying goes on behind it
-  module _ (new : Parts D M) (size : new.geometry ≡ engine.geometry) (can : CanRun history engine) (behind : Option CopyPlace) (copying : new.copying ≡ Steps behind) (behind_is : behind ≡ place_behind engine.geometry.pages piece) (told_taken : IsStepReply number piece Taken (writer_of engine) (writer_of new))
-      (goes : (pages : ℕ) → pages ≡ (writer.halves_of (writer_of engine)).geometry.pages → IsAtPiece pages piece (writer.image_of (writer_of engine)) → IsAtPlace pages (place_behind pages piece) (writer.image_of (writer_of new))) where
+  module _ (new : Parts D M) (size : new.geometry ≡ engine.geometry) (can : CanRun history engine) (behind : Option CopyPlace)
+      (copying : new.copying ≡ Steps behind) (behind_is : behind ≡ place_behind engine.geometry.pages piece)
+      (told_taken : IsStepReply number piece Taken (writer_of engine) (writer_of new))
+      (goes : (pages : ℕ) → pages ≡ (writer.halves_of (writer_of engine)).geometry.pages → IsAtPiece pages piece (writer.image_of (writer_of engine))
+      → IsAtPlace pages (place_behind pages piece) (writer.image_of (writer_of new))) where
     pub stays_taken : StaysAtPlace engine new
     stays_taken = record {
       geometry = size;
       place = λ was after. subst (λ c. IsCopying engine.geometry.pages c (writer.image_of (writer_of new))) (sym copying)
           (inr (subst (λ b. IsAtPlace engine.geometry.pages b (writer.image_of (writer_of new))) (sym behind_is)
-          (goes engine.geometry.pages pages_same (at_piece (core_of engine) (cells_at can.0 (end_of can.0)) (writer_of engine) engine.geometry.pages place piece of_now due told_taken.0))));
+          (goes engine.geometry.pages pages_same (at_piece (core_of engine) (cells_at can.0 (end_of can.0))
+          (writer_of engine) engine.geometry.pages place piece of_now due told_taken.0))));
       carried = λ was _. taken_open engine.geometry.slots number piece (writer_of engine) (writer_of new) told_taken (was sound);
     }
       where
@@ -204,13 +251,15 @@ module _ {A D M : Type 0} (history : D → History) (engine : Parts D M) (laws :
         is = can.4
 
         of_now : IsPieceOf (core_of engine) (cells_at can.0 (end_of can.0)) place piece
-        of_now = of (cells_at can.0 (end_of can.0)) (cells_now history can.0 can.1 can.2 can.3 engine is sound laws.txns laws.shown laws.one laws.page laws.entries)
+        of_now = of (cells_at can.0 (end_of can.0))
+            (cells_now history can.0 can.1 can.2 can.3 engine is sound laws.txns laws.shown laws.one laws.page laws.entries)
 
         pages_same : engine.geometry.pages ≡ (writer.halves_of (writer_of engine)).geometry.pages
         pages_same = ap (λ (x : GeometryValue). x.pages) (is.geometry ∙ sym is.writer.geometry-is)
 
 -- all at once, whatever run the engine is of
-module _ {A D M : Type 0} (history : D → History) (engine : Parts D M) (laws : CopyLaws history engine) (sound : has_failed engine ≡ false) (number : ℕ) (piece : Piece A) (told : number ≡ (core_of engine).last) (of : IsWholeOf (core_of engine) piece) where
+module _ {A D M : Type 0} (history : D → History) (engine : Parts D M) (laws : CopyLaws history engine) (sound : has_failed engine ≡ false) (number : ℕ)
+    (piece : Piece A) (told : number ≡ (core_of engine).last) (of : IsWholeOf (core_of engine) piece) where
   pub whole_is : (run : Run) (handed : ℕ) (s : State) (k : Standing) → StandsAt history run handed s k engine → IsChunk run (writer_of engine) number piece
   whole_is run handed s k is = whole_chunk history run handed s k engine is sound laws.txns laws.shown laws.one laws.page laws.entries number piece told of
 
@@ -218,7 +267,9 @@ module _ {A D M : Type 0} (history : D → History) (engine : Parts D M) (laws :
 
 module _ {D M : Type 0} (old new : Parts D M) (number : ℕ) (place : CopyPlace) (piece : Piece M) where
   -- it was taken
-  pub takes_piece : number ≡ (core_of old).last → next_place old.copying ≡ Some place → IsPieceNow (core_of old) place piece → IsStepReply number piece Taken (writer_of old) (writer_of new) → new.copying ≡ Steps (place_behind old.geometry.pages piece) → horizon_of new ≡ horizon_of old
+  pub takes_piece : number ≡ (core_of old).last → next_place old.copying ≡ Some place → IsPieceNow (core_of old) place piece
+      → IsStepReply number piece Taken (writer_of old) (writer_of new) → new.copying ≡ Steps (place_behind old.geometry.pages piece)
+      → horizon_of new ≡ horizon_of old
       → TakesPiece old new
   takes_piece told next of is behind level = record {
     place = place;
@@ -236,7 +287,8 @@ module _ {D M : Type 0} (old new : Parts D M) (number : ℕ) (place : CopyPlace)
   }
 
   -- or it couldn't be
-  pub cannot_take : next_place old.copying ≡ Some place → IsPieceNow (core_of old) place piece → IsStepReply number piece StartAgain (writer_of old) (writer_of new) → CannotTake old new
+  pub cannot_take : next_place old.copying ≡ Some place → IsPieceNow (core_of old) place piece
+      → IsStepReply number piece StartAgain (writer_of old) (writer_of new) → CannotTake old new
   cannot_take next of is = record {
     place = place;
     next = next;
@@ -247,10 +299,14 @@ module _ {D M : Type 0} (old new : Parts D M) (number : ℕ) (place : CopyPlace)
   }
 
 -- fewer copies are left behind a piece
-pub fewer_now : {D M : Type 0} (history : D → History) (old new : Parts D M) (laws : CopyLaws history old) (sound : has_failed old ≡ false) (number : ℕ) (place : CopyPlace) (piece : Piece M) → number ≡ (core_of old).last → IsPieceDue old.geometry.pages place (writer.image_of (writer_of old))
-    → IsPieceNow (core_of old) place piece → next_place old.copying ≡ Some place → (can : CanRun history old) → IsStepReply number piece Taken (writer_of old) (writer_of new) → new.copying ≡ Steps (place_behind old.geometry.pages piece) → new.geometry ≡ old.geometry → core_of new ≡ core_of old → copies_left new < copies_left old
+pub fewer_now : {D M : Type 0} (history : D → History) (old new : Parts D M) (laws : CopyLaws history old) (sound : has_failed old ≡ false) (number : ℕ)
+    (place : CopyPlace) (piece : Piece M) → number ≡ (core_of old).last → IsPieceDue old.geometry.pages place (writer.image_of (writer_of old))
+    → IsPieceNow (core_of old) place piece → next_place old.copying ≡ Some place → (can : CanRun history old)
+    → IsStepReply number piece Taken (writer_of old) (writer_of new) → new.copying ≡ Steps (place_behind old.geometry.pages piece)
+    → new.geometry ≡ old.geometry → core_of new ≡ core_of old → copies_left new < copies_left old
 fewer_now history old new laws sound number place piece told due of next can is behind size same =
-    subst (λ n. n < copies_left old) (sym now) (fewer_taken old.geometry (core_of old).last number is.1.0 (writer_of old) size_is (core_of old) cells old.copying place piece next (of cells cells_are) told due is.0 is.1.2)
+    subst (λ n. n < copies_left old) (sym now) (fewer_taken old.geometry (core_of old).last number is.1.0 (writer_of old) size_is
+    (core_of old) cells old.copying place piece next (of cells cells_are) told due is.0 is.1.2)
   where
     stands : StandsAt history can.0 can.1 can.2 can.3 old
     stands = can.4
@@ -272,12 +328,14 @@ fewer_now history old new laws sound number place piece told due of next can is 
         ∙ ap (left_at old.geometry (core_of old).last (Some is.1.0)) behind
 
 -- where the writer has every record, they are all handed in
-pub all_handed : {D M : Type 0} (history : D → History) (run : Run) (handed : ℕ) (s : State) (k : Standing) (engine : Parts D M) → StandsAt history run handed s k engine → unhanded engine ≡ [] → end_of run ≤ handed
+pub all_handed : {D M : Type 0} (history : D → History) (run : Run) (handed : ℕ) (s : State) (k : Standing) (engine : Parts D M)
+    → StandsAt history run handed s k engine → unhanded engine ≡ [] → end_of run ≤ handed
 all_handed history run handed s k engine is all =
     omega (arith, is.writer.made, count_to_end run handed (omega (arith, is.writer.opened, is.writer.reached)), ap length (is.rest ∙ all))
 
 -- a whole image that was just taken may be made current
-pub may_flip : {A D M : Type 0} (v : CoreValue) (handed number : ℕ) (piece : Piece A) (old mid : Writer D M) → IsWholeOf v piece → IsStepReply number piece Taken old mid → number ≤ handed → CanFlip handed mid
+pub may_flip : {A D M : Type 0} (v : CoreValue) (handed number : ℕ) (piece : Piece A) (old mid : Writer D M) → IsWholeOf v piece
+    → IsStepReply number piece Taken old mid → number ≤ handed → CanFlip handed mid
 may_flip v handed number (Whole cells) old mid of is within =
     let image : NewImage = is.1.0 in
     let kept = is.1.1 in
@@ -288,21 +346,24 @@ may_flip v handed number (Page page rows) old mid of is within = absurd of
 may_flip v handed number (Entries entries) old mid of is within = absurd of
 
 -- and is always taken
-pub is_taken : {A D M : Type 0} (v : CoreValue) (number : ℕ) (piece : Piece A) (old mid : Writer D M) → IsWholeOf v piece → IsStepReply number piece StartAgain old mid → ⊥
+pub is_taken : {A D M : Type 0} (v : CoreValue) (number : ℕ) (piece : Piece A) (old mid : Writer D M) → IsWholeOf v piece
+    → IsStepReply number piece StartAgain old mid → ⊥
 is_taken v number (Whole cells) old mid of is = is.1
 is_taken v number (Start life lists) old mid of is = of
 is_taken v number (Page page rows) old mid of is = of
 is_taken v number (Entries entries) old mid of is = of
 
 -- its log is empty
-pub whole_empty : {A D M : Type 0} (v : CoreValue) (number : ℕ) (piece : Piece A) (old mid : Writer D M) → IsWholeOf v piece → (is : IsStepReply number piece Taken old mid) → is.1.0.log.open_slots ≡ 0
+pub whole_empty : {A D M : Type 0} (v : CoreValue) (number : ℕ) (piece : Piece A) (old mid : Writer D M) → IsWholeOf v piece
+    → (is : IsStepReply number piece Taken old mid) → is.1.0.log.open_slots ≡ 0
 whole_empty v number (Whole cells) old mid of is = is.1.2.3
 whole_empty v number (Start life lists) old mid of is = absurd of
 whole_empty v number (Page page rows) old mid of is = absurd of
 whole_empty v number (Entries entries) old mid of is = absurd of
 
 -- and its base is the number of the last record made
-pub whole_base : {A D M : Type 0} (v : CoreValue) (number : ℕ) (piece : Piece A) (old mid : Writer D M) → IsWholeOf v piece → (is : IsStepReply number piece Taken old mid) → is.1.0.base ≡ number
+pub whole_base : {A D M : Type 0} (v : CoreValue) (number : ℕ) (piece : Piece A) (old mid : Writer D M) → IsWholeOf v piece
+    → (is : IsStepReply number piece Taken old mid) → is.1.0.base ≡ number
 whole_base v number (Whole cells) old mid of is = is.1.2.0
 whole_base v number (Start life lists) old mid of is = absurd of
 whole_base v number (Page page rows) old mid of is = absurd of
@@ -310,20 +371,32 @@ whole_base v number (Entries entries) old mid of is = absurd of
 
 -- ---- an image that can't be made current
 
-module _ {D M : Type 0} (history : D → History) (run : Run) (handed : ℕ) (s : State) (k : Standing) (engine : Parts D M) (is : StandsAt history run handed s k engine) (sound : has_failed engine ≡ false) (all : unhanded engine ≡ []) (cannot : ¬ CanFlip handed (writer_of engine)) where
+module _ {D M : Type 0} (history : D → History) (run : Run) (handed : ℕ) (s : State) (k : Standing) (engine : Parts D M)
+    (is : StandsAt history run handed s k engine) (sound : has_failed engine ≡ false) (all : unhanded engine ≡ [])
+    (cannot : ¬ CanFlip handed (writer_of engine)) where
   -- its number is of a record that was made
   made_up_to : (i : NewImage) → writer.image_of (writer_of engine) ≡ Some i → i.number ≤ end_of run
   made_up_to i there_is =
-      let under : IsUnderway run (other (writer.halves_of (writer_of engine)).current) (history (writer.device_of (writer_of engine))).disk.content (horizon_of engine) i =
-      subst (λ (o : Option NewImage). IfSome o (IsUnderway run (other (writer.halves_of (writer_of engine)).current) (history (writer.device_of (writer_of engine))).disk.content (horizon_of engine))) there_is (is.writer.holds sound).image in
+      let under : IsUnderway run (other (writer.halves_of (writer_of engine)).current) (history (writer.device_of (writer_of engine))).disk.content
+      (horizon_of engine) i =
+      subst (λ (o : Option NewImage).
+      IfSome o (IsUnderway run (other (writer.halves_of (writer_of engine)).current) (history (writer.device_of (writer_of engine))).disk.content
+      (horizon_of engine))) there_is (is.writer.holds sound).image in
       under.made
 
   pub may_not_flip : ¬ MayFlip (writer_of engine)
-  may_not_flip (i, there_is, whole, reached) = cannot (i, there_is, whole, omega (arith, made_up_to i there_is, all_handed history run handed s k engine is all), reached)
+  may_not_flip (i, there_is, whole, reached) = cannot (
+    i,
+    there_is,
+    whole,
+    omega (arith, made_up_to i there_is, all_handed history run handed s k engine is all),
+    reached,
+  )
 
   -- so two copies are left
   pub two_to_flip : engine.copying ≡ Steps None → 2 ≤ copies_left engine
-  two_to_flip whole = subst (λ n. 2 ≤ n) (sym (ap (left_at engine.geometry (core_of engine).last (writer.image_of (writer_of engine))) whole)) (two_left (core_of engine).last (writer.image_of (writer_of engine)) none)
+  two_to_flip whole = subst (λ n. 2 ≤ n) (sym (ap (left_at engine.geometry (core_of engine).last (writer.image_of (writer_of engine))) whole))
+      (two_left (core_of engine).last (writer.image_of (writer_of engine)) none)
     where
       at_end : (writer.image_of (writer_of engine) ≡ None) ⊎ IsAtPlace run.geometry.pages None (writer.image_of (writer_of engine))
       at_end = subst (λ c. IsCopying run.geometry.pages c (writer.image_of (writer_of engine))) whole (is.copying sound)
@@ -333,14 +406,22 @@ module _ {D M : Type 0} (history : D → History) (run : Run) (handed : ℕ) (s 
           (λ gone. not_none (writer.image_of (writer_of engine)) i there_is gone)
           (λ at_place.
           let same : at_place.0 ≡ i = cc (there_is, at_place.1) in
-          may_not_flip (i, there_is, ap (λ (x : NewImage). x.stage) (sym same) ∙ at_place.2, omega (arith, late, made_up_to i there_is, is.made, is.shown.shown.made)))
+          may_not_flip (
+            i,
+            there_is,
+            ap (λ (x : NewImage). x.stage) (sym same)
+                ∙ at_place.2,
+            omega (arith, late, made_up_to i there_is, is.made, is.shown.shown.made),
+          ))
           at_end
 
 -- ---- an image that is current
 
 module _ {D M : Type 0} (old new : Parts D M) where
   -- it was copied in steps
-  pub flip_current : (handed n : ℕ) → IsFlipReply handed (Flipped n) (writer_of old) (writer_of new) → (writer.halves_of (writer_of old)).geometry.slots ≡ old.geometry.slots → IsHalfOpen old.geometry.slots (writer.image_of (writer_of old)) → old.copying ≡ Steps None → new.copying ≡ Idle → MakesCurrent old new
+  pub flip_current : (handed n : ℕ) → IsFlipReply handed (Flipped n) (writer_of old) (writer_of new)
+      → (writer.halves_of (writer_of old)).geometry.slots ≡ old.geometry.slots → IsHalfOpen old.geometry.slots (writer.image_of (writer_of old))
+      → old.copying ≡ Steps None → new.copying ≡ Idle → MakesCurrent old new
   flip_current handed n flipped size half_open whole idle = record {
     whole = ap next_place whole;
     turned = flipped.5.halves-are;
@@ -349,7 +430,8 @@ module _ {D M : Type 0} (old new : Parts D M) where
     room =
         let image = flipped.2.0 in
         let log_is : (writer.log_of (writer_of new)).open_slots ≡ image.log.open_slots = ap (λ (l : Log). l.open_slots) (flipped.5.log-is image flipped.2.1) in
-        let slots_is : (writer.halves_of (writer_of new)).geometry.slots / 2 ≡ old.geometry.slots / 2 = ap (λ h. h.geometry.slots / 2) flipped.5.halves-are ∙ ap (λ n. n / 2) size in
+        let slots_is : (writer.halves_of (writer_of new)).geometry.slots / 2 ≡ old.geometry.slots / 2 = ap (λ h. h.geometry.slots / 2) flipped.5.halves-are
+        ∙ ap (λ n. n / 2) size in
         omega (arith, log_is, slots_is, half_open image flipped.2.1);
     no-group = λ _ may image there. record { log = flipped.5.log-is image there; reached = sym flipped.0 ∙ flipped.3 image there };
     emptied = λ given. absurd (stepped given);
@@ -362,11 +444,13 @@ module _ {D M : Type 0} (old new : Parts D M) where
   -- as many copies are left at most while groups are written
   pub few_behind : old.copying ≡ Steps None → new.copying ≡ Steps None → 2 ≤ copies_left old → copies_left new ≤ copies_left old
   few_behind whole still two =
-      let now : copies_left new ≡ copies_to_flip (core_of new).last (writer.image_of (writer_of new)) = ap (left_at new.geometry (core_of new).last (writer.image_of (writer_of new))) still in
+      let now : copies_left new ≡ copies_to_flip (core_of new).last (writer.image_of (writer_of new)) =
+      ap (left_at new.geometry (core_of new).last (writer.image_of (writer_of new))) still in
       omega (arith, now, two, (flip_bounds (core_of new).last (writer.image_of (writer_of new))).0)
 
   -- it can't be, and no group more can be written
-  pub cannot_flip : old.copying ≡ Steps None → unhanded new ≡ [] → writer_of new ≡ writer_of old → ¬ MayFlip (writer_of old) → (writer.waiting_of (writer_of new) ≡ []) ⊎ (IsLogFull (writer_of new) × (writer.waiting_of (writer_of new) ≢ [])) → CannotFlip old new
+  pub cannot_flip : old.copying ≡ Steps None → unhanded new ≡ [] → writer_of new ≡ writer_of old → ¬ MayFlip (writer_of old)
+      → (writer.waiting_of (writer_of new) ≡ []) ⊎ (IsLogFull (writer_of new) × (writer.waiting_of (writer_of new) ≢ [])) → CannotFlip old new
   cannot_flip whole all same cannot why = record {
     whole = whole;
     could-not = cannot;
@@ -379,14 +463,16 @@ module _ {D M : Type 0} (old new : Parts D M) where
       waits = ap (λ (l : List RecordValue). writer.waiting_of (writer_of new) ++ l) all ∙ append-nil (writer.waiting_of (writer_of new))
 
   -- it was taken at once, and has every record made
-  module _ {A : Type 0} (v : CoreValue) (mid : Writer D M) (handed number n : ℕ) (piece : Piece A) (of : IsWholeOf v piece) (taken : IsStepReply number piece Taken (writer_of old) mid) (flipped : IsFlipReply handed (Flipped n) mid (writer_of new)) where
+  module _ {A : Type 0} (v : CoreValue) (mid : Writer D M) (handed number n : ℕ) (piece : Piece A) (of : IsWholeOf v piece)
+      (taken : IsStepReply number piece Taken (writer_of old) mid) (flipped : IsFlipReply handed (Flipped n) mid (writer_of new)) where
     pub whole_current : old.copying ≡ GivenUp → new.copying ≡ Idle → unwritten new ≡ [] → MakesCurrent old new
     whole_current given idle all = record {
       whole = ap next_place given;
       turned = flipped.5.halves-are ∙ ap (λ h. record { geometry = h.geometry; current = other h.current }) taken.1.1.1;
       none = flipped.4;
       idle = idle;
-      room = let none : (writer.log_of (writer_of new)).open_slots ≡ 0 = ap (λ (l : Log). l.open_slots) (flipped.5.log-is taken.1.0 taken.1.1.0) ∙ whole_empty v number piece (writer_of old) mid of taken in omega (arith, none);
+      room = let none : (writer.log_of (writer_of new)).open_slots ≡ 0 = ap (λ (l : Log). l.open_slots) (flipped.5.log-is taken.1.0 taken.1.1.0)
+          ∙ whole_empty v number piece (writer_of old) mid of taken in omega (arith, none);
       no-group = λ steps. absurd (stepped steps);
       emptied = λ _. ap (λ (l : Log). l.open_slots) (flipped.5.log-is taken.1.0 taken.1.1.0) ∙ whole_empty v number piece (writer_of old) mid of taken;
       all = λ _. all;
@@ -399,7 +485,9 @@ module _ {D M : Type 0} (old new : Parts D M) where
     whole_synced = omega (arith, flipped.0, flipped.3 taken.1.0 taken.1.1.0, whole_base v number piece (writer_of old) mid of taken)
 
 -- where all records are synced, none waits
-pub none_unwritten : {D M : Type 0} (history : D → History) (run : Run) (handed : ℕ) (engine : Parts D M) → IsWriter history run handed (writer_of engine) → handed ≤ horizon_of engine → unhanded engine ≡ [] → unwritten engine ≡ []
+pub none_unwritten : {D M : Type 0} (history : D → History) (run : Run) (handed : ℕ) (engine : Parts D M) → IsWriter history run handed (writer_of engine)
+    → handed ≤ horizon_of engine → unhanded engine ≡ [] → unwritten engine ≡ []
 none_unwritten history run handed engine is reached all =
     let none : handed - horizon_of engine ≡ 0 = omega (arith, reached) in
-    ap (λ (l : List RecordValue). writer.waiting_of (writer_of engine) ++ l) all ∙ append-nil (writer.waiting_of (writer_of engine)) ∙ is.waits ∙ ap (λ n. take n (records_above run (horizon_of engine))) none
+    ap (λ (l : List RecordValue). writer.waiting_of (writer_of engine) ++ l) all ∙ append-nil (writer.waiting_of (writer_of engine)) ∙ is.waits
+    ∙ ap (λ n. take n (records_above run (horizon_of engine))) none

@@ -18,8 +18,10 @@ use Rattle.restart.specs.Store.{CanRun, CopiesAround, InCopy, StandsAt}
 
 module _ {D : Type 0} (history : D → History) where
   -- one that writes the other half
-  pub half_copied : (halves : HalvesValue) (old new : D) → WritesOnly history (InHalf halves.geometry (other halves.current)) old new → WritesOnly history (InCopy halves) old new
-  half_copied halves old new wrote = alone_wider history (InHalf halves.geometry (other halves.current)) (InCopy halves) (λ n inside. inr (inl inside)) old new wrote
+  pub half_copied : (halves : HalvesValue) (old new : D) → WritesOnly history (InHalf halves.geometry (other halves.current)) old new
+      → WritesOnly history (InCopy halves) old new
+  half_copied halves old new wrote = alone_wider history (InHalf halves.geometry (other halves.current)) (InCopy halves) (λ n inside.
+      inr (inl inside)) old new wrote
 
   -- a flip
   pub flip_copied : (halves : HalvesValue) (old new : D) → WritesOnly history (λ n. n ≡ FLIP_SECTOR) old new → WritesOnly history (InCopy halves) old new
@@ -27,11 +29,14 @@ module _ {D : Type 0} (history : D → History) where
 
 module _ {D M : Type 0} (history : D → History) where
   -- one that writes the logs alone
-  pub logs_copied : (old new : Writer D M) → WritesLogsAlone history old new → WritesOnly history (InCopy (writer.halves_of old)) (writer.device_of old) (writer.device_of new)
-  logs_copied old new wrote = alone_wider history (InLogs old) (InCopy (writer.halves_of old)) in_copy (writer.device_of old) (writer.device_of new) (record { now = wrote.now; images = wrote.images })
+  pub logs_copied : (old new : Writer D M) → WritesLogsAlone history old new
+      → WritesOnly history (InCopy (writer.halves_of old)) (writer.device_of old) (writer.device_of new)
+  logs_copied old new wrote = alone_wider history (InLogs old) (InCopy (writer.halves_of old)) in_copy (writer.device_of old) (writer.device_of new)
+      (record { now = wrote.now; images = wrote.images })
     where
       in_copy : (n : ℕ) → InLogs old n → InCopy (writer.halves_of old) n
-      in_copy n logs = ⊎_elim (λ here. inl here) (λ there. inr (inl (log_inside (writer.halves_of old).geometry (other (writer.halves_of old).current) n there.1))) logs
+      in_copy n logs = ⊎_elim (λ here. inl here) (λ there.
+          inr (inl (log_inside (writer.halves_of old).geometry (other (writer.halves_of old).current) n there.1))) logs
 
   -- none
   pub none_copied_around : (engine : Parts D M) → CopiesAround history engine engine
@@ -42,7 +47,8 @@ module _ {D M : Type 0} (history : D → History) where
 
 -- ---- of an engine
 
-module _ {D M : Type 0} (history : D → History) (old mid new : Parts D M) (can : CanRun history mid) (sound : has_failed mid ≡ false) (same : writer.halves_of (writer_of mid) ≡ writer.halves_of (writer_of old)) where
+module _ {D M : Type 0} (history : D → History) (old mid new : Parts D M) (can : CanRun history mid) (sound : has_failed mid ≡ false)
+    (same : writer.halves_of (writer_of mid) ≡ writer.halves_of (writer_of old)) where
   stands : StandsAt history can.0 can.1 can.2 can.3 mid
   stands = can.4
 
@@ -57,7 +63,8 @@ module _ {D M : Type 0} (history : D → History) (old mid new : Parts D M) (can
       (subst (λ (h : HalvesValue). WritesOnly history (InCopy h) (device_of mid) (device_of new)) same second)
 
 -- behind a handing over
-pub copied_over : {D M : Type 0} (history : D → History) (old mid new : Parts D M) → HandsOver history old mid → CopiesAround history mid new → CopiesAround history old new
+pub copied_over : {D M : Type 0} (history : D → History) (old mid new : Parts D M) → HandsOver history old mid → CopiesAround history mid new
+    → CopiesAround history old new
 copied_over history old mid new over wrote =
     subst (λ (h : HalvesValue). WritesOnly history (InCopy h) (device_of old) (device_of new)) over.halves
     (subst (λ d. WritesOnly history (InCopy (writer.halves_of (writer_of mid))) d (device_of new)) over.device wrote)

@@ -1,5 +1,6 @@
 -- What is answered to a copy, by what the writer answered.
-use Rattle.std.proofs.Common.{◌≡◌, ◌⊎◌, false, true, inl, inr, ℕ, ◌-◌, ◌≤◌, List, [], ◌∷◌, ◌++◌, None, Some, length, take, drop, refl, sym, ◌∙◌, ap, subst, arith, append-nil, ⊎_elim}
+use Rattle.std.proofs.Common.{◌≡◌, ◌⊎◌, false, true, inl, inr, ℕ, ◌-◌, ◌≤◌, List, [], ◌∷◌, ◌++◌, None, Some, length, take, drop, refl, sym, ◌∙◌, ap, subst}
+use Rattle.std.proofs.Common.{arith, append-nil, ⊎_elim}
 use Rattle.std.proofs.lemmas.Bool.{false≢true}
 use Rattle.std.proofs.lemmas.List.{drop-drop, drop-take}
 use Rattle.records.specs.RecordValue.{RecordValue}
@@ -20,7 +21,8 @@ use Rattle.restart.specs.declared.copying.Copying.TheVariants.{GivenUp, Steps}
 use Rattle.restart.specs.declared.event.Reply.{Reply}
 use Rattle.restart.specs.declared.event.Reply.TheVariants as reply
 use Rattle.restart.specs.declared.parts.Parts.{Parts}
-use Rattle.restart.specs.Copies.{CannotFlip, CannotTake, IsCopyAnswer, IsFlippedAtOnce, IsPieceNow, IsPutOff, KeepsAll, MakesCurrent, MayFlip, Succeeds, TakesPiece, copies_left, left_at, next_place}
+use Rattle.restart.specs.Copies.{CannotFlip, CannotTake, IsCopyAnswer, IsFlippedAtOnce, IsPieceNow, IsPutOff, KeepsAll, MakesCurrent, MayFlip, Succeeds}
+use Rattle.restart.specs.Copies.{TakesPiece, copies_left, left_at, next_place}
 use Rattle.restart.specs.Handing.{HandsOver}
 use Rattle.restart.specs.History.{IsOfCopy, acknowledged}
 use Rattle.restart.specs.Parts.{core_of, device_of, has_failed, horizon_of, unhanded, unwritten, writer_of}
@@ -36,16 +38,20 @@ between_later run m n handed low le high = sym
     ∙ drop-take (n - m) (handed - n) (records_above run m)
     ∙ ap (take (handed - n)) (drop-drop (n - m) (m - run.last) run.records ∙ ap (λ k. drop k run.records) (omega (arith, low, le))))
 
-module _ {D M : Type 0} (history : D → History) (failures : D → ℕ) (old new : Parts D M) (all : unhanded old ≡ []) (can : CanRun history old) (core_is : core_of new ≡ core_of old) (rest : unhanded new ≡ unhanded old)
-    (after : IsWriter history can.0 can.1 (writer_of new)) (grows : horizon_of old ≤ horizon_of new) (later : failures (device_of old) ≤ failures (device_of new)) where
+module _ {D M : Type 0} (history : D → History) (failures : D
+    → ℕ) (old new : Parts D M) (all : unhanded old ≡ []) (can : CanRun history old) (core_is : core_of new ≡ core_of old) (rest : unhanded new ≡ unhanded old)
+    (after : IsWriter history can.0 can.1 (writer_of new)) (grows : horizon_of old ≤ horizon_of new)
+    (later : failures (device_of old) ≤ failures (device_of new)) where
   -- no record is lost by the writer's calls
   pub all_kept : KeepsAll failures old new
   all_kept = record {
     horizon = grows;
     left =
         (ap (λ (l : List RecordValue). writer.waiting_of (writer_of new) ++ l) (rest ∙ all) ∙ append-nil (writer.waiting_of (writer_of new)))
-        ∙ (after.waits ∙ between_later can.0 (horizon_of old) (horizon_of new) can.1 before.opened grows after.reached ∙ ap (drop (horizon_of new - horizon_of old)) (sym before.waits))
-        ∙ ap (drop (horizon_of new - horizon_of old)) (sym (ap (λ (l : List RecordValue). writer.waiting_of (writer_of old) ++ l) all ∙ append-nil (writer.waiting_of (writer_of old))));
+        ∙ (after.waits ∙ between_later can.0 (horizon_of old) (horizon_of new) can.1 before.opened grows after.reached
+        ∙ ap (drop (horizon_of new - horizon_of old)) (sym before.waits))
+        ∙ ap (drop (horizon_of new - horizon_of old)) (sym (ap (λ (l : List RecordValue). writer.waiting_of (writer_of old) ++ l) all
+        ∙ append-nil (writer.waiting_of (writer_of old))));
     core = core_is ∙ ap (λ (o : List RecordValue). record (core_of old) { outbox = o }) (sym (ap (λ v. v.outbox) core_is));
     later = later;
   }
@@ -56,36 +62,54 @@ module _ {D M : Type 0} (history : D → History) (failures : D → ℕ) (old ne
   pub all_well : has_failed old ≡ false → has_failed new ≡ false → failures (device_of new) ≡ failures (device_of old) → Succeeds failures old new
   all_well before after quiet = record { keeps = all_kept; sound-before = before; sound = after; quiet = quiet }
 
-  pub copy_failed : (e : Error) → has_failed old ≡ false → HasFailed failures e (writer_of old) (writer_of new) → IsCopyAnswer failures (reply.Refused e) old new
+  pub copy_failed : (e : Error) → has_failed old ≡ false → HasFailed failures e (writer_of old) (writer_of new)
+      → IsCopyAnswer failures (reply.Refused e) old new
   copy_failed e sound failed = inr (failed.0, failed.1, failed.2, (λ before. absurd (false≢true (sym sound ∙ before))), all_kept)
 
 -- the device fails at a call behind those that did not
-pub failed_later : {D M : Type 0} (history : D → History) (failures : D → ℕ) (old mid new : Parts D M) → unhanded old ≡ [] → (can : CanRun history old) → core_of new ≡ core_of old → unhanded new ≡ unhanded old
-    → IsWriter history can.0 can.1 (writer_of new) → horizon_of old ≤ horizon_of new → failures (device_of old) ≤ failures (device_of new) → (e : Error) → has_failed old ≡ false → has_failed mid ≡ false → failures (device_of mid) ≡ failures (device_of old)
+pub failed_later : {D M : Type 0} (history : D → History) (failures : D → ℕ) (old mid new : Parts D M) → unhanded old ≡ [] → (can : CanRun history old)
+    → core_of new ≡ core_of old → unhanded new ≡ unhanded old
+    → IsWriter history can.0 can.1 (writer_of new) → horizon_of old ≤ horizon_of new → failures (device_of old) ≤ failures (device_of new) → (e : Error)
+    → has_failed old ≡ false → has_failed mid ≡ false → failures (device_of mid) ≡ failures (device_of old)
     → HasFailed failures e (writer_of mid) (writer_of new) → IsCopyAnswer failures (reply.Refused e) old new
 failed_later history failures old mid new all can core_is rest after grows later e sound between quiet failed =
-    inr (failed.0, failed.1, (λ _. subst (λ n. Rises n (failures (device_of new))) quiet (failed.2 between)), (λ before. absurd (false≢true (sym sound ∙ before))), all_kept history failures old new all can core_is rest after grows later)
+    inr (
+      failed.0,
+      failed.1,
+      (λ _. subst (λ n. Rises n (failures (device_of new))) quiet (failed.2 between)),
+      (λ before. absurd (false≢true (sym sound ∙ before))),
+      all_kept history failures old new all can core_is rest after grows later,
+    )
 
 -- ---- behind a group that was flushed
 
 -- how many records are not synced, where the writer has all
-pub count_left : {D M : Type 0} (history : D → History) (run : Run) (handed : ℕ) (engine : Parts D M) → IsWriter history run handed (writer_of engine) → unhanded engine ≡ [] → length (unwritten engine) ≡ handed - horizon_of engine
+pub count_left : {D M : Type 0} (history : D → History) (run : Run) (handed : ℕ) (engine : Parts D M) → IsWriter history run handed (writer_of engine)
+    → unhanded engine ≡ [] → length (unwritten engine) ≡ handed - horizon_of engine
 count_left history run handed engine is all =
-    ap length (ap (λ (l : List RecordValue). writer.waiting_of (writer_of engine) ++ l) all ∙ append-nil (writer.waiting_of (writer_of engine)) ∙ is.waits) ∙ count_between run (horizon_of engine) handed is.opened is.made
+    ap length (ap (λ (l : List RecordValue). writer.waiting_of (writer_of engine) ++ l) all ∙ append-nil (writer.waiting_of (writer_of engine)) ∙ is.waits)
+    ∙ count_between run (horizon_of engine) handed is.opened is.made
 
 module _ {D M : Type 0} (failures : D → ℕ) (old mid new : Parts D M) where
   pub keeps_then : KeepsAll failures old mid → KeepsAll failures mid new → KeepsAll failures old new
   keeps_then first second = record {
     horizon = omega (arith, first.horizon, second.horizon);
     left =
-        second.left ∙ ap (drop (horizon_of new - horizon_of mid)) first.left ∙ drop-drop (horizon_of new - horizon_of mid) (horizon_of mid - horizon_of old) (unwritten old)
+        second.left ∙ ap (drop (horizon_of new - horizon_of mid)) first.left
+        ∙ drop-drop (horizon_of new - horizon_of mid) (horizon_of mid - horizon_of old) (unwritten old)
         ∙ ap (λ n. drop n (unwritten old)) (omega (arith, first.horizon, second.horizon));
     core = second.core ∙ ap (λ (v : CoreValue). record v { outbox = (core_of new).outbox }) first.core;
     later = omega (arith, first.later, second.later);
   }
 
   pub well_then : Succeeds failures old mid → Succeeds failures mid new → Succeeds failures old new
-  well_then first second = record { keeps = keeps_then first.keeps second.keeps; sound-before = first.sound-before; sound = second.sound; quiet = second.quiet ∙ first.quiet }
+  well_then first second = record {
+    keeps = keeps_then first.keeps second.keeps;
+    sound-before = first.sound-before;
+    sound = second.sound;
+    quiet = second.quiet
+        ∙ first.quiet;
+  }
 
   no_next : mid.copying ≡ Steps None → (place : CopyPlace) → next_place mid.copying ≡ Some place → ⊥
   no_next whole place next = none (sym (ap next_place whole) ∙ next)
@@ -94,7 +118,8 @@ module _ {D M : Type 0} (failures : D → ℕ) (old mid new : Parts D M) where
       none same = cc
 
   -- what is answered where a whole image was to be made current
-  pub answer_then : (r : Reply M) → Succeeds failures old mid → mid.copying ≡ Steps None → old.copying ≡ Steps None → writer.halves_of (writer_of mid) ≡ writer.halves_of (writer_of old) → copies_left mid ≤ copies_left old
+  pub answer_then : (r : Reply M) → Succeeds failures old mid → mid.copying ≡ Steps None → old.copying ≡ Steps None
+      → writer.halves_of (writer_of mid) ≡ writer.halves_of (writer_of old) → copies_left mid ≤ copies_left old
       → (MayFlip (writer_of old) → mid ≡ old) → IsCopyAnswer failures r mid new → IsCopyAnswer failures r old new
   answer_then (reply.Txn t) first whole was halves left no_group is = absurd is
   answer_then (reply.Rid r) first whole was halves left no_group is = absurd is
@@ -115,7 +140,8 @@ module _ {D M : Type 0} (failures : D → ℕ) (old mid new : Parts D M) where
 
       flipped_from : mid ≡ old → MayFlip (writer_of old) → (image : NewImage) → writer.image_of (writer_of old) ≡ Some image → IsFlippedAtOnce old new image
       flipped_from same may image there = subst (λ (e : Parts D M). IsFlippedAtOnce e new image) same
-          (is.2.no-group whole (subst (λ (e : Parts D M). MayFlip (writer_of e)) (sym same) may) image (ap (λ (e : Parts D M). writer.image_of (writer_of e)) same ∙ there))
+          (is.2.no-group whole (subst (λ (e : Parts D M). MayFlip (writer_of e)) (sym same) may) image
+          (ap (λ (e : Parts D M). writer.image_of (writer_of e)) same ∙ there))
 
       current : MakesCurrent mid new → MakesCurrent old new
       current made = record {
@@ -131,14 +157,27 @@ module _ {D M : Type 0} (failures : D → ℕ) (old mid new : Parts D M) where
   answer_then reply.Again first whole was halves left no_group is = (well_then first is.0, given_up is.1, is.2, omega (arith, is.3, left))
     where
       given_up : CannotTake mid new ⊎ CannotFlip mid new → CannotTake old new ⊎ CannotFlip old new
-      given_up why = ⊎_elim (λ piece. absurd (no_next whole piece.place piece.next)) (λ flip. inr (record { whole = was; could-not = λ may. flip.could-not (subst (λ (e : Parts D M). MayFlip (writer_of e)) (sym (no_group may)) may); cannot = flip.cannot; halves = flip.halves ∙ halves; no_more = flip.no_more })) why
+      given_up why = ⊎_elim (λ piece. absurd (no_next whole piece.place piece.next)) (λ flip.
+          inr (record {
+            whole = was;
+            could-not = λ may. flip.could-not (subst (λ (e : Parts D M). MayFlip (writer_of e)) (sym (no_group may)) may);
+            cannot = flip.cannot;
+            halves = flip.halves ∙ halves;
+            no_more = flip.no_more;
+          })) why
   answer_then (reply.Row row) first whole was halves left no_group is = absurd is
   answer_then (reply.Found rids) first whole was halves left no_group is = absurd is
   answer_then (reply.Life life) first whole was halves left no_group is = absurd is
   answer_then reply.Skipped first whole was halves left no_group is = absurd is
   answer_then (reply.Refused e) first whole was halves left no_group is = ⊎_elim
       (λ none. inl (none.0, put_off none.1))
-      (λ failed. inr (failed.0, failed.1, (λ before. subst (λ n. Rises n (failures (device_of new))) first.quiet (failed.2 first.sound)), (λ before. absurd (false≢true (sym first.sound-before ∙ before))), keeps_then first.keeps failed.4))
+      (λ failed. inr (
+        failed.0,
+        failed.1,
+        (λ before. subst (λ n. Rises n (failures (device_of new))) first.quiet (failed.2 first.sound)),
+        (λ before. absurd (false≢true (sym first.sound-before ∙ before))),
+        keeps_then first.keeps failed.4,
+      ))
       is
     where
       put_off : IsPutOff failures mid new → IsPutOff failures old new
@@ -167,7 +206,13 @@ module _ {D M : Type 0} (history : D → History) (failures : D → ℕ) (old mi
   }
 
   over_well : (new : Parts D M) → Succeeds failures mid new → Succeeds failures old new
-  over_well new well = record { keeps = over_keeps new well.keeps; sound-before = sym over.failed ∙ well.sound-before; sound = well.sound; quiet = well.quiet ∙ ap failures over.device }
+  over_well new well = record {
+    keeps = over_keeps new well.keeps;
+    sound-before = sym over.failed ∙ well.sound-before;
+    sound = well.sound;
+    quiet = well.quiet
+        ∙ ap failures over.device;
+  }
 
   left_same : copies_left mid ≡ copies_left old
   left_same =
@@ -177,7 +222,8 @@ module _ {D M : Type 0} (history : D → History) (failures : D → ℕ) (old mi
       ∙ ap (left_at old.geometry (core_of old).last (writer.image_of (writer_of old))) over.copying
 
   piece_over : (place : CopyPlace) (piece : Piece M) → IsPieceNow (core_of mid) place piece → IsPieceNow (core_of old) place piece
-  piece_over place piece is = piece_before (core_of old) (core_of mid).outbox place piece (subst (λ (v : CoreValue). IsPieceNow v place piece) over.moves.core is)
+  piece_over place piece is = piece_before (core_of old) (core_of mid).outbox place piece
+      (subst (λ (v : CoreValue). IsPieceNow v place piece) over.moves.core is)
 
   takes_over : (new : Parts D M) → TakesPiece mid new → TakesPiece old new
   takes_over new takes = record {
@@ -188,7 +234,8 @@ module _ {D M : Type 0} (history : D → History) (failures : D → ℕ) (old mi
     may = λ must. takes.may (must_as takes.piece (writer_of old) (writer_of mid) over.image over.log over.halves must);
     image = takes.image;
     image-is = takes.image-is;
-    has = has_as (core_of old).last takes.piece (writer_of mid) (writer_of old) takes.image over.image (subst (λ n. HasPiece n takes.piece (writer_of mid) takes.image) (ap (λ (v : CoreValue). v.last) over.moves.core) takes.has);
+    has = has_as (core_of old).last takes.piece (writer_of mid) (writer_of old) takes.image over.image
+        (subst (λ n. HasPiece n takes.piece (writer_of mid) takes.image) (ap (λ (v : CoreValue). v.last) over.moves.core) takes.has);
     behind = takes.behind ∙ ap (λ g. Steps (place_behind g.pages takes.piece)) over.geometry;
     halves = takes.halves ∙ over.halves;
     log = takes.log ∙ over.log;
@@ -208,7 +255,13 @@ module _ {D M : Type 0} (history : D → History) (failures : D → ℕ) (old mi
         must = must_as cannot.piece (writer_of mid) (writer_of old) (sym over.image) (sym over.log) (sym over.halves) cannot.must;
         keeps = keeps_both old mid new (keeps_over history old mid over) cannot.keeps;
       }))
-      (λ cannot. inr (record { whole = sym over.copying ∙ cannot.whole; could-not = λ may. cannot.could-not (may_over may); cannot = cannot.cannot; halves = cannot.halves ∙ over.halves; no_more = cannot.no_more }))
+      (λ cannot. inr (record {
+        whole = sym over.copying ∙ cannot.whole;
+        could-not = λ may. cannot.could-not (may_over may);
+        cannot = cannot.cannot;
+        halves = cannot.halves ∙ over.halves;
+        no_more = cannot.no_more;
+      }))
       why
 
   current_over : (new : Parts D M) → MakesCurrent mid new → MakesCurrent old new
@@ -218,7 +271,8 @@ module _ {D M : Type 0} (history : D → History) (failures : D → ℕ) (old mi
     none = made.none;
     idle = made.idle;
     room = made.room;
-    no-group = λ stepped may image there. let at = made.no-group (over.copying ∙ stepped) (may_over may) image (over.image ∙ there) in record { log = at.log; reached = at.reached ∙ ap (λ n. reach image n) over.horizon };
+    no-group = λ stepped may image there. let at = made.no-group (over.copying ∙ stepped) (may_over may) image (over.image ∙ there) in
+        record { log = at.log; reached = at.reached ∙ ap (λ n. reach image n) over.horizon };
     emptied = λ given. made.emptied (over.copying ∙ given);
     all = λ given. made.all (over.copying ∙ given);
   }
@@ -253,7 +307,13 @@ module _ {D M : Type 0} (history : D → History) (failures : D → ℕ) (old mi
   answer_over new reply.Skipped is sound = absurd is
   answer_over new (reply.Refused e) is sound = ⊎_elim
       (λ none. inl (none.0, put_off_over new none.1))
-      (λ failed. inr (failed.0, failed.1, (λ before. subst (λ n. Rises n (failures (device_of new))) (ap failures over.device) (failed.2 sound)), (λ before. absurd (false≢true (sym sound ∙ over.failed ∙ before))), over_keeps new failed.4))
+      (λ failed. inr (
+        failed.0,
+        failed.1,
+        (λ before. subst (λ n. Rises n (failures (device_of new))) (ap failures over.device) (failed.2 sound)),
+        (λ before. absurd (false≢true (sym sound ∙ over.failed ∙ before))),
+        over_keeps new failed.4,
+      ))
       is
 
   -- where not all could be handed over
@@ -269,14 +329,16 @@ module _ {D M : Type 0} (history : D → History) (failures : D → ℕ) (old mi
     },
   )
 
-pub copy_failed_before : {D M : Type 0} (failures : D → ℕ) (old : Parts D M) → has_failed old ≡ true → IsCopyAnswer failures (reply.Refused DeviceFailed) old old
+pub copy_failed_before : {D M : Type 0} (failures : D → ℕ) (old : Parts D M) → has_failed old ≡ true
+    → IsCopyAnswer failures (reply.Refused DeviceFailed) old old
 copy_failed_before failures old failed = inr (refl, failed, (λ sound. absurd (false≢true (sym sound ∙ failed))), (λ _. refl), keeps_none failures old)
 
 pub none_well : {D M : Type 0} (failures : D → ℕ) (old : Parts D M) → has_failed old ≡ false → Succeeds failures old old
 none_well failures old sound = record { keeps = keeps_none failures old; sound-before = sound; sound = sound; quiet = refl }
 
 -- there was no memory, and the writer is as it was
-pub put_off_as : {D M : Type 0} (failures : D → ℕ) (old new : Parts D M) → Succeeds failures old new → writer_of new ≡ writer_of old → core_of new ≡ core_of old → new.geometry ≡ old.geometry → new.copying ≡ old.copying → IsPutOff failures old new
+pub put_off_as : {D M : Type 0} (failures : D → ℕ) (old new : Parts D M) → Succeeds failures old new → writer_of new ≡ writer_of old → core_of new ≡ core_of old
+    → new.geometry ≡ old.geometry → new.copying ≡ old.copying → IsPutOff failures old new
 put_off_as failures old new well same core_is size copying = record {
   succeeds = well;
   copying = copying;
@@ -293,7 +355,8 @@ put_off_as failures old new well same core_is size copying = record {
         ∙ ap (left_at old.geometry (core_of old).last (writer.image_of (writer_of old))) copying
 
 -- where nothing could be copied
-pub none_copied : {D M : Type 0} (failures : D → ℕ) (old : Parts D M) (e : Error) → e ≡ NoMemory → has_failed old ≡ false → IsCopyAnswer failures (reply.Refused e) old old
+pub none_copied : {D M : Type 0} (failures : D → ℕ) (old : Parts D M) (e : Error) → e ≡ NoMemory → has_failed old ≡ false
+    → IsCopyAnswer failures (reply.Refused e) old old
 none_copied failures old e none sound = inl (none, put_off_as failures old old (none_well failures old sound) refl refl refl refl)
 
 -- ---- what a copy tells

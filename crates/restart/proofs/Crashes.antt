@@ -13,7 +13,8 @@ use Rattle.restart.proofs.Runs.{and_then_none, spans_rise}
 use Rattle.restart.proofs.Stories.{crash_since}
 
 -- a moment is between two of the borders
-found : (disk_at : ℕ → Disk) (P : ℕ → Image → Type 0) (j from : ℕ) (borders : List ℕ) (to t : ℕ) (image : Image) → Spans disk_at P j from borders to → 0 < length borders → from ≤ t → t ≤ to → IsCrashImage (disk_at t) image
+found : (disk_at : ℕ → Disk) (P : ℕ → Image → Type 0) (j from : ℕ) (borders : List ℕ) (to t : ℕ) (image : Image) → Spans disk_at P j from borders to
+    → 0 < length borders → from ≤ t → t ≤ to → IsCrashImage (disk_at t) image
     → (i : ℕ) × (i < j + length borders) × P i image
 found disk_at P j from [] to t image spans some low high crash = absurd (omega (arith, some))
 found disk_at P j from (next ∷ []) to t image spans some low high crash = (j, omega arith, spans.1 t image low (omega (arith, high, spans.2)) crash)
@@ -24,29 +25,41 @@ found disk_at P j from (next ∷ (more ∷ borders)) to t image spans some low h
   | inr within ↦ (j, omega arith, spans.1 t image low within crash)
 ]
 
-no_borders : (disk_at : ℕ → Disk) (P : ℕ → Image → Type 0) (j from : ℕ) (borders : List ℕ) (to : ℕ) → length borders ≡ 0 → Spans disk_at P j from borders to → from ≡ to
+no_borders : (disk_at : ℕ → Disk) (P : ℕ → Image → Type 0) (j from : ℕ) (borders : List ℕ) (to : ℕ) → length borders ≡ 0 → Spans disk_at P j from borders to
+    → from ≡ to
 no_borders disk_at P j from [] to none spans = spans
 no_borders disk_at P j from (next ∷ borders) to none spans = absurd (omega (arith, none))
 
 module _ {D M : Type 0} (history : D → History) (past : Past M) (old new : Parts D M) (is : IsAt history past old) where
   crash_within : (events : List Event) (replies : List (Reply M)) → GoesOn history past events replies old new
-      → Between (history (device_of new)).disk_at (history (device_of old)).moment (history (device_of new)).moment (λ image. (j : ℕ) × (j ≤ length events) × SurvivesAt past events replies (horizon_of old) j image)
-  crash_within [] [] ran t image low high crash = (0, omega arith, subst (λ (p : Past _). Survives p (max (horizon_of old) (acknowledged_by p)) image) (sym (and_then_none past)) (crash_since history past old is (max (horizon_of old) (acknowledged_by past)) (omega (arith, is.safe)) image (subst (λ (d : Disk). IsCrashImage d image) same crash)))
+      → Between (history (device_of new)).disk_at (history (device_of old)).moment (history (device_of new)).moment (λ image. (j : ℕ) × (j ≤ length events)
+      × SurvivesAt past events replies (horizon_of old) j image)
+  crash_within [] [] ran t image low high crash = (
+    0,
+    omega arith,
+    subst (λ (p : Past _). Survives p (max (horizon_of old) (acknowledged_by p)) image) (sym (and_then_none past))
+        (crash_since history past old is (max (horizon_of old) (acknowledged_by past)) (omega (arith, is.safe)) image
+        (subst (λ (d : Disk). IsCrashImage d image) same crash)),
+  )
     where
       ended : (history (device_of old)).moment ≡ (history (device_of new)).moment
-      ended = no_borders (history (device_of new)).disk_at (SurvivesAt past [] [] (horizon_of old)) 0 (history (device_of old)).moment ran.borders (history (device_of new)).moment ran.one_each ran.spans
+      ended = no_borders (history (device_of new)).disk_at (SurvivesAt past [] [] (horizon_of old)) 0 (history (device_of old)).moment ran.borders
+          (history (device_of new)).moment ran.one_each ran.spans
 
       same : (history (device_of new)).disk_at t ≡ (history (device_of old)).disk
       same = ran.kept t (omega (arith, high, ended)) ∙ ap (history (device_of old)).disk_at (omega (arith, low, high, ended)) ∙ (history (device_of old)).now
-  crash_within [] (r ∷ rs) ran t image low high crash = absurd (omega (arith, ran.at.answered, is.answered, length-append past.replies (r ∷ rs), length-append past.events []))
+  crash_within [] (r ∷ rs) ran t image low high crash =
+      absurd (omega (arith, ran.at.answered, is.answered, length-append past.replies (r ∷ rs), length-append past.events []))
   crash_within (e ∷ es) rs ran t image low high crash =
-      let it = found (history (device_of new)).disk_at (SurvivesAt past (e ∷ es) rs (horizon_of old)) 0 (history (device_of old)).moment ran.borders (history (device_of new)).moment t image ran.spans (omega (arith, ran.one_each)) low high crash in
+      let it = found (history (device_of new)).disk_at (SurvivesAt past (e ∷ es) rs (horizon_of old)) 0 (history (device_of old)).moment ran.borders
+      (history (device_of new)).moment t image ran.spans (omega (arith, ran.one_each)) low high crash in
       (it.0, omega (arith, it.1, ran.one_each), it.2)
 
 pub survives_any_crash : {D M : Type 0} (history : D → History) (events : List Event) (replies : List (Reply M)) (old new : Parts D M)
     → ((past : Past M) → IsAt history past old → GoesOn history past events replies old new) → SurvivesAnyCrash history events replies old new
 survives_any_crash history events replies old new ran past is = record {
-  later = spans_rise (history (device_of new)).disk_at (SurvivesAt past events replies (horizon_of old)) 0 (history (device_of old)).moment goes.borders (history (device_of new)).moment goes.spans;
+  later = spans_rise (history (device_of new)).disk_at (SurvivesAt past events replies (horizon_of old)) 0 (history (device_of old)).moment goes.borders
+      (history (device_of new)).moment goes.spans;
   kept = goes.kept;
   each = crash_within history past old new is events replies goes;
 }

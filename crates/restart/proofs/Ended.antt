@@ -43,7 +43,8 @@ no_commit s k n c _ _ is (no_memory a p f r x due g w) = absurd cc
 no_commit s k n c r step is (accepted a p f _ _ due g) = let other : core.Built due.0 ≡ core.Committed n c = sym due.2 ∙ is in absurd cc
 
 module _ (v v' : CoreValue) (s : State) (k : Standing) (is : IsState v s k) (scanned : ℕ) (so_many : scanned ≤ k.scanned) where
-  marked_by : (p : Pair) (n : ℕ) (o : Option ℕ) → Answers v s k core.Build (ticket_by (λ m. core.Built (core.BuildReply.Marked p m)) n o) v' → IsLess v v' scanned scanned
+  marked_by : (p : Pair) (n : ℕ) (o : Option ℕ) → Answers v s k core.Build (ticket_by (λ m. core.Built (core.BuildReply.Marked p m)) n o) v'
+      → IsLess v v' scanned scanned
   marked_by p n None a = after_mark v v' s k is scanned so_many p n a
   marked_by p n (Some c) a = absurd (no_commit s k n c _ a.step refl a.allowed)
 
@@ -64,13 +65,23 @@ pub record HasBuilt {D M : Type 0} (old now : Parts D M) (scanned : ℕ) : Type 
   pub none : (core_of now).life ≡ Absent → (core_of old).life ≡ Absent
 
 pub none_built : {D M : Type 0} (old : Parts D M) → (core_of old).life ≢ Complete → HasBuilt old old 0
-none_built old unfinished = record { replies = []; each = refl; underway = λ i d below. absurd (omega (arith, below)); began = unfinished; going = ∥∥₁_map old.core.safe (begins (core_of old)); unfinished = unfinished; none = λ none. none }
+none_built old unfinished = record {
+  replies = [];
+  each = refl;
+  underway = λ i d below. absurd (omega (arith, below));
+  began = unfinished;
+  going = ∥∥₁_map old.core.safe (begins (core_of old));
+  unfinished = unfinished;
+  none = λ none. none;
+}
   where
     begins : (v : CoreValue) → IsSafe v → IsGoing v 0
     begins v safe = record { state = safe.state; standing = safe.standing; is = safe.is; so_many = omega arith }
 
-module _ {D M : Type 0} (old mid new : Parts D M) (scanned n : ℕ) (so_far : HasBuilt old mid scanned) (r : Reply M) (way : IsUnderway r) (reply : core.Reply) (told : answered r ≡ Some reply) (rest : new ≡ record mid { core = new.core })
-    (serves : view.Serves (core_of mid) core.Build reply (core_of new)) (less : (s : State) (k : Standing) (is : IsState (core_of mid) s k) → scanned ≤ k.scanned → IsLess (core_of mid) (core_of new) scanned n) where
+module _ {D M : Type 0} (old mid new : Parts D M) (scanned n : ℕ) (so_far : HasBuilt old mid scanned) (r : Reply M) (way : IsUnderway r) (reply : core.Reply)
+    (told : answered r ≡ Some reply) (rest : new ≡ record mid { core = new.core })
+    (serves : view.Serves (core_of mid) core.Build reply (core_of new)) (less : (s : State) (k : Standing) (is : IsState (core_of mid) s k)
+    → scanned ≤ k.scanned → IsLess (core_of mid) (core_of new) scanned n) where
   lessens : IsGoing (core_of mid) scanned → work_of (core_of new) n < work_of (core_of mid) scanned
   lessens at = (less at.state at.standing at.is at.so_many).less
 
@@ -96,41 +107,50 @@ pub record Stepped {D M : Type 0} (old mid new : Parts D M) (scanned n : ℕ) : 
 module _ {D M : Type 0} (old mid new : Parts D M) (scanned : ℕ) (so_far : HasBuilt old mid scanned) (rest : new ≡ record mid { core = new.core }) where
   -- the step that a build made, and how far it is then
   module _ (n : ℕ) (b : BuildReply) (way : IsUnderway {M = M} (reply.Built b)) (serves : view.Serves (core_of mid) core.Build (built b) (core_of new))
-      (less : (s : State) (k : Standing) → IsState (core_of mid) s k → scanned ≤ k.scanned → Answers (core_of mid) s k core.Build (built b) (core_of new) → IsLess (core_of mid) (core_of new) scanned n) where
+      (less : (s : State) (k : Standing) → IsState (core_of mid) s k → scanned ≤ k.scanned → Answers (core_of mid) s k core.Build (built b) (core_of new)
+      → IsLess (core_of mid) (core_of new) scanned n) where
     pub step_falls : work_of (core_of new) n < work_of (core_of mid) scanned
     step_falls = work_falls old mid new scanned n so_far (reply.Built b) way (built b) refl rest serves (λ s k is few. less s k is few (serves s k is))
 
     pub step_built : HasBuilt old new n
     step_built = built_more old mid new scanned n so_far (reply.Built b) way (built b) refl rest serves (λ s k is few. less s k is few (serves s k is))
 
-  pub scan_stepped : (page n : ℕ) → n ≡ page + 1 → view.Serves (core_of mid) core.Build (built (build.Scanned page)) (core_of new) → Stepped old mid new scanned n
+  pub scan_stepped : (page n : ℕ) → n ≡ page + 1 → view.Serves (core_of mid) core.Build (built (build.Scanned page)) (core_of new)
+      → Stepped old mid new scanned n
   scan_stepped page n next serves =
-      let less : (s : State) (k : Standing) → IsState (core_of mid) s k → scanned ≤ k.scanned → Answers (core_of mid) s k core.Build (built (build.Scanned page)) (core_of new) → IsLess (core_of mid) (core_of new) scanned n =
+      let less : (s : State) (k : Standing) → IsState (core_of mid) s k → scanned ≤ k.scanned
+      → Answers (core_of mid) s k core.Build (built (build.Scanned page)) (core_of new) → IsLess (core_of mid) (core_of new) scanned n =
       λ s k is few a. subst (IsLess (core_of mid) (core_of new) scanned) (sym next) (after_scan (core_of mid) (core_of new) s k is scanned few page a) in
       record { falls = step_falls n (build.Scanned page) tt serves less; goes = step_built n (build.Scanned page) tt serves less }
 
   pub place_stepped : (p : Pair) → view.Serves (core_of mid) core.Build (built (build.Placed p)) (core_of new) → Stepped old mid new scanned 0
   place_stepped p serves =
-      let less : (s : State) (k : Standing) → IsState (core_of mid) s k → scanned ≤ k.scanned → Answers (core_of mid) s k core.Build (built (build.Placed p)) (core_of new) → IsLess (core_of mid) (core_of new) scanned 0 =
+      let less : (s : State) (k : Standing) → IsState (core_of mid) s k → scanned ≤ k.scanned
+      → Answers (core_of mid) s k core.Build (built (build.Placed p)) (core_of new) → IsLess (core_of mid) (core_of new) scanned 0 =
       λ s k is few a. after_placed (core_of mid) (core_of new) s k is scanned few p a in
       record { falls = step_falls 0 (build.Placed p) tt serves less; goes = step_built 0 (build.Placed p) tt serves less }
 
   pub reject_stepped : (p : Pair) → view.Serves (core_of mid) core.Build (built (build.Rejected p)) (core_of new) → Stepped old mid new scanned 0
   reject_stepped p serves =
-      let less : (s : State) (k : Standing) → IsState (core_of mid) s k → scanned ≤ k.scanned → Answers (core_of mid) s k core.Build (built (build.Rejected p)) (core_of new) → IsLess (core_of mid) (core_of new) scanned 0 =
+      let less : (s : State) (k : Standing) → IsState (core_of mid) s k → scanned ≤ k.scanned
+      → Answers (core_of mid) s k core.Build (built (build.Rejected p)) (core_of new) → IsLess (core_of mid) (core_of new) scanned 0 =
       λ s k is few a. after_rejected (core_of mid) (core_of new) s k is scanned few p a in
       record { falls = step_falls 0 (build.Rejected p) tt serves less; goes = step_built 0 (build.Rejected p) tt serves less }
 
-  pub mark_stepped : (p : Pair) (ticket : Ticket) → view.Serves (core_of mid) core.Build (built (build.Marked p ticket)) (core_of new) → Stepped old mid new scanned scanned
+  pub mark_stepped : (p : Pair) (ticket : Ticket) → view.Serves (core_of mid) core.Build (built (build.Marked p ticket)) (core_of new)
+      → Stepped old mid new scanned scanned
   mark_stepped p ticket serves =
-      let less : (s : State) (k : Standing) → IsState (core_of mid) s k → scanned ≤ k.scanned → Answers (core_of mid) s k core.Build (built (build.Marked p ticket)) (core_of new) → IsLess (core_of mid) (core_of new) scanned scanned =
+      let less : (s : State) (k : Standing) → IsState (core_of mid) s k → scanned ≤ k.scanned
+      → Answers (core_of mid) s k core.Build (built (build.Marked p ticket)) (core_of new) → IsLess (core_of mid) (core_of new) scanned scanned =
       λ s k is few a. marked_by (core_of mid) (core_of new) s k is scanned few p ticket.record ticket.commit a in
       record { falls = step_falls scanned (build.Marked p ticket) tt serves less; goes = step_built scanned (build.Marked p ticket) tt serves less }
 
   pub never_idle : view.Serves (core_of mid) core.Build (built build.Idle) (core_of new) → ⊥
-  never_idle serves = ∥∥₁_elim so_far.going ⊥_prop (λ at. not_idle (core_of mid) (core_of new) at.state at.standing at.is scanned at.so_many so_far.unfinished (serves at.state at.standing at.is))
+  never_idle serves = ∥∥₁_elim so_far.going ⊥_prop (λ at.
+      not_idle (core_of mid) (core_of new) at.state at.standing at.is scanned at.so_many so_far.unfinished (serves at.state at.standing at.is))
 
-  pub stepped : (b : BuildReply) (n : ℕ) → end_of b ≡ None → n ≡ in_a_row scanned b → view.Serves (core_of mid) core.Build (built b) (core_of new) → Stepped old mid new scanned n
+  pub stepped : (b : BuildReply) (n : ℕ) → end_of b ≡ None → n ≡ in_a_row scanned b → view.Serves (core_of mid) core.Build (built b) (core_of new)
+      → Stepped old mid new scanned n
   stepped (build.Scanned page) n on is serves = scan_stepped page n is serves
   stepped (build.Placed p) n on is serves = subst (Stepped old mid new scanned) (sym is) (place_stepped p serves)
   stepped (build.Rejected p) n on is serves = subst (Stepped old mid new scanned) (sym is) (reject_stepped p serves)
@@ -160,24 +180,35 @@ module _ {D M : Type 0} (old mid new : Parts D M) (scanned : ℕ) (so_far : HasB
       each = all_built (reply.Refused e) (core.Refused e) refl serves;
       ends = (so_far.began, ends_with (reply.Refused e) (core.Refused e) refl serves);
       at = at_built history failures (so_far.replies ++ reply.Refused e ∷ []) old new (all_built (reply.Refused e) (core.Refused e) refl serves) laws;
-      survives = survives_built history failures (so_far.replies ++ reply.Refused e ∷ []) old new (all_built (reply.Refused e) (core.Refused e) refl serves) laws;
+      survives = survives_built history failures (so_far.replies ++ reply.Refused e ∷ []) old new
+          (all_built (reply.Refused e) (core.Refused e) refl serves) laws;
     }
 
-    pub done_ends : (ticket : Ticket) (number : ℕ) → number ≡ ticket.record → view.Serves (core_of mid) core.Build (built (build.Done ticket)) (core_of new) → IsBuiltToEnd history (Ok number) old new
+    pub done_ends : (ticket : Ticket) (number : ℕ) → number ≡ ticket.record → view.Serves (core_of mid) core.Build (built (build.Done ticket)) (core_of new)
+        → IsBuiltToEnd history (Ok number) old new
     done_ends ticket number told serves = record {
       replies = so_far.replies ++ reply.Built (build.Done ticket) ∷ [];
       each = all_built (reply.Built (build.Done ticket)) (built (build.Done ticket)) refl serves;
-      ends = inr (record { unfinished = so_far.began; ticket = ticket; ends = ends_with (reply.Built (build.Done ticket)) (built (build.Done ticket)) refl serves; told = told });
-      at = at_built history failures (so_far.replies ++ reply.Built (build.Done ticket) ∷ []) old new (all_built (reply.Built (build.Done ticket)) (built (build.Done ticket)) refl serves) laws;
-      survives = survives_built history failures (so_far.replies ++ reply.Built (build.Done ticket) ∷ []) old new (all_built (reply.Built (build.Done ticket)) (built (build.Done ticket)) refl serves) laws;
+      ends = inr (record {
+        unfinished = so_far.began;
+        ticket = ticket;
+        ends = ends_with (reply.Built (build.Done ticket)) (built (build.Done ticket)) refl serves;
+        told = told;
+      });
+      at = at_built history failures (so_far.replies ++ reply.Built (build.Done ticket) ∷ []) old new
+          (all_built (reply.Built (build.Done ticket)) (built (build.Done ticket)) refl serves) laws;
+      survives = survives_built history failures (so_far.replies ++ reply.Built (build.Done ticket) ∷ []) old new
+          (all_built (reply.Built (build.Done ticket)) (built (build.Done ticket)) refl serves) laws;
     }
 
   pub done_whole : (ticket : Ticket) → view.Serves (core_of mid) core.Build (built (build.Done ticket)) (core_of new) → BuildsWhole (core_of old) (core_of new)
   done_whole ticket serves come none =
       let before = comes_on so_far.replies old mid so_far.each come in
-      let after = comes_on (so_far.replies ++ reply.Built (build.Done ticket) ∷ []) old new (all_built (reply.Built (build.Done ticket)) (built (build.Done ticket)) refl serves) come in
+      let after = comes_on (so_far.replies ++ reply.Built (build.Done ticket) ∷ []) old new
+      (all_built (reply.Built (build.Done ticket)) (built (build.Done ticket)) refl serves) come in
       let at : HasCome (core_of mid) = before.come in
-      let complete : (core_of new).life ≡ Complete = done_by (core_of mid) (core_of new) at.state at.standing at.shown 0 (omega arith) ticket.record ticket.commit (serves at.state at.standing at.shown) in
+      let complete : (core_of new).life ≡ Complete = done_by (core_of mid) (core_of new) at.state at.standing at.shown 0
+      (omega arith) ticket.record ticket.commit (serves at.state at.standing at.shown) in
       record { rows = after.rows; complete = complete; whole = whole_core (core_of new) after.come complete (after.quiet none) }
 
 pub is_done : (b : BuildReply) (ticket : Ticket) → end_of b ≡ Some ticket → b ≡ build.Done ticket
@@ -193,7 +224,13 @@ is_done build.Idle ticket is = absurd cc
 module _ {D M : Type 0} (history : D → History) (failures : D → ℕ) (old : Parts D M) (laws : Laws history (writer_of old)) where
   module _ (complete : (core_of old).life ≡ Complete) where
     pub complete_ends : (number : ℕ) → number ≡ (core_of old).last → IsBuiltToEnd history (Ok number) old old
-    complete_ends number last = record { replies = []; each = refl; ends = inl (record { complete = complete; none = refl; last = last }); at = at_built history failures [] old old refl laws; survives = survives_built history failures [] old old refl laws }
+    complete_ends number last = record {
+      replies = [];
+      each = refl;
+      ends = inl (record { complete = complete; none = refl; last = last });
+      at = at_built history failures [] old old refl laws;
+      survives = survives_built history failures [] old old refl laws;
+    }
 
     pub complete_whole : BuildsWhole (core_of old) (core_of old)
     complete_whole come none = record { rows = refl; complete = complete; whole = whole_core (core_of old) come complete none }

@@ -32,14 +32,16 @@ module _ {D M : Type 0} (failures : D → ℕ) where
   one_fewer reply.Skipped old new is granted = absurd is
   one_fewer (reply.Refused e) old new is granted = absurd (granted (e, refl))
 
-  flips_or_fewer : (replies : List (Reply M)) (old new : Parts D M) → AreLawful failures (copies replies) replies old new → HaveNoRefusal replies → HaveFlip replies ⊎ (copies_left new + length replies ≤ copies_left old)
+  flips_or_fewer : (replies : List (Reply M)) (old new : Parts D M) → AreLawful failures (copies replies) replies old new → HaveNoRefusal replies
+      → HaveFlip replies ⊎ (copies_left new + length replies ≤ copies_left old)
   flips_or_fewer [] old new same none = inr (omega (arith, ap (λ (e : Parts D M). copies_left e) same))
   flips_or_fewer (r ∷ replies) old new (mid, is, rest) (granted, none) = ⊎_elim
       (λ flip. inl (inl flip))
       (λ fewer. ⊎_elim (λ later. inl (inr later)) (λ few. inr (omega (arith, fewer, few))) (flips_or_fewer replies mid new rest none))
       (one_fewer r old mid is granted)
 
-  pub flips : (replies : List (Reply M)) (old new : Parts D M) → AreLawful failures (copies replies) replies old new → HaveNoRefusal replies → most_copies old.geometry ≤ length replies → HaveFlip replies
+  pub flips : (replies : List (Reply M)) (old new : Parts D M) → AreLawful failures (copies replies) replies old new → HaveNoRefusal replies
+      → most_copies old.geometry ≤ length replies → HaveFlip replies
   flips replies old new lawful none enough = ⊎_elim
       (λ flip. flip)
       (λ few.

@@ -1,5 +1,6 @@
 -- What is answered to a flush.
-use Rattle.std.proofs.Common.{false, inl, inr, refl, true, ◌≡◌, ◌≢◌, ℕ, ◌+◌, ◌-◌, ◌≤◌, ◌<◌, List, [], ◌∷◌, ◌++◌, length, drop, sym, ◌∙◌, ap, subst, arith, append-nil, ⊎_elim, length-drop}
+use Rattle.std.proofs.Common.{false, inl, inr, refl, true, ◌≡◌, ◌≢◌, ℕ, ◌+◌, ◌-◌, ◌≤◌, ◌<◌, List, [], ◌∷◌, ◌++◌, length, drop, sym, ◌∙◌, ap, subst, arith}
+use Rattle.std.proofs.Common.{append-nil, ⊎_elim, length-drop}
 use Rattle.std.proofs.lemmas.Bool.{false≢true}
 use Rattle.std.proofs.lemmas.List.{length-take-le}
 use Rattle.records.specs.RecordValue.{RecordValue}
@@ -37,10 +38,18 @@ one_slot n old new some same = record { one = λ _. same; none = λ none. absurd
 
 module _ {D M : Type 0} (history : D → History) (failures : D → ℕ) (old : Parts D M) where
   pub stays : MovesOn history old old
-  stays = moves_by history old old refl refl (λ run handed w. w) (λ run handed w. started (history (device_of old)) (LeftBy run (horizon_of old) handed) w.images) (omega arith) (record { geometry = refl; place = λ was. was; carried = λ was. was })
+  stays = moves_by history old old refl refl (λ run handed w. w) (λ run handed w.
+      started (history (device_of old)) (LeftBy run (horizon_of old) handed) w.images) (omega arith)
+      (record { geometry = refl; place = λ was. was; carried = λ was. was })
 
   pub failed_before : has_failed old ≡ true → IsFlushAnswer failures (reply.Refused DeviceFailed) old old
-  failed_before failed = inr (refl, failed, (λ sound. absurd (false≢true (sym sound ∙ failed))), (λ _. refl), record { horizon = refl; unwritten-are = refl; core = refl; later = omega arith; copying = refl; image = refl })
+  failed_before failed = inr (
+    refl,
+    failed,
+    (λ sound. absurd (false≢true (sym sound ∙ failed))),
+    (λ _. refl),
+    record { horizon = refl; unwritten-are = refl; core = refl; later = omega arith; copying = refl; image = refl },
+  )
 
 -- ---- where not all records could be handed over
 
@@ -72,9 +81,11 @@ module _ {D M : Type 0} (history : D → History) (failures : D → ℕ) (old mi
 
   -- ---- where all were
 
-  module _ (new : Parts D M) (all : unhanded mid ≡ []) (sound : has_failed old ≡ false) (core_is : core_of new ≡ core_of mid) (rest : unhanded new ≡ unhanded mid) (copying : new.copying ≡ mid.copying)
+  module _ (new : Parts D M) (all : unhanded mid ≡ []) (sound : has_failed old ≡ false) (core_is : core_of new ≡ core_of mid)
+      (rest : unhanded new ≡ unhanded mid) (copying : new.copying ≡ mid.copying)
       (can : CanRun history mid) (keeps : (run : Run) (handed : ℕ) → IsWriter history run handed (writer_of mid) → IsWriter history run handed (writer_of new))
-      (images : (run : Run) (handed : ℕ) → IsWriter history run handed (writer_of mid) → LeavesOnly (history (device_of mid)) (history (device_of new)) (LeftBy run (horizon_of mid) handed))
+      (images : (run : Run) (handed : ℕ) → IsWriter history run handed (writer_of mid)
+      → LeavesOnly (history (device_of mid)) (history (device_of new)) (LeftBy run (horizon_of mid) handed))
       (later : failures (device_of mid) ≤ failures (device_of new)) (place : StaysAtPlace mid new) where
     pub moves : horizon_of mid ≤ horizon_of new → MovesOn history old new
     moves grows = moves_then history old mid new over.moves (moves_by history mid new core_is rest keeps images grows place)
@@ -98,8 +109,10 @@ module _ {D M : Type 0} (history : D → History) (failures : D → ℕ) (old mi
         let after = keeps can.0 can.1 before in
         omega (arith, after.reached, before.reached, ap length before.waits, count_between can.0 (horizon_of mid) can.1 before.opened before.made)
 
-    wrote : (count : ℕ) → horizon_of new ≡ horizon_of mid + count → writer.waiting_of (writer_of new) ≡ drop count (writer.waiting_of (writer_of mid)) → OpensOne count (log_of mid) (log_of new)
-        → (0 < count → BecomesImage (writer.halves_of (writer_of mid)).geometry.slots (horizon_of mid) count (writer.image_of (writer_of mid)) (writer.image_of (writer_of new))) → Writes failures old new count
+    wrote : (count : ℕ) → horizon_of new ≡ horizon_of mid + count → writer.waiting_of (writer_of new) ≡ drop count (writer.waiting_of (writer_of mid))
+        → OpensOne count (log_of mid) (log_of new)
+        → (0 < count → BecomesImage (writer.halves_of (writer_of mid)).geometry.slots (horizon_of mid) count (writer.image_of (writer_of mid))
+        (writer.image_of (writer_of new))) → Writes failures old new count
     wrote count horizon waiting slots becomes = record {
       within = omega (arith, within, horizon, ap length waited);
       horizon = omega (arith, horizon, over.horizon);
@@ -109,19 +122,26 @@ module _ {D M : Type 0} (history : D → History) (failures : D → ℕ) (old mi
       later = omega (arith, later, ap failures over.device);
       copying = copying ∙ over.copying;
       image = λ some.
-          subst (λ (h : HalvesValue). BecomesImage h.geometry.slots (horizon_of old) count (writer.image_of (writer_of old)) (writer.image_of (writer_of new))) over.halves
-          (subst (λ n. BecomesImage (writer.halves_of (writer_of mid)).geometry.slots n count (writer.image_of (writer_of old)) (writer.image_of (writer_of new))) over.horizon
-          (subst (λ i. BecomesImage (writer.halves_of (writer_of mid)).geometry.slots (horizon_of mid) count i (writer.image_of (writer_of new))) over.image (becomes some)));
+          subst (λ (h : HalvesValue). BecomesImage h.geometry.slots (horizon_of old) count (writer.image_of (writer_of old)) (writer.image_of (writer_of new)))
+          over.halves
+          (subst (λ n. BecomesImage (writer.halves_of (writer_of mid)).geometry.slots n count (writer.image_of (writer_of old))
+          (writer.image_of (writer_of new))) over.horizon
+          (subst (λ i. BecomesImage (writer.halves_of (writer_of mid)).geometry.slots (horizon_of mid) count i (writer.image_of (writer_of new))) over.image
+          (becomes some)));
     }
 
     wrote_none : writer_of new ≡ writer_of mid → WritesNothing failures old new
     wrote_none same = record {
-      none = wrote 0 (omega (arith, ap (λ w. writer.synced_of w) same)) (ap (λ w. writer.waiting_of w) same) (no_slot (log_of mid) (log_of new) (ap (λ w. writer.log_of w) same)) (λ some. absurd (omega (arith, some)));
+      none = wrote 0 (omega (arith, ap (λ w. writer.synced_of w) same)) (ap (λ w. writer.waiting_of w) same)
+          (no_slot (log_of mid) (log_of new) (ap (λ w. writer.log_of w) same)) (λ some. absurd (omega (arith, some)));
       keeps = keeps_both old mid new (keeps_over history old mid over) (keeps_same mid new same);
     }
 
     -- a group was written
-    pub flushed : (n : ℕ) → IsFlushReply (Flushed n) (writer_of mid) (writer_of new) → BecomesImage (writer.halves_of (writer_of mid)).geometry.slots (horizon_of mid) (n - horizon_of mid) (writer.image_of (writer_of mid)) (writer.image_of (writer_of new)) → has_failed new ≡ false → failures (device_of new) ≡ failures (device_of mid) → IsFlushAnswer failures (reply.Horizon n) old new
+    pub flushed : (n : ℕ) → IsFlushReply (Flushed n) (writer_of mid) (writer_of new)
+        → BecomesImage (writer.halves_of (writer_of mid)).geometry.slots (horizon_of mid) (n - horizon_of mid) (writer.image_of (writer_of mid))
+        (writer.image_of (writer_of new)) → has_failed new ≡ false → failures (device_of new) ≡ failures (device_of mid)
+        → IsFlushAnswer failures (reply.Horizon n) old new
     flushed n is becomes after quiet =
         let count : ℕ = n - horizon_of mid in
         let size : horizon_of new - horizon_of mid ≡ count = ap (λ m. m - horizon_of mid) (sym is.0) in
@@ -132,7 +152,9 @@ module _ {D M : Type 0} (history : D → History) (failures : D → ℕ) (old mi
           (λ _. omega (arith, is.1, over.horizon)),
           (
             count,
-            wrote count (omega (arith, is.0, is.1)) (is.3.waiting-are ∙ ap (λ m. drop m (writer.waiting_of (writer_of mid))) size) (one_slot count (log_of mid) (log_of new) (omega (arith, is.1)) is.3.log-is) (λ _. becomes),
+            wrote count (omega (arith, is.0, is.1)) (is.3.waiting-are
+                ∙ ap (λ m. drop m (writer.waiting_of (writer_of mid))) size) (one_slot count (log_of mid) (log_of new) (omega (arith, is.1)) is.3.log-is) (λ _.
+                becomes),
             subst (λ (rs : List RecordValue). FillsGroup rs count) (sym waited) (record { fits = λ _. fills.fits; full = fills.full }),
           ),
           (λ none. absurd (omega (arith, within, is.0, is.1, ap length (sym waited ∙ none)))),
@@ -140,13 +162,22 @@ module _ {D M : Type 0} (history : D → History) (failures : D → ℕ) (old mi
         )
 
     -- nothing waited
-    pub none_to_flush : (n : ℕ) → n ≡ horizon_of new → IsFlushReply Nothing (writer_of mid) (writer_of new) → has_failed new ≡ false → failures (device_of new) ≡ failures (device_of mid) → IsFlushAnswer failures (reply.Horizon n) old new
+    pub none_to_flush : (n : ℕ) → n ≡ horizon_of new → IsFlushReply Nothing (writer_of mid) (writer_of new) → has_failed new ≡ false
+        → failures (device_of new) ≡ failures (device_of mid) → IsFlushAnswer failures (reply.Horizon n) old new
     none_to_flush n number is after quiet = (
       sound,
       after,
       number,
       (λ some. absurd (some (waited ∙ is.1))),
-      (0, (wrote_none is.0).none, record { fits = λ some. absurd (omega (arith, some)); full = λ below. absurd (omega (arith, below, ap length (waited ∙ is.1))) }),
+      (
+        0,
+        (wrote_none is.0).none,
+        record {
+          fits = λ some. absurd (omega (arith, some));
+          full = λ below.
+              absurd (omega (arith, below, ap length (waited ∙ is.1)));
+        },
+      ),
       (λ _. wrote_none is.0),
       quiet ∙ ap failures over.device,
     )
@@ -176,8 +207,24 @@ module _ {D M : Type 0} (history : D → History) (failures : D → ℕ) (old mi
         after : IsWriter history can.0 can.1 (writer_of new)
         after = keeps can.0 can.1 before
 
-    pub not_flushed : (e : Error) → IsNotFlushed failures e (writer_of mid) (writer_of new) → horizon_of new ≡ horizon_of mid → IsBeforeFlush (writer_of mid) (writer_of new) → IsFlushAnswer failures (reply.Refused e) old new
+    pub not_flushed : (e : Error) → IsNotFlushed failures e (writer_of mid) (writer_of new) → horizon_of new ≡ horizon_of mid
+        → IsBeforeFlush (writer_of mid) (writer_of new) → IsFlushAnswer failures (reply.Refused e) old new
     not_flushed e why kept left = ⊎_elim
-        (λ none. inl (none.0, sound, ap (λ w. writer.has_failed w) none.4 ∙ none.1, some_waited none.2, inl (λ full. none.3 (full_before full)), wrote_none none.4))
-        (λ failed. inr (failed.0, failed.1, (λ before. let f = failed.2 (over.failed ∙ before) in (some_waited f.0, subst (λ n. Rises n (failures (device_of new))) (ap failures over.device) f.1)), (λ before. absurd (false≢true (sym sound ∙ before))), kept_records kept left))
+        (λ none. inl (
+          none.0,
+          sound,
+          ap (λ w. writer.has_failed w) none.4
+              ∙ none.1,
+          some_waited none.2,
+          inl (λ full. none.3 (full_before full)),
+          wrote_none none.4,
+        ))
+        (λ failed. inr (
+          failed.0,
+          failed.1,
+          (λ before. let f = failed.2 (over.failed ∙ before) in
+              (some_waited f.0, subst (λ n. Rises n (failures (device_of new))) (ap failures over.device) f.1)),
+          (λ before. absurd (false≢true (sym sound ∙ before))),
+          kept_records kept left,
+        ))
         why

@@ -37,15 +37,18 @@ module _ {D M : Type 0} where
   -- groups behind others
   groups_both : (first mid last : Writer D M) → WritesGroups first mid → WritesGroups mid last → WritesGroups first last
   groups_both first mid last before no_more = before
-  groups_both first mid last before (one_more one another number groups could_not flushed becomes) = one_more one last number (groups_both first mid one before groups) could_not flushed becomes
+  groups_both first mid last before (one_more one another number groups could_not flushed becomes) =
+      one_more one last number (groups_both first mid one before groups) could_not flushed becomes
 
   -- behind some groups
   pub groups_then : (first mid new : Writer D M) → WritesGroups first mid → WritesByGroups mid new → WritesByGroups first new
   groups_then first mid new before then = record { last = then.last; groups = groups_both first mid then.last before then.groups; behind = then.behind }
 
   -- one group more
-  pub group_more : (failures : D → ℕ) (first : Writer D M) (mid new : Parts D M) → WritesGroups first (writer_of mid) → FlushesFirst failures mid new → WritesGroups first (writer_of new)
-  group_more failures first mid new groups flushes = one_more (writer_of mid) (writer_of new) flushes.flushed.0 groups flushes.could-not flushes.flushed.1.0 flushes.flushed.1.1
+  pub group_more : (failures : D → ℕ) (first : Writer D M) (mid new : Parts D M) → WritesGroups first (writer_of mid) → FlushesFirst failures mid new
+      → WritesGroups first (writer_of new)
+  group_more failures first mid new groups flushes =
+      one_more (writer_of mid) (writer_of new) flushes.flushed.0 groups flushes.could-not flushes.flushed.1.0 flushes.flushed.1.1
 
 -- nothing was done
 pub kept_store : {D M : Type 0} (engine : Parts D M) → CopiesByGroups engine engine
@@ -59,7 +62,8 @@ module _ {D M : Type 0} (history : D → History) (old mid : Parts D M) (over : 
 
   has_all : unhanded mid ≡ [] → HasAll old (writer_of mid)
   has_all all = record {
-    waiting = sym (ap (λ (l : List RecordValue). writer.waiting_of (writer_of mid) ++ l) all ∙ append-nil (writer.waiting_of (writer_of mid))) ∙ over.unwritten-are;
+    waiting = sym (ap (λ (l : List RecordValue). writer.waiting_of (writer_of mid) ++ l) all ∙ append-nil (writer.waiting_of (writer_of mid)))
+        ∙ over.unwritten-are;
     halves = over.halves;
     log = over.log;
     image = over.image;

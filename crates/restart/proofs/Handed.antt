@@ -20,7 +20,8 @@ use Rattle.restart.specs.Store.{StandsAt}
 use Rattle.restart.proofs.Moving.{StaysAtPlace, stands_with}
 use Rattle.restart.proofs.Numbers.{first_behind, rest_behind, within_end}
 
-module _ {D M : Type 0} (history : D → History) (old : Parts D M) (core_then : CoreValue) (taken : List RecordValue) (hands : HandsOn (core_of old) core_then old.outgoing.items taken) where
+module _ {D M : Type 0} (history : D → History) (old : Parts D M) (core_then : CoreValue) (taken : List RecordValue)
+    (hands : HandsOn (core_of old) core_then old.outgoing.items taken) where
   was : unhanded old ≡ taken ++ core_then.outbox
   was =
       ap (λ (o : List RecordValue). old.outgoing.items ++ o) hands.split ∙ sym (append_assoc old.outgoing.items hands.handed core_then.outbox)
@@ -38,32 +39,46 @@ module _ {D M : Type 0} (history : D → History) (old : Parts D M) (core_then :
 
     -- what was taken comes next
     pub next : AreNext run handed taken
-    next = record { made = within; small = omega (arith, within, is.made, is.shown.standing.within); records-are = first_behind run handed low taken core_then.outbox split }
+    next = record {
+      made = within;
+      small = omega (arith, within, is.made, is.shown.standing.within);
+      records-are = first_behind run handed low taken core_then.outbox split;
+    }
 
     left : records_between run (handed + length taken) (end_of run) ≡ core_then.outbox
     left = rest_behind run handed low taken core_then.outbox split
 
-  module _ (new : Parts D M) (core_is : core_of new ≡ core_then) (device : device_of new ≡ device_of old) (halves : writer.halves_of (writer_of new) ≡ writer.halves_of (writer_of old)) (log : writer.log_of (writer_of new) ≡ writer.log_of (writer_of old))
-      (horizon : horizon_of new ≡ horizon_of old) (failed : writer.has_failed (writer_of new) ≡ writer.has_failed (writer_of old)) (image : writer.image_of (writer_of new) ≡ writer.image_of (writer_of old)) (size : new.geometry ≡ old.geometry) (copying : new.copying ≡ old.copying) where
+  module _ (new : Parts D M) (core_is : core_of new ≡ core_then) (device : device_of new ≡ device_of old)
+      (halves : writer.halves_of (writer_of new) ≡ writer.halves_of (writer_of old)) (log : writer.log_of (writer_of new) ≡ writer.log_of (writer_of old))
+      (horizon : horizon_of new ≡ horizon_of old) (failed : writer.has_failed (writer_of new) ≡ writer.has_failed (writer_of old))
+      (image : writer.image_of (writer_of new) ≡ writer.image_of (writer_of old)) (size : new.geometry ≡ old.geometry)
+      (copying : new.copying ≡ old.copying) where
     stays : StaysAtPlace old new
     stays = record {
       geometry = size;
-      place = λ was sound. subst (λ c. IsCopying old.geometry.pages c (writer.image_of (writer_of new))) (sym copying) (subst (IsCopying old.geometry.pages old.copying) (sym image) (was (sym failed ∙ sound)));
+      place = λ was sound. subst (λ c. IsCopying old.geometry.pages c (writer.image_of (writer_of new))) (sym copying)
+          (subst (IsCopying old.geometry.pages old.copying) (sym image) (was (sym failed ∙ sound)));
       carried = λ was sound i there. was (sym failed ∙ sound) i (sym image ∙ there);
     }
 
     others : core_of new ≡ record (core_of old) { outbox = (core_of new).outbox }
     others = core_is ∙ hands.others ∙ ap (λ (v : CoreValue). record (core_of old) { outbox = v.outbox }) (sym core_is)
 
-    images : (run : Run) (handed : ℕ) (s : State) (k : Standing) → StandsAt history run handed s k old → LeavesOnly (history (device_of old)) (history (device_of new)) (λ (image : Image). (later : ℕ) × (later ≤ end_of run) × LeftBy run (horizon_of old) later image)
-    images run handed s k is = subst (λ d. LeavesOnly (history (device_of old)) (history d) (λ (image : Image). (later : ℕ) × (later ≤ end_of run) × LeftBy run (horizon_of old) later image)) (sym device)
-        (started (history (device_of old)) (λ (image : Image). (later : ℕ) × (later ≤ end_of run) × LeftBy run (horizon_of old) later image) (λ c crash. (handed, is.writer.made, is.writer.images c crash)))
+    images : (run : Run) (handed : ℕ) (s : State) (k : Standing) → StandsAt history run handed s k old
+        → LeavesOnly (history (device_of old)) (history (device_of new)) (λ (image : Image). (later : ℕ) × (later ≤ end_of run)
+        × LeftBy run (horizon_of old) later image)
+    images run handed s k is = subst (λ d. LeavesOnly (history (device_of old)) (history d) (λ (image : Image). (later : ℕ) × (later ≤ end_of run)
+        × LeftBy run (horizon_of old) later image)) (sym device)
+        (started (history (device_of old)) (λ (image : Image). (later : ℕ) × (later ≤ end_of run)
+        × LeftBy run (horizon_of old) later image) (λ c crash. (handed, is.writer.made, is.writer.images c crash)))
 
     outbox_is : (core_of new).outbox ≡ core_then.outbox
     outbox_is = ap (λ (v : CoreValue). v.outbox) core_is
 
     -- the writer took them
-    pub all_over : ((run : Run) (handed : ℕ) → IsWriter history run handed (writer_of old) → AreNext run handed taken → IsWriter history run (handed + length taken) (writer_of new)) → writer.waiting_of (writer_of new) ≡ writer.waiting_of (writer_of old) ++ taken → new.outgoing.items ≡ []
+    pub all_over : ((run : Run) (handed : ℕ) → IsWriter history run handed (writer_of old) → AreNext run handed taken
+        → IsWriter history run (handed + length taken) (writer_of new)) → writer.waiting_of (writer_of new) ≡ writer.waiting_of (writer_of old) ++ taken
+        → new.outgoing.items ≡ []
         → HandsOver history old new
     all_over takes waits none = record {
       moves = record {
@@ -78,8 +93,10 @@ module _ {D M : Type 0} (history : D → History) (old : Parts D M) (core_then :
         core = others;
       };
       unwritten-are =
-          ap (λ (l : List RecordValue). writer.waiting_of (writer_of new) ++ (l ++ (core_of new).outbox)) none ∙ ap (λ (l : List RecordValue). writer.waiting_of (writer_of new) ++ l) outbox_is
-          ∙ ap (λ (l : List RecordValue). l ++ core_then.outbox) waits ∙ append_assoc (writer.waiting_of (writer_of old)) taken core_then.outbox ∙ ap (λ (l : List RecordValue). writer.waiting_of (writer_of old) ++ l) (sym was);
+          ap (λ (l : List RecordValue). writer.waiting_of (writer_of new) ++ (l ++ (core_of new).outbox)) none
+          ∙ ap (λ (l : List RecordValue). writer.waiting_of (writer_of new) ++ l) outbox_is
+          ∙ ap (λ (l : List RecordValue). l ++ core_then.outbox) waits ∙ append_assoc (writer.waiting_of (writer_of old)) taken core_then.outbox
+          ∙ ap (λ (l : List RecordValue). writer.waiting_of (writer_of old) ++ l) (sym was);
       device = device;
       halves = halves;
       log = log;
@@ -91,11 +108,16 @@ module _ {D M : Type 0} (history : D → History) (old : Parts D M) (core_then :
     }
 
     -- the writer gave them back
-    pub none_over : ((run : Run) (handed : ℕ) → IsWriter history run handed (writer_of old) → IsWriter history run handed (writer_of new)) → writer.waiting_of (writer_of new) ≡ writer.waiting_of (writer_of old) → new.outgoing.items ≡ taken
+    pub none_over : ((run : Run) (handed : ℕ) → IsWriter history run handed (writer_of old) → IsWriter history run handed (writer_of new))
+        → writer.waiting_of (writer_of new) ≡ writer.waiting_of (writer_of old) → new.outgoing.items ≡ taken
         → HandsOver history old new
     none_over keeps waits back = record {
       moves = record {
-        stands = λ run handed s k is. (handed, omega arith, stands_with history run handed handed s k old new is others (keeps run handed is.writer) (is.rest ∙ sym now) stays);
+        stands = λ run handed s k is. (
+          handed,
+          omega arith,
+          stands_with history run handed handed s k old new is others (keeps run handed is.writer) (is.rest ∙ sym now) stays,
+        );
         images = images;
         grows = omega (arith, horizon);
         core = others;

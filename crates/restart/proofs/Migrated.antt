@@ -21,10 +21,12 @@ use Rattle.restart.specs.declared.migration.MigrateError.TheVariants as refusals
 use Rattle.restart.specs.Migrating.{IsOldRefused, IsNotMigrated, IsNotFilled, IsMigratedCore, IsFilled, IsHeaded, IsSmallAnswer, IsToldUnread, IsTooSmall}
 
 -- what the old device gives fills the new one
-pub moved : (old : Image) (geometry : GeometryValue) (given : Given) (after : History) (halves : HalvesValue) (log : Log) (core : CoreValue) → GivesIn One old geometry given → IsFilled geometry given after halves log core → IsMigratedCore old after halves log core
+pub moved : (old : Image) (geometry : GeometryValue) (given : Given) (after : History) (halves : HalvesValue) (log : Log) (core : CoreValue)
+    → GivesIn One old geometry given → IsFilled geometry given after halves log core → IsMigratedCore old after halves log core
 moved old geometry given after halves log core gave filled = record {
   moved = filled.filled;
-  gave = subst (λ (g : GeometryValue). GivesIn One old g filled.filled.given) (sym filled.geometry-is) (subst (GivesIn One old geometry) (sym filled.given-is) gave);
+  gave = subst (λ (g : GeometryValue). GivesIn One old g filled.filled.given) (sym filled.geometry-is)
+      (subst (GivesIn One old geometry) (sym filled.given-is) gave);
 }
 
 -- what gives something has a header
@@ -35,8 +37,10 @@ pub has_header : (old : Image) (geometry : GeometryValue) (given : Given) → Gi
 has_header old geometry given gave = (geometry, gave.half, gave.holds.store, (header_of gave.base gave.cells, gave.holds.imaged.header-is))
 
 -- the new device isn't filled with it
-module _ {E : Type 0} (old : Image) (old_before old_after : ℕ) (history : E → History) (failures : E → ℕ) (before after : E) (geometry : GeometryValue) (given : Given) (gave : GivesIn One old geometry given) where
-  pub not_filled : (e : MigrateError) → IsNotFilled geometry history failures before after e → IsNotMigrated old old_before old_after history failures before after e
+module _ {E : Type 0} (old : Image) (old_before old_after : ℕ) (history : E → History) (failures : E
+    → ℕ) (before after : E) (geometry : GeometryValue) (given : Given) (gave : GivesIn One old geometry given) where
+  pub not_filled : (e : MigrateError) → IsNotFilled geometry history failures before after e
+      → IsNotMigrated old old_before old_after history failures before after e
   not_filled (refusals.Old e) why = absurd why
   not_filled (refusals.New e) why = ⊎_elim
       (λ small. inl (small.0, (geometry, headed old geometry given gave, small.1), small.2))
@@ -45,24 +49,29 @@ module _ {E : Type 0} (old : Image) (old_before old_after : ℕ) (history : E �
   not_filled refusals.NoMemory why = why.1
 
   -- where it has too few sectors, that is told
-  pub told_small : (IsTooSmall old (history before).disk.content → length (history before).disk.content < sectors_of geometry) → (e : MigrateError) → IsNotFilled geometry history failures before after e
+  pub told_small : (IsTooSmall old (history before).disk.content → length (history before).disk.content < sectors_of geometry) → (e : MigrateError)
+      → IsNotFilled geometry history failures before after e
       → IsTooSmall old (history before).disk.content → IsSmallAnswer e
   told_small few (refusals.Old e) why small = absurd why
   told_small few (refusals.New e) why small = ⊎_elim (λ is. inl (ap refusals.New is.0)) (λ failed. absurd (omega (arith, failed.1, few small))) why
   told_small few refusals.NoMemory why small = absurd (omega (arith, why.0, few small))
 
 -- the old device is refused, and memory wasn't wanting
-pub old_refused : (old : Image) (before after : ℕ) (e : Error) → ¬ (e ≡ NoMemory) → Refuses before after e ⊎ IsUnreadableIn One old e → IsOldRefused old before after e
-old_refused old before after e other refused = ⊎_elim (λ why. ⊎_elim (λ none. absurd (other none)) (λ failed. inl failed) why) (λ unreadable. inr unreadable) refused
+pub old_refused : (old : Image) (before after : ℕ) (e : Error) → ¬ (e ≡ NoMemory) → Refuses before after e ⊎ IsUnreadableIn One old e
+    → IsOldRefused old before after e
+old_refused old before after e other refused = ⊎_elim (λ why. ⊎_elim (λ none. absurd (other none)) (λ failed. inl failed) why) (λ unreadable.
+    inr unreadable) refused
 
 -- there was no memory to read the old device
 module _ {E : Type 0} (old : Image) (old_before mid old_after : ℕ) (history : E → History) (failures : E → ℕ) (new : E) where
-  pub unread_not_moved : mid ≡ old_before → (e : MigrateError) → IsToldUnread old (history new).disk.content mid old_after e → IsNotMigrated old old_before old_after history failures new new e
+  pub unread_not_moved : mid ≡ old_before → (e : MigrateError) → IsToldUnread old (history new).disk.content mid old_after e
+      → IsNotMigrated old old_before old_after history failures new new e
   unread_not_moved quiet (refusals.Old e) why = (inl (why.0, subst (λ n. Rises n old_after) quiet why.1), refl)
   unread_not_moved quiet (refusals.New e) why = inl (why.0, why.1, refl)
   unread_not_moved quiet refusals.NoMemory why = refl
 
-  pub unread_small : (e : MigrateError) → IsToldUnread old (history new).disk.content mid old_after e → IsTooSmall old (history new).disk.content → IsSmallAnswer e
+  pub unread_small : (e : MigrateError) → IsToldUnread old (history new).disk.content mid old_after e → IsTooSmall old (history new).disk.content
+      → IsSmallAnswer e
   unread_small (refusals.Old e) why small = inr (ap refusals.Old why.0)
   unread_small (refusals.New e) why small = inl (ap refusals.New why.0)
   unread_small refusals.NoMemory why small = absurd (omega (arith, why small.geometry small.gave.half small.gave.holds.store, small.few))
@@ -70,7 +79,8 @@ module _ {E : Type 0} (old : Image) (old_before mid old_after : ℕ) (history : 
 -- ---- sectors of a store
 
 pub format_inside : (g : GeometryValue) (n : ℕ) → IsFormatSector g n → n < sectors_of g
-format_inside g n sector = ⊎_elim (λ front. omega (arith, front)) (λ more. ⊎_elim (λ page. omega (arith, page.1)) (λ gate. omega (arith, gate.1, gate.2)) more) sector
+format_inside g n sector = ⊎_elim (λ front. omega (arith, front)) (λ more.
+    ⊎_elim (λ page. omega (arith, page.1)) (λ gate. omega (arith, gate.1, gate.2)) more) sector
 
 pub spare_inside : (g : GeometryValue) (half : Half) (n : ℕ) → IsSpare g half n → n < sectors_of g
 spare_inside g A n spare = ⊎_elim (λ inside. omega (arith, inside.1)) (λ flip. omega (arith, flip)) spare

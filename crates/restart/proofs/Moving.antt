@@ -1,5 +1,6 @@
 -- What the writer's calls leave of an engine.
-use Rattle.std.proofs.Common.{◌≡◌, ◌⊎◌, ⊎_elim, inl, false, true, ℕ, ◌+◌, ◌/◌, ◌≤◌, ◌<◌, List, Option, None, Some, [], ◌∷◌, ◌++◌, refl, sym, ◌∙◌, ap, subst, arith, append-nil}
+use Rattle.std.proofs.Common.{◌≡◌, ◌⊎◌, ⊎_elim, inl, false, true, ℕ, ◌+◌, ◌/◌, ◌≤◌, ◌<◌, List, Option, None, Some, [], ◌∷◌, ◌++◌, refl, sym, ◌∙◌, ap, subst}
+use Rattle.std.proofs.Common.{arith, append-nil}
 use Rattle.std.proofs.lemmas.Bool.{cases_lt, false≢true}
 use Rattle.records.specs.GeometryValue.{GeometryValue}
 use Rattle.records.specs.RecordValue.{RecordValue}
@@ -62,13 +63,21 @@ same_state v kept s k is = record {
 }
 
 lower : (run : Run) (n m handed : ℕ) (image : Image) → n ≤ m → LeftBy run m handed image → LeftBy run n handed image
-lower run n m handed image le left = record { number = left.number; least = omega (arith, le, left.least); most = left.most; has = left.has; gives = left.gives }
+lower run n m handed image le left = record {
+  number = left.number;
+  least = omega (arith, le, left.least);
+  most = left.most;
+  has = left.has;
+  gives = left.gives;
+}
 
 -- the copying goes on where it did
 pub record StaysAtPlace {D M : Type 0} (old new : Parts D M) : Type 0 where
   pub geometry : new.geometry ≡ old.geometry
-  pub place : (has_failed old ≡ false → IsCopying old.geometry.pages old.copying (image_of (writer_of old))) → has_failed new ≡ false → IsCopying old.geometry.pages new.copying (image_of (writer_of new))
-  pub carried : (has_failed old ≡ false → IsHalfOpen old.geometry.slots (image_of (writer_of old))) → has_failed new ≡ false → IsHalfOpen old.geometry.slots (image_of (writer_of new))
+  pub place : (has_failed old ≡ false → IsCopying old.geometry.pages old.copying (image_of (writer_of old))) → has_failed new ≡ false
+      → IsCopying old.geometry.pages new.copying (image_of (writer_of new))
+  pub carried : (has_failed old ≡ false → IsHalfOpen old.geometry.slots (image_of (writer_of old))) → has_failed new ≡ false
+      → IsHalfOpen old.geometry.slots (image_of (writer_of new))
 
 -- no image has no log
 pub none_open : (slots : ℕ) (image : Option NewImage) → image ≡ None → IsHalfOpen slots image
@@ -76,8 +85,10 @@ none_open slots image none i there = absurd cc
 
 module _ {D M : Type 0} (history : D → History) where
   -- the writer has gone on, and holds more of the records
-  pub stands_with : (run : Run) (handed later : ℕ) (s : State) (k : Standing) (old new : Parts D M) → StandsAt history run handed s k old → core_of new ≡ record (core_of old) { outbox = (core_of new).outbox }
-      → IsWriter history run later (writer_of new) → records_between run later (end_of run) ≡ unhanded new → StaysAtPlace old new → StandsAt history run later s k new
+  pub stands_with : (run : Run) (handed later : ℕ) (s : State) (k : Standing) (old new : Parts D M) → StandsAt history run handed s k old
+      → core_of new ≡ record (core_of old) { outbox = (core_of new).outbox }
+      → IsWriter history run later (writer_of new) → records_between run later (end_of run) ≡ unhanded new → StaysAtPlace old new
+      → StandsAt history run later s k new
   stands_with run handed later s k old new is others w rest stays = record {
     writer = w;
     rest = rest;
@@ -89,7 +100,8 @@ module _ {D M : Type 0} (history : D → History) where
     lists = is.lists;
     geometry = stays.geometry ∙ is.geometry;
     copying = subst (λ (x : GeometryValue). has_failed new ≡ false → IsCopying x.pages new.copying (image_of (writer_of new))) is.geometry
-        (stays.place (subst (λ (x : GeometryValue). has_failed old ≡ false → IsCopying x.pages old.copying (image_of (writer_of old))) (sym is.geometry) is.copying));
+        (stays.place (subst (λ (x : GeometryValue). has_failed old ≡ false
+        → IsCopying x.pages old.copying (image_of (writer_of old))) (sym is.geometry) is.copying));
     carried = subst (λ (x : GeometryValue). has_failed new ≡ false → IsHalfOpen x.slots (image_of (writer_of new))) is.geometry
         (stays.carried (subst (λ (x : GeometryValue). has_failed old ≡ false → IsHalfOpen x.slots (image_of (writer_of old))) (sym is.geometry) is.carried));
   }
@@ -97,11 +109,17 @@ module _ {D M : Type 0} (history : D → History) where
   -- a call of the writer that takes no record
   pub moves_by : (old new : Parts D M) → core_of new ≡ core_of old → unhanded new ≡ unhanded old
       → ((run : Run) (handed : ℕ) → IsWriter history run handed (writer_of old) → IsWriter history run handed (writer_of new))
-      → ((run : Run) (handed : ℕ) → IsWriter history run handed (writer_of old) → LeavesOnly (history (device_of old)) (history (device_of new)) (LeftBy run (horizon_of old) handed))
+      → ((run : Run) (handed : ℕ) → IsWriter history run handed (writer_of old)
+      → LeavesOnly (history (device_of old)) (history (device_of new)) (LeftBy run (horizon_of old) handed))
       → horizon_of old ≤ horizon_of new → StaysAtPlace old new → MovesOn history old new
   moves_by old new same rest keeps images grows stays = record {
-    stands = λ run handed s k is. (handed, omega arith, stands_with run handed handed s k old new is others (keeps run handed is.writer) (is.rest ∙ sym rest) stays);
-    images = λ run handed s k is. weaker (history (device_of old)) (history (device_of new)) (LeftBy run (horizon_of old) handed) (λ (image : Image). (later : ℕ) × (later ≤ end_of run) × LeftBy run (horizon_of old) later image)
+    stands = λ run handed s k is. (
+      handed,
+      omega arith,
+      stands_with run handed handed s k old new is others (keeps run handed is.writer) (is.rest ∙ sym rest) stays,
+    );
+    images = λ run handed s k is. weaker (history (device_of old)) (history (device_of new)) (LeftBy run (horizon_of old) handed) (λ (image : Image).
+        (later : ℕ) × (later ≤ end_of run) × LeftBy run (horizon_of old) later image)
         (λ c left. (handed, is.writer.made, left)) (images run handed is.writer);
     grows = grows;
     core = others;
@@ -113,11 +131,17 @@ module _ {D M : Type 0} (history : D → History) where
   -- a call of the writer that takes no record, of whatever the state of the core allows
   pub moves_at : (old new : Parts D M) → core_of new ≡ core_of old → unhanded new ≡ unhanded old
       → ((run : Run) (handed : ℕ) (s : State) (k : Standing) → StandsAt history run handed s k old → IsWriter history run handed (writer_of new))
-      → ((run : Run) (handed : ℕ) → IsWriter history run handed (writer_of old) → LeavesOnly (history (device_of old)) (history (device_of new)) (LeftBy run (horizon_of old) handed))
+      → ((run : Run) (handed : ℕ) → IsWriter history run handed (writer_of old)
+      → LeavesOnly (history (device_of old)) (history (device_of new)) (LeftBy run (horizon_of old) handed))
       → horizon_of old ≤ horizon_of new → StaysAtPlace old new → MovesOn history old new
   moves_at old new same rest keeps images grows stays = record {
-    stands = λ run handed s k is. (handed, omega arith, stands_with run handed handed s k old new is others (keeps run handed s k is) (is.rest ∙ sym rest) stays);
-    images = λ run handed s k is. weaker (history (device_of old)) (history (device_of new)) (LeftBy run (horizon_of old) handed) (λ (image : Image). (later : ℕ) × (later ≤ end_of run) × LeftBy run (horizon_of old) later image)
+    stands = λ run handed s k is. (
+      handed,
+      omega arith,
+      stands_with run handed handed s k old new is others (keeps run handed s k is) (is.rest ∙ sym rest) stays,
+    );
+    images = λ run handed s k is. weaker (history (device_of old)) (history (device_of new)) (LeftBy run (horizon_of old) handed) (λ (image : Image).
+        (later : ℕ) × (later ≤ end_of run) × LeftBy run (horizon_of old) later image)
         (λ c left. (handed, is.writer.made, left)) (images run handed is.writer);
     grows = grows;
     core = others;
@@ -135,8 +159,10 @@ module _ {D M : Type 0} (history : D → History) where
         (b.0, omega (arith, a.1, b.1), b.2);
     images = λ run handed s k is.
         let a = first.stands run handed s k is in
-        joined (history (device_of old)) (history (device_of mid)) (history (device_of new)) (λ (image : Image). (later : ℕ) × (later ≤ end_of run) × LeftBy run (horizon_of old) later image) (first.images run handed s k is)
-        (weaker (history (device_of mid)) (history (device_of new)) (λ (image : Image). (later : ℕ) × (later ≤ end_of run) × LeftBy run (horizon_of mid) later image) (λ (image : Image). (later : ℕ) × (later ≤ end_of run) × LeftBy run (horizon_of old) later image)
+        joined (history (device_of old)) (history (device_of mid)) (history (device_of new)) (λ (image : Image). (later : ℕ) × (later ≤ end_of run)
+        × LeftBy run (horizon_of old) later image) (first.images run handed s k is)
+        (weaker (history (device_of mid)) (history (device_of new)) (λ (image : Image). (later : ℕ) × (later ≤ end_of run)
+        × LeftBy run (horizon_of mid) later image) (λ (image : Image). (later : ℕ) × (later ≤ end_of run) × LeftBy run (horizon_of old) later image)
         (λ c left. (left.0, left.1, lower run (horizon_of old) (horizon_of mid) left.0 c first.grows left.2)) (second.images run a.0 s k a.2));
     grows = omega (arith, first.grows, second.grows);
     core = second.core ∙ ap (λ (v : CoreValue). record v { outbox = (core_of new).outbox }) first.core;
@@ -146,7 +172,8 @@ module _ {D M : Type 0} (history : D → History) where
   can_run_on old new moves can = let a = moves.stands can.0 can.1 can.2 can.3 can.4 in (can.0, a.0, can.2, can.3, a.2)
 
   -- a request that asks the core for nothing
-  pub serves_by : (old new : Parts D M) (x : Event) (r : Reply M) → MovesOn history old new → asked x ≡ None → IsOfKind x r → ((n : ℕ) → n ≤ horizon_of new → acknowledged n (r ∷ []) ≤ horizon_of new) → ServesOn history x r old new
+  pub serves_by : (old new : Parts D M) (x : Event) (r : Reply M) → MovesOn history old new → asked x ≡ None → IsOfKind x r
+      → ((n : ℕ) → n ≤ horizon_of new → acknowledged n (r ∷ []) ≤ horizon_of new) → ServesOn history x r old new
   serves_by old new x r moves none kind safe past is = (at, leaves, moves.grows)
     where
       has : HasServed (over past.geometry past.given) is.made (core_calls past.events past.replies ++ both (asked x) (answered r)) is.state is.standing
@@ -157,17 +184,21 @@ module _ {D M : Type 0} (history : D → History) where
       moved = moves.stands (run_of past is.made) is.handed is.state is.standing is.stands
 
       at : IsAt history (and_then past (x ∷ []) (r ∷ [])) new
-      at = at_next history past old new x r kind is is.made moved.0 is.state is.standing has moved.2 (safe (acknowledged_by past) (omega (arith, is.safe, moves.grows)))
+      at = at_next history past old new x r kind is is.made moved.0 is.state is.standing has moved.2
+          (safe (acknowledged_by past) (omega (arith, is.safe, moves.grows)))
 
       leaves : LeavesOnly (history (device_of old)) (history (device_of new)) (Survives (and_then past (x ∷ []) (r ∷ [])) (horizon_of old))
-      leaves = weaker (history (device_of old)) (history (device_of new)) (λ (image : Image). (later : ℕ) × (later ≤ end_of (run_of past is.made)) × LeftBy (run_of past is.made) (horizon_of old) later image) (Survives (and_then past (x ∷ []) (r ∷ [])) (horizon_of old))
-          (λ c left. left_then history past old new x r kind is is.made left.0 is.state is.standing has (horizon_of old) is.stands.writer.opened left.1 c left.2)
+      leaves = weaker (history (device_of old)) (history (device_of new)) (λ (image : Image). (later : ℕ) × (later ≤ end_of (run_of past is.made))
+          × LeftBy (run_of past is.made) (horizon_of old) later image) (Survives (and_then past (x ∷ []) (r ∷ [])) (horizon_of old))
+          (λ c left. left_then history past old new x r kind is is.made left.0 is.state is.standing has
+          (horizon_of old) is.stands.writer.opened left.1 c left.2)
           (moves.images (run_of past is.made) is.handed is.state is.standing is.stands)
 
 -- ---- where the copying goes on
 
 -- a flush carries a group only where there is room in half the slots
-still_open : (slots synced count : ℕ) (old new : Option NewImage) → BecomesImage slots synced count old new → (all : ℕ) → slots ≡ all → IsHalfOpen all old → IsHalfOpen all new
+still_open : (slots synced count : ℕ) (old new : Option NewImage) → BecomesImage slots synced count old new → (all : ℕ) → slots ≡ all → IsHalfOpen all old
+    → IsHalfOpen all new
 still_open slots synced count None new becomes all same was i there = none_open all new (becomes.none refl) i there
 still_open slots synced count (Some old) new becomes all same was i there = ⊎_elim
     (λ above. ⊎_elim
@@ -188,15 +219,18 @@ still_open slots synced count (Some old) new becomes all same was i there = ⊎_
     half_of less = subst (λ n. old.log.open_slots < n / 2) same less
 
 -- what the type keeps of an image's log
-pub open_now : {D M : Type 0} (history : D → History) (engine : Parts D M) → CanRun history engine → has_failed engine ≡ false → IsHalfOpen engine.geometry.slots (image_of (writer_of engine))
+pub open_now : {D M : Type 0} (history : D → History) (engine : Parts D M) → CanRun history engine → has_failed engine ≡ false
+    → IsHalfOpen engine.geometry.slots (image_of (writer_of engine))
 open_now history engine can sound = subst (λ (x : GeometryValue). IsHalfOpen x.slots (image_of (writer_of engine))) (sym can.4.geometry) (can.4.carried sound)
 
 -- so many slots as the engine's geometry has
-pub slots_are : {D M : Type 0} (history : D → History) (engine : Parts D M) → CanRun history engine → (writer.halves_of (writer_of engine)).geometry.slots ≡ engine.geometry.slots
+pub slots_are : {D M : Type 0} (history : D → History) (engine : Parts D M) → CanRun history engine
+    → (writer.halves_of (writer_of engine)).geometry.slots ≡ engine.geometry.slots
 slots_are history engine can = ap (λ (x : GeometryValue). x.slots) (can.4.writer.geometry-is ∙ sym can.4.geometry)
 
 module _ {D M : Type 0} (mid new : Parts D M) (size : new.geometry ≡ mid.geometry) (copying : new.copying ≡ mid.copying) where
-  same_open : writer_of new ≡ writer_of mid → (has_failed mid ≡ false → IsHalfOpen mid.geometry.slots (image_of (writer_of mid))) → has_failed new ≡ false → IsHalfOpen mid.geometry.slots (image_of (writer_of new))
+  same_open : writer_of new ≡ writer_of mid → (has_failed mid ≡ false → IsHalfOpen mid.geometry.slots (image_of (writer_of mid))) → has_failed new ≡ false
+      → IsHalfOpen mid.geometry.slots (image_of (writer_of new))
   same_open same was sound i there = was (sym (ap (λ w. writer.has_failed w) same) ∙ sound) i (sym (ap (λ w. image_of w) same) ∙ there)
 
   -- the writer is as it was
@@ -210,11 +244,18 @@ module _ {D M : Type 0} (mid new : Parts D M) (size : new.geometry ≡ mid.geome
 
   -- it has failed
   pub stays_failed : has_failed new ≡ true → StaysAtPlace mid new
-  stays_failed failed = record { geometry = size; place = λ was sound. absurd (false≢true (sym sound ∙ failed)); carried = λ was sound. absurd (false≢true (sym sound ∙ failed)) }
+  stays_failed failed = record {
+    geometry = size;
+    place = λ was sound. absurd (false≢true (sym sound ∙ failed));
+    carried = λ was sound.
+        absurd (false≢true (sym sound ∙ failed));
+  }
 
   -- a group was flushed
-  pub stays_flushed : (slots synced count : ℕ) → slots ≡ mid.geometry.slots → has_failed mid ≡ false → BecomesImage slots synced count (image_of (writer_of mid)) (image_of (writer_of new))
-      → ((pages slots synced count : ℕ) (place : Option CopyPlace) (old new : Option NewImage) → BecomesImage slots synced count old new → IsAtPlace pages place old → (new ≡ None) ⊎ IsAtPlace pages place new) → StaysAtPlace mid new
+  pub stays_flushed : (slots synced count : ℕ) → slots ≡ mid.geometry.slots → has_failed mid ≡ false
+      → BecomesImage slots synced count (image_of (writer_of mid)) (image_of (writer_of new))
+      → ((pages slots synced count : ℕ) (place : Option CopyPlace) (old new : Option NewImage) → BecomesImage slots synced count old new
+      → IsAtPlace pages place old → (new ≡ None) ⊎ IsAtPlace pages place new) → StaysAtPlace mid new
   stays_flushed slots synced count size_is sound becomes kept = record {
     geometry = size;
     place = λ was _. subst (λ c. IsCopying mid.geometry.pages c (image_of (writer_of new))) (sym copying) (by mid.copying (was sound));
@@ -223,24 +264,37 @@ module _ {D M : Type 0} (mid new : Parts D M) (size : new.geometry ≡ mid.geome
     where
       by : (c : Copying) → IsCopying mid.geometry.pages c (image_of (writer_of mid)) → IsCopying mid.geometry.pages c (image_of (writer_of new))
       by Idle is = tt
-      by (Steps place) is = ⊎_elim (λ none. inl (becomes.none none)) (λ there. kept mid.geometry.pages slots synced count place (image_of (writer_of mid)) (image_of (writer_of new)) becomes there) is
+      by (Steps place) is = ⊎_elim (λ none. inl (becomes.none none)) (λ there.
+          kept mid.geometry.pages slots synced count place (image_of (writer_of mid)) (image_of (writer_of new)) becomes there) is
       by GivenUp is = tt
 
 -- where none is under way, or all are given up, nothing is asked of its place
-module _ {D M : Type 0} (mid new : Parts D M) (size : new.geometry ≡ mid.geometry) (carried : (has_failed mid ≡ false → IsHalfOpen mid.geometry.slots (image_of (writer_of mid))) → has_failed new ≡ false → IsHalfOpen mid.geometry.slots (image_of (writer_of new))) where
+module _ {D M : Type 0} (mid new : Parts D M) (size : new.geometry ≡ mid.geometry)
+    (carried : (has_failed mid ≡ false → IsHalfOpen mid.geometry.slots (image_of (writer_of mid))) → has_failed new ≡ false
+    → IsHalfOpen mid.geometry.slots (image_of (writer_of new))) where
   given_up_by : new.copying ≡ GivenUp → StaysAtPlace mid new
-  given_up_by given = record { geometry = size; place = λ was sound. subst (λ c. IsCopying mid.geometry.pages c (image_of (writer_of new))) (sym given) tt; carried = carried }
+  given_up_by given = record {
+    geometry = size;
+    place = λ was sound. subst (λ c. IsCopying mid.geometry.pages c (image_of (writer_of new))) (sym given) tt;
+    carried = carried;
+  }
 
   idle_by : new.copying ≡ Idle → StaysAtPlace mid new
-  idle_by idle = record { geometry = size; place = λ was sound. subst (λ c. IsCopying mid.geometry.pages c (image_of (writer_of new))) (sym idle) tt; carried = carried }
+  idle_by idle = record {
+    geometry = size;
+    place = λ was sound. subst (λ c. IsCopying mid.geometry.pages c (image_of (writer_of new))) (sym idle) tt;
+    carried = carried;
+  }
 
 module _ {D M : Type 0} (mid new : Parts D M) (size : new.geometry ≡ mid.geometry) where
   pub stays_given_up : new.copying ≡ GivenUp → writer_of new ≡ writer_of mid → StaysAtPlace mid new
-  stays_given_up given same = given_up_by mid new size (λ was sound i there. was (sym (ap (λ w. writer.has_failed w) same) ∙ sound) i (sym (ap (λ w. image_of w) same) ∙ there)) given
+  stays_given_up given same = given_up_by mid new size (λ was sound i there.
+      was (sym (ap (λ w. writer.has_failed w) same) ∙ sound) i (sym (ap (λ w. image_of w) same) ∙ there)) given
 
   -- a whole image was begun
   pub stays_begun : new.copying ≡ GivenUp → (image : NewImage) → image_of (writer_of new) ≡ Some image → image.log.open_slots ≡ 0 → StaysAtPlace mid new
-  stays_begun given image image_is empty = given_up_by mid new size (λ was sound i there. let same : image ≡ i = cc (image_is, there) in omega (arith, ap (λ (x : NewImage). x.log.open_slots) (sym same) ∙ empty)) given
+  stays_begun given image image_is empty = given_up_by mid new size (λ was sound i there. let same : image ≡ i = cc (image_is, there) in
+      omega (arith, ap (λ (x : NewImage). x.log.open_slots) (sym same) ∙ empty)) given
 
   pub stays_idle : new.copying ≡ Idle → image_of (writer_of new) ≡ None → StaysAtPlace mid new
   stays_idle idle none = idle_by mid new size (λ was sound. none_open mid.geometry.slots (image_of (writer_of new)) none) idle

@@ -23,7 +23,8 @@ module _ (run : Run) (m : ℕ) (low : run.last ≤ m) (first rest : List RecordV
 
   pub rest_behind : records_between run (m + length first) (end_of run) ≡ rest
   rest_behind =
-      to_end run (m + length first) (omega (arith, low)) ∙ ap (λ n. drop n run.records) (omega (arith, low)) ∙ sym (drop-drop (length first) (m - run.last) run.records)
+      to_end run (m + length first) (omega (arith, low)) ∙ ap (λ n. drop n run.records) (omega (arith, low))
+      ∙ sym (drop-drop (length first) (m - run.last) run.records)
       ∙ ap (drop (length first)) above_is ∙ drop-append_seam first rest
 
   pub within_end : m ≤ end_of run → m + length first ≤ end_of run
@@ -33,7 +34,8 @@ module _ (run : Run) (m : ℕ) (low : run.last ≤ m) (first rest : List RecordV
 pub with_more : (run : Run) (more : List RecordValue) (m : ℕ) → run.last ≤ m → m ≤ end_of run
     → records_between (longer run more) m (end_of (longer run more)) ≡ records_between run m (end_of run) ++ more
 with_more run more m low high =
-    to_end (longer run more) m low ∙ drop-append-le (m - run.last) run.records more (omega (arith, low, high)) ∙ ap (λ (l : List RecordValue). l ++ more) (sym (to_end run m low))
+    to_end (longer run more) m low ∙ drop-append-le (m - run.last) run.records more (omega (arith, low, high))
+    ∙ ap (λ (l : List RecordValue). l ++ more) (sym (to_end run m low))
 
 -- as many as there are behind record m, up to n
 pub count_between : (run : Run) (m n : ℕ) → run.last ≤ m → n ≤ end_of run → length (records_between run m n) ≡ n - m

@@ -53,17 +53,20 @@ begins_with pages places given = record {
 
 -- ---- the engine
 
-module _ {D M : Type 0} (history : D → History) (before : Image) (engine : Parts D M) (halves : HalvesValue) (log : Log) (is : IsCoreOf before (history (device_of engine)) halves log (core_of engine))
+module _ {D M : Type 0} (history : D → History) (before : Image) (engine : Parts D M) (halves : HalvesValue) (log : Log)
+    (is : IsCoreOf before (history (device_of engine)) halves log (core_of engine))
     (half : (pages base : ℕ) (cells : Cells) (s : State) → HasCells s cells → IsLogOf pages base cells [] s)
     (lists : (o : Opened) → HasLists (opened o) (opening_cells o.given))
     (size : engine.geometry ≡ halves.geometry) (idle : engine.copying ≡ Idle) (no_image : writer.image_of (writer_of engine) ≡ None)
-    (takes : (cells : Cells) → IsOpenedAt (history (device_of engine)) halves log is.given.last cells → IsWriter history (opened_run halves is.given.last cells) is.given.last (writer_of engine))
+    (takes : (cells : Cells) → IsOpenedAt (history (device_of engine)) halves log is.given.last cells
+    → IsWriter history (opened_run halves is.given.last cells) is.given.last (writer_of engine))
     (none : engine.outgoing.items ≡ []) (reached : horizon_of engine ≡ is.given.last) (sound : writer.has_failed (writer_of engine) ≡ false) where
   abbrev g : GeometryValue
   g = halves.geometry
 
   none_made : records_between (run_of (opening {M = M} g is.given) []) is.given.last (end_of (run_of (opening {M = M} g is.given) [])) ≡ []
-  none_made = nil_from_length (records_between (run_of (opening {M = M} g is.given) []) is.given.last (end_of (run_of (opening {M = M} g is.given) []))) (omega (arith, count_to_end (run_of (opening {M = M} g is.given) []) is.given.last (omega arith)))
+  none_made = nil_from_length (records_between (run_of (opening {M = M} g is.given) []) is.given.last (end_of (run_of (opening {M = M} g is.given) [])))
+      (omega (arith, count_to_end (run_of (opening {M = M} g is.given) []) is.given.last (omega arith)))
 
   begun : StandsAt history (run_of (opening {M = M} g is.given) []) is.given.last (opened (over g is.given)) (standing_at is.given.last) engine
   begun = record {
@@ -136,22 +139,35 @@ module _ {D M : Type 0} (history : D → History) (before : Image) (engine : Par
 
 -- ---- what is made of what was opened
 
-module _ {D M : Type 0} (history : D → History) (before after : D) (engine : Parts D M) (halves : HalvesValue) (log : Log) (found : IsCoreOf (history before).disk.content (history after) halves log (core_of engine)) (device : device_of engine ≡ after)
-    (half : (pages base : ℕ) (cells : Cells) (s : State) → HasCells s cells → IsLogOf pages base cells [] s) (lists : (o : Opened) → HasLists (opened o) (opening_cells o.given)) (size : engine.geometry ≡ halves.geometry) (idle : engine.copying ≡ Idle) (no_image : writer.image_of (writer_of engine) ≡ None)
-    (synced : ℕ) (synced_is : synced ≡ (core_of engine).last) (writes : (cells : Cells) → IsOpenedAt (history after) halves log synced cells → IsWriter history (opened_run halves synced cells) synced (writer_of engine))
+module _ {D M : Type 0} (history : D → History) (before after : D) (engine : Parts D M) (halves : HalvesValue) (log : Log)
+    (found : IsCoreOf (history before).disk.content (history after) halves log (core_of engine)) (device : device_of engine ≡ after)
+    (half : (pages base : ℕ) (cells : Cells) (s : State) → HasCells s cells → IsLogOf pages base cells [] s) (lists : (o : Opened)
+    → HasLists (opened o) (opening_cells o.given)) (size : engine.geometry ≡ halves.geometry) (idle : engine.copying ≡ Idle)
+    (no_image : writer.image_of (writer_of engine) ≡ None)
+    (synced : ℕ) (synced_is : synced ≡ (core_of engine).last) (writes : (cells : Cells) → IsOpenedAt (history after) halves log synced cells
+    → IsWriter history (opened_run halves synced cells) synced (writer_of engine))
     (none : engine.outgoing.items ≡ []) (reached_is : horizon_of engine ≡ synced) (sound : writer.has_failed (writer_of engine) ≡ false) where
   number : synced ≡ found.given.last
   number = synced_is ∙ ap (λ (v : CoreValue). v.last) found.holds
 
   abbrev moved : IsCoreOf (history before).disk.content (history (device_of engine)) halves log (core_of engine)
-  moved = record { given = found.given; gives = found.gives; holds = found.holds; shown = found.shown; opened-at = subst (λ d. IsOpenedAt (history d) halves log found.given.last (opening_cells found.given)) (sym device) found.opened-at }
+  moved = record {
+    given = found.given;
+    gives = found.gives;
+    holds = found.holds;
+    shown = found.shown;
+    opened-at = subst (λ d. IsOpenedAt (history d) halves log found.given.last (opening_cells found.given)) (sym device) found.opened-at;
+  }
 
-  takes : (cells : Cells) → IsOpenedAt (history (device_of engine)) halves log found.given.last cells → IsWriter history (opened_run halves found.given.last cells) found.given.last (writer_of engine)
+  takes : (cells : Cells) → IsOpenedAt (history (device_of engine)) halves log found.given.last cells
+      → IsWriter history (opened_run halves found.given.last cells) found.given.last (writer_of engine)
   takes cells at = subst (λ n. IsWriter history (opened_run halves n cells) n (writer_of engine)) number
-      (writes cells (subst (λ n. IsOpenedAt (history after) halves log n cells) (sym number) (subst (λ d. IsOpenedAt (history d) halves log found.given.last cells) device at)))
+      (writes cells (subst (λ n. IsOpenedAt (history after) halves log n cells) (sym number)
+      (subst (λ d. IsOpenedAt (history d) halves log found.given.last cells) device at)))
 
   pub can_run_made : CanRun history engine
-  can_run_made = can_run_opened history (history before).disk.content engine halves log moved half lists size idle no_image takes none (reached_is ∙ number) sound
+  can_run_made = can_run_opened history (history before).disk.content engine halves log moved half lists size idle no_image takes none (reached_is
+      ∙ number) sound
 
   pub opened_made : IsTurned history before after → IsOpened history before engine
   opened_made turned = record {
@@ -163,25 +179,38 @@ module _ {D M : Type 0} (history : D → History) (before after : D) (engine : P
     sound = sound;
     device = subst (IsTurned history before) (sym device) turned;
     synced = moved.opened-at.all_synced;
-    begins = λ opens. begins_at history (history before).disk.content engine halves log moved half lists size idle no_image takes none (reached_is ∙ number) sound opens;
-    come = λ opens. come_to history (history before).disk.content engine halves log moved half lists size idle no_image takes none (reached_is ∙ number) sound opens;
+    begins = λ opens. begins_at history (history before).disk.content engine halves log moved half lists size idle no_image takes none (reached_is
+        ∙ number) sound opens;
+    come = λ opens. come_to history (history before).disk.content engine halves log moved half lists size idle no_image takes none (reached_is
+        ∙ number) sound opens;
   }
 
   pub recovers_made : (past : Past M) (floor : ℕ) → Survives past floor (history before).disk.content → Recovers history past floor engine
-  recovers_made past floor left = recovers_run history (history before).disk.content engine halves log moved half lists size idle no_image takes none (reached_is ∙ number) sound past floor left
+  recovers_made past floor left = recovers_run history (history before).disk.content engine halves log moved half lists size idle no_image takes none
+      (reached_is ∙ number) sound past floor left
 
 -- ---- what is moved from another device
 
 -- a device that stays as it is
 still : {D : Type 0} (history : D → History) (d : D) → IsTurned history d d
 still history d = record {
-  images = record { later = omega arith; kept = λ t le. refl; each = λ t image from to crash. inl (subst (λ (x : Disk). IsCrashImage x image) (ap (history d).disk_at (let e : t ≡ (history d).moment = omega (arith, from, to) in e) ∙ (history d).now) crash) };
+  images = record {
+    later = omega arith;
+    kept = λ t le. refl;
+    each = λ t image from to crash.
+        inl (subst (λ (x : Disk). IsCrashImage x image) (ap (history d).disk_at (let e : t ≡ (history d).moment = omega (arith, from, to) in e)
+        ∙ (history d).now) crash);
+  };
   now = inl refl;
 }
 
-module _ {D M : Type 0} (history : D → History) (new : D) (engine : Parts D M) (halves : HalvesValue) (log : Log) (found : IsCoreOf (history new).disk.content (history new) halves log (core_of engine)) (device : device_of engine ≡ new)
-    (half : (pages base : ℕ) (cells : Cells) (s : State) → HasCells s cells → IsLogOf pages base cells [] s) (lists : (o : Opened) → HasLists (opened o) (opening_cells o.given)) (size : engine.geometry ≡ halves.geometry) (idle : engine.copying ≡ Idle) (no_image : writer.image_of (writer_of engine) ≡ None)
-    (synced : ℕ) (synced_is : synced ≡ (core_of engine).last) (writes : (cells : Cells) → IsOpenedAt (history new) halves log synced cells → IsWriter history (opened_run halves synced cells) synced (writer_of engine))
+module _ {D M : Type 0} (history : D → History) (new : D) (engine : Parts D M) (halves : HalvesValue) (log : Log)
+    (found : IsCoreOf (history new).disk.content (history new) halves log (core_of engine)) (device : device_of engine ≡ new)
+    (half : (pages base : ℕ) (cells : Cells) (s : State) → HasCells s cells → IsLogOf pages base cells [] s) (lists : (o : Opened)
+    → HasLists (opened o) (opening_cells o.given)) (size : engine.geometry ≡ halves.geometry) (idle : engine.copying ≡ Idle)
+    (no_image : writer.image_of (writer_of engine) ≡ None)
+    (synced : ℕ) (synced_is : synced ≡ (core_of engine).last) (writes : (cells : Cells) → IsOpenedAt (history new) halves log synced cells
+    → IsWriter history (opened_run halves synced cells) synced (writer_of engine))
     (none : engine.outgoing.items ≡ []) (reached_is : horizon_of engine ≡ synced) (sound : writer.has_failed (writer_of engine) ≡ false) where
   abbrev there : IsCoreOf (history (device_of engine)).disk.content (history (device_of engine)) halves log (core_of engine)
   there = record {
@@ -195,16 +224,19 @@ module _ {D M : Type 0} (history : D → History) (new : D) (engine : Parts D M)
   pub migrated : (old : Image) → GivesIn One old halves.geometry found.given → IsMigrated old history engine
   unfolding opened_made
   migrated old gave = record {
-    opened = opened_made history (device_of engine) (device_of engine) engine halves log there refl half lists size idle no_image synced synced_is (λ cells at. writes cells (subst (λ d. IsOpenedAt (history d) halves log synced cells) device at)) none reached_is sound (still history (device_of engine));
+    opened = opened_made history (device_of engine) (device_of engine) engine halves log there refl half lists size idle no_image synced synced_is (λ cells at.
+        writes cells (subst (λ d. IsOpenedAt (history d) halves log synced cells) device at)) none reached_is sound (still history (device_of engine));
     gave = gave;
   }
 
 -- ---- the device
 
 module _ {M D : Type 0} (history : D → History) (before after : D) (turned : IsTurned history before after)
-    (same : (old : Disk) (image : Image) → IsSynced old → ReopeningLeaves old image → (g : GeometryValue) (given : Given) → Gives old.content g given → Gives image g given) where
+    (same : (old : Disk) (image : Image) → IsSynced old → ReopeningLeaves old image → (g : GeometryValue) (given : Given) → Gives old.content g given
+    → Gives image g given) where
   -- what a run left on a synced device stays
-  pub stays_left : IsSynced (history before).disk → (past : Past M) (floor : ℕ) → Survives past floor (history before).disk.content → LeavesOnly (history before) (history after) (Survives past floor)
+  pub stays_left : IsSynced (history before).disk → (past : Past M) (floor : ℕ) → Survives past floor (history before).disk.content
+      → LeavesOnly (history before) (history after) (Survives past floor)
   stays_left synced past floor left = weaker (history before) (history after) (ReopeningLeaves (history before).disk) (Survives past floor)
       (λ c was. record {
         given = left.given;
@@ -217,5 +249,6 @@ module _ {M D : Type 0} (history : D → History) (before after : D) (turned : I
 -- ---- what is loaded
 
 -- there is room for each entry of what was found, so that a core over it is refused for want of memory alone
-pub load_refuses : (image : Image) (g : GeometryValue) (given : Given) → Gives image g given → (e : Error) → (e ≡ IndexFull → g.entries < map.len given.entries) → (e ≡ IndexFull) ⊎ (e ≡ NoMemory) → (before now : ℕ) → Refuses before now e
+pub load_refuses : (image : Image) (g : GeometryValue) (given : Given) → Gives image g given → (e : Error) → (e ≡ IndexFull → g.entries < map.len given.entries)
+    → (e ≡ IndexFull) ⊎ (e ≡ NoMemory) → (before now : ℕ) → Refuses before now e
 load_refuses image g given gives e crowded why before now = ⊎_elim (λ full. absurd (omega (arith, crowded full, gives.room))) (λ none. inl none) why

@@ -20,7 +20,8 @@ use Rattle.restart.specs.Store.{CanRun, IsAt, Past, StandsAt, Survives, acknowle
 use Rattle.restart.proofs.Standing.{Laws, stands_then}
 use Rattle.restart.proofs.Stories.{at_next, crash_since}
 
-both_are : (asks : Option core.Event) (answers : Option core.Reply) (e : core.Event) (r : core.Reply) → asks ≡ Some e → answers ≡ Some r → (e, r) ∷ [] ≡ both asks answers
+both_are : (asks : Option core.Event) (answers : Option core.Reply) (e : core.Event) (r : core.Reply) → asks ≡ Some e → answers ≡ Some r
+    → (e, r) ∷ [] ≡ both asks answers
 both_are asks answers e r p q = sym (ap (λ a. both a answers) p ∙ ap (both (Some e)) q)
 
 -- what the core answered is of its request's kind
@@ -43,7 +44,8 @@ of_kind (event.Get rid) r e told p q = λ none. cc
 of_kind (event.Find key) r e told p q = λ none. cc
 of_kind event.Life r e told p q = λ none. cc
 
-module _ {D M : Type 0} (history : D → History) (x : Event) (e : core.Event) (r : Reply M) (old new : Parts D M) (asks : asked x ≡ Some e) (in_core : ServesInCore e r old new) (laws : Laws history (writer_of old)) where
+module _ {D M : Type 0} (history : D → History) (x : Event) (e : core.Event) (r : Reply M) (old new : Parts D M) (asks : asked x ≡ Some e)
+    (in_core : ServesInCore e r old new) (laws : Laws history (writer_of old)) where
   pub can_run_then : CanRun history old → CanRun history new
   can_run_then can =
       let is : StandsAt history can.0 can.1 can.2 can.3 old = can.4 in
@@ -54,23 +56,32 @@ module _ {D M : Type 0} (history : D → History) (x : Event) (e : core.Event) (
     abbrev answer : Answers (core_of old) is.state is.standing e in_core.reply (core_of new)
     answer = in_core.serves is.state is.standing is.stands.shown
 
-    has : HasServed (over past.geometry past.given) (is.made ++ records_by is.state is.standing.made answer.step) (core_calls past.events past.replies ++ both (asked x) (answered r)) (after_any is.state answer.step) (standing_after is.standing in_core.reply)
-    has = subst (λ (l : List (core.Event × core.Reply)). HasServed (over past.geometry past.given) (is.made ++ records_by is.state is.standing.made answer.step) (core_calls past.events past.replies ++ l) (after_any is.state answer.step) (standing_after is.standing in_core.reply))
+    has : HasServed (over past.geometry past.given) (is.made ++ records_by is.state is.standing.made answer.step)
+        (core_calls past.events past.replies ++ both (asked x) (answered r)) (after_any is.state answer.step) (standing_after is.standing in_core.reply)
+    has = subst (λ (l : List (core.Event × core.Reply)).
+        HasServed (over past.geometry past.given) (is.made ++ records_by is.state is.standing.made answer.step) (core_calls past.events past.replies ++ l)
+        (after_any is.state answer.step) (standing_after is.standing in_core.reply))
         (both_are (asked x) (answered r) e in_core.reply asks in_core.reply_is)
-        (served_allowed (over past.geometry past.given) is.opens is.made (core_calls past.events past.replies) is.state is.standing is.served e in_core.reply answer.step answer.allowed)
+        (served_allowed (over past.geometry past.given) is.opens is.made
+        (core_calls past.events past.replies) is.state is.standing is.served e in_core.reply answer.step answer.allowed)
 
     same_horizon : horizon_of new ≡ horizon_of old
     same_horizon = ap (λ (e : Parts D M). horizon_of e) in_core.rest
 
     pub at_then : IsAt history (and_then past (x ∷ []) (r ∷ [])) new
-    at_then = at_next history past old new x r (of_kind x r e in_core.reply asks in_core.reply_is) is (is.made ++ records_by is.state is.standing.made answer.step) is.handed (after_any is.state answer.step) (standing_after is.standing in_core.reply) has
+    at_then = at_next history past old new x r (of_kind x r e in_core.reply asks in_core.reply_is) is
+        (is.made ++ records_by is.state is.standing.made answer.step) is.handed (after_any is.state answer.step) (standing_after is.standing in_core.reply) has
         (stands_then history (run_of past is.made) is.handed is.state is.standing old is.stands laws new e in_core.reply answer in_core.rest)
         (omega (arith, quiet (acknowledged_by past), is.safe, same_horizon))
 
-    pub leaves_then : LeavesOnly (history (device_of (writer_of old))) (history (device_of (writer_of new))) (Survives (and_then past (x ∷ []) (r ∷ [])) (horizon_of old))
-    leaves_then = subst (λ w. LeavesOnly (history (device_of w)) (history (device_of (writer_of new))) (Survives (and_then past (x ∷ []) (r ∷ [])) (horizon_of old))) (ap (λ (e : Parts D M). writer_of e) in_core.rest)
+    pub leaves_then : LeavesOnly (history (device_of (writer_of old))) (history (device_of (writer_of new)))
+        (Survives (and_then past (x ∷ []) (r ∷ [])) (horizon_of old))
+    leaves_then = subst (λ w. LeavesOnly (history (device_of w)) (history (device_of (writer_of new)))
+        (Survives (and_then past (x ∷ []) (r ∷ [])) (horizon_of old))) (ap (λ (e : Parts D M). writer_of e) in_core.rest)
         (started (history (device_of (writer_of new))) (Survives (and_then past (x ∷ []) (r ∷ [])) (horizon_of old))
         (λ image crash. crash_since history (and_then past (x ∷ []) (r ∷ [])) new at_then (horizon_of old) (omega (arith, same_horizon)) image crash))
 
-    pub served : IsAt history (and_then past (x ∷ []) (r ∷ [])) new × LeavesOnly (history (device_of (writer_of old))) (history (device_of (writer_of new))) (Survives (and_then past (x ∷ []) (r ∷ [])) (horizon_of old)) × (horizon_of old ≤ horizon_of new)
+    pub served : IsAt history (and_then past (x ∷ []) (r ∷ [])) new
+        × LeavesOnly (history (device_of (writer_of old))) (history (device_of (writer_of new))) (Survives (and_then past (x ∷ []) (r ∷ [])) (horizon_of old))
+        × (horizon_of old ≤ horizon_of new)
     served = (at_then, leaves_then, omega (arith, same_horizon))

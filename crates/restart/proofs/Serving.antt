@@ -62,7 +62,8 @@ module _ {D M : Type 0} (history : D → History) (failures : D → ℕ) (x : Ev
   by_core (Some e) is given = (e, is, given)
 
   pub served_by_core : Laws history (writer_of old) → ServesOn history x r old new
-  served_by_core laws past is = let by = by_core (asked x) refl in_core in served history x by.0 r old new by.1 by.2 laws (quiet r by.2.reply by.2.reply_is) past is
+  served_by_core laws past is = let by = by_core (asked x) refl in_core in
+      served history x by.0 r old new by.1 by.2 laws (quiet r by.2.reply by.2.reply_is) past is
 
   pub answered_by_core : IsLawful failures x r old new
   answered_by_core = lawful_in_core failures r old new x in_core

@@ -1,5 +1,6 @@
 -- An engine that is left as a restart would leave it.
-use Rattle.std.proofs.Common.{◌≡◌, ◌⊎◌, false, inl, inr, ℕ, ◌+◌, ◌-◌, ◌≤◌, ◌<◌, List, [], ◌∷◌, ◌++◌, None, IfSome, length, take, refl, sym, ◌∙◌, ap, subst, Option, unwrap_or, zero, suc, Result, Ok, Err, IfOk, IfErr, ◌↔◌, arith, append-nil, ⊎_elim}
+use Rattle.std.proofs.Common.{◌≡◌, ◌⊎◌, false, inl, inr, ℕ, ◌+◌, ◌-◌, ◌≤◌, ◌<◌, List, [], ◌∷◌, ◌++◌, None, IfSome, length, take, refl, sym, ◌∙◌, ap, subst}
+use Rattle.std.proofs.Common.{Option, unwrap_or, zero, suc, Result, Ok, Err, IfOk, IfErr, ◌↔◌, arith, append-nil, ⊎_elim}
 use Rattle.std.proofs.lemmas.List.{nil_from_length, take_all}
 use Rattle.std.specs.FinMap as map
 use Rattle.std.specs.Ordering.{nat_cmp}
@@ -62,7 +63,8 @@ use Rattle.restart.proofs.Told.{pairs_last}
 -- ---- an image under way is given up
 
 module _ {D M : Type 0} (history : D → History) (engine : Parts D M) where
-  stands_giving_up : (run : Run) (handed : ℕ) (s : State) (k : Standing) → StandsAt history run handed s k engine → StandsAt history run handed s k (giving_up engine)
+  stands_giving_up : (run : Run) (handed : ℕ) (s : State) (k : Standing) → StandsAt history run handed s k engine
+      → StandsAt history run handed s k (giving_up engine)
   stands_giving_up run handed s k is = record {
     writer = is.writer;
     rest = is.rest;
@@ -98,11 +100,13 @@ module _ {D M : Type 0} (history : D → History) (engine : Parts D M) where
   serves_anew r new serves past is = serves past (at_giving_up past is)
 
 -- such a copy takes the whole image, or is refused
-pub whole_or_refused : {D M : Type 0} (failures : D → ℕ) (r : Reply M) (old new : Parts D M) → IsCopyAnswer failures r (giving_up old) new → ((n : ℕ) × (r ≡ reply.Flipped n)) ⊎ ((e : Error) × (r ≡ reply.Refused e))
+pub whole_or_refused : {D M : Type 0} (failures : D → ℕ) (r : Reply M) (old new : Parts D M) → IsCopyAnswer failures r (giving_up old) new
+    → ((n : ℕ) × (r ≡ reply.Flipped n)) ⊎ ((e : Error) × (r ≡ reply.Refused e))
 whole_or_refused failures (reply.Flipped n) old new is = inl (n, refl)
 whole_or_refused failures (reply.Refused e) old new is = inr (e, refl)
 whole_or_refused failures reply.Copied old new is = absurd (let none = is.1.next in cc)
-whole_or_refused failures reply.Again old new is = absurd (⊎_elim (λ (x : CannotTake (giving_up old) new). let none = x.next in cc) (λ (x : CannotFlip (giving_up old) new). let other = x.whole in cc) is.1)
+whole_or_refused failures reply.Again old new is =
+    absurd (⊎_elim (λ (x : CannotTake (giving_up old) new). let none = x.next in cc) (λ (x : CannotFlip (giving_up old) new). let other = x.whole in cc) is.1)
 whole_or_refused failures (reply.Txn t) old new is = absurd is
 whole_or_refused failures (reply.Rid r) old new is = absurd is
 whole_or_refused failures reply.Stepped old new is = absurd is
@@ -129,8 +133,10 @@ module _ {M : Type 0} (past : Past M) (r : Reply M) (even : length past.replies 
   survives_without floor image left = record {
     given = left.given;
     gives = left.gives;
-    beginning = subst (λ (pairs : List (core.Event × core.Reply)). IsBeginning past.given (told.items_of no_writes pairs) floor left.given) no_call_more left.beginning;
-    within = subst (λ (pairs : List (core.Event × core.Reply)). left.given.last ≤ (standing_over (standing_at past.given.last) pairs).made) no_call_more left.within;
+    beginning = subst (λ (pairs : List (core.Event × core.Reply)).
+        IsBeginning past.given (told.items_of no_writes pairs) floor left.given) no_call_more left.beginning;
+    within = subst (λ (pairs : List (core.Event × core.Reply)).
+        left.given.last ≤ (standing_over (standing_at past.given.last) pairs).made) no_call_more left.within;
     opens = left.opens;
   }
 
@@ -142,10 +148,12 @@ must_be_whole v (Start life lists) of none = of
 must_be_whole v (Page page rows) of none = of
 must_be_whole v (Entries entries) of none = of
 
-pub whole_cells : {A : Type 0} (v : CoreValue) (piece : Piece A) (copied : CellMaps A) → piece ≡ Whole copied → IsWholeOf v piece → IsCellsOf v (cells_of copied)
+pub whole_cells : {A : Type 0} (v : CoreValue) (piece : Piece A) (copied : CellMaps A) → piece ≡ Whole copied → IsWholeOf v piece
+    → IsCellsOf v (cells_of copied)
 whole_cells v piece copied is of = let whole = subst (IsWholeOf v) is of in whole.0
 
-pub given_same : (v : CoreValue) (cells : Cells) (last : ℕ) → IsCellsOf v cells → last ≡ v.last → record { table = cells.rows; entries = cells.entries; life = cells.life; last = last } ≡ (opened_of v).given
+pub given_same : (v : CoreValue) (cells : Cells) (last : ℕ) → IsCellsOf v cells → last ≡ v.last
+    → record { table = cells.rows; entries = cells.entries; life = cells.life; last = last } ≡ (opened_of v).given
 given_same v cells last are same = λ j. record { table = are.rows j; entries = are.entries j; life = are.life j; last = same j }
 
 pub if_ok_both : {X E : Type 0} (P Q R : X → Type 0) (r : Result X E) → ((x : X) → P x → Q x → R x) → IfOk r P → IfOk r Q → IfOk r R
@@ -153,9 +161,11 @@ if_ok_both P Q R (Ok x) both p q = both x p q
 if_ok_both P Q R (Err e) both p q = tt
 
 -- what has room is refused for want of memory alone
-pub only_memory : {X : Type 0} (r : Result X Error) (room count : ℕ) → ((r ≡ Err IndexFull) ↔ (room < count)) → IfErr r (λ e. (e ≡ IndexFull) ⊎ (e ≡ NoMemory)) → count ≤ room → IfErr r (λ e. e ≡ NoMemory)
+pub only_memory : {X : Type 0} (r : Result X Error) (room count : ℕ) → ((r ≡ Err IndexFull) ↔ (room < count)) → IfErr r (λ e. (e ≡ IndexFull) ⊎ (e ≡ NoMemory))
+    → count ≤ room → IfErr r (λ e. e ≡ NoMemory)
 only_memory (Ok x) room count full refused fits = tt
-only_memory (Err e) room count full refused fits = ⊎_elim (λ is. let more : room < count = full.0 (ap Err is) in absurd (omega (arith, more, fits))) (λ is. is) refused
+only_memory (Err e) room count full refused fits =
+    ⊎_elim (λ is. let more : room < count = full.0 (ap Err is) in absurd (omega (arith, more, fits))) (λ is. is) refused
 
 -- ---- lists of which nothing is left
 
@@ -195,8 +205,10 @@ module _ {D M : Type 0} (history : D → History) (engine : Parts D M) (can : Ca
 
   pub held_inside : IsGivenInside engine.geometry.pages (opened_of v).given
   held_inside = record {
-    rows = λ r row there. subst (λ (n : ℕ). r.page < n) pages_are (stands.shown.fit.rows r row (ap (λ (rows : Table). map.get rows r) stands.shown.shown.rows ∙ there));
-    entries = λ p there. subst (λ (n : ℕ). p.rid.page < n) pages_are (stands.shown.fit.inside.entries p (λ none. there (ap (λ (entries : Index). map.get entries p) (sym stands.shown.shown.entries) ∙ none)));
+    rows = λ r row there. subst (λ (n : ℕ). r.page < n) pages_are
+        (stands.shown.fit.rows r row (ap (λ (rows : Table). map.get rows r) stands.shown.shown.rows ∙ there));
+    entries = λ p there. subst (λ (n : ℕ). p.rid.page < n) pages_are
+        (stands.shown.fit.inside.entries p (λ none. there (ap (λ (entries : Index). map.get entries p) (sym stands.shown.shown.entries) ∙ none)));
     life = λ p is. subst (λ (n : ℕ). p.rid.page < n) pages_are (stands.shown.fit.inside.highest p (stands.shown.shown.life ∙ is));
   }
 
@@ -210,7 +222,8 @@ module _ {D M : Type 0} (history : D → History) (engine : Parts D M) (can : Ca
     opened_is : record { given = x; pages = engine.geometry.pages; places = engine.geometry.entries } ≡ opened_of v
     opened_is = λ j. record { given = same j; pages = (sym pages_are ∙ stands.shown.shown.pages) j; places = (sym places_are ∙ stands.shown.shown.places) j }
 
-    pub fresh_made : (new : CoreValue) → new ≡ holding engine.geometry x → IsState new (opened (record { given = x; pages = engine.geometry.pages; places = engine.geometry.entries })) (standing_at x.last) → IsFresh v new
+    pub fresh_made : (new : CoreValue) → new ≡ holding engine.geometry x
+        → IsState new (opened (record { given = x; pages = engine.geometry.pages; places = engine.geometry.entries })) (standing_at x.last) → IsFresh v new
     fresh_made new made shown = record {
       geometry = engine.geometry;
       made = made ∙ ap (holding engine.geometry) same;
@@ -221,9 +234,11 @@ module _ {D M : Type 0} (history : D → History) (engine : Parts D M) (can : Ca
 
   -- ---- a writer with everything, once a whole image is current
 
-  module _ (quiet : IsQuiet v) (all : unwritten engine ≡ []) (sound : has_failed engine ≡ false) (empty : (writer.log_of (writer_of engine)).open_slots ≡ 0) (none : writer.image_of (writer_of engine) ≡ None)
+  module _ (quiet : IsQuiet v) (all : unwritten engine ≡ []) (sound : has_failed engine ≡ false) (empty : (writer.log_of (writer_of engine)).open_slots ≡ 0)
+      (none : writer.image_of (writer_of engine) ≡ None)
       (txns : IsSound v.txns)
-      (shown : (v : CoreValue) (s : State) (k : Standing) (cells : Cells) → IsSound v.txns → IsState v s k → HasCells s cells → HasLists s cells → IsCellsOf v cells)
+      (shown : (v : CoreValue) (s : State) (k : Standing) (cells : Cells) → IsSound v.txns → IsState v s k → HasCells s cells → HasLists s cells
+      → IsCellsOf v cells)
       (one : (v : CoreValue) (a b : Cells) → IsCellsOf v a → IsCellsOf v b → a ≡ b) where
     abbrev run : Run
     run = can.0
@@ -238,7 +253,12 @@ module _ {D M : Type 0} (history : D → History) (engine : Parts D M) (can : Ca
     all_made = all_handed history run can.1 can.2 can.3 engine stands (second_none (writer.waiting_of w) (unhanded engine) all)
 
     all_synced : can.1 ≤ horizon_of engine
-    all_synced = omega (arith, stands.writer.reached, count_between run (horizon_of engine) can.1 stands.writer.opened stands.writer.made, ap length (sym stands.writer.waits ∙ first_none (writer.waiting_of w) (unhanded engine) all))
+    all_synced = omega (
+      arith,
+      stands.writer.reached,
+      count_between run (horizon_of engine) can.1 stands.writer.opened stands.writer.made,
+      ap length (sym stands.writer.waits ∙ first_none (writer.waiting_of w) (unhanded engine) all),
+    )
 
     last_is : v.last ≡ end_of run
     last_is = sym (stands.made ∙ stands.shown.shown.made)
@@ -284,7 +304,8 @@ module _ {D M : Type 0} (history : D → History) (engine : Parts D M) (can : Ca
           least = left.least;
           most = omega (arith, number_is image left, last_is);
           has = subst (StoreHas run.geometry image left.number) here left.has;
-          gives = subst (λ (cells : Cells). map.len (recovered cells left.number).entries ≤ run.geometry.entries → Gives image run.geometry (recovered cells left.number)) here left.gives;
+          gives = subst (λ (cells : Cells). map.len (recovered cells left.number).entries ≤ run.geometry.entries
+              → Gives image run.geometry (recovered cells left.number)) here left.gives;
         }
 
     stands_there : writer.has_failed w ≡ false → StandsFor history (begun run.geometry) w
@@ -297,7 +318,8 @@ module _ {D M : Type 0} (history : D → History) (engine : Parts D M) (can : Ca
           groups = now.groups;
           stands = now.stands;
           loose = now.loose;
-          image = subst (λ (i : Option NewImage). IfSome i (IsUnderway (begun run.geometry) (other w.halves.current) (history w.device).disk.content w.synced)) (sym none) tt;
+          image = subst (λ (i : Option NewImage). IfSome i (IsUnderway (begun run.geometry) (other w.halves.current) (history w.device).disk.content w.synced))
+              (sym none) tt;
         }
 
     writes : IsWriter history (begun run.geometry) v.last w
@@ -309,7 +331,8 @@ module _ {D M : Type 0} (history : D → History) (engine : Parts D M) (can : Ca
       made = omega arith;
       small = held_small;
       waits = first_none (writer.waiting_of w) (unhanded engine) all
-          ∙ sym (nil_from_length (records_between (begun run.geometry) w.synced v.last) (omega (arith, synced_is, count_between (begun run.geometry) w.synced v.last (omega (arith, synced_is)) (omega arith))));
+          ∙ sym (nil_from_length (records_between (begun run.geometry) w.synced v.last)
+          (omega (arith, synced_is, count_between (begun run.geometry) w.synced v.last (omega (arith, synced_is)) (omega arith))));
       holds = stands_there;
       images = λ image crash. left_there image (stands.writer.images image crash);
     }
@@ -318,7 +341,8 @@ module _ {D M : Type 0} (history : D → History) (engine : Parts D M) (can : Ca
     given_there image crash =
         let left = stands.writer.images image crash in
         let is = number_is image left in
-        let same : recovered (cells_at run left.number) left.number ≡ held = (λ j. recovered ((ap (cells_at run) is ∙ same_cells) j) ((is ∙ sym last_is) j)) ∙ given_held held in
+        let same : recovered (cells_at run left.number) left.number ≡ held = (λ j. recovered ((ap (cells_at run) is ∙ same_cells) j) ((is ∙ sym last_is) j))
+        ∙ given_held held in
         let room : map.len (recovered (cells_at run left.number) left.number).entries ≤ run.geometry.entries =
         omega (arith, ap (λ (x : Given). map.len x.entries) same, held_fits, ap (λ (g : GeometryValue). g.entries) stands.geometry) in
         subst (Gives image run.geometry) same (left.gives room)
@@ -337,7 +361,8 @@ module _ {D M : Type 0} (history : D → History) (engine : Parts D M) (can : Ca
     }
 
 -- a copy that was answered so leaves the writer with everything
-pub written_whole : {D M : Type 0} (history : D → History) (failures : D → ℕ) (r : Reply M) (n : ℕ) (old new : Parts D M) → r ≡ reply.Flipped n → CopiesAnew history failures r old new → CanRun history new → IsQuiet (core_of old) → IsSound (core_of old).txns
+pub written_whole : {D M : Type 0} (history : D → History) (failures : D → ℕ) (r : Reply M) (n : ℕ) (old new : Parts D M) → r ≡ reply.Flipped n
+    → CopiesAnew history failures r old new → CanRun history new → IsQuiet (core_of old) → IsSound (core_of old).txns
     → ((v : CoreValue) (s : State) (k : Standing) (cells : Cells) → IsSound v.txns → IsState v s k → HasCells s cells → HasLists s cells → IsCellsOf v cells)
     → ((v : CoreValue) (a b : Cells) → IsCellsOf v a → IsCellsOf v b → a ≡ b)
     → WritesWhole history failures old (writer_of new)
@@ -351,6 +376,7 @@ written_whole history failures r n old new is told can quiet txns shown one =
           (settled history new can (ap (λ (v : CoreValue). v.txns.active) core_is ∙ quiet) (current.all refl) well.sound (current.emptied refl) current.none
           (subst IsSound (sym (ap (λ (v : CoreValue). v.txns) core_is)) txns) shown one);
       quiet = well.quiet;
-      survives = λ past is. weaker (history (device_of old)) (history (device_of new)) _ (Survives past (horizon_of old)) (survives_without past (reply.Flipped n) is.answered (horizon_of old)) (copies.runs past is).1;
+      survives = λ past is. weaker (history (device_of old)) (history (device_of new)) _ (Survives past (horizon_of old))
+          (survives_without past (reply.Flipped n) is.answered (horizon_of old)) (copies.runs past is).1;
       around = copies.around;
     }

@@ -4,7 +4,8 @@ use Rattle.records.specs.ChangeValue.{ChangeValue}
 use Rattle.records.specs.declared.pair.Pair.{Pair}
 use Rattle.core_model.specs.Changes.{Changes, Unchanged, new_pair, old_pair, ◌▹◌}
 use Rattle.core_model.specs.States.{Active, Made, NewMarked, OldMarked, OldSet, Phase, RowSet, State}
-use Rattle.core_model.specs.Steps.{Attempt, Begin, Checkpoint, Clean, Commit, Create, Drop, End, Finish, Keep, MachineStep, Next, Start, Take, Undo, Wrap, after, carried_on, is_indexed, started, txn_at, undone, undone_first}
+use Rattle.core_model.specs.Steps.{Attempt, Begin, Checkpoint, Clean, Commit, Create, Drop, End, Finish, Keep, MachineStep, Next, Start, Take, Undo, Wrap}
+use Rattle.core_model.specs.Steps.{after, carried_on, is_indexed, started, txn_at, undone, undone_first}
 use Rattle.core_contracts.specs.Replies.{after_any}
 
 -- of the same pages, with as many places for entries
@@ -24,7 +25,8 @@ by_next s t x (older ▹ c) Made = record { pages = refl; places = refl }
 by_next s t x (older ▹ c) (NewMarked applied) = record { pages = refl; places = refl }
 by_next s t x (older ▹ c) OldSet = record { pages = refl; places = refl }
 
-by_first : (s : State) (t : ℕ) (x : Active) (c : ChangeValue) (older : Changes) (applied : Bool) (o : Option Pair) → AreOfOneSize s (undone_first s t x c older applied o)
+by_first : (s : State) (t : ℕ) (x : Active) (c : ChangeValue) (older : Changes) (applied : Bool) (o : Option Pair)
+    → AreOfOneSize s (undone_first s t x c older applied o)
 by_first s t x c older applied None = record { pages = refl; places = refl }
 by_first s t x c older applied (Some p) = record { pages = refl; places = refl }
 

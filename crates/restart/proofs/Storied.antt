@@ -73,7 +73,8 @@ begins_so g given can image gives = record {
 
 -- ---- a device whose power fails
 
-pub kept_synced : {D : Type 0} (history : D → History) (story : Story) (device : D) → IsSynced (history device).disk → GivesStory story (history device).disk.content → KeepsStory history story device
+pub kept_synced : {D : Type 0} (history : D → History) (story : Story) (device : D) → IsSynced (history device).disk
+    → GivesStory story (history device).disk.content → KeepsStory history story device
 kept_synced history story device all gives image crash = subst (GivesStory story) (sym (crash_synced (history device).disk image all crash)) gives
 
 -- ---- a restart
@@ -88,11 +89,17 @@ module _ {D : Type 0} (history : D → History) (story : Story) (before : D) (ke
   pub now_gives : GivesStory story (history before).disk.content
   now_gives = kept (history before).disk.content (content_is_image (history before).disk (history before).whole)
 
-  module _ (back : (old image : Image) → IsWrittenBack old image → (g : GeometryValue) (given : Given) → Gives old g given → Gives image g given) (after : D) (turned : IsTurned history before after) where
+  module _ (back : (old image : Image) → IsWrittenBack old image → (g : GeometryValue) (given : Given) → Gives old g given
+      → Gives image g given) (after : D) (turned : IsTurned history before after) where
     each_left : (image : Image) → ReopeningLeaves (history before).disk image → GivesStory story image
     each_left image = ⊎_elim
         (λ crash. kept image crash)
-        (λ written. record { given = now_gives.given; gives = back (history before).disk.content image written story.geometry now_gives.given now_gives.gives; left = now_gives.left; opens = now_gives.opens })
+        (λ written. record {
+          given = now_gives.given;
+          gives = back (history before).disk.content image written story.geometry now_gives.given now_gives.gives;
+          left = now_gives.left;
+          opens = now_gives.opens;
+        })
 
     pub kept_between : LeavesOnly (history before) (history after) (GivesStory story)
     kept_between = weaker (history before) (history after) (ReopeningLeaves (history before).disk) (GivesStory story) each_left turned.images
@@ -100,8 +107,11 @@ module _ {D : Type 0} (history : D → History) (story : Story) (before : D) (ke
     pub kept_behind : KeepsStory history story after
     kept_behind = at_end (history before) (history after) (GivesStory story) kept_between
 
-  pub refused_well : (failures : D → ℕ) (after : D) (e : Error) → ((image : Image) (g : GeometryValue) (given : Given) (e : Error) → Gives image g given → ¬ IsUnreadable image e) → IsNotOpened history failures before after e → Refuses (failures before) (failures after) e
-  refused_well failures after e readable not = ⊎_elim (λ refuses. refuses) (λ unreadable. absurd (readable (history before).disk.content story.geometry now_gives.given e now_gives.gives unreadable)) not.why
+  pub refused_well : (failures : D → ℕ) (after : D) (e : Error)
+      → ((image : Image) (g : GeometryValue) (given : Given) (e : Error) → Gives image g given → ¬ IsUnreadable image e)
+      → IsNotOpened history failures before after e → Refuses (failures before) (failures after) e
+  refused_well failures after e readable not = ⊎_elim (λ refuses. refuses) (λ unreadable.
+      absurd (readable (history before).disk.content story.geometry now_gives.given e now_gives.gives unreadable)) not.why
 
   pub begins_over : {M : Type 0} (engine : Parts D M) → OneAnswer → IsOpened history before engine → BeginsOver history story engine
   begins_over engine one is = record {
@@ -119,12 +129,15 @@ module _ {D : Type 0} (history : D → History) (story : Story) (before : D) (ke
       same = one.given (history before).disk.content is.geometry story.geometry is.given now_gives.given is.gives now_gives.gives
 
       can : CanOpen (over is.geometry is.given)
-      can = subst (λ (x : GeometryValue). CanOpen (over x is.given)) (sym size) (subst (λ (x : Given). CanOpen (over story.geometry x)) (sym same) now_gives.opens)
+      can = subst (λ (x : GeometryValue). CanOpen (over x is.given)) (sym size)
+          (subst (λ (x : Given). CanOpen (over story.geometry x)) (sym same) now_gives.opens)
 
 -- ---- a run
 
-module _ {M : Type 0} (story : Story) (past : Past M) (floor : ℕ) (image : Image) (size : past.geometry ≡ story.geometry) (is : IsLeftOf story past.given) (low : past.given.last ≤ floor) (left : Survives past floor image) where
-  both : up_to left.given.last (up_to past.given.last story.items ++ items_told past) ≡ up_to past.given.last story.items ++ up_to left.given.last (items_told past)
+module _ {M : Type 0} (story : Story) (past : Past M) (floor : ℕ) (image : Image) (size : past.geometry ≡ story.geometry) (is : IsLeftOf story past.given)
+    (low : past.given.last ≤ floor) (left : Survives past floor image) where
+  both : up_to left.given.last (up_to past.given.last story.items ++ items_told past) ≡ up_to past.given.last story.items
+      ++ up_to left.given.last (items_told past)
   both = up_to_both past.given.last left.given.last story.items (items_told past) (omega (arith, low, left.beginning.has_floor))
 
   pub story_goes_on : GivesStory (and_run story past floor) image
@@ -136,10 +149,12 @@ module _ {M : Type 0} (story : Story) (past : Past M) (floor : ℕ) (image : Ima
         has_floor = left.beginning.has_floor;
         table =
             left.beginning.table ∙ ap (λ (t : Table). table_after t (up_to left.given.last (items_told past))) is.beginning.table
-            ∙ sym (table_after-append story.began.table (up_to past.given.last story.items) (up_to left.given.last (items_told past))) ∙ ap (table_after story.began.table) (sym both);
+            ∙ sym (table_after-append story.began.table (up_to past.given.last story.items) (up_to left.given.last (items_told past)))
+            ∙ ap (table_after story.began.table) (sym both);
         life =
             left.beginning.life ∙ ap (λ (l : Life). life_after l (up_to left.given.last (items_told past))) is.beginning.life
-            ∙ sym (life_after-append story.began.life (up_to past.given.last story.items) (up_to left.given.last (items_told past))) ∙ ap (life_after story.began.life) (sym both);
+            ∙ sym (life_after-append story.began.life (up_to past.given.last story.items) (up_to left.given.last (items_told past)))
+            ∙ ap (life_after story.began.life) (sym both);
         shown = left.beginning.shown;
       };
       within = left.within;
@@ -150,4 +165,13 @@ module _ {M : Type 0} (story : Story) (past : Past M) (floor : ℕ) (image : Ima
 -- ---- the core of an engine that a run left
 
 pub come_by : {D M : Type 0} (history : D → History) (past : Past M) (engine : Parts D M) → IsAt history past engine → HasCome (core_of engine)
-come_by history past engine is = record { opening = over past.geometry past.given; opens = is.opens; made = is.made; pairs = core_calls past.events past.replies; state = is.state; standing = is.standing; served = is.served; shown = is.stands.shown }
+come_by history past engine is = record {
+  opening = over past.geometry past.given;
+  opens = is.opens;
+  made = is.made;
+  pairs = core_calls past.events past.replies;
+  state = is.state;
+  standing = is.standing;
+  served = is.served;
+  shown = is.stands.shown;
+}

@@ -26,7 +26,8 @@ use Rattle.restart.proofs.Told.{acknowledged_both, kinds_last, pairs_last, stand
 
 -- ---- what a crash leaves
 
-module _ {M : Type 0} (past : Past M) (made : List RecordValue) (s : State) (k : Standing) (can : CanOpen (over past.geometry past.given)) (has : HasServed (over past.geometry past.given) made (core_calls past.events past.replies) s k) where
+module _ {M : Type 0} (past : Past M) (made : List RecordValue) (s : State) (k : Standing) (can : CanOpen (over past.geometry past.given))
+    (has : HasServed (over past.geometry past.given) made (core_calls past.events past.replies) s k) where
   -- what is recovered of the cells after one of the records is a beginning of the history
   module _ (n : ℕ) (low : past.given.last ≤ n) (high : n ≤ end_of (run_of past made)) where
     abbrev count : ℕ
@@ -35,7 +36,8 @@ module _ {M : Type 0} (past : Past M) (made : List RecordValue) (s : State) (k :
     abbrev read : List RecordValue
     read = records_to (run_of past made) n
 
-    begins : IsBeginning past.given (items_told past) (past.given.last + count) (given_after past.given read) × CanOpen (over past.geometry (given_after past.given read))
+    begins : IsBeginning past.given (items_told past) (past.given.last + count) (given_after past.given read)
+        × CanOpen (over past.geometry (given_after past.given read))
     begins = served_recovers (over past.geometry past.given) can made (core_calls past.events past.replies) s k has count (omega (arith, high))
 
     size : length read ≡ count
@@ -46,19 +48,25 @@ module _ {M : Type 0} (past : Past M) (made : List RecordValue) (s : State) (k :
 
     last_within : n ≤ last_made past
     last_within =
-        let told : k.made ≡ last_made past = ap (λ (x : Standing). x.made) (stands_over (opened (over past.geometry past.given)) (standing_at past.given.last) (core_calls past.events past.replies) s k has.served) in
+        let told : k.made ≡ last_made past = ap (λ (x : Standing). x.made)
+        (stands_over (opened (over past.geometry past.given)) (standing_at past.given.last) (core_calls past.events past.replies) s k has.served) in
         omega (arith, high, told, has.number)
 
-  pub survives : (handed n floor : ℕ) (image : Image) → handed ≤ end_of (run_of past made) → past.given.last ≤ n → floor ≤ n → LeftBy (run_of past made) n handed image → Survives past floor image
+  pub survives : (handed n floor : ℕ) (image : Image) → handed ≤ end_of (run_of past made) → past.given.last ≤ n → floor ≤ n
+      → LeftBy (run_of past made) n handed image → Survives past floor image
   survives handed n floor image within low reached left = record {
     given = recovered (cells_at (run_of past made) left.number) left.number;
     gives = left.gives (subst (λ (g : Given). len g.entries ≤ past.geometry.entries) same both.1.fits.room);
-    beginning = subst (IsBeginning past.given (items_told past) floor) same (lower_floor past.given (items_told past) (past.given.last + (left.number - past.given.last)) floor (given_after past.given (records_to (run_of past made) left.number)) both.0 (omega (arith, reached, left.least)));
+    beginning = subst (IsBeginning past.given (items_told past) floor) same
+        (lower_floor past.given (items_told past) (past.given.last + (left.number - past.given.last)) floor
+        (given_after past.given (records_to (run_of past made) left.number)) both.0 (omega (arith, reached, left.least)));
     within = last_within left.number (omega (arith, low, left.least)) (omega (arith, left.most, within));
     opens = subst (λ (g : Given). CanOpen (over past.geometry g)) same both.1;
   }
     where
-      both : IsBeginning past.given (items_told past) (past.given.last + (left.number - past.given.last)) (given_after past.given (records_to (run_of past made) left.number)) × CanOpen (over past.geometry (given_after past.given (records_to (run_of past made) left.number)))
+      both : IsBeginning past.given (items_told past) (past.given.last + (left.number - past.given.last))
+          (given_after past.given (records_to (run_of past made) left.number))
+          × CanOpen (over past.geometry (given_after past.given (records_to (run_of past made) left.number)))
       both = begins left.number (omega (arith, low, left.least)) (omega (arith, left.most, within))
 
       same : given_after past.given (records_to (run_of past made) left.number) ≡ recovered (cells_at (run_of past made) left.number) left.number
@@ -66,7 +74,8 @@ module _ {M : Type 0} (past : Past M) (made : List RecordValue) (s : State) (k :
 
 -- ---- one request more
 
-module _ {D M : Type 0} (history : D → History) (past : Past M) (old new : Parts D M) (x : Event) (r : Reply M) (kind : IsOfKind x r) (is : IsAt history past old) where
+module _ {D M : Type 0} (history : D → History) (past : Past M) (old new : Parts D M) (x : Event) (r : Reply M) (kind : IsOfKind x r)
+    (is : IsAt history past old) where
   abbrev later : Past M
   later = and_then past (x ∷ []) (r ∷ [])
 
@@ -75,7 +84,8 @@ module _ {D M : Type 0} (history : D → History) (past : Past M) (old new : Par
 
   module _ (made : List RecordValue) (handed : ℕ) (s : State) (k : Standing) (has : HasServed (over past.geometry past.given) made pairs_now s k) where
     pub told_then : HasServed (over past.geometry past.given) made (core_calls later.events later.replies) s k
-    told_then = subst (λ (l : List (core.Event × core.Reply)). HasServed (over past.geometry past.given) made l s k) (sym (pairs_last past.events past.replies x r is.answered)) has
+    told_then = subst (λ (l : List (core.Event × core.Reply)). HasServed (over past.geometry past.given) made l s k)
+        (sym (pairs_last past.events past.replies x r is.answered)) has
 
     -- what a request leaves, put together
     pub at_next : StandsAt history (run_of past made) handed s k new → acknowledged (acknowledged_by past) (r ∷ []) ≤ horizon_of new → IsAt history later new
@@ -93,16 +103,19 @@ module _ {D M : Type 0} (history : D → History) (past : Past M) (old new : Par
     }
 
     -- what a crash leaves while it is served, where the writer has all records up to number `handed`, and those up to `n` are synced
-    pub left_then : (n : ℕ) → past.given.last ≤ n → handed ≤ end_of (run_of past made) → (image : Image) → LeftBy (run_of past made) n handed image → Survives later n image
+    pub left_then : (n : ℕ) → past.given.last ≤ n → handed ≤ end_of (run_of past made) → (image : Image) → LeftBy (run_of past made) n handed image
+        → Survives later n image
     left_then n low within image left = survives later made s k is.opens told_then handed n n image within low (omega arith) left
 
 -- ---- at any time
 
 -- what a crash leaves of an engine as it is, with all up to what is safe
-pub crash_since : {D M : Type 0} (history : D → History) (past : Past M) (engine : Parts D M) → IsAt history past engine → (floor : ℕ) → floor ≤ horizon_of engine → (image : Image) → IsCrashImage (history (device_of (writer_of engine))).disk image
+pub crash_since : {D M : Type 0} (history : D → History) (past : Past M) (engine : Parts D M) → IsAt history past engine → (floor : ℕ)
+    → floor ≤ horizon_of engine → (image : Image) → IsCrashImage (history (device_of (writer_of engine))).disk image
     → Survives past floor image
 crash_since history past engine is floor safe image crash =
-    survives past is.made is.state is.standing is.opens is.served is.handed (horizon_of engine) floor image is.stands.writer.made is.stands.writer.opened safe (is.stands.writer.images image crash)
+    survives past is.made is.state is.standing is.opens is.served is.handed (horizon_of engine) floor image is.stands.writer.made is.stands.writer.opened safe
+    (is.stands.writer.images image crash)
 
 -- what has every item up to a floor has those up to a lower one
 pub survives_lower : {M : Type 0} (past : Past M) (floor lower : ℕ) (image : Image) → Survives past floor image → lower ≤ floor → Survives past lower image

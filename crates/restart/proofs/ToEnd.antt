@@ -15,7 +15,8 @@ use Rattle.nsf_core.proofs.Offered.{stands}
 use Rattle.restart.proofs.Climbing.{attempt_falls, mark_falls, scan_falls, work}
 
 -- a step of the builder that succeeds is the one that is due
-due_of : (s : State) (k : Standing) (b : core.BuildReply) (r : core.Reply) (step : Option MachineStep) → r ≡ core.Built b → IsAllowed s k core.Build r step → IsBuildDue s k b × (step ≡ build_step b)
+due_of : (s : State) (k : Standing) (b : core.BuildReply) (r : core.Reply) (step : Option MachineStep) → r ≡ core.Built b → IsAllowed s k core.Build r step
+    → IsBuildDue s k b × (step ≡ build_step b)
 due_of s k b _ _ is (unknown a) = absurd cc
 due_of s k b _ _ is (skipped a p) = absurd cc
 due_of s k b _ _ is (refused a p error f) = absurd cc
@@ -78,12 +79,14 @@ pub record IsLess (v v' : CoreValue) (scanned n : ℕ) : Type 0 where
   pub there : v'.life ≢ Absent
 
 module _ (v v' : CoreValue) (s : State) (k : Standing) (is : IsState v s k) (scanned : ℕ) (so_many : scanned ≤ k.scanned) where
-  falls : (b : core.BuildReply) (a : Answers v s k core.Build (core.Built b) v') (n : ℕ) → work_at (after_any s (build_step b)) (standing_after k (core.Built b)) n < work_at s k scanned → work_of v' n < work_of v scanned
+  falls : (b : core.BuildReply) (a : Answers v s k core.Build (core.Built b) v') (n : ℕ)
+      → work_at (after_any s (build_step b)) (standing_after k (core.Built b)) n < work_at s k scanned → work_of v' n < work_of v scanned
   falls b a n less =
       subst (λ m. m < work_of v scanned) (same_work v' (after_any s (build_step b)) (standing_after k (core.Built b)) (shown_then v v' s k is b a) n)
       (subst (λ m. work_at (after_any s (build_step b)) (standing_after k (core.Built b)) n < m) (same_work v s k is.shown scanned) less)
 
-  made_less : (b : core.BuildReply) (a : Answers v s k core.Build (core.Built b) v') (n : ℕ) → n ≤ (standing_after k (core.Built b)).scanned → IsBuilding (after_any s (build_step b)).life
+  made_less : (b : core.BuildReply) (a : Answers v s k core.Build (core.Built b) v') (n : ℕ) → n ≤ (standing_after k (core.Built b)).scanned
+      → IsBuilding (after_any s (build_step b)).life
       → work_at (after_any s (build_step b)) (standing_after k (core.Built b)) n < work_at s k scanned → IsLess v v' scanned n
   made_less b a n few on less = record {
     less = falls b a n less;

@@ -10,7 +10,8 @@ use Rattle.restart.specs.declared.event.Reply.{Reply}
 use Rattle.restart.specs.declared.event.Reply.TheVariants as reply
 use Rattle.restart.specs.History.{AreOfKind, IsOfKind, acknowledged, answered, asked, both, core_calls, standing_over}
 
-pub pairs_last : {M : Type 0} (events : List Event) (replies : List (Reply M)) (e : Event) (r : Reply M) → length replies ≡ length events → core_calls (events ++ e ∷ []) (replies ++ r ∷ []) ≡ core_calls events replies ++ both (asked e) (answered r)
+pub pairs_last : {M : Type 0} (events : List Event) (replies : List (Reply M)) (e : Event) (r : Reply M) → length replies ≡ length events
+    → core_calls (events ++ e ∷ []) (replies ++ r ∷ []) ≡ core_calls events replies ++ both (asked e) (answered r)
 pairs_last [] [] e r even = append-nil (both (asked e) (answered r))
 pairs_last [] (x ∷ replies) e r even = absurd (omega (arith, even))
 pairs_last (x ∷ events) [] e r even = absurd (omega (arith, even))
@@ -19,7 +20,8 @@ pairs_last (x ∷ events) (y ∷ replies) e r even =
     ∙ sym (append_assoc (both (asked x) (answered y)) (core_calls events replies) (both (asked e) (answered r)))
 
 -- a reply more that is of its request's kind
-pub kinds_last : {M : Type 0} (events : List Event) (replies : List (Reply M)) (e : Event) (r : Reply M) → AreOfKind events replies → IsOfKind e r → AreOfKind (events ++ e ∷ []) (replies ++ r ∷ [])
+pub kinds_last : {M : Type 0} (events : List Event) (replies : List (Reply M)) (e : Event) (r : Reply M) → AreOfKind events replies → IsOfKind e r
+    → AreOfKind (events ++ e ∷ []) (replies ++ r ∷ [])
 kinds_last [] [] e r so_far is = (is, tt)
 kinds_last [] (x ∷ replies) e r so_far is = absurd so_far
 kinds_last (x ∷ events) [] e r so_far is = absurd so_far
@@ -48,6 +50,7 @@ acknowledged_both n (reply.Skipped ∷ replies) more = acknowledged_both n repli
 acknowledged_both n (reply.Refused e ∷ replies) more = acknowledged_both n replies more
 
 -- the standing is what the replies leave
-pub stands_over : (s : State) (k : Standing) (calls : List (core.Event × core.Reply)) (s' : State) (k' : Standing) → ServesAll s k calls s' k' → k' ≡ standing_over k calls
+pub stands_over : (s : State) (k : Standing) (calls : List (core.Event × core.Reply)) (s' : State) (k' : Standing) → ServesAll s k calls s' k'
+    → k' ≡ standing_over k calls
 stands_over s k calls s' k' nothing = refl
 stands_over s k calls s' k' (served e reply step rest allowed more) = stands_over (after_any s step) (standing_after k reply) rest s' k' more

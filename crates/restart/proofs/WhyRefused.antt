@@ -5,7 +5,9 @@ use Rattle.std.proofs.Math.Bridge.{le_prop}
 use Rattle.std.proofs.Math.Logic.{∥∥₁_elim}
 use mathlib.Core.HLevel.{⊥_prop}
 use Rattle.records.specs.declared.error.Error.{Error}
-use Rattle.records.specs.declared.error.Error.TheVariants.{BadGeometry, BadScript, BodyTooLong, Damaged, DeviceFailed, DeviceTooSmall, Exhausted, HeapFull, IndexExists, IndexFull, KeyTooLong, NoIndex, NoMemory, NoSuchRow, NoSuchTxn, NotBuilt, NotFormatted, OldVersion, RowBusy, Stopped, TooManyChanges, TooManyTxns, TxnsActive}
+use Rattle.records.specs.declared.error.Error.TheVariants.{BadGeometry, BadScript, BodyTooLong, Damaged, DeviceFailed, DeviceTooSmall, Exhausted, HeapFull}
+use Rattle.records.specs.declared.error.Error.TheVariants.{IndexExists, IndexFull, KeyTooLong, NoIndex, NoMemory, NoSuchRow, NoSuchTxn, NotBuilt, NotFormatted}
+use Rattle.records.specs.declared.error.Error.TheVariants.{OldVersion, RowBusy, Stopped, TooManyChanges, TooManyTxns, TxnsActive}
 use Rattle.records.specs.declared.number.TheConstants.{LAST_NUMBER}
 use Rattle.model.specs.declared.life.Life.{Life}
 use Rattle.model.specs.declared.life.Life.TheVariants.{Absent, Building, Complete}
@@ -14,7 +16,8 @@ use Rattle.core_model.specs.States.{State}
 use Rattle.core_model.specs.Steps.{MachineStep, all_reserved}
 use Rattle.core_contracts.specs.Events as core
 use Rattle.core_contracts.specs.Events.{Standing}
-use Rattle.core_contracts.specs.Replies.{HasNoPlace, IsAllowed, IsFirst, accepted, build_step, no_memory, refusals, refusals_of, refused, refused_last, skipped, unknown}
+use Rattle.core_contracts.specs.Replies.{HasNoPlace, IsAllowed, IsFirst, accepted, build_step, no_memory, refusals, refusals_of, refused, refused_last, skipped}
+use Rattle.core_contracts.specs.Replies.{unknown}
 use Rattle.nsf_core.specs.View.{CoreValue, IsSafe, Serves}
 
 abbrev pub IsWhy : Error → Type 0
@@ -47,7 +50,8 @@ none_left s (core.BuildReply.Marked p n) m is full = absurd (of_step s m (Machin
 none_left s (core.Done n) m is full = absurd (of_step s m MachineStep.Finish is full)
 none_left s core.Idle m is full = absurd cc
 
-last_when : (s : State) (k : Standing) (b : core.BuildReply) (step : Option MachineStep) (e : Error) → step ≡ build_step b → IsFirst (refusals_of s k step) (Some e) → IsWhen s k e
+last_when : (s : State) (k : Standing) (b : core.BuildReply) (step : Option MachineStep) (e : Error) → step ≡ build_step b
+    → IsFirst (refusals_of s k step) (Some e) → IsWhen s k e
 last_when s k b None e is first = absurd cc
 last_when s k b (Some m) e is (inl full) = inr (inl (same_error e IndexFull full.1, none_left s b m (sym is) full.0))
 last_when s k b (Some m) e is (inr (room, inl out)) = inr (inr (inl (same_error e Exhausted out.1, out.0.0)))
@@ -58,11 +62,13 @@ pub record IsRefusedAt (s : State) (k : Standing) (e : Error) (step : Option Mac
   pub when : IsWhen s k e
   pub no_step : step ≡ None
 
-when_at : (s : State) (k : Standing) (r : core.Reply) (e : Error) (step : Option MachineStep) → r ≡ core.Refused e → IsAllowed s k core.Build r step → IsRefusedAt s k e step
+when_at : (s : State) (k : Standing) (r : core.Reply) (e : Error) (step : Option MachineStep) → r ≡ core.Refused e → IsAllowed s k core.Build r step
+    → IsRefusedAt s k e step
 when_at s k _ e _ is (unknown none) = absurd none
 when_at s k _ e _ is (skipped a p) = absurd cc
 when_at s k _ e _ is (refused a p error f) = let same : error ≡ e = cc in record { when = subst (IsWhen s k) same (first_when s k error f); no_step = refl }
-when_at s k _ e _ is (refused_last a p f r step due error g) = let same : error ≡ e = cc in record { when = subst (IsWhen s k) same (last_when s k due.0 step error due.3 g); no_step = refl }
+when_at s k _ e _ is (refused_last a p f r step due error g) = let same : error ≡ e = cc in
+    record { when = subst (IsWhen s k) same (last_when s k due.0 step error due.3 g); no_step = refl }
 when_at s k _ e _ is (no_memory a p f r step due g w) = let same : e ≡ NoMemory = cc in record { when = inr (inr (inr same)); no_step = refl }
 when_at s k r e step is (accepted a p f _ _ due g) = let other : core.Built due.0 ≡ core.Refused e = sym due.2 ∙ is in absurd cc
 
@@ -129,7 +135,8 @@ module _ (v w : CoreValue) (e : Error) (safe : ∥ IsSafe v ∥₁) (serves : Se
 
   -- there was no index
   pub refused_none : e ≡ NoIndex → v.life ≡ Absent
-  refused_none none = absent v.life (λ other. ∥∥₁_elim safe ⊥_prop (λ is. other (sym is.is.shown.life ∙ no_index_at is.state is.standing e (at is).1.when none)))
+  refused_none none = absent v.life (λ other. ∥∥₁_elim safe ⊥_prop (λ is.
+      other (sym is.is.shown.life ∙ no_index_at is.state is.standing e (at is).1.when none)))
 
   -- no place was left
   pub refused_full : e ≡ IndexFull → IsIndexFull w

@@ -37,7 +37,8 @@ builds (r ∷ replies) = event.Build ∷ builds replies
 -- each of these replies in turn is one that the core could give to a request to build
 abbrev pub AreBuilt : {D M : Type 0} → List (Reply M) → Parts D M → Parts D M → Type 0
 AreBuilt [] old new = new ≡ old
-AreBuilt {D} {M} (r ∷ replies) old new = (mid : Parts D M) × ServesInCore core.Build r old mid × AreBuilt replies mid new
+AreBuilt {D} {M} (r ∷ replies) old new = (mid : Parts D M) × ServesInCore core.Build r old mid
+    × AreBuilt replies mid new
 
 -- the ticket of the build's end, where the reply tells of it
 abbrev pub end_of : BuildReply → Option Ticket
@@ -107,20 +108,24 @@ pub record BecameComplete {M : Type 0} (number : ℕ) (replies : List (Reply M))
   pub ends : EndsWith (reply.Built (build.Done ticket)) replies
   pub told : number ≡ ticket.record
 
--- how it ends: at once where the index was complete, and else with the end of the build, or with the refusal that is answered
+-- how it ends: at once where the index was complete, and else with the end of the build, or with the refusal that is
+-- answered
 abbrev pub IsEnd : {M : Type 0} → Result ℕ Error → List (Reply M) → CoreValue → Type 0
 IsEnd (Ok number) replies old = WasComplete number replies old ⊎ BecameComplete number replies old
 IsEnd (Err e) replies old = (old.life ≢ Complete) × EndsWith (reply.Refused e) replies
 
--- The engine went on by steps of the builder alone, to the end that is answered. Where some run had left it, that run goes on with
--- these requests. A crash at any moment leaves a prefix of the history with them, with every record up to the horizon before, and so
--- what was acknowledged.
-pub record IsBuiltToEnd {D M : Type 0} (history : D → History) (result : Result ℕ Error) (old new : Parts D M) : Type 0 where
+-- The engine went on by steps of the builder alone, to the end that is answered. Where some run had left it, that run
+-- goes on with these requests. A crash at any moment leaves a prefix of the history with them, with every record up to
+-- the horizon before, and so what was acknowledged.
+pub record IsBuiltToEnd {D M : Type 0} (history : D
+    → History) (result : Result ℕ Error) (old new : Parts D M) : Type 0 where
   pub replies : List (Reply M)
   pub each : AreBuilt replies old new
   pub ends : IsEnd result replies (core_of old)
   pub at : (past : Past M) → IsAt history past old → IsAt history (and_then past (builds replies) replies) new
-  pub survives : (past : Past M) → IsAt history past old → LeavesOnly (history (device_of old)) (history (device_of new)) (Survives (and_then past (builds replies) replies) (horizon_of old))
+  pub survives : (past : Past M) → IsAt history past old
+      → LeavesOnly (history (device_of old)) (history (device_of new))
+      (Survives (and_then past (builds replies) replies) (horizon_of old))
 
 -- each place of the index is taken by an entry, or reserved by a transaction
 abbrev pub IsIndexFull : CoreValue → Type 0
@@ -143,7 +148,8 @@ pub record HasCome (v : CoreValue) : Type 0 where
 abbrev pub IsIndexWhole : CoreValue → Type 0
 IsIndexWhole v = (pair : Pair) → (get v.index.entries pair ≡ Some Live) ↔ IsPairOf v.heap.rows pair
 
--- With no transaction active, the rows are as they were, the index is complete, and the visible entries are just their pairs.
+-- With no transaction active, the rows are as they were, the index is complete, and the visible entries are just their
+-- pairs.
 pub record EndsWhole (old new : CoreValue) : Type 0 where
   pub rows : new.heap.rows ≡ old.heap.rows
   pub complete : new.life ≡ Complete

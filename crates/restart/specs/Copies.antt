@@ -1,5 +1,6 @@
 -- What is answered to a copy.
-use Rattle.std.specs.Prelude.{◌≡◌, ◌≢◌, ◌⊎◌, ◌≤◌, ◌<◌, ◌+◌, ◌-◌, ◌/◌, ℕ, nat_lt, if◌then◌else◌, true, false, drop, List, [], ◌∷◌, Option, Some, None}
+use Rattle.std.specs.Prelude.{◌≡◌, ◌≢◌, ◌⊎◌, ◌≤◌, ◌<◌, ◌+◌, ◌-◌, ◌/◌, ℕ, nat_lt, if◌then◌else◌, true, false, drop, List}
+use Rattle.std.specs.Prelude.{[], ◌∷◌, Option, Some, None}
 use Rattle.records.specs.GeometryValue.{GeometryValue}
 use Rattle.records.specs.declared.error.Error.{Error}
 use Rattle.records.specs.declared.error.Error.TheVariants.{NoMemory, DeviceFailed}
@@ -67,13 +68,14 @@ abbrev pub entries_copied : Option NewImage → ℕ
 entries_copied None = 0
 entries_copied (Some image) = entries_at image.stage
 
--- From a whole image on: one copy makes it current. Where records were made since it began it may be given up by that copy, and the
--- next one takes and flips another; and so it is where a flush gave it up.
+-- From a whole image on: one copy makes it current. Where records were made since it began it may be given up by that
+-- copy, and the next one takes and flips another; and so it is where a flush gave it up.
 abbrev pub copies_to_flip : (last : ℕ) → Option NewImage → ℕ
 copies_to_flip last None = 2
 copies_to_flip last (Some image) = if nat_lt image.base last then 2 else 1
 
--- the most copies that an image takes: its start, its pages, its entries by chunks of which the last one isn't full, and the flip
+-- the most copies that an image takes: its start, its pages, its entries by chunks of which the last one isn't full,
+-- and the flip
 abbrev pub most_copies : GeometryValue → ℕ
 most_copies g = g.pages + g.entries / CHUNK_ENTRIES + 3
 
@@ -82,8 +84,10 @@ abbrev pub left_at : GeometryValue → (last : ℕ) → Option NewImage → Copy
 left_at g last image Idle = most_copies g
 left_at g last image (Steps None) = copies_to_flip last image
 left_at g last image (Steps (Some at.Start)) = most_copies g
-left_at g last image (Steps (Some (at.Page page))) = (g.pages - page) + (g.entries / CHUNK_ENTRIES + 1) + copies_to_flip last image
-left_at g last image (Steps (Some (at.Entries above))) = ((g.entries - entries_copied image) / CHUNK_ENTRIES + 1) + copies_to_flip last image
+left_at g last image (Steps (Some (at.Page page))) =
+    (g.pages - page) + (g.entries / CHUNK_ENTRIES + 1) + copies_to_flip last image
+left_at g last image (Steps (Some (at.Entries above))) =
+    ((g.entries - entries_copied image) / CHUNK_ENTRIES + 1) + copies_to_flip last image
 left_at g last image GivenUp = 1
 
 -- How many copies are left to a flip, if they come one behind another and none is refused: no more than these.
@@ -92,8 +96,8 @@ copies_left engine = left_at engine.geometry (core_of engine).last (image_of (wr
 
 -- ---- what a copy leaves
 
--- No record is lost: those that are synced now wait no more, and the others wait. The core keeps the rest of its state, and the
--- device's count of failures doesn't fall.
+-- No record is lost: those that are synced now wait no more, and the others wait. The core keeps the rest of its state,
+-- and the device's count of failures doesn't fall.
 pub record KeepsAll {D M : Type 0} (failures : D → ℕ) (old new : Parts D M) : Type 0 where
   pub horizon : horizon_of old ≤ horizon_of new
   pub left : unwritten new ≡ drop (horizon_of new - horizon_of old) (unwritten old)
@@ -111,8 +115,8 @@ pub record Succeeds {D M : Type 0} (failures : D → ℕ) (old new : Parts D M) 
 abbrev pub IsPieceNow : {M : Type 0} → CoreValue → CopyPlace → Piece M → Type 0
 IsPieceNow v place piece = (cells : Cells) → IsCellsOf v cells → IsPieceOf v cells place piece
 
--- The next piece may be taken, and it was: the image has it as the last record made left it, and the copying goes on behind it. No
--- group was written.
+-- The next piece may be taken, and it was: the image has it as the last record made left it, and the copying goes on
+-- behind it. No group was written.
 pub record TakesPiece {D M : Type 0} (old new : Parts D M) : Type 0 where
   pub place : CopyPlace
   pub next : next_place old.copying ≡ Some place
@@ -127,8 +131,8 @@ pub record TakesPiece {D M : Type 0} (old new : Parts D M) : Type 0 where
   pub log : log_of new ≡ log_of old
   pub horizon : horizon_of new ≡ horizon_of old
 
--- The next piece can't be taken: every slot of the current log is open, a flush gave the image up, or its entries would pass the
--- geometry's. Nothing was written.
+-- The next piece can't be taken: every slot of the current log is open, a flush gave the image up, or its entries would
+-- pass the geometry's. Nothing was written.
 pub record CannotTake {D M : Type 0} (old new : Parts D M) : Type 0 where
   pub place : CopyPlace
   pub next : next_place old.copying ≡ Some place
@@ -139,10 +143,11 @@ pub record CannotTake {D M : Type 0} (old new : Parts D M) : Type 0 where
 
 -- an image is whole, and the records above its base, up to its last piece, are synced
 abbrev pub MayFlip : {D M : Type 0} → Writer D M → Type 0
-MayFlip w = (image : NewImage) × (w.image ≡ Some image) × (image.stage ≡ stage.Whole) × (image.number ≤ reach image w.synced)
+MayFlip w = (image : NewImage) × (w.image ≡ Some image) × (image.stage ≡ stage.Whole)
+    × (image.number ≤ reach image w.synced)
 
--- Every piece was taken, and the image can't be made current, before and now: no group more can be written, since no record waits or
--- every slot of the log is open. The same half is current.
+-- Every piece was taken, and the image can't be made current, before and now: no group more can be written, since no
+-- record waits or every slot of the log is open. The same half is current.
 pub record CannotFlip {D M : Type 0} (old new : Parts D M) : Type 0 where
   pub whole : old.copying ≡ Steps None
   pub could-not : ¬ MayFlip (writer_of old)
@@ -155,21 +160,25 @@ pub record IsFlippedAtOnce {D M : Type 0} (old new : Parts D M) (image : NewImag
   pub log : log_of new ≡ image.log
   pub reached : horizon_of new ≡ reach image (horizon_of old)
 
--- The half of a whole image is current, and its log has groups in half the slots at most: where there is more than one slot, or the
--- image was taken at once, room for a group. An image that was copied in steps and could be made current waited for no group; one
--- that was taken at once has every record made, and its log is empty.
+-- The half of a whole image is current, and its log has groups in half the slots at most: where there is more than one
+-- slot, or the image was taken at once, room for a group. An image that was copied in steps and could be made current
+-- waited for no group; one that was taken at once has every record made, and its log is empty.
 pub record MakesCurrent {D M : Type 0} (old new : Parts D M) : Type 0 where
   pub whole : next_place old.copying ≡ None
-  pub turned : halves_of (writer_of new) ≡ record { geometry = (halves_of (writer_of old)).geometry; current = other (halves_of (writer_of old)).current }
+  pub turned : halves_of (writer_of new) ≡ record {
+    geometry = (halves_of (writer_of old)).geometry;
+    current = other (halves_of (writer_of old)).current;
+  }
   pub none : image_of (writer_of new) ≡ None
   pub idle : new.copying ≡ Idle
   pub room : (log_of new).open_slots ≤ (halves_of (writer_of new)).geometry.slots / 2
-  pub no-group : old.copying ≡ Steps None → MayFlip (writer_of old) → (image : NewImage) → image_of (writer_of old) ≡ Some image → IsFlippedAtOnce old new image
+  pub no-group : old.copying ≡ Steps None → MayFlip (writer_of old) → (image : NewImage)
+      → image_of (writer_of old) ≡ Some image → IsFlippedAtOnce old new image
   pub emptied : old.copying ≡ GivenUp → (log_of new).open_slots ≡ 0
   pub all : old.copying ≡ GivenUp → unwritten new ≡ []
 
--- There was no memory, and the copying is where it was, with no more copies left. Nothing was written, but where a whole image waits
--- for groups: then some may have been, and one of them may have given the image up.
+-- There was no memory, and the copying is where it was, with no more copies left. Nothing was written, but where a
+-- whole image waits for groups: then some may have been, and one of them may have given the image up.
 pub record IsPutOff {D M : Type 0} (failures : D → ℕ) (old new : Parts D M) : Type 0 where
   pub succeeds : Succeeds failures old new
   pub copying : new.copying ≡ old.copying
@@ -180,17 +189,22 @@ pub record IsPutOff {D M : Type 0} (failures : D → ℕ) (old new : Parts D M) 
 -- which answer a copy gives, and what it leaves
 abbrev pub IsCopyAnswer : {D M : Type 0} → (D → ℕ) → Reply M → Parts D M → Parts D M → Type 0
 -- A piece of an image was taken. Fewer copies are left.
-IsCopyAnswer failures reply.Copied old new = Succeeds failures old new × TakesPiece old new × (copies_left new < copies_left old)
+IsCopyAnswer failures reply.Copied old new = Succeeds failures old new × TakesPiece old new
+    × (copies_left new < copies_left old)
 -- a whole image is current
-IsCopyAnswer failures (reply.Flipped n) old new = Succeeds failures old new × (n ≡ horizon_of new) × MakesCurrent old new
--- An image that was copied in steps is given up, behind the groups that it waited for; one that is taken at once isn't. Fewer copies
--- are left.
-IsCopyAnswer failures reply.Again old new = Succeeds failures old new × (CannotTake old new ⊎ CannotFlip old new) × (new.copying ≡ GivenUp) × (copies_left new < copies_left old)
--- There was no memory to hand the records over, for a copy, or for a group; or the device failed, and an engine whose device failed
--- answers so from then on, and leaves it alone.
+IsCopyAnswer failures (reply.Flipped n) old new = Succeeds failures old new × (n ≡ horizon_of new)
+    × MakesCurrent old new
+-- An image that was copied in steps is given up, behind the groups that it waited for; one that is taken at once isn't.
+-- Fewer copies are left.
+IsCopyAnswer failures reply.Again old new = Succeeds failures old new × (CannotTake old new ⊎ CannotFlip old new)
+    × (new.copying ≡ GivenUp) × (copies_left new < copies_left old)
+-- There was no memory to hand the records over, for a copy, or for a group; or the device failed, and an engine whose
+-- device failed answers so from then on, and leaves it alone.
 IsCopyAnswer failures (reply.Refused e) old new =
     ((e ≡ NoMemory) × IsPutOff failures old new)
-    ⊎ ((e ≡ DeviceFailed) × (has_failed new ≡ true) × (has_failed old ≡ false → Rises (failures (device_of old)) (failures (device_of new))) × (has_failed old ≡ true → new ≡ old) × KeepsAll failures old new)
+    ⊎ ((e ≡ DeviceFailed) × (has_failed new ≡ true) × (has_failed old ≡ false
+    → Rises (failures (device_of old)) (failures (device_of new))) × (has_failed old ≡ true → new ≡ old)
+    × KeepsAll failures old new)
 IsCopyAnswer failures (reply.Txn t) old new = ⊥
 IsCopyAnswer failures (reply.Rid r) old new = ⊥
 IsCopyAnswer failures reply.Stepped old new = ⊥

@@ -11,12 +11,14 @@ use Rattle.restart.specs.Parts.{KeepsStore, horizon_of, unwritten, writer_of}
 use Rattle.restart.specs.declared.copying.Copying.TheVariants.{Steps}
 use Rattle.restart.specs.declared.parts.Parts.{Parts}
 
--- Groups were written one after another, each of as many of the records that waited as fill one, and only where the image couldn't be
--- made current yet; what was copied of the image stays, with the group in its log too.
+-- Groups were written one after another, each of as many of the records that waited as fill one, and only where the
+-- image couldn't be made current yet; what was copied of the image stays, with the group in its log too.
 pub data WritesGroups {D M : Type 0} (first : Writer D M) : Writer D M → Type 0 where
   no_more : WritesGroups first first
-  one_more : (mid last : Writer D M) (number : ℕ) → WritesGroups first mid → ¬ MayFlip mid → IsFlushReply (Flushed number) mid last
-      → BecomesImage (halves_of mid).geometry.slots (synced_of mid) (number - synced_of mid) (image_of mid) (image_of last) → WritesGroups first last
+  one_more : (mid last : Writer D M) (number : ℕ) → WritesGroups first mid → ¬ MayFlip mid
+      → IsFlushReply (Flushed number) mid last
+      → BecomesImage (halves_of mid).geometry.slots (synced_of mid) (number - synced_of mid) (image_of mid)
+      (image_of last) → WritesGroups first last
 
 -- The image was made current without a group more: what it reached is synced, and its log is the log.
 pub record Flips {D M : Type 0} (last new : Writer D M) : Type 0 where
@@ -40,4 +42,5 @@ pub record HasAll {D M : Type 0} (engine : Parts D M) (w : Writer D M) : Type 0 
 
 -- Where a whole image waited, nothing was written, or the writer wrote groups once it had every record.
 abbrev pub CopiesByGroups : {D M : Type 0} → Parts D M → Parts D M → Type 0
-CopiesByGroups {D} {M} old new = old.copying ≡ Steps None → KeepsStore old new ⊎ ((first : Writer D M) × HasAll old first × WritesByGroups first (writer_of new))
+CopiesByGroups {D} {M} old new = old.copying ≡ Steps None → KeepsStore old new
+    ⊎ ((first : Writer D M) × HasAll old first × WritesByGroups first (writer_of new))

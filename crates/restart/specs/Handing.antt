@@ -1,4 +1,5 @@
--- What handing records to the writer, and what the writer does with them, leaves of an engine. No public clause cites this.
+-- What handing records to the writer, and what the writer does with them, leaves of an engine. No public clause cites
+-- this.
 use Rattle.std.specs.Prelude.{◌≡◌, ◌≤◌, ◌<◌, ◌-◌, ℕ, [], None, length}
 use Rattle.core_model.specs.States.{State}
 use Rattle.core_contracts.specs.Events.{Standing}
@@ -16,12 +17,14 @@ use Rattle.restart.specs.Copies.{MayFlip, Succeeds, copies_left}
 use Rattle.restart.specs.Parts.{core_of, device_of, horizon_of, unhanded, unwritten, writer_of}
 use Rattle.restart.specs.Store.{StandsAt}
 
--- The core is in the state that it was in, and the writer may have more of the records made. A crash at any moment leaves what
--- some of those that the writer has made, with all that were synced at first.
+-- The core is in the state that it was in, and the writer may have more of the records made. A crash at any moment
+-- leaves what some of those that the writer has made, with all that were synced at first.
 pub record MovesOn {D M : Type 0} (history : D → History) (old new : Parts D M) : Type 0 where
-  pub stands : (run : Run) (handed : ℕ) (s : State) (k : Standing) → StandsAt history run handed s k old → (later : ℕ) × (handed ≤ later) × StandsAt history run later s k new
+  pub stands : (run : Run) (handed : ℕ) (s : State) (k : Standing) → StandsAt history run handed s k old → (later : ℕ)
+      × (handed ≤ later) × StandsAt history run later s k new
   pub images : (run : Run) (handed : ℕ) (s : State) (k : Standing) → StandsAt history run handed s k old
-      → LeavesOnly (history (device_of old)) (history (device_of new)) (λ (image : Image). (later : ℕ) × (later ≤ end_of run) × LeftBy run (horizon_of old) later image)
+      → LeavesOnly (history (device_of old)) (history (device_of new)) (λ (image : Image). (later : ℕ)
+      × (later ≤ end_of run) × LeftBy run (horizon_of old) later image)
   pub grows : horizon_of old ≤ horizon_of new
   pub core : core_of new ≡ record (core_of old) { outbox = (core_of new).outbox }
 
@@ -47,6 +50,7 @@ pub record FlushesFirst {D M : Type 0} (failures : D → ℕ) (old new : Parts D
   pub copying : new.copying ≡ Steps None
   pub could-not : ¬ MayFlip (writer_of old)
   pub flushed : (number : ℕ) × (IsFlushReply (Flushed number) (writer_of old) (writer_of new)
-      × BecomesImage (halves_of (writer_of old)).geometry.slots (horizon_of old) (number - horizon_of old) (image_of (writer_of old)) (image_of (writer_of new)))
+      × BecomesImage (halves_of (writer_of old)).geometry.slots (horizon_of old) (number - horizon_of old)
+      (image_of (writer_of old)) (image_of (writer_of new)))
   pub halves : halves_of (writer_of new) ≡ halves_of (writer_of old)
   pub left : copies_left new ≤ copies_left old

@@ -135,8 +135,8 @@ IsOfCopy (reply.Life life) = ⊥
 IsOfCopy reply.Skipped = ⊥
 IsOfCopy (reply.Refused e) = Unit {0}
 
--- The reply is of the request's kind: what the core can answer, to a request that asks it for something; and what a flush or a
--- copy may.
+-- The reply is of the request's kind: what the core can answer, to a request that asks it for something; and what a
+-- flush or a copy may.
 abbrev pub IsOfKind : {M : Type 0} → Event → Reply M → Type 0
 IsOfKind event.Begin r = answered r ≢ None
 IsOfKind (event.Insert txn key body) r = answered r ≢ None

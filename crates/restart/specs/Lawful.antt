@@ -1,5 +1,6 @@
 -- Which replies a request may have, and what each leaves.
-use Rattle.std.specs.Prelude.{◌≡◌, ◌≢◌, ◌⊎◌, ◌<◌, ◌≤◌, ◌+◌, ℕ, Bool, true, false, List, [], ◌∷◌, length, take, drop, Option, None, Some}
+use Rattle.std.specs.Prelude.{◌≡◌, ◌≢◌, ◌⊎◌, ◌<◌, ◌≤◌, ◌+◌, ℕ, Bool, true, false, List, [], ◌∷◌, length, take, drop}
+use Rattle.std.specs.Prelude.{Option, None, Some}
 use Rattle.records.specs.RecordValue.{RecordValue}
 use Rattle.records.specs.declared.error.Error.TheVariants.{NoMemory, DeviceFailed}
 use Rattle.sector_device.specs.History.{Rises}
@@ -18,7 +19,8 @@ use Rattle.restart.specs.declared.event.Reply.TheVariants as reply
 use Rattle.restart.specs.declared.parts.Parts.{Parts}
 use Rattle.restart.specs.Copies.{IsCopyAnswer}
 use Rattle.restart.specs.History.{answered, asked}
-use Rattle.restart.specs.Parts.{KeepsStore, core_of, device_of, log_of, unhanded, unwritten, writer_of, horizon_of, has_failed}
+use Rattle.restart.specs.Parts.{KeepsStore, core_of, device_of, log_of, unhanded, unwritten, writer_of, horizon_of}
+use Rattle.restart.specs.Parts.{has_failed}
 
 -- whether a request only reads
 abbrev pub is_read : Event → Bool
@@ -40,8 +42,8 @@ is_read (event.Get rid) = true
 is_read (event.Find key) = true
 is_read event.Life = true
 
--- The first n of the records fill one group, or are none: they fit it, and with one more they take too many bytes, or there
--- is no other.
+-- The first n of the records fill one group, or are none: they fit it, and with one more they take too many bytes, or
+-- there is no other.
 pub record FillsGroup (records : List RecordValue) (n : ℕ) : Type 0 where
   pub fits : 0 < n → FitsGroup (take n records)
   pub full : n < length records → GROUP_MAX < length (spellings (take (n + 1) records))
@@ -51,9 +53,9 @@ pub record OpensOne (n : ℕ) (old new : Log) : Type 0 where
   pub one : 0 < n → new ≡ record old { open_slots = old.open_slots + 1 }
   pub none : n ≡ 0 → new ≡ old
 
--- So many of the records that were not synced, the first of them, now are, in one slot of the log; the core keeps the rest of its
--- state, and the device's count of failures doesn't fall. The copying of an image stays where it is, and the image becomes what such a
--- group makes of it: its log has the records above its base too, or it is given up.
+-- So many of the records that were not synced, the first of them, now are, in one slot of the log; the core keeps the
+-- rest of its state, and the device's count of failures doesn't fall. The copying of an image stays where it is, and
+-- the image becomes what such a group makes of it: its log has the records above its base too, or it is given up.
 pub record Writes {D M : Type 0} (failures : D → ℕ) (old new : Parts D M) (n : ℕ) : Type 0 where
   pub within : n ≤ length (unwritten old)
   pub horizon : horizon_of new ≡ horizon_of old + n
@@ -62,15 +64,16 @@ pub record Writes {D M : Type 0} (failures : D → ℕ) (old new : Parts D M) (n
   pub core : core_of new ≡ record (core_of old) { outbox = (core_of new).outbox }
   pub later : failures (device_of old) ≤ failures (device_of new)
   pub copying : new.copying ≡ old.copying
-  pub image : 0 < n → BecomesImage (halves_of (writer_of old)).geometry.slots (horizon_of old) n (image_of (writer_of old)) (image_of (writer_of new))
+  pub image : 0 < n → BecomesImage (halves_of (writer_of old)).geometry.slots (horizon_of old) n
+      (image_of (writer_of old)) (image_of (writer_of new))
 
 -- Nothing was written; some of the records may wait elsewhere than in the core.
 pub record WritesNothing {D M : Type 0} (failures : D → ℕ) (old new : Parts D M) : Type 0 where
   pub none : Writes failures old new 0
   pub keeps : KeepsStore old new
 
--- No record was synced, and none is lost; the core keeps the rest of its state, and the device's count of failures doesn't fall. The
--- copying and the image under way stay.
+-- No record was synced, and none is lost; the core keeps the rest of its state, and the device's count of failures
+-- doesn't fall. The copying and the image under way stay.
 pub record KeepsRecords {D M : Type 0} (failures : D → ℕ) (old new : Parts D M) : Type 0 where
   pub horizon : horizon_of new ≡ horizon_of old
   pub unwritten-are : unwritten new ≡ unwritten old
@@ -81,17 +84,21 @@ pub record KeepsRecords {D M : Type 0} (failures : D → ℕ) (old new : Parts D
 
 -- what is answered to a flush
 abbrev pub IsFlushAnswer : {D M : Type 0} → (D → ℕ) → Reply M → Parts D M → Parts D M → Type 0
--- A flush that succeeds writes as many of the records that are not synced as fill one group, one at least where there is one,
--- in one slot of the log, and leaves the device alone where there is none; no call of the device failed.
-IsFlushAnswer failures (reply.Horizon n) old new = (has_failed old ≡ false) × (has_failed new ≡ false) × (n ≡ horizon_of new) × (unwritten old ≢ [] → horizon_of old < n)
+-- A flush that succeeds writes as many of the records that are not synced as fill one group, one at least where there
+-- is one, in one slot of the log, and leaves the device alone where there is none; no call of the device failed.
+IsFlushAnswer failures (reply.Horizon n) old new = (has_failed old ≡ false) × (has_failed new ≡ false)
+    × (n ≡ horizon_of new) × (unwritten old ≢ [] → horizon_of old < n)
     × ((written : ℕ) × Writes failures old new written × FillsGroup (unwritten old) written)
     × (unwritten old ≡ [] → WritesNothing failures old new) × (failures (device_of new) ≡ failures (device_of old))
-IsFlushAnswer failures reply.LogFull old new = (has_failed old ≡ false) × (has_failed new ≡ false) × IsLogFull (writer_of old) × (unwritten old ≢ []) × WritesNothing failures old new
--- There was no memory for a group of the records that are not synced, though the log is not full, or to hand them all to the
--- writer; or the device failed, and an engine whose device failed answers so from then on, and leaves it alone.
+IsFlushAnswer failures reply.LogFull old new = (has_failed old ≡ false) × (has_failed new ≡ false)
+    × IsLogFull (writer_of old) × (unwritten old ≢ []) × WritesNothing failures old new
+-- There was no memory for a group of the records that are not synced, though the log is not full, or to hand them all
+-- to the writer; or the device failed, and an engine whose device failed answers so from then on, and leaves it alone.
 IsFlushAnswer failures (reply.Refused e) old new =
-    ((e ≡ NoMemory) × (has_failed old ≡ false) × (has_failed new ≡ false) × (unwritten old ≢ []) × ((¬ IsLogFull (writer_of old)) ⊎ (unhanded new ≢ [])) × WritesNothing failures old new)
-    ⊎ ((e ≡ DeviceFailed) × (has_failed new ≡ true) × (has_failed old ≡ false → (unwritten old ≢ []) × Rises (failures (device_of old)) (failures (device_of new)))
+    ((e ≡ NoMemory) × (has_failed old ≡ false) × (has_failed new ≡ false) × (unwritten old ≢ [])
+    × ((¬ IsLogFull (writer_of old)) ⊎ (unhanded new ≢ [])) × WritesNothing failures old new)
+    ⊎ ((e ≡ DeviceFailed) × (has_failed new ≡ true) × (has_failed old ≡ false → (unwritten old ≢ [])
+    × Rises (failures (device_of old)) (failures (device_of new)))
     × (has_failed old ≡ true → new ≡ old) × KeepsRecords failures old new)
 IsFlushAnswer failures (reply.Txn t) old new = ⊥
 IsFlushAnswer failures (reply.Rid r) old new = ⊥
@@ -131,7 +138,8 @@ abbrev pub IsLawful : {D M : Type 0} → (D → ℕ) → Event → Reply M → P
 IsLawful failures event.Begin answer old new = IsInCore event.Begin answer old new
 IsLawful failures (event.Insert txn key body) answer old new = IsInCore (event.Insert txn key body) answer old new
 IsLawful failures (event.Delete txn rid) answer old new = IsInCore (event.Delete txn rid) answer old new
-IsLawful failures (event.Update txn rid key body) answer old new = IsInCore (event.Update txn rid key body) answer old new
+IsLawful failures (event.Update txn rid key body) answer old new =
+    IsInCore (event.Update txn rid key body) answer old new
 IsLawful failures (event.Step txn) answer old new = IsInCore (event.Step txn) answer old new
 IsLawful failures (event.Undo txn) answer old new = IsInCore (event.Undo txn) answer old new
 IsLawful failures (event.End txn) answer old new = IsInCore (event.End txn) answer old new
@@ -149,6 +157,7 @@ IsLawful failures event.Life answer old new = IsInCore event.Life answer old new
 -- each request in turn was answered lawfully
 abbrev pub AreLawful : {D M : Type 0} → (D → ℕ) → List Event → List (Reply M) → Parts D M → Parts D M → Type 0
 AreLawful failures [] [] old new = new ≡ old
-AreLawful {D} {M} failures (request ∷ requests) (answer ∷ answers) old new = (mid : Parts D M) × IsLawful failures request answer old mid × AreLawful failures requests answers mid new
+AreLawful {D} {M} failures (request ∷ requests) (answer ∷ answers) old new = (mid : Parts D M)
+    × IsLawful failures request answer old mid × AreLawful failures requests answers mid new
 AreLawful failures [] (answer ∷ answers) old new = ⊥
 AreLawful failures (request ∷ requests) [] old new = ⊥

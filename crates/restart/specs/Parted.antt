@@ -21,7 +21,8 @@ use Rattle.restart.specs.History.{core_calls}
 use Rattle.restart.specs.Parts.{KeepsStore, core_of, device_of, has_failed, horizon_of, unhanded, unwritten, writer_of}
 use Rattle.restart.specs.Store.{IsAt, Past, acknowledged_by, last_made, over, run_of}
 
--- The core has every row, entry and transaction, and no record waits in it: the writer has them all. Nothing was written.
+-- The core has every row, entry and transaction, and no record waits in it: the writer has them all. Nothing was
+-- written.
 pub record ArePartsOf {D M : Type 0} (engine : Parts D M) (core : CoreValue) (w : Writer D M) : Type 0 where
   pub core-is : core ≡ record (core_of engine) { outbox = [] }
   pub waiting : waiting_of w ≡ unwritten engine
@@ -32,10 +33,12 @@ pub record ArePartsOf {D M : Type 0} (engine : Parts D M) (core : CoreValue) (w 
   pub synced : synced_of w ≡ horizon_of engine
   pub failed : writer.has_failed w ≡ writer.has_failed (writer_of engine)
 
--- The core has replied as the run tells, and all records that it made, which are as many as the replies tell, were handed to the
--- writer; those that were acknowledged are synced. The records, each of which could follow the one before, make of what the store
--- gave as it was opened the rows, the entries, the index's life and the transactions' lists that the core has.
-pub record LeavesParts {D M : Type 0} (history : D → History) (past : Past M) (core : CoreValue) (w : Writer D M) : Type 0 where
+-- The core has replied as the run tells, and all records that it made, which are as many as the replies tell, were
+-- handed to the writer; those that were acknowledged are synced. The records, each of which could follow the one
+-- before, make of what the store gave as it was opened the rows, the entries, the index's life and the transactions'
+-- lists that the core has.
+pub record LeavesParts {D M : Type 0} (history : D
+    → History) (past : Past M) (core : CoreValue) (w : Writer D M) : Type 0 where
   pub opens : CanOpen (over past.geometry past.given)
   pub made : List RecordValue
   pub state : State
@@ -50,10 +53,11 @@ pub record LeavesParts {D M : Type 0} (history : D → History) (past : Past M) 
 
 -- whatever run left the engine so
 abbrev pub LeavesPartsOf : {D M : Type 0} → (D → History) → Parts D M → CoreValue → Writer D M → Type 0
-LeavesPartsOf {D} {M} history engine core w = (past : Past M) → IsAt history past engine → LeavesParts history past core w
+LeavesPartsOf {D} {M} history engine core w = (past : Past M) → IsAt history past engine
+    → LeavesParts history past core w
 
--- There was no memory to hand all records over. The engine is where the run left it, and has every record that wasn't synced;
--- nothing was written, and the copying is where it was.
+-- There was no memory to hand all records over. The engine is where the run left it, and has every record that wasn't
+-- synced; nothing was written, and the copying is where it was.
 pub record IsGivenBack {D M : Type 0} (history : D → History) (old new : Parts D M) : Type 0 where
   pub some : unhanded new ≢ []
   pub at : (past : Past M) → IsAt history past old → IsAt history past new

@@ -40,7 +40,8 @@ horizon_of engine = writer.synced_of engine.writer
 abbrev pub has_failed : {D M : Type 0} → Parts D M → Bool
 has_failed engine = writer.has_failed engine.writer
 
--- Nothing was written: the device is as it was, and so are the halves, the log, the image under way, and how far all is synced.
+-- Nothing was written: the device is as it was, and so are the halves, the log, the image under way, and how far all is
+-- synced.
 pub record KeepsStore {D M : Type 0} (old new : Parts D M) : Type 0 where
   pub device : device_of new ≡ device_of old
   pub halves : writer.halves_of (writer_of new) ≡ writer.halves_of (writer_of old)

@@ -8,14 +8,19 @@ use Rattle.restart.specs.declared.parts.Parts.{Parts}
 use Rattle.restart.specs.Parts.{device_of, horizon_of}
 use Rattle.restart.specs.Store.{Past, SurvivesAt, and_then, Survives, IsAt}
 
--- These requests were answered so, whatever was answered before. A crash at any moment of the call leaves what the run left
--- up to one of the requests, with every record up to the horizon before the call, and all that was acknowledged before that request.
-abbrev pub SurvivesAnyCrash : {D M : Type 0} → (D → History) → List Event → List (Reply M) → Parts D M → Parts D M → Type 0
+-- These requests were answered so, whatever was answered before. A crash at any moment of the call leaves what the run
+-- left up to one of the requests, with every record up to the horizon before the call, and all that was acknowledged
+-- before that request.
+abbrev pub SurvivesAnyCrash : {D M : Type 0} → (D → History) → List Event → List (Reply M) → Parts D M → Parts D M
+    → Type 0
 SurvivesAnyCrash {D} {M} history events replies old new = (past : Past M) → IsAt history past old
-    → LeavesOnly (history (device_of old)) (history (device_of new)) (λ image. (j : ℕ) × (j ≤ length events) × SurvivesAt past events replies (horizon_of old) j image)
+    → LeavesOnly (history (device_of old)) (history (device_of new)) (λ image. (j : ℕ) × (j ≤ length events)
+    × SurvivesAt past events replies (horizon_of old) j image)
 
--- These requests were answered so, whatever was answered before. A crash once the call has ended leaves a prefix of the whole run,
--- with every record up to the horizon then, and so with all that a reply has told to be safe, those of this call too (`safe` of `IsAt`).
+-- These requests were answered so, whatever was answered before. A crash once the call has ended leaves a prefix of the
+-- whole run, with every record up to the horizon then, and so with all that a reply has told to be safe, those of this
+-- call too (`safe` of `IsAt`).
 abbrev pub KeepsWholeRun : {D M : Type 0} → (D → History) → List Event → List (Reply M) → Parts D M → Parts D M → Type 0
-KeepsWholeRun {D} {M} history events replies old new = (past : Past M) → IsAt history past old → (image : Image) → IsCrashImage (history (device_of new)).disk image
+KeepsWholeRun {D} {M} history events replies old new = (past : Past M) → IsAt history past old → (image : Image)
+    → IsCrashImage (history (device_of new)).disk image
     → Survives (and_then past events replies) (horizon_of new) image

@@ -27,20 +27,22 @@ use Rattle.restart.specs.Store.{Past, items_told, last_made, over, Survives, IsA
 abbrev pub opening : {M : Type 0} → GeometryValue → Given → Past M
 opening geometry given = record { geometry = geometry; given = given; events = []; replies = [] }
 
--- What the device gives was written back into the half of its store that wasn't current, and that half made current, or part of
--- this was done: a crash at any moment leaves what one before could, or what gives the same as the device did; and so does the
--- device, now.
+-- What the device gives was written back into the half of its store that wasn't current, and that half made current, or
+-- part of this was done: a crash at any moment leaves what one before could, or what gives the same as the device did;
+-- and so does the device, now.
 pub record IsTurned {D : Type 0} (history : D → History) (before after : D) : Type 0 where
   pub images : LeavesOnly (history before) (history after) (ReopeningLeaves (history before).disk)
-  pub now : ((history after).disk.content ≡ (history before).disk.content) ⊎ IsWrittenBack (history before).disk.content (history after).disk.content
+  pub now : ((history after).disk.content ≡ (history before).disk.content)
+      ⊎ IsWrittenBack (history before).disk.content (history after).disk.content
 
 -- Nothing was written: the device holds what it held, and a crash at any moment leaves what one before could.
 pub record IsUnwritten {D : Type 0} (history : D → History) (before after : D) : Type 0 where
   pub content : (history after).disk.content ≡ (history before).disk.content
   pub images : LeavesOnly (history before) (history after) (IsCrashImage (history before).disk)
 
--- The engine holds what its device gave, and no transaction. Where what was given is something that a core may begin with, a run
--- begins over it; and the core has come to where it is, so that a build that goes on to its end leaves the index whole.
+-- The engine holds what its device gave, and no transaction. Where what was given is something that a core may begin
+-- with, a run begins over it; and the core has come to where it is, so that a build that goes on to its end leaves the
+-- index whole.
 pub record IsOpened {D M : Type 0} (history : D → History) (before : D) (engine : Parts D M) : Type 0 where
   pub geometry : GeometryValue
   pub given : Given
@@ -55,20 +57,25 @@ pub record IsOpened {D M : Type 0} (history : D → History) (before : D) (engin
 
 -- the half that wasn't current now is, its log is empty, and no image is under way, nor is a whole one to be taken
 abbrev pub IsEmptied : {D M : Type 0} → (D → History) → D → Parts D M → Type 0
-IsEmptied history before engine = IsStore (halves_of (writer_of engine)).geometry (other (halves_of (writer_of engine)).current) (history before).disk.content × ((log_of engine).open_slots ≡ 0) × (image_of (writer_of engine) ≡ None) × (engine.copying ≡ Idle)
+IsEmptied history before engine = IsStore (halves_of (writer_of engine)).geometry
+    (other (halves_of (writer_of engine)).current) (history before).disk.content × ((log_of engine).open_slots ≡ 0)
+    × (image_of (writer_of engine) ≡ None) × (engine.copying ≡ Idle)
 
 -- Why nothing was opened: there was no memory, the device failed in the call, or it gives nothing. With any answer but
 -- `DeviceFailed` no call of the device failed, and the device is synced.
-pub record IsNotOpened {D : Type 0} (history : D → History) (failures : D → ℕ) (before after : D) (e : Error) : Type 0 where
+pub record IsNotOpened {D : Type 0} (history : D → History) (failures : D
+    → ℕ) (before after : D) (e : Error) : Type 0 where
   pub device : IsTurned history before after
   pub why : Refuses (failures before) (failures after) e ⊎ IsUnreadable (history before).disk.content e
   pub told : e ≢ DeviceFailed → failures after ≡ failures before
   pub synced : e ≢ DeviceFailed → IsSynced (history after).disk
 
 -- The engine holds a prefix of the run's history, which has every item up to the floor and no record past the last that
--- the run made, and no transaction; and what it holds is something that a core may begin with: as far as the index is built, it shows the pair of each row, and no other. A
--- run begins over it; and the core has come to where it is, so that a build that goes on to its end leaves the index whole.
-pub record Recovers {D M : Type 0} (history : D → History) (past : Past M) (floor : ℕ) (engine : Parts D M) : Type 0 where
+-- the run made, and no transaction; and what it holds is something that a core may begin with: as far as the index is
+-- built, it shows the pair of each row, and no other. A run begins over it; and the core has come to where it is, so
+-- that a build that goes on to its end leaves the index whole.
+pub record Recovers {D M : Type 0} (history : D → History) (past : Past M) (floor : ℕ)
+    (engine : Parts D M) : Type 0 where
   pub given : Given
   pub beginning : IsBeginning past.given (items_told past) floor given
   pub within : given.last ≤ last_made past
@@ -79,19 +86,23 @@ pub record Recovers {D M : Type 0} (history : D → History) (past : Past M) (fl
 
 -- Whatever run left the device so, the engine holds a prefix of its history, with all up to the floor.
 abbrev pub RecoversAnyRun : {D M : Type 0} → (D → History) → D → Parts D M → Type 0
-RecoversAnyRun {D} {M} history before engine = (past : Past M) (floor : ℕ) → Survives past floor (history before).disk.content → Recovers history past floor engine
+RecoversAnyRun {D} {M} history before engine = (past : Past M) (floor : ℕ)
+    → Survives past floor (history before).disk.content → Recovers history past floor engine
 
 -- What a run left is refused only for want of memory, or where the device failed in the call.
 abbrev pub RefusesNoRun : (M : Type 0) → {D : Type 0} → (D → History) → (D → ℕ) → D → D → Error → Type 0
-RefusesNoRun M history failures before after e = (past : Past M) (floor : ℕ) → Survives past floor (history before).disk.content → Refuses (failures before) (failures after) e
+RefusesNoRun M history failures before after e = (past : Past M) (floor : ℕ)
+    → Survives past floor (history before).disk.content → Refuses (failures before) (failures after) e
 
 -- Whatever run left a synced device so, with all up to the floor, a crash at any moment since leaves such a prefix too.
 abbrev pub StaysOfAnyRun : (M : Type 0) → {D : Type 0} → (D → History) → D → D → Type 0
-StaysOfAnyRun M history before after = IsSynced (history before).disk → (past : Past M) (floor : ℕ) → Survives past floor (history before).disk.content
+StaysOfAnyRun M history before after = IsSynced (history before).disk → (past : Past M) (floor : ℕ)
+    → Survives past floor (history before).disk.content
     → LeavesOnly (history before) (history after) (Survives past floor)
 
 -- The core of what a store gives, whose half with an empty log was made current. (No public clause cites this.)
-pub record IsCoreOf (before : Image) (after : History) (halves : HalvesValue) (log : Log) (core : CoreValue) : Type 0 where
+pub record IsCoreOf (before : Image) (after : History) (halves : HalvesValue) (log : Log)
+    (core : CoreValue) : Type 0 where
   pub given : Given
   pub gives : Gives before halves.geometry given
   pub holds : core ≡ holding halves.geometry given

@@ -1,5 +1,6 @@
 -- An image taken as one call, and a flush of every record.
-use Rattle.std.specs.Prelude.{◌≡◌, ◌≢◌, ◌⊎◌, ◌<◌, ◌≤◌, ◌&&◌, ℕ, nat_lt, Bool, true, false, List, [], ◌∷◌, map, All, Option, Some, None}
+use Rattle.std.specs.Prelude.{◌≡◌, ◌≢◌, ◌⊎◌, ◌<◌, ◌≤◌, ◌&&◌, ℕ, nat_lt, Bool, true, false, List, [], ◌∷◌, map, All}
+use Rattle.std.specs.Prelude.{Option, Some, None}
 use Rattle.std.specs.List.Sorted.{IsStrictlyIncreasing}
 use Rattle.sector_device.specs.History.{History}
 use Rattle.restart.specs.Lawful.{IsLawful}
@@ -33,9 +34,10 @@ behind None numbers = numbers
 behind (Some before) numbers = before ∷ numbers
 
 module _ {D M : Type 0} (history : D → History) (failures : D → ℕ) where
-  -- The request had this lawful reply. At whatever run the engine was, it now is at that run with the request and the reply behind it.
-  -- A crash of the device at any moment of it leaves what a prefix of the run left, with every record up to the horizon before, and
-  -- so with all that an earlier reply has told to be safe. The device has as many sectors as before.
+  -- The request had this lawful reply. At whatever run the engine was, it now is at that run with the request and the
+  -- reply behind it. A crash of the device at any moment of it leaves what a prefix of the run left, with every record
+  -- up to the horizon before, and so with all that an earlier reply has told to be safe. The device has as many sectors
+  -- as before.
   pub record Serves (event : Event) (reply : Reply M) (old new : Parts D M) : Type 0 where
     pub lawful : IsLawful failures event reply old new
     pub runs : ServesOn history event reply old new
@@ -55,9 +57,11 @@ module _ {D M : Type 0} (history : D → History) (failures : D → ℕ) where
     pub final_copy : Serves Copy final mid new
     pub ends : is_on_the_way final ≡ false
 
-  -- An image was taken and made current, and the flush behind it had this reply; or the final copy had it, and made none current.
+  -- An image was taken and made current, and the flush behind it had this reply; or the final copy had it, and made
+  -- none current.
   abbrev pub FlushesBehindImage : Reply M → Parts D M → Parts D M → Type 0
-  FlushesBehindImage reply old new = ((n : ℕ) × (mid : Parts D M) × TakesImage (Flipped n) old mid × Serves Flush reply mid new)
+  FlushesBehindImage reply old new = ((n : ℕ) × (mid : Parts D M) × TakesImage (Flipped n) old mid
+      × Serves Flush reply mid new)
       ⊎ (((n : ℕ) → reply ≢ Flipped n) × TakesImage reply old new)
 
   -- One flush had this reply; or the log was full, and the one behind an image had it.
@@ -77,9 +81,9 @@ module _ {D M : Type 0} (history : D → History) (failures : D → ℕ) where
     pub rising : IsStrictlyIncreasing (behind told horizons)
     pub below : All (λ n. n < last) horizons
 
-  -- Flushes were made until all records up to the last were synced, or one was refused. A final flush that told how far the
-  -- records are synced told of all up to the last, or no record waits behind it. None ends with a full log, but where the log has
-  -- no slot at all.
+  -- Flushes were made until all records up to the last were synced, or one was refused. A final flush that told how far
+  -- the records are synced told of all up to the last, or no record waits behind it. None ends with a full log, but
+  -- where the log has no slot at all.
   pub record FlushesAll (last : ℕ) (final : Reply M) (old new : Parts D M) : Type 0 where
     pub mid : Parts D M
     pub before : FlushesOn last None old mid

@@ -27,19 +27,20 @@ use Rattle.restart.specs.Copies.{IsCopyAnswer}
 use Rattle.restart.specs.Parts.{core_of, device_of, horizon_of, writer_of}
 use Rattle.restart.specs.Store.{CopiesAround, InCopy, IsAt, Past, ServesOn, Survives}
 
--- A core over the rows, the entries, the index's life and the last record's number that another holds, as a restart makes one: no
--- transaction was begun in it, and it has built and cleaned nothing.
+-- A core over the rows, the entries, the index's life and the last record's number that another holds, as a restart
+-- makes one: no transaction was begun in it, and it has built and cleaned nothing.
 pub record IsFresh (old new : CoreValue) : Type 0 where
   pub geometry : GeometryValue
   pub made : new ≡ holding geometry (opened_of old).given
   pub same : opened_of new ≡ opened_of old
   pub stands : IsState new (opened (opened_of old)) (standing_at old.last)
 
--- A writer that has got no record since its store held this, all of which is synced: a crash of the device leaves what gives it. No
--- slot of the log is open, and no image is under way.
+-- A writer that has got no record since its store held this, all of which is synced: a crash of the device leaves what
+-- gives it. No slot of the log is open, and no image is under way.
 pub record IsSettled {D M : Type 0} (history : D → History) (o : Opened) (w : Writer D M) : Type 0 where
   pub writer : IsWriter history (opened_run (halves_of w) o.given.last (opening_cells o.given)) o.given.last w
-  pub gives : (image : Image) → IsCrashImage (history (parts.device_of w)).disk image → Gives image (halves_of w).geometry o.given
+  pub gives : (image : Image) → IsCrashImage (history (parts.device_of w)).disk image
+      → Gives image (halves_of w).geometry o.given
   pub pages : (halves_of w).geometry.pages ≡ o.pages
   pub places : (halves_of w).geometry.entries ≡ o.places
   pub fits : len o.given.entries ≤ o.places
@@ -52,28 +53,31 @@ pub record IsSettled {D M : Type 0} (history : D → History) (o : Opened) (w : 
 abbrev pub giving_up : {D M : Type 0} → Parts D M → Parts D M
 giving_up engine = record engine { copying = GivenUp }
 
--- An image under way was given up, and the copy that takes a whole one at once had this reply, and wrote no sector but those that a
--- copy writes.
-pub record CopiesAnew {D M : Type 0} (history : D → History) (failures : D → ℕ) (reply : Reply M) (old new : Parts D M) : Type 0 where
+-- An image under way was given up, and the copy that takes a whole one at once had this reply, and wrote no sector but
+-- those that a copy writes.
+pub record CopiesAnew {D M : Type 0} (history : D → History) (failures : D
+    → ℕ) (reply : Reply M) (old new : Parts D M) : Type 0 where
   pub answer : IsCopyAnswer failures reply (giving_up old) new
   pub runs : ServesOn history Copy reply old new
   pub around : CopiesAround history old new
 
--- All that the engine holds was written as a whole image, which is current: its records that weren't synced are in it. No call of the
--- device failed, and a crash at any moment leaves a prefix of whatever run the engine served, with every record up to its horizon, and
--- so with everything acknowledged. No sector was written but those that a copy writes.
-pub record WritesWhole {D M : Type 0} (history : D → History) (failures : D → ℕ) (engine : Parts D M) (w : Writer D M) : Type 0 where
+-- All that the engine holds was written as a whole image, which is current: its records that weren't synced are in it.
+-- No call of the device failed, and a crash at any moment leaves a prefix of whatever run the engine served, with every
+-- record up to its horizon, and so with everything acknowledged. No sector was written but those that a copy writes.
+pub record WritesWhole {D M : Type 0} (history : D → History) (failures : D
+    → ℕ) (engine : Parts D M) (w : Writer D M) : Type 0 where
   pub settled : IsSettled history (opened_of (core_of engine)) w
   pub quiet : failures (parts.device_of w) ≡ failures (device_of engine)
-  pub survives : (past : Past M) → IsAt history past engine → LeavesOnly (history (device_of engine)) (history (parts.device_of w)) (Survives past (horizon_of engine))
+  pub survives : (past : Past M) → IsAt history past engine
+      → LeavesOnly (history (device_of engine)) (history (parts.device_of w)) (Survives past (horizon_of engine))
   pub around : WritesOnly history (InCopy (halves_of (writer_of engine))) (device_of engine) (parts.device_of w)
 
 -- there was no memory for it, or the device failed: the engine's run goes on, by a copy that was refused so
 abbrev pub IsNotWritten : {D M : Type 0} → (D → History) → (D → ℕ) → Parts D M → Parts D M → Error → Type 0
 IsNotWritten history failures old new e = CopiesAnew history failures (Refused e) old new
 
--- A transaction is active, and the engine is as it was. Or none is: then there was no memory for a core, and it is as it was; or what
--- it holds could not be written, and its run goes on.
+-- A transaction is active, and the engine is as it was. Or none is: then there was no memory for a core, and it is as
+-- it was; or what it holds could not be written, and its run goes on.
 abbrev pub IsNotParted : {D M : Type 0} → (D → History) → (D → ℕ) → Parts D M → Parts D M → Error → Type 0
 IsNotParted history failures old new e =
     ((e ≡ TxnsActive) × (IsQuiet (core_of old) → ⊥) × (new ≡ old))

@@ -57,8 +57,8 @@ last_made past = (standing_over (standing_at past.given.last) (core_calls past.e
 abbrev pub and_then : {M : Type 0} → Past M → List Event → List (Reply M) → Past M
 and_then past events replies = record past { events = past.events ++ events; replies = past.replies ++ replies }
 
--- The crash state gives a prefix of the run's history, which has every item up to the floor, and no record past the last that
--- the run made; and a core may begin with it.
+-- The crash state gives a prefix of the run's history, which has every item up to the floor, and no record past the
+-- last that the run made; and a core may begin with it.
 pub record Survives {M : Type 0} (past : Past M) (floor : ℕ) (image : Image) : Type 0 where
   pub given : Given
   pub gives : Gives image past.geometry given
@@ -66,9 +66,10 @@ pub record Survives {M : Type 0} (past : Past M) (floor : ℕ) (image : Image) :
   pub within : given.last ≤ last_made past
   pub opens : CanOpen (over past.geometry given)
 
--- The engine's core is in this state, which the records of the run set, and they alone. Those up to number `handed` were handed
--- to the writer; the others are on their way to it.
-pub record StandsAt {D M : Type 0} (history : D → History) (run : Run) (handed : ℕ) (s : State) (k : Standing) (engine : Parts D M) : Type 0 where
+-- The engine's core is in this state, which the records of the run set, and they alone. Those up to number `handed`
+-- were handed to the writer; the others are on their way to it.
+pub record StandsAt {D M : Type 0} (history : D → History) (run : Run) (handed : ℕ) (s : State) (k : Standing)
+    (engine : Parts D M) : Type 0 where
   pub writer : IsWriter history run handed (writer_of engine)
   pub rest : records_between run handed (end_of run) ≡ unhanded engine
   pub shown : IsState (core_of engine) s k
@@ -85,7 +86,12 @@ pub record StandsAt {D M : Type 0} (history : D → History) (run : Run) (handed
 
 -- the records of a run, over what it began with
 abbrev pub run_of : {M : Type 0} → Past M → List RecordValue → Run
-run_of past made = record { geometry = past.geometry; last = past.given.last; cells = opening_cells past.given; records = made }
+run_of past made = record {
+  geometry = past.geometry;
+  last = past.given.last;
+  cells = opening_cells past.given;
+  records = made;
+}
 
 -- The engine is where this run leaves it.
 pub record IsAt {D M : Type 0} (history : D → History) (past : Past M) (engine : Parts D M) : Type 0 where
@@ -104,24 +110,26 @@ pub record IsAt {D M : Type 0} (history : D → History) (past : Past M) (engine
 
 -- What every engine keeps, whatever its store gave as it was opened.
 abbrev pub CanRun : {D M : Type 0} → (D → History) → Parts D M → Type 0
-CanRun {D} {M} history engine = (run : Run) × (handed : ℕ) × (s : State) × (k : Standing) × StandsAt history run handed s k engine
+CanRun {D} {M} history engine = (run : Run) × (handed : ℕ) × (s : State) × (k : Standing)
+    × StandsAt history run handed s k engine
 
--- One request was answered so: the engine is where it leaves it; a crash at any moment of it leaves a prefix of the history with it,
--- which holds every record up to the horizon that the engine had before, and so what was acknowledged (`safe` of `IsAt`); and the
--- horizon doesn't fall.
+-- One request was answered so: the engine is where it leaves it; a crash at any moment of it leaves a prefix of the
+-- history with it, which holds every record up to the horizon that the engine had before, and so what was acknowledged
+-- (`safe` of `IsAt`); and the horizon doesn't fall.
 abbrev pub ServesOn : {D M : Type 0} → (D → History) → Event → Reply M → Parts D M → Parts D M → Type 0
 ServesOn {D} {M} history event reply old new = (past : Past M) → IsAt history past old
     → IsAt history (and_then past (event ∷ []) (reply ∷ [])) new
-    × LeavesOnly (history (device_of old)) (history (device_of new)) (Survives (and_then past (event ∷ []) (reply ∷ [])) (horizon_of old))
+    × LeavesOnly (history (device_of old)) (history (device_of new))
+    (Survives (and_then past (event ∷ []) (reply ∷ [])) (horizon_of old))
     × (horizon_of old ≤ horizon_of new)
 
--- Only the store's log was written, and where an image is under way that of its half: each other sector of the device holds what
--- it held before, and so it does after a crash at any moment of the call, if it was synced before.
+-- Only the store's log was written, and where an image is under way that of its half: each other sector of the device
+-- holds what it held before, and so it does after a crash at any moment of the call, if it was synced before.
 abbrev pub KeepsAround : {D M : Type 0} → (D → History) → Parts D M → Parts D M → Type 0
 KeepsAround history old new = WritesLogsAlone history (writer_of old) (writer_of new)
 
--- No sector was written but those of the slot that a flush opens, in the log and, where an image is under way, in the log of its
--- half: so it is at each moment of the call, as above.
+-- No sector was written but those of the slot that a flush opens, in the log and, where an image is under way, in the
+-- log of its half: so it is at each moment of the call, as above.
 abbrev pub OpensSlotsAlone : {D M : Type 0} → (D → History) → Parts D M → Parts D M → Type 0
 OpensSlotsAlone history old new = WritesOnly history (InOpenedSlots (writer_of old)) (device_of old) (device_of new)
 
@@ -129,56 +137,67 @@ OpensSlotsAlone history old new = WritesOnly history (InOpenedSlots (writer_of o
 abbrev pub InCopy : HalvesValue → ℕ → Type 0
 InCopy h n = InLog h.geometry h.current n ⊎ (InHalf h.geometry (other h.current) n ⊎ (n ≡ FLIP_SECTOR))
 
--- Of these alone some were written: each other sector of the device holds what it held before, and so it does after a crash at any
--- moment of the call, if it was synced before.
+-- Of these alone some were written: each other sector of the device holds what it held before, and so it does after a
+-- crash at any moment of the call, if it was synced before.
 abbrev pub CopiesAround : {D M : Type 0} → (D → History) → Parts D M → Parts D M → Type 0
 CopiesAround history old new = WritesOnly history (InCopy (halves_of (writer_of old))) (device_of old) (device_of new)
 
 -- the device has as many sectors as before
 abbrev pub KeepsSectors : {D M : Type 0} → (D → History) → Parts D M → Parts D M → Type 0
-KeepsSectors history old new = length (history (device_of new)).disk.content ≡ length (history (device_of old)).disk.content
+KeepsSectors history old new = length (history (device_of new)).disk.content
+    ≡ length (history (device_of old)).disk.content
 
 -- none of the requests is a copy
 abbrev pub HaveNoCopy : List Event → Type 0
 HaveNoCopy [] = Unit {0}
 HaveNoCopy (event ∷ events) = (event ≢ requests.Copy) × HaveNoCopy events
 
--- What a crash between borders j and j + 1 leaves of a run that answered these requests: it holds every record up to this horizon, the
--- engine's before the first of them, and what the first j replies acknowledged.
+-- What a crash between borders j and j + 1 leaves of a run that answered these requests: it holds every record up to
+-- this horizon, the engine's before the first of them, and what the first j replies acknowledged.
 abbrev pub SurvivesAt : {M : Type 0} → Past M → List Event → List (Reply M) → (horizon : ℕ) → ℕ → Image → Type 0
-SurvivesAt past events replies horizon j = Survives (and_then past (take (j + 1) events) (take (j + 1) replies)) (max horizon (acknowledged_by (and_then past (take j events) (take j replies))))
+SurvivesAt past events replies horizon j = Survives (and_then past (take (j + 1) events) (take (j + 1) replies))
+    (max horizon (acknowledged_by (and_then past (take j events) (take j replies))))
 
--- The run went on by these requests: the engine is where they leave it; and there are moments that rise from the
--- call's start to its end, one for each request, between which each crash leaves such a prefix. The horizon doesn't fall.
-pub record GoesOn {D M : Type 0} (history : D → History) (past : Past M) (events : List Event) (replies : List (Reply M)) (old new : Parts D M) : Type 0 where
+-- The run went on by these requests: the engine is where they leave it; and there are moments that rise from the call's
+-- start to its end, one for each request, between which each crash leaves such a prefix. The horizon doesn't fall.
+pub record GoesOn {D M : Type 0} (history : D → History) (past : Past M) (events : List Event)
+    (replies : List (Reply M)) (old new : Parts D M) : Type 0 where
   pub at : IsAt history (and_then past events replies) new
-  pub kept : (t : ℕ) → t ≤ (history (device_of old)).moment → (history (device_of new)).disk_at t ≡ (history (device_of old)).disk_at t
+  pub kept : (t : ℕ) → t ≤ (history (device_of old)).moment
+      → (history (device_of new)).disk_at t ≡ (history (device_of old)).disk_at t
   pub borders : List ℕ
   pub one_each : length borders ≡ length events
-  pub spans : Spans (history (device_of new)).disk_at (SurvivesAt past events replies (horizon_of old)) 0 (history (device_of old)).moment borders (history (device_of new)).moment
+  pub spans : Spans (history (device_of new)).disk_at (SurvivesAt past events replies (horizon_of old)) 0
+      (history (device_of old)).moment borders (history (device_of new)).moment
   pub grows : horizon_of old ≤ horizon_of new
 
--- Each request in turn was answered lawfully, from where the run had left the engine to where it leaves it then; a crash at any moment
--- of it leaves every record up to the horizon that the engine had as this request began.
-abbrev pub AreServed : {D M : Type 0} → (D → History) → (D → ℕ) → Past M → List Event → List (Reply M) → Parts D M → Parts D M → Type 0
+-- Each request in turn was answered lawfully, from where the run had left the engine to where it leaves it then; a
+-- crash at any moment of it leaves every record up to the horizon that the engine had as this request began.
+abbrev pub AreServed : {D M : Type 0} → (D → History) → (D → ℕ) → Past M → List Event → List (Reply M) → Parts D M
+    → Parts D M → Type 0
 AreServed history failures past [] [] old new = new ≡ old
 AreServed {D} {M} history failures past (event ∷ events) (reply ∷ replies) old new =
     (mid : Parts D M) × IsLawful failures event reply old mid
     × IsAt history (and_then past (event ∷ []) (reply ∷ [])) mid
-    × LeavesOnly (history (device_of old)) (history (device_of mid)) (Survives (and_then past (event ∷ []) (reply ∷ [])) (horizon_of old))
+    × LeavesOnly (history (device_of old)) (history (device_of mid))
+    (Survives (and_then past (event ∷ []) (reply ∷ [])) (horizon_of old))
     × AreServed history failures (and_then past (event ∷ []) (reply ∷ [])) events replies mid new
 AreServed history failures past [] (reply ∷ replies) old new = ⊥
 AreServed history failures past (event ∷ events) [] old new = ⊥
 
 -- whatever run left the engine so, it went on by these requests
 abbrev pub RunsOn : {D M : Type 0} → (D → History) → List Event → List (Reply M) → Parts D M → Parts D M → Type 0
-RunsOn {D} {M} history events replies old new = (past : Past M) → IsAt history past old → GoesOn history past events replies old new
+RunsOn {D} {M} history events replies old new = (past : Past M) → IsAt history past old
+    → GoesOn history past events replies old new
 
 -- so it is of any run that left the engine where it was
-abbrev pub RunsLawfully : {D M : Type 0} → (D → History) → (D → ℕ) → List Event → List (Reply M) → Parts D M → Parts D M → Type 0
-RunsLawfully {D} {M} history failures events replies old new = (past : Past M) → IsAt history past old → AreServed history failures past events replies old new
+abbrev pub RunsLawfully : {D M : Type 0} → (D → History) → (D → ℕ) → List Event → List (Reply M) → Parts D M → Parts D M
+    → Type 0
+RunsLawfully {D} {M} history failures events replies old new = (past : Past M) → IsAt history past old
+    → AreServed history failures past events replies old new
 
--- Whatever run left the engine so, a crash of the device leaves a prefix of it with every record up to the horizon, and so with
--- everything acknowledged (`safe` of `IsAt`).
+-- Whatever run left the engine so, a crash of the device leaves a prefix of it with every record up to the horizon, and
+-- so with everything acknowledged (`safe` of `IsAt`).
 abbrev pub KeepsRun : {D M : Type 0} → (D → History) → Parts D M → D → Type 0
-KeepsRun {D} {M} history engine device = (past : Past M) (image : Image) → IsAt history past engine → IsCrashImage (history device).disk image → Survives past (horizon_of engine) image
+KeepsRun {D} {M} history engine device = (past : Past M) (image : Image) → IsAt history past engine
+    → IsCrashImage (history device).disk image → Survives past (horizon_of engine) image

@@ -16,8 +16,8 @@ use Rattle.restart.specs.Parts.{core_of}
 use Rattle.restart.specs.Reopening.{opening}
 use Rattle.restart.specs.Store.{IsAt, Past, items_told, last_made, over}
 
--- How large the store is, what it began with, the items of its history in order, and the numbers of the last record that was made
--- and of the last one that was told to be safe.
+-- How large the store is, what it began with, the items of its history in order, and the numbers of the last record
+-- that was made and of the last one that was told to be safe.
 pub record Story : Type 0 where
   pub geometry : GeometryValue
   pub began : Given
@@ -33,8 +33,8 @@ begun_with g given = record { geometry = g; began = given; items = []; made = gi
 abbrev pub untold : GeometryValue → Story
 untold g = begun_with g nothing
 
--- This is what a prefix of the story's history makes of what it began with, one that has every item up to the last that was told to
--- be safe, and no record that wasn't made.
+-- This is what a prefix of the story's history makes of what it began with, one that has every item up to the last that
+-- was told to be safe, and no record that wasn't made.
 pub record IsLeftOf (story : Story) (given : Given) : Type 0 where
   pub beginning : IsBeginning story.began story.items story.safe given
   pub within : given.last ≤ story.made
@@ -57,10 +57,16 @@ pub record BeginsOver {D M : Type 0} (history : D → History) (story : Story) (
   pub at : IsAt history (opening story.geometry given) engine
   pub come : HasCome (core_of engine)
 
--- The story goes on with a run: behind what was left of its history comes what the run's replies tell, and records up to this
--- number were told to be safe.
+-- The story goes on with a run: behind what was left of its history comes what the run's replies tell, and records up
+-- to this number were told to be safe.
 abbrev pub and_run : {M : Type 0} → Story → Past M → (safe : ℕ) → Story
-and_run story past safe = record { geometry = story.geometry; began = story.began; items = up_to past.given.last story.items ++ items_told past; made = last_made past; safe = safe }
+and_run story past safe = record {
+  geometry = story.geometry;
+  began = story.began;
+  items = up_to past.given.last story.items ++ items_told past;
+  made = last_made past;
+  safe = safe;
+}
 
 -- ---- the last checkpoint
 
@@ -74,7 +80,8 @@ IsCommit Dropped = ⊥
 
 -- The store began with an index built up to this pair, and each item up to record `last` is a commit.
 abbrev pub IsFirstCheckpoint : Given → List Item → ℕ → Pair → Type 0
-IsFirstCheckpoint began items last pair = (began.life ≡ Building (Some pair)) × All (λ (item : Item). IsCommit item.deed) (up_to last items)
+IsFirstCheckpoint began items last pair = (began.life ≡ Building (Some pair))
+    × All (λ (item : Item). IsCommit item.deed) (up_to last items)
 
 -- Of the items up to record `last` the last one that is of the index is the checkpoint of this pair.
 pub record IsLastCheckpoint (items : List Item) (last : ℕ) (pair : Pair) : Type 0 where

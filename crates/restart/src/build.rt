@@ -23,7 +23,8 @@ impl<D: Device, A: Allocator + Copy> Parts<D, A> {
         requires { CanRun D.history self.old }
         ensures built { IsBuiltToEnd D.history result self.old self.new }
         ensures whole { OnOk result (BuildsWhole (core_of self.old) (core_of self.new)) }
-        ensures why { IfErr result (λ e. (e ≡ Error.NoIndex) ⊎ (e ≡ Error.IndexFull) ⊎ (e ≡ Error.Exhausted) ⊎ (e ≡ Error.NoMemory)) }
+        ensures why { IfErr result (λ e. (e ≡ Error.NoIndex) ⊎ (e ≡ Error.IndexFull) ⊎ (e ≡ Error.Exhausted)
+            ⊎ (e ≡ Error.NoMemory)) }
         ensures no_index { IfErr result (λ e. e ≡ Error.NoIndex → (core_of self.old).life ≡ Absent) }
         ensures full { IfErr result (λ e. e ≡ Error.IndexFull → IsIndexFull (core_of self.new)) }
         ensures exhausted { IfErr result (λ e. e ≡ Error.Exhausted → LAST_NUMBER ≤ (core_of self.new).last) }

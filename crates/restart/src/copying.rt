@@ -28,16 +28,19 @@ pub(crate) enum Copying {
     GivenUp,
 }
 
-/// A law: of as many copies in a row as an image takes at most, none of them refused, one makes an image current: its start, its
-/// pages, its entries by chunks, and the flip.
+/// A law: of as many copies in a row as an image takes at most, none of them refused, one makes an image current: its
+/// start, its pages, its entries by chunks, and the flip.
 pub fn copies_flip<D: Device, A: Allocator>()
-    ensures { (replies : List (ReplyValue A)) (old new : PartsValue D A) → AreLawful D.failures (copies replies) replies old new → HaveNoRefusal replies → most_copies old.geometry ≤ length replies → HaveFlip replies }
+    ensures { (replies : List (ReplyValue A)) (old new : PartsValue D A)
+        → AreLawful D.failures (copies replies) replies old new → HaveNoRefusal replies
+        → most_copies old.geometry ≤ length replies → HaveFlip replies }
 {}
 
-/// A law: with any other requests between them, of one copy more than an image takes at most one makes an image current, where none
-/// of the copies was refused.
+/// A law: with any other requests between them, of one copy more than an image takes at most one makes an image
+/// current, where none of the copies was refused.
 pub fn copies_flip_between<D: Device, A: Allocator>()
-    ensures { (past : Past A) (events : List EventValue) (replies : List (ReplyValue A)) (old new : PartsValue D A) → IsAt D.history past old → AreServed D.history D.failures past events replies old new
+    ensures { (past : Past A) (events : List EventValue) (replies : List (ReplyValue A)) (old new : PartsValue D A)
+        → IsAt D.history past old → AreServed D.history D.failures past events replies old new
         → HaveNoRefusedCopy events replies → most_copies past.geometry < copies_among events → HaveFlip replies }
 {}
 

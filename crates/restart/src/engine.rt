@@ -12,8 +12,8 @@ use store_writer::StoreWriter;
 
 /// A store that serves requests in order. `restart` opens one.
 ///
-/// Between calls every engine's device gives what a prefix of its records made, whatever its store gave as it was opened: its
-/// type keeps that, and no call asks it of its caller.
+/// Between calls every engine's device gives what a prefix of its records made, whatever its store gave as it was
+/// opened: its type keeps that, and no call asks it of its caller.
 #[derive(Drop)]
 pub struct Engine<D: Device, A: Allocator> {
     pub(crate) parts: Parts<D, A>,
@@ -41,18 +41,19 @@ impl<D: Device, A: Allocator + Copy> Engine<D, A> {
     ghost use Rattle.restart.specs.Parts.{core_of, device_of, horizon_of};
     ghost use Rattle.restart.specs.Groups.{CopiesByGroups};
     ghost use Rattle.restart.specs.Lawful.{IsLawful, AreLawful};
-    ghost use Rattle.restart.specs.Store.{ServesOn, RunsOn, RunsLawfully, KeepsRun, KeepsAround, KeepsSectors, OpensSlotsAlone, CopiesAround, HaveNoCopy};
+    ghost use Rattle.restart.specs.Store.{ServesOn, RunsOn, RunsLawfully, KeepsRun, KeepsAround, KeepsSectors};
+    ghost use Rattle.restart.specs.Store.{OpensSlotsAlone, CopiesAround, HaveNoCopy};
     ghost use Rattle.restart.specs.Parted.{ArePartsOf, LeavesPartsOf, IsGivenBack};
     ghost use Rattle.restart.specs.Ran.{KeepsWholeRun, SurvivesAnyCrash};
     ghost use Rattle.restart.specs.Building.{IsBuiltToEnd, IsIndexFull, BuildsWhole, HasCome};
 
-    /// Serves one request. Of an engine that a run left, or that was opened over what a core may begin with: a crash at any
-    /// moment of the call leaves a store that `restart` takes back to what was told by a prefix of the requests, and no record up to
-    /// the horizon is lost (`serves`). But by a
-    /// copy no sector is written but those of the store's log and, where an image is under way, of the log of its half
-    /// (`around`), and by a flush none but those of the slot that it opens there (`slot`); and by a copy none but those of the log, of
-    /// the half that isn't current, and the one that tells which half is (`copied`). A copy that finds a whole image waiting writes
-    /// filled groups, and none where the image could be made current at once (`groups`). The device has as many sectors as before
+    /// Serves one request. Of an engine that a run left, or that was opened over what a core may begin with: a crash at
+    /// any moment of the call leaves a store that `restart` takes back to what was told by a prefix of the requests,
+    /// and no record up to the horizon is lost (`serves`). But by a copy no sector is written but those of the store's
+    /// log and, where an image is under way, of the log of its half (`around`), and by a flush none but those of the
+    /// slot that it opens there (`slot`); and by a copy none but those of the log, of the half that isn't current, and
+    /// the one that tells which half is (`copied`). A copy that finds a whole image waiting writes filled groups, and
+    /// none where the image could be made current at once (`groups`). The device has as many sectors as before
     /// (`sectors`).
     pub fn serve(&mut self, event: Event) -> Reply<A>
         ensures serves { ServesOn D.history event result self.old self.new }
@@ -70,16 +71,18 @@ impl<D: Device, A: Allocator + Copy> Engine<D, A> {
     /// `NoMemory`, where there is a request and was no room for the replies,
     /// and then nothing was served.
     ///
-    /// Of an engine that a run left, or that was opened over what a core may begin with: a crash at any moment, between the
-    /// replies or within a request, leaves a store that `restart` takes back to what was told by a prefix of the requests, and
-    /// no record is lost that the horizon before the call, or a reply, has told to be safe (`ran`); within a request none up to the
-    /// horizon as that request began (`served`), and behind the last one none up to the horizon then (`at_end`). The device has as
-    /// many sectors as before (`sectors`).
+    /// Of an engine that a run left, or that was opened over what a core may begin with: a crash at any moment, between
+    /// the replies or within a request, leaves a store that `restart` takes back to what was told by a prefix of the
+    /// requests, and no record is lost that the horizon before the call, or a reply, has told to be safe (`ran`);
+    /// within a request none up to the horizon as that request began (`served`), and behind the last one none up to the
+    /// horizon then (`at_end`). The device has as many sectors as before (`sectors`).
     pub fn run(&mut self, events: &[Event]) -> Result<Vec<Reply<A>, A>, Error>
-        ensures any_crash { IfOk result (λ replies. SurvivesAnyCrash D.history events.now replies.items self.old self.new) }
+        ensures any_crash { IfOk result (λ replies.
+            SurvivesAnyCrash D.history events.now replies.items self.old self.new) }
         ensures at_end { IfOk result (λ replies. KeepsWholeRun D.history events.now replies.items self.old self.new) }
         ensures ran { IfOk result (λ replies. RunsOn D.history events.now replies.items self.old self.new) }
-        ensures served { IfOk result (λ replies. RunsLawfully D.history D.failures events.now replies.items self.old self.new) }
+        ensures served { IfOk result (λ replies.
+            RunsLawfully D.history D.failures events.now replies.items self.old self.new) }
         ensures lawful { IfOk result (λ replies. AreLawful D.failures events.now replies.items self.old self.new) }
         ensures around { OnOk result (HaveNoCopy events.now → KeepsAround D.history self.old self.new) }
         ensures sectors { OnOk result (KeepsSectors D.history self.old self.new) }
@@ -97,23 +100,26 @@ impl<D: Device, A: Allocator + Copy> Engine<D, A> {
         Ok(replies)
     }
 
-    /// Makes steps of the builder until the index is complete, and answers the number of the record of its end. Where it is complete
-    /// already, the answer is the number of the last record made, 0 where there is none, and nothing changes.
+    /// Makes steps of the builder until the index is complete, and answers the number of the record of its end. Where
+    /// it is complete already, the answer is the number of the last record made, 0 where there is none, and nothing
+    /// changes.
     ///
-    /// A refusal is that of the step that met it, and ends the steps; what was built before it stays (`built`). `NoIndex` comes only
-    /// where there is none (`no_index`); `IndexFull` where a pair that has no entry meets no free place: each is taken or reserved
-    /// (`full`); `Exhausted` where a record is to be made and no number is left (`exhausted`); and else it is `NoMemory` (`why`).
+    /// A refusal is that of the step that met it, and ends the steps; what was built before it stays (`built`).
+    /// `NoIndex` comes only where there is none (`no_index`); `IndexFull` where a pair that has no entry meets no free
+    /// place: each is taken or reserved (`full`); `Exhausted` where a record is to be made and no number is left
+    /// (`exhausted`); and else it is `NoMemory` (`why`).
     ///
-    /// With no transaction active and the answer `Ok`, the rows are as they were, and the visible entries are just their
-    /// pairs (`whole`). This is promised of an engine that a run left, and of one that was opened over what a run left; of
-    /// one that was opened over any other store it is where, in what the store gave, each visible entry named a row, the
-    /// pair of each row was visible as far as the index was built and nowhere marked, and without an index there was no
-    /// entry (`CanOpen`): a builder leaves a marked entry as it is. It stays so whatever the answer is (`come`), so that a
-    /// build may be gone on with; and no row changes (`rows`).
+    /// With no transaction active and the answer `Ok`, the rows are as they were, and the visible entries are just
+    /// their pairs (`whole`). This is promised of an engine that a run left, and of one that was opened over what a run
+    /// left; of one that was opened over any other store it is where, in what the store gave, each visible entry named
+    /// a row, the pair of each row was visible as far as the index was built and nowhere marked, and without an index
+    /// there was no entry (`CanOpen`): a builder leaves a marked entry as it is. It stays so whatever the answer is
+    /// (`come`), so that a build may be gone on with; and no row changes (`rows`).
     pub fn build_to_end(&mut self) -> Result<u64, Error>
         ensures built { IsBuiltToEnd D.history result self.old self.new }
         ensures whole { OnOk result (BuildsWhole (core_of self.old) (core_of self.new)) }
-        ensures why { IfErr result (λ e. (e ≡ Error.NoIndex) ⊎ (e ≡ Error.IndexFull) ⊎ (e ≡ Error.Exhausted) ⊎ (e ≡ Error.NoMemory)) }
+        ensures why { IfErr result (λ e. (e ≡ Error.NoIndex) ⊎ (e ≡ Error.IndexFull) ⊎ (e ≡ Error.Exhausted)
+            ⊎ (e ≡ Error.NoMemory)) }
         ensures no_index { IfErr result (λ e. e ≡ Error.NoIndex → (core_of self.old).life ≡ Absent) }
         ensures full { IfErr result (λ e. e ≡ Error.IndexFull → IsIndexFull (core_of self.new)) }
         ensures exhausted { IfErr result (λ e. e ≡ Error.Exhausted → LAST_NUMBER ≤ (core_of self.new).last) }
@@ -130,16 +136,17 @@ impl<D: Device, A: Allocator + Copy> Engine<D, A> {
         &self.parts.core
     }
 
-    /// How far the records are synced. Of an engine that a run left, a crash leaves each one up to this number, between calls (`survives`
-    /// of [`Engine::device`]) and at any moment of the next one (`serves`, `ran`, `built`, `written`).
+    /// How far the records are synced. Of an engine that a run left, a crash leaves each one up to this number, between
+    /// calls (`survives` of [`Engine::device`]) and at any moment of the next one (`serves`, `ran`, `built`,
+    /// `written`).
     pub fn horizon(&self) -> u64
         ensures { result ≡ horizon_of self.now }
     {
         self.parts.writer.synced()
     }
 
-    /// The device as it is now. Of an engine that a run left, a crash of it leaves what `restart` takes back to a prefix of the
-    /// history, with every record up to the horizon, and so with everything that was acknowledged.
+    /// The device as it is now. Of an engine that a run left, a crash of it leaves what `restart` takes back to a
+    /// prefix of the history, with every record up to the horizon, and so with everything that was acknowledged.
     pub fn device(&self) -> &D
         ensures device { result.now ≡ device_of self.now }
         ensures survives { KeepsRun D.history self.now result.now }
@@ -147,10 +154,12 @@ impl<D: Device, A: Allocator + Copy> Engine<D, A> {
         self.parts.writer.device()
     }
 
-    /// The core, and the writer that owns the device, with every record that the core made (`left`): the device is as it was, and so is
-    /// an image under way. The core goes on counting its transactions and commits; one that served nothing is as `restart` loaded it.
+    /// The core, and the writer that owns the device, with every record that the core made (`left`): the device is as
+    /// it was, and so is an image under way. The core goes on counting its transactions and commits; one that served
+    /// nothing is as `restart` loaded it.
     ///
-    /// An `Err` gives the engine back, for want of memory to hand the records over: no record is lost, and the run goes on (`back`).
+    /// An `Err` gives the engine back, for want of memory to hand the records over: no record is lost, and the run goes
+    /// on (`back`).
     pub fn take_apart(self) -> Result<(Core<A>, StoreWriter<D, A>), Self>
         ensures parts { IfOk result (λ r. ArePartsOf self (value_of r.0) r.1) }
         ensures left { IfOk result (λ r. LeavesPartsOf D.history self (value_of r.0) r.1) }
@@ -163,8 +172,8 @@ impl<D: Device, A: Allocator + Copy> Engine<D, A> {
     }
 
     /// The device as it is now. What was not written to it is lost, and nothing of it was acknowledged: a crash of the
-    /// device leaves what `restart` takes back to a prefix of the history, with every record up to the horizon, and so with everything
-    /// that was.
+    /// device leaves what `restart` takes back to a prefix of the history, with every record up to the horizon, and so
+    /// with everything that was.
     pub fn into_device(self) -> D
         ensures device { result ≡ device_of self }
         ensures survives { KeepsRun D.history self result }

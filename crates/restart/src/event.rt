@@ -30,8 +30,8 @@ pub enum Event {
         key: Key,
         body: Body,
     },
-    /// Makes the next step that a transaction owes of its newest change. Without an index a change is one step, and none
-    /// is owed.
+    /// Makes the next step that a transaction owes of its newest change. Without an index a change is one step, and
+    /// none is owed.
     Step {
         txn: Txn,
     },
@@ -58,9 +58,9 @@ pub enum Event {
     Clean,
     /// Hands the records made to the writer, which writes one group of them.
     Flush,
-    /// Hands the records made to the writer, and takes one step of an image of the store: its start, the rows of a page, some
-    /// entries, or the flip that makes it current. Or it gives the image up, and at the next request takes a whole one and
-    /// makes it current.
+    /// Hands the records made to the writer, and takes one step of an image of the store: its start, the rows of a
+    /// page, some entries, or the flip that makes it current. Or it gives the image up, and at the next request takes a
+    /// whole one and makes it current.
     Copy,
     /// Asks for the row at a place.
     Get {
@@ -136,10 +136,10 @@ pub enum Reply<A: Allocator> {
     Found(Vec<Rid, A>),
     /// How far the index is.
     Life(Life),
-    /// What the request asks for isn't met: the transaction owes a step, or owes none, or is rolling back, or has a change
-    /// left. Nothing was done.
+    /// What the request asks for isn't met: the transaction owes a step, or owes none, or is rolling back, or has a
+    /// change left. Nothing was done.
     Skipped,
-    /// Nothing was done; but a flush or a copy may have handed records on, a copy may have written groups, and where either
-    /// meets `DeviceFailed`, what it was writing may be there or not.
+    /// Nothing was done; but a flush or a copy may have handed records on, a copy may have written groups, and where
+    /// either meets `DeviceFailed`, what it was writing may be there or not.
     Refused(Error),
 }

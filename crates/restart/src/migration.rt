@@ -11,7 +11,8 @@ ghost use Rattle.redo.specs.Restored.{given_in};
 ghost use Rattle.store_reader.specs.Contents.{GivesIn, HasHeaderIn};
 ghost use Rattle.nsf_core.specs.Value.{value_of};
 ghost use Rattle.restart.specs.Parts.{device_of};
-ghost use Rattle.restart.specs.Migrating.{BeginsEmpty, IsFilled, IsMigrated, IsMigratedCore, IsNotFilled, IsNotMigrated, IsSmallAnswer, IsToldUnread, IsTooSmall, WritesTheStoreAlone};
+ghost use Rattle.restart.specs.Migrating.{BeginsEmpty, IsFilled, IsMigrated, IsMigratedCore, IsNotFilled};
+ghost use Rattle.restart.specs.Migrating.{IsNotMigrated, IsSmallAnswer, IsToldUnread, IsTooSmall, WritesTheStoreAlone};
 
 use crate::Engine;
 use crate::copying::Copying;
@@ -44,24 +45,26 @@ pub enum MigrateError {
     NoMemory,
 }
 
-/// Moves the store of version 1 on the old device to the new one, in version 2 and with the same geometry, and opens it there.
-/// What transactions did that neither committed nor ended is taken back. The old device is only read (`kept`), as it is: the
-/// caller has synced it.
+/// Moves the store of version 1 on the old device to the new one, in version 2 and with the same geometry, and opens it
+/// there. What transactions did that neither committed nor ended is taken back. The old device is only read (`kept`),
+/// as it is: the caller has synced it.
 ///
-/// `Old` where the old device failed in the call, or gives nothing by version 1: `DeviceTooSmall`, `NotFormatted` or `Damaged`
-/// as `read_store_in` answers them, and `Damaged` with sector 0 of a store of another version. Then nothing was written. `New`
-/// where the new device has too few sectors, and then nothing was written either, or else where it failed. `NoMemory` comes before
-/// anything is written too, and only where the old device holds a store of version 1 whose current half begins with a header (`memory`).
+/// `Old` where the old device failed in the call, or gives nothing by version 1: `DeviceTooSmall`, `NotFormatted` or
+/// `Damaged` as `read_store_in` answers them, and `Damaged` with sector 0 of a store of another version. Then nothing
+/// was written. `New` where the new device has too few sectors, and then nothing was written either, or else where it
+/// failed. `NoMemory` comes before anything is written too, and only where the old device holds a store of version 1
+/// whose current half begins with a header (`memory`).
 ///
-/// Of faults that are met together the first of these is answered. `New` with `DeviceFailed` comes only where the old device gives
-/// something and the new one has room for it (`refused`). Where it gives something and the new one has no room, that is the answer,
-/// also where memory was wanting; but a failure of the old device comes first (`too_small`, `room`). Where there is no memory to read
-/// all of the old device, what stands behind its current half's header isn't known. A fault there goes untold then: the answer is
-/// `New` with `DeviceTooSmall`, or `NoMemory`. Where the old device failed in the call, that is what is told (`told`). After `New` with
-/// `DeviceFailed`, and after a crash within the call, the new device may hold anything: the call is made again.
+/// Of faults that are met together the first of these is answered. `New` with `DeviceFailed` comes only where the old
+/// device gives something and the new one has room for it (`refused`). Where it gives something and the new one has no
+/// room, that is the answer, also where memory was wanting; but a failure of the old device comes first (`too_small`,
+/// `room`). Where there is no memory to read all of the old device, what stands behind its current half's header isn't
+/// known. A fault there goes untold then: the answer is `New` with `DeviceTooSmall`, or `NoMemory`. Where the old
+/// device failed in the call, that is what is told (`told`). After `New` with `DeviceFailed`, and after a crash within
+/// the call, the new device may hold anything: the call is made again.
 ///
-/// The new store's log is empty, and no image of it is under way (`emptied`). The sectors behind the store are as they were
-/// (`around`).
+/// The new store's log is empty, and no image of it is under way (`emptied`). The sectors behind the store are as they
+/// were (`around`).
 pub fn migrate<O: Device, N: Device, A: Allocator + Copy>(
     alloc: A,
     old: &mut O,
@@ -69,14 +72,20 @@ pub fn migrate<O: Device, N: Device, A: Allocator + Copy>(
 ) -> Result<Engine<N, A>, (MigrateError, N)>
     ensures migrated { IfOk result (λ engine. IsMigrated (O.history old.old).disk.content N.history engine) }
     ensures emptied { IfOk result (λ engine. BeginsEmpty engine) }
-    ensures around { IfOk result (λ engine. WritesTheStoreAlone (O.history old.old).disk.content N.history new (device_of engine)) }
+    ensures around { IfOk result (λ engine. WritesTheStoreAlone (O.history old.old).disk.content N.history new
+        (device_of engine)) }
     ensures kept { OnlyReads (O.history old.old) (O.history old.new) }
-    ensures refused { IfErr result (λ r. IsNotMigrated (O.history old.old).disk.content (O.failures old.old) (O.failures old.new) N.history N.failures new r.1 r.0) }
-    ensures memory { IfErr result (λ r. r.0 ≡ MigrateError.NoMemory → HasHeaderIn One (O.history old.old).disk.content) }
+    ensures refused { IfErr result (λ r. IsNotMigrated (O.history old.old).disk.content (O.failures old.old)
+        (O.failures old.new) N.history N.failures new r.1 r.0) }
+    ensures memory { IfErr result (λ r. r.0 ≡ MigrateError.NoMemory
+        → HasHeaderIn One (O.history old.old).disk.content) }
     ensures room { OnOk result (IsTooSmall (O.history old.old).disk.content (N.history new).disk.content → ⊥) }
-    ensures too_small { IsTooSmall (O.history old.old).disk.content (N.history new).disk.content → IfErr result (λ r. IsSmallAnswer r.0) }
-    ensures told { IfErr result (λ r. r.0 ≢ MigrateError.Old Error.DeviceFailed → O.failures old.new ≡ O.failures old.old) }
-    ensures quiet { IfOk result (λ engine. (O.failures old.new ≡ O.failures old.old) × (N.failures (device_of engine) ≡ N.failures new)) }
+    ensures too_small { IsTooSmall (O.history old.old).disk.content (N.history new).disk.content
+        → IfErr result (λ r. IsSmallAnswer r.0) }
+    ensures told { IfErr result (λ r. r.0 ≢ MigrateError.Old Error.DeviceFailed
+        → O.failures old.new ≡ O.failures old.old) }
+    ensures quiet { IfOk result (λ engine. (O.failures old.new ≡ O.failures old.old)
+        × (N.failures (device_of engine) ≡ N.failures new)) }
 {
     each_half();
     each_list();
@@ -106,16 +115,21 @@ fn move_store<O: Device, N: Device, A: Allocator + Copy>(
     old: &mut O,
     new: &mut N,
 ) -> Result<(Core<A>, Halves, LogArea), MigrateError>
-    ensures moved { IfOk result (λ r. IsMigratedCore (O.history old.old).disk.content (N.history new.new) r.1 r.2 (value_of r.0)) }
+    ensures moved { IfOk result (λ r. IsMigratedCore (O.history old.old).disk.content (N.history new.new) r.1 r.2
+        (value_of r.0)) }
     ensures empty { IfOk result (λ r. r.2.open_slots ≡ 0) }
     ensures around { OnOk result (WritesTheStoreAlone (O.history old.old).disk.content N.history new.old new.new) }
     ensures kept { OnlyReads (O.history old.old) (O.history old.new) }
-    ensures refused { IfErr result (IsNotMigrated (O.history old.old).disk.content (O.failures old.old) (O.failures old.new) N.history N.failures new.old new.new) }
+    ensures refused { IfErr result (IsNotMigrated (O.history old.old).disk.content (O.failures old.old)
+        (O.failures old.new) N.history N.failures new.old new.new) }
     ensures memory { IfErr result (λ e. e ≡ MigrateError.NoMemory → HasHeaderIn One (O.history old.old).disk.content) }
     ensures room { OnOk result (IsTooSmall (O.history old.old).disk.content (N.history new.old).disk.content → ⊥) }
-    ensures too_small { IsTooSmall (O.history old.old).disk.content (N.history new.old).disk.content → IfErr result IsSmallAnswer }
-    ensures told { IfErr result (λ e. e ≢ MigrateError.Old Error.DeviceFailed → O.failures old.new ≡ O.failures old.old) }
-    ensures quiet { OnOk result ((O.failures old.new ≡ O.failures old.old) × (N.failures new.new ≡ N.failures new.old)) }
+    ensures too_small { IsTooSmall (O.history old.old).disk.content (N.history new.old).disk.content
+        → IfErr result IsSmallAnswer }
+    ensures told { IfErr result (λ e. e ≢ MigrateError.Old Error.DeviceFailed
+        → O.failures old.new ≡ O.failures old.old) }
+    ensures quiet { OnOk result ((O.failures old.new ≡ O.failures old.old)
+        × (N.failures new.new ≡ N.failures new.old)) }
 {
     room_for_given();
     one_old_answer();
@@ -132,7 +146,8 @@ fn move_store<O: Device, N: Device, A: Allocator + Copy>(
 // What is told where there was no memory to read the old store: the new device may be too small for it besides.
 fn unread<O: Device, N: Device>(old: &mut O, new: &N) -> MigrateError
     requires { HasHeaderIn One (O.history old.old).disk.content }
-    ensures why { IsToldUnread (O.history old.old).disk.content (N.history new.now).disk.content (O.failures old.old) (O.failures old.new) result }
+    ensures why { IsToldUnread (O.history old.old).disk.content (N.history new.now).disk.content (O.failures old.old)
+        (O.failures old.new) result }
     ensures kept { OnlyReads (O.history old.old) (O.history old.new) }
     ensures told { result ≢ MigrateError.Old Error.DeviceFailed → O.failures old.new ≡ O.failures old.old }
 {
@@ -152,7 +167,8 @@ fn format<D: Device>(device: &mut D, geometry: Geometry) -> Result<Halves, Error
     ensures geometry { IfOk result (λ halves. halves.geometry ≡ geometry) }
     ensures store { IfOk result (λ halves. IsStore halves.geometry halves.current (D.history device.new).disk.content) }
     ensures synced { OnOk result (IsSynced (D.history device.new).disk) }
-    ensures around { OnOk result (SameOutside (λ n. n < sectors_of geometry) (D.history device.old).disk.content (D.history device.new).disk.content) }
+    ensures around { OnOk result (SameOutside (λ n. n < sectors_of geometry) (D.history device.old).disk.content
+        (D.history device.new).disk.content) }
     ensures refused { IfErr result (IsDeviceFailure (D.failures device.old) (D.failures device.new)) }
     ensures quiet { OnOk result (D.failures device.new ≡ D.failures device.old) }
 {
@@ -167,10 +183,12 @@ fn fill<D: Device, A: Allocator + Copy>(
     restored: Restored<A>,
 ) -> Result<(Core<A>, Halves, LogArea), MigrateError>
     requires { FitsImage restored.geometry (opening_cells (given_in restored)) }
-    ensures filled { IfOk result (λ r. IsFilled restored.geometry (given_in restored) (D.history device.new) r.1 r.2 (value_of r.0)) }
+    ensures filled { IfOk result (λ r. IsFilled restored.geometry (given_in restored) (D.history device.new) r.1 r.2
+        (value_of r.0)) }
     ensures empty { IfOk result (λ r. r.2.open_slots ≡ 0) }
     ensures room { OnOk result (sectors_of restored.geometry ≤ length (D.history device.old).disk.content) }
-    ensures around { OnOk result (SameOutside (λ n. n < sectors_of restored.geometry) (D.history device.old).disk.content (D.history device.new).disk.content) }
+    ensures around { OnOk result (SameOutside (λ n. n < sectors_of restored.geometry)
+        (D.history device.old).disk.content (D.history device.new).disk.content) }
     ensures refused { IfErr result (IsNotFilled restored.geometry D.history D.failures device.old device.new) }
     ensures quiet { OnOk result (D.failures device.new ≡ D.failures device.old) }
 {

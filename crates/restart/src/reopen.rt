@@ -9,7 +9,8 @@ ghost use Rattle.nsf_core.specs.Value.{value_of};
 ghost use Rattle.restart.specs.Parts.{device_of};
 ghost use Rattle.flip_image.specs.Layout.{other};
 ghost use Rattle.flip_image.specs.Store.{IsStore};
-ghost use Rattle.restart.specs.Reopening.{IsCoreOf, IsTurned, IsOpened, IsEmptied, IsNotOpened, IsUnwritten, RecoversAnyRun, RefusesNoRun, StaysOfAnyRun};
+ghost use Rattle.restart.specs.Reopening.{IsCoreOf, IsTurned, IsOpened, IsEmptied, IsNotOpened, IsUnwritten};
+ghost use Rattle.restart.specs.Reopening.{RecoversAnyRun, RefusesNoRun, StaysOfAnyRun};
 
 use crate::Engine;
 use crate::copying::Copying;
@@ -26,18 +27,19 @@ use std::alloc::Allocator;
 use store_opener::{reopen, written_back};
 use store_writer::StoreWriter;
 
-/// Opens the store on the device: syncs it, reads it, and takes back what the transactions did that neither committed nor
-/// ended. What is left is written into the half that wasn't current, with an empty log, and that half is made current (`emptied`);
-/// the half that is read is never written. The device is given back with a refusal, and may be opened again.
+/// Opens the store on the device: syncs it, reads it, and takes back what the transactions did that neither committed
+/// nor ended. What is left is written into the half that wasn't current, with an empty log, and that half is made
+/// current (`emptied`); the half that is read is never written. The device is given back with a refusal, and may be
+/// opened again.
 ///
-/// At any moment of the call a crash leaves what one before it could, or what gives the same as the device did (`IsTurned`). So
-/// a crash within a restart loses nothing that a run had left synced (`stays`).
+/// At any moment of the call a crash leaves what one before it could, or what gives the same as the device did
+/// (`IsTurned`). So a crash within a restart loses nothing that a run had left synced (`stays`).
 ///
-/// `DeviceTooSmall`, `NotFormatted`, `OldVersion` and `Damaged` where the device holds no store, one of version 1, or one that
-/// was harmed; none of them comes after a crash of a device that was formatted and then written by this engine alone (`readable`). `NoMemory` comes
-/// only where the device holds a store, whose current half begins with a header (`memory`), and `DeviceFailed` where the device
-/// failed in the call, and only then. With any other refusal the device is synced; and where it isn't `NoMemory`, which may come
-/// once all is written, nothing was written (`unwritten`).
+/// `DeviceTooSmall`, `NotFormatted`, `OldVersion` and `Damaged` where the device holds no store, one of version 1, or
+/// one that was harmed; none of them comes after a crash of a device that was formatted and then written by this engine
+/// alone (`readable`). `NoMemory` comes only where the device holds a store, whose current half begins with a header
+/// (`memory`), and `DeviceFailed` where the device failed in the call, and only then. With any other refusal the device
+/// is synced; and where it isn't `NoMemory`, which may come once all is written, nothing was written (`unwritten`).
 pub fn restart<D: Device, A: Allocator + Copy>(
     alloc: A,
     mut device: D,
@@ -50,7 +52,8 @@ pub fn restart<D: Device, A: Allocator + Copy>(
     ensures stays { IfOk result (λ engine. StaysOfAnyRun A D.history device (device_of engine)) }
     ensures stays_refused { IfErr result (λ r. StaysOfAnyRun A D.history device r.1) }
     ensures memory { IfErr result (λ r. r.0 ≡ Error.NoMemory → HasHeader (D.history device).disk.content) }
-    ensures unwritten { IfErr result (λ r. r.0 ≢ Error.DeviceFailed → r.0 ≢ Error.NoMemory → IsUnwritten D.history device r.1) }
+    ensures unwritten { IfErr result (λ r. r.0 ≢ Error.DeviceFailed → r.0 ≢ Error.NoMemory
+        → IsUnwritten D.history device r.1) }
     ensures quiet { IfOk result (λ engine. D.failures (device_of engine) ≡ D.failures device) }
 {
     each_half();
@@ -81,16 +84,20 @@ fn open_core<D: Device, A: Allocator + Copy>(
     alloc: A,
     device: &mut D,
 ) -> Result<(Core<A>, Halves, LogArea), Error>
-    ensures found { IfOk result (λ r. IsCoreOf (D.history device.old).disk.content (D.history device.new) r.1 r.2 (value_of r.0)) }
+    ensures found { IfOk result (λ r. IsCoreOf (D.history device.old).disk.content (D.history device.new) r.1 r.2
+        (value_of r.0)) }
     ensures turned { IsTurned D.history device.old device.new }
     ensures flipped { IfOk result (λ r. IsStore r.1.geometry (other r.1.current) (D.history device.old).disk.content) }
     ensures empty { IfOk result (λ r. r.2.open_slots ≡ 0) }
     ensures settled { IfErr result (λ e. e ≢ Error.DeviceFailed → IsSynced (D.history device.new).disk) }
-    ensures unwritten { IfErr result (λ e. e ≢ Error.DeviceFailed → e ≢ Error.NoMemory → IsUnwritten D.history device.old device.new) }
+    ensures unwritten { IfErr result (λ e. e ≢ Error.DeviceFailed → e ≢ Error.NoMemory
+        → IsUnwritten D.history device.old device.new) }
     ensures quiet { OnOk result (D.failures device.new ≡ D.failures device.old) }
     ensures told { IfErr result (λ e. e ≢ Error.DeviceFailed → D.failures device.new ≡ D.failures device.old) }
-    ensures refused { IfErr result (λ e. Refuses (D.failures device.old) (D.failures device.new) e ⊎ IsUnreadable (D.history device.old).disk.content e) }
-    ensures accepted { (geometry : GeometryValue) (given : Given) → Gives (D.history device.old).disk.content geometry given
+    ensures refused { IfErr result (λ e. Refuses (D.failures device.old) (D.failures device.new) e
+        ⊎ IsUnreadable (D.history device.old).disk.content e) }
+    ensures accepted { (geometry : GeometryValue) (given : Given)
+        → Gives (D.history device.old).disk.content geometry given
         → IfErr result (Refuses (D.failures device.old) (D.failures device.new)) }
     ensures memory { IfErr result (λ e. e ≡ Error.NoMemory → HasHeader (D.history device.old).disk.content) }
 {

@@ -16,8 +16,8 @@ fn is_further(told: Option<u64>, number: u64) -> bool
     }
 }
 
-// Whether a flush with this reply is followed by another: not all up to the last are synced yet, and more than the flush before it
-// has told.
+// Whether a flush with this reply is followed by another: not all up to the last are synced yet, and more than the
+// flush before it has told.
 fn asks_again<A: Allocator>(last: u64, told: Option<u64>, reply: &Reply<A>) -> bool
     ensures { result ≡ asks_again last told reply.now }
 {
@@ -41,9 +41,9 @@ impl<D: Device, A: Allocator + Copy> Engine<D, A> {
     ghost use Rattle.restart.specs.Parts.{core_of};
     ghost use Rattle.restart.specs.Repeated.{FlushesAll, FlushesBehindImage, FlushesOnce, TakesImage};
 
-    /// Copies until an image is current, or a copy is refused: at most `pages + entries div 128 + 3` copies, fewer where an image is
-    /// under way already. The reply is that of the last one, `Flipped` or `Refused`. A crash at any moment leaves what one within a
-    /// copy of these leaves.
+    /// Copies until an image is current, or a copy is refused: at most `pages + entries div 128 + 3` copies, fewer
+    /// where an image is under way already. The reply is that of the last one, `Flipped` or `Refused`. A crash at any
+    /// moment leaves what one within a copy of these leaves.
     pub fn take_image(&mut self) -> Reply<A>
         ensures { TakesImage D.history D.failures result self.old self.new }
     {
@@ -75,9 +75,9 @@ impl<D: Device, A: Allocator + Copy> Engine<D, A> {
         }
     }
 
-    /// Flushes until every record made is synced, or a flush or a copy is refused. Where the log is full, an image is taken and made
-    /// current, and it goes on. The reply is that of the last flush, or of the copy that was refused. A crash at any moment leaves what
-    /// one within a flush or a copy of these leaves.
+    /// Flushes until every record made is synced, or a flush or a copy is refused. Where the log is full, an image is
+    /// taken and made current, and it goes on. The reply is that of the last flush, or of the copy that was refused. A
+    /// crash at any moment leaves what one within a flush or a copy of these leaves.
     pub fn flush_all(&mut self) -> Reply<A>
         ensures { FlushesAll D.history D.failures (core_of self.old).last result self.old self.new }
     {

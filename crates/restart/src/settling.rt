@@ -1,4 +1,5 @@
-//! An engine with no transaction active is left as a restart would leave it. (That its device isn't read, no clause says.)
+//! An engine with no transaction active is left as a restart would leave it. (That its device isn't read, no clause
+//! says.)
 ghost use Rattle.std.specs.Prelude.{◌≡◌, None, OnOk, IfErr, IfOk};
 ghost use Rattle.nsf_core.specs.Loading.{IsQuiet};
 ghost use Rattle.nsf_core.specs.Value.{value_of};
@@ -82,8 +83,8 @@ impl<D: Device, A: Allocator + Copy> Parts<D, A> {
 }
 
 impl<D: Device, A: Allocator + Copy> Engine<D, A> {
-    /// A core over the rows, the entries and the index's life that the engine holds while no transaction is active, as a restart
-    /// makes one. A build goes on in it above the pair checkpointed last.
+    /// A core over the rows, the entries and the index's life that the engine holds while no transaction is active, as
+    /// a restart makes one. A build goes on in it above the pair checkpointed last.
     ///
     /// The one error is `NoMemory`.
     pub fn fresh_core(&self) -> Result<Core<A>, Error>
@@ -94,12 +95,12 @@ impl<D: Device, A: Allocator + Copy> Engine<D, A> {
         self.parts.fresh_core()
     }
 
-    /// The writer that owns the device, once all that the engine holds was written to it as a whole image, while no transaction is
-    /// active. Every record made is in the image, those too that weren't flushed: they are synced with it. An image under way is
-    /// given up. No sector is written but those that a copy writes (`written`).
+    /// The writer that owns the device, once all that the engine holds was written to it as a whole image, while no
+    /// transaction is active. Every record made is in the image, those too that weren't flushed: they are synced with
+    /// it. An image under way is given up. No sector is written but those that a copy writes (`written`).
     ///
-    /// `NoMemory`, and `DeviceFailed` as of a copy, give the engine back, and its run goes on: no record is lost. After `NoMemory` the
-    /// next copy takes a whole image, and after `DeviceFailed` each is refused so (`refused`).
+    /// `NoMemory`, and `DeviceFailed` as of a copy, give the engine back, and its run goes on: no record is lost. After
+    /// `NoMemory` the next copy takes a whole image, and after `DeviceFailed` each is refused so (`refused`).
     pub fn into_writer(self) -> Result<StoreWriter<D, A>, (Error, Self)>
         requires { IsQuiet (core_of self) }
         ensures written { IfOk result (WritesWhole D.history D.failures self) }
@@ -111,12 +112,14 @@ impl<D: Device, A: Allocator + Copy> Engine<D, A> {
         }
     }
 
-    /// The parts of an engine with no transaction active (`quiet`): a core as a restart makes one (`fresh`), whose commits count from 0
-    /// again (`counted`), and the writer that owns the device. An image under way is given up (`given_up`): a whole one of all that the
-    /// engine holds takes its place and is made current, so that every record is synced (`written`).
+    /// The parts of an engine with no transaction active (`quiet`): a core as a restart makes one (`fresh`), whose
+    /// commits count from 0 again (`counted`), and the writer that owns the device. An image under way is given up
+    /// (`given_up`): a whole one of all that the engine holds takes its place and is made current, so that every record
+    /// is synced (`written`).
     ///
-    /// `TxnsActive` where a transaction is active; `NoMemory`; and `DeviceFailed` as of a copy. With any of them the engine is given
-    /// back, and its run goes on; it is as it was, but where what it holds could not be written (`refused`).
+    /// `TxnsActive` where a transaction is active; `NoMemory`; and `DeviceFailed` as of a copy. With any of them the
+    /// engine is given back, and its run goes on; it is as it was, but where what it holds could not be written
+    /// (`refused`).
     pub fn into_parts(self) -> Result<(Core<A>, StoreWriter<D, A>), (Error, Self)>
         ensures quiet { OnOk result (IsQuiet (core_of self)) }
         ensures fresh { IfOk result (λ r. IsFresh (core_of self) (value_of r.0)) }

@@ -27,14 +27,17 @@ module _ {D : Type 0} (history : D → History) (sectors : ℕ → Type 0) where
   pub none_alone : (d : D) → WritesOnly history sectors d d
   none_alone d = record {
     now = record { sectors = refl; same = λ k out. refl };
-    images = started (history d) (SameOutside (MayChange d) (content d)) (λ c crash. crash_outside (MayChange d) (content d) (history d).disk c (outside_unsynced sectors (history d).disk) crash);
+    images = started (history d) (SameOutside (MayChange d) (content d)) (λ c crash.
+        crash_outside (MayChange d) (content d) (history d).disk c (outside_unsynced sectors (history d).disk) crash);
   }
 
   -- at each moment a crash left the others
-  pub these_alone : (old new : D) → SameOutside sectors (content old) (content new) → LeavesOnly (history old) (history new) (SameOutside sectors (content old)) → WritesOnly history sectors old new
+  pub these_alone : (old new : D) → SameOutside sectors (content old) (content new) → LeavesOnly (history old) (history new) (SameOutside sectors (content old))
+      → WritesOnly history sectors old new
   these_alone old new now run = record {
     now = now;
-    images = weaker (history old) (history new) (SameOutside sectors (content old)) (SameOutside (MayChange old) (content old)) (λ c same. same_outside_wider sectors (MayChange old) (content old) c (λ n inside. inl inside) same) run;
+    images = weaker (history old) (history new) (SameOutside sectors (content old)) (SameOutside (MayChange old) (content old)) (λ c same.
+        same_outside_wider sectors (MayChange old) (content old) c (λ n inside. inl inside) same) run;
   }
 
 module _ {D : Type 0} (history : D → History) where
@@ -42,43 +45,60 @@ module _ {D : Type 0} (history : D → History) where
   pub alone_wider : (few more : ℕ → Type 0) → ((n : ℕ) → few n → more n) → (old new : D) → WritesOnly history few old new → WritesOnly history more old new
   alone_wider few more within old new wrote = record {
     now = same_outside_wider few more (content history few old) (content history few new) within wrote.now;
-    images = weaker (history old) (history new) (SameOutside (MayChange history few old) (content history few old)) (SameOutside (MayChange history more old) (content history more old))
-        (λ c same. same_outside_wider (MayChange history few old) (MayChange history more old) (content history few old) c (λ n either. ⊎_elim (λ one. inl (within n one)) (λ loose. inr loose) either) same) wrote.images;
+    images = weaker (history old) (history new) (SameOutside (MayChange history few old) (content history few old))
+        (SameOutside (MayChange history more old) (content history more old))
+        (λ c same. same_outside_wider (MayChange history few old) (MayChange history more old) (content history few old) c (λ n either.
+        ⊎_elim (λ one. inl (within n one)) (λ loose. inr loose) either) same) wrote.images;
   }
 
   -- one call after another, where the sectors that are unsynced between them are among these
-  pub alone_then : (sectors : ℕ → Type 0) (old mid new : D) → ((n : ℕ) → (history mid).disk.unsynced n ≡ true → sectors n) → WritesOnly history sectors old mid → WritesOnly history sectors mid new → WritesOnly history sectors old new
+  pub alone_then : (sectors : ℕ → Type 0) (old mid new : D) → ((n : ℕ) → (history mid).disk.unsynced n ≡ true → sectors n) → WritesOnly history sectors old mid
+      → WritesOnly history sectors mid new → WritesOnly history sectors old new
   alone_then sectors old mid new loose first second = record {
     now = same_outside_then sectors (content history sectors old) (content history sectors mid) (content history sectors new) first.now second.now;
     images = joined (history old) (history mid) (history new) (SameOutside (MayChange history sectors old) (content history sectors old)) first.images
-        (weaker (history mid) (history new) (SameOutside (MayChange history sectors mid) (content history sectors mid)) (SameOutside (MayChange history sectors old) (content history sectors old))
+        (weaker (history mid) (history new) (SameOutside (MayChange history sectors mid) (content history sectors mid))
+        (SameOutside (MayChange history sectors old) (content history sectors old))
         (λ c same. same_outside_wider sectors (MayChange history sectors old) (content history sectors old) c (λ n one. inl one)
-        (same_outside_then sectors (content history sectors old) (content history sectors mid) c first.now (same_outside_wider (MayChange history sectors mid) sectors (content history sectors mid) c (λ n either. ⊎_elim (λ one. one) (loose n) either) same)))
+        (same_outside_then sectors (content history sectors old) (content history sectors mid) c first.now
+        (same_outside_wider (MayChange history sectors mid) sectors (content history sectors mid) c (λ n either.
+        ⊎_elim (λ one. one) (loose n) either) same)))
         second.images);
   }
 
   -- a group was added to a log, or a part of it
-  pub slot_alone : (log : Log) (old new : D) (group : List RecordValue) → SameOutside (InSlot log.area log.open_slots) (history old).disk.content (history new).disk.content → LeavesOnly (history old) (history new) (IsAppended log (history old).disk group) → WritesOnly history (InSlot log.area log.open_slots) old new
+  pub slot_alone : (log : Log) (old new : D) (group : List RecordValue)
+      → SameOutside (InSlot log.area log.open_slots) (history old).disk.content (history new).disk.content
+      → LeavesOnly (history old) (history new) (IsAppended log (history old).disk group) → WritesOnly history (InSlot log.area log.open_slots) old new
   slot_alone log old new group outside run = record {
     now = outside;
-    images = weaker (history old) (history new) (IsAppended log (history old).disk group) (SameOutside (MayChange history (InSlot log.area log.open_slots) old) (content history (InSlot log.area log.open_slots) old)) (λ c appended. appended.outside) run;
+    images = weaker (history old) (history new) (IsAppended log (history old).disk group)
+        (SameOutside (MayChange history (InSlot log.area log.open_slots) old) (content history (InSlot log.area log.open_slots) old)) (λ c appended.
+        appended.outside) run;
   }
 
 -- the flip sector was
-pub flipped_alone : {D : Type 0} (history : D → History) (old new : D) → SameOutside (λ n. n ≡ 1) (history old).disk.content (history new).disk.content → LeavesOnly (history old) (history new) (IsFlipping (history old).disk) → WritesOnly history (λ n. n ≡ 1) old new
+pub flipped_alone : {D : Type 0} (history : D → History) (old new : D) → SameOutside (λ n. n ≡ 1) (history old).disk.content (history new).disk.content
+    → LeavesOnly (history old) (history new) (IsFlipping (history old).disk) → WritesOnly history (λ n. n ≡ 1) old new
 flipped_alone history old new now run = record {
   now = now;
-  images = weaker (history old) (history new) (IsFlipping (history old).disk) (SameOutside (λ n. (n ≡ 1) ⊎ ((history old).disk.unsynced n ≡ true)) (history old).disk.content) (λ c flipping. ⊎_elim
-      (λ same. same_outside_wider (λ n. (history old).disk.unsynced n ≡ true) (λ n. (n ≡ 1) ⊎ ((history old).disk.unsynced n ≡ true)) (history old).disk.content c (λ n loose. inr loose) same)
+  images = weaker (history old) (history new) (IsFlipping (history old).disk)
+      (SameOutside (λ n. (n ≡ 1) ⊎ ((history old).disk.unsynced n ≡ true)) (history old).disk.content) (λ c flipping. ⊎_elim
+      (λ same. same_outside_wider (λ n. (history old).disk.unsynced n ≡ true) (λ n. (n ≡ 1)
+      ⊎ ((history old).disk.unsynced n ≡ true)) (history old).disk.content c (λ n loose. inr loose) same)
       (λ same. same_outside_wider (λ n. n ≡ 1) (λ n. (n ≡ 1) ⊎ ((history old).disk.unsynced n ≡ true)) (history old).disk.content c (λ n is. inl is) same)
       flipping) run;
 }
 
 -- a part of the image that isn't current was
-pub part_alone : {D M : Type 0} (history : D → History) (run : Run) (handed : ℕ) (old : Writer D M) → IsWriter history run handed old → old.failed ≡ false → (new : D)
-    → RunsWithin (λ n. InHalfImage old.halves.geometry (other old.halves.current) n ⊎ ((history old.device).disk.unsynced n ≡ true)) (history old.device).disk.content (history old.device) (history new)
+pub part_alone : {D M : Type 0} (history : D → History) (run : Run) (handed : ℕ) (old : Writer D M) → IsWriter history run handed old → old.failed ≡ false
+    → (new : D)
+    → RunsWithin (λ n. InHalfImage old.halves.geometry (other old.halves.current) n
+    ⊎ ((history old.device).disk.unsynced n ≡ true)) (history old.device).disk.content (history old.device) (history new)
     → WritesOnly history (InHalf old.halves.geometry (other old.halves.current)) old.device new
-part_alone history run handed old is sound new within = these_alone history (InHalf g half) old.device new (written_outside g half (history old.device) (history new) loose within) (writing g half (history old.device) (history new) loose within)
+part_alone history run handed old is sound new within =
+    these_alone history (InHalf g half) old.device new (written_outside g half (history old.device) (history new) loose within)
+    (writing g half (history old.device) (history new) loose within)
   where
     g : GeometryValue
     g = old.halves.geometry

@@ -1,5 +1,6 @@
 -- Calls that write the logs alone, one after another.
-use Rattle.std.proofs.Common.{◌≡◌, ◌⊎◌, inl, inr, ⊎_elim, ℕ, ◌<◌, Bool, true, false, List, [], length, slice_index, slice_set, refl, sym, ap, subst, ◌∙◌, arith, length-set}
+use Rattle.std.proofs.Common.{◌≡◌, ◌⊎◌, inl, inr, ⊎_elim, ℕ, ◌<◌, Bool, true, false, List, [], length, slice_index, slice_set, refl, sym, ap, subst, ◌∙◌, arith}
+use Rattle.std.proofs.Common.{length-set}
 use Rattle.std.proofs.lemmas.Bool.{false≢true, cases_eq, cases_lt}
 use Rattle.std.proofs.lemmas.List.{get_or-set_other, get_or_past}
 use Rattle.std.proofs.lemmas.Grind.{get_or-set_at}
@@ -29,7 +30,8 @@ module _ (h : History) (k : ℕ) (below : k < length h.disk.content) (loose : h.
     kept = λ j synced. get_or-set_other h.disk.content k j bytes [] (λ same. false≢true (sym synced ∙ ap h.disk.unsynced same ∙ loose));
     torn = λ j inside _. ⊎_elim
         (λ same. subst IsSector (sym (get_or-set_at h.disk.content k j bytes [] same below)) is)
-        (λ another. subst IsSector (sym (get_or-set_other h.disk.content k j bytes [] another)) (h.whole j (omega (arith, inside, length-set h.disk.content k bytes))))
+        (λ another. subst IsSector (sym (get_or-set_other h.disk.content k j bytes [] another))
+        (h.whole j (omega (arith, inside, length-set h.disk.content k bytes))))
         (cases_eq j k);
   }
 
@@ -43,7 +45,8 @@ module _ (h : History) (k : ℕ) (below : k < length h.disk.content) (loose : h.
       some = omega (arith, (h.whole k below).size)
 
       is_there : (b : ℕ) → b < 256 → slice_set x 0 b ≡ there
-      is_there b small = sym (get_or-set_at h.disk.content k k (slice_set x 0 b) [] refl below) ∙ kept (slice_set h.disk.content k (slice_set x 0 b)) (torn (slice_set x 0 b) (with_first x b (h.whole k below) small))
+      is_there b small = sym (get_or-set_at h.disk.content k k (slice_set x 0 b) [] refl below)
+          ∙ kept (slice_set h.disk.content k (slice_set x 0 b)) (torn (slice_set x 0 b) (with_first x b (h.whole k below) small))
 
       both : slice_set x 0 0 ≡ slice_set x 0 1
       both = is_there 0 (omega arith) ∙ sym (is_there 1 (omega arith))
@@ -59,14 +62,16 @@ module _ {D M : Type 0} (history : D → History) where
   content w = (history w.device).disk.content
 
   -- one that leaves device, halves, log and image alone
-  pub none_written : (old new : Writer D M) → new.device ≡ old.device → new.halves ≡ old.halves → new.log ≡ old.log → new.image ≡ old.image → WritesLogsAlone history old new
+  pub none_written : (old new : Writer D M) → new.device ≡ old.device → new.halves ≡ old.halves → new.log ≡ old.log → new.image ≡ old.image
+      → WritesLogsAlone history old new
   none_written old new device halves log image = record {
     halves-are = halves;
     area-is = ap (λ l. l.area) log;
     none-begun = λ none. image ∙ none;
     now = subst (λ (d : D). SameOutside (InLogs old) (content old) (history d).disk.content) (sym device) (record { sectors = refl; same = λ k out. refl });
     images = subst (λ (d : D). LeavesOnly (history old.device) (history d) (SameOutside (MayChange old) (content old))) (sym device)
-        (started (history old.device) (SameOutside (MayChange old) (content old)) (λ c crash. crash_outside (MayChange old) (content old) (history old.device).disk c (outside_unsynced (InLogs old) (history old.device).disk) crash));
+        (started (history old.device) (SameOutside (MayChange old) (content old)) (λ c crash.
+        crash_outside (MayChange old) (content old) (history old.device).disk c (outside_unsynced (InLogs old) (history old.device).disk) crash));
   }
 
   -- one after another
@@ -77,11 +82,14 @@ module _ {D M : Type 0} (history : D → History) where
         (λ there. inr ((λ none. there.0 (first.none-begun none)), subst (λ (h : HalvesValue). InLog h.geometry (other h.current) n) first.halves-are there.1))
         inside
 
-    kept : (c : Image) → SameOutside (MayChange mid) (content mid) c → (k : ℕ) → ¬ MayChange old k → (b : Bool) → (history mid.device).disk.unsynced k ≡ b → sector c k ≡ sector (content old) k
+    kept : (c : Image) → SameOutside (MayChange mid) (content mid) c → (k : ℕ) → ¬ MayChange old k → (b : Bool) → (history mid.device).disk.unsynced k ≡ b
+        → sector c k ≡ sector (content old) k
     kept c same k out false synced =
-        same.same k (λ either. ⊎_elim (λ log. out (inl (in_logs k log))) (λ loose. false≢true (sym synced ∙ loose)) either) ∙ first.now.same k (λ log. out (inl log))
+        same.same k (λ either. ⊎_elim (λ log. out (inl (in_logs k log))) (λ loose. false≢true (sym synced ∙ loose)) either)
+        ∙ first.now.same k (λ log. out (inl log))
     kept c same k out true loose = ⊎_elim
-        (λ below. absurd (not_kept (history mid.device) k below loose (sector (content old) k) (λ d crash. (at_end (history old.device) (history mid.device) (SameOutside (MayChange old) (content old)) first.images d crash).same k out)))
+        (λ below. absurd (not_kept (history mid.device) k below loose (sector (content old) k) (λ d crash.
+        (at_end (history old.device) (history mid.device) (SameOutside (MayChange old) (content old)) first.images d crash).same k out)))
         (λ past. get_or_past c k [] (omega (arith, past, same.sectors)) ∙ sym (get_or_past (content old) k [] (omega (arith, past, first.now.sectors))))
         (cases_lt k (length (content mid)))
 
@@ -90,8 +98,10 @@ module _ {D M : Type 0} (history : D → History) where
       halves-are = second.halves-are ∙ first.halves-are;
       area-is = second.area-is ∙ first.area-is;
       none-begun = λ none. second.none-begun (first.none-begun none);
-      now = same_outside_then (InLogs old) (content old) (content mid) (content new) first.now (same_outside_wider (InLogs mid) (InLogs old) (content mid) (content new) in_logs second.now);
+      now = same_outside_then (InLogs old) (content old) (content mid) (content new) first.now
+          (same_outside_wider (InLogs mid) (InLogs old) (content mid) (content new) in_logs second.now);
       images = joined (history old.device) (history mid.device) (history new.device) (SameOutside (MayChange old) (content old)) first.images
           (weaker (history mid.device) (history new.device) (SameOutside (MayChange mid) (content mid)) (SameOutside (MayChange old) (content old))
-          (λ c same. record { sectors = same.sectors ∙ first.now.sectors; same = λ k out. kept c same k out ((history mid.device).disk.unsynced k) refl }) second.images);
+          (λ c same. record { sectors = same.sectors ∙ first.now.sectors; same = λ k out. kept c same k out ((history mid.device).disk.unsynced k) refl })
+          second.images);
     }

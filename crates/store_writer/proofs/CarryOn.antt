@@ -37,21 +37,30 @@ module _ {D M : Type 0} (history : D → History) (run : Run) (handed count : �
   -- ---- what is asked of a call of `carry`
 
   pub long : length (take count w.waiting.items) ≡ count
-  long = omega (arith, length-take count w.waiting.items, ap length is.waits, length_between run w.synced handed is.opened (omega (arith, is.within)) is.made, is.within)
+  long = omega (
+    arith,
+    length-take count w.waiting.items,
+    ap length is.waits,
+    length_between run w.synced handed is.opened (omega (arith, is.within)) is.made,
+    is.within,
+  )
 
   pub group_between : take count w.waiting.items ≡ records_between run w.synced (w.synced + length (take count w.waiting.items))
-  group_between = ap (take count) is.waits ∙ front_between run w.synced handed is.opened (omega (arith, is.within)) is.made count (omega (arith, is.within)) ∙ ap (λ n. records_between run w.synced (w.synced + n)) (sym long)
+  group_between = ap (take count) is.waits ∙ front_between run w.synced handed is.opened (omega (arith, is.within)) is.made count (omega (arith, is.within))
+      ∙ ap (λ n. records_between run w.synced (w.synced + n)) (sym long)
 
   pub log_inside_disk : (i : NewImage) → w.image ≡ Some i → IsAreaInside i.log.area content
   log_inside_disk i there =
-      let new : IsUnderway run (other half) content w.synced i = subst (λ (o : Option NewImage). IfSome o (IsUnderway run (other half) content w.synced)) there is.image in
+      let new : IsUnderway run (other half) content w.synced i =
+      subst (λ (o : Option NewImage). IfSome o (IsUnderway run (other half) content w.synced)) there is.image in
       subst (λ (a : Area). IsAreaInside a content) (sym new.area-is) (omega (arith, is.store.room, log_room g (other half)))
 
   -- ---- what is written there changes nothing that the device gives
 
   module _ (c : Image) (same : SameOutside (InNewLog w.image) content c) where
     in_other : SameOutside (InHalf g (other half)) content c
-    in_other = same_outside_wider _ (InHalf g (other half)) content c (λ n inside. new_log_in_half run (other half) content w.synced n w.image is.image inside) same
+    in_other = same_outside_wider _ (InHalf g (other half)) content c (λ n inside.
+        new_log_in_half run (other half) content w.synced n w.image is.image inside) same
 
     store_there : IsStore g half c
     store_there = store_apart g half (other half) content c in_other is.store
@@ -64,31 +73,39 @@ module _ {D M : Type 0} (history : D → History) (run : Run) (handed count : �
 
     stands_there : Stands w.log c is.groups
     stands_there = record {
-      held = told_by_its_sectors w.log.area content c is.groups half_there.sectors (λ n inside. half_there.same n (log_inside g half n (subst (λ (a : Area). InArea a n) is.area-is inside))) is.stands.held;
+      held = told_by_its_sectors w.log.area content c is.groups half_there.sectors (λ n inside.
+          half_there.same n (log_inside g half n (subst (λ (a : Area). InArea a n) is.area-is inside))) is.stands.held;
       counted = is.stands.counted;
     }
 
     left_there : (floor : ℕ) → floor ≤ w.synced + count → LeftBy run floor handed c
     left_there floor least = left_by run floor handed (w.synced + count) c least is.within (record { half = half; store = store_there; has = has_there })
 
-  pub leaves_there : (new : History) → LeavesOnly (history w.device) new (SameOutside (InNewLog w.image) content) → LeavesOnly (history w.device) new (LeftBy run w.synced handed)
-  leaves_there new run_ = weaker (history w.device) new (SameOutside (InNewLog w.image) content) (LeftBy run w.synced handed) (λ c same. left_there c same w.synced (omega arith)) run_
+  pub leaves_there : (new : History) → LeavesOnly (history w.device) new (SameOutside (InNewLog w.image) content)
+      → LeavesOnly (history w.device) new (LeftBy run w.synced handed)
+  leaves_there new run_ = weaker (history w.device) new (SameOutside (InNewLog w.image) content) (LeftBy run w.synced handed) (λ c same.
+      left_there c same w.synced (omega arith)) run_
 
   -- it was done
-  module _ (new : Writer D M) (halves_is : new.halves ≡ w.halves) (log_is : new.log ≡ w.log) (synced_is : new.synced ≡ w.synced + count) (waiting_is : new.waiting.items ≡ drop count w.waiting.items)
-      (same : SameOutside (InNewLog w.image) content (history new.device).disk.content) (all : IsSynced (history new.device).disk) (image : IfSome new.image (IsUnderway run (other half) (history new.device).disk.content (w.synced + length (take count w.waiting.items)))) where
+  module _ (new : Writer D M) (halves_is : new.halves ≡ w.halves) (log_is : new.log ≡ w.log) (synced_is : new.synced ≡ w.synced + count)
+      (waiting_is : new.waiting.items ≡ drop count w.waiting.items)
+      (same : SameOutside (InNewLog w.image) content (history new.device).disk.content) (all : IsSynced (history new.device).disk)
+      (image : IfSome new.image (IsUnderway run (other half) (history new.device).disk.content (w.synced + length (take count w.waiting.items)))) where
     abbrev now : Image
     now = (history new.device).disk.content
 
     stood_new : StandsFor history run new
     stood_new = record {
       store = subst (λ (h : HalvesValue). IsStore g h.current now) (sym halves_is) (store_there now same);
-      has = subst (λ n. HalfHas g new.halves.current now n (cells_at run n)) (sym synced_is) (subst (λ (h : HalvesValue). HalfHas g h.current now (w.synced + count) (cells_at run (w.synced + count))) (sym halves_is) (has_there now same));
+      has = subst (λ n. HalfHas g new.halves.current now n (cells_at run n)) (sym synced_is)
+          (subst (λ (h : HalvesValue). HalfHas g h.current now (w.synced + count) (cells_at run (w.synced + count))) (sym halves_is) (has_there now same));
       area-is = ap (λ (l : Log). l.area) log_is ∙ is.area-is ∙ ap (λ (h : HalvesValue). log_area g h.current) (sym halves_is);
       groups = is.groups;
       stands = subst (λ (l : Log). Stands l now is.groups) (sym log_is) (stands_there now same);
       loose = λ n unsynced. absurd (false≢true (sym (all n) ∙ unsynced));
-      image = subst (λ n. IfSome new.image (IsUnderway run (other new.halves.current) now n)) (ap (λ n. w.synced + n) long ∙ sym synced_is) (subst (λ (h : HalvesValue). IfSome new.image (IsUnderway run (other h.current) now (w.synced + length (take count w.waiting.items)))) (sym halves_is) image);
+      image = subst (λ n. IfSome new.image (IsUnderway run (other new.halves.current) now n)) (ap (λ n. w.synced + n) long
+          ∙ sym synced_is) (subst (λ (h : HalvesValue). IfSome new.image
+          (IsUnderway run (other h.current) now (w.synced + length (take count w.waiting.items)))) (sym halves_is) image);
     }
 
     pub carried_one : IsWriter history run handed new
@@ -99,7 +116,9 @@ module _ {D M : Type 0} (history : D → History) (run : Run) (handed count : �
       reached = omega (arith, synced_is, is.within);
       made = is.made;
       small = is.small;
-      waits = waiting_is ∙ ap (drop count) is.waits ∙ back_between run w.synced handed is.opened (omega (arith, is.within)) is.made count (omega (arith, is.within)) ∙ ap (λ n. records_between run n handed) (sym synced_is);
+      waits = waiting_is ∙ ap (drop count) is.waits
+          ∙ back_between run w.synced handed is.opened (omega (arith, is.within)) is.made count (omega (arith, is.within))
+          ∙ ap (λ n. records_between run n handed) (sym synced_is);
       holds = λ _. stood_new;
       images = λ image crash.
           let is_now : image ≡ now = crash_synced (history new.device).disk image all crash in
@@ -107,7 +126,8 @@ module _ {D M : Type 0} (history : D → History) (run : Run) (handed count : �
     }
 
   -- it failed
-  pub failed_one : (new : Writer D M) → new.halves ≡ w.halves → new.synced ≡ w.synced → new.waiting.items ≡ w.waiting.items → new.failed ≡ true → LeavesOnly (history w.device) (history new.device) (LeftBy run w.synced handed) → IsWriter history run handed new
+  pub failed_one : (new : Writer D M) → new.halves ≡ w.halves → new.synced ≡ w.synced → new.waiting.items ≡ w.waiting.items → new.failed ≡ true
+      → LeavesOnly (history w.device) (history new.device) (LeftBy run w.synced handed) → IsWriter history run handed new
   failed_one new halves_is synced_is waiting_is failed left = record {
     run-is = is.run-is;
     geometry-is = ap (λ (h : HalvesValue). h.geometry) halves_is ∙ is.geometry-is;
@@ -117,5 +137,6 @@ module _ {D M : Type 0} (history : D → History) (run : Run) (handed count : �
     small = is.small;
     waits = waiting_is ∙ is.waits ∙ ap (λ n. records_between run n handed) (sym synced_is);
     holds = λ sound. absurd (false≢true (sym sound ∙ failed));
-    images = λ image crash. subst (λ n. LeftBy run n handed image) (sym synced_is) (at_end (history w.device) (history new.device) (LeftBy run w.synced handed) left image crash);
+    images = λ image crash. subst (λ n. LeftBy run n handed image) (sym synced_is)
+        (at_end (history w.device) (history new.device) (LeftBy run w.synced handed) left image crash);
   }

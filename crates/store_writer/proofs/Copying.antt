@@ -1,5 +1,6 @@
 -- An image under way, with one piece more.
-use Rattle.std.proofs.Common.{Result, Ok, Err, IfOk, ◌≡◌, ⊎_elim, ℕ, ◌+◌, ◌-◌, ◌%◌, ◌<◌, ◌≤◌, List, [], ◌++◌, length, take, Option, Some, None, refl, sym, ap, subst, ◌∙◌, arith, length-append}
+use Rattle.std.proofs.Common.{Result, Ok, Err, IfOk, ◌≡◌, ⊎_elim, ℕ, ◌+◌, ◌-◌, ◌%◌, ◌<◌, ◌≤◌, List, [], ◌++◌, length, take, Option, Some, None, refl, sym, ap}
+use Rattle.std.proofs.Common.{subst, ◌∙◌, arith, length-append}
 use Rattle.std.proofs.lemmas.Bool.{cases_eq}
 use Rattle.std.proofs.lemmas.Option.{none-some, slice_get_within, slice_get_cases}
 use Rattle.std.specs.Prelude.{slice_get}
@@ -51,13 +52,15 @@ use Rattle.store_writer.proofs.Numbers.{none_between}
 no_entries : 0 ≡ length (map.entries (map.empty {K = Pair} {X = Mark} {R = pair_cmp}))
 no_entries = sym (sym (map.len-entries (map.empty {K = Pair} {X = Mark} {R = pair_cmp})) ∙ map.len-empty pair_cmp Mark)
 
-pub start_taken : (run : Run) (half : Half) (image : Image) (synced : ℕ) (new : NewImage) (life : Life) (lists : Pending) → run.last ≤ synced → new.number ≡ new.base → new.stage ≡ Partly 0 0 None life → IsStartChunk run synced new.base life lists
+pub start_taken : (run : Run) (half : Half) (image : Image) (synced : ℕ) (new : NewImage) (life : Life) (lists : Pending) → run.last ≤ synced
+    → new.number ≡ new.base → new.stage ≡ Partly 0 0 None life → IsStartChunk run synced new.base life lists
     → IsImagePart run.geometry (header_sector run.geometry half) image 0 (record { rows = map.empty; entries = map.empty; pending = lists; life = life })
     → new.log.area ≡ log_area run.geometry half → Stands new.log image [] → IsUnderway run half image synced new
 start_taken run half image synced new life lists opened one stage_is chunk part area stands =
     let cells = cells_at run new.base in
     let none : 0 ≡ new.number - new.base = omega (arith, one) in
-    let same : record { rows = map.empty; entries = map.empty; pending = lists; life = life } ≡ record cells { rows = map.empty; entries = map.empty } = λ i. record { rows = map.empty; entries = map.empty; pending = chunk.lists-are i; life = chunk.life-is i } in
+    let same : record { rows = map.empty; entries = map.empty; pending = lists; life = life } ≡ record cells { rows = map.empty; entries = map.empty } = λ i.
+    record { rows = map.empty; entries = map.empty; pending = chunk.lists-are i; life = chunk.life-is i } in
     record {
       low = omega (arith, opened, chunk.late);
       rise = omega (arith, one);
@@ -65,7 +68,8 @@ start_taken run half image synced new life lists opened one stage_is chunk part 
       content = subst (IsContent run half image new.base new.number) (sym stage_is) (record {
         rows = map.empty;
         entries = map.empty;
-        copied = subst (λ m. IsPartlyCopied cells (records_above run new.base) m 0 None map.empty map.empty) none (nothing_copied cells (records_above run new.base));
+        copied = subst (λ m. IsPartlyCopied cells (records_above run new.base) m 0 None map.empty map.empty) none
+            (nothing_copied cells (records_above run new.base));
         part = subst (λ (x : Cells). IsImagePart run.geometry (header_sector run.geometry half) image 0 x) same part;
         life-is = chunk.life-is;
         inside = chunk.inside;
@@ -81,7 +85,8 @@ start_taken run half image synced new life lists opened one stage_is chunk part 
 -- ---- it goes on
 
 -- the image has more, and is written up to a later record
-pub at_stage : (run : Run) (half : Half) (image c : Image) (synced : ℕ) (i : NewImage) (is : IsUnderway run half image synced i) (number : ℕ) (stage : Stage) → i.number ≤ number → number ≤ end_of run → Stands i.log c is.groups
+pub at_stage : (run : Run) (half : Half) (image c : Image) (synced : ℕ) (i : NewImage) (is : IsUnderway run half image synced i) (number : ℕ) (stage : Stage)
+    → i.number ≤ number → number ≤ end_of run → Stands i.log c is.groups
     → IsContent run half c i.base number stage → IsUnderway run half c synced (record i { number = number; stage = stage })
 at_stage run half image c synced i is number stage later made stands content = record {
   low = is.low;
@@ -110,7 +115,8 @@ module _ (run : Run) (half : Half) (image c : Image) (base to number : ℕ) (low
   now_is : cells_at run number ≡ cells_after cells (take (number - base) log)
   now_is = sym (reached run base number low (omega (arith, rise, later)))
 
-  module _ (page : ℕ) (rows more : Table) (rest : (q : Place) → page ≤ q.page → map.get rows q ≡ None) (old : (q : Place) (r : Row) → map.get rows q ≡ Some r → (q.page < page) × (q.slot < 63))
+  module _ (page : ℕ) (rows more : Table) (rest : (q : Place) → page ≤ q.page → map.get rows q ≡ None) (old : (q : Place) (r : Row) → map.get rows q ≡ Some r
+      → (q.page < page) × (q.slot < 63))
       (next : ArePageRows (cells_at run number) page more) (slots : (q : Place) (r : Row) → map.get more q ≡ Some r → q.slot < 63) where
     with_page : IsWithPage page rows (joined more rows)
     with_page = record {
@@ -124,17 +130,23 @@ module _ (run : Run) (half : Half) (image c : Image) (base to number : ℕ) (low
     has_page : HasPage first c page more → HasPage first c page (joined more rows)
     has_page has = record {
       edges = has.edges;
-      slots = λ slot below. subst (λ (o : Option Row). IsRow (row_bytes c first page slot) o) (sym (get_first rid_exact more rows (record { page = page; slot = slot }) (rest (record { page = page; slot = slot }) (omega arith)))) (has.slots slot below);
+      slots = λ slot below. subst (λ (o : Option Row). IsRow (row_bytes c first page slot) o)
+          (sym (get_first rid_exact more rows (record { page = page; slot = slot }) (rest (record { page = page; slot = slot }) (omega arith))))
+          (has.slots slot below);
     }
 
-  pub page_part : (page count : ℕ) (highest : Option Pair) (life : Life) (more : Table) → IsPart run half image base to page count highest life → page < g.pages → ArePageRows (cells_at run number) page more
-      → ((q : Place) (r : Row) → map.get more q ≡ Some r → q.slot < 63) → SameOutside (InPage first page) image c → HasPage first c page more → IsPart run half c base number (page + 1) count highest life
+  pub page_part : (page count : ℕ) (highest : Option Pair) (life : Life) (more : Table) → IsPart run half image base to page count highest life → page < g.pages
+      → ArePageRows (cells_at run number) page more
+      → ((q : Place) (r : Row) → map.get more q ≡ Some r → q.slot < 63) → SameOutside (InPage first page) image c → HasPage first c page more
+      → IsPart run half c base number (page + 1) count highest life
   page_part page count highest life more is below next slots same has = record {
     rows = joined more is.rows;
     entries = is.entries;
-    copied = page_copied cells log (to - base) (number - base) page highest is.rows more is.entries is.copied (omega (arith, later)) (subst (λ (x : Cells). ArePageRows x page more) now_is next);
+    copied = page_copied cells log (to - base) (number - base) page highest is.rows more is.entries is.copied (omega (arith, later))
+        (subst (λ (x : Cells). ArePageRows x page more) now_is next);
     part = part_page g first image c page (record cells { rows = is.rows; entries = is.entries }) (joined more is.rows) below is.part same
-        (has_page page is.rows more is.copied.rows-rest is.part.within next slots has) (with_page page is.rows more is.copied.rows-rest is.part.within next slots);
+        (has_page page is.rows more is.copied.rows-rest is.part.within next slots has)
+        (with_page page is.rows more is.copied.rows-rest is.part.within next slots);
     life-is = is.life-is;
     inside = is.inside;
     counted = is.counted;
@@ -142,12 +154,16 @@ module _ (run : Run) (half : Half) (image c : Image) (base to number : ℕ) (low
   }
 
   -- entries, as many as a chunk takes
-  pub entries_part : (pages count : ℕ) (above highest : Option Pair) (life : Life) (more : Index) (entries : List (Pair × Mark)) (is : IsPart run half image base to pages count above life) → map.entries more ≡ entries → AreNextEntries (cells_at run number) above highest more → length entries % 8 ≡ 0
-      → IsImagePart g first c pages (record cells { rows = is.rows; entries = joined more is.entries }) → IsPart run half c base number pages (count + length entries) highest life
+  pub entries_part : (pages count : ℕ) (above highest : Option Pair) (life : Life) (more : Index) (entries : List (Pair × Mark))
+      (is : IsPart run half image base to pages count above life) → map.entries more ≡ entries → AreNextEntries (cells_at run number) above highest more
+      → length entries % 8 ≡ 0
+      → IsImagePart g first c pages (record cells { rows = is.rows; entries = joined more is.entries })
+      → IsPart run half c base number pages (count + length entries) highest life
   entries_part pages count above highest life more entries is listed next full part = record {
     rows = is.rows;
     entries = joined more is.entries;
-    copied = entries_copied cells log (to - base) (number - base) pages above highest is.rows is.entries more is.copied (omega (arith, later)) (subst (λ (x : Cells). AreNextEntries x above highest more) now_is next);
+    copied = entries_copied cells log (to - base) (number - base) pages above highest is.rows is.entries more is.copied (omega (arith, later))
+        (subst (λ (x : Cells). AreNextEntries x above highest more) now_is next);
     part = part;
     life-is = is.life-is;
     inside = is.inside;
@@ -158,16 +174,19 @@ module _ (run : Run) (half : Half) (image c : Image) (base to number : ℕ) (low
   }
 
   -- the last entries
-  pub entries_whole : (count : ℕ) (above : Option Pair) (life : Life) (more : Index) (is : IsPart run half image base to g.pages count above life) → AreLastEntries (cells_at run number) above more
+  pub entries_whole : (count : ℕ) (above : Option Pair) (life : Life) (more : Index) (is : IsPart run half image base to g.pages count above life)
+      → AreLastEntries (cells_at run number) above more
       → HoldsImage g half c base (record cells { rows = is.rows; entries = joined more is.entries }) → IsImageWhole run half c base number
   entries_whole count above life more is last holds = record {
     copied = record cells { rows = is.rows; entries = joined more is.entries };
     imaged = holds;
-    copies = last_copied cells log (to - base) (number - base) g.pages above is.rows is.entries more is.copied (omega (arith, later)) (subst (λ (x : Cells). AreLastEntries x above more) now_is last) is.inside.rows;
+    copies = last_copied cells log (to - base) (number - base) g.pages above is.rows is.entries more is.copied (omega (arith, later))
+        (subst (λ (x : Cells). AreLastEntries x above more) now_is last) is.inside.rows;
   }
 
 -- The next entries are in the image: as many as a chunk takes, or fewer, with which it is whole.
-module _ (run : Run) (half : Half) (image c : Image) (i : NewImage) (number : ℕ) (entries : List (Pair × Mark)) (chunk : IsEntriesChunk run i number entries) (low : run.last ≤ i.base) (rise : i.base ≤ i.number)
+module _ (run : Run) (half : Half) (image c : Image) (i : NewImage) (number : ℕ) (entries : List (Pair × Mark)) (chunk : IsEntriesChunk run i number entries)
+    (low : run.last ≤ i.base) (rise : i.base ≤ i.number)
     (is : IsPart run half image i.base i.number run.geometry.pages chunk.count chunk.above chunk.life) where
   abbrev now : Cells
   now = record (cells_at run i.base) { rows = is.rows; entries = is.entries }
@@ -177,23 +196,31 @@ module _ (run : Run) (half : Half) (image c : Image) (i : NewImage) (number : �
 
   -- a full chunk
   full_chunk : (last : Pair × Mark) → slice_get entries 127 ≡ Some last → map.entries index ≡ map.entries is.entries ++ entries
-  full_chunk last there = joined_next (cells_at run i.base) (cells_at run number) (records_above run i.base) (i.number - i.base) run.geometry.pages chunk.above (Some last.0) is.rows is.entries chunk.more is.copied (chunk.full last there)
+  full_chunk last there = joined_next (cells_at run i.base) (cells_at run number) (records_above run i.base) (i.number - i.base) run.geometry.pages chunk.above
+      (Some last.0) is.rows is.entries chunk.more is.copied (chunk.full last there)
       ∙ ap (λ (l : List (Pair × Mark)). map.entries is.entries ++ l) chunk.listed
 
   short_chunk : slice_get entries 127 ≡ None → map.entries index ≡ map.entries is.entries ++ entries
-  short_chunk none = joined_last (cells_at run i.base) (cells_at run number) (records_above run i.base) (i.number - i.base) run.geometry.pages chunk.above is.rows is.entries chunk.more is.copied (chunk.rest none)
+  short_chunk none = joined_last (cells_at run i.base) (cells_at run number) (records_above run i.base)
+      (i.number - i.base) run.geometry.pages chunk.above is.rows is.entries chunk.more is.copied (chunk.rest none)
       ∙ ap (λ (l : List (Pair × Mark)). map.entries is.entries ++ l) chunk.listed
 
-  module _ (written : 128 ≤ length entries → chunk.count ≡ length (map.entries is.entries) → map.entries index ≡ map.entries is.entries ++ entries → IsImagePart run.geometry (header_sector run.geometry half) c run.geometry.pages (record now { entries = index }))
-      (whole : length entries < 128 → chunk.count ≡ length (map.entries is.entries) → map.entries index ≡ map.entries is.entries ++ entries → chunk.life ≡ (cells_at run i.base).life → HoldsImage run.geometry half c i.base (record now { entries = index })) where
-    by : (o : Option (Pair × Mark)) → slice_get entries 127 ≡ o → IsContent run half c i.base number (option_map_or (λ last. Partly (run.geometry.pages) (chunk.count + length entries) (Some last.0) chunk.life) o Whole)
+  module _ (written : 128 ≤ length entries → chunk.count ≡ length (map.entries is.entries) → map.entries index ≡ map.entries is.entries ++ entries
+      → IsImagePart run.geometry (header_sector run.geometry half) c run.geometry.pages (record now { entries = index }))
+      (whole : length entries < 128 → chunk.count ≡ length (map.entries is.entries) → map.entries index ≡ map.entries is.entries ++ entries
+      → chunk.life ≡ (cells_at run i.base).life → HoldsImage run.geometry half c i.base (record now { entries = index })) where
+    by : (o : Option (Pair × Mark)) → slice_get entries 127 ≡ o
+        → IsContent run half c i.base number (option_map_or (λ last.
+        Partly (run.geometry.pages) (chunk.count + length entries) (Some last.0) chunk.life) o Whole)
     by None none =
         entries_whole run half image c i.base i.number number low rise chunk.later chunk.count chunk.above chunk.life chunk.more is (chunk.rest none)
-        (whole (⊎_elim (λ p. absurd (none-some p.0 (sym none ∙ p.2))) (λ p. omega (arith, p.0)) (slice_get_cases entries 127).1) is.counted (short_chunk none) is.life-is)
+        (whole (⊎_elim (λ p. absurd (none-some p.0 (sym none ∙ p.2))) (λ p. omega (arith, p.0)) (slice_get_cases entries 127).1) is.counted
+        (short_chunk none) is.life-is)
     by (Some last) there =
         let long : 128 ≤ length entries = omega (arith, slice_get_within entries 127 last there) in
         let size : length entries ≡ 128 = omega (arith, long, chunk.most) in
-        entries_part run half image c i.base i.number number low rise chunk.later run.geometry.pages chunk.count chunk.above (Some last.0) chunk.life chunk.more entries is chunk.listed (chunk.full last there) (omega (arith, size))
+        entries_part run half image c i.base i.number number low rise chunk.later run.geometry.pages chunk.count chunk.above
+        (Some last.0) chunk.life chunk.more entries is chunk.listed (chunk.full last there) (omega (arith, size))
         (written long is.counted (full_chunk last there))
 
     with_chunk : IsContent run half c i.base number (stage_behind run.geometry.pages chunk.count chunk.life entries)
@@ -212,10 +239,17 @@ life_of Whole = Absent
 life_of (Partly pages count highest life) = life
 
 -- so they are where they were written
-pub with_entries : (run : Run) (half : Half) (image c : Image) (i : NewImage) (number : ℕ) (entries : List (Pair × Mark)) (chunk : IsEntriesChunk run i number entries) → run.last ≤ i.base → i.base ≤ i.number → IsPart run half image i.base i.number run.geometry.pages chunk.count chunk.above chunk.life
-    → (geometry : GeometryValue) → geometry ≡ run.geometry → (pages count : ℕ) (highest : Option Pair) (life : Life) → Partly run.geometry.pages chunk.count chunk.above chunk.life ≡ Partly pages count highest life
-    → ((cells : Cells) (index : Index) → 128 ≤ length entries → IsImagePart geometry (header_sector geometry half) image geometry.pages cells → count ≡ length (map.entries cells.entries) → map.entries index ≡ map.entries cells.entries ++ entries → IsImagePart geometry (header_sector geometry half) c geometry.pages (record cells { entries = index }))
-    → ((cells : Cells) (index : Index) → length entries < 128 → IsImagePart geometry (header_sector geometry half) image geometry.pages cells → count ≡ length (map.entries cells.entries) → map.entries index ≡ map.entries cells.entries ++ entries → life ≡ cells.life → HoldsImage geometry half c i.base (record cells { entries = index }))
+pub with_entries : (run : Run) (half : Half) (image c : Image) (i : NewImage) (number : ℕ) (entries : List (Pair × Mark))
+    (chunk : IsEntriesChunk run i number entries) → run.last ≤ i.base → i.base ≤ i.number
+    → IsPart run half image i.base i.number run.geometry.pages chunk.count chunk.above chunk.life
+    → (geometry : GeometryValue) → geometry ≡ run.geometry → (pages count : ℕ) (highest : Option Pair) (life : Life)
+    → Partly run.geometry.pages chunk.count chunk.above chunk.life ≡ Partly pages count highest life
+    → ((cells : Cells) (index : Index) → 128 ≤ length entries → IsImagePart geometry (header_sector geometry half) image geometry.pages cells
+    → count ≡ length (map.entries cells.entries) → map.entries index ≡ map.entries cells.entries ++ entries
+    → IsImagePart geometry (header_sector geometry half) c geometry.pages (record cells { entries = index }))
+    → ((cells : Cells) (index : Index) → length entries < 128 → IsImagePart geometry (header_sector geometry half) image geometry.pages cells
+    → count ≡ length (map.entries cells.entries) → map.entries index ≡ map.entries cells.entries ++ entries → life ≡ cells.life
+    → HoldsImage geometry half c i.base (record cells { entries = index }))
     → (result : Stage) → result ≡ stage_behind pages count life entries → IsContent run half c i.base number result
 unfolding count_of life_of pages_of
 with_entries run half image c i number entries chunk low rise is geometry g_is pages count highest life at written whole result result_is =
@@ -223,21 +257,28 @@ with_entries run half image c i number entries chunk low rise is geometry g_is p
     let life_is : chunk.life ≡ life = ap life_of at in
     let now : Cells = record (cells_at run i.base) { rows = is.rows; entries = is.entries } in
     let index : Index = joined chunk.more is.entries in
-    let here = subst (λ (x : GeometryValue). (cells : Cells) (index : Index) → 128 ≤ length entries → IsImagePart x (header_sector x half) image x.pages cells → count ≡ length (map.entries cells.entries) → map.entries index ≡ map.entries cells.entries ++ entries → IsImagePart x (header_sector x half) c x.pages (record cells { entries = index })) g_is written in
-    let there = subst (λ (x : GeometryValue). (cells : Cells) (index : Index) → length entries < 128 → IsImagePart x (header_sector x half) image x.pages cells → count ≡ length (map.entries cells.entries) → map.entries index ≡ map.entries cells.entries ++ entries → life ≡ cells.life → HoldsImage x half c i.base (record cells { entries = index })) g_is whole in
-    let same : stage_behind run.geometry.pages chunk.count chunk.life entries ≡ result = (λ k. stage_behind (pages_of (at k)) (count_of (at k)) (life_of (at k)) entries) ∙ sym result_is in
+    let here = subst (λ (x : GeometryValue). (cells : Cells) (index : Index) → 128 ≤ length entries → IsImagePart x (header_sector x half) image x.pages cells
+    → count ≡ length (map.entries cells.entries) → map.entries index ≡ map.entries cells.entries ++ entries
+    → IsImagePart x (header_sector x half) c x.pages (record cells { entries = index })) g_is written in
+    let there = subst (λ (x : GeometryValue). (cells : Cells) (index : Index) → length entries < 128 → IsImagePart x (header_sector x half) image x.pages cells
+    → count ≡ length (map.entries cells.entries) → map.entries index ≡ map.entries cells.entries ++ entries → life ≡ cells.life
+    → HoldsImage x half c i.base (record cells { entries = index })) g_is whole in
+    let same : stage_behind run.geometry.pages chunk.count chunk.life entries ≡ result =
+    (λ k. stage_behind (pages_of (at k)) (count_of (at k)) (life_of (at k)) entries) ∙ sym result_is in
     subst (IsContent run half c i.base number) same (with_chunk run half image c i number entries chunk low rise is
     (λ long counted all. here now index long is.part (sym count_is ∙ counted) all)
     (λ short counted all life_at. there now index short is.part (sym count_is ∙ counted) all (sym life_is ∙ life_at)))
 
 -- what is answered of entries is answered of the piece that has them
-pub entries_answered : {A D M : Type 0} (number : ℕ) (entries : Vec (Pair × Mark) A) (list : List (Pair × Mark)) (piece : Piece A) (old new : Writer D M) (result : Result StepReply Error) → list ≡ entries.items → piece ≡ Entries entries
+pub entries_answered : {A D M : Type 0} (number : ℕ) (entries : Vec (Pair × Mark) A) (list : List (Pair × Mark)) (piece : Piece A) (old new : Writer D M)
+    (result : Result StepReply Error) → list ≡ entries.items → piece ≡ Entries entries
     → IfOk result (λ reply. AreEntriesAnswered number list reply old new) → IfOk result (λ reply. IsStepReply number piece reply old new)
 entries_answered {A} number entries list piece old new result same is answered =
     subst (λ (p : Piece A). IfOk result (λ reply. IsStepReply number p reply old new)) (sym is)
     (by result (subst (λ (l : List (Pair × Mark)). IfOk result (λ reply. AreEntriesAnswered number l reply old new)) same answered))
   where
-    by : (result : Result StepReply Error) → IfOk result (λ reply. AreEntriesAnswered number entries.items reply old new) → IfOk result (λ reply. IsStepReply number (Entries entries) reply old new)
+    by : (result : Result StepReply Error) → IfOk result (λ reply. AreEntriesAnswered number entries.items reply old new)
+        → IfOk result (λ reply. IsStepReply number (Entries entries) reply old new)
     by (Ok Taken) is = is
     by (Ok StartAgain) is = is
     by (Err e) is = is

@@ -30,21 +30,26 @@ use Rattle.store_writer.proofs.Taking.{stand, left_kept}
 use Rattle.store_writer.proofs.Left.{left_by}
 
 -- An image whose log reaches its last step gives the cells after the last record of that log.
-pub underway_has : (run : Run) (half : Half) (image : Image) (synced : ℕ) (new : NewImage) → IsRun run → IsUnderway run half image synced new → new.stage ≡ Whole → new.number ≤ reach new synced → reach new synced ≤ end_of run
+pub underway_has : (run : Run) (half : Half) (image : Image) (synced : ℕ) (new : NewImage) → IsRun run → IsUnderway run half image synced new
+    → new.stage ≡ Whole → new.number ≤ reach new synced → reach new synced ≤ end_of run
     → HalfHas run.geometry half image (reach new synced) (cells_at run (reach new synced))
-underway_has run half image synced new is there whole up made = let content : IsImageWhole run half image new.base new.number = subst (IsContent run half image new.base new.number) whole there.content in record {
-  base = new.base;
-  copied = content.copied;
-  imaged = content.imaged;
-  groups = there.groups;
-  held = subst (λ (a : Area). HoldsGroups a image there.groups) there.area-is there.stands.held;
-  following = subst (AreFollowing run.geometry.pages new.base content.copied) (sym there.carried)
-      (redone_following run new.base new.number (reach new synced) content.copied content.copies is there.low (omega (arith, there.rise, up, made)));
-  last-is = sym (last_between run new.base (reach new synced) there.low (omega arith) made) ∙ ap (λ (rs : List RecordValue). new.base + length rs) (sym there.carried);
-  cells-are = sym (ap (cells_after content.copied) there.carried ∙ redone run new.base new.number (reach new synced) content.copied content.copies there.low (omega arith) up);
-}
+underway_has run half image synced new is there whole up made = let content : IsImageWhole run half image new.base new.number =
+    subst (IsContent run half image new.base new.number) whole there.content in record {
+      base = new.base;
+      copied = content.copied;
+      imaged = content.imaged;
+      groups = there.groups;
+      held = subst (λ (a : Area). HoldsGroups a image there.groups) there.area-is there.stands.held;
+      following = subst (AreFollowing run.geometry.pages new.base content.copied) (sym there.carried)
+          (redone_following run new.base new.number (reach new synced) content.copied content.copies is there.low (omega (arith, there.rise, up, made)));
+      last-is = sym (last_between run new.base (reach new synced) there.low (omega arith) made)
+          ∙ ap (λ (rs : List RecordValue). new.base + length rs) (sym there.carried);
+      cells-are = sym (ap (cells_after content.copied) there.carried
+          ∙ redone run new.base new.number (reach new synced) content.copied content.copies there.low (omega arith) up);
+    }
 
-module _ {D M : Type 0} (history : D → History) (run : Run) (handed : ℕ) (old : Writer D M) (is : IsWriter history run handed old) (sound : old.failed ≡ false) (image : NewImage) (there : IsUnderway run (other old.halves.current) (history old.device).disk.content old.synced image) (whole : image.stage ≡ Whole)
+module _ {D M : Type 0} (history : D → History) (run : Run) (handed : ℕ) (old : Writer D M) (is : IsWriter history run handed old) (sound : old.failed ≡ false)
+    (image : NewImage) (there : IsUnderway run (other old.halves.current) (history old.device).disk.content old.synced image) (whole : image.stage ≡ Whole)
     (reaches : image.number ≤ reach image old.synced) (within : image.number ≤ handed) where
   abbrev content : Image
   content = (history old.device).disk.content
@@ -76,7 +81,8 @@ module _ {D M : Type 0} (history : D → History) (run : Run) (handed : ℕ) (ol
       (underway_has run to content old.synced image is.run-is there whole reaches (omega (arith, handed_in, is.made)))
 
   this_has : (c : Image) → SameOutside (λ k. k ≡ 1) content c → HalfHas g from c old.synced (cells_at run old.synced)
-  this_has c same = half_apart g from content c (in_from_outside (InHalf g from) _ content c (not_front from) same) old.synced (cells_at run old.synced) (stand history run handed old is sound).has
+  this_has c same = half_apart g from content c (in_from_outside (InHalf g from) _ content c (not_front from) same) old.synced (cells_at run old.synced)
+      (stand history run handed old is sound).has
 
   left_flipping : (c : Image) → IsFlipping (history old.device).disk c → LeftBy run old.synced handed c
   left_flipping c (inl loose) = left_kept history run handed old is sound c
@@ -86,12 +92,15 @@ module _ {D M : Type 0} (history : D → History) (run : Run) (handed : ℕ) (ol
       (λ store. left_by run old.synced handed n c up handed_in (record { half = to; store = store; has = other_has c same }))
       (either_store g from content c same (stand history run handed old is sound).store)
 
-  pub leaves_flipping : (new : History) → LeavesOnly (history old.device) new (IsFlipping (history old.device).disk) → LeavesOnly (history old.device) new (LeftBy run old.synced handed)
+  pub leaves_flipping : (new : History) → LeavesOnly (history old.device) new (IsFlipping (history old.device).disk)
+      → LeavesOnly (history old.device) new (LeftBy run old.synced handed)
   leaves_flipping new run_ = weaker (history old.device) new (IsFlipping (history old.device).disk) (LeftBy run old.synced handed) left_flipping run_
 
   -- the flip was done
-  module _ (new : Writer D M) (halves_is : new.halves ≡ record { geometry = old.halves.geometry; current = to }) (log_is : new.log ≡ image.log) (synced_is : new.synced ≡ n) (waiting_is : new.waiting.items ≡ drop (n - old.synced) old.waiting.items) (none : new.image ≡ None)
-      (same : SameOutside (λ k. k ≡ 1) content (history new.device).disk.content) (named : Names (sector (history new.device).disk.content 1) to) (all : IsSynced (history new.device).disk) where
+  module _ (new : Writer D M) (halves_is : new.halves ≡ record { geometry = old.halves.geometry; current = to }) (log_is : new.log ≡ image.log)
+      (synced_is : new.synced ≡ n) (waiting_is : new.waiting.items ≡ drop (n - old.synced) old.waiting.items) (none : new.image ≡ None)
+      (same : SameOutside (λ k. k ≡ 1) content (history new.device).disk.content) (named : Names (sector (history new.device).disk.content 1) to)
+      (all : IsSynced (history new.device).disk) where
     abbrev now : Image
     now = (history new.device).disk.content
 
@@ -110,14 +119,16 @@ module _ {D M : Type 0} (history : D → History) (run : Run) (handed : ℕ) (ol
 
     log_now : Stands image.log now there.groups
     log_now = record {
-      held = told_by_its_sectors image.log.area content now there.groups same.sectors (λ k inside. same.same k (not_front to k (log_inside g to k (subst (λ (a : Area). InArea a k) there.area-is inside)))) there.stands.held;
+      held = told_by_its_sectors image.log.area content now there.groups same.sectors (λ k inside.
+          same.same k (not_front to k (log_inside g to k (subst (λ (a : Area). InArea a k) there.area-is inside)))) there.stands.held;
       counted = there.stands.counted;
     }
 
     stood_now : StandsFor history run new
     stood_now = record {
       store = subst (λ (h : Half). IsStore g h now) (sym current_is) store_now;
-      has = subst (λ k. HalfHas g new.halves.current now k (cells_at run k)) (sym synced_is) (subst (λ (h : Half). HalfHas g h now n (cells_at run n)) (sym current_is) (other_has now same));
+      has = subst (λ k. HalfHas g new.halves.current now k (cells_at run k)) (sym synced_is)
+          (subst (λ (h : Half). HalfHas g h now n (cells_at run n)) (sym current_is) (other_has now same));
       area-is = ap (λ (l : Log). l.area) log_is ∙ there.area-is ∙ ap (log_area g) (sym current_is);
       groups = there.groups;
       stands = subst (λ (l : Log). Stands l now there.groups) (sym log_is) log_now;
@@ -133,9 +144,12 @@ module _ {D M : Type 0} (history : D → History) (run : Run) (handed : ℕ) (ol
       reached = omega (arith, synced_is, handed_in);
       made = is.made;
       small = is.small;
-      waits = waiting_is ∙ ap (drop (n - old.synced)) is.waits ∙ back_between run old.synced handed is.opened is.reached is.made (n - old.synced) (omega (arith, handed_in)) ∙ ap (λ k. records_between run k handed) (let e : old.synced + (n - old.synced) ≡ new.synced = omega (arith, up, synced_is) in e);
+      waits = waiting_is ∙ ap (drop (n - old.synced)) is.waits
+          ∙ back_between run old.synced handed is.opened is.reached is.made (n - old.synced) (omega (arith, handed_in))
+          ∙ ap (λ k. records_between run k handed) (let e : old.synced + (n - old.synced) ≡ new.synced = omega (arith, up, synced_is) in e);
       holds = λ _. stood_now;
       images = λ image crash.
           let is_now : image ≡ now = crash_synced (history new.device).disk image all crash in
-          subst (LeftBy run new.synced handed) (sym is_now) (left_by run new.synced handed n now (omega (arith, synced_is)) handed_in (record { half = to; store = store_now; has = other_has now same }));
+          subst (LeftBy run new.synced handed) (sym is_now) (left_by run new.synced handed n now (omega (arith, synced_is)) handed_in
+          (record { half = to; store = store_now; has = other_has now same }));
     }

@@ -22,14 +22,17 @@ use Rattle.store_reader.specs.Contents.{IsFound, log_area}
 use Rattle.store_writer.specs.Contents.{HalfHas}
 use Rattle.store_writer.specs.Writer.{IsOpenedAt, longer, AreNext}
 
-pub prefix : (run : Run) (opening : Given) (n : ℕ) → run.cells ≡ opening_cells opening → run.last ≡ opening.last → run.last ≤ n → n ≤ end_of run → recovered (cells_at run n) n ≡ given_after opening (records_to run n)
+pub prefix : (run : Run) (opening : Given) (n : ℕ) → run.cells ≡ opening_cells opening → run.last ≡ opening.last → run.last ≤ n → n ≤ end_of run
+    → recovered (cells_at run n) n ≡ given_after opening (records_to run n)
 prefix run opening n cells last low made =
     let size : length (records_to run n) ≡ n - run.last = omega (arith, length-take (n - run.last) run.records) in
     let number : n ≡ opening.last + length (records_to run n) = omega (arith, size, last, low) in
     ap (λ (x : Cells). recovered (cells_after x (records_to run n)) n) cells ∙ ap (recovered (cells_after (opening_cells opening) (records_to run n))) number
 
-module _ (now : History) (halves : HalvesValue) (log : Log) (given : Given) (store : IsStore halves.geometry halves.current now.disk.content) (found : IsFound now.disk.content halves.geometry log given) (all : IsSynced now.disk) (small : given.last ≤ LAST_NUMBER)
-    (placed : (g : GeometryValue) (half : Half) (image : Image) (base : ℕ) (cells : Cells) → HoldsImage g half image base cells → (txn : ℕ) → ArePlaced g.pages 0 (list_of cells.pending txn)) where
+module _ (now : History) (halves : HalvesValue) (log : Log) (given : Given) (store : IsStore halves.geometry halves.current now.disk.content)
+    (found : IsFound now.disk.content halves.geometry log given) (all : IsSynced now.disk) (small : given.last ≤ LAST_NUMBER)
+    (placed : (g : GeometryValue) (half : Half) (image : Image) (base : ℕ) (cells : Cells) → HoldsImage g half image base cells → (txn : ℕ)
+    → ArePlaced g.pages 0 (list_of cells.pending txn)) where
   abbrev g : GeometryValue
   g = halves.geometry
 
@@ -68,14 +71,17 @@ module _ (now : History) (halves : HalvesValue) (log : Log) (given : Given) (sto
       groups = found.gives.holds.groups;
       stands = found.stands;
       all_synced = all;
-      placed = following_placed g.pages found.gives.base found.gives.cells found.gives.records found.gives.holds.following (placed g found.gives.half image found.gives.base found.gives.cells found.gives.holds.imaged);
+      placed = following_placed g.pages found.gives.base found.gives.cells found.gives.records found.gives.holds.following
+          (placed g found.gives.half image found.gives.base found.gives.cells found.gives.holds.imaged);
       small = small;
     },
   )
 
 -- over an image with an empty log
-pub over_image : (now : History) (halves : HalvesValue) (log : Log) (last : ℕ) (cells : Cells) → IsStore halves.geometry halves.current now.disk.content → HoldsImage halves.geometry halves.current now.disk.content last cells
-    → log.area ≡ log_area halves.geometry halves.current → Stands log now.disk.content [] → IsSynced now.disk → last ≤ LAST_NUMBER → ((txn : ℕ) → ArePlaced halves.geometry.pages 0 (list_of cells.pending txn))
+pub over_image : (now : History) (halves : HalvesValue) (log : Log) (last : ℕ) (cells : Cells) → IsStore halves.geometry halves.current now.disk.content
+    → HoldsImage halves.geometry halves.current now.disk.content last cells
+    → log.area ≡ log_area halves.geometry halves.current → Stands log now.disk.content [] → IsSynced now.disk → last ≤ LAST_NUMBER
+    → ((txn : ℕ) → ArePlaced halves.geometry.pages 0 (list_of cells.pending txn))
     → IsOpenedAt now halves log last cells
 over_image now halves log last cells store imaged area stands all small placed = record {
   store = store;
@@ -102,7 +108,8 @@ over_image now halves log last cells store imaged area stands all small placed =
 all_records : (run : Run) → records_to run (end_of run) ≡ run.records
 all_records run = ap (λ n. take n run.records) (let e : end_of run - run.last ≡ length run.records = omega arith in e) ∙ take-length run.records
 
-pub longer_run : (run : Run) (more : List RecordValue) → IsRun run → AreFollowing run.geometry.pages (end_of run) (cells_at run (end_of run)) more → IsRun (longer run more)
+pub longer_run : (run : Run) (more : List RecordValue) → IsRun run → AreFollowing run.geometry.pages (end_of run) (cells_at run (end_of run)) more
+    → IsRun (longer run more)
 longer_run run more is follow = record {
   following = following-append run.geometry.pages run.last run.cells run.records more is.following
       (subst (λ (rs : List RecordValue). AreFollowing run.geometry.pages (end_of run) (cells_after run.cells rs) more) (all_records run) follow);
@@ -114,7 +121,8 @@ next run more small = record {
   made = omega (arith, length-append run.records more);
   small = small;
   records-are = sym (
-      ap (λ n. take (end_of run + length more - end_of run) (drop n (run.records ++ more))) (let e : end_of run - run.last ≡ length run.records = omega arith in e)
+      ap (λ n. take (end_of run + length more - end_of run) (drop n (run.records ++ more))) (let e : end_of run - run.last ≡ length run.records = omega arith in
+      e)
       ∙ ap (take (end_of run + length more - end_of run)) (drop-append_seam run.records more)
       ∙ ap (λ n. take n more) (let e : end_of run + length more - end_of run ≡ length more = omega arith in e)
       ∙ take-length more);

@@ -51,7 +51,8 @@ module _ (g : GeometryValue) (half : Half) (image c : Image) where
     }
 
     -- the image is the same, and the log has one group more
-    pub one_group_more : (group : List RecordValue) → AreFollowing g.pages last cells group → HoldsGroups (log_area g half) c (has.groups ++ group ∷ []) → HalfHas g half c (last + length group) (cells_after cells group)
+    pub one_group_more : (group : List RecordValue) → AreFollowing g.pages last cells group → HoldsGroups (log_area g half) c (has.groups ++ group ∷ [])
+        → HalfHas g half c (last + length group) (cells_after cells group)
     one_group_more group follow held = record {
       base = has.base;
       copied = has.copied;
@@ -60,17 +61,22 @@ module _ (g : GeometryValue) (half : Half) (image c : Image) where
       held = held;
       following = subst (AreFollowing g.pages has.base has.copied) (sym (records_of_one_more has.groups group))
           (following-append g.pages has.base has.copied (records_of has.groups) group has.following
-          (subst (λ n. AreFollowing g.pages n (cells_after has.copied (records_of has.groups)) group) has.last-is (subst (λ (x : Cells). AreFollowing g.pages last x group) has.cells-are follow)));
+          (subst (λ n. AreFollowing g.pages n (cells_after has.copied (records_of has.groups)) group) has.last-is
+          (subst (λ (x : Cells). AreFollowing g.pages last x group) has.cells-are follow)));
       last-is = omega (arith, has.last-is, ap length (records_of_one_more has.groups group), length-append (records_of has.groups) group);
-      cells-are = ap (λ (x : Cells). cells_after x group) has.cells-are ∙ sym (cells_after-append has.copied (records_of has.groups) group) ∙ ap (cells_after has.copied) (sym (records_of_one_more has.groups group));
+      cells-are = ap (λ (x : Cells). cells_after x group) has.cells-are ∙ sym (cells_after-append has.copied (records_of has.groups) group)
+          ∙ ap (cells_after has.copied) (sym (records_of_one_more has.groups group));
     }
 
 -- what a half has is told by its sectors
-pub half_apart : (g : GeometryValue) (half : Half) (image c : Image) → SameIn (InHalf g half) image c → (last : ℕ) (cells : Cells) → HalfHas g half image last cells → HalfHas g half c last cells
+pub half_apart : (g : GeometryValue) (half : Half) (image c : Image) → SameIn (InHalf g half) image c → (last : ℕ) (cells : Cells)
+    → HalfHas g half image last cells → HalfHas g half c last cells
 half_apart g half image c same last cells has =
     same_groups g half image c last cells has (record { sectors = same.sectors; same = λ n inside. same.same n (image_inside g half n inside) })
     (told_by_its_sectors (log_area g half) image c has.groups same.sectors (λ n inside. same.same n (log_inside g half n inside)) has.held)
 
 -- a store is told by the sectors in front of its halves, whatever is written into one
-pub store_apart : (g : GeometryValue) (current half : Half) (image c : Image) → SameOutside (InHalf g half) image c → IsStore g current image → IsStore g current c
-store_apart g current half image c same = store_in_front g current image c same.sectors (λ n few. same.same n (λ inside. omega (arith, few, behind_front g half n inside)))
+pub store_apart : (g : GeometryValue) (current half : Half) (image c : Image) → SameOutside (InHalf g half) image c → IsStore g current image
+    → IsStore g current c
+store_apart g current half image c same = store_in_front g current image c same.sectors (λ n few.
+    same.same n (λ inside. omega (arith, few, behind_front g half n inside)))

@@ -32,28 +32,35 @@ image_or_not g half n = ⊎_elim
     (λ high. ⊎_elim (λ below. inl (high, below)) (λ past. inr (λ is. omega (arith, past, is.1))) (cases_lt n (log_first g half)))
     (cases_lt n (header_sector g half))
 
-module _ (g : GeometryValue) (half : Half) (old mid : History) (area : Area) (area_is : area ≡ log_area g half) (loose : (n : ℕ) → old.disk.unsynced n ≡ true → InHalfImage g half n) where
+module _ (g : GeometryValue) (half : Half) (old mid : History) (area : Area) (area_is : area ≡ log_area g half) (loose : (n : ℕ) → old.disk.unsynced n ≡ true
+    → InHalfImage g half n) where
   gate_in_half : (n : ℕ) → IsGate area n → InHalf g half n
   gate_in_half n (slot, below, is) = log_inside g half n (subst (λ (a : Area). InArea a n) area_is (omega (arith, is), omega (arith, is, below)))
 
   -- closing the gates
-  pub closing : LeavesOnly old mid (SameOutside (λ n. IsGate area n ⊎ (old.disk.unsynced n ≡ true)) old.disk.content) → LeavesOnly old mid (SameOutside (InHalf g half) old.disk.content)
-  closing run = weaker old mid _ _ (λ c same. same_outside_wider _ (InHalf g half) old.disk.content c (λ n either. ⊎_elim (λ gate. gate_in_half n gate) (λ unsynced. image_inside g half n (loose n unsynced)) either) same) run
+  pub closing : LeavesOnly old mid (SameOutside (λ n. IsGate area n ⊎ (old.disk.unsynced n ≡ true)) old.disk.content)
+      → LeavesOnly old mid (SameOutside (InHalf g half) old.disk.content)
+  closing run = weaker old mid _ _ (λ c same. same_outside_wider _ (InHalf g half) old.disk.content c (λ n either.
+      ⊎_elim (λ gate. gate_in_half n gate) (λ unsynced. image_inside g half n (loose n unsynced)) either) same) run
 
   -- the flip sector is no gate
-  pub still_named : (current : Half) → SameOutside (IsGate area) old.disk.content mid.disk.content → Names (sector old.disk.content 1) current → Names (sector mid.disk.content 1) current
-  still_named current same named = subst (λ (b : List ℕ). Names b current) (sym (same.same 1 (λ gate. omega (arith, behind_front g half 1 (gate_in_half 1 gate))))) named
+  pub still_named : (current : Half) → SameOutside (IsGate area) old.disk.content mid.disk.content → Names (sector old.disk.content 1) current
+      → Names (sector mid.disk.content 1) current
+  still_named current same named = subst (λ (b : List ℕ). Names b current)
+      (sym (same.same 1 (λ gate. omega (arith, behind_front g half 1 (gate_in_half 1 gate))))) named
 
   pub closed_outside : SameOutside (IsGate area) old.disk.content mid.disk.content → SameOutside (InHalf g half) old.disk.content mid.disk.content
   closed_outside same = same_outside_wider (IsGate area) (InHalf g half) old.disk.content mid.disk.content gate_in_half same
 
   -- and then an image is written
-  module _ (new : History) (closed : LeavesOnly old mid (SameOutside (λ n. IsGate area n ⊎ (old.disk.unsynced n ≡ true)) old.disk.content)) (gates : SameOutside (IsGate area) old.disk.content mid.disk.content)
+  module _ (new : History) (closed : LeavesOnly old mid (SameOutside (λ n. IsGate area n ⊎ (old.disk.unsynced n ≡ true)) old.disk.content))
+      (gates : SameOutside (IsGate area) old.disk.content mid.disk.content)
       (all : IsSynced mid.disk) (written : RunsWithin (λ n. InHalfImage g half n ⊎ (mid.disk.unsynced n ≡ true)) mid.disk.content mid new) where
     in_the_image : (n : ℕ) → InHalfImage g half n ⊎ (mid.disk.unsynced n ≡ true) → InHalfImage g half n
     in_the_image n either = ⊎_elim (λ inside. inside) (λ unsynced. absurd (false≢true (sym (all n) ∙ unsynced))) either
 
-    then_image : (c : Image) → SameOutside (λ n. InHalfImage g half n ⊎ (mid.disk.unsynced n ≡ true)) mid.disk.content c → SameOutside (InHalf g half) old.disk.content c
+    then_image : (c : Image) → SameOutside (λ n. InHalfImage g half n ⊎ (mid.disk.unsynced n ≡ true)) mid.disk.content c
+        → SameOutside (InHalf g half) old.disk.content c
     then_image c same = same_outside_then (InHalf g half) old.disk.content mid.disk.content c (closed_outside gates)
         (same_outside_wider _ (InHalf g half) mid.disk.content c (λ n either. image_inside g half n (in_the_image n either)) same)
 
@@ -72,18 +79,21 @@ module _ (g : GeometryValue) (half : Half) (old mid : History) (area : Area) (ar
     pub imaged_log : (log : Log) (groups : List (List RecordValue)) → log.area ≡ area → Stands log mid.disk.content groups → Stands log new.disk.content groups
     imaged_log log groups same stands = record {
       held = told_by_its_sectors log.area mid.disk.content new.disk.content groups written.now.content.sectors
-          (λ n inside. written.now.content.same n (λ either. let there = subst (λ (a : Area). InArea a n) (same ∙ area_is) inside in omega (arith, there.0, (in_the_image n either).1))) stands.held;
+          (λ n inside. written.now.content.same n (λ either. let there = subst (λ (a : Area). InArea a n) (same ∙ area_is) inside in
+          omega (arith, there.0, (in_the_image n either).1))) stands.held;
       counted = stands.counted;
     }
 
 -- ---- an image under way is written
 
 -- one part is written after another
-pub runs_then : (P : ℕ → Type 0) (old mid new : History) → RunsWithin (λ n. P n ⊎ (old.disk.unsynced n ≡ true)) old.disk.content old mid → RunsWithin (λ n. P n ⊎ (mid.disk.unsynced n ≡ true)) mid.disk.content mid new
+pub runs_then : (P : ℕ → Type 0) (old mid new : History) → RunsWithin (λ n. P n ⊎ (old.disk.unsynced n ≡ true)) old.disk.content old mid
+    → RunsWithin (λ n. P n ⊎ (mid.disk.unsynced n ≡ true)) mid.disk.content mid new
     → RunsWithin (λ n. P n ⊎ (old.disk.unsynced n ≡ true)) old.disk.content old new
 runs_then P old mid new first second = record {
   now = record { content = outside_then new.disk.content second.now.content; synced = λ k out. second.now.synced k (apart k out) };
-  run = joined old mid new (SameOutside S old.disk.content) first.run (weaker mid new (SameOutside (λ n. P n ⊎ (mid.disk.unsynced n ≡ true)) mid.disk.content) (SameOutside S old.disk.content) outside_then second.run);
+  run = joined old mid new (SameOutside S old.disk.content) first.run
+      (weaker mid new (SameOutside (λ n. P n ⊎ (mid.disk.unsynced n ≡ true)) mid.disk.content) (SameOutside S old.disk.content) outside_then second.run);
 }
   where
     S : ℕ → Type 0
@@ -92,14 +102,21 @@ runs_then P old mid new first second = record {
     apart : (k : ℕ) → ¬ (P k ⊎ (old.disk.unsynced k ≡ true)) → ¬ (P k ⊎ (mid.disk.unsynced k ≡ true))
     apart k out either = ⊎_elim (λ is. out (inl is)) (λ is. false≢true (sym (first.now.synced k out) ∙ is)) either
 
-    outside_then : (c : Image) → SameOutside (λ n. P n ⊎ (mid.disk.unsynced n ≡ true)) mid.disk.content c → SameOutside (λ n. P n ⊎ (old.disk.unsynced n ≡ true)) old.disk.content c
-    outside_then c same = record { sectors = same.sectors ∙ first.now.content.sectors; same = λ k out. same.same k (apart k out) ∙ first.now.content.same k out }
+    outside_then : (c : Image) → SameOutside (λ n. P n ⊎ (mid.disk.unsynced n ≡ true)) mid.disk.content c
+        → SameOutside (λ n. P n ⊎ (old.disk.unsynced n ≡ true)) old.disk.content c
+    outside_then c same = record {
+      sectors = same.sectors ∙ first.now.content.sectors;
+      same = λ k out. same.same k (apart k out)
+          ∙ first.now.content.same k out;
+    }
 
-module _ (g : GeometryValue) (half : Half) (old new : History) (loose : (n : ℕ) → old.disk.unsynced n ≡ true → InHalfImage g half n) (written : RunsWithin (λ n. InHalfImage g half n ⊎ (old.disk.unsynced n ≡ true)) old.disk.content old new) where
+module _ (g : GeometryValue) (half : Half) (old new : History) (loose : (n : ℕ) → old.disk.unsynced n ≡ true
+    → InHalfImage g half n) (written : RunsWithin (λ n. InHalfImage g half n ⊎ (old.disk.unsynced n ≡ true)) old.disk.content old new) where
   in_image : (n : ℕ) → InHalfImage g half n ⊎ (old.disk.unsynced n ≡ true) → InHalfImage g half n
   in_image n either = ⊎_elim (λ inside. inside) (λ unsynced. loose n unsynced) either
 
-  in_half : (c : Image) → SameOutside (λ n. InHalfImage g half n ⊎ (old.disk.unsynced n ≡ true)) old.disk.content c → SameOutside (InHalf g half) old.disk.content c
+  in_half : (c : Image) → SameOutside (λ n. InHalfImage g half n ⊎ (old.disk.unsynced n ≡ true)) old.disk.content c
+      → SameOutside (InHalf g half) old.disk.content c
   in_half c same = same_outside_wider _ (InHalf g half) old.disk.content c (λ n either. image_inside g half n (in_image n either)) same
 
   pub writing : LeavesOnly old new (SameOutside (InHalf g half) old.disk.content)
@@ -114,9 +131,11 @@ module _ (g : GeometryValue) (half : Half) (old new : History) (loose : (n : ℕ
       (λ out. absurd (false≢true (sym (written.now.synced n (λ either. out (in_image n either))) ∙ unsynced)))
       (image_or_not g half n)
 
-  pub written_log : (log : Log) (groups : List (List RecordValue)) → log.area ≡ log_area g half → Stands log old.disk.content groups → Stands log new.disk.content groups
+  pub written_log : (log : Log) (groups : List (List RecordValue)) → log.area ≡ log_area g half → Stands log old.disk.content groups
+      → Stands log new.disk.content groups
   written_log log groups area_is stands = record {
     held = told_by_its_sectors log.area old.disk.content new.disk.content groups written.now.content.sectors
-        (λ n inside. written.now.content.same n (λ either. let there = subst (λ (a : Area). InArea a n) area_is inside in omega (arith, there.0, (in_image n either).1))) stands.held;
+        (λ n inside. written.now.content.same n (λ either. let there = subst (λ (a : Area). InArea a n) area_is inside in
+        omega (arith, there.0, (in_image n either).1))) stands.held;
     counted = stands.counted;
   }

@@ -10,7 +10,8 @@ use Rattle.image_model.specs.Run.{Run, cells_at}
 use Rattle.store_reader.specs.Contents.{Gives}
 use Rattle.store_writer.specs.Contents.{StoreHas, LeftBy}
 
-pub gives : (g : GeometryValue) (image : Image) (last : ℕ) (cells : Cells) → StoreHas g image last cells → len (recovered cells last).entries ≤ g.entries → Gives image g (recovered cells last)
+pub gives : (g : GeometryValue) (image : Image) (last : ℕ) (cells : Cells) → StoreHas g image last cells → len (recovered cells last).entries ≤ g.entries
+    → Gives image g (recovered cells last)
 gives g image last cells store room =
     let has = store.has in
     record {
@@ -23,5 +24,7 @@ gives g image last cells store room =
       room = room;
     }
 
-pub left_by : (run : Run) (floor handed number : ℕ) (image : Image) → floor ≤ number → number ≤ handed → StoreHas run.geometry image number (cells_at run number) → LeftBy run floor handed image
-left_by run floor handed number image least most has = record { number = number; least = least; most = most; has = has; gives = gives run.geometry image number (cells_at run number) has }
+pub left_by : (run : Run) (floor handed number : ℕ) (image : Image) → floor ≤ number → number ≤ handed
+    → StoreHas run.geometry image number (cells_at run number) → LeftBy run floor handed image
+left_by run floor handed number image least most has =
+    record { number = number; least = least; most = most; has = has; gives = gives run.geometry image number (cells_at run number) has }

@@ -16,7 +16,8 @@ use Rattle.store_writer.specs.Writer.{IsWriter, HasAppended, InLogs, WritesLogsA
 use Rattle.store_writer.proofs.Writing.{stood}
 
 -- a group was added to the current half's log, or a part of it
-module _ {D M : Type 0} (history : D → History) (run : Run) (handed : ℕ) (old : Writer D M) (is : IsWriter history run handed old) (sound : old.failed ≡ false) (room : old.log.open_slots ≢ old.log.area.slots) where
+module _ {D M : Type 0} (history : D → History) (run : Run) (handed : ℕ) (old : Writer D M) (is : IsWriter history run handed old) (sound : old.failed ≡ false)
+    (room : old.log.open_slots ≢ old.log.area.slots) where
   abbrev before : Disk
   before = (history old.device).disk
 
@@ -28,14 +29,17 @@ module _ {D M : Type 0} (history : D → History) (run : Run) (handed : ℕ) (ol
       (subst (λ (a : Area). InArea a n) (stood history run handed old is sound).area-is (omega (arith, slot.0), omega (arith, slot.1, below))))
 
   pub appended_around : (new : Writer D M) (group : List RecordValue) → new.halves ≡ old.halves → new.log.area ≡ old.log.area → new.image ≡ old.image
-      → SameOutside (InSlot old.log.area old.log.open_slots) before.content (history new.device).disk.content → LeavesOnly (history old.device) (history new.device) (IsAppended old.log before group) → WritesLogsAlone history old new
+      → SameOutside (InSlot old.log.area old.log.open_slots) before.content (history new.device).disk.content
+      → LeavesOnly (history old.device) (history new.device) (IsAppended old.log before group) → WritesLogsAlone history old new
   appended_around new group halves area image outside any_moment = record {
     halves-are = halves;
     area-is = area;
     none-begun = λ none. image ∙ none;
     now = same_outside_wider (InSlot old.log.area old.log.open_slots) (InLogs old) before.content (history new.device).disk.content in_log outside;
-    images = weaker (history old.device) (history new.device) (IsAppended old.log before group) (SameOutside (λ n. InLogs old n ⊎ (before.unsynced n ≡ true)) before.content)
-        (λ c appended. same_outside_wider (λ n. InSlot old.log.area old.log.open_slots n ⊎ (before.unsynced n ≡ true)) (λ n. InLogs old n ⊎ (before.unsynced n ≡ true)) before.content c
+    images = weaker (history old.device) (history new.device) (IsAppended old.log before group)
+        (SameOutside (λ n. InLogs old n ⊎ (before.unsynced n ≡ true)) before.content)
+        (λ c appended. same_outside_wider (λ n. InSlot old.log.area old.log.open_slots n ⊎ (before.unsynced n ≡ true)) (λ n. InLogs old n
+        ⊎ (before.unsynced n ≡ true)) before.content c
         (λ n either. ⊎_elim (λ slot. inl (in_log n slot)) (λ loose. inr loose) either) appended.outside) any_moment;
   }
 
@@ -44,7 +48,8 @@ module _ {D M : Type 0} (history : D → History) (run : Run) (handed count : �
   abbrev here : Disk
   here = (history w.device).disk
 
-  in_new_log : (n : ℕ) (new : Option NewImage) → w.image ≡ new → IfSome new (IsUnderway run (other w.halves.current) here.content w.synced) → InNewLog new n → InLogs w n
+  in_new_log : (n : ℕ) (new : Option NewImage) → w.image ≡ new → IfSome new (IsUnderway run (other w.halves.current) here.content w.synced) → InNewLog new n
+      → InLogs w n
   in_new_log n None there underway inside = absurd inside
   in_new_log n (Some new) there underway inside = inr (
     (λ none. absurd (let never : Some new ≡ None = sym there ∙ none in cc never)),
@@ -55,12 +60,15 @@ module _ {D M : Type 0} (history : D → History) (run : Run) (handed count : �
   in_logs n inside = in_new_log n w.image refl is.image inside
 
   pub carried_around : (new : Writer D M) → new.halves ≡ w.halves → new.log ≡ w.log → (w.image ≡ None → new.image ≡ None)
-      → SameOutside (InNewLog w.image) here.content (history new.device).disk.content → LeavesOnly (history w.device) (history new.device) (SameOutside (InNewLog w.image) here.content) → WritesLogsAlone history w new
+      → SameOutside (InNewLog w.image) here.content (history new.device).disk.content
+      → LeavesOnly (history w.device) (history new.device) (SameOutside (InNewLog w.image) here.content) → WritesLogsAlone history w new
   carried_around new halves log image outside any_moment = record {
     halves-are = halves;
     area-is = ap (λ l. l.area) log;
     none-begun = image;
     now = same_outside_wider (InNewLog w.image) (InLogs w) here.content (history new.device).disk.content in_logs outside;
-    images = weaker (history w.device) (history new.device) (SameOutside (InNewLog w.image) here.content) (SameOutside (λ n. InLogs w n ⊎ (here.unsynced n ≡ true)) here.content)
-        (λ c same. same_outside_wider (InNewLog w.image) (λ n. InLogs w n ⊎ (here.unsynced n ≡ true)) here.content c (λ n inside. inl (in_logs n inside)) same) any_moment;
+    images = weaker (history w.device) (history new.device) (SameOutside (InNewLog w.image) here.content)
+        (SameOutside (λ n. InLogs w n ⊎ (here.unsynced n ≡ true)) here.content)
+        (λ c same. same_outside_wider (InNewLog w.image) (λ n. InLogs w n ⊎ (here.unsynced n ≡ true)) here.content c (λ n inside. inl (in_logs n inside)) same)
+        any_moment;
   }

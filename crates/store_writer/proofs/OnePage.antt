@@ -17,11 +17,16 @@ get-replicate (suc n) (suc i) x low = get-replicate n i x (omega (arith, low))
 
 module _ {T E : Type 0} (r : Result T E) (first : ℕ) (image : Image) (page : ℕ) (rows : Table) where
   -- of slots that show the table's rows there
-  pub page_is : (slots : List (Option Row)) → ((slot : ℕ) → slot < SLOTS_PER_PAGE → slice_get slots slot ≡ Some (map.get rows (record { page = page; slot = slot })))
+  pub page_is : (slots : List (Option Row)) → ((slot : ℕ) → slot < SLOTS_PER_PAGE
+      → slice_get slots slot ≡ Some (map.get rows (record { page = page; slot = slot })))
       → OnOk r (HasEdges Two (page_bytes image first page))
       → OnOk r ((slot : ℕ) (o : Option Row) → slice_get slots slot ≡ Some o → IsRow (row_bytes image first page slot) o)
       → OnOk r (HasPage first image page rows)
-  page_is slots shown = both r (λ edges written. record { edges = edges; slots = λ slot low. written slot (map.get rows (record { page = page; slot = slot })) (shown slot low) })
+  page_is slots shown = both r (λ edges written. record {
+    edges = edges;
+    slots = λ slot low.
+        written slot (map.get rows (record { page = page; slot = slot })) (shown slot low);
+  })
     where
       both : {P Q S : Type 0} (q : Result T E) → (P → Q → S) → OnOk q P → OnOk q Q → OnOk q S
       both (Ok x) f p o = f p o

@@ -1,5 +1,6 @@
 -- How a writer begins, and goes on where more records are made or handed in.
-use Rattle.std.proofs.Common.{Result, Ok, Err, OnOk, OnErr, ◌≡◌, ℕ, ◌+◌, ◌-◌, ◌≤◌, false, List, [], ◌++◌, length, take, drop, Option, Some, None, IfSome, refl, sym, ap, subst, ◌∙◌, arith, length-append, length-drop}
+use Rattle.std.proofs.Common.{Result, Ok, Err, OnOk, OnErr, ◌≡◌, ℕ, ◌+◌, ◌-◌, ◌≤◌, false, List, [], ◌++◌, length, take, drop, Option, Some, None, IfSome, refl}
+use Rattle.std.proofs.Common.{sym, ap, subst, ◌∙◌, arith, length-append, length-drop}
 use Rattle.std.proofs.lemmas.List.{take-append-le, drop-append-le}
 use Rattle.sector_device.specs.Disk.{Image, IsCrashImage}
 use Rattle.sector_device.specs.History.{History}
@@ -44,52 +45,85 @@ module _ (run : Run) (more : List RecordValue) where
 
   longer_left : (floor handed : ℕ) (image : Image) → handed ≤ end_of run → LeftBy run floor handed image → LeftBy (longer run more) floor handed image
   longer_left floor handed image made left =
-      left_by (longer run more) floor handed left.number image left.least left.most (subst (StoreHas run.geometry image left.number) (sym (same_cells_at left.number (omega (arith, left.most, made)))) left.has)
+      left_by (longer run more) floor handed left.number image left.least left.most
+      (subst (StoreHas run.geometry image left.number) (sym (same_cells_at left.number (omega (arith, left.most, made)))) left.has)
 
-  same_part : (base n : ℕ) → base ≤ end_of run → base + n ≤ end_of run → run.last ≤ base → take n (records_above (longer run more) base) ≡ take n (records_above run base)
+  same_part : (base n : ℕ) → base ≤ end_of run → base + n ≤ end_of run → run.last ≤ base
+      → take n (records_above (longer run more) base) ≡ take n (records_above run base)
   same_part base n low made opened =
       ap (take n) (drop-append-le (base - run.last) run.records more (omega (arith, low)))
       ∙ take-append-le n (drop (base - run.last) run.records) more (omega (arith, made, opened, length-drop (base - run.last) run.records))
 
-  longer_copied : (base to : ℕ) (copied : Cells) → run.last ≤ base → base ≤ to → to ≤ end_of run → IsCopiedFrom run base to copied → IsCopiedFrom (longer run more) base to copied
+  longer_copied : (base to : ℕ) (copied : Cells) → run.last ≤ base → base ≤ to → to ≤ end_of run → IsCopiedFrom run base to copied
+      → IsCopiedFrom (longer run more) base to copied
   longer_copied base to copied opened rise made is =
       let low : base ≤ end_of run = omega (arith, rise, made) in
       let same = same_cells_at base low in
       record {
         pending = is.pending ∙ sym (ap (λ (x : Cells). x.pending) same);
         life = is.life ∙ sym (ap (λ (x : Cells). x.life) same);
-        rows = λ q. let (n, until, was) = is.rows q in (n, until, was ∙ sym (ap (λ (x : Cells). map.get (cells_after x (take n (records_above (longer run more) base))).rows q) same ∙ ap (λ (rs : List RecordValue). map.get (cells_after (cells_at run base) rs).rows q) (same_part base n low (omega (arith, until, rise, made)) opened)));
-        entries = λ p. let (n, until, was) = is.entries p in (n, until, was ∙ sym (ap (λ (x : Cells). map.get (cells_after x (take n (records_above (longer run more) base))).entries p) same ∙ ap (λ (rs : List RecordValue). map.get (cells_after (cells_at run base) rs).entries p) (same_part base n low (omega (arith, until, rise, made)) opened)));
+        rows = λ q. let (n, until, was) = is.rows q in (
+          n,
+          until,
+          was
+              ∙ sym (ap (λ (x : Cells). map.get (cells_after x (take n (records_above (longer run more) base))).rows q) same
+              ∙ ap (λ (rs : List RecordValue). map.get (cells_after (cells_at run base) rs).rows q)
+              (same_part base n low (omega (arith, until, rise, made)) opened)),
+        );
+        entries = λ p. let (n, until, was) = is.entries p in (
+          n,
+          until,
+          was ∙ sym (ap (λ (x : Cells). map.get (cells_after x (take n (records_above (longer run more) base))).entries p) same
+              ∙ ap (λ (rs : List RecordValue). map.get (cells_after (cells_at run base) rs).entries p)
+              (same_part base n low (omega (arith, until, rise, made)) opened)),
+        );
       }
 
-  longer_partly : (base to pages : ℕ) (highest : Option Pair) (rows : Table) (entries : Index) → run.last ≤ base → base ≤ to → to ≤ end_of run → IsPartlyCopied (cells_at run base) (records_above run base) (to - base) pages highest rows entries
+  longer_partly : (base to pages : ℕ) (highest : Option Pair) (rows : Table) (entries : Index) → run.last ≤ base → base ≤ to → to ≤ end_of run
+      → IsPartlyCopied (cells_at run base) (records_above run base) (to - base) pages highest rows entries
       → IsPartlyCopied (cells_at (longer run more) base) (records_above (longer run more) base) (to - base) pages highest rows entries
   longer_partly base to pages highest rows entries opened rise made is =
       let low : base ≤ end_of run = omega (arith, rise, made) in
       let same = same_cells_at base low in
       record {
-        rows-were = λ q below. let (n, until, was) = is.rows-were q below in (n, until, was ∙ sym (ap (λ (x : Cells). map.get (cells_after x (take n (records_above (longer run more) base))).rows q) same ∙ ap (λ (rs : List RecordValue). map.get (cells_after (cells_at run base) rs).rows q) (same_part base n low (omega (arith, until, rise, made)) opened)));
+        rows-were = λ q below. let (n, until, was) = is.rows-were q below in (
+          n,
+          until,
+          was ∙ sym (ap (λ (x : Cells). map.get (cells_after x (take n (records_above (longer run more) base))).rows q) same
+              ∙ ap (λ (rs : List RecordValue). map.get (cells_after (cells_at run base) rs).rows q)
+              (same_part base n low (omega (arith, until, rise, made)) opened)),
+        );
         rows-rest = is.rows-rest;
-        entries-were = λ p up. let (n, until, was) = is.entries-were p up in (n, until, was ∙ sym (ap (λ (x : Cells). map.get (cells_after x (take n (records_above (longer run more) base))).entries p) same ∙ ap (λ (rs : List RecordValue). map.get (cells_after (cells_at run base) rs).entries p) (same_part base n low (omega (arith, until, rise, made)) opened)));
+        entries-were = λ p up. let (n, until, was) = is.entries-were p up in (
+          n,
+          until,
+          was ∙ sym (ap (λ (x : Cells). map.get (cells_after x (take n (records_above (longer run more) base))).entries p) same
+              ∙ ap (λ (rs : List RecordValue). map.get (cells_after (cells_at run base) rs).entries p)
+              (same_part base n low (omega (arith, until, rise, made)) opened)),
+        );
         entries-rest = is.entries-rest;
       }
 
-  longer_content : (half : Half) (image : Image) (base to : ℕ) (stage : Stage) → run.last ≤ base → base ≤ to → to ≤ end_of run → IsContent run half image base to stage → IsContent (longer run more) half image base to stage
-  longer_content half image base to Whole opened rise made is = record { copied = is.copied; imaged = is.imaged; copies = longer_copied base to is.copied opened rise made is.copies }
+  longer_content : (half : Half) (image : Image) (base to : ℕ) (stage : Stage) → run.last ≤ base → base ≤ to → to ≤ end_of run
+      → IsContent run half image base to stage → IsContent (longer run more) half image base to stage
+  longer_content half image base to Whole opened rise made is =
+      record { copied = is.copied; imaged = is.imaged; copies = longer_copied base to is.copied opened rise made is.copies }
   longer_content half image base to (Partly pages count highest life) opened rise made is =
       let same = same_cells_at base (omega (arith, rise, made)) in
       record {
         rows = is.rows;
         entries = is.entries;
         copied = longer_partly base to pages highest is.rows is.entries opened rise made is.copied;
-        part = subst (λ (x : Cells). IsImagePart run.geometry (header_sector run.geometry half) image pages (record x { rows = is.rows; entries = is.entries })) (sym same) is.part;
+        part = subst (λ (x : Cells). IsImagePart run.geometry (header_sector run.geometry half) image pages (record x { rows = is.rows; entries = is.entries }))
+            (sym same) is.part;
         life-is = is.life-is ∙ sym (ap (λ (x : Cells). x.life) same);
         inside = subst (AreInside run.geometry.pages) (sym same) is.inside;
         counted = is.counted;
         full = is.full;
       }
 
-  longer_underway : (half : Half) (image : Image) (synced : ℕ) (new : NewImage) → synced ≤ end_of run → IsUnderway run half image synced new → IsUnderway (longer run more) half image synced new
+  longer_underway : (half : Half) (image : Image) (synced : ℕ) (new : NewImage) → synced ≤ end_of run → IsUnderway run half image synced new
+      → IsUnderway (longer run more) half image synced new
   longer_underway half image synced new made is = record {
     low = is.low;
     rise = is.rise;
@@ -101,7 +135,8 @@ module _ (run : Run) (more : List RecordValue) where
     carried = is.carried ∙ sym (same_between new.base (reach new synced) is.low (omega (arith, is.rise, is.made)) (omega (arith, is.rise, is.made, made)));
   }
 
-  if_underway : (half : Half) (image : Image) (synced : ℕ) (new : Option NewImage) → synced ≤ end_of run → IfSome new (IsUnderway run half image synced) → IfSome new (IsUnderway (longer run more) half image synced)
+  if_underway : (half : Half) (image : Image) (synced : ℕ) (new : Option NewImage) → synced ≤ end_of run → IfSome new (IsUnderway run half image synced)
+      → IfSome new (IsUnderway (longer run more) half image synced)
   if_underway half image synced None made is = is
   if_underway half image synced (Some new) made is = longer_underway half image synced new made is
 
@@ -119,7 +154,8 @@ module _ (run : Run) (more : List RecordValue) where
           let stood = is.holds sound in
           record {
             store = stood.store;
-            has = subst (HalfHas run.geometry w.halves.current (history w.device).disk.content w.synced) (sym (same_cells_at w.synced (omega (arith, is.reached, is.made)))) stood.has;
+            has = subst (HalfHas run.geometry w.halves.current (history w.device).disk.content w.synced)
+                (sym (same_cells_at w.synced (omega (arith, is.reached, is.made)))) stood.has;
             area-is = stood.area-is;
             groups = stood.groups;
             stands = stood.stands;
@@ -132,7 +168,8 @@ module _ (run : Run) (more : List RecordValue) where
 -- ---- records are handed in
 
 module _ {D M : Type 0} (history : D → History) (run : Run) (handed : ℕ) (old : Writer D M) (is : IsWriter history run handed old) where
-  pub handed_writer : (new : Writer D M) (records : List RecordValue) → new.device ≡ old.device → new.halves ≡ old.halves → new.synced ≡ old.synced → (new.failed ≡ false → StandsFor history run new)
+  pub handed_writer : (new : Writer D M) (records : List RecordValue) → new.device ≡ old.device → new.halves ≡ old.halves → new.synced ≡ old.synced
+      → (new.failed ≡ false → StandsFor history run new)
       → new.waiting.items ≡ old.waiting.items ++ records → AreNext run handed records → IsWriter history run (handed + length records) new
   handed_writer new records d h s stands waits next = record {
     run-is = is.run-is;
@@ -141,8 +178,10 @@ module _ {D M : Type 0} (history : D → History) (run : Run) (handed : ℕ) (ol
     reached = omega (arith, is.reached, s);
     made = next.made;
     small = next.small;
-    waits = waits ∙ ap (λ (t : List RecordValue). t ++ records) is.waits ∙ ap (λ (t : List RecordValue). records_between run old.synced handed ++ t) next.records-are
-        ∙ sym (between_split run old.synced handed (handed + length records) is.opened is.reached (omega arith)) ∙ ap (λ k. records_between run k (handed + length records)) (sym s);
+    waits = waits ∙ ap (λ (t : List RecordValue). t ++ records) is.waits
+        ∙ ap (λ (t : List RecordValue). records_between run old.synced handed ++ t) next.records-are
+        ∙ sym (between_split run old.synced handed (handed + length records) is.opened is.reached (omega arith))
+        ∙ ap (λ k. records_between run k (handed + length records)) (sym s);
     holds = stands;
     images = λ image crash.
         let left = is.images image (subst (λ (x : D). IsCrashImage (history x).disk image) d crash) in
@@ -154,7 +193,8 @@ module _ {D M : Type 0} (history : D → History) (run : Run) (handed : ℕ) (ol
 no_record : (n : ℕ) (cells : Cells) → cells ≡ cells_after cells (take (n - n) [])
 no_record n cells = let zero : 0 ≡ n - n = omega arith in ap (λ k. cells_after cells (take k [])) zero
 
-pub opened_writer : {D M : Type 0} (history : D → History) (cells : Cells) (w : Writer D M) → IsOpenedAt (history w.device) w.halves w.log w.synced cells → w.waiting.items ≡ [] → w.image ≡ None
+pub opened_writer : {D M : Type 0} (history : D → History) (cells : Cells) (w : Writer D M) → IsOpenedAt (history w.device) w.halves w.log w.synced cells
+    → w.waiting.items ≡ [] → w.image ≡ None
     → IsWriter history (opened_run w.halves w.synced cells) w.synced w
 opened_writer history cells w is empty none = record {
   run-is = record { following = tt; placed = is.placed };
@@ -171,16 +211,23 @@ opened_writer history cells w is empty none = record {
     groups = is.groups;
     stands = is.stands;
     loose = λ n unsynced. absurd (false≢true (sym (is.all_synced n) ∙ unsynced));
-    image = subst (λ (t : Option NewImage). IfSome t (IsUnderway (opened_run w.halves w.synced cells) (other w.halves.current) (history w.device).disk.content w.synced)) (sym none) tt;
+    image = subst (λ (t : Option NewImage).
+        IfSome t (IsUnderway (opened_run w.halves w.synced cells) (other w.halves.current) (history w.device).disk.content w.synced)) (sym none) tt;
   };
   images = λ image crash.
       let same : image ≡ (history w.device).disk.content = crash_synced (history w.device).disk image is.all_synced crash in
-      subst (LeftBy (opened_run w.halves w.synced cells) w.synced w.synced) (sym same) (left_by (opened_run w.halves w.synced cells) w.synced w.synced w.synced (history w.device).disk.content (omega arith) (omega arith)
-      (record { half = w.halves.current; store = is.store; has = subst (HalfHas w.halves.geometry w.halves.current (history w.device).disk.content w.synced) (no_record w.synced cells) is.has }));
+      subst (LeftBy (opened_run w.halves w.synced cells) w.synced w.synced) (sym same)
+      (left_by (opened_run w.halves w.synced cells) w.synced w.synced w.synced (history w.device).disk.content (omega arith) (omega arith)
+      (record {
+        half = w.halves.current;
+        store = is.store;
+        has = subst (HalfHas w.halves.geometry w.halves.current (history w.device).disk.content w.synced) (no_record w.synced cells) is.has;
+      }));
 }
 
 -- whatever `hand_in` answers, the writer is somewhere
-pub somewhere_then : {D M T E : Type 0} (history : D → History) (run : Run) (handed : ℕ) (records : List RecordValue) (old new : Writer D M) (result : Result T E)
+pub somewhere_then : {D M T E : Type 0} (history : D
+    → History) (run : Run) (handed : ℕ) (records : List RecordValue) (old new : Writer D M) (result : Result T E)
     → OnOk result ((run : Run) (handed : ℕ) → IsWriter history run handed old → AreNext run handed records → IsWriter history run (handed + length records) new)
     → OnErr result ((run : Run) (handed : ℕ) → IsWriter history run handed old → IsWriter history run handed new)
     → IsWriter history run handed old → AreNext run handed records → IsSomewhere history new

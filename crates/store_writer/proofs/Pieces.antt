@@ -16,15 +16,18 @@ use Rattle.store_writer.specs.Places.{IsAtPlace, AreRowsNow, AreEntriesNow}
 use Rattle.store_writer.specs.Writer.{IsWriter, IsPageChunk, IsEntriesChunk}
 use Rattle.store_writer.proofs.Writing.{stood}
 
-module _ {D M : Type 0} (history : D → History) (run : Run) (handed : ℕ) (w : Writer D M) (is : IsWriter history run handed w) (sound : w.failed ≡ false) (small : end_of run ≤ LAST_NUMBER) where
+module _ {D M : Type 0} (history : D → History) (run : Run) (handed : ℕ) (w : Writer D M) (is : IsWriter history run handed w) (sound : w.failed ≡ false)
+    (small : end_of run ≤ LAST_NUMBER) where
   -- the image's last step was made
   later : (i : NewImage) → w.image ≡ Some i → i.number ≤ end_of run
   later i there =
       let under : IsUnderway run (other w.halves.current) (history w.device).disk.content w.synced i =
-      subst (λ (t : Option NewImage). IfSome t (IsUnderway run (other w.halves.current) (history w.device).disk.content w.synced)) there (stood history run handed w is sound).image in
+      subst (λ (t : Option NewImage). IfSome t (IsUnderway run (other w.halves.current) (history w.device).disk.content w.synced)) there
+      (stood history run handed w is sound).image in
       under.made
 
-  pub next_page : (page : ℕ) (rows : Table) → IsAtPlace run.geometry.pages (Some (at.Page page)) w.image → AreRowsNow run page rows → (i : NewImage) → w.image ≡ Some i → IsPageChunk run i (end_of run) page rows
+  pub next_page : (page : ℕ) (rows : Table) → IsAtPlace run.geometry.pages (Some (at.Page page)) w.image → AreRowsNow run page rows → (i : NewImage)
+      → w.image ≡ Some i → IsPageChunk run i (end_of run) page rows
   next_page page rows (below, (j, life, came, from)) now i there = record {
     next = (0, None, life, (let e : i.stage ≡ stage.Partly page 0 None life = cc (there, came, from) in e));
     below = below;
@@ -35,7 +38,8 @@ module _ {D M : Type 0} (history : D → History) (run : Run) (handed : ℕ) (w 
     slots = now.slots;
   }
 
-  pub next_entries : (above : Option Pair) (entries : List (Pair × Mark)) → IsAtPlace run.geometry.pages (Some (at.Entries above)) w.image → AreEntriesNow run above entries → (i : NewImage) → w.image ≡ Some i → IsEntriesChunk run i (end_of run) entries
+  pub next_entries : (above : Option Pair) (entries : List (Pair × Mark)) → IsAtPlace run.geometry.pages (Some (at.Entries above)) w.image
+      → AreEntriesNow run above entries → (i : NewImage) → w.image ≡ Some i → IsEntriesChunk run i (end_of run) entries
   next_entries above entries (j, count, life, came, from) now i there = record {
     more = now.more;
     count = count;

@@ -1,5 +1,6 @@
 -- Where the copying of an image goes on.
-use Rattle.std.proofs.Common.{Result, Ok, IfOk, ◌≡◌, ◌⊎◌, inl, inr, ⊎_elim, ℕ, ◌+◌, ◌-◌, ◌/◌, ◌<◌, true, false, Bool, length, Option, Some, None, refl, sym, ap, subst, ◌∙◌, arith}
+use Rattle.std.proofs.Common.{Result, Ok, IfOk, ◌≡◌, ◌⊎◌, inl, inr, ⊎_elim, ℕ, ◌+◌, ◌-◌, ◌/◌, ◌<◌, true, false, Bool, length, Option, Some, None, refl, sym, ap}
+use Rattle.std.proofs.Common.{subst, ◌∙◌, arith}
 use Rattle.std.specs.Prelude.{nat_lt, if◌then◌else◌, slice_get}
 use Rattle.std.specs.Option.{option_map, option_map_or}
 use Rattle.std.proofs.lemmas.Bool.{ltb-true, ltb-false, cases_lt}
@@ -33,13 +34,15 @@ module _ (pages : ℕ) (there : Option NewImage) (image : NewImage) (there_is : 
       (image, 0, life, there_is, is ∙ ap (λ (n : ℕ). stage.Partly n 0 None life) all)
 
   -- behind a full chunk of entries come those above its last one
-  behind_entries : (count : ℕ) (life : Life) (last : Option (Pair × Mark)) → image.stage ≡ option_map_or (λ e. stage.Partly pages count (Some e.0) life) last stage.Whole
+  behind_entries : (count : ℕ) (life : Life) (last : Option (Pair × Mark))
+      → image.stage ≡ option_map_or (λ e. stage.Partly pages count (Some e.0) life) last stage.Whole
       → IsAtPlace pages (option_map (λ e. at.Entries (Some e.0)) last) there
   behind_entries count life None is = (image, there_is, is)
   behind_entries count life (Some e) is = (image, count, life, there_is, is)
 
 -- an image that took a piece is at the place behind it
-pub placed_behind : {A D M : Type 0} (pages number : ℕ) (piece : Piece A) (old new : Writer D M) (image : NewImage) → 0 < pages → new.image ≡ Some image → HasPiece number piece old image → IsAtPiece pages piece old.image
+pub placed_behind : {A D M : Type 0} (pages number : ℕ) (piece : Piece A) (old new : Writer D M) (image : NewImage) → 0 < pages → new.image ≡ Some image
+    → HasPiece number piece old image → IsAtPiece pages piece old.image
     → IsAtPlace pages (place_behind pages piece) new.image
 placed_behind pages number (Whole cells) old new image some there has came = (image, there, has.2)
 placed_behind pages number (Start life lists) old new image some there has came = (some, (image, life, there, has.2))
@@ -51,12 +54,15 @@ placed_behind pages number (Page page rows) old new image some there (i, count, 
 placed_behind pages number (Entries entries) old new image some there (i, those, count, highest, life, was, at_stage, is) (above, (j, n, began, came, from)) =
     let same : stage.Partly those count highest life ≡ stage.Partly pages n above began = cc (was, came, at_stage, from) in
     let all : those ≡ pages = cc same in
-    let stage_is : image.stage ≡ option_map_or (λ (e : Pair × Mark). stage.Partly those (count + length entries.items) (Some e.0) life) (slice_get entries.items (CHUNK_ENTRIES - 1)) stage.Whole = ap (λ (x : NewImage). x.stage) is in
+    let stage_is : image.stage ≡ option_map_or (λ (e : Pair × Mark). stage.Partly those (count + length entries.items) (Some e.0) life)
+    (slice_get entries.items (CHUNK_ENTRIES - 1)) stage.Whole = ap (λ (x : NewImage). x.stage) is in
     behind_entries pages new.image image there (count + length entries.items) life (slice_get entries.items (CHUNK_ENTRIES - 1))
-    (subst (λ (k : ℕ). image.stage ≡ option_map_or (λ (e : Pair × Mark). stage.Partly k (count + length entries.items) (Some e.0) life) (slice_get entries.items (CHUNK_ENTRIES - 1)) stage.Whole) all stage_is)
+    (subst (λ (k : ℕ). image.stage ≡ option_map_or (λ (e : Pair × Mark). stage.Partly k (count + length entries.items) (Some e.0) life)
+    (slice_get entries.items (CHUNK_ENTRIES - 1)) stage.Whole) all stage_is)
 
 -- so it is where a step answers that it was taken
-pub taken_place : {A D M : Type 0} (pages number : ℕ) (piece : Piece A) (old new : Writer D M) (result : Result StepReply Error) → 0 < pages → IfOk result (λ reply. IsStepReply number piece reply old new) → result ≡ Ok Taken → IsAtPiece pages piece old.image
+pub taken_place : {A D M : Type 0} (pages number : ℕ) (piece : Piece A) (old new : Writer D M) (result : Result StepReply Error) → 0 < pages
+    → IfOk result (λ reply. IsStepReply number piece reply old new) → result ≡ Ok Taken → IsAtPiece pages piece old.image
     → IsAtPlace pages (place_behind pages piece) new.image
 taken_place pages number piece old new result some stepped taken came =
     let (free, (image, kept, has)) = IfOk-at_ok (λ reply. IsStepReply number piece reply old new) taken stepped in
@@ -70,13 +76,17 @@ image_there pages (Some at.Start) image none = absurd none
 image_there pages (Some (at.Page page)) image (_, (i, _, is, _)) = (i, is)
 image_there pages (Some (at.Entries above)) image (i, _, _, is, _) = (i, is)
 
-same_stage : (pages : ℕ) (place : Option CopyPlace) (old new : Option NewImage) (i n : NewImage) → old ≡ Some i → new ≡ Some n → n.stage ≡ i.stage → IsAtPlace pages place old → IsAtPlace pages place new
+same_stage : (pages : ℕ) (place : Option CopyPlace) (old new : Option NewImage) (i n : NewImage) → old ≡ Some i → new ≡ Some n → n.stage ≡ i.stage
+    → IsAtPlace pages place old → IsAtPlace pages place new
 same_stage pages None old new i n was is same (j, came, whole) = (n, is, (let e : n.stage ≡ stage.Whole = cc (was, came, same, whole) in e))
 same_stage pages (Some at.Start) old new i n was is same none = none
-same_stage pages (Some (at.Page page)) old new i n was is same (below, (j, life, came, from)) = (below, (n, life, is, (let e : n.stage ≡ stage.Partly page 0 None life = cc (was, came, same, from) in e)))
-same_stage pages (Some (at.Entries above)) old new i n was is same (j, count, life, came, from) = (n, count, life, is, (let e : n.stage ≡ stage.Partly pages count above life = cc (was, came, same, from) in e))
+same_stage pages (Some (at.Page page)) old new i n was is same (below, (j, life, came, from)) =
+    (below, (n, life, is, (let e : n.stage ≡ stage.Partly page 0 None life = cc (was, came, same, from) in e)))
+same_stage pages (Some (at.Entries above)) old new i n was is same (j, count, life, came, from) =
+    (n, count, life, is, (let e : n.stage ≡ stage.Partly pages count above life = cc (was, came, same, from) in e))
 
-pub kept_place : (pages slots synced count : ℕ) (place : Option CopyPlace) (old new : Option NewImage) → BecomesImage slots synced count old new → IsAtPlace pages place old → (new ≡ None) ⊎ IsAtPlace pages place new
+pub kept_place : (pages slots synced count : ℕ) (place : Option CopyPlace) (old new : Option NewImage) → BecomesImage slots synced count old new
+    → IsAtPlace pages place old → (new ≡ None) ⊎ IsAtPlace pages place new
 kept_place pages slots synced count place old new becomes is =
     let (i, there) = image_there pages place old is in
     ⊎_elim

@@ -15,12 +15,14 @@ use Rattle.store_writer.specs.Writer.{IsPageAnswered, IsStepReply, FillsGroup, I
 -- a log of the same area with one open slot more
 pub log_more : (old new : Log) → new.area ≡ old.area → new.open_slots ≡ old.open_slots + 1 → new ≡ record old { open_slots = old.open_slots + 1 }
 log_more old new area slots =
-    let first : new ≡ record { area = old.area; open_slots = new.open_slots } = ap (λ (a : Area). let l : Log = record { area = a; open_slots = new.open_slots } in l) area in
+    let first : new ≡ record { area = old.area; open_slots = new.open_slots } =
+    ap (λ (a : Area). let l : Log = record { area = a; open_slots = new.open_slots } in l) area in
     first ∙ ap (λ (n : ℕ). let l : Log = record { area = old.area; open_slots = n } in l) slots
 
 module _ {D M : Type 0} (old mid new : Writer D M) (count : ℕ) where
   -- a group was appended, and all that is planned with the image was done
-  pub flushed_more : (result : Result FlushReply Error) → mid.halves ≡ old.halves → mid.waiting.items ≡ old.waiting.items → mid.synced ≡ old.synced → mid.log ≡ record old.log { open_slots = old.log.open_slots + 1 }
+  pub flushed_more : (result : Result FlushReply Error) → mid.halves ≡ old.halves → mid.waiting.items ≡ old.waiting.items → mid.synced ≡ old.synced
+      → mid.log ≡ record old.log { open_slots = old.log.open_slots + 1 }
       → 0 < count → FillsGroup old.waiting.items count
       → IfOk result (λ reply. (reply ≡ Flushed new.synced) × (new.synced ≡ mid.synced + count) × (new.failed ≡ mid.failed))
       → OnOk result ((new.halves ≡ mid.halves) × (new.log ≡ mid.log) × (new.waiting.items ≡ drop count mid.waiting.items))
@@ -40,16 +42,20 @@ module _ {D M : Type 0} (old mid new : Writer D M) (count : ℕ) where
       )
 
   -- a group was appended, and what is planned with the image failed
-  pub failed_behind : (result : Result FlushReply Error) → mid ≡ record old { device = mid.device; log = mid.log } → OnErr result ((mid.image ≢ None) × IsAsBefore mid new) → OnErr result (IsBeforeFlush old new)
+  pub failed_behind : (result : Result FlushReply Error) → mid ≡ record old { device = mid.device; log = mid.log }
+      → OnErr result ((mid.image ≢ None) × IsAsBefore mid new) → OnErr result (IsBeforeFlush old new)
   failed_behind (Ok reply) mid_is failed = tt
   failed_behind (Err e) mid_is (some, is) = record {
-    rest = is ∙ ap (λ (w : Writer D M). record w { device = new.device; failed = new.failed }) mid_is ∙ ap (λ (l : Log). record old { device = new.device; failed = new.failed; log = l }) (sym (ap (λ (w : Writer D M). w.log) is));
+    rest = is ∙ ap (λ (w : Writer D M). record w { device = new.device; failed = new.failed }) mid_is
+        ∙ ap (λ (l : Log). record old { device = new.device; failed = new.failed; log = l }) (sym (ap (λ (w : Writer D M). w.log) is));
     log-is = λ none. absurd (some (ap (λ (w : Writer D M). w.image) mid_is ∙ none));
   }
 
 -- what is answered of a page is answered of the piece that has its rows
-pub page_answered : {A D M : Type 0} (number page : ℕ) (rows : Table) (piece : Piece A) (old new : Writer D M) (result : Result StepReply Error) → piece ≡ Page page rows
+pub page_answered : {A D M : Type 0} (number page : ℕ) (rows : Table) (piece : Piece A) (old new : Writer D M) (result : Result StepReply Error)
+    → piece ≡ Page page rows
     → IfOk result (λ reply. IsPageAnswered number page reply old new) → IfOk result (λ reply. IsStepReply number piece reply old new)
 page_answered {A} number page rows piece old new (Ok Taken) is answered = subst (λ (p : Piece A). IsStepReply number p Taken old new) (sym is) answered
-page_answered {A} number page rows piece old new (Ok StartAgain) is answered = subst (λ (p : Piece A). IsStepReply number p StartAgain old new) (sym is) answered
+page_answered {A} number page rows piece old new (Ok StartAgain) is answered =
+    subst (λ (p : Piece A). IsStepReply number p StartAgain old new) (sym is) answered
 page_answered number page rows piece old new (Err e) is answered = tt

@@ -25,8 +25,10 @@ use Rattle.store_writer.proofs.Left.{left_by}
 use Rattle.store_writer.proofs.Halves.{SameIn, in_from_outside, half_apart, store_apart}
 
 -- an image of one moment, whose log is empty
-pub whole_taken : (run : Run) (half : Half) (image : Image) (synced : ℕ) (new : NewImage) (copied : Cells) → run.last ≤ synced → synced ≤ new.base → new.number ≡ new.base → new.stage ≡ Whole → new.number ≤ end_of run
-    → copied ≡ cells_at run new.base → HoldsImage run.geometry half image new.base copied → new.log.area ≡ log_area run.geometry half → Stands new.log image [] → IsUnderway run half image synced new
+pub whole_taken : (run : Run) (half : Half) (image : Image) (synced : ℕ) (new : NewImage) (copied : Cells) → run.last ≤ synced → synced ≤ new.base
+    → new.number ≡ new.base → new.stage ≡ Whole → new.number ≤ end_of run
+    → copied ≡ cells_at run new.base → HoldsImage run.geometry half image new.base copied → new.log.area ≡ log_area run.geometry half → Stands new.log image []
+    → IsUnderway run half image synced new
 whole_taken run half image synced new copied opened late one whole made is holds area stands = record {
   low = omega (arith, opened, late);
   rise = omega (arith, one);
@@ -42,7 +44,8 @@ whole_taken run half image synced new copied opened late one whole made is holds
   carried = sym (none_between run new.base (reach new synced) (omega (arith, late)));
 }
 
-module _ {D M : Type 0} (history : D → History) (run : Run) (handed : ℕ) (old : Writer D M) (is : IsWriter history run handed old) (sound : old.failed ≡ false) where
+module _ {D M : Type 0} (history : D → History) (run : Run) (handed : ℕ) (old : Writer D M) (is : IsWriter history run handed old)
+    (sound : old.failed ≡ false) where
   abbrev content : Image
   content = (history old.device).disk.content
 
@@ -71,24 +74,30 @@ module _ {D M : Type 0} (history : D → History) (run : Run) (handed : ℕ) (ol
 
     stands_kept : Stands old.log c stand.groups
     stands_kept = record {
-      held = told_by_its_sectors old.log.area content c stand.groups half_kept.sectors (λ n inside. half_kept.same n (log_inside g half n (subst (λ (a : Area). InArea a n) stand.area-is inside))) stand.stands.held;
+      held = told_by_its_sectors old.log.area content c stand.groups half_kept.sectors (λ n inside.
+          half_kept.same n (log_inside g half n (subst (λ (a : Area). InArea a n) stand.area-is inside))) stand.stands.held;
       counted = stand.stands.counted;
     }
 
-  pub leaves_kept : (new : History) → LeavesOnly (history old.device) new (SameOutside (InHalf g (other half)) content) → LeavesOnly (history old.device) new (LeftBy run old.synced handed)
+  pub leaves_kept : (new : History) → LeavesOnly (history old.device) new (SameOutside (InHalf g (other half)) content)
+      → LeavesOnly (history old.device) new (LeftBy run old.synced handed)
   leaves_kept new run_ = weaker (history old.device) new (SameOutside (InHalf g (other half)) content) (LeftBy run old.synced handed) left_kept run_
 
   -- the writer stands as before, with this image
-  pub stands_with : (new : Writer D M) → new.halves ≡ old.halves → new.log ≡ old.log → new.synced ≡ old.synced → SameOutside (InHalf g (other half)) content (history new.device).disk.content
-      → ((n : ℕ) → (history new.device).disk.unsynced n ≡ true → InHalfImage g (other half) n) → IfSome new.image (IsUnderway run (other half) (history new.device).disk.content old.synced) → StandsFor history run new
+  pub stands_with : (new : Writer D M) → new.halves ≡ old.halves → new.log ≡ old.log → new.synced ≡ old.synced
+      → SameOutside (InHalf g (other half)) content (history new.device).disk.content
+      → ((n : ℕ) → (history new.device).disk.unsynced n ≡ true → InHalfImage g (other half) n)
+      → IfSome new.image (IsUnderway run (other half) (history new.device).disk.content old.synced) → StandsFor history run new
   stands_with new halves_is log_is synced_is same loose image =
       let c = (history new.device).disk.content in
       record {
         store = subst (λ (h : HalvesValue). IsStore g h.current c) (sym halves_is) (store_kept c same);
-        has = subst (λ n. HalfHas g new.halves.current c n (cells_at run n)) (sym synced_is) (subst (λ (h : HalvesValue). HalfHas g h.current c old.synced (cells_at run old.synced)) (sym halves_is) (has_kept c same));
+        has = subst (λ n. HalfHas g new.halves.current c n (cells_at run n)) (sym synced_is)
+            (subst (λ (h : HalvesValue). HalfHas g h.current c old.synced (cells_at run old.synced)) (sym halves_is) (has_kept c same));
         area-is = ap (λ (l : Log). l.area) log_is ∙ stand.area-is ∙ ap (λ (h : HalvesValue). log_area g h.current) (sym halves_is);
         groups = stand.groups;
         stands = subst (λ (l : Log). Stands l c stand.groups) (sym log_is) (stands_kept c same);
         loose = λ n unsynced. subst (λ (h : HalvesValue). InHalfImage g (other h.current) n) (sym halves_is) (loose n unsynced);
-        image = subst (λ n. IfSome new.image (IsUnderway run (other new.halves.current) c n)) (sym synced_is) (subst (λ (h : HalvesValue). IfSome new.image (IsUnderway run (other h.current) c old.synced)) (sym halves_is) image);
+        image = subst (λ n. IfSome new.image (IsUnderway run (other new.halves.current) c n)) (sym synced_is)
+            (subst (λ (h : HalvesValue). IfSome new.image (IsUnderway run (other h.current) c old.synced)) (sym halves_is) image);
       }

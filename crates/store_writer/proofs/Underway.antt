@@ -1,5 +1,6 @@
 -- What becomes of an image under way where the records above its base are carried on.
-use Rattle.std.proofs.Common.{◌≡◌, ◌⊎◌, ⊎_elim, ℕ, ◌+◌, ◌-◌, ◌<◌, ◌≤◌, List, [], ◌∷◌, ◌++◌, length, take, drop, Option, Some, None, IfSome, refl, sym, ap, subst, ◌∙◌, arith, length-drop, length-append}
+use Rattle.std.proofs.Common.{◌≡◌, ◌⊎◌, ⊎_elim, ℕ, ◌+◌, ◌-◌, ◌<◌, ◌≤◌, List, [], ◌∷◌, ◌++◌, length, take, drop, Option, Some, None, IfSome, refl, sym, ap}
+use Rattle.std.proofs.Common.{subst, ◌∙◌, arith, length-drop, length-append}
 use Rattle.std.proofs.lemmas.Bool.{false≢true}
 use Rattle.std.specs.List.{flat_map}
 use Rattle.std.proofs.lemmas.List.{take-append-drop}
@@ -38,7 +39,8 @@ module _ (log : Log) (h : History) (all : IsSynced h.disk) (room : log.open_slot
   pub append_outside : (c : Image) → SameOutside (InSlot log.area log.open_slots) h.disk.content c → SameOutside (InArea log.area) h.disk.content c
   append_outside c same = same_outside_wider _ (InArea log.area) h.disk.content c slot_in_area same
 
-  pub append_leaves : (new : History) (records : List RecordValue) → LeavesOnly h new (IsAppended log h.disk records) → LeavesOnly h new (SameOutside (InArea log.area) h.disk.content)
+  pub append_leaves : (new : History) (records : List RecordValue) → LeavesOnly h new (IsAppended log h.disk records)
+      → LeavesOnly h new (SameOutside (InArea log.area) h.disk.content)
   append_leaves new records run = weaker h new _ _ (λ c appended. same_outside_wider _ (InArea log.area) h.disk.content c
       (λ n either. ⊎_elim (λ slot. slot_in_area n slot) (λ unsynced. absurd (false≢true (sym (all n) ∙ unsynced))) either) appended.outside) run
 
@@ -50,17 +52,25 @@ last_fit group k fits less = record {
   some = omega (arith, length-drop k group);
   short =
       let parts = ap (λ (l : List RecordValue). length (flat_map spelling l)) (take-append-drop k group) in
-      let sum = ap length (flat_map-append spelling (take k group) (drop k group)) ∙ length-append (flat_map spelling (take k group)) (flat_map spelling (drop k group)) in
+      let sum = ap length (flat_map-append spelling (take k group) (drop k group))
+      ∙ length-append (flat_map spelling (take k group)) (flat_map spelling (drop k group)) in
       omega (arith, fits.short, parts, sum);
 }
 
 -- ---- an image under way
 
 -- where the sectors of the half's image stay
-whole_apart : (run : Run) (half : Half) (image c : Image) → SameIn (InHalfImage run.geometry half) image c → (base to : ℕ) → IsImageWhole run half image base to → IsImageWhole run half c base to
-whole_apart run half image c same base to is = record { copied = is.copied; imaged = image_apart run.geometry half image c same base is.copied is.imaged; copies = is.copies }
+whole_apart : (run : Run) (half : Half) (image c : Image) → SameIn (InHalfImage run.geometry half) image c → (base to : ℕ) → IsImageWhole run half image base to
+    → IsImageWhole run half c base to
+whole_apart run half image c same base to is = record {
+  copied = is.copied;
+  imaged = image_apart run.geometry half image c same base is.copied is.imaged;
+  copies = is.copies;
+}
 
-part_apart : (run : Run) (half : Half) (image c : Image) → SameIn (InHalfImage run.geometry half) image c → (base to pages count : ℕ) (highest : Option Pair) (life : Life) → IsPart run half image base to pages count highest life → IsPart run half c base to pages count highest life
+part_apart : (run : Run) (half : Half) (image c : Image) → SameIn (InHalfImage run.geometry half) image c
+    → (base to pages count : ℕ) (highest : Option Pair) (life : Life) → IsPart run half image base to pages count highest life
+    → IsPart run half c base to pages count highest life
 part_apart run half image c same base to pages count highest life is = record {
   rows = is.rows;
   entries = is.entries;
@@ -72,7 +82,8 @@ part_apart run half image c same base to pages count highest life is = record {
   full = is.full;
 }
 
-pub content_apart : (run : Run) (half : Half) (image c : Image) → SameIn (InHalfImage run.geometry half) image c → (base to : ℕ) (stage : Stage) → IsContent run half image base to stage → IsContent run half c base to stage
+pub content_apart : (run : Run) (half : Half) (image c : Image) → SameIn (InHalfImage run.geometry half) image c → (base to : ℕ) (stage : Stage)
+    → IsContent run half image base to stage → IsContent run half c base to stage
 content_apart run half image c same base to Whole is = whole_apart run half image c same base to is
 content_apart run half image c same base to (Partly pages count highest life) is = part_apart run half image c same base to pages count highest life is
 
@@ -86,11 +97,13 @@ module _ (run : Run) (half : Half) (image c : Image) (synced : ℕ) (new : NewIm
     low = is.low;
     rise = is.rise;
     made = is.made;
-    content = content_apart run half image c (record { sectors = same.sectors; same = λ n inside. same.same n (image_inside run.geometry half n inside) }) new.base new.number new.stage is.content;
+    content = content_apart run half image c (record { sectors = same.sectors; same = λ n inside. same.same n (image_inside run.geometry half n inside) })
+        new.base new.number new.stage is.content;
     area-is = is.area-is;
     groups = is.groups;
     stands = record {
-      held = told_by_its_sectors new.log.area image c is.groups same.sectors (λ n inside. same.same n (log_inside run.geometry half n (log_sector n inside))) is.stands.held;
+      held = told_by_its_sectors new.log.area image c is.groups same.sectors (λ n inside.
+          same.same n (log_inside run.geometry half n (log_sector n inside))) is.stands.held;
       counted = is.stands.counted;
     };
     carried = is.carried;
@@ -110,14 +123,16 @@ module _ (run : Run) (half : Half) (image c : Image) (synced : ℕ) (new : NewIm
   }
 
   -- the records above the base are carried
-  pub carried_more : (log : Log) (group : List RecordValue) (count : ℕ) → run.last ≤ synced → group ≡ records_between run synced (synced + count) → synced + count ≤ end_of run → new.base < synced + count
+  pub carried_more : (log : Log) (group : List RecordValue) (count : ℕ) → run.last ≤ synced → group ≡ records_between run synced (synced + count)
+      → synced + count ≤ end_of run → new.base < synced + count
       → SameOutside (InArea new.log.area) image c → log.area ≡ new.log.area → Stands log c (is.groups ++ drop (new.base - synced) group ∷ [])
       → IsUnderway run half c (synced + count) (record { base = new.base; number = new.number; stage = new.stage; log = log })
   carried_more log group count opened group_is made above same area stands = record {
     low = is.low;
     rise = is.rise;
     made = is.made;
-    content = content_apart run half image c (in_from_outside (InHalfImage run.geometry half) _ image c (λ n inside log. parts_apart run.geometry half n inside (log_sector n log)) same) new.base new.number new.stage is.content;
+    content = content_apart run half image c (in_from_outside (InHalfImage run.geometry half) _ image c (λ n inside log.
+        parts_apart run.geometry half n inside (log_sector n log)) same) new.base new.number new.stage is.content;
     area-is = area ∙ is.area-is;
     groups = is.groups ++ drop (new.base - synced) group ∷ [];
     stands = stands;
@@ -126,7 +141,8 @@ module _ (run : Run) (half : Half) (image c : Image) (synced : ℕ) (new : NewIm
         let last : reach (record { base = new.base; number = new.number; stage = new.stage; log = log }) (synced + count) ≡ synced + count = omega arith in
         let from : synced + (new.base - synced) ≡ mid = omega arith in
         let rest : drop (new.base - synced) group ≡ records_between run mid (synced + count) =
-        ap (drop (new.base - synced)) group_is ∙ back_between run synced (synced + count) opened (omega arith) made (new.base - synced) (omega arith) ∙ ap (λ k. records_between run k (synced + count)) from in
+        ap (drop (new.base - synced)) group_is ∙ back_between run synced (synced + count) opened (omega arith) made (new.base - synced) (omega arith)
+        ∙ ap (λ k. records_between run k (synced + count)) from in
         records_of_one_more is.groups (drop (new.base - synced) group)
         ∙ ap (λ (t : List RecordValue). t ++ drop (new.base - synced) group) is.carried
         ∙ ap (λ (t : List RecordValue). records_between run new.base mid ++ t) rest
@@ -138,17 +154,20 @@ module _ (run : Run) (half : Half) (image c : Image) (synced : ℕ) (new : NewIm
 pub rest_is : (k : ℕ) (group : List RecordValue) → take (length group - k) (drop k group) ≡ drop k group
 rest_is k group = ap (λ n. take n (drop k group)) (sym (length-drop k group)) ∙ take-length (drop k group)
 
-pub if_underway_apart : (run : Run) (half : Half) (image c : Image) (synced : ℕ) (new : Option NewImage) → SameIn (InHalf run.geometry half) image c → IfSome new (IsUnderway run half image synced) → IfSome new (IsUnderway run half c synced)
+pub if_underway_apart : (run : Run) (half : Half) (image c : Image) (synced : ℕ) (new : Option NewImage) → SameIn (InHalf run.geometry half) image c
+    → IfSome new (IsUnderway run half image synced) → IfSome new (IsUnderway run half c synced)
 if_underway_apart run half image c synced None same is = is
 if_underway_apart run half image c synced (Some new) same is = underway_apart run half image c synced new is same
 
 -- a sector of an image's log is one of its half
-pub new_log_in_half : (run : Run) (half : Half) (image : Image) (synced n : ℕ) (new : Option NewImage) → IfSome new (IsUnderway run half image synced) → InNewLog new n → InHalf run.geometry half n
+pub new_log_in_half : (run : Run) (half : Half) (image : Image) (synced n : ℕ) (new : Option NewImage) → IfSome new (IsUnderway run half image synced)
+    → InNewLog new n → InHalf run.geometry half n
 new_log_in_half run half image synced n None is inside = absurd inside
 new_log_in_half run half image synced n (Some new) is inside = log_inside run.geometry half n (subst (λ (a : Area). InArea a n) is.area-is inside)
 
 -- no record of a group is above an image's base
-pub if_not_carried : (run : Run) (half : Half) (image : Image) (synced n : ℕ) (new : Option NewImage) → synced ≤ n → ((i : NewImage) → new ≡ Some i → n ≤ i.base ⊎ (n ≡ synced)) → IfSome new (IsUnderway run half image synced) → IfSome new (IsUnderway run half image n)
+pub if_not_carried : (run : Run) (half : Half) (image : Image) (synced n : ℕ) (new : Option NewImage) → synced ≤ n
+    → ((i : NewImage) → new ≡ Some i → n ≤ i.base ⊎ (n ≡ synced)) → IfSome new (IsUnderway run half image synced) → IfSome new (IsUnderway run half image n)
 if_not_carried run half image synced n None rise below is = is
 if_not_carried run half image synced n (Some new) rise below is = ⊎_elim
     (λ low. not_carried run half image image synced new is n rise low)

@@ -1,5 +1,6 @@
 -- What a flush leaves of the records that were handed in.
-use Rattle.std.proofs.Common.{◌≡◌, ◌≢◌, ◌⊎◌, inl, inr, ⊎_elim, ℕ, ◌+◌, ◌<◌, ◌≤◌, Bool, true, false, List, [], ◌∷◌, ◌++◌, length, take, Option, IfSome, Result, Ok, OnOk, refl, sym, ap, subst, ◌∙◌, arith}
+use Rattle.std.proofs.Common.{◌≡◌, ◌≢◌, ◌⊎◌, inl, inr, ⊎_elim, ℕ, ◌+◌, ◌<◌, ◌≤◌, Bool, true, false, List, [], ◌∷◌, ◌++◌, length, take, Option, IfSome, Result}
+use Rattle.std.proofs.Common.{Ok, OnOk, refl, sym, ap, subst, ◌∙◌, arith}
 use Rattle.records.specs.RecordValue.{RecordValue}
 use Rattle.records.specs.GeometryValue.{GeometryValue}
 use Rattle.model.specs.Cells.{Cells, cells_after}
@@ -32,7 +33,8 @@ pub not_true : (b : Bool) → ¬ (b ≡ true) → b ≡ false
 not_true true not = absurd (not refl)
 not_true false not = refl
 
-module _ {D M : Type 0} (history : D → History) (run : Run) (handed : ℕ) (old : Writer D M) (is : IsWriter history run handed old) (sound : old.failed ≡ false) where
+module _ {D M : Type 0} (history : D → History) (run : Run) (handed : ℕ) (old : Writer D M) (is : IsWriter history run handed old)
+    (sound : old.failed ≡ false) where
   abbrev disk : Disk
   disk = (history old.device).disk
 
@@ -46,16 +48,20 @@ module _ {D M : Type 0} (history : D → History) (run : Run) (handed : ℕ) (ol
   stood = is.holds sound
 
   pub all_synced : (n : ℕ) → InArea old.log.area n → disk.unsynced n ≡ false
-  all_synced n inside = not_true (disk.unsynced n) (λ unsynced. other_apart g half n (log_inside g half n (subst (λ (a : Area). InArea a n) stood.area-is inside)) (image_inside g (other half) n (stood.loose n unsynced)))
+  all_synced n inside = not_true (disk.unsynced n) (λ unsynced.
+      other_apart g half n (log_inside g half n (subst (λ (a : Area). InArea a n) stood.area-is inside))
+      (image_inside g (other half) n (stood.loose n unsynced)))
 
   pub has_room : IsAreaInside old.log.area disk.content
   has_room = subst (λ (a : Area). IsAreaInside a disk.content) (sym stood.area-is) (omega (arith, stood.store.room, log_room g half))
 
   -- the log stands for the groups of its half
   pub stands : Stands old.log disk.content stood.has.groups
-  stands = stands_for Two old.log disk.content stood.groups stood.has.groups stood.stands (subst (λ (a : Area). HoldsGroups a disk.content stood.has.groups) (sym stood.area-is) stood.has.held)
+  stands = stands_for Two old.log disk.content stood.groups stood.has.groups stood.stands
+      (subst (λ (a : Area). HoldsGroups a disk.content stood.has.groups) (sym stood.area-is) stood.has.held)
 
-  module _ (count : ℕ) (group : List RecordValue) (group_is : group ≡ take count old.waiting.items) (within : count ≤ length old.waiting.items) (room : old.log.open_slots ≢ old.log.area.slots) where
+  module _ (count : ℕ) (group : List RecordValue) (group_is : group ≡ take count old.waiting.items) (within : count ≤ length old.waiting.items)
+      (room : old.log.open_slots ≢ old.log.area.slots) where
     pub total : old.synced + count ≤ handed
     total = omega (arith, within, ap length is.waits, length_between run old.synced handed is.opened is.reached is.made, is.reached)
 
@@ -63,10 +69,15 @@ module _ {D M : Type 0} (history : D → History) (run : Run) (handed : ℕ) (ol
     group_between = group_is ∙ ap (take count) is.waits ∙ front_between run old.synced handed is.opened is.reached is.made count (omega (arith, total))
 
     group_size : length group ≡ count
-    group_size = omega (arith, ap length group_between, length_between run old.synced (old.synced + count) is.opened (omega arith) (omega (arith, total, is.made)))
+    group_size = omega (
+      arith,
+      ap length group_between,
+      length_between run old.synced (old.synced + count) is.opened (omega arith) (omega (arith, total, is.made)),
+    )
 
     follow : AreFollowing g.pages old.synced (cells_at run old.synced) group
-    follow = subst (AreFollowing g.pages old.synced (cells_at run old.synced)) (sym group_between) (between_following run old.synced (old.synced + count) is.run-is is.opened (omega (arith, is.reached, is.made)))
+    follow = subst (AreFollowing g.pages old.synced (cells_at run old.synced)) (sym group_between)
+        (between_following run old.synced (old.synced + count) is.run-is is.opened (omega (arith, is.reached, is.made)))
 
     cells_new : cells_after (cells_at run old.synced) group ≡ cells_at run (old.synced + count)
     cells_new = ap (cells_after (cells_at run old.synced)) group_between ∙ reached run old.synced (old.synced + count) is.opened (omega arith)
@@ -103,30 +114,42 @@ module _ {D M : Type 0} (history : D → History) (run : Run) (handed : ℕ) (ol
       -- the groups as they were
       left_without : HoldsGroups old.log.area c stood.has.groups → LeftBy run old.synced handed c
       left_without held = left_by run old.synced handed old.synced c (omega arith) is.reached
-          (record { half = half; store = store_there; has = same_groups g half disk.content c old.synced (cells_at run old.synced) stood.has image_there (there stood.has.groups held) })
+          (record {
+            half = half;
+            store = store_there;
+            has = same_groups g half disk.content c old.synced (cells_at run old.synced) stood.has image_there
+                (there stood.has.groups held);
+          })
 
       -- and one group more
       pub has_more : HoldsGroups old.log.area c (stood.has.groups ++ group ∷ []) → HalfHas g half c (old.synced + count) (cells_at run (old.synced + count))
       has_more held =
-          let more = one_group_more g half disk.content c old.synced (cells_at run old.synced) stood.has image_there group follow (there (stood.has.groups ++ group ∷ []) held) in
-          subst (λ (x : Cells). HalfHas g half c (old.synced + count) x) cells_new (subst (λ n. HalfHas g half c (old.synced + n) (cells_after (cells_at run old.synced) group)) group_size more)
+          let more = one_group_more g half disk.content c old.synced (cells_at run old.synced) stood.has image_there group follow
+          (there (stood.has.groups ++ group ∷ []) held) in
+          subst (λ (x : Cells). HalfHas g half c (old.synced + count) x) cells_new
+          (subst (λ n. HalfHas g half c (old.synced + n) (cells_after (cells_at run old.synced) group)) group_size more)
 
       left_with : (floor : ℕ) → floor ≤ old.synced + count → HoldsGroups old.log.area c (stood.has.groups ++ group ∷ []) → LeftBy run floor handed c
-      left_with floor least held = left_by run floor handed (old.synced + count) c least total (record { half = half; store = store_there; has = has_more held })
+      left_with floor least held = left_by run floor handed (old.synced + count) c least total
+          (record { half = half; store = store_there; has = has_more held })
 
     -- what a crash leaves of an append
     pub left : (c : Image) → IsAppended old.log disk group c → LeftBy run old.synced handed c
     left c appended = ⊎_elim (left_without c same) (left_with c same old.synced (omega arith)) (appended.groups stood.has.groups stands)
       where
         same : SameOutside MayChange disk.content c
-        same = same_outside_wider _ MayChange disk.content c (λ n either. ⊎_elim (λ slot. inl (in_log n slot)) (λ unsynced. inr (stood.loose n unsynced)) either) appended.outside
+        same = same_outside_wider _ MayChange disk.content c (λ n either.
+            ⊎_elim (λ slot. inl (in_log n slot)) (λ unsynced. inr (stood.loose n unsynced)) either) appended.outside
 
-    pub leaves : (new : History) → LeavesOnly (history old.device) new (IsAppended old.log disk group) → LeavesOnly (history old.device) new (LeftBy run old.synced handed)
+    pub leaves : (new : History) → LeavesOnly (history old.device) new (IsAppended old.log disk group)
+        → LeavesOnly (history old.device) new (LeftBy run old.synced handed)
     leaves new any_moment = weaker (history old.device) new (IsAppended old.log disk group) (LeftBy run old.synced handed) left any_moment
 
     -- after the append was done
-    module _ (new : Writer D M) (halves_is : new.halves ≡ old.halves) (same_area : new.log.area ≡ old.log.area) (synced_is : new.synced ≡ old.synced) (waiting_is : new.waiting.items ≡ old.waiting.items) (image_is : new.image ≡ old.image)
-        (slot : SameOutside (InSlot old.log.area old.log.open_slots) disk.content (history new.device).disk.content) (stands_new : Stands new.log (history new.device).disk.content (stood.has.groups ++ group ∷ [])) (all : IsSynced (history new.device).disk) where
+    module _ (new : Writer D M) (halves_is : new.halves ≡ old.halves) (same_area : new.log.area ≡ old.log.area) (synced_is : new.synced ≡ old.synced)
+        (waiting_is : new.waiting.items ≡ old.waiting.items) (image_is : new.image ≡ old.image)
+        (slot : SameOutside (InSlot old.log.area old.log.open_slots) disk.content (history new.device).disk.content)
+        (stands_new : Stands new.log (history new.device).disk.content (stood.has.groups ++ group ∷ [])) (all : IsSynced (history new.device).disk) where
       abbrev content : Image
       content = (history new.device).disk.content
 
@@ -137,7 +160,8 @@ module _ {D M : Type 0} (history : D → History) (run : Run) (handed : ℕ) (ol
       held_new = subst (λ (a : Area). HoldsGroups a content (stood.has.groups ++ group ∷ [])) same_area stands_new.held
 
       other_kept : SameIn (InHalf g (other half)) disk.content content
-      other_kept = in_from_outside (InHalf g (other half)) _ disk.content content (λ n there inside. other_apart g half n (log_inside g half n (in_log n inside)) there) slot
+      other_kept = in_from_outside (InHalf g (other half)) _ disk.content content (λ n there inside.
+          other_apart g half n (log_inside g half n (in_log n inside)) there) slot
 
       image_kept : IfSome old.image (IsUnderway run (other half) content old.synced)
       image_kept = if_underway_apart run (other half) disk.content content old.synced old.image other_kept stood.image
@@ -152,13 +176,16 @@ module _ {D M : Type 0} (history : D → History) (run : Run) (handed : ℕ) (ol
         within = omega (arith, total, synced_is);
         waits = waiting_is ∙ is.waits ∙ ap (λ n. records_between run n handed) (sym synced_is);
         store = subst (λ (h : HalvesValue). IsStore g h.current content) (sym halves_is) (store_there content outside);
-        has = subst (λ n. HalfHas g new.halves.current content (n + count) (cells_at run (n + count))) (sym synced_is) (subst (λ (h : HalvesValue). HalfHas g h.current content (old.synced + count) (cells_at run (old.synced + count))) (sym halves_is) (has_more content outside held_new));
+        has = subst (λ n. HalfHas g new.halves.current content (n + count) (cells_at run (n + count))) (sym synced_is)
+            (subst (λ (h : HalvesValue). HalfHas g h.current content (old.synced + count) (cells_at run (old.synced + count))) (sym halves_is)
+            (has_more content outside held_new));
         area-is = same_area ∙ stood.area-is ∙ ap (λ (h : HalvesValue). log_area g h.current) (sym halves_is);
         groups = stood.has.groups ++ group ∷ [];
         stands = stands_new;
         all_synced = all;
         image = subst (λ (t : Option NewImage). IfSome t (IsUnderway run (other new.halves.current) content new.synced)) (sym image_is)
-            (subst (λ n. IfSome old.image (IsUnderway run (other new.halves.current) content n)) (sym synced_is) (subst (λ (h : HalvesValue). IfSome old.image (IsUnderway run (other h.current) content old.synced)) (sym halves_is) image_kept));
+            (subst (λ n. IfSome old.image (IsUnderway run (other new.halves.current) content n)) (sym synced_is)
+            (subst (λ (h : HalvesValue). IfSome old.image (IsUnderway run (other h.current) content old.synced)) (sym halves_is) image_kept));
       }
 
 -- after a call that left records and numbers alone
@@ -174,7 +201,8 @@ module _ {D M : Type 0} (history : D → History) (run : Run) (handed : ℕ) (ol
     small = is.small;
     waits = waiting_is ∙ is.waits ∙ ap (λ n. records_between run n handed) (sym synced_is);
     holds = holds;
-    images = λ image crash. subst (λ n. LeftBy run n handed image) (sym synced_is) (at_end (history old.device) (history new.device) (LeftBy run old.synced handed) left image crash);
+    images = λ image crash. subst (λ n. LeftBy run n handed image) (sym synced_is)
+        (at_end (history old.device) (history new.device) (LeftBy run old.synced handed) left image crash);
   }
 
 pub on_ok_at : {T E P : Type 0} {x : T} (r : Result T E) → r ≡ Ok x → OnOk r P → P

@@ -13,8 +13,8 @@ use Rattle.flip_image.specs.Store.{IsStore, HoldsImage}
 use Rattle.image_model.specs.Run.{Run, cells_at}
 use Rattle.store_reader.specs.Contents.{Gives, log_area}
 
--- The half holds an image, and its log records that follow it: with them over the image the cells are these, after record
--- `last`.
+-- The half holds an image, and its log records that follow it: with them over the image the cells are these, after
+-- record `last`.
 pub record HalfHas (g : GeometryValue) (half : Half) (image : Image) (last : ℕ) (cells : Cells) : Type 0 where
   pub base : ℕ
   pub copied : Cells
@@ -31,11 +31,12 @@ pub record StoreHas (g : GeometryValue) (image : Image) (last : ℕ) (cells : Ce
   pub store : IsStore g half image
   pub has : HalfHas g half image last cells
 
--- The crash state has the cells after some record of the run, no earlier than `floor` and no later than `handed`. A reader finds what
--- is recovered of them, where the geometry has a place for each entry.
+-- The crash state has the cells after some record of the run, no earlier than `floor` and no later than `handed`. A
+-- reader finds what is recovered of them, where the geometry has a place for each entry.
 pub record LeftBy (run : Run) (floor handed : ℕ) (image : Image) : Type 0 where
   pub number : ℕ
   pub least : floor ≤ number
   pub most : number ≤ handed
   pub has : StoreHas run.geometry image number (cells_at run number)
-  pub gives : len (recovered (cells_at run number) number).entries ≤ run.geometry.entries → Gives image run.geometry (recovered (cells_at run number) number)
+  pub gives : len (recovered (cells_at run number) number).entries ≤ run.geometry.entries
+      → Gives image run.geometry (recovered (cells_at run number) number)

@@ -34,14 +34,16 @@ pub record IsImageWhole (run : Run) (half : Half) (image : Image) (base to : ℕ
   pub imaged : HoldsImage run.geometry half image base copied
   pub copies : IsCopiedFrom run base to copied
 
--- The half holds a part of an image that was begun at the record `base`: its lists, and the life at the base. The rows of the first
--- pages are as they were at some records from `base` to `to`, and so are the first entries: as many as counted, which fill their
--- sectors, and all up to the highest pair.
-pub record IsPart (run : Run) (half : Half) (image : Image) (base to pages count : ℕ) (highest : Option Pair) (life : Life) : Type 0 where
+-- The half holds a part of an image that was begun at the record `base`: its lists, and the life at the base. The rows
+-- of the first pages are as they were at some records from `base` to `to`, and so are the first entries: as many as
+-- counted, which fill their sectors, and all up to the highest pair.
+pub record IsPart (run : Run) (half : Half) (image : Image) (base to pages count : ℕ) (highest : Option Pair)
+    (life : Life) : Type 0 where
   pub rows : Table
   pub entries : Index
   pub copied : IsPartlyCopied (cells_at run base) (records_above run base) (to - base) pages highest rows entries
-  pub part : IsImagePart run.geometry (header_sector run.geometry half) image pages (record (cells_at run base) { rows = rows; entries = entries })
+  pub part : IsImagePart run.geometry (header_sector run.geometry half) image pages
+      (record (cells_at run base) { rows = rows; entries = entries })
   pub life-is : life ≡ (cells_at run base).life
   pub inside : AreInside run.geometry.pages (cells_at run base)
   pub counted : count ≡ length (map.entries entries)
@@ -50,7 +52,8 @@ pub record IsPart (run : Run) (half : Half) (image : Image) (base to pages count
 -- what the half holds of an image at a stage
 abbrev pub IsContent : Run → Half → Image → (base to : ℕ) → Stage → Type 0
 IsContent run half image base to Whole = IsImageWhole run half image base to
-IsContent run half image base to (Partly pages count highest life) = IsPart run half image base to pages count highest life
+IsContent run half image base to (Partly pages count highest life) =
+    IsPart run half image base to pages count highest life
 
 -- The image is in this half, and the half's log has the records above its base that are synced.
 pub record IsUnderway (run : Run) (half : Half) (image : Image) (synced : ℕ) (new : NewImage) : Type 0 where
@@ -73,18 +76,22 @@ abbrev pub InNewSlot : Option NewImage → ℕ → Type 0
 InNewSlot None n = ⊥
 InNewSlot (Some image) n = InSlot image.log.area image.log.open_slots n
 
--- What becomes of an image when a group is flushed behind the record `synced`: it is kept where no record of the group is above
--- its base, and else given up where its log has groups in half the slots, and else the records above its base are carried.
+-- What becomes of an image when a group is flushed behind the record `synced`: it is kept where no record of the group
+-- is above its base, and else given up where its log has groups in half the slots, and else the records above its base
+-- are carried.
 abbrev pub IsPlan : {M : Type 0} → Option NewImage → (slots synced : ℕ) → List RecordValue → Plan M → Type 0
 IsPlan image slots synced group Keep = (i : NewImage) → image ≡ Some i → length group ≤ i.base - synced
-IsPlan image slots synced group GiveUp = (i : NewImage) × (image ≡ Some i) × (i.base - synced < length group) × (slots / 2 ≤ i.log.open_slots)
-IsPlan image slots synced group (Carry body) = (i : NewImage) × (image ≡ Some i) × (i.base - synced < length group) × (i.log.open_slots < slots / 2) × IsGroup (drop (i.base - synced) group) body.items
+IsPlan image slots synced group GiveUp = (i : NewImage) × (image ≡ Some i) × (i.base - synced < length group)
+    × (slots / 2 ≤ i.log.open_slots)
+IsPlan image slots synced group (Carry body) = (i : NewImage) × (image ≡ Some i) × (i.base - synced < length group)
+    × (i.log.open_slots < slots / 2) × IsGroup (drop (i.base - synced) group) body.items
 
--- What flushing this many records behind the record `synced` makes of an image: it stays where none of them is above its base, and
--- else is given up where its log had groups in half the slots, and else its log has one group more.
+-- What flushing this many records behind the record `synced` makes of an image: it stays where none of them is above
+-- its base, and else is given up where its log had groups in half the slots, and else its log has one group more.
 pub record BecomesImage (slots synced count : ℕ) (old new : Option NewImage) : Type 0 where
   pub none : old ≡ None → new ≡ None
   pub stays : (i : NewImage) → old ≡ Some i → synced + count ≤ i.base → new ≡ old
   pub given-up : (i : NewImage) → old ≡ Some i → i.base < synced + count → slots / 2 ≤ i.log.open_slots → new ≡ None
   pub carried : (i : NewImage) → old ≡ Some i → i.base < synced + count → i.log.open_slots < slots / 2
-      → (n : NewImage) × (new ≡ Some n) × (n.base ≡ i.base) × (n.number ≡ i.number) × (n.stage ≡ i.stage) × (n.log.open_slots ≡ i.log.open_slots + 1)
+      → (n : NewImage) × (new ≡ Some n) × (n.base ≡ i.base) × (n.number ≡ i.number) × (n.stage ≡ i.stage)
+      × (n.log.open_slots ≡ i.log.open_slots + 1)

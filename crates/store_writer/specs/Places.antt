@@ -18,12 +18,15 @@ use Rattle.image_model.specs.declared.chunk.Piece.TheVariants.{Whole, Start, Pag
 use Rattle.store_writer.specs.declared.image.NewImage.{NewImage}
 use Rattle.store_writer.specs.declared.image.Stage.TheVariants as stage
 
--- An image is under way. Where there is no place it is whole; else its next chunk is the one of this place, of so many pages.
+-- An image is under way. Where there is no place it is whole; else its next chunk is the one of this place, of so many
+-- pages.
 abbrev pub IsAtPlace : (pages : ℕ) → Option CopyPlace → Option NewImage → Type 0
 IsAtPlace pages None image = (i : NewImage) × (image ≡ Some i) × (i.stage ≡ stage.Whole)
 IsAtPlace pages (Some at.Start) image = ⊥
-IsAtPlace pages (Some (at.Page page)) image = (page < pages) × ((i : NewImage) × (life : Life) × (image ≡ Some i) × (i.stage ≡ stage.Partly page 0 None life))
-IsAtPlace pages (Some (at.Entries above)) image = (i : NewImage) × (count : ℕ) × (life : Life) × (image ≡ Some i) × (i.stage ≡ stage.Partly pages count above life)
+IsAtPlace pages (Some (at.Page page)) image = (page < pages)
+    × ((i : NewImage) × (life : Life) × (image ≡ Some i) × (i.stage ≡ stage.Partly page 0 None life))
+IsAtPlace pages (Some (at.Entries above)) image = (i : NewImage) × (count : ℕ) × (life : Life) × (image ≡ Some i)
+    × (i.stage ≡ stage.Partly pages count above life)
 
 -- the image is at the place of this piece; a whole image and the start of one come at any place
 abbrev pub IsAtPiece : {A : Type 0} → (pages : ℕ) → Piece A → Option NewImage → Type 0
@@ -42,6 +45,7 @@ pub record AreEntriesNow (run : Run) (above : Option Pair) (entries : List (Pair
   pub more : Index
   pub listed : map.entries more ≡ entries
   pub most : length entries ≤ CHUNK_ENTRIES
-  pub full : (last : Pair × Mark) → slice_get entries (CHUNK_ENTRIES - 1) ≡ Some last → AreNextEntries (cells_at run (end_of run)) above (Some last.0) more
+  pub full : (last : Pair × Mark) → slice_get entries (CHUNK_ENTRIES - 1) ≡ Some last
+      → AreNextEntries (cells_at run (end_of run)) above (Some last.0) more
   pub rest : slice_get entries (CHUNK_ENTRIES - 1) ≡ None → AreLastEntries (cells_at run (end_of run)) above more
   pub inside : (i : ℕ) (e : Pair × Mark) → slice_get entries i ≡ Some e → e.0.rid.page < run.geometry.pages

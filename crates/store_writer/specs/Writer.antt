@@ -1,5 +1,6 @@
 -- What the writer keeps of the records that were handed to it, and of the image under way.
-use Rattle.std.specs.Prelude.{◌≡◌, ◌≢◌, ◌⊎◌, ℕ, ◌+◌, ◌-◌, ◌≤◌, ◌<◌, true, false, List, [], ◌++◌, length, take, drop, Option, Some, None, IfSome, slice_get}
+use Rattle.std.specs.Prelude.{◌≡◌, ◌≢◌, ◌⊎◌, ℕ, ◌+◌, ◌-◌, ◌≤◌, ◌<◌, true, false, List, [], ◌++◌, length, take, drop}
+use Rattle.std.specs.Prelude.{Option, Some, None, IfSome, slice_get}
 use Rattle.std.specs.Option.{option_map_or}
 use Rattle.std.specs.FinMap as map
 use Rattle.sector_device.specs.Disk.{Image, IsSynced, IsCrashImage, SameOutside}
@@ -47,19 +48,21 @@ use Rattle.store_writer.specs.Image.{InNewSlot, IsUnderway, reach}
 -- ---- what it stands for
 
 module _ {D M : Type 0} (history : D → History) (run : Run) where
-  -- The current half has the cells after the last synced record, and the log knows its open slots. No sector is unsynced but
-  -- of the other half's image, and an image under way is in that half.
+  -- The current half has the cells after the last synced record, and the log knows its open slots. No sector is
+  -- unsynced but of the other half's image, and an image under way is in that half.
   pub record StandsFor (w : Writer D M) : Type 0 where
     pub store : IsStore run.geometry w.halves.current (history w.device).disk.content
     pub has : HalfHas run.geometry w.halves.current (history w.device).disk.content w.synced (cells_at run w.synced)
     pub area-is : w.log.area ≡ log_area run.geometry w.halves.current
     pub groups : List (List RecordValue)
     pub stands : Stands w.log (history w.device).disk.content groups
-    pub loose : (n : ℕ) → (history w.device).disk.unsynced n ≡ true → InHalfImage run.geometry (other w.halves.current) n
+    pub loose : (n : ℕ) → (history w.device).disk.unsynced n ≡ true
+        → InHalfImage run.geometry (other w.halves.current) n
     pub image : IfSome w.image (IsUnderway run (other w.halves.current) (history w.device).disk.content w.synced)
 
-  -- The records of the run up to number `handed` were handed in. The device stands for those up to the last synced one, unless
-  -- it failed, and the others wait. A crash now leaves the cells after one of them, no earlier than the last synced one.
+  -- The records of the run up to number `handed` were handed in. The device stands for those up to the last synced one,
+  -- unless it failed, and the others wait. A crash now leaves the cells after one of them, no earlier than the last
+  -- synced one.
   pub record IsWriter (handed : ℕ) (w : Writer D M) : Type 0 where
     pub run-is : IsRun run
     pub geometry-is : w.halves.geometry ≡ run.geometry
@@ -71,8 +74,8 @@ module _ {D M : Type 0} (history : D → History) (run : Run) where
     pub holds : w.failed ≡ false → StandsFor w
     pub images : (image : Image) → IsCrashImage (history w.device).disk image → LeftBy run w.synced handed image
 
--- The first `count` waiting records are in the log of the current half, synced, and the writer doesn't count them yet. (No
--- public clause cites this.)
+-- The first `count` waiting records are in the log of the current half, synced, and the writer doesn't count them yet.
+-- (No public clause cites this.)
 module _ {D M : Type 0} (history : D → History) (run : Run) where
   pub record HasAppended (handed count : ℕ) (w : Writer D M) : Type 0 where
     pub run-is : IsRun run
@@ -83,7 +86,8 @@ module _ {D M : Type 0} (history : D → History) (run : Run) where
     pub within : w.synced + count ≤ handed
     pub waits : w.waiting.items ≡ records_between run w.synced handed
     pub store : IsStore run.geometry w.halves.current (history w.device).disk.content
-    pub has : HalfHas run.geometry w.halves.current (history w.device).disk.content (w.synced + count) (cells_at run (w.synced + count))
+    pub has : HalfHas run.geometry w.halves.current (history w.device).disk.content (w.synced + count)
+        (cells_at run (w.synced + count))
     pub area-is : w.log.area ≡ log_area run.geometry w.halves.current
     pub groups : List (List RecordValue)
     pub stands : Stands w.log (history w.device).disk.content groups
@@ -100,7 +104,8 @@ IsSomewhere history w = (run : Run) × (handed : ℕ) × IsWriter history run ha
 abbrev pub opened_run : HalvesValue → ℕ → Cells → Run
 opened_run halves last cells = record { geometry = halves.geometry; last = last; cells = cells; records = [] }
 
--- The disk is synced, and the current half of the store has these cells after record `last`. The log knows its open slots.
+-- The disk is synced, and the current half of the store has these cells after record `last`. The log knows its open
+-- slots.
 pub record IsOpenedAt (now : History) (halves : HalvesValue) (log : Log) (last : ℕ) (cells : Cells) : Type 0 where
   pub store : IsStore halves.geometry halves.current now.disk.content
   pub has : HalfHas halves.geometry halves.current now.disk.content last cells
@@ -125,30 +130,34 @@ pub record AreNext (run : Run) (handed : ℕ) (records : List RecordValue) : Typ
 
 -- a sector of the current half's log or, where an image is under way, of the other half's
 abbrev pub InLogs : {D M : Type 0} → Writer D M → ℕ → Type 0
-InLogs w n = InLog w.halves.geometry w.halves.current n ⊎ ((w.image ≢ None) × InLog w.halves.geometry (other w.halves.current) n)
+InLogs w n = InLog w.halves.geometry w.halves.current n
+    ⊎ ((w.image ≢ None) × InLog w.halves.geometry (other w.halves.current) n)
 
--- a sector of the slot that a flush opens, the first behind the open ones: in the current half's log and, where an image is under
--- way, in the log of its half
+-- a sector of the slot that a flush opens, the first behind the open ones: in the current half's log and, where an
+-- image is under way, in the log of its half
 abbrev pub InOpenedSlots : {D M : Type 0} → Writer D M → ℕ → Type 0
 InOpenedSlots w n = InSlot w.log.area w.log.open_slots n ⊎ InNewSlot w.image n
 
--- Only these logs were written, and they lie where they lay. Each other sector holds what it held before the call, and so it
--- does after a crash at any moment of the call, if it was synced before. One that was not, such as one of an image under way,
--- may hold anything after a crash, as it might before.
+-- Only these logs were written, and they lie where they lay. Each other sector holds what it held before the call, and
+-- so it does after a crash at any moment of the call, if it was synced before. One that was not, such as one of an
+-- image under way, may hold anything after a crash, as it might before.
 pub record WritesLogsAlone {D M : Type 0} (history : D → History) (old new : Writer D M) : Type 0 where
   pub halves-are : new.halves ≡ old.halves
   pub area-is : new.log.area ≡ old.log.area
   pub none-begun : old.image ≡ None → new.image ≡ None
   pub now : SameOutside (InLogs old) (history old.device).disk.content (history new.device).disk.content
-  pub images : LeavesOnly (history old.device) (history new.device) (SameOutside (λ n. InLogs old n ⊎ ((history old.device).disk.unsynced n ≡ true)) (history old.device).disk.content)
+  pub images : LeavesOnly (history old.device) (history new.device)
+      (SameOutside (λ n. InLogs old n ⊎ ((history old.device).disk.unsynced n ≡ true))
+      (history old.device).disk.content)
 
 -- ---- what a call writes
 
--- Of these sectors alone one was written. Each other sector holds what it held before the call, and so it does after a crash at
--- any moment of the call, if it was synced before.
+-- Of these sectors alone one was written. Each other sector holds what it held before the call, and so it does after a
+-- crash at any moment of the call, if it was synced before.
 pub record WritesOnly {D : Type 0} (history : D → History) (sectors : ℕ → Type 0) (old new : D) : Type 0 where
   pub now : SameOutside sectors (history old).disk.content (history new).disk.content
-  pub images : LeavesOnly (history old) (history new) (SameOutside (λ n. sectors n ⊎ ((history old).disk.unsynced n ≡ true)) (history old).disk.content)
+  pub images : LeavesOnly (history old) (history new)
+      (SameOutside (λ n. sectors n ⊎ ((history old).disk.unsynced n ≡ true)) (history old).disk.content)
 
 -- ---- what a call leaves that didn't succeed
 
@@ -156,14 +165,16 @@ pub record WritesOnly {D : Type 0} (history : D → History) (sectors : ℕ → 
 abbrev pub IsAsBefore : {D M : Type 0} → Writer D M → Writer D M → Type 0
 IsAsBefore old new = new ≡ record old { device = new.device; failed = new.failed }
 
--- And so it is after a flush. Where an image is under way, the group may be in the current half's log and not in the image's.
+-- And so it is after a flush. Where an image is under way, the group may be in the current half's log and not in the
+-- image's.
 pub record IsBeforeFlush {D M : Type 0} (old new : Writer D M) : Type 0 where
   pub rest : new ≡ record old { device = new.device; failed = new.failed; log = new.log }
   pub log-is : old.image ≡ None → new.log ≡ old.log
 
 -- ---- answers
 
--- The first n of the records fill one group: they fit it, and with one more they take too many bytes, or there is no other.
+-- The first n of the records fill one group: they fit it, and with one more they take too many bytes, or there is no
+-- other.
 pub record FillsGroup (records : List RecordValue) (n : ℕ) : Type 0 where
   pub fits : FitsGroup (take n records)
   pub full : n < length records → GROUP_MAX < length (spellings (take (n + 1) records))
@@ -180,16 +191,18 @@ pub record HasGroupMore {D M : Type 0} (old new : Writer D M) : Type 0 where
 
 -- more records are synced, as many of those that waited as fill a group; or none waited; or every slot is open
 abbrev pub IsFlushReply : {D M : Type 0} → FlushReply → Writer D M → Writer D M → Type 0
-IsFlushReply (Flushed n) old new = (n ≡ new.synced) × (old.synced < n) × FillsGroup old.waiting.items (n - old.synced) × HasGroupMore old new
+IsFlushReply (Flushed n) old new = (n ≡ new.synced) × (old.synced < n) × FillsGroup old.waiting.items (n - old.synced)
+    × HasGroupMore old new
 IsFlushReply Nothing old new = (new ≡ old) × (old.waiting.items ≡ [])
 IsFlushReply LogFull old new = (new ≡ old) × IsLogFull old × (old.waiting.items ≢ [])
 
--- Why nothing was flushed: there was no memory for a group of the records that wait, though a slot is closed; or the device
--- failed, now or earlier, and is left alone from then on.
+-- Why nothing was flushed: there was no memory for a group of the records that wait, though a slot is closed; or the
+-- device failed, now or earlier, and is left alone from then on.
 abbrev pub IsNotFlushed : {D M : Type 0} → (D → ℕ) → Error → Writer D M → Writer D M → Type 0
 IsNotFlushed failures e old new =
     ((e ≡ NoMemory) × (old.failed ≡ false) × (old.waiting.items ≢ []) × (¬ IsLogFull old) × (new ≡ old))
-    ⊎ ((e ≡ DeviceFailed) × (new.failed ≡ true) × (old.failed ≡ false → (old.waiting.items ≢ []) × Rises (failures old.device) (failures new.device)) × (old.failed ≡ true → new ≡ old))
+    ⊎ ((e ≡ DeviceFailed) × (new.failed ≡ true) × (old.failed ≡ false → (old.waiting.items ≢ [])
+    × Rises (failures old.device) (failures new.device)) × (old.failed ≡ true → new ≡ old))
 
 -- these are all cells as they were after the record `number`, and an image has room for them
 pub record IsWholeChunk (run : Run) (synced number : ℕ) (cells : Cells) : Type 0 where
@@ -199,8 +212,8 @@ pub record IsWholeChunk (run : Run) (synced number : ℕ) (cells : Cells) : Type
   pub cells-are : cells ≡ cells_at run number
   pub fits : FitsImage run.geometry cells
 
--- these are life and lists as they were after the record `number`, whose cells are all of the store's pages, and an image has
--- room for them
+-- these are life and lists as they were after the record `number`, whose cells are all of the store's pages, and an
+-- image has room for them
 pub record IsStartChunk (run : Run) (synced number : ℕ) (life : Life) (lists : Pending) : Type 0 where
   pub late : synced ≤ number
   pub made : number ≤ end_of run
@@ -212,7 +225,8 @@ pub record IsStartChunk (run : Run) (synced number : ℕ) (life : Life) (lists :
 
 -- these are the rows of the image's next page as they were after the record `number`
 pub record IsPageChunk (run : Run) (image : NewImage) (number page : ℕ) (rows : Table) : Type 0 where
-  pub next : (count : ℕ) × (highest : Option Pair) × (life : Life) × (image.stage ≡ stage.Partly page count highest life)
+  pub next : (count : ℕ) × (highest : Option Pair) × (life : Life)
+      × (image.stage ≡ stage.Partly page count highest life)
   pub below : page < run.geometry.pages
   pub later : image.number ≤ number
   pub made : number ≤ end_of run
@@ -220,8 +234,8 @@ pub record IsPageChunk (run : Run) (image : NewImage) (number page : ℕ) (rows 
   pub rows-are : ArePageRows (cells_at run number) page rows
   pub slots : (q : Place) (r : Row) → map.get rows q ≡ Some r → q.slot < SLOTS_PER_PAGE
 
--- these are the image's next entries, behind all pages, as they were after the record `number`, in order: as many as a chunk
--- takes, or all that are left
+-- these are the image's next entries, behind all pages, as they were after the record `number`, in order: as many as a
+-- chunk takes, or all that are left
 pub record IsEntriesChunk (run : Run) (image : NewImage) (number : ℕ) (entries : List (Pair × Mark)) : Type 0 where
   pub more : Index
   pub count : ℕ
@@ -233,35 +247,42 @@ pub record IsEntriesChunk (run : Run) (image : NewImage) (number : ℕ) (entries
   pub small : number ≤ LAST_NUMBER
   pub listed : map.entries more ≡ entries
   pub most : length entries ≤ CHUNK_ENTRIES
-  pub full : (last : Pair × Mark) → slice_get entries (CHUNK_ENTRIES - 1) ≡ Some last → AreNextEntries (cells_at run number) above (Some last.0) more
+  pub full : (last : Pair × Mark) → slice_get entries (CHUNK_ENTRIES - 1) ≡ Some last
+      → AreNextEntries (cells_at run number) above (Some last.0) more
   pub rest : slice_get entries (CHUNK_ENTRIES - 1) ≡ None → AreLastEntries (cells_at run number) above more
   pub inside : (i : ℕ) (e : Pair × Mark) → slice_get entries i ≡ Some e → e.0.rid.page < run.geometry.pages
 
--- What may be taken: at any time a whole image or the start of one; of the image under way its next piece. Where none is under
--- way nothing is asked of other pieces, which are not taken.
+-- What may be taken: at any time a whole image or the start of one; of the image under way its next piece. Where none
+-- is under way nothing is asked of other pieces, which are not taken.
 abbrev pub IsChunk : {A D M : Type 0} → Run → Writer D M → (number : ℕ) → Piece A → Type 0
 IsChunk run w number (Whole cells) = IsWholeChunk run w.synced number (cells_of cells)
 IsChunk run w number (Start life lists) = IsStartChunk run w.synced number life lists
-IsChunk run w number (Page page rows) = (image : NewImage) → w.image ≡ Some image → IsPageChunk run image number page rows
-IsChunk run w number (Entries entries) = (image : NewImage) → w.image ≡ Some image → IsEntriesChunk run image number entries.items
+IsChunk run w number (Page page rows) = (image : NewImage) → w.image ≡ Some image
+    → IsPageChunk run image number page rows
+IsChunk run w number (Entries entries) = (image : NewImage) → w.image ≡ Some image
+    → IsEntriesChunk run image number entries.items
 
 -- an image is begun at the record `number`, at this stage, and its log is empty
 abbrev pub HasBegun : ℕ → Stage → NewImage → Type 0
-HasBegun number there image = (image.base ≡ number) × (image.number ≡ number) × (image.stage ≡ there) × (image.log.open_slots ≡ 0)
+HasBegun number there image = (image.base ≡ number) × (image.number ≡ number) × (image.stage ≡ there)
+    × (image.log.open_slots ≡ 0)
 
--- how much there is of an image behind so many pages and entries, with these entries: all of it where they are fewer than a
--- chunk takes
+-- how much there is of an image behind so many pages and entries, with these entries: all of it where they are fewer
+-- than a chunk takes
 abbrev pub stage_behind : (pages count : ℕ) → Life → List (Pair × Mark) → Stage
-stage_behind pages count life entries = option_map_or (λ last. stage.Partly pages (count + length entries) (Some last.0) life) (slice_get entries (CHUNK_ENTRIES - 1)) stage.Whole
+stage_behind pages count life entries = option_map_or (λ last.
+    stage.Partly pages (count + length entries) (Some last.0) life) (slice_get entries (CHUNK_ENTRIES - 1)) stage.Whole
 
 -- what the image is with these entries of the record `number`
 abbrev pub HaveEntries : {D M : Type 0} → ℕ → List (Pair × Mark) → Writer D M → NewImage → Type 0
-HaveEntries number entries old new = (image : NewImage) × (pages count : ℕ) × (above : Option Pair) × (life : Life) × (old.image ≡ Some image) × (image.stage ≡ stage.Partly pages count above life)
+HaveEntries number entries old new = (image : NewImage) × (pages count : ℕ) × (above : Option Pair) × (life : Life)
+    × (old.image ≡ Some image) × (image.stage ≡ stage.Partly pages count above life)
     × (new ≡ record image { number = number; stage = stage_behind pages count life entries })
 
 -- and what it is with the rows of this page
 abbrev pub HasRows : {D M : Type 0} → ℕ → (page : ℕ) → Writer D M → NewImage → Type 0
-HasRows number page old new = (image : NewImage) × (count : ℕ) × (highest : Option Pair) × (life : Life) × (old.image ≡ Some image) × (image.stage ≡ stage.Partly page count highest life)
+HasRows number page old new = (image : NewImage) × (count : ℕ) × (highest : Option Pair) × (life : Life)
+    × (old.image ≡ Some image) × (image.stage ≡ stage.Partly page count highest life)
     × (new ≡ record image { number = number; stage = stage.Partly (page + 1) count highest life })
 
 -- what the image is with a piece of the record `number`
@@ -273,11 +294,14 @@ HasPiece number (Entries entries) old new = HaveEntries number entries.items old
 
 -- this is the image under way, and but for the device all else is as it was
 abbrev pub HasKept : {D M : Type 0} → NewImage → Writer D M → Writer D M → Type 0
-HasKept image old new = (new.image ≡ Some image) × (new.halves ≡ old.halves) × (new.log ≡ old.log) × (new.waiting ≡ old.waiting) × (new.synced ≡ old.synced) × (new.failed ≡ old.failed)
+HasKept image old new = (new.image ≡ Some image) × (new.halves ≡ old.halves) × (new.log ≡ old.log)
+    × (new.waiting ≡ old.waiting) × (new.synced ≡ old.synced) × (new.failed ≡ old.failed)
 
 -- the image's entries with so many more pass the geometry's
 abbrev pub IsPast : {D M : Type 0} → Writer D M → (more : ℕ) → Type 0
-IsPast w more = (image : NewImage) × (pages count : ℕ) × (highest : Option Pair) × (life : Life) × (w.image ≡ Some image) × (image.stage ≡ stage.Partly pages count highest life) × (w.halves.geometry.entries < count + more)
+IsPast w more = (image : NewImage) × (pages count : ℕ) × (highest : Option Pair) × (life : Life)
+    × (w.image ≡ Some image) × (image.stage ≡ stage.Partly pages count highest life)
+    × (w.halves.geometry.entries < count + more)
 
 -- so many more entries can't be taken
 abbrev pub AreRefused : {D M : Type 0} → ℕ → Writer D M → Type 0
@@ -287,8 +311,8 @@ AreRefused more w = (w.image ≡ None) ⊎ (IsLogFull w ⊎ IsPast w more)
 abbrev pub IsPageRefused : {D M : Type 0} → Writer D M → Type 0
 IsPageRefused w = (w.image ≡ None) ⊎ IsLogFull w
 
--- Why an image is to be copied from its start: every slot of the current log is open; or it was given up, and there is none; or
--- its entries would pass the geometry's. A whole image is taken always.
+-- Why an image is to be copied from its start: every slot of the current log is open; or it was given up, and there is
+-- none; or its entries would pass the geometry's. A whole image is taken always.
 abbrev pub MustStartAgain : {A D M : Type 0} → Piece A → Writer D M → Type 0
 MustStartAgain (Whole cells) w = ⊥
 MustStartAgain (Start life lists) w = IsLogFull w
@@ -297,22 +321,27 @@ MustStartAgain (Entries entries) w = AreRefused (length entries.items) w
 
 -- the piece is in the image, and all else but the device is as it was; or nothing changed
 abbrev pub IsStepReply : {A D M : Type 0} → ℕ → Piece A → StepReply → Writer D M → Writer D M → Type 0
-IsStepReply number piece Taken old new = (¬ MustStartAgain piece old) × ((image : NewImage) × HasKept image old new × HasPiece number piece old image)
+IsStepReply number piece Taken old new = (¬ MustStartAgain piece old)
+    × ((image : NewImage) × HasKept image old new × HasPiece number piece old image)
 IsStepReply number piece StartAgain old new = (new ≡ old) × MustStartAgain piece old
 
 -- so it is of a page and of entries (no public clause cites these)
 abbrev pub IsPageAnswered : {D M : Type 0} → ℕ → (page : ℕ) → StepReply → Writer D M → Writer D M → Type 0
-IsPageAnswered number page Taken old new = (¬ IsPageRefused old) × ((image : NewImage) × HasKept image old new × HasRows number page old image)
+IsPageAnswered number page Taken old new = (¬ IsPageRefused old)
+    × ((image : NewImage) × HasKept image old new × HasRows number page old image)
 IsPageAnswered number page StartAgain old new = (new ≡ old) × IsPageRefused old
 
 -- so it is of entries (no public clause cites it)
 abbrev pub AreEntriesAnswered : {D M : Type 0} → ℕ → List (Pair × Mark) → StepReply → Writer D M → Writer D M → Type 0
-AreEntriesAnswered number entries Taken old new = (¬ AreRefused (length entries) old) × ((image : NewImage) × HasKept image old new × HaveEntries number entries old image)
+AreEntriesAnswered number entries Taken old new = (¬ AreRefused (length entries) old)
+    × ((image : NewImage) × HasKept image old new × HaveEntries number entries old image)
 AreEntriesAnswered number entries StartAgain old new = (new ≡ old) × AreRefused (length entries) old
 
--- what a flip wants: there is a whole image, every record up to its last step was handed in, and those above its base are synced
+-- what a flip wants: there is a whole image, every record up to its last step was handed in, and those above its base
+-- are synced
 abbrev pub CanFlip : {D M : Type 0} → ℕ → Writer D M → Type 0
-CanFlip handed w = (image : NewImage) × (w.image ≡ Some image) × (image.stage ≡ stage.Whole) × (image.number ≤ handed) × (image.number ≤ reach image w.synced)
+CanFlip handed w = (image : NewImage) × (w.image ≡ Some image) × (image.stage ≡ stage.Whole) × (image.number ≤ handed)
+    × (image.number ≤ reach image w.synced)
 
 -- The image's half is current, and its log is the log. The records up to the new last synced one wait no more.
 pub record HasFlipped {D M : Type 0} (old new : Writer D M) : Type 0 where
@@ -322,9 +351,12 @@ pub record HasFlipped {D M : Type 0} (old new : Writer D M) : Type 0 where
 
 -- the image is current, or there is none that can be
 abbrev pub IsFlipReply : {D M : Type 0} → ℕ → FlipReply → Writer D M → Writer D M → Type 0
-IsFlipReply handed (Flipped n) old new = (n ≡ new.synced) × (old.synced ≤ n) × CanFlip handed old × ((image : NewImage) → old.image ≡ Some image → n ≡ reach image old.synced) × (new.image ≡ None) × HasFlipped old new
+IsFlipReply handed (Flipped n) old new = (n ≡ new.synced) × (old.synced ≤ n) × CanFlip handed old
+    × ((image : NewImage) → old.image ≡ Some image → n ≡ reach image old.synced) × (new.image ≡ None)
+    × HasFlipped old new
 IsFlipReply handed Behind old new = (new ≡ old) × (¬ CanFlip handed old)
 
 -- the device failed, now or earlier, and is left alone from then on
 abbrev pub HasFailed : {D M : Type 0} → (D → ℕ) → Error → Writer D M → Writer D M → Type 0
-HasFailed failures e old new = (e ≡ DeviceFailed) × (new.failed ≡ true) × (old.failed ≡ false → Rises (failures old.device) (failures new.device)) × (old.failed ≡ true → new ≡ old)
+HasFailed failures e old new = (e ≡ DeviceFailed) × (new.failed ≡ true)
+    × (old.failed ≡ false → Rises (failures old.device) (failures new.device)) × (old.failed ≡ true → new ≡ old)

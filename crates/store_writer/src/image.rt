@@ -1,5 +1,6 @@
 //! An image that is under way in the half that isn't current, and the log behind it.
-ghost use Rattle.std.specs.Prelude.{◌≡◌, ◌⊎◌, ◌+◌, ◌%◌, ◌^◌, ◌<◌, ◌≤◌, ◌++◌, ◌∷◌, [], ℕ, List, Option, Some, None, IfSome, length, slice_get, true, OnOk, OnErr, IfOk, IfErr};
+ghost use Rattle.std.specs.Prelude.{◌≡◌, ◌⊎◌, ◌+◌, ◌%◌, ◌^◌, ◌<◌, ◌≤◌, ◌++◌, ◌∷◌, [], ℕ, List, Option, Some, None};
+ghost use Rattle.std.specs.Prelude.{IfSome, length, slice_get, true, OnOk, OnErr, IfOk, IfErr};
 ghost use Rattle.std.specs.FinMap as map;
 ghost use Rattle.sector_device.specs.Disk.{IsSynced, sector, SameOutside};
 ghost use Rattle.sector_device.specs.History.{LeavesOnly, RunsWithin, CountsFailure};
@@ -44,8 +45,8 @@ use std::alloc::Allocator;
 pub(crate) enum Stage {
     /// All of it.
     Whole,
-    /// Its lists, the rows of so many pages, and so many entries, of which the last one has the highest pair. The header is
-    /// wanting, which is to tell the life.
+    /// Its lists, the rows of so many pages, and so many entries, of which the last one has the highest pair. The
+    /// header is wanting, which is to tell the life.
     Partly {
         pages: u32,
         entries: u32,
@@ -78,8 +79,8 @@ pub(crate) enum Plan<A: Allocator> {
     Carry(Vec<u8, A>),
 }
 
-/// What is to become of an image when this group is flushed, which comes behind the record `synced`. Memory for the group in
-/// the image's log is taken now.
+/// What is to become of an image when this group is flushed, which comes behind the record `synced`. Memory for the
+/// group in the image's log is taken now.
 pub(crate) fn plan_for<A: Allocator + Copy>(
     alloc: A,
     image: Option<NewImage>,
@@ -115,18 +116,24 @@ pub(crate) fn carry<D: Device, A: Allocator>(
     requires inside { (i : NewImage) → image ≡ Some i → IsAreaInside i.log.area (D.history device.old).disk.content }
     requires room { (i : NewImage) → image ≡ Some i → i.log.open_slots ≤ i.log.area.slots }
     requires synced { IsSynced (D.history device.old).disk }
-    requires stands { (i : NewImage) → image ≡ Some i → (groups : List (List RecordValue)) × Stands i.log (D.history device.old).disk.content groups }
-    ensures carried { IfOk result (λ new. (slots synced : ℕ) (group : List RecordValue) → IsPlan image slots synced group plan
+    requires stands { (i : NewImage) → image ≡ Some i → (groups : List (List RecordValue))
+        × Stands i.log (D.history device.old).disk.content groups }
+    ensures carried { IfOk result (λ new. (slots synced : ℕ) (group : List RecordValue)
+        → IsPlan image slots synced group plan
         → (run : Run) (half : Half) → IfSome image (IsUnderway run half (D.history device.old).disk.content synced)
-        → run.last ≤ synced → synced + length group ≤ end_of run → group ≡ records_between run synced (synced + length group)
+        → run.last ≤ synced → synced + length group ≤ end_of run
+        → group ≡ records_between run synced (synced + length group)
         → IfSome new (IsUnderway run half (D.history device.new).disk.content (synced + length group))) }
-    ensures becomes { IfOk result (λ new. (slots synced : ℕ) (group : List RecordValue) → IsPlan image slots synced group plan
+    ensures becomes { IfOk result (λ new. (slots synced : ℕ) (group : List RecordValue)
+        → IsPlan image slots synced group plan
         → (run : Run) (half : Half) → IfSome image (IsUnderway run half (D.history device.old).disk.content synced)
         → slots ≡ run.geometry.slots → 0 < length group → BecomesImage slots synced (length group) image new) }
     ensures none { IfOk result (λ new. image ≡ None → new ≡ None) }
     ensures synced { OnOk result (IsSynced (D.history device.new).disk) }
-    ensures outside { SameOutside (InNewLog image) (D.history device.old).disk.content (D.history device.new).disk.content }
-    ensures any_moment { LeavesOnly (D.history device.old) (D.history device.new) (SameOutside (InNewLog image) (D.history device.old).disk.content) }
+    ensures outside { SameOutside (InNewLog image) (D.history device.old).disk.content
+        (D.history device.new).disk.content }
+    ensures any_moment { LeavesOnly (D.history device.old) (D.history device.new)
+        (SameOutside (InNewLog image) (D.history device.old).disk.content) }
     ensures slot { WritesOnly D.history (InNewSlot image) device.old device.new }
     ensures counts { CountsFailure (D.failures device.old) (D.failures device.new) result }
     ensures keeps { image ≡ None → OnErr result ⊥ }
@@ -152,9 +159,11 @@ fn closed_log<D: Device>(device: &mut D, halves: Halves) -> Result<LogArea, Fail
     ensures area { IfOk result (λ log. log.area ≡ log_area halves.geometry (other halves.current)) }
     ensures empty { IfOk result (λ log. Stands log (D.history device.new).disk.content []) }
     ensures synced { OnOk result (IsSynced (D.history device.new).disk) }
-    ensures outside { SameOutside (IsGate (log_area halves.geometry (other halves.current))) (D.history device.old).disk.content (D.history device.new).disk.content }
+    ensures outside { SameOutside (IsGate (log_area halves.geometry (other halves.current)))
+        (D.history device.old).disk.content (D.history device.new).disk.content }
     ensures any_moment { LeavesOnly (D.history device.old) (D.history device.new)
-        (SameOutside (λ n. IsGate (log_area halves.geometry (other halves.current)) n ⊎ ((D.history device.old).disk.unsynced n ≡ true)) (D.history device.old).disk.content) }
+        (SameOutside (λ n. IsGate (log_area halves.geometry (other halves.current)) n
+        ⊎ ((D.history device.old).disk.unsynced n ≡ true)) (D.history device.old).disk.content) }
     ensures counts { CountsFailure (D.failures device.old) (D.failures device.new) result }
 {
     let half = halves.current().other();
@@ -167,8 +176,8 @@ fn closed_log<D: Device>(device: &mut D, halves: Halves) -> Result<LogArea, Fail
 }
 
 /// Closes the gates of the half that isn't current, and syncs; then writes the image of these cells into it, which the
-/// record `base` left, without a sync. The answer is that half's log, which is empty. At each moment a crash leaves the rest
-/// of the device as it is.
+/// record `base` left, without a sync. The answer is that half's log, which is empty. At each moment a crash leaves the
+/// rest of the device as it is.
 pub fn write_whole<D: Device, A: Allocator + Copy>(
     device: &mut D,
     halves: Halves,
@@ -179,13 +188,18 @@ pub fn write_whole<D: Device, A: Allocator + Copy>(
     requires current { Names (sector (D.history device.old).disk.content FLIP_SECTOR) halves.current }
     requires number { base ≤ LAST_NUMBER }
     requires fits { FitsImage halves.geometry (cells_of cells.now) }
-    requires loose { (n : ℕ) → (D.history device.old).disk.unsynced n ≡ true → InHalfImage halves.geometry (other halves.current) n }
-    ensures written { OnOk result (HoldsImage halves.geometry (other halves.current) (D.history device.new).disk.content base (cells_of cells.now)) }
+    requires loose { (n : ℕ) → (D.history device.old).disk.unsynced n ≡ true
+        → InHalfImage halves.geometry (other halves.current) n }
+    ensures written { OnOk result (HoldsImage halves.geometry (other halves.current)
+        (D.history device.new).disk.content base (cells_of cells.now)) }
     ensures area { IfOk result (λ log. log.area ≡ log_area halves.geometry (other halves.current)) }
     ensures empty { IfOk result (λ log. Stands log (D.history device.new).disk.content []) }
-    ensures loose { OnOk result ((n : ℕ) → (D.history device.new).disk.unsynced n ≡ true → InHalfImage halves.geometry (other halves.current) n) }
-    ensures outside { SameOutside (InHalf halves.geometry (other halves.current)) (D.history device.old).disk.content (D.history device.new).disk.content }
-    ensures any_moment { LeavesOnly (D.history device.old) (D.history device.new) (SameOutside (InHalf halves.geometry (other halves.current)) (D.history device.old).disk.content) }
+    ensures loose { OnOk result ((n : ℕ) → (D.history device.new).disk.unsynced n ≡ true
+        → InHalfImage halves.geometry (other halves.current) n) }
+    ensures outside { SameOutside (InHalf halves.geometry (other halves.current)) (D.history device.old).disk.content
+        (D.history device.new).disk.content }
+    ensures any_moment { LeavesOnly (D.history device.old) (D.history device.new)
+        (SameOutside (InHalf halves.geometry (other halves.current)) (D.history device.old).disk.content) }
     ensures counts { CountsFailure (D.failures device.old) (D.failures device.new) result }
 {
     let log = closed_log(device, halves)?;
@@ -193,8 +207,8 @@ pub fn write_whole<D: Device, A: Allocator + Copy>(
     Ok(log)
 }
 
-/// Closes the gates of the half that isn't current, and syncs; then begins an image in it that is written part by part, with
-/// the lists of these cells. The answer is that half's log.
+/// Closes the gates of the half that isn't current, and syncs; then begins an image in it that is written part by part,
+/// with the lists of these cells. The answer is that half's log.
 pub(crate) fn write_first<D: Device, A: Allocator + Copy>(
     device: &mut D,
     halves: Halves,
@@ -203,13 +217,18 @@ pub(crate) fn write_first<D: Device, A: Allocator + Copy>(
     requires room { sectors_of halves.geometry ≤ length (D.history device.old).disk.content }
     requires current { Names (sector (D.history device.old).disk.content FLIP_SECTOR) halves.current }
     requires fits { FitsImage halves.geometry (cells_of cells.now) }
-    requires loose { (n : ℕ) → (D.history device.old).disk.unsynced n ≡ true → InHalfImage halves.geometry (other halves.current) n }
-    ensures written { OnOk result (IsImagePart halves.geometry (header_sector halves.geometry (other halves.current)) (D.history device.new).disk.content 0 (record (cells_of cells.now) { rows = map.empty; entries = map.empty })) }
+    requires loose { (n : ℕ) → (D.history device.old).disk.unsynced n ≡ true
+        → InHalfImage halves.geometry (other halves.current) n }
+    ensures written { OnOk result (IsImagePart halves.geometry (header_sector halves.geometry (other halves.current))
+        (D.history device.new).disk.content 0 (record (cells_of cells.now) { rows = map.empty; entries = map.empty })) }
     ensures area { IfOk result (λ log. log.area ≡ log_area halves.geometry (other halves.current)) }
     ensures empty { IfOk result (λ log. Stands log (D.history device.new).disk.content []) }
-    ensures loose { OnOk result ((n : ℕ) → (D.history device.new).disk.unsynced n ≡ true → InHalfImage halves.geometry (other halves.current) n) }
-    ensures outside { SameOutside (InHalf halves.geometry (other halves.current)) (D.history device.old).disk.content (D.history device.new).disk.content }
-    ensures any_moment { LeavesOnly (D.history device.old) (D.history device.new) (SameOutside (InHalf halves.geometry (other halves.current)) (D.history device.old).disk.content) }
+    ensures loose { OnOk result ((n : ℕ) → (D.history device.new).disk.unsynced n ≡ true
+        → InHalfImage halves.geometry (other halves.current) n) }
+    ensures outside { SameOutside (InHalf halves.geometry (other halves.current)) (D.history device.old).disk.content
+        (D.history device.new).disk.content }
+    ensures any_moment { LeavesOnly (D.history device.old) (D.history device.new)
+        (SameOutside (InHalf halves.geometry (other halves.current)) (D.history device.old).disk.content) }
     ensures counts { CountsFailure (D.failures device.old) (D.failures device.new) result }
 {
     let log = closed_log(device, halves)?;
@@ -217,8 +236,8 @@ pub(crate) fn write_first<D: Device, A: Allocator + Copy>(
     Ok(log)
 }
 
-/// Writes the next entries of an image that has all pages, behind as many as the header counts; and where they are fewer than
-/// a chunk takes, the header behind them, which counts them too.
+/// Writes the next entries of an image that has all pages, behind as many as the header counts; and where they are
+/// fewer than a chunk takes, the header behind them, which counts them too.
 pub(crate) fn write_next<D: Device>(
     device: &mut D,
     halves: Halves,
@@ -229,16 +248,27 @@ pub(crate) fn write_next<D: Device>(
     requires current { Names (sector (D.history device.old).disk.content FLIP_SECTOR) halves.current }
     requires full { header.now.entries % ENTRIES_PER_SECTOR ≡ 0 }
     requires room { header.now.entries + length entries.now ≤ halves.geometry.entries }
-    requires pages { (i : ℕ) (e : PairValue × MarkValue) → slice_get entries.now i ≡ Some e → e.0.rid.page < halves.geometry.pages }
+    requires pages { (i : ℕ) (e : PairValue × MarkValue) → slice_get entries.now i ≡ Some e
+        → e.0.rid.page < halves.geometry.pages }
     requires base { header.now.base ≤ LAST_NUMBER }
     requires highest { (p : PairValue) → header.now.life ≡ Building (Some p) → p.rid.page < halves.geometry.pages }
-    ensures part { OnOk result ((cells : Cells) (index : Index) → CHUNK_ENTRIES ≤ length entries.now → IsImagePart halves.geometry (header_sector halves.geometry (other halves.current)) (D.history device.old).disk.content halves.geometry.pages cells
-        → header.now.entries ≡ length (map.entries cells.entries) → map.entries index ≡ map.entries cells.entries ++ entries.now
-        → IsImagePart halves.geometry (header_sector halves.geometry (other halves.current)) (D.history device.new).disk.content halves.geometry.pages (record cells { entries = index })) }
-    ensures whole { OnOk result ((cells : Cells) (index : Index) → length entries.now < CHUNK_ENTRIES → IsImagePart halves.geometry (header_sector halves.geometry (other halves.current)) (D.history device.old).disk.content halves.geometry.pages cells
-        → header.now.entries ≡ length (map.entries cells.entries) → map.entries index ≡ map.entries cells.entries ++ entries.now → header.now.life ≡ cells.life
-        → HoldsImage halves.geometry (other halves.current) (D.history device.new).disk.content header.now.base (record cells { entries = index })) }
-    ensures within { RunsWithin (λ n. InHalfImage halves.geometry (other halves.current) n ⊎ ((D.history device.old).disk.unsynced n ≡ true)) (D.history device.old).disk.content (D.history device.old) (D.history device.new) }
+    ensures part { OnOk result ((cells : Cells) (index : Index) → CHUNK_ENTRIES ≤ length entries.now
+        → IsImagePart halves.geometry (header_sector halves.geometry (other halves.current))
+        (D.history device.old).disk.content halves.geometry.pages cells
+        → header.now.entries ≡ length (map.entries cells.entries)
+        → map.entries index ≡ map.entries cells.entries ++ entries.now
+        → IsImagePart halves.geometry (header_sector halves.geometry (other halves.current))
+        (D.history device.new).disk.content halves.geometry.pages (record cells { entries = index })) }
+    ensures whole { OnOk result ((cells : Cells) (index : Index) → length entries.now < CHUNK_ENTRIES
+        → IsImagePart halves.geometry (header_sector halves.geometry (other halves.current))
+        (D.history device.old).disk.content halves.geometry.pages cells
+        → header.now.entries ≡ length (map.entries cells.entries)
+        → map.entries index ≡ map.entries cells.entries ++ entries.now → header.now.life ≡ cells.life
+        → HoldsImage halves.geometry (other halves.current) (D.history device.new).disk.content header.now.base
+        (record cells { entries = index })) }
+    ensures within { RunsWithin (λ n. InHalfImage halves.geometry (other halves.current) n
+        ⊎ ((D.history device.old).disk.unsynced n ≡ true)) (D.history device.old).disk.content (D.history device.old)
+        (D.history device.new) }
     ensures counts { CountsFailure (D.failures device.old) (D.failures device.new) result }
 {
     halves.write_entries(device, header.entries, entries)?;
@@ -271,8 +301,8 @@ pub(crate) fn lists_alone<A: Allocator + Copy>(
     }
 }
 
-/// How much there is of an image behind so many pages and entries, with these entries: all of it where they are fewer than a
-/// chunk takes.
+/// How much there is of an image behind so many pages and entries, with these entries: all of it where they are fewer
+/// than a chunk takes.
 pub(crate) fn stage_behind(pages: u32, count: u32, life: Life, entries: &[(Pair, Mark)]) -> Stage
     requires { count + length entries.now < 2 ^ 32 }
     ensures { result ≡ stage_behind pages count life entries.now }
@@ -290,9 +320,11 @@ pub(crate) fn stage_behind(pages: u32, count: u32, life: Life, entries: &[(Pair,
 
 /// An image that is copied in steps, with the rows of this page as the record `number` left them.
 pub(crate) fn with_page(image: NewImage, number: u64, page: u32) -> NewImage
-    requires partly { (pages count : ℕ) × (highest : Option PairValue) × (life : LifeValue) × (image.stage ≡ Partly pages count highest life) }
+    requires partly { (pages count : ℕ) × (highest : Option PairValue) × (life : LifeValue)
+        × (image.stage ≡ Partly pages count highest life) }
     requires room { page + 1 < 2 ^ 32 }
-    ensures { (pages count : ℕ) (highest : Option PairValue) (life : LifeValue) → image.stage ≡ Partly pages count highest life
+    ensures { (pages count : ℕ) (highest : Option PairValue) (life : LifeValue)
+        → image.stage ≡ Partly pages count highest life
         → result ≡ record image { number = number; stage = Partly (page + 1) count highest life } }
 {
     let NewImage {

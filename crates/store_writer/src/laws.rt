@@ -23,40 +23,51 @@ ghost use Rattle.store_writer.specs.Writer.{IsOpenedAt, longer, AreNext};
 
 use store_reader::image_inside;
 
-/// A law: where a store has the cells of a run after one of its records, a reader finds what is recovered of them, if the
-/// geometry has a place for each entry. Over an opening that is what is given after the records up to that one.
+/// A law: where a store has the cells of a run after one of its records, a reader finds what is recovered of them, if
+/// the geometry has a place for each entry. Over an opening that is what is given after the records up to that one.
 pub fn given_by_cells()
-    ensures gives { (g : GeometryValue) (image : Image) (last : ℕ) (cells : Cells) → StoreHas g image last cells → len (recovered cells last).entries ≤ g.entries → Gives image g (recovered cells last) }
-    ensures prefix { (run : Run) (opening : Given) (n : ℕ) → run.cells ≡ opening_cells opening → run.last ≡ opening.last → run.last ≤ n → n ≤ end_of run
+    ensures gives { (g : GeometryValue) (image : Image) (last : ℕ) (cells : Cells) → StoreHas g image last cells
+        → len (recovered cells last).entries ≤ g.entries → Gives image g (recovered cells last) }
+    ensures prefix { (run : Run) (opening : Given) (n : ℕ) → run.cells ≡ opening_cells opening → run.last ≡ opening.last
+        → run.last ≤ n → n ≤ end_of run
         → recovered (cells_at run n) n ≡ given_after opening (records_to run n) }
 {}
 
-/// A law: a writer can be opened over what a reader found on a device that is synced. What was given is recovered of the
-/// cells that the run begins with.
+/// A law: a writer can be opened over what a reader found on a device that is synced. What was given is recovered of
+/// the cells that the run begins with.
 pub fn opened_by_reader()
-    ensures { (now : History) (halves : HalvesValue) (log : Log) (given : Given) → IsStore halves.geometry halves.current now.disk.content → IsFound now.disk.content halves.geometry log given → IsSynced now.disk → given.last ≤ LAST_NUMBER
+    ensures { (now : History) (halves : HalvesValue) (log : Log) (given : Given)
+        → IsStore halves.geometry halves.current now.disk.content → IsFound now.disk.content halves.geometry log given
+        → IsSynced now.disk → given.last ≤ LAST_NUMBER
         → (cells : Cells) × (given ≡ recovered cells given.last) × IsOpenedAt now halves log given.last cells }
 {
     image_inside();
 }
 
-/// A law: a writer can be opened over an image whose log is empty, on a device that is synced: what a restart leaves that
-/// wrote the image of what it read.
+/// A law: a writer can be opened over an image whose log is empty, on a device that is synced: what a restart leaves
+/// that wrote the image of what it read.
 pub fn opened_by_image()
-    ensures { (now : History) (halves : HalvesValue) (log : Log) (last : ℕ) (cells : Cells) → IsStore halves.geometry halves.current now.disk.content → HoldsImage halves.geometry halves.current now.disk.content last cells
-        → log.area ≡ log_area halves.geometry halves.current → Stands log now.disk.content [] → IsSynced now.disk → last ≤ LAST_NUMBER → IsOpenedAt now halves log last cells }
+    ensures { (now : History) (halves : HalvesValue) (log : Log) (last : ℕ) (cells : Cells)
+        → IsStore halves.geometry halves.current now.disk.content
+        → HoldsImage halves.geometry halves.current now.disk.content last cells
+        → log.area ≡ log_area halves.geometry halves.current → Stands log now.disk.content [] → IsSynced now.disk
+        → last ≤ LAST_NUMBER → IsOpenedAt now halves log last cells }
 {
     image_inside();
 }
 
-/// A law: records that can follow the ones of a run make it longer, and are the next ones to be handed in where all before
-/// were.
+/// A law: records that can follow the ones of a run make it longer, and are the next ones to be handed in where all
+/// before were.
 pub fn longer_run()
-    ensures run { (run : Run) (more : List RecordValue) → IsRun run → AreFollowing run.geometry.pages (end_of run) (cells_at run (end_of run)) more → IsRun (longer run more) }
-    ensures next { (run : Run) (more : List RecordValue) → end_of run + length more ≤ LAST_NUMBER → AreNext (longer run more) (end_of run) more }
+    ensures run { (run : Run) (more : List RecordValue) → IsRun run
+        → AreFollowing run.geometry.pages (end_of run) (cells_at run (end_of run)) more → IsRun (longer run more) }
+    ensures next { (run : Run) (more : List RecordValue) → end_of run + length more ≤ LAST_NUMBER
+        → AreNext (longer run more) (end_of run) more }
 {}
 
 /// A law: an image that is copied in steps stays at its place where a group is flushed, or is given up.
 pub fn kept_place()
-    ensures { (pages slots synced count : ℕ) (place : Option CopyPlace) (old new : Option NewImage) → BecomesImage slots synced count old new → IsAtPlace pages place old → (new ≡ None) ⊎ IsAtPlace pages place new }
+    ensures { (pages slots synced count : ℕ) (place : Option CopyPlace) (old new : Option NewImage)
+        → BecomesImage slots synced count old new → IsAtPlace pages place old → (new ≡ None)
+        ⊎ IsAtPlace pages place new }
 {}

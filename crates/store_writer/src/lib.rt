@@ -1,10 +1,10 @@
-//! The writer of a store: it takes records in order, and its device always gives what a prefix of them makes of the store
-//! that was opened. It knows records as bytes of a log and as what they set, and no more of what they mean.
+//! The writer of a store: it takes records in order, and its device always gives what a prefix of them makes of the
+//! store that was opened. It knows records as bytes of a log and as what they set, and no more of what they mean.
 //!
-//! Proved: `flush_group` writes as many waiting records as fill a group, and tells the last synced one (`flushed`); it writes in
-//! one slot of each log alone (`slot`). `checkpoint_step` takes an image piece by piece (`stepped`). `checkpoint_flip` makes it
-//! current just where its log has all it needs (`flipped`, `behind`). No record is lost for want of memory (`back`).
-//! Only tested, through a store: that calls succeed where there is memory.
+//! Proved: `flush_group` writes as many waiting records as fill a group, and tells the last synced one (`flushed`); it
+//! writes in one slot of each log alone (`slot`). `checkpoint_step` takes an image piece by piece (`stepped`).
+//! `checkpoint_flip` makes it current just where its log has all it needs (`flipped`, `behind`). No record is lost for
+//! want of memory (`back`). Only tested, through a store: that calls succeed where there is memory.
 #![tactic(auto)]
 
 mod image;

@@ -25,9 +25,13 @@ pub(crate) fn write_rows<D: Device, A: Allocator>(
     requires inside { sectors_of halves.geometry ≤ length (D.history device.old).disk.content }
     requires current { Names (sector (D.history device.old).disk.content FLIP_SECTOR) halves.current }
     requires page { page < halves.geometry.pages }
-    ensures written { OnOk result (HasPage (header_sector halves.geometry (other halves.current)) (D.history device.new).disk.content page rows.now) }
-    ensures outside { SameOutside (InPage (header_sector halves.geometry (other halves.current)) page) (D.history device.old).disk.content (D.history device.new).disk.content }
-    ensures within { RunsWithin (λ n. InHalfImage halves.geometry (other halves.current) n ⊎ ((D.history device.old).disk.unsynced n ≡ true)) (D.history device.old).disk.content (D.history device.old) (D.history device.new) }
+    ensures written { OnOk result (HasPage (header_sector halves.geometry (other halves.current))
+        (D.history device.new).disk.content page rows.now) }
+    ensures outside { SameOutside (InPage (header_sector halves.geometry (other halves.current)) page)
+        (D.history device.old).disk.content (D.history device.new).disk.content }
+    ensures within { RunsWithin (λ n. InHalfImage halves.geometry (other halves.current) n
+        ⊎ ((D.history device.old).disk.unsynced n ≡ true)) (D.history device.old).disk.content (D.history device.old)
+        (D.history device.new) }
     ensures counts { CountsFailure (D.failures device.old) (D.failures device.new) result }
 {
     match rows.page(page) {

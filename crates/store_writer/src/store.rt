@@ -1,5 +1,6 @@
 //! The writer of a store.
-ghost use Rattle.std.specs.Prelude.{◌≡◌, ◌≢◌, ◌+◌, ◌-◌, ◌≤◌, ◌++◌, ℕ, List, [], length, false, Some, Option, None, OnOk, OnErr, IfOk, IfErr};
+ghost use Rattle.std.specs.Prelude.{◌≡◌, ◌≢◌, ◌+◌, ◌-◌, ◌≤◌, ◌++◌, ℕ, List, [], length, false, Some, Option, None};
+ghost use Rattle.std.specs.Prelude.{OnOk, OnErr, IfOk, IfErr};
 ghost use Rattle.sector_device.specs.Disk.{Image, IsCrashImage};
 ghost use Rattle.sector_device.specs.History.{LeavesOnly};
 ghost use Rattle.records.specs.RecordValue.{RecordValue};
@@ -57,14 +58,18 @@ impl<D: Device, A: Allocator> Model for StoreWriter<D, A> {
 }
 
 impl<D: Device, A: Allocator + Copy> StoreWriter<D, A> {
-    ghost use Rattle.store_writer.specs.Writer.{IsWriter, IsOpenedAt, opened_run, longer, AreNext, IsLogFull, IsFlushReply, IsNotFlushed, IsPageChunk, IsEntriesChunk, IsChunk, MustStartAgain, IsStepReply, CanFlip, IsFlipReply, HasFailed, InOpenedSlots, WritesLogsAlone, WritesOnly, IsAsBefore, IsBeforeFlush};
+    ghost use Rattle.store_writer.specs.Writer.{IsWriter, IsOpenedAt, opened_run, longer, AreNext, IsLogFull};
+    ghost use Rattle.store_writer.specs.Writer.{IsFlushReply, IsNotFlushed, IsPageChunk, IsEntriesChunk, IsChunk};
+    ghost use Rattle.store_writer.specs.Writer.{MustStartAgain, IsStepReply, CanFlip, IsFlipReply, HasFailed};
+    ghost use Rattle.store_writer.specs.Writer.{InOpenedSlots, WritesLogsAlone, WritesOnly, IsAsBefore, IsBeforeFlush};
 
-    /// A writer to which nothing was handed, over a device that is synced. The log is that of the current half, as a reader
-    /// or `LogArea::clear` left it, and the current half has the cells after the record `synced`. Nothing is read, and no
-    /// memory is taken.
+    /// A writer to which nothing was handed, over a device that is synced. The log is that of the current half, as a
+    /// reader or `LogArea::clear` left it, and the current half has the cells after the record `synced`. Nothing is
+    /// read, and no memory is taken.
     pub fn new(alloc: A, device: D, halves: Halves, log: LogArea, synced: u64) -> Self
         requires { (cells : Cells) × IsOpenedAt (D.history device) halves log synced cells }
-        ensures writer { (cells : Cells) → IsOpenedAt (D.history device) halves log synced cells → IsWriter D.history (opened_run halves synced cells) synced result }
+        ensures writer { (cells : Cells) → IsOpenedAt (D.history device) halves log synced cells
+            → IsWriter D.history (opened_run halves synced cells) synced result }
         ensures device { device_of result ≡ device }
         ensures halves { halves_of result ≡ halves }
         ensures log { log_of result ≡ log }
@@ -80,17 +85,24 @@ impl<D: Device, A: Allocator + Copy> StoreWriter<D, A> {
 
     /// A law: where more records are made, the writer stands as before.
     pub fn goes_on(&self)
-        ensures { (run : Run) (handed : ℕ) (more : List RecordValue) → IsWriter D.history run handed self.now → IsRun (longer run more) → IsWriter D.history (longer run more) handed self.now }
+        ensures { (run : Run) (handed : ℕ) (more : List RecordValue) → IsWriter D.history run handed self.now
+            → IsRun (longer run more) → IsWriter D.history (longer run more) handed self.now }
     {
         self.writer.goes_on();
     }
 
     /// A law: the piece of an image that is due may be taken, as the last record made left its cells.
     pub fn next_pieces(&self)
-        ensures page { (run : Run) (handed page : ℕ) (rows : Table) → IsWriter D.history run handed self.now → has_failed self.now ≡ false → end_of run ≤ LAST_NUMBER → IsAtPlace run.geometry.pages (Some (CopyPlace.Page page)) (image_of self.now)
-            → AreRowsNow run page rows → (i : NewImage) → (image_of self.now) ≡ Some i → IsPageChunk run i (end_of run) page rows }
-        ensures entries { (run : Run) (handed : ℕ) (above : Option PairValue) (entries : List (PairValue × MarkValue)) → IsWriter D.history run handed self.now → has_failed self.now ≡ false → end_of run ≤ LAST_NUMBER → IsAtPlace run.geometry.pages (Some (CopyPlace.Entries above)) (image_of self.now)
-            → AreEntriesNow run above entries → (i : NewImage) → (image_of self.now) ≡ Some i → IsEntriesChunk run i (end_of run) entries }
+        ensures page { (run : Run) (handed page : ℕ) (rows : Table) → IsWriter D.history run handed self.now
+            → has_failed self.now ≡ false → end_of run ≤ LAST_NUMBER
+            → IsAtPlace run.geometry.pages (Some (CopyPlace.Page page)) (image_of self.now)
+            → AreRowsNow run page rows → (i : NewImage) → (image_of self.now) ≡ Some i
+            → IsPageChunk run i (end_of run) page rows }
+        ensures entries { (run : Run) (handed : ℕ) (above : Option PairValue) (entries : List (PairValue × MarkValue))
+            → IsWriter D.history run handed self.now → has_failed self.now ≡ false → end_of run ≤ LAST_NUMBER
+            → IsAtPlace run.geometry.pages (Some (CopyPlace.Entries above)) (image_of self.now)
+            → AreEntriesNow run above entries → (i : NewImage) → (image_of self.now) ≡ Some i
+            → IsEntriesChunk run i (end_of run) entries }
     {
         self.writer.next_pieces();
     }
@@ -99,10 +111,13 @@ impl<D: Device, A: Allocator + Copy> StoreWriter<D, A> {
     ///
     /// An `Err` gives them back, for want of memory, and changes nothing. An empty list takes none.
     pub fn hand_in(&mut self, records: Vec<Record, A>) -> Result<(), Vec<Record, A>>
-        requires { (run : Run) × (handed : ℕ) × IsWriter D.history run handed self.old × AreNext run handed records.items }
-        ensures writer { OnOk result ((run : Run) (handed : ℕ) → IsWriter D.history run handed self.old → AreNext run handed records.items → IsWriter D.history run (handed + length records.items) self.new) }
+        requires { (run : Run) × (handed : ℕ) × IsWriter D.history run handed self.old
+            × AreNext run handed records.items }
+        ensures writer { OnOk result ((run : Run) (handed : ℕ) → IsWriter D.history run handed self.old
+            → AreNext run handed records.items → IsWriter D.history run (handed + length records.items) self.new) }
         ensures waits { OnOk result (waiting_of self.new ≡ waiting_of self.old ++ records.items) }
-        ensures unchanged { OnErr result ((run : Run) (handed : ℕ) → IsWriter D.history run handed self.old → IsWriter D.history run handed self.new) }
+        ensures unchanged { OnErr result ((run : Run) (handed : ℕ) → IsWriter D.history run handed self.old
+            → IsWriter D.history run handed self.new) }
         ensures still { OnErr result (waiting_of self.new ≡ waiting_of self.old) }
         ensures back { IfErr result (λ back. back.items ≡ records.items) }
         ensures some { OnErr result (records.items ≢ []) }
@@ -117,24 +132,31 @@ impl<D: Device, A: Allocator + Copy> StoreWriter<D, A> {
     }
 
     /// Writes the next group of the records that wait, as many of them, in order, as fill one, and syncs it. A group is
-    /// written only where no memory is wanting. Where an image is under way, the group's records above its base are written to
-    /// the log of its half too, or the image is given up (`image`).
+    /// written only where no memory is wanting. Where an image is under way, the group's records above its base are
+    /// written to the log of its half too, or the image is given up (`image`).
     ///
-    /// `NoMemory` means that nothing was written, and nothing changed. `DeviceFailed` comes where the device fails in the
-    /// call, and from then on; the log has then no group more, unless an image is under way (`left`). Whatever the answer is,
-    /// no sector is written but those of one slot of the current half's log, the first that isn't open, and, where an image is
-    /// under way, of one slot of the log of its half (`slot`): the halves and the place of the log stay, and each lies within its
-    /// half (`around`).
+    /// `NoMemory` means that nothing was written, and nothing changed. `DeviceFailed` comes where the device fails in
+    /// the call, and from then on; the log has then no group more, unless an image is under way (`left`). Whatever the
+    /// answer is, no sector is written but those of one slot of the current half's log, the first that isn't open, and,
+    /// where an image is under way, of one slot of the log of its half (`slot`): the halves and the place of the log
+    /// stay, and each lies within its half (`around`).
     pub fn flush_group(&mut self, alloc: A) -> Result<FlushReply, Error>
-        ensures writer { (run : Run) (handed : ℕ) → IsWriter D.history run handed self.old → IsWriter D.history run handed self.new }
+        ensures writer { (run : Run) (handed : ℕ) → IsWriter D.history run handed self.old
+            → IsWriter D.history run handed self.new }
         ensures images { (run : Run) (handed : ℕ) → IsWriter D.history run handed self.old
-            → LeavesOnly (D.history (device_of self.old)) (D.history (device_of self.new)) (LeftBy run (synced_of self.old) handed) }
+            → LeavesOnly (D.history (device_of self.old)) (D.history (device_of self.new))
+            (LeftBy run (synced_of self.old) handed) }
         ensures flushed { IfOk result (λ reply. IsFlushReply reply self.old self.new) }
-        ensures image { (n : ℕ) → result ≡ Ok (FlushReply.Flushed n) → BecomesImage (halves_of self.old).geometry.slots (synced_of self.old) (n - synced_of self.old) (image_of self.old) (image_of self.new) }
-        ensures nothing { result ≡ Ok FlushReply.Nothing → (run : Run) (handed : ℕ) → IsWriter D.history run handed self.old → synced_of self.old ≡ handed }
-        ensures idle { (run : Run) (handed : ℕ) → IsWriter D.history run handed self.old → has_failed self.old ≡ false → synced_of self.old ≡ handed → result ≡ Ok FlushReply.Nothing }
+        ensures image { (n : ℕ) → result ≡ Ok (FlushReply.Flushed n)
+            → BecomesImage (halves_of self.old).geometry.slots (synced_of self.old) (n - synced_of self.old)
+            (image_of self.old) (image_of self.new) }
+        ensures nothing { result ≡ Ok FlushReply.Nothing → (run : Run) (handed : ℕ)
+            → IsWriter D.history run handed self.old → synced_of self.old ≡ handed }
+        ensures idle { (run : Run) (handed : ℕ) → IsWriter D.history run handed self.old → has_failed self.old ≡ false
+            → synced_of self.old ≡ handed → result ≡ Ok FlushReply.Nothing }
         ensures sound { OnOk result ((has_failed self.old ≡ false) × (has_failed self.new ≡ false)) }
-        ensures full { has_failed self.old ≡ false → waiting_of self.old ≢ [] → IsLogFull self.old → result ≡ Ok FlushReply.LogFull }
+        ensures full { has_failed self.old ≡ false → waiting_of self.old ≢ [] → IsLogFull self.old
+            → result ≡ Ok FlushReply.LogFull }
         ensures err { IfErr result (λ e. IsNotFlushed D.failures e self.old self.new) }
         ensures kept { OnErr result (synced_of self.new ≡ synced_of self.old) }
         ensures quiet { OnOk result (D.failures (device_of self.new) ≡ D.failures (device_of self.old)) }
@@ -146,47 +168,59 @@ impl<D: Device, A: Allocator + Copy> StoreWriter<D, A> {
         self.writer.flush_group(alloc)
     }
 
-    /// Takes what was copied into an image, into the half that isn't current. All cells, as the record of the chunk's number
-    /// left them, make a whole image; life and lists begin one that is copied in steps; either gives up an image that was under
-    /// way, and its log is empty. Then come the rows of each page in order, and the entries in order, the last ones fewer than a
-    /// chunk takes: with them the image is whole.
+    /// Takes what was copied into an image, into the half that isn't current. All cells, as the record of the chunk's
+    /// number left them, make a whole image; life and lists begin one that is copied in steps; either gives up an image
+    /// that was under way, and its log is empty. Then come the rows of each page in order, and the entries in order,
+    /// the last ones fewer than a chunk takes: with them the image is whole.
     ///
-    /// `StartAgain` where the image is copied in steps and every slot of the current log is open, or it was given up, or its
-    /// entries would pass the geometry's: nothing changes, and a whole image is wanted. `DeviceFailed` comes where the device
-    /// fails in the call, and from then on. Whatever the answer is, no sector is written but those of the half that isn't
-    /// current (`around`).
+    /// `StartAgain` where the image is copied in steps and every slot of the current log is open, or it was given up,
+    /// or its entries would pass the geometry's: nothing changes, and a whole image is wanted. `DeviceFailed` comes
+    /// where the device fails in the call, and from then on. Whatever the answer is, no sector is written but those of
+    /// the half that isn't current (`around`).
     pub fn checkpoint_step(&mut self, chunk: Chunk<A>) -> Result<StepReply, Error>
-        requires { (run : Run) × (handed : ℕ) × IsWriter D.history run handed self.old × IsChunk run self.old chunk.number chunk.piece }
-        ensures writer { (run : Run) (handed : ℕ) → IsWriter D.history run handed self.old → IsChunk run self.old chunk.number chunk.piece → IsWriter D.history run handed self.new }
+        requires { (run : Run) × (handed : ℕ) × IsWriter D.history run handed self.old
+            × IsChunk run self.old chunk.number chunk.piece }
+        ensures writer { (run : Run) (handed : ℕ) → IsWriter D.history run handed self.old
+            → IsChunk run self.old chunk.number chunk.piece → IsWriter D.history run handed self.new }
         ensures images { (run : Run) (handed : ℕ) → IsWriter D.history run handed self.old
-            → LeavesOnly (D.history (device_of self.old)) (D.history (device_of self.new)) (LeftBy run (synced_of self.old) handed) }
+            → LeavesOnly (D.history (device_of self.old)) (D.history (device_of self.new))
+            (LeftBy run (synced_of self.old) handed) }
         ensures stepped { IfOk result (λ reply. IsStepReply chunk.number chunk.piece reply self.old self.new) }
         ensures sound { OnOk result ((has_failed self.old ≡ false) × (has_failed self.new ≡ false)) }
-        ensures place { result ≡ Ok StepReply.Taken → IsAtPiece (halves_of self.old).geometry.pages chunk.piece (image_of self.old) → IsAtPlace (halves_of self.old).geometry.pages (place_behind (halves_of self.old).geometry.pages chunk.piece) (image_of self.new) }
-        ensures again { has_failed self.old ≡ false → MustStartAgain chunk.piece self.old → result ≡ Ok StepReply.StartAgain }
+        ensures place { result ≡ Ok StepReply.Taken
+            → IsAtPiece (halves_of self.old).geometry.pages chunk.piece (image_of self.old)
+            → IsAtPlace (halves_of self.old).geometry.pages (place_behind
+            (halves_of self.old).geometry.pages chunk.piece) (image_of self.new) }
+        ensures again { has_failed self.old ≡ false → MustStartAgain chunk.piece self.old
+            → result ≡ Ok StepReply.StartAgain }
         ensures err { IfErr result (λ e. HasFailed D.failures e self.old self.new) }
         ensures quiet { OnOk result (D.failures (device_of self.new) ≡ D.failures (device_of self.old)) }
         ensures later { D.failures (device_of self.old) ≤ D.failures (device_of self.new) }
         ensures kept { synced_of self.new ≡ synced_of self.old }
-        ensures around { WritesOnly D.history (InHalf (halves_of self.old).geometry (other (halves_of self.old).current)) (device_of self.old) (device_of self.new) }
+        ensures around { WritesOnly D.history (InHalf (halves_of self.old).geometry
+            (other (halves_of self.old).current)) (device_of self.old) (device_of self.new) }
         ensures left { OnErr result (IsAsBefore self.old self.new) }
     {
         self.writer.checkpoint_step(chunk)
     }
 
-    /// Makes the image current, and drops the records that wait and are in it. From then on what a crash leaves has every
-    /// record up to the image's base, and those of its log.
+    /// Makes the image current, and drops the records that wait and are in it. From then on what a crash leaves has
+    /// every record up to the image's base, and those of its log.
     ///
     /// `Behind` where there is no image, or a record up to its last step isn't handed in, or one of them above its base
-    /// isn't synced; nothing changes. `DeviceFailed` comes where the device fails in the call, and from then on. Whatever the
-    /// answer is, no sector is written but the one that tells which half is current (`around`).
+    /// isn't synced; nothing changes. `DeviceFailed` comes where the device fails in the call, and from then on.
+    /// Whatever the answer is, no sector is written but the one that tells which half is current (`around`).
     pub fn checkpoint_flip(&mut self) -> Result<FlipReply, Error>
-        ensures writer { (run : Run) (handed : ℕ) → IsWriter D.history run handed self.old → IsWriter D.history run handed self.new }
+        ensures writer { (run : Run) (handed : ℕ) → IsWriter D.history run handed self.old
+            → IsWriter D.history run handed self.new }
         ensures images { (run : Run) (handed : ℕ) → IsWriter D.history run handed self.old
-            → LeavesOnly (D.history (device_of self.old)) (D.history (device_of self.new)) (LeftBy run (synced_of self.old) handed) }
-        ensures flipped { (run : Run) (handed : ℕ) → IsWriter D.history run handed self.old → IfOk result (λ reply. IsFlipReply handed reply self.old self.new) }
+            → LeavesOnly (D.history (device_of self.old)) (D.history (device_of self.new))
+            (LeftBy run (synced_of self.old) handed) }
+        ensures flipped { (run : Run) (handed : ℕ) → IsWriter D.history run handed self.old
+            → IfOk result (λ reply. IsFlipReply handed reply self.old self.new) }
         ensures sound { OnOk result ((has_failed self.old ≡ false) × (has_failed self.new ≡ false)) }
-        ensures behind { (run : Run) (handed : ℕ) → IsWriter D.history run handed self.old → has_failed self.old ≡ false → ¬ CanFlip handed self.old → result ≡ Ok FlipReply.Behind }
+        ensures behind { (run : Run) (handed : ℕ) → IsWriter D.history run handed self.old → has_failed self.old ≡ false
+            → ¬ CanFlip handed self.old → result ≡ Ok FlipReply.Behind }
         ensures err { IfErr result (λ e. HasFailed D.failures e self.old self.new) }
         ensures quiet { OnOk result (D.failures (device_of self.new) ≡ D.failures (device_of self.old)) }
         ensures later { D.failures (device_of self.old) ≤ D.failures (device_of self.new) }
@@ -235,7 +269,8 @@ impl<D: Device, A: Allocator + Copy> StoreWriter<D, A> {
     /// The device as it is now. The records that wait are lost.
     pub fn into_device(self) -> D
         ensures device { result ≡ device_of self }
-        ensures images { (run : Run) (handed : ℕ) → IsWriter D.history run handed self → (image : Image) → IsCrashImage (D.history result).disk image → LeftBy run (synced_of self) handed image }
+        ensures images { (run : Run) (handed : ℕ) → IsWriter D.history run handed self → (image : Image)
+            → IsCrashImage (D.history result).disk image → LeftBy run (synced_of self) handed image }
     {
         self.writer.into_device()
     }

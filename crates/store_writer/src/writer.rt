@@ -1,5 +1,6 @@
 //! A device, its log, and the records that wait for it.
-ghost use Rattle.std.specs.Prelude.{◌≡◌, ◌≢◌, ◌↔◌, ◌+◌, ◌-◌, ◌≤◌, ◌<◌, ◌++◌, List, [], ℕ, length, take, drop, true, false, Option, Some, None, IsTrue, OnOk, OnErr, IfOk, IfErr};
+ghost use Rattle.std.specs.Prelude.{◌≡◌, ◌≢◌, ◌↔◌, ◌+◌, ◌-◌, ◌≤◌, ◌<◌, ◌++◌, List, [], ℕ, length, take, drop, true};
+ghost use Rattle.std.specs.Prelude.{false, Option, Some, None, IsTrue, OnOk, OnErr, IfOk, IfErr};
 ghost use Rattle.sector_device.specs.History.{LeavesOnly, Rises};
 ghost use Rattle.records.specs.RecordValue.{RecordValue};
 ghost use Rattle.model.specs.Cells.{Cells};
@@ -38,8 +39,8 @@ pub enum FlushReply {
     Flushed(u64),
     /// No record waited.
     Nothing,
-    /// A record waits, and every slot of the log is open. A flip gives room; where records that a whole image has to reach
-    /// still wait, it can't, and a whole image is to be taken.
+    /// A record waits, and every slot of the log is open. A flip gives room; where records that a whole image has to
+    /// reach still wait, it can't, and a whole image is to be taken.
     LogFull,
 }
 
@@ -57,8 +58,8 @@ pub enum StepReply {
 pub enum FlipReply {
     /// The image is current, and the records up to this number are synced.
     Flipped(u64),
-    /// There is no whole image, or a record up to its last step isn't handed in, or one of them above its base isn't synced.
-    /// Where the log is full and such a record waits, no flush will sync it: a whole image is to be taken.
+    /// There is no whole image, or a record up to its last step isn't handed in, or one of them above its base isn't
+    /// synced. Where the log is full and such a record waits, no flush will sync it: a whole image is to be taken.
     Behind,
 }
 
@@ -95,11 +96,17 @@ fn has_no_room(geometry: Geometry, count: u32, more: usize) -> bool
 }
 
 impl<D: Device, A: Allocator + Copy> Writer<D, A> {
-    ghost use Rattle.store_writer.specs.Writer.{IsWriter, HasAppended, IsOpenedAt, opened_run, longer, AreNext, IsWholeChunk, IsStartChunk, IsPageChunk, IsEntriesChunk, IsFlushReply, IsNotFlushed, CanFlip, IsFlipReply, HasKept, HasBegun, IsLogFull, IsPageRefused, AreRefused, MustStartAgain, IsPageAnswered, AreEntriesAnswered, IsChunk, IsStepReply, HasFailed, InOpenedSlots, WritesLogsAlone, WritesOnly, IsAsBefore, IsBeforeFlush};
+    ghost use Rattle.store_writer.specs.Writer.{IsWriter, HasAppended, IsOpenedAt, opened_run, longer, AreNext};
+    ghost use Rattle.store_writer.specs.Writer.{IsWholeChunk, IsStartChunk, IsPageChunk, IsEntriesChunk, IsFlushReply};
+    ghost use Rattle.store_writer.specs.Writer.{IsNotFlushed, CanFlip, IsFlipReply, HasKept, HasBegun, IsLogFull};
+    ghost use Rattle.store_writer.specs.Writer.{IsPageRefused, AreRefused, MustStartAgain, IsPageAnswered};
+    ghost use Rattle.store_writer.specs.Writer.{AreEntriesAnswered, IsChunk, IsStepReply, HasFailed, InOpenedSlots};
+    ghost use Rattle.store_writer.specs.Writer.{WritesLogsAlone, WritesOnly, IsAsBefore, IsBeforeFlush};
 
     /// A writer to which nothing was handed.
     pub(crate) fn new(alloc: A, device: D, halves: Halves, log: LogArea, synced: u64) -> Self
-        ensures writer { (cells : Cells) → IsOpenedAt (D.history device) halves log synced cells → IsWriter D.history (opened_run halves synced cells) synced result }
+        ensures writer { (cells : Cells) → IsOpenedAt (D.history device) halves log synced cells
+            → IsWriter D.history (opened_run halves synced cells) synced result }
         ensures device { result.device ≡ device }
         ensures halves { result.halves ≡ halves }
         ensures log { result.log ≡ log }
@@ -121,22 +128,31 @@ impl<D: Device, A: Allocator + Copy> Writer<D, A> {
 
     /// A law: where more records are made, the writer stands as before.
     pub(crate) fn goes_on(&self)
-        ensures { (run : Run) (handed : ℕ) (more : List RecordValue) → IsWriter D.history run handed self.now → IsRun (longer run more) → IsWriter D.history (longer run more) handed self.now }
+        ensures { (run : Run) (handed : ℕ) (more : List RecordValue) → IsWriter D.history run handed self.now
+            → IsRun (longer run more) → IsWriter D.history (longer run more) handed self.now }
     {}
 
     /// A law: the piece of an image that is due may be taken, as the last record made left its cells.
     pub(crate) fn next_pieces(&self)
-        ensures page { (run : Run) (handed page : ℕ) (rows : Table) → IsWriter D.history run handed self.now → self.now.failed ≡ false → end_of run ≤ LAST_NUMBER → IsAtPlace run.geometry.pages (Some (CopyPlace.Page page)) self.now.image
-            → AreRowsNow run page rows → (i : NewImage) → self.now.image ≡ Some i → IsPageChunk run i (end_of run) page rows }
-        ensures entries { (run : Run) (handed : ℕ) (above : Option PairValue) (entries : List (PairValue × MarkValue)) → IsWriter D.history run handed self.now → self.now.failed ≡ false → end_of run ≤ LAST_NUMBER → IsAtPlace run.geometry.pages (Some (CopyPlace.Entries above)) self.now.image
-            → AreEntriesNow run above entries → (i : NewImage) → self.now.image ≡ Some i → IsEntriesChunk run i (end_of run) entries }
+        ensures page { (run : Run) (handed page : ℕ) (rows : Table) → IsWriter D.history run handed self.now
+            → self.now.failed ≡ false → end_of run ≤ LAST_NUMBER
+            → IsAtPlace run.geometry.pages (Some (CopyPlace.Page page)) self.now.image
+            → AreRowsNow run page rows → (i : NewImage) → self.now.image ≡ Some i
+            → IsPageChunk run i (end_of run) page rows }
+        ensures entries { (run : Run) (handed : ℕ) (above : Option PairValue) (entries : List (PairValue × MarkValue))
+            → IsWriter D.history run handed self.now → self.now.failed ≡ false → end_of run ≤ LAST_NUMBER
+            → IsAtPlace run.geometry.pages (Some (CopyPlace.Entries above)) self.now.image
+            → AreEntriesNow run above entries → (i : NewImage) → self.now.image ≡ Some i
+            → IsEntriesChunk run i (end_of run) entries }
     {}
 
     /// Takes the next records. An `Err` gives them back, and changes nothing.
     pub(crate) fn hand_in(&mut self, mut records: Vec<Record, A>) -> Result<(), Vec<Record, A>>
-        ensures writer { OnOk result ((run : Run) (handed : ℕ) → IsWriter D.history run handed self.old → AreNext run handed records.items → IsWriter D.history run (handed + length records.items) self.new) }
+        ensures writer { OnOk result ((run : Run) (handed : ℕ) → IsWriter D.history run handed self.old
+            → AreNext run handed records.items → IsWriter D.history run (handed + length records.items) self.new) }
         ensures waits { OnOk result (self.new.waiting.items ≡ self.old.waiting.items ++ records.items) }
-        ensures unchanged { OnErr result ((run : Run) (handed : ℕ) → IsWriter D.history run handed self.old → IsWriter D.history run handed self.new) }
+        ensures unchanged { OnErr result ((run : Run) (handed : ℕ) → IsWriter D.history run handed self.old
+            → IsWriter D.history run handed self.new) }
         ensures still { OnErr result (self.new.waiting.items ≡ self.old.waiting.items) }
         ensures back { IfErr result (λ back. back.items ≡ records.items) }
         ensures some { OnErr result (records.items ≢ []) }
@@ -159,15 +175,21 @@ impl<D: Device, A: Allocator + Copy> Writer<D, A> {
     /// Writes the next group of the records that wait, as many of them as fill one, and syncs it.
     pub(crate) fn flush_group(&mut self, alloc: A) -> Result<FlushReply, Error>
         requires { (run : Run) × (handed : ℕ) × IsWriter D.history run handed self.old }
-        ensures writer { (run : Run) (handed : ℕ) → IsWriter D.history run handed self.old → IsWriter D.history run handed self.new }
+        ensures writer { (run : Run) (handed : ℕ) → IsWriter D.history run handed self.old
+            → IsWriter D.history run handed self.new }
         ensures images { (run : Run) (handed : ℕ) → IsWriter D.history run handed self.old
             → LeavesOnly (D.history self.old.device) (D.history self.new.device) (LeftBy run self.old.synced handed) }
         ensures flushed { IfOk result (λ reply. IsFlushReply reply self.old self.new) }
-        ensures image { (n : ℕ) → result ≡ Ok (FlushReply.Flushed n) → BecomesImage self.old.halves.geometry.slots self.old.synced (n - self.old.synced) self.old.image self.new.image }
-        ensures nothing { result ≡ Ok FlushReply.Nothing → (run : Run) (handed : ℕ) → IsWriter D.history run handed self.old → self.old.synced ≡ handed }
-        ensures idle { (run : Run) (handed : ℕ) → IsWriter D.history run handed self.old → self.old.failed ≡ false → self.old.synced ≡ handed → result ≡ Ok FlushReply.Nothing }
+        ensures image { (n : ℕ) → result ≡ Ok (FlushReply.Flushed n)
+            → BecomesImage self.old.halves.geometry.slots self.old.synced
+            (n - self.old.synced) self.old.image self.new.image }
+        ensures nothing { result ≡ Ok FlushReply.Nothing → (run : Run) (handed : ℕ)
+            → IsWriter D.history run handed self.old → self.old.synced ≡ handed }
+        ensures idle { (run : Run) (handed : ℕ) → IsWriter D.history run handed self.old → self.old.failed ≡ false
+            → self.old.synced ≡ handed → result ≡ Ok FlushReply.Nothing }
         ensures sound { OnOk result ((self.old.failed ≡ false) × (self.new.failed ≡ false)) }
-        ensures full { self.old.failed ≡ false → self.old.waiting.items ≢ [] → IsLogFull self.old → result ≡ Ok FlushReply.LogFull }
+        ensures full { self.old.failed ≡ false → self.old.waiting.items ≢ [] → IsLogFull self.old
+            → result ≡ Ok FlushReply.LogFull }
         ensures err { IfErr result (λ e. IsNotFlushed D.failures e self.old self.new) }
         ensures kept { OnErr result (self.new.synced ≡ self.old.synced) }
         ensures quiet { OnOk result (D.failures self.new.device ≡ D.failures self.old.device) }
@@ -204,20 +226,27 @@ impl<D: Device, A: Allocator + Copy> Writer<D, A> {
         }
     }
 
-    // The first waiting records, a group, were added to the current half's log: those above the base of an image go into the
-    // log of its half, as planned.
+    // The first waiting records, a group, were added to the current half's log: those above the base of an image go
+    // into the log of its half, as planned.
     fn carry_on(&mut self, count: usize, plan: Plan<A>) -> Result<FlushReply, Error>
         requires appended { (run : Run) × (handed : ℕ) × HasAppended D.history run handed count self.old }
-        requires planned { (slots : ℕ) × IsPlan self.old.image slots self.old.synced (take count self.old.waiting.items) plan }
+        requires planned { (slots : ℕ)
+            × IsPlan self.old.image slots self.old.synced (take count self.old.waiting.items) plan }
         requires sound { self.old.failed ≡ false }
-        ensures writer { (run : Run) (handed : ℕ) → HasAppended D.history run handed count self.old → IsWriter D.history run handed self.new }
+        ensures writer { (run : Run) (handed : ℕ) → HasAppended D.history run handed count self.old
+            → IsWriter D.history run handed self.new }
         ensures images { (run : Run) (handed : ℕ) → HasAppended D.history run handed count self.old
             → LeavesOnly (D.history self.old.device) (D.history self.new.device) (LeftBy run self.old.synced handed) }
-        ensures flushed { IfOk result (λ reply. (reply ≡ FlushReply.Flushed self.new.synced) × (self.new.synced ≡ self.old.synced + count) × (self.new.failed ≡ self.old.failed)) }
-        ensures rest { OnOk result ((self.new.halves ≡ self.old.halves) × (self.new.log ≡ self.old.log) × (self.new.waiting.items ≡ drop count self.old.waiting.items)) }
-        ensures image { OnOk result ((run : Run) (handed slots : ℕ) → HasAppended D.history run handed count self.old → slots ≡ run.geometry.slots → 0 < count
-            → IsPlan self.old.image slots self.old.synced (take count self.old.waiting.items) plan → BecomesImage slots self.old.synced count self.old.image self.new.image) }
-        ensures err { IfErr result (λ e. (e ≡ Error.DeviceFailed) × (self.new.failed ≡ true) × (self.new.synced ≡ self.old.synced) × Rises (D.failures self.old.device) (D.failures self.new.device)) }
+        ensures flushed { IfOk result (λ reply. (reply ≡ FlushReply.Flushed self.new.synced)
+            × (self.new.synced ≡ self.old.synced + count) × (self.new.failed ≡ self.old.failed)) }
+        ensures rest { OnOk result ((self.new.halves ≡ self.old.halves) × (self.new.log ≡ self.old.log)
+            × (self.new.waiting.items ≡ drop count self.old.waiting.items)) }
+        ensures image { OnOk result ((run : Run) (handed slots : ℕ) → HasAppended D.history run handed count self.old
+            → slots ≡ run.geometry.slots → 0 < count
+            → IsPlan self.old.image slots self.old.synced (take count self.old.waiting.items) plan
+            → BecomesImage slots self.old.synced count self.old.image self.new.image) }
+        ensures err { IfErr result (λ e. (e ≡ Error.DeviceFailed) × (self.new.failed ≡ true)
+            × (self.new.synced ≡ self.old.synced) × Rises (D.failures self.old.device) (D.failures self.new.device)) }
         ensures quiet { OnOk result (D.failures self.new.device ≡ D.failures self.old.device) }
         ensures later { D.failures self.old.device ≤ D.failures self.new.device }
         ensures around { WritesLogsAlone D.history self.old self.new }
@@ -238,20 +267,24 @@ impl<D: Device, A: Allocator + Copy> Writer<D, A> {
         }
     }
 
-    /// Writes the image of these cells, which the record `number` left, into the half that isn't current, whose log is then
-    /// empty. An image that was under way is given up.
+    /// Writes the image of these cells, which the record `number` left, into the half that isn't current, whose log is
+    /// then empty. An image that was under way is given up.
     fn take_whole(&mut self, number: u64, cells: &CellMaps<A>) -> Result<(), Error>
         requires sound { self.old.failed ≡ false }
-        requires whole { (run : Run) × (handed : ℕ) × IsWriter D.history run handed self.old × IsWholeChunk run self.old.synced number (cells_of cells.now) }
-        ensures writer { (run : Run) (handed : ℕ) → IsWriter D.history run handed self.old → IsWholeChunk run self.old.synced number (cells_of cells.now) → IsWriter D.history run handed self.new }
+        requires whole { (run : Run) × (handed : ℕ) × IsWriter D.history run handed self.old
+            × IsWholeChunk run self.old.synced number (cells_of cells.now) }
+        ensures writer { (run : Run) (handed : ℕ) → IsWriter D.history run handed self.old
+            → IsWholeChunk run self.old.synced number (cells_of cells.now) → IsWriter D.history run handed self.new }
         ensures images { (run : Run) (handed : ℕ) → IsWriter D.history run handed self.old
             → LeavesOnly (D.history self.old.device) (D.history self.new.device) (LeftBy run self.old.synced handed) }
-        ensures taken { OnOk result ((image : NewImage) × HasKept image self.old self.new × HasBegun number Stage.Whole image) }
+        ensures taken { OnOk result ((image : NewImage) × HasKept image self.old self.new
+            × HasBegun number Stage.Whole image) }
         ensures synced { self.new.synced ≡ self.old.synced }
         ensures err { IfErr result (λ e. HasFailed D.failures e self.old self.new) }
         ensures quiet { OnOk result (D.failures self.new.device ≡ D.failures self.old.device) }
         ensures later { D.failures self.old.device ≤ D.failures self.new.device }
-        ensures around { WritesOnly D.history (InHalf self.old.halves.geometry (other self.old.halves.current)) self.old.device self.new.device }
+        ensures around { WritesOnly D.history (InHalf self.old.halves.geometry (other self.old.halves.current))
+            self.old.device self.new.device }
         ensures left { OnErr result (IsAsBefore self.old self.new) }
     {
         match write_whole(&mut self.device, self.halves, number, cells) {
@@ -271,20 +304,24 @@ impl<D: Device, A: Allocator + Copy> Writer<D, A> {
         }
     }
 
-    /// Begins an image that is copied in steps with life and lists as the record `number` left them. An image that was under
-    /// way is given up.
+    /// Begins an image that is copied in steps with life and lists as the record `number` left them. An image that was
+    /// under way is given up.
     fn take_start(&mut self, number: u64, life: Life, lists: ListMap<A>) -> Result<(), Error>
         requires sound { self.old.failed ≡ false }
-        requires start { (run : Run) × (handed : ℕ) × IsWriter D.history run handed self.old × IsStartChunk run self.old.synced number life lists }
-        ensures writer { (run : Run) (handed : ℕ) → IsWriter D.history run handed self.old → IsStartChunk run self.old.synced number life lists → IsWriter D.history run handed self.new }
+        requires start { (run : Run) × (handed : ℕ) × IsWriter D.history run handed self.old
+            × IsStartChunk run self.old.synced number life lists }
+        ensures writer { (run : Run) (handed : ℕ) → IsWriter D.history run handed self.old
+            → IsStartChunk run self.old.synced number life lists → IsWriter D.history run handed self.new }
         ensures images { (run : Run) (handed : ℕ) → IsWriter D.history run handed self.old
             → LeavesOnly (D.history self.old.device) (D.history self.new.device) (LeftBy run self.old.synced handed) }
-        ensures taken { OnOk result ((image : NewImage) × HasKept image self.old self.new × HasBegun number (Stage.Partly 0 0 None life) image) }
+        ensures taken { OnOk result ((image : NewImage) × HasKept image self.old self.new
+            × HasBegun number (Stage.Partly 0 0 None life) image) }
         ensures synced { self.new.synced ≡ self.old.synced }
         ensures err { IfErr result (λ e. HasFailed D.failures e self.old self.new) }
         ensures quiet { OnOk result (D.failures self.new.device ≡ D.failures self.old.device) }
         ensures later { D.failures self.old.device ≤ D.failures self.new.device }
-        ensures around { WritesOnly D.history (InHalf self.old.halves.geometry (other self.old.halves.current)) self.old.device self.new.device }
+        ensures around { WritesOnly D.history (InHalf self.old.halves.geometry (other self.old.halves.current))
+            self.old.device self.new.device }
         ensures left { OnErr result (IsAsBefore self.old self.new) }
     {
         let alloc = *self.waiting.allocator();
@@ -316,8 +353,11 @@ impl<D: Device, A: Allocator + Copy> Writer<D, A> {
     /// Takes the rows of the image's next page, as they are after the record `number`.
     fn take_page(&mut self, number: u64, page: u32, rows: PageRows<A>) -> Result<StepReply, Error>
         requires sound { self.old.failed ≡ false }
-        requires page { (run : Run) × (handed : ℕ) × IsWriter D.history run handed self.old × ((image : NewImage) → self.old.image ≡ Some image → IsPageChunk run image number page rows) }
-        ensures writer { (run : Run) (handed : ℕ) → IsWriter D.history run handed self.old → ((image : NewImage) → self.old.image ≡ Some image → IsPageChunk run image number page rows) → IsWriter D.history run handed self.new }
+        requires page { (run : Run) × (handed : ℕ) × IsWriter D.history run handed self.old
+            × ((image : NewImage) → self.old.image ≡ Some image → IsPageChunk run image number page rows) }
+        ensures writer { (run : Run) (handed : ℕ) → IsWriter D.history run handed self.old
+            → ((image : NewImage) → self.old.image ≡ Some image → IsPageChunk run image number page rows)
+            → IsWriter D.history run handed self.new }
         ensures images { (run : Run) (handed : ℕ) → IsWriter D.history run handed self.old
             → LeavesOnly (D.history self.old.device) (D.history self.new.device) (LeftBy run self.old.synced handed) }
         ensures stepped { IfOk result (λ reply. IsPageAnswered number page reply self.old self.new) }
@@ -326,7 +366,8 @@ impl<D: Device, A: Allocator + Copy> Writer<D, A> {
         ensures err { IfErr result (λ e. HasFailed D.failures e self.old self.new) }
         ensures quiet { OnOk result (D.failures self.new.device ≡ D.failures self.old.device) }
         ensures later { D.failures self.old.device ≤ D.failures self.new.device }
-        ensures around { WritesOnly D.history (InHalf self.old.halves.geometry (other self.old.halves.current)) self.old.device self.new.device }
+        ensures around { WritesOnly D.history (InHalf self.old.halves.geometry (other self.old.halves.current))
+            self.old.device self.new.device }
         ensures left { OnErr result (IsAsBefore self.old self.new) }
     {
         let Some(image) = self.image else {
@@ -346,8 +387,11 @@ impl<D: Device, A: Allocator + Copy> Writer<D, A> {
     /// Takes the image's next entries, as they are after the record `number`: behind the last ones it is whole.
     fn take_entries(&mut self, number: u64, entries: &[(Pair, Mark)]) -> Result<StepReply, Error>
         requires sound { self.old.failed ≡ false }
-        requires entries { (run : Run) × (handed : ℕ) × IsWriter D.history run handed self.old × ((image : NewImage) → self.old.image ≡ Some image → IsEntriesChunk run image number entries.now) }
-        ensures writer { (run : Run) (handed : ℕ) → IsWriter D.history run handed self.old → ((image : NewImage) → self.old.image ≡ Some image → IsEntriesChunk run image number entries.now) → IsWriter D.history run handed self.new }
+        requires entries { (run : Run) × (handed : ℕ) × IsWriter D.history run handed self.old
+            × ((image : NewImage) → self.old.image ≡ Some image → IsEntriesChunk run image number entries.now) }
+        ensures writer { (run : Run) (handed : ℕ) → IsWriter D.history run handed self.old
+            → ((image : NewImage) → self.old.image ≡ Some image → IsEntriesChunk run image number entries.now)
+            → IsWriter D.history run handed self.new }
         ensures images { (run : Run) (handed : ℕ) → IsWriter D.history run handed self.old
             → LeavesOnly (D.history self.old.device) (D.history self.new.device) (LeftBy run self.old.synced handed) }
         ensures stepped { IfOk result (λ reply. AreEntriesAnswered number entries.now reply self.old self.new) }
@@ -356,7 +400,8 @@ impl<D: Device, A: Allocator + Copy> Writer<D, A> {
         ensures err { IfErr result (λ e. HasFailed D.failures e self.old self.new) }
         ensures quiet { OnOk result (D.failures self.new.device ≡ D.failures self.old.device) }
         ensures later { D.failures self.old.device ≤ D.failures self.new.device }
-        ensures around { WritesOnly D.history (InHalf self.old.halves.geometry (other self.old.halves.current)) self.old.device self.new.device }
+        ensures around { WritesOnly D.history (InHalf self.old.halves.geometry (other self.old.halves.current))
+            self.old.device self.new.device }
         ensures left { OnErr result (IsAsBefore self.old self.new) }
     {
         let Some(image) = self.image else {
@@ -402,19 +447,26 @@ impl<D: Device, A: Allocator + Copy> Writer<D, A> {
 
     /// Takes what was copied into an image: the whole of it, or its next piece.
     pub(crate) fn checkpoint_step(&mut self, chunk: Chunk<A>) -> Result<StepReply, Error>
-        requires { (run : Run) × (handed : ℕ) × IsWriter D.history run handed self.old × IsChunk run self.old chunk.number chunk.piece }
-        ensures writer { (run : Run) (handed : ℕ) → IsWriter D.history run handed self.old → IsChunk run self.old chunk.number chunk.piece → IsWriter D.history run handed self.new }
+        requires { (run : Run) × (handed : ℕ) × IsWriter D.history run handed self.old
+            × IsChunk run self.old chunk.number chunk.piece }
+        ensures writer { (run : Run) (handed : ℕ) → IsWriter D.history run handed self.old
+            → IsChunk run self.old chunk.number chunk.piece → IsWriter D.history run handed self.new }
         ensures images { (run : Run) (handed : ℕ) → IsWriter D.history run handed self.old
             → LeavesOnly (D.history self.old.device) (D.history self.new.device) (LeftBy run self.old.synced handed) }
         ensures stepped { IfOk result (λ reply. IsStepReply chunk.number chunk.piece reply self.old self.new) }
         ensures sound { OnOk result ((self.old.failed ≡ false) × (self.new.failed ≡ false)) }
-        ensures place { result ≡ Ok StepReply.Taken → IsAtPiece self.old.halves.geometry.pages chunk.piece self.old.image → IsAtPlace self.old.halves.geometry.pages (place_behind self.old.halves.geometry.pages chunk.piece) self.new.image }
-        ensures again { self.old.failed ≡ false → MustStartAgain chunk.piece self.old → result ≡ Ok StepReply.StartAgain }
+        ensures place { result ≡ Ok StepReply.Taken
+            → IsAtPiece self.old.halves.geometry.pages chunk.piece self.old.image
+            → IsAtPlace self.old.halves.geometry.pages (place_behind self.old.halves.geometry.pages chunk.piece)
+            self.new.image }
+        ensures again { self.old.failed ≡ false → MustStartAgain chunk.piece self.old
+            → result ≡ Ok StepReply.StartAgain }
         ensures err { IfErr result (λ e. HasFailed D.failures e self.old self.new) }
         ensures quiet { OnOk result (D.failures self.new.device ≡ D.failures self.old.device) }
         ensures later { D.failures self.old.device ≤ D.failures self.new.device }
         ensures kept { self.new.synced ≡ self.old.synced }
-        ensures around { WritesOnly D.history (InHalf self.old.halves.geometry (other self.old.halves.current)) self.old.device self.new.device }
+        ensures around { WritesOnly D.history (InHalf self.old.halves.geometry (other self.old.halves.current))
+            self.old.device self.new.device }
         ensures left { OnErr result (IsAsBefore self.old self.new) }
     {
         if self.failed {
@@ -441,12 +493,15 @@ impl<D: Device, A: Allocator + Copy> Writer<D, A> {
     /// Makes the image current, and drops the records that wait and are in it.
     pub(crate) fn checkpoint_flip(&mut self) -> Result<FlipReply, Error>
         requires { (run : Run) × (handed : ℕ) × IsWriter D.history run handed self.old }
-        ensures writer { (run : Run) (handed : ℕ) → IsWriter D.history run handed self.old → IsWriter D.history run handed self.new }
+        ensures writer { (run : Run) (handed : ℕ) → IsWriter D.history run handed self.old
+            → IsWriter D.history run handed self.new }
         ensures images { (run : Run) (handed : ℕ) → IsWriter D.history run handed self.old
             → LeavesOnly (D.history self.old.device) (D.history self.new.device) (LeftBy run self.old.synced handed) }
-        ensures flipped { (run : Run) (handed : ℕ) → IsWriter D.history run handed self.old → IfOk result (λ reply. IsFlipReply handed reply self.old self.new) }
+        ensures flipped { (run : Run) (handed : ℕ) → IsWriter D.history run handed self.old
+            → IfOk result (λ reply. IsFlipReply handed reply self.old self.new) }
         ensures sound { OnOk result ((self.old.failed ≡ false) × (self.new.failed ≡ false)) }
-        ensures behind { (run : Run) (handed : ℕ) → IsWriter D.history run handed self.old → self.old.failed ≡ false → ¬ CanFlip handed self.old → result ≡ Ok FlipReply.Behind }
+        ensures behind { (run : Run) (handed : ℕ) → IsWriter D.history run handed self.old → self.old.failed ≡ false
+            → ¬ CanFlip handed self.old → result ≡ Ok FlipReply.Behind }
         ensures err { IfErr result (λ e. HasFailed D.failures e self.old self.new) }
         ensures quiet { OnOk result (D.failures self.new.device ≡ D.failures self.old.device) }
         ensures later { D.failures self.old.device ≤ D.failures self.new.device }

@@ -53,8 +53,8 @@ fn check_lists(rt: &impl Abort, txn: Txn, item: UndoItem) {
     assert!(rt; read_item_in(Version::One, &old) == Some(item));
 }
 
-// An entry, a row, none, a transaction's head, one of its changes, and the header of an image, both ways; and as version 1 has
-// them.
+// An entry, a row, none, a transaction's head, one of its changes, and the header of an image, both ways; and as
+// version 1 has them.
 #[test]
 fn parts_byte_by_byte(rt: HostRuntime) -> Result<(), Fail> {
     let rid = Rid { page: 2, slot: 62 };

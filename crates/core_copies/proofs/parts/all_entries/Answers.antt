@@ -24,9 +24,11 @@ loop-entry-preserved g c =
     let entry = c.in-Some.entry.now in
     let listed : List (Pair × Mark) = c.loop-entry.listed.items in
     let run = subst (λ es. IsRunAbove all c.loop-entry.last es) c.in-Some.ensures.cases.0 c.left_or_next.ensures.run in
-    let more : index_of c.push.new.self.items ≡ _ = ap index_of c.in_ok-push.ensures.items ∙ extended_more (empty {R = pair_cmp}) listed entry.pair entry.mark in
+    let more : index_of c.push.new.self.items ≡ _ = ap index_of c.in_ok-push.ensures.items
+    ∙ extended_more (empty {R = pair_cmp}) listed entry.pair entry.mark in
     record {
-      copied = subst (λ (m : Index). AreUpTo all None (Some entry.pair) m) (sym more) (one_put all None c.loop-entry.last (index_of listed) c.loop-entry.invariant.copied (entry.pair, entry.mark) run.0);
+      copied = subst (λ (m : Index). AreUpTo all None (Some entry.pair) m) (sym more)
+          (one_put all None c.loop-entry.last (index_of listed) c.loop-entry.invariant.copied (entry.pair, entry.mark) run.0);
       run = run.1;
     }
 
@@ -41,4 +43,5 @@ pub returns-clause-entries : goal.returns-clause-entries
 returns-clause-entries g c =
     let all = (value_of c.args.core.now).index.entries in
     let none = c.left_or_next.ensures.none (no_more c.left_or_next.result.now c.in_default.ensures.cases) in
-    c.in_ok-extend.ensures ∙ (λ i. extended (c.new-entries.ensures i) (c.deref.ensures.value i)) ∙ whole_copied all c.loop-entry.last (index_of c.loop-entry.listed.items) c.loop-entry.invariant.copied none
+    c.in_ok-extend.ensures ∙ (λ i. extended (c.new-entries.ensures i) (c.deref.ensures.value i))
+    ∙ whole_copied all c.loop-entry.last (index_of c.loop-entry.listed.items) c.loop-entry.invariant.copied none

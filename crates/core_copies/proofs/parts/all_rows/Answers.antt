@@ -23,5 +23,6 @@ pub returns-clause-rows : goal.returns-clause-rows
 returns-clause-rows g c =
     let v = value_of c.args.core.now in
     let all : c.loop-page.page ≡ v.heap.pages = omega (arith, c.loop-page-test.false, c.loop-page.auto.page-end, c.pages-page-end.ensures.number) in
-    let listed = all_pages v.heap c.pages-page-end.ensures.rows_inside (table_of c.loop-page.listed.items) (subst (λ n. AreRowsTo v.heap.rows n (table_of c.loop-page.listed.items)) all c.loop-page.invariant) in
+    let listed = all_pages v.heap c.pages-page-end.ensures.rows_inside (table_of c.loop-page.listed.items)
+    (subst (λ n. AreRowsTo v.heap.rows n (table_of c.loop-page.listed.items)) all c.loop-page.invariant) in
     c.in_ok-extend.ensures ∙ (λ i. extended (c.new-rows.ensures i) (c.deref.ensures.value i)) ∙ listed

@@ -19,7 +19,10 @@ loop-run-preserved g c =
     let run = subst (λ es. IsRunAbove all c.loop-run.last es) c.in-Some.ensures.cases.0 c.left_or_next.ensures.run in
     let more = longer c.loop-run.entries.items (entry.pair, entry.mark) c.push.new.self.items c.in_ok-push.ensures.items in
     record {
-      copied = one_more all c.args.above c.loop-run.last c.loop-run.entries.items c.loop-run.invariant.copied (entry.pair, entry.mark) run.0 c.push.new.self.items c.in_ok-push.ensures.items;
+      copied = one_more all c.args.above c.loop-run.last c.loop-run.entries.items c.loop-run.invariant.copied (
+        entry.pair,
+        entry.mark,
+      ) run.0 c.push.new.self.items c.in_ok-push.ensures.items;
       most = omega (arith, more, c.loop-run-test.true, c.len.ensures);
       run = run.1;
     }

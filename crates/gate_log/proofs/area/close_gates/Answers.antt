@@ -14,7 +14,8 @@ returns-clause-outside g c =
     let h = g.D.Device.history in
     let start = (h c.args.device.now).disk.content in
     let S : ℕ → Type 0 = IsGate (record { first = c.args.first; slots = c.args.slots }) in
-    holds_after_sync (λ d. SameOutside S start d.content) (h c.write_zeros.new.device).disk (h c.sync.new.self).disk c.sync.result c.sync.ensures.ok c.sync.ensures.err c.write_zeros.ensures.outside c.write_zeros.ensures.outside
+    holds_after_sync (λ d. SameOutside S start d.content) (h c.write_zeros.new.device).disk
+    (h c.sync.new.self).disk c.sync.result c.sync.ensures.ok c.sync.ensures.err c.write_zeros.ensures.outside c.write_zeros.ensures.outside
 
 pub returns-clause-zeros : goal.returns-clause-zeros
 returns-clause-zeros g c = search rules

@@ -12,7 +12,8 @@ returns-then-left-len-clause-found g c = λ groups held all.
     let slot = c.loop-slot.slot in
     let gate = c.args.first + 8 * slot in
     let area : Area = record { first = c.args.first; slots = c.args.slots } in
-    let found = subst (λ (d : Disk). IsGroupIn c.args.version c.in-Some.group.items (concat (slice_range d.content (gate + 1) (gate + 8)))) c.loop-slot.invariant.reads.disk (some_here _ _ _ _ c.in-Some.is c.in_ok-group.ensures.found) in
+    let found = subst (λ (d : Disk). IsGroupIn c.args.version c.in-Some.group.items (concat (slice_range d.content (gate + 1) (gate + 8))))
+    c.loop-slot.invariant.reads.disk (some_here _ _ _ _ c.in-Some.is c.in_ok-group.ensures.found) in
     let size = held_there c.args.version area _ groups slot c.in-Some.group.items held (omega (arith, all, c.loop-slot-test.true)) found in
     let more = records_more groups slot (omega (arith, all, c.loop-slot-test.true)) in
     let left = c.loop-slot.invariant.left groups held all in
@@ -23,7 +24,8 @@ loop-slot-preserved g c =
     let slot = c.loop-slot.slot in
     let gate = c.args.first + 8 * slot in
     let area : Area = record { first = c.args.first; slots = c.args.slots } in
-    let found = subst (λ (d : Disk). IsGroupIn c.args.version c.in-Some.group.items (concat (slice_range d.content (gate + 1) (gate + 8)))) c.loop-slot.invariant.reads.disk (some_here _ _ _ _ c.in-Some.is c.in_ok-group.ensures.found) in
+    let found = subst (λ (d : Disk). IsGroupIn c.args.version c.in-Some.group.items (concat (slice_range d.content (gate + 1) (gate + 8))))
+    c.loop-slot.invariant.reads.disk (some_here _ _ _ _ c.in-Some.is c.in_ok-group.ensures.found) in
     record {
       left = λ groups held all.
           let size = held_there c.args.version area _ groups slot c.in-Some.group.items held (omega (arith, all, c.loop-slot-test.true)) found in

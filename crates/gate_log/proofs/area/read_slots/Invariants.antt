@@ -9,7 +9,8 @@ abbrev pub invariant-loop-slot : goal.invariant-loop-slot
 invariant-loop-slot g l =
     let h = g.D.Device.history in
     record {
-      read : (groups : List (List RecordValue)) × HoldsGroupsIn l.version (record { first = l.first; slots = l.slot }) (h l.initial.device).disk.content groups × (l.count ≡ length groups) × (l.records.items ≡ flat_map (λ group. group) groups);
+      read : (groups : List (List RecordValue)) × HoldsGroupsIn l.version (record { first = l.first; slots = l.slot }) (h l.initial.device).disk.content groups
+          × (l.count ≡ length groups) × (l.records.items ≡ flat_map (λ group. group) groups);
       reads : OnlyReads (h l.initial.device) (h l.device);
       quiet : g.D.Device.failures l.device ≡ g.D.Device.failures l.initial.device;
     }

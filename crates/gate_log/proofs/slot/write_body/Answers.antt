@@ -12,10 +12,16 @@ use Rattle.gate_log.proofs.slot.write_body.Goals as goal
 pub loop-i-init : goal.loop-i-init
 loop-i-init g c =
     let h = g.D.Device.history c.args.device.now in
-    record { written = λ k below. absurd (omega arith); outside = record { sectors = refl; same = λ k out. refl }; within = within_start_unsynced (λ k. (c.args.gate + 1 ≤ k) × (k < c.args.gate + 8)) h; failures = refl }
+    record {
+      written = λ k below. absurd (omega arith);
+      outside = record { sectors = refl; same = λ k out. refl };
+      within = within_start_unsynced (λ k. (c.args.gate + 1 ≤ k) × (k < c.args.gate + 8)) h;
+      failures = refl;
+    }
 
 pub returns-in_err-write-clause-within : goal.returns-in_err-write-clause-within
-returns-in_err-write-clause-within g c = within_write _ _ _ _ _ c.loop-i.invariant.within c.write.ensures.time (c.args.gate + 1 + c.loop-i.i) _ c.write.result (inl (omega arith, omega (arith, c.as_chunks.ensures.front_len, c.requires.size, c.loop-i-test.true))) c.write.ensures.ok c.write.ensures.err
+returns-in_err-write-clause-within g c = within_write _ _ _ _ _ c.loop-i.invariant.within c.write.ensures.time (c.args.gate + 1 + c.loop-i.i) _ c.write.result
+    (inl (omega arith, omega (arith, c.as_chunks.ensures.front_len, c.requires.size, c.loop-i-test.true))) c.write.ensures.ok c.write.ensures.err
 
 pub loop-i-preserved : goal.loop-i-preserved
 loop-i-preserved g c =
@@ -33,8 +39,12 @@ loop-i-preserved g c =
           (λ same. get_or-set_at mid.content (base + i) (base + k) row [] (omega (arith, same)) room ∙ ap (sector rows) (sym same))
           (λ other. sector_other mid (base + i) (base + k) row (omega (arith, other)) ∙ c.loop-i.invariant.written k (omega (arith, below, other)))
           (cases_eq k i);
-      outside = content_after _ _ mid (base + i) _ _ c.write.result c.write.ensures.ok c.write.ensures.err (omega arith, omega arith) c.loop-i.invariant.outside;
-      within = within_write _ _ _ _ _ c.loop-i.invariant.within c.write.ensures.time (base + i) _ c.write.result (inl (omega arith, omega arith)) c.write.ensures.ok c.write.ensures.err;
+      outside = content_after _ _ mid (base + i) _ _ c.write.result c.write.ensures.ok c.write.ensures.err (
+        omega arith,
+        omega arith,
+      ) c.loop-i.invariant.outside;
+      within = within_write _ _ _ _ _ c.loop-i.invariant.within c.write.ensures.time (base + i) _ c.write.result
+          (inl (omega arith, omega arith)) c.write.ensures.ok c.write.ensures.err;
       failures = c.in_ok-write.ensures.counts.none ∙ c.loop-i.invariant.failures;
     }
 
@@ -47,7 +57,8 @@ returns-clause-written g c =
     let rows = c.as_chunks.result.0.now in
     let size : length rows ≡ 7 = omega (arith, c.as_chunks.ensures.front_len, c.requires.size) in
     let sectors = c.loop-i.invariant.outside.sectors in
-    let there = body_written old.content rows c.args.bytes.now (length c.args.bytes.now / 512) gate (omega (arith, c.requires.inside, sectors)) c.requires.size (omega (arith, c.requires.size)) c.as_chunks.ensures.front size
+    let there = body_written old.content rows c.args.bytes.now (length c.args.bytes.now / 512) gate (omega (arith, c.requires.inside, sectors)) c.requires.size
+    (omega (arith, c.requires.size)) c.as_chunks.ensures.front size
     (λ k lt. c.loop-i.invariant.written k (omega (arith, size, lt, c.loop-i-test.false))) in
     on_ok (new ≡ after_sync old) _ c.sync.result (λ ok. ap (λ d. concat (slice_range d.content (gate + 1) (gate + 8))) ok ∙ there) c.sync.ensures.ok
 
@@ -58,12 +69,16 @@ returns-clause-outside g c =
     let new = (h c.sync.new.self).disk in
     let start = (h c.args.device.now).disk.content in
     let S : ℕ → Type 0 = λ n. (c.args.gate + 1 ≤ n) × (n < c.args.gate + 8) in
-    holds_after_sync (λ d. SameOutside S start d.content) old new c.sync.result c.sync.ensures.ok c.sync.ensures.err c.loop-i.invariant.outside c.loop-i.invariant.outside
+    holds_after_sync (λ d. SameOutside S start d.content) old new c.sync.result c.sync.ensures.ok c.sync.ensures.err c.loop-i.invariant.outside
+    c.loop-i.invariant.outside
 
 pub returns-in_err-write-clause-outside : goal.returns-in_err-write-clause-outside
 returns-in_err-write-clause-outside g c =
     let seven : c.loop-i.i < 7 = omega (arith, c.as_chunks.ensures.front_len, c.requires.size, c.loop-i-test.true) in
-    content_after _ _ _ (c.args.gate + 1 + c.loop-i.i) _ _ c.write.result c.write.ensures.ok c.write.ensures.err (omega arith, omega arith) c.loop-i.invariant.outside
+    content_after _ _ _ (c.args.gate + 1 + c.loop-i.i) _ _ c.write.result c.write.ensures.ok c.write.ensures.err (
+      omega arith,
+      omega arith,
+    ) c.loop-i.invariant.outside
 
 pub returns-clause-synced : goal.returns-clause-synced
 returns-clause-synced g c =

@@ -29,13 +29,19 @@ returns-clause-written g c =
     let new = (h c.open_gate.new.device).disk.content in
     let gate = c.args.gate in
     let gates = c.open_gate.ensures.within.now.content in
-    on_ok_always _ c.open_gate.result (ap concat (same_part new mid (gate + 1) (gate + 8) gates.sectors (λ k low high. gates.same k (λ is. omega (arith, is, low)))) ∙ c.in_ok-write_body.ensures.written)
+    on_ok_always _ c.open_gate.result
+    (ap concat (same_part new mid (gate + 1) (gate + 8) gates.sectors (λ k low high. gates.same k (λ is. omega (arith, is, low))))
+    ∙ c.in_ok-write_body.ensures.written)
 
 pub returns-clause-outside : goal.returns-clause-outside
 returns-clause-outside g c =
     let gates = c.open_gate.ensures.within.now.content in
     let first = c.write_body.ensures.outside in
-    record { sectors = gates.sectors ∙ first.sectors; same = λ k out. gates.same k (λ is. out (omega (arith, is), omega (arith, is))) ∙ first.same k (λ inside. out (omega (arith, inside.0), inside.1)) }
+    record {
+      sectors = gates.sectors ∙ first.sectors;
+      same = λ k out. gates.same k (λ is. out (omega (arith, is), omega (arith, is)))
+          ∙ first.same k (λ inside. out (omega (arith, inside.0), inside.1));
+    }
 
 pub returns-in_err-write_body-clause-outside : goal.returns-in_err-write_body-clause-outside
 returns-in_err-write_body-clause-outside g c =

@@ -20,7 +20,8 @@ returns g c = λ size began days answers keeps.
     let run = c.run-answer.ensures in
     let old = c.in-Ok.engine in
     let new = c.run-answer.new.self in
-    day_served history size began days answers c.args.device keeps images c.written_back.ensures.gives c.all_replies.ensures.rising c.args.day.now old c.in-Ok.ensures.opened
+    day_served history size began days answers c.args.device keeps images c.written_back.ensures.gives c.all_replies.ensures.rising c.args.day.now old
+    c.in-Ok.ensures.opened
     c.run-answer.result new c.into_device-device.result c.end_day.new.device
     (subst (λ (es : List Event). IfOk c.run-answer.result (λ replies. SurvivesAnyCrash history es replies.items old new)) c.deref.ensures.value run.any_crash)
     (subst (λ (es : List Event). IfOk c.run-answer.result (λ replies. KeepsWholeRun history es replies.items old new)) c.deref.ensures.value run.at_end)

@@ -19,4 +19,5 @@ returns-clause-moved g c =
 
 pub returns-clause-around : goal.returns-clause-around
 returns-clause-around g c =
-    subst (WritesTheStoreAlone (g.O.Device.history c.args.old.now).disk.content g.N.Device.history c.args.new) (sym c.into_device.ensures.device) c.in_ok-engine.ensures.around
+    subst (WritesTheStoreAlone (g.O.Device.history c.args.old.now).disk.content g.N.Device.history c.args.new)
+    (sym c.into_device.ensures.device) c.in_ok-engine.ensures.around

@@ -14,12 +14,20 @@ returns-then-is_failure-clause-refused g c =
 pub returns-then-is_failure-2-clause-refused : goal.returns-then-is_failure-2-clause-refused
 returns-then-is_failure-2-clause-refused g c =
     let same = c.in-Err.ensures.told (λ failed. false≢true (sym c.if-is_failure.false ∙ c.is_failure.ensures.1 failed)) in
-    ⊎_elim (λ refused. absurd (not_failed Two _ _ refused (c.is_failure-2.ensures.0 c.if-is_failure-2.true))) (λ failed. inl (failed.0, subst (λ n. Rises n (g.D.Device.failures c.open.new.device)) same failed.1)) c.in-Err-open.ensures.refused
+    ⊎_elim (λ refused. absurd (not_failed Two _ _ refused (c.is_failure-2.ensures.0 c.if-is_failure-2.true))) (λ failed.
+    inl (failed.0, subst (λ n. Rises n (g.D.Device.failures c.open.new.device)) same failed.1)) c.in-Err-open.ensures.refused
 
 pub returns-clause-refused : goal.returns-clause-refused
 returns-clause-refused g c =
     ⊎_elim
-    (λ first. ⊎_elim (λ second. inr (first, (c.in-Err-open.other, subst (λ (d : Disk). IsRefusedIn Two d.content c.in-Err-open.other) c.in-Err.ensures.reads.disk second))) (λ failed. absurd (false≢true (sym c.if-is_failure-2.false ∙ c.is_failure-2.ensures.1 failed.0))) c.in-Err-open.ensures.refused)
+    (λ first. ⊎_elim (λ second. inr (
+      first,
+      (
+        c.in-Err-open.other,
+        subst (λ (d : Disk). IsRefusedIn Two d.content c.in-Err-open.other) c.in-Err.ensures.reads.disk second,
+      ),
+    )) (λ failed.
+    absurd (false≢true (sym c.if-is_failure-2.false ∙ c.is_failure-2.ensures.1 failed.0))) c.in-Err-open.ensures.refused)
     (λ failed. absurd (false≢true (sym c.if-is_failure.false ∙ c.is_failure.ensures.1 failed.0)))
     c.in-Err.ensures.refused
 

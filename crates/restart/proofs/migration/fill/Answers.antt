@@ -20,7 +20,8 @@ use Rattle.restart.proofs.Migrated.{spare_inside}
 use Rattle.restart.proofs.migration.fill.Goals as goal
 
 pub write_over-requires-clause-fits : goal.write_over-requires-clause-fits
-write_over-requires-clause-fits g c = subst (λ (x : GeometryValue). FitsImage x (opening_cells (given_in c.args.restored))) (sym c.in-Ok-format.ensures.geometry) c.requires
+write_over-requires-clause-fits g c = subst (λ (x : GeometryValue). FitsImage x (opening_cells (given_in c.args.restored)))
+    (sym c.in-Ok-format.ensures.geometry) c.requires
 
 pub returns-in-Ok-write_over-clause-filled : goal.returns-in-Ok-write_over-clause-filled
 returns-in-Ok-write_over-clause-filled g c =
@@ -44,7 +45,11 @@ returns-in-Ok-write_over-clause-filled g c =
 
 pub returns-in-Err-write_over-clause-refused : goal.returns-in-Err-write_over-clause-refused
 returns-in-Err-write_over-clause-refused g c =
-    inr (refl, omega (arith, c.sectors.ensures, c.sectors-2.ensures, c.if-sectors.false), subst (λ n. Rises n (g.D.Device.failures c.write_over.new.device)) c.in-Ok-format.ensures.quiet c.in-Err-write_over.ensures.counts.failed)
+    inr (
+      refl,
+      omega (arith, c.sectors.ensures, c.sectors-2.ensures, c.if-sectors.false),
+      subst (λ n. Rises n (g.D.Device.failures c.write_over.new.device)) c.in-Ok-format.ensures.quiet c.in-Err-write_over.ensures.counts.failed,
+    )
 
 pub returns-in-Ok-write_over-clause-around : goal.returns-in-Ok-write_over-clause-around
 returns-in-Ok-write_over-clause-around g c =
@@ -57,7 +62,8 @@ returns-in-Ok-write_over-clause-around g c =
     let written = content_at_end mid now _ c.write_over.ensures.images in
     same_outside_then (λ n. n < sectors_of size) before mid.disk.content now.disk.content c.in-Ok-format.ensures.around
     (same_outside_wider (IsSpare halves.geometry halves.current) (λ n. n < sectors_of size) mid.disk.content now.disk.content
-    (λ n spare. subst (λ (x : GeometryValue). n < sectors_of x) c.in-Ok-format.ensures.geometry (spare_inside halves.geometry halves.current n spare)) written.outside)
+    (λ n spare. subst (λ (x : GeometryValue). n < sectors_of x) c.in-Ok-format.ensures.geometry (spare_inside halves.geometry halves.current n spare))
+    written.outside)
 
 pub returns-in-Err-clause-refused : goal.returns-in-Err-clause-refused
 returns-in-Err-clause-refused g c =

@@ -10,7 +10,8 @@ use Rattle.restart.proofs.migration.format.Goals as goal
 
 pub returns-clause-geometry : goal.returns-clause-geometry
 returns-clause-geometry g c =
-    if_ok_weaker _ _ c.open.result (λ (h : HalvesValue) is. ap (λ (x : HalvesValue). x.geometry) is) (c.open.ensures.store c.args.geometry A c.in_ok-format.ensures.formatted.store)
+    if_ok_weaker _ _ c.open.result (λ (h : HalvesValue) is. ap (λ (x : HalvesValue). x.geometry) is)
+    (c.open.ensures.store c.args.geometry A c.in_ok-format.ensures.formatted.store)
 
 pub returns-clause-around : goal.returns-clause-around
 returns-clause-around g c =
@@ -18,4 +19,5 @@ returns-clause-around g c =
     let size = c.args.geometry in
     let before = (h c.args.device.now).disk.content in
     on_ok_always _ c.open.result (subst (λ (d : Disk). SameOutside (λ n. n < sectors_of size) before d.content) (sym c.open.ensures.reads.disk)
-    (same_outside_wider (IsFormatSector size) (λ n. n < sectors_of size) before (h c.format.new.device).disk.content (format_inside size) c.in_ok-format.ensures.outside))
+    (same_outside_wider (IsFormatSector size) (λ n. n < sectors_of size) before (h c.format.new.device).disk.content
+    (format_inside size) c.in_ok-format.ensures.outside))

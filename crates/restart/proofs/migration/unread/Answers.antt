@@ -9,8 +9,14 @@ returns-in-Err-clause-why g c = c.in-Err.ensures.accepted c.requires.0 c.require
 pub returns-then-sectors-clause-why : goal.returns-then-sectors-clause-why
 returns-then-sectors-clause-why g c =
     let new = (g.N.Device.history c.args.new.now).disk.content in
-    let same = c.geometry.ensures ∙ ap (λ (h : HalvesValue). h.geometry) (c.in-Ok.ensures.store c.requires.0 c.requires.1 c.requires.2) in
-    (refl, (c.requires.0, (c.requires.1, c.requires.2, c.requires.3), subst (λ (x : GeometryValue). length new < sectors_of x) same (omega (arith, c.sectors.ensures, c.sectors-2.ensures, c.if-sectors.true))))
+    let same = c.geometry.ensures ∙ ap (λ (h : HalvesValue). h.geometry) (c.in-Ok.ensures.store c.requires.0 c.requires.1 c.requires.2) in (
+      refl,
+      (
+        c.requires.0,
+        (c.requires.1, c.requires.2, c.requires.3),
+        subst (λ (x : GeometryValue). length new < sectors_of x) same (omega (arith, c.sectors.ensures, c.sectors-2.ensures, c.if-sectors.true)),
+      ),
+    )
 
 pub returns-clause-why : goal.returns-clause-why
 returns-clause-why g c geometry half store =

@@ -33,7 +33,8 @@ returns-clause-found g c =
       given = given_in found.restored;
       gives = c.in_ok-found.ensures.given;
       holds = c.in_ok-core.ensures.made ∙ ap (λ (x : GeometryValue). holding x (given_in found.restored)) c.in_ok-found.ensures.geometry;
-      shown = subst (λ (x : GeometryValue). IsState (value_of c.in_ok-core.core) (opened (over x (given_in found.restored))) (standing_at found.restored.last)) c.in_ok-found.ensures.geometry c.in_ok-core.ensures.opened;
+      shown = subst (λ (x : GeometryValue). IsState (value_of c.in_ok-core.core) (opened (over x (given_in found.restored))) (standing_at found.restored.last))
+          c.in_ok-found.ensures.geometry c.in_ok-core.ensures.opened;
       opened-at = c.in_ok-found.ensures.opened;
     }
 
@@ -41,4 +42,6 @@ pub returns-in_err-found-clause-unwritten : goal.returns-in_err-found-clause-unw
 returns-in_err-found-clause-unwritten g c =
     let h = g.D.Device.history in
     let p = err_from_is_err_and c.from_residual.result c.from_residual.ensures.1 in
-    rw p.1 (subst (λ e. e ≢ DeviceFailed → e ≢ NoMemory → IsUnwritten h c.args.device.now c.reopen.new.device) (sym p.2) (λ other _. record { content = c.in_err-found.ensures.unwritten other; images = c.in_err-found.ensures.untouched other }))
+    rw p.1 (subst (λ e. e ≢ DeviceFailed → e ≢ NoMemory
+    → IsUnwritten h c.args.device.now c.reopen.new.device) (sym p.2) (λ other _.
+    record { content = c.in_err-found.ensures.unwritten other; images = c.in_err-found.ensures.untouched other }))

@@ -16,7 +16,8 @@ returns-clause-moved g c old engine is can =
     (begins_so is.opened.geometry is.opened.given can (g.D.Device.history (device_of engine)).disk.content is.opened.gives)
 
 pub returns-clause-crashed : goal.returns-clause-crashed
-returns-clause-crashed g c story before after kept crash all = kept_synced g.D.Device.history story after all (kept (g.D.Device.history after).disk.content crash)
+returns-clause-crashed g c story before after kept crash all =
+    kept_synced g.D.Device.history story after all (kept (g.D.Device.history after).disk.content crash)
 
 pub returns-clause-cut_short : goal.returns-clause-cut_short
 returns-clause-cut_short g c story before after kept turned = kept_between g.D.Device.history story before kept c.written_back.ensures.gives after turned
@@ -25,10 +26,12 @@ pub returns-clause-behind : goal.returns-clause-behind
 returns-clause-behind g c story before after kept turned = kept_behind g.D.Device.history story before kept c.written_back.ensures.gives after turned
 
 pub returns-clause-readable : goal.returns-clause-readable
-returns-clause-readable g c story before after e kept not = refused_well g.D.Device.history story before kept g.D.Device.failures after e c.one_answer.ensures.readable not
+returns-clause-readable g c story before after e kept not =
+    refused_well g.D.Device.history story before kept g.D.Device.failures after e c.one_answer.ensures.readable not
 
 pub returns-clause-opened : goal.returns-clause-opened
-returns-clause-opened g c story before engine kept opened = begins_over g.D.Device.history story before kept engine (record { geometry = c.one_answer.ensures.geometry; given = c.one_answer.ensures.given }) opened
+returns-clause-opened g c story before engine kept opened =
+    begins_over g.D.Device.history story before kept engine (record { geometry = c.one_answer.ensures.geometry; given = c.one_answer.ensures.given }) opened
 
 pub returns-clause-ran : goal.returns-clause-ran
 returns-clause-ran g c story past floor image size is low left = story_goes_on story past floor image size is low left

@@ -16,12 +16,14 @@ use Rattle.store_writer.proofs.image.write_next.Goals as goal
 pub returns-in_err-write_header-clause-within : goal.returns-in_err-write_header-clause-within
 returns-in_err-write_header-clause-within g c =
     let hist = g.D.Device.history in
-    runs_then (InHalfImage c.args.halves.geometry (other c.args.halves.current)) (hist c.args.device.now) (hist c.write_entries.new.device) (hist c.write_header.new.device) c.write_entries.ensures.within c.write_header.ensures.within
+    runs_then (InHalfImage c.args.halves.geometry (other c.args.halves.current)) (hist c.args.device.now) (hist c.write_entries.new.device)
+    (hist c.write_header.new.device) c.write_entries.ensures.within c.write_header.ensures.within
 
 pub returns-in_ok-write_header-clause-within : goal.returns-in_ok-write_header-clause-within
 returns-in_ok-write_header-clause-within g c =
     let hist = g.D.Device.history in
-    runs_then (InHalfImage c.args.halves.geometry (other c.args.halves.current)) (hist c.args.device.now) (hist c.write_entries.new.device) (hist c.write_header.new.device) c.write_entries.ensures.within c.write_header.ensures.within
+    runs_then (InHalfImage c.args.halves.geometry (other c.args.halves.current)) (hist c.args.device.now) (hist c.write_entries.new.device)
+    (hist c.write_header.new.device) c.write_entries.ensures.within c.write_header.ensures.within
 
 pub returns-else-entries-lt-CHUNK_ENTRIES-clause-part : goal.returns-else-entries-lt-CHUNK_ENTRIES-clause-part
 returns-else-entries-lt-CHUNK_ENTRIES-clause-part g c = λ cells index long part count all.
@@ -32,7 +34,8 @@ returns-else-entries-lt-CHUNK_ENTRIES-clause-part g c = λ cells index long part
     let more : List (Pair × Mark) = c.args.entries.now in
     part_entries geometry first old new geometry.pages cells index more part (omega (arith, count, c.requires.full)) all (omega (arith, count, c.requires.room))
     (subst (λ n. SameOutside (InEntries geometry first n (length more)) old new) count c.write_entries.ensures.outside)
-    (subst (λ n. (i : ℕ) (e : Pair × Mark) → slice_get more i ≡ Some e → IsEntry geometry (entry_bytes geometry new first (n + i)) e) count c.in_ok-write_entries.ensures.written)
+    (subst (λ n. (i : ℕ) (e : Pair × Mark) → slice_get more i ≡ Some e
+    → IsEntry geometry (entry_bytes geometry new first (n + i)) e) count c.in_ok-write_entries.ensures.written)
 
 pub returns-in_ok-write_header-clause-whole : goal.returns-in_ok-write_header-clause-whole
 returns-in_ok-write_header-clause-whole g c = λ cells index short part count all life.
@@ -43,11 +46,15 @@ returns-in_ok-write_header-clause-whole g c = λ cells index short part count al
     let new : Image = (g.D.Device.history c.write_header.new.device).disk.content in
     let more : List (Pair × Mark) = c.args.entries.now in
     let written : Header = record { life = c.args.header.now.life; base = c.args.header.now.base; entries = c.args.header.now.entries + length more } in
-    let number : c.args.header.now.entries + length more ≡ length (map.entries index) = omega (arith, count, ap length all, length-append (map.entries cells.entries) more) in
-    let same : written ≡ header_of c.args.header.now.base (record cells { entries = index }) = λ i. record { life = life i; base = c.args.header.now.base; entries = number i } in
+    let number : c.args.header.now.entries + length more ≡ length (map.entries index) =
+    omega (arith, count, ap length all, length-append (map.entries cells.entries) more) in
+    let same : written ≡ header_of c.args.header.now.base (record cells { entries = index }) = λ i.
+    record { life = life i; base = c.args.header.now.base; entries = number i } in
     part_whole geometry first mid new c.args.header.now.base (record cells { entries = index })
-    (part_entries geometry first old mid geometry.pages cells index more part (omega (arith, count, c.requires.full)) all (omega (arith, count, c.requires.room))
+    (part_entries geometry first old mid geometry.pages cells index more part (omega (arith, count, c.requires.full)) all
+    (omega (arith, count, c.requires.room))
     (subst (λ n. SameOutside (InEntries geometry first n (length more)) old mid) count c.write_entries.ensures.outside)
-    (subst (λ n. (i : ℕ) (e : Pair × Mark) → slice_get more i ≡ Some e → IsEntry geometry (entry_bytes geometry mid first (n + i)) e) count c.in_ok-write_entries.ensures.written))
+    (subst (λ n. (i : ℕ) (e : Pair × Mark) → slice_get more i ≡ Some e
+    → IsEntry geometry (entry_bytes geometry mid first (n + i)) e) count c.in_ok-write_entries.ensures.written))
     c.write_header.ensures.outside
     (subst (IsHeader geometry (sector new first)) same c.in_ok-write_header.ensures.written)

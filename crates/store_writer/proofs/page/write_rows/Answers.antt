@@ -6,10 +6,13 @@ use Rattle.store_writer.proofs.page.write_rows.Goals as goal
 
 pub returns-in-Some-clause-written : goal.returns-in-Some-clause-written
 returns-in-Some-clause-written g c =
-    page_is c.write_page.result (header_sector c.args.halves.geometry (other c.args.halves.current)) (g.D.Device.history c.write_page.new.device).disk.content c.args.page c.args.rows.now
+    page_is c.write_page.result (header_sector c.args.halves.geometry (other c.args.halves.current))
+    (g.D.Device.history c.write_page.new.device).disk.content c.args.page c.args.rows.now
     c.in-Some.slots.now c.in-Some.ensures.slots c.write_page.ensures.edges c.write_page.ensures.written
 
 pub returns-in-None-clause-written : goal.returns-in-None-clause-written
 returns-in-None-clause-written g c =
-    page_is c.write_page-in-None.result (header_sector c.args.halves.geometry (other c.args.halves.current)) (g.D.Device.history c.write_page-in-None.new.device).disk.content c.args.page c.args.rows.now
-    (replicate SLOTS_PER_PAGE None) (none_shown c.args.page c.args.rows.now (c.page.ensures.none c.in-None.is)) c.write_page-in-None.ensures.edges c.write_page-in-None.ensures.written
+    page_is c.write_page-in-None.result (header_sector c.args.halves.geometry (other c.args.halves.current))
+    (g.D.Device.history c.write_page-in-None.new.device).disk.content c.args.page c.args.rows.now
+    (replicate SLOTS_PER_PAGE None) (none_shown c.args.page c.args.rows.now (c.page.ensures.none c.in-None.is)) c.write_page-in-None.ensures.edges
+    c.write_page-in-None.ensures.written

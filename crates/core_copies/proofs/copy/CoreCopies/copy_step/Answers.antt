@@ -8,13 +8,15 @@ pub returns-in_ok-lists-in-Start-clause-piece : goal.returns-in_ok-lists-in-Star
 returns-in_ok-lists-in-Start-clause-piece g c = λ cells of.
     let v = value_of c.args.self.now in
     at_place v cells _ c.args.place at.Start c.in-Start.is
-    (is_start v (known v c.pages-pages.ensures.safe c.pages-pages.ensures.rows_inside) c.active_txns-txns.ensures.sound c.life-life.result c.in_ok-lists-in-Start.lists
+    (is_start v (known v c.pages-pages.ensures.safe c.pages-pages.ensures.rows_inside) c.active_txns-txns.ensures.sound c.life-life.result
+    c.in_ok-lists-in-Start.lists
     c.life-life.ensures.life c.in_ok-lists-in-Start.ensures.each c.in_ok-lists-in-Start.ensures.few cells of)
 
 pub returns-in_ok-entries-in-Entries-clause-piece : goal.returns-in_ok-entries-in-Entries-clause-piece
 returns-in_ok-entries-in-Entries-clause-piece g c = λ cells of.
     let v = value_of c.args.self.now in
-    at_place v cells _ c.args.place (at.Entries c.in-Entries.above) c.in-Entries.is (are_entries v c.in-Entries.above c.in_ok-entries-in-Entries.entries.items c.in_ok-entries-in-Entries.ensures.entries cells of)
+    at_place v cells _ c.args.place (at.Entries c.in-Entries.above) c.in-Entries.is
+    (are_entries v c.in-Entries.above c.in_ok-entries-in-Entries.entries.items c.in_ok-entries-in-Entries.ensures.entries cells of)
 
 pub returns-in_ok-lists-in-Start-clause-number : goal.returns-in_ok-lists-in-Start-clause-number
 returns-in_ok-lists-in-Start-clause-number g c = search rules

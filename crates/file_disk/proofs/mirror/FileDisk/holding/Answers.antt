@@ -7,7 +7,12 @@ use Rattle.file_disk.proofs.Holding.{one_more, all_same}
 use Rattle.file_disk.proofs.mirror.FileDisk.holding.Goals as goal
 
 pub loop-n-init : goal.loop-n-init
-loop-n-init g c = (c.in_ok-disk.ensures.failures, ap length c.in_ok-disk.ensures.zeros ∙ length-replicate (length c.args.sectors.now) zero_sector, λ k lt. absurd (omega (arith, lt)))
+loop-n-init g c = (
+  c.in_ok-disk.ensures.failures,
+  ap length c.in_ok-disk.ensures.zeros
+      ∙ length-replicate (length c.args.sectors.now) zero_sector,
+  λ k lt. absurd (omega (arith, lt)),
+)
 
 pub loop-n-preserved : goal.loop-n-preserved
 loop-n-preserved g c =
@@ -20,7 +25,8 @@ loop-n-preserved g c =
     )
 
 pub returns-clause-content : goal.returns-clause-content
-returns-clause-content g c = ap (λ (d : Disk). d.content) c.settle.ensures.disk ∙ all_same _ c.args.sectors.now c.loop-n.invariant.1 (λ k lt. c.loop-n.invariant.2 k (omega (arith, lt, c.loop-n-test.false)))
+returns-clause-content g c = ap (λ (d : Disk). d.content) c.settle.ensures.disk
+    ∙ all_same _ c.args.sectors.now c.loop-n.invariant.1 (λ k lt. c.loop-n.invariant.2 k (omega (arith, lt, c.loop-n-test.false)))
 
 pub returns-clause-synced : goal.returns-clause-synced
 returns-clause-synced g c = λ k. ap (λ (d : Disk). d.unsynced k) c.settle.ensures.disk

@@ -27,7 +27,8 @@ returns-then-is_err-clause-any_moment g c = λ records group.
     let all_synced = subst (λ (l : Log). (n : ℕ) → InArea l.area n → old.disk.unsynced n ≡ false) (sym c.self.view_is) c.requires.synced in
     let room : c.self.inside.open_slots < c.self.inside.slots = omega (arith, c.self.invariant.1, c.if-self.false) in
     subst (λ (l : Log). LeavesOnly old new (IsAppended l old.disk records)) c.self.view_is
-    (weaker old new (IsPartlyWritten old.disk (gate log.area log.open_slots) c.args.body.now) (IsAppended log old.disk records) (λ i partly. appended log old.disk records all_synced room c.args.body.now i group partly) c.write_group.ensures.any_moment)
+    (weaker old new (IsPartlyWritten old.disk (gate log.area log.open_slots) c.args.body.now) (IsAppended log old.disk records) (λ i partly.
+    appended log old.disk records all_synced room c.args.body.now i group partly) c.write_group.ensures.any_moment)
 
 pub returns-clause-done : goal.returns-clause-done
 returns-clause-done g c = λ _ records groups group stands.
@@ -43,7 +44,8 @@ returns-clause-done g c = λ _ records groups group stands.
     let done = c.write_group.ensures in
     let outside = same_outside_wider _ (MayDiffer old.disk n (n + 8)) _ _ (λ k inside. inl inside) done.outside in
     record {
-      held = is_appended log old.disk records all_synced room c.args.body.now new.disk.content groups group outside stood (subst IsMarked (sym (from_ok _ _ ok done.opened)) is_marked) (from_ok _ _ ok done.written);
+      held = is_appended log old.disk records all_synced room c.args.body.now new.disk.content groups group outside stood
+          (subst IsMarked (sym (from_ok _ _ ok done.opened)) is_marked) (from_ok _ _ ok done.written);
       counted = omega (arith, stood.counted, length-append {A = List RecordValue} groups (records ∷ []));
     }
 
@@ -56,7 +58,8 @@ returns-clause-any_moment g c = λ records group.
     let all_synced = subst (λ (l : Log). (n : ℕ) → InArea l.area n → old.disk.unsynced n ≡ false) (sym c.self.view_is) c.requires.synced in
     let room : c.self.inside.open_slots < c.self.inside.slots = omega (arith, c.self.invariant.1, c.if-self.false) in
     subst (λ (l : Log). LeavesOnly old new (IsAppended l old.disk records)) c.self.view_is
-    (weaker old new (IsPartlyWritten old.disk (gate log.area log.open_slots) c.args.body.now) (IsAppended log old.disk records) (λ i partly. appended log old.disk records all_synced room c.args.body.now i group partly) c.write_group.ensures.any_moment)
+    (weaker old new (IsPartlyWritten old.disk (gate log.area log.open_slots) c.args.body.now) (IsAppended log old.disk records) (λ i partly.
+    appended log old.disk records all_synced room c.args.body.now i group partly) c.write_group.ensures.any_moment)
 
 pub returns-clause-survives : goal.returns-clause-survives
 returns-clause-survives g c = λ is records groups image group stands crash.
@@ -64,7 +67,8 @@ returns-clause-survives g c = λ is records groups image group stands crash.
     let disk = (g.D.Device.history c.write_group.new.device).disk in
     let ok = sym c.is_err.ensures.value ∙ c.if-is_err.false in
     let done = returns-clause-done g c is records groups group stands in
-    subst (λ (i : Image). HoldsGroups area i (groups ++ records ∷ [])) (sym (crash_synced disk image (from_ok _ _ ok c.write_group.ensures.synced) crash)) done.held
+    subst (λ (i : Image). HoldsGroups area i (groups ++ records ∷ []))
+    (sym (crash_synced disk image (from_ok _ _ ok c.write_group.ensures.synced) crash)) done.held
 
 pub returns-clause-marked : goal.returns-clause-marked
 returns-clause-marked g c = λ _.

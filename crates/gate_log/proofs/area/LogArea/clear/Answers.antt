@@ -11,14 +11,16 @@ returns-then-is_err-clause-any_moment g c =
     let h = g.D.Device.history in
     let old = h c.args.device.now in
     let new = h c.close_gates.new.device in
-    subst (λ (l : Log). LeavesOnly old new (SameOutside (λ n. IsGate l.area n ⊎ (old.disk.unsynced n ≡ true)) old.disk.content)) c.self.view_is c.close_gates.ensures.within.run
+    subst (λ (l : Log). LeavesOnly old new (SameOutside (λ n. IsGate l.area n ⊎ (old.disk.unsynced n ≡ true)) old.disk.content)) c.self.view_is
+    c.close_gates.ensures.within.run
 
 pub returns-clause-any_moment : goal.returns-clause-any_moment
 returns-clause-any_moment g c =
     let h = g.D.Device.history in
     let old = h c.args.device.now in
     let new = h c.close_gates.new.device in
-    subst (λ (l : Log). LeavesOnly old new (SameOutside (λ n. IsGate l.area n ⊎ (old.disk.unsynced n ≡ true)) old.disk.content)) c.self.view_is c.close_gates.ensures.within.run
+    subst (λ (l : Log). LeavesOnly old new (SameOutside (λ n. IsGate l.area n ⊎ (old.disk.unsynced n ≡ true)) old.disk.content)) c.self.view_is
+    c.close_gates.ensures.within.run
 
 pub returns-clause-zeros : goal.returns-clause-zeros
 returns-clause-zeros g c =

@@ -5,5 +5,6 @@ use Rattle.image_parts.proofs.buffer.Buffer.push.Goals as goal
 pub invariant_of-self : goal.invariant_of-self
 invariant_of-self g c =
     let b = c.self.inside in
-    let fits : b.len + length c.args.more.now ≤ g.row.N = omega (arith, c.requires, ap length c.self.view_is, length_of g.row.N b.len b.bytes c.self.invariant) in
+    let fits : b.len + length c.args.more.now ≤ g.row.N =
+    omega (arith, c.requires, ap length c.self.view_is, length_of g.row.N b.len b.bytes c.self.invariant) in
     pushed g.row.N b.len b.bytes c.self.invariant c.args.more.now c.copy_from_slice.new.self _ c.copy_from_slice.ensures.after (omega arith) fits

@@ -7,4 +7,5 @@ use Rattle.restart.proofs.engine.Engine.device.Goals as goal
 pub returns-clause-survives : goal.returns-clause-survives
 returns-clause-survives g c past image is crash =
     let device_is : c.device.result.now ≡ device_of c.args.self.now = search rules in
-    crash_since g.D.Device.history past c.args.self.now is (horizon_of c.args.self.now) (omega arith) image (subst (λ d. IsCrashImage (g.D.Device.history d).disk image) device_is crash)
+    crash_since g.D.Device.history past c.args.self.now is (horizon_of c.args.self.now) (omega arith) image
+    (subst (λ d. IsCrashImage (g.D.Device.history d).disk image) device_is crash)

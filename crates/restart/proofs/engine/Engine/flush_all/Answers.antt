@@ -51,4 +51,5 @@ flushes-smaller g c =
     let new = c.flush_once-reply.new.self in
     let again : asks_again c.last-last.result c.flushes.told reply ≡ true = cc in
     let up = rises h f c.last-last.result c.flushes.told c.flushes.self new reply again c.flush_once-reply.ensures in
-    subst (λ (n : ℕ). c.last-last.result - n < option_map_or (λ m. c.last-last.result - m) c.flushes.told (c.last-last.result + 1)) (sym c.horizon.ensures) (smaller c.last-last.result c.flushes.told (horizon_of new) up.0 up.1)
+    subst (λ (n : ℕ). c.last-last.result - n < option_map_or (λ m. c.last-last.result - m) c.flushes.told (c.last-last.result + 1)) (sym c.horizon.ensures)
+    (smaller c.last-last.result c.flushes.told (horizon_of new) up.0 up.1)

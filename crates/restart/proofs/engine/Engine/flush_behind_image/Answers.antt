@@ -7,4 +7,10 @@ use Rattle.restart.proofs.engine.Engine.flush_behind_image.Goals as goal
 pub returns-in-Flipped : goal.returns-in-Flipped
 returns-in-Flipped g c =
     let mid = c.take_image.new.self in
-    inl (_, mid, subst (λ (r : Reply g.row.A.Denot). TakesImage g.D.Device.history g.D.Device.failures r c.args.self.now mid) c.in-Flipped.is c.take_image.ensures, record { lawful = c.serve.ensures.lawful; runs = c.serve.ensures.serves; sectors = c.serve.ensures.sectors })
+    inl (
+      _,
+      mid,
+      subst (λ (r : Reply g.row.A.Denot). TakesImage g.D.Device.history g.D.Device.failures r c.args.self.now mid) c.in-Flipped.is
+          c.take_image.ensures,
+      record { lawful = c.serve.ensures.lawful; runs = c.serve.ensures.serves; sectors = c.serve.ensures.sectors },
+    )

@@ -6,4 +6,5 @@ use Rattle.restart.proofs.engine.Engine.into_device.Goals as goal
 
 pub returns-clause-survives : goal.returns-clause-survives
 returns-clause-survives g c past image is crash =
-    crash_since g.D.Device.history past c.args.self is (horizon_of c.args.self) (omega arith) image (subst (λ d. IsCrashImage (g.D.Device.history d).disk image) (c.into_device.ensures ∙ ap (λ parts. device_of parts) c.self.view_is) crash)
+    crash_since g.D.Device.history past c.args.self is (horizon_of c.args.self) (omega arith) image
+    (subst (λ d. IsCrashImage (g.D.Device.history d).disk image) (c.into_device.ensures ∙ ap (λ parts. device_of parts) c.self.view_is) crash)

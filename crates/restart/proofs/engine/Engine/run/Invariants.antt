@@ -10,7 +10,8 @@ invariant-loop-event g l =
       even : length l.replies.items ≡ l.event-index;
       room : length l.events ≤ vec_capacity l.replies;
       lawful : AreLawful g.D.Device.failures (take l.event-index l.events) l.replies.items l.fn.self l.self;
-      served : (past : Past _) → IsAt history past l.fn.self → AreServed history g.D.Device.failures past (take l.event-index l.events) l.replies.items l.fn.self l.self;
+      served : (past : Past _) → IsAt history past l.fn.self
+          → AreServed history g.D.Device.failures past (take l.event-index l.events) l.replies.items l.fn.self l.self;
       around : HaveNoCopy (take l.event-index l.events) → KeepsAround history l.fn.self l.self;
       sectors : KeepsSectors history l.fn.self l.self;
       ran : (past : Past _) → IsAt history past l.fn.self → GoesOn history past (take l.event-index l.events) l.replies.items l.fn.self l.self;

@@ -6,7 +6,8 @@ use Rattle.restart.proofs.Around.{keeps_sectors}
 use Rattle.restart.proofs.engine.Engine.serve.Goals as goal
 
 pub returns-clause-serves : goal.returns-clause-serves
-returns-clause-serves g c = subst (λ parts. ServesOn g.D.Device.history c.args.event c.serve.result parts c.serve.new.self) c.self.view_is c.serve.ensures.serves
+returns-clause-serves g c = subst (λ parts. ServesOn g.D.Device.history c.args.event c.serve.result parts c.serve.new.self) c.self.view_is
+    c.serve.ensures.serves
 
 pub returns-clause-around : goal.returns-clause-around
 returns-clause-around g c = subst (λ parts. c.args.event ≢ Copy → KeepsAround g.D.Device.history parts c.serve.new.self) c.self.view_is c.serve.ensures.around
@@ -21,4 +22,5 @@ pub returns-clause-groups : goal.returns-clause-groups
 returns-clause-groups g c = subst (λ parts. c.args.event ≡ Copy → CopiesByGroups parts c.serve.new.self) c.self.view_is c.serve.ensures.groups
 
 pub returns-clause-sectors : goal.returns-clause-sectors
-returns-clause-sectors g c = keeps_sectors g.D.Device.history c.args.event c.args.self.now c.serve.new.self (returns-clause-around g c) (returns-clause-copied g c)
+returns-clause-sectors g c = keeps_sectors g.D.Device.history c.args.event c.args.self.now c.serve.new.self (returns-clause-around g c)
+    (returns-clause-copied g c)

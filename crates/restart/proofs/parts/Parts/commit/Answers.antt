@@ -11,7 +11,8 @@ use Rattle.restart.proofs.parts.Parts.commit.Goals as goal
 pub returns-then-is_unready : goal.returns-then-is_unready
 returns-then-is_unready g c =
     let old = c.args.self.now in
-    answered_still (core.Commit c.args.txn) old reply.Skipped core.Skipped refl (skips_commit (core_of old) c.args.txn (c.is_unready.ensures.yes c.if-is_unready.true))
+    answered_still (core.Commit c.args.txn) old reply.Skipped core.Skipped refl
+    (skips_commit (core_of old) c.args.txn (c.is_unready.ensures.yes c.if-is_unready.true))
 
 pub returns-in-Ok : goal.returns-in-Ok
 returns-in-Ok g c =

@@ -11,16 +11,20 @@ use Rattle.restart.proofs.Moving.{can_run_on, moves_then, serves_by}
 use Rattle.restart.proofs.parts.Parts.copy.Goals as goal
 
 pub returns-then-has_failed-clause-serves : goal.returns-then-has_failed-clause-serves
-returns-then-has_failed-clause-serves g c = serves_by g.D.Device.history c.args.self.now c.args.self.now Copy (Refused DeviceFailed) (stays g.D.Device.history g.D.Device.failures c.args.self.now) refl tt (λ n le. le)
+returns-then-has_failed-clause-serves g c = serves_by g.D.Device.history c.args.self.now c.args.self.now Copy (Refused DeviceFailed)
+    (stays g.D.Device.history g.D.Device.failures c.args.self.now) refl tt (λ n le. le)
 
 pub returns-then-has_failed-clause-answer : goal.returns-then-has_failed-clause-answer
 returns-then-has_failed-clause-answer g c = copy_failed_before g.D.Device.failures c.args.self.now (sym c.has_failed.ensures ∙ c.if-has_failed.true)
 
 pub returns-then-not-hand_over-clause-serves : goal.returns-then-not-hand_over-clause-serves
-returns-then-not-hand_over-clause-serves g c = serves_by g.D.Device.history c.args.self.now c.hand_over.new.self Copy (Refused NoMemory) c.hand_over.ensures.hands.moves refl tt (λ n le. le)
+returns-then-not-hand_over-clause-serves g c = serves_by g.D.Device.history c.args.self.now c.hand_over.new.self Copy
+    (Refused NoMemory) c.hand_over.ensures.hands.moves refl tt (λ n le. le)
 
 pub returns-then-not-hand_over-clause-answer : goal.returns-then-not-hand_over-clause-answer
-returns-then-not-hand_over-clause-answer g c = copy_not_over g.D.Device.history g.D.Device.failures c.args.self.now c.hand_over.new.self c.hand_over.ensures.hands (sym c.has_failed.ensures ∙ c.if-has_failed.false)
+returns-then-not-hand_over-clause-answer g c =
+    copy_not_over g.D.Device.history g.D.Device.failures c.args.self.now c.hand_over.new.self c.hand_over.ensures.hands (sym c.has_failed.ensures
+    ∙ c.if-has_failed.false)
 
 pub returns-then-not-hand_over-clause-can_run : goal.returns-then-not-hand_over-clause-can_run
 returns-then-not-hand_over-clause-can_run g c = can_run_on g.D.Device.history c.args.self.now c.hand_over.new.self c.hand_over.ensures.hands.moves c.requires
@@ -44,15 +48,19 @@ returns-clause-serves g c =
     let over = c.hand_over.ensures.hands in
     let sound : has_failed mid ≡ false = over.failed ∙ sym c.has_failed.ensures ∙ c.if-has_failed.false in
     let answer = answer_over history failures old mid over new c.copy_handed.result c.copy_handed.ensures.answer sound in
-    serves_by history old new Copy c.copy_handed.result (moves_then history old mid new over.moves c.copy_handed.ensures.moves) refl (of_copy failures old new c.copy_handed.result answer) (copy_safe failures old new c.copy_handed.result answer)
+    serves_by history old new Copy c.copy_handed.result (moves_then history old mid new over.moves c.copy_handed.ensures.moves) refl
+    (of_copy failures old new c.copy_handed.result answer) (copy_safe failures old new c.copy_handed.result answer)
 
 pub returns-clause-answer : goal.returns-clause-answer
 returns-clause-answer g c =
     let over = c.hand_over.ensures.hands in
-    answer_over g.D.Device.history g.D.Device.failures c.args.self.now c.hand_over.new.self over c.copy_handed.new.self c.copy_handed.result c.copy_handed.ensures.answer (over.failed ∙ sym c.has_failed.ensures ∙ c.if-has_failed.false)
+    answer_over g.D.Device.history g.D.Device.failures c.args.self.now c.hand_over.new.self over c.copy_handed.new.self c.copy_handed.result
+    c.copy_handed.ensures.answer (over.failed ∙ sym c.has_failed.ensures ∙ c.if-has_failed.false)
 
 pub returns-clause-can_run : goal.returns-clause-can_run
-returns-clause-can_run g c = can_run_on g.D.Device.history c.args.self.now c.copy_handed.new.self (moves_then g.D.Device.history c.args.self.now c.hand_over.new.self c.copy_handed.new.self c.hand_over.ensures.hands.moves c.copy_handed.ensures.moves) c.requires
+returns-clause-can_run g c = can_run_on g.D.Device.history c.args.self.now c.copy_handed.new.self
+    (moves_then g.D.Device.history c.args.self.now c.hand_over.new.self c.copy_handed.new.self c.hand_over.ensures.hands.moves c.copy_handed.ensures.moves)
+    c.requires
 
 pub returns-then-has_failed-clause-around : goal.returns-then-has_failed-clause-around
 returns-then-has_failed-clause-around g c = none_copied_around g.D.Device.history c.args.self.now
@@ -61,7 +69,8 @@ pub returns-then-not-hand_over-clause-around : goal.returns-then-not-hand_over-c
 returns-then-not-hand_over-clause-around g c = device_copied g.D.Device.history c.args.self.now c.hand_over.new.self c.hand_over.ensures.hands.device
 
 pub returns-clause-around : goal.returns-clause-around
-returns-clause-around g c = copied_over g.D.Device.history c.args.self.now c.hand_over.new.self c.copy_handed.new.self c.hand_over.ensures.hands c.copy_handed.ensures.around
+returns-clause-around g c = copied_over g.D.Device.history c.args.self.now c.hand_over.new.self c.copy_handed.new.self c.hand_over.ensures.hands
+    c.copy_handed.ensures.around
 
 pub returns-then-has_failed-clause-groups : goal.returns-then-has_failed-clause-groups
 returns-then-has_failed-clause-groups g c = kept_store c.args.self.now
@@ -70,4 +79,5 @@ pub returns-then-not-hand_over-clause-groups : goal.returns-then-not-hand_over-c
 returns-then-not-hand_over-clause-groups g c = not_over_kept g.D.Device.history c.args.self.now c.hand_over.new.self c.hand_over.ensures.hands
 
 pub returns-clause-groups : goal.returns-clause-groups
-returns-clause-groups g c = groups_over g.D.Device.history c.args.self.now c.hand_over.new.self c.hand_over.ensures.hands c.copy_handed.new.self (c.hand_over.ensures.all.0 c.if-not-hand_over.false) c.copy_handed.ensures.groups
+returns-clause-groups g c = groups_over g.D.Device.history c.args.self.now c.hand_over.new.self c.hand_over.ensures.hands c.copy_handed.new.self
+    (c.hand_over.ensures.all.0 c.if-not-hand_over.false) c.copy_handed.ensures.groups

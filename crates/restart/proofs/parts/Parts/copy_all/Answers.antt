@@ -21,9 +21,20 @@ pub checkpoint_step-requires : goal.checkpoint_step-requires
 checkpoint_step-requires g c =
     let history = g.D.Device.history in
     let old = c.args.self.now in
-    let laws : CopyLaws history old = record { txns = c.copy_whole.ensures.sound; shown = c.each_list.ensures.shown; one = c.one_copy.ensures; page = c.next_pieces.ensures.page; entries = c.next_pieces.ensures.entries } in
-    let can = c.requires.runs in
-    (can.0, can.1, can.4.writer, whole_is history old laws c.requires.sound c.in-Ok.chunk.number c.in-Ok.chunk.piece c.in-Ok.ensures.number c.in-Ok.ensures.whole can.0 can.1 can.2 can.3 can.4)
+    let laws : CopyLaws history old = record {
+      txns = c.copy_whole.ensures.sound;
+      shown = c.each_list.ensures.shown;
+      one = c.one_copy.ensures;
+      page = c.next_pieces.ensures.page;
+      entries = c.next_pieces.ensures.entries;
+    } in
+    let can = c.requires.runs in (
+      can.0,
+      can.1,
+      can.4.writer,
+      whole_is history old laws c.requires.sound c.in-Ok.chunk.number c.in-Ok.chunk.piece c.in-Ok.ensures.number
+          c.in-Ok.ensures.whole can.0 can.1 can.2 can.3 can.4,
+    )
 
 pub returns-in-Err-clause-moves : goal.returns-in-Err-clause-moves
 returns-in-Err-clause-moves g c = stays g.D.Device.history g.D.Device.failures c.args.self.now
@@ -36,19 +47,27 @@ unreachable-requires g c =
     let chunk = c.in-Ok.chunk in
     let old = c.args.self.now in
     is_taken (value_of old.core) chunk.number chunk.piece (writer_of old) c.checkpoint_step.new.self c.in-Ok.ensures.whole
-    (subst (λ (r : StepReply). IsStepReply chunk.number chunk.piece r (writer_of old) c.checkpoint_step.new.self) c.in-Ok-StartAgain.field-0-is c.in-Ok-StartAgain.ensures.stepped)
+    (subst (λ (r : StepReply). IsStepReply chunk.number chunk.piece r (writer_of old) c.checkpoint_step.new.self) c.in-Ok-StartAgain.field-0-is
+    c.in-Ok-StartAgain.ensures.stepped)
 
 pub returns-in-Err-checkpoint_step-clause-moves : goal.returns-in-Err-checkpoint_step-clause-moves
 returns-in-Err-checkpoint_step-clause-moves g c =
     let history = g.D.Device.history in
     let failures = g.D.Device.failures in
     let old = c.args.self.now in
-    let laws : CopyLaws history old = record { txns = c.copy_whole.ensures.sound; shown = c.each_list.ensures.shown; one = c.one_copy.ensures; page = c.next_pieces.ensures.page; entries = c.next_pieces.ensures.entries } in
+    let laws : CopyLaws history old = record {
+      txns = c.copy_whole.ensures.sound;
+      shown = c.each_list.ensures.shown;
+      one = c.one_copy.ensures;
+      page = c.next_pieces.ensures.page;
+      entries = c.next_pieces.ensures.entries;
+    } in
     let chunk = c.in-Ok.chunk in
     let can = c.requires.runs in
     let mid : Parts g.row.D.Denot g.row.A.Denot = record old { writer = c.checkpoint_step.new.self } in
     let first : MovesOn history old mid = moves_at history old mid refl refl
-    (λ run handed s k is. c.checkpoint_step.ensures.writer run handed is.writer (whole_is history old laws c.requires.sound chunk.number chunk.piece c.in-Ok.ensures.number c.in-Ok.ensures.whole run handed s k is))
+    (λ run handed s k is. c.checkpoint_step.ensures.writer run handed is.writer
+    (whole_is history old laws c.requires.sound chunk.number chunk.piece c.in-Ok.ensures.number c.in-Ok.ensures.whole run handed s k is))
     c.checkpoint_step.ensures.images (omega (arith, c.checkpoint_step.ensures.kept)) (stays_failed old mid refl refl c.in-Err-checkpoint_step.ensures.err.1) in
     first
 
@@ -57,25 +76,47 @@ returns-in-Err-checkpoint_step-clause-answer g c =
     let history = g.D.Device.history in
     let failures = g.D.Device.failures in
     let old = c.args.self.now in
-    let laws : CopyLaws history old = record { txns = c.copy_whole.ensures.sound; shown = c.each_list.ensures.shown; one = c.one_copy.ensures; page = c.next_pieces.ensures.page; entries = c.next_pieces.ensures.entries } in
+    let laws : CopyLaws history old = record {
+      txns = c.copy_whole.ensures.sound;
+      shown = c.each_list.ensures.shown;
+      one = c.one_copy.ensures;
+      page = c.next_pieces.ensures.page;
+      entries = c.next_pieces.ensures.entries;
+    } in
     let chunk = c.in-Ok.chunk in
     let can = c.requires.runs in
     let mid : Parts g.row.D.Denot g.row.A.Denot = record old { writer = c.checkpoint_step.new.self } in
-    let step : IsWriter history can.0 can.1 (writer_of mid) = c.checkpoint_step.ensures.writer can.0 can.1 can.4.writer (whole_is history old laws c.requires.sound chunk.number chunk.piece c.in-Ok.ensures.number c.in-Ok.ensures.whole can.0 can.1 can.2 can.3 can.4) in
-    copy_failed history failures old mid c.requires.all can refl refl step (omega (arith, c.checkpoint_step.ensures.kept)) c.checkpoint_step.ensures.later c.in-Err-checkpoint_step.error c.requires.sound c.in-Err-checkpoint_step.ensures.err
+    let step : IsWriter history can.0 can.1 (writer_of mid) =
+    c.checkpoint_step.ensures.writer can.0 can.1 can.4.writer
+    (whole_is history old laws c.requires.sound chunk.number chunk.piece c.in-Ok.ensures.number c.in-Ok.ensures.whole can.0 can.1 can.2 can.3 can.4) in
+    copy_failed history failures old mid c.requires.all can refl refl step
+    (omega (arith, c.checkpoint_step.ensures.kept)) c.checkpoint_step.ensures.later c.in-Err-checkpoint_step.error c.requires.sound
+    c.in-Err-checkpoint_step.ensures.err
 
 pub unreachable-requires-in-Ok-Behind : goal.unreachable-requires-in-Ok-Behind
 unreachable-requires-in-Ok-Behind g c =
     let history = g.D.Device.history in
     let failures = g.D.Device.failures in
     let old = c.args.self.now in
-    let laws : CopyLaws history old = record { txns = c.copy_whole.ensures.sound; shown = c.each_list.ensures.shown; one = c.one_copy.ensures; page = c.next_pieces.ensures.page; entries = c.next_pieces.ensures.entries } in
+    let laws : CopyLaws history old = record {
+      txns = c.copy_whole.ensures.sound;
+      shown = c.each_list.ensures.shown;
+      one = c.one_copy.ensures;
+      page = c.next_pieces.ensures.page;
+      entries = c.next_pieces.ensures.entries;
+    } in
     let chunk = c.in-Ok.chunk in
     let can = c.requires.runs in
     let mid : Parts g.row.D.Denot g.row.A.Denot = record old { writer = c.checkpoint_step.new.self } in
-    let step : IsWriter history can.0 can.1 (writer_of mid) = c.checkpoint_step.ensures.writer can.0 can.1 can.4.writer (whole_is history old laws c.requires.sound chunk.number chunk.piece c.in-Ok.ensures.number c.in-Ok.ensures.whole can.0 can.1 can.2 can.3 can.4) in
-    let told : IsStepReply chunk.number chunk.piece Taken (writer_of old) (writer_of mid) = subst (λ (r : StepReply). IsStepReply chunk.number chunk.piece r (writer_of old) c.checkpoint_step.new.self) c.in-Ok-Taken.field-0-is c.in-Ok-Taken.ensures.stepped in
-    let behind : IsFlipReply can.1 Behind (writer_of mid) c.checkpoint_flip.new.self = subst (λ (r : FlipReply). IsFlipReply can.1 r (writer_of mid) c.checkpoint_flip.new.self) c.in-Ok-Behind.field-0-is (c.in-Ok-Behind.ensures.flipped can.0 can.1 step) in
+    let step : IsWriter history can.0 can.1 (writer_of mid) =
+    c.checkpoint_step.ensures.writer can.0 can.1 can.4.writer
+    (whole_is history old laws c.requires.sound chunk.number chunk.piece c.in-Ok.ensures.number c.in-Ok.ensures.whole can.0 can.1 can.2 can.3 can.4) in
+    let told : IsStepReply chunk.number chunk.piece Taken (writer_of old) (writer_of mid) =
+    subst (λ (r : StepReply). IsStepReply chunk.number chunk.piece r (writer_of old) c.checkpoint_step.new.self) c.in-Ok-Taken.field-0-is
+    c.in-Ok-Taken.ensures.stepped in
+    let behind : IsFlipReply can.1 Behind (writer_of mid) c.checkpoint_flip.new.self =
+    subst (λ (r : FlipReply). IsFlipReply can.1 r (writer_of mid) c.checkpoint_flip.new.self) c.in-Ok-Behind.field-0-is
+    (c.in-Ok-Behind.ensures.flipped can.0 can.1 step) in
     behind.1 (may_flip (value_of old.core) can.1 chunk.number chunk.piece (writer_of old) (writer_of mid) c.in-Ok.ensures.whole told
     (omega (arith, c.in-Ok.ensures.number, can.4.made, can.4.shown.shown.made, all_handed history can.0 can.1 can.2 can.3 old can.4 c.requires.all)))
 
@@ -84,36 +125,77 @@ returns-in-Ok-Flipped-clause-moves g c =
     let history = g.D.Device.history in
     let failures = g.D.Device.failures in
     let old = c.args.self.now in
-    let laws : CopyLaws history old = record { txns = c.copy_whole.ensures.sound; shown = c.each_list.ensures.shown; one = c.one_copy.ensures; page = c.next_pieces.ensures.page; entries = c.next_pieces.ensures.entries } in
+    let laws : CopyLaws history old = record {
+      txns = c.copy_whole.ensures.sound;
+      shown = c.each_list.ensures.shown;
+      one = c.one_copy.ensures;
+      page = c.next_pieces.ensures.page;
+      entries = c.next_pieces.ensures.entries;
+    } in
     let chunk = c.in-Ok.chunk in
     let can = c.requires.runs in
     let mid : Parts g.row.D.Denot g.row.A.Denot = record old { writer = c.checkpoint_step.new.self } in
-    let told : IsStepReply chunk.number chunk.piece Taken (writer_of old) (writer_of mid) = subst (λ (r : StepReply). IsStepReply chunk.number chunk.piece r (writer_of old) c.checkpoint_step.new.self) c.in-Ok-Taken.field-0-is c.in-Ok-Taken.ensures.stepped in
+    let told : IsStepReply chunk.number chunk.piece Taken (writer_of old) (writer_of mid) =
+    subst (λ (r : StepReply). IsStepReply chunk.number chunk.piece r (writer_of old) c.checkpoint_step.new.self) c.in-Ok-Taken.field-0-is
+    c.in-Ok-Taken.ensures.stepped in
     let first : MovesOn history old mid = moves_at history old mid refl refl
-    (λ run handed s k is. c.checkpoint_step.ensures.writer run handed is.writer (whole_is history old laws c.requires.sound chunk.number chunk.piece c.in-Ok.ensures.number c.in-Ok.ensures.whole run handed s k is))
-    c.checkpoint_step.ensures.images (omega (arith, c.checkpoint_step.ensures.kept)) (stays_begun old mid refl c.requires.given_up told.1.0 told.1.1.0 (whole_empty (value_of old.core) chunk.number chunk.piece (writer_of old) (writer_of mid) c.in-Ok.ensures.whole told)) in
-    let step : IsWriter history can.0 can.1 (writer_of mid) = c.checkpoint_step.ensures.writer can.0 can.1 can.4.writer (whole_is history old laws c.requires.sound chunk.number chunk.piece c.in-Ok.ensures.number c.in-Ok.ensures.whole can.0 can.1 can.2 can.3 can.4) in
+    (λ run handed s k is. c.checkpoint_step.ensures.writer run handed is.writer
+    (whole_is history old laws c.requires.sound chunk.number chunk.piece c.in-Ok.ensures.number c.in-Ok.ensures.whole run handed s k is))
+    c.checkpoint_step.ensures.images (omega (arith, c.checkpoint_step.ensures.kept))
+    (stays_begun old mid refl c.requires.given_up told.1.0 told.1.1.0
+    (whole_empty (value_of old.core) chunk.number chunk.piece (writer_of old) (writer_of mid) c.in-Ok.ensures.whole told)) in
+    let step : IsWriter history can.0 can.1 (writer_of mid) =
+    c.checkpoint_step.ensures.writer can.0 can.1 can.4.writer
+    (whole_is history old laws c.requires.sound chunk.number chunk.piece c.in-Ok.ensures.number c.in-Ok.ensures.whole can.0 can.1 can.2 can.3 can.4) in
     let new : Parts g.row.D.Denot g.row.A.Denot = record old { writer = c.checkpoint_flip.new.self; copying = Idle } in
-    let flipped : IsFlipReply can.1 (Flipped c.in-Ok-Flipped.number) (writer_of mid) (writer_of new) = subst (λ (r : FlipReply). IsFlipReply can.1 r (writer_of mid) c.checkpoint_flip.new.self) c.in-Ok-Flipped.field-0-is (c.in-Ok-Flipped.ensures.flipped can.0 can.1 step) in
-    moves_then history old mid new first (moves_by history mid new refl refl c.checkpoint_flip.ensures.writer c.checkpoint_flip.ensures.images (omega (arith, flipped.0, flipped.1)) (stays_idle mid new refl refl flipped.4))
+    let flipped : IsFlipReply can.1 (Flipped c.in-Ok-Flipped.number) (writer_of mid) (writer_of new) =
+    subst (λ (r : FlipReply). IsFlipReply can.1 r (writer_of mid) c.checkpoint_flip.new.self) c.in-Ok-Flipped.field-0-is
+    (c.in-Ok-Flipped.ensures.flipped can.0 can.1 step) in
+    moves_then history old mid new first (moves_by history mid new refl refl c.checkpoint_flip.ensures.writer c.checkpoint_flip.ensures.images
+    (omega (arith, flipped.0, flipped.1)) (stays_idle mid new refl refl flipped.4))
 
 pub returns-in-Ok-Flipped-clause-answer : goal.returns-in-Ok-Flipped-clause-answer
 returns-in-Ok-Flipped-clause-answer g c =
     let history = g.D.Device.history in
     let failures = g.D.Device.failures in
     let old = c.args.self.now in
-    let laws : CopyLaws history old = record { txns = c.copy_whole.ensures.sound; shown = c.each_list.ensures.shown; one = c.one_copy.ensures; page = c.next_pieces.ensures.page; entries = c.next_pieces.ensures.entries } in
+    let laws : CopyLaws history old = record {
+      txns = c.copy_whole.ensures.sound;
+      shown = c.each_list.ensures.shown;
+      one = c.one_copy.ensures;
+      page = c.next_pieces.ensures.page;
+      entries = c.next_pieces.ensures.entries;
+    } in
     let chunk = c.in-Ok.chunk in
     let can = c.requires.runs in
     let mid : Parts g.row.D.Denot g.row.A.Denot = record old { writer = c.checkpoint_step.new.self } in
-    let step : IsWriter history can.0 can.1 (writer_of mid) = c.checkpoint_step.ensures.writer can.0 can.1 can.4.writer (whole_is history old laws c.requires.sound chunk.number chunk.piece c.in-Ok.ensures.number c.in-Ok.ensures.whole can.0 can.1 can.2 can.3 can.4) in
-    let told : IsStepReply chunk.number chunk.piece Taken (writer_of old) (writer_of mid) = subst (λ (r : StepReply). IsStepReply chunk.number chunk.piece r (writer_of old) c.checkpoint_step.new.self) c.in-Ok-Taken.field-0-is c.in-Ok-Taken.ensures.stepped in
+    let step : IsWriter history can.0 can.1 (writer_of mid) =
+    c.checkpoint_step.ensures.writer can.0 can.1 can.4.writer
+    (whole_is history old laws c.requires.sound chunk.number chunk.piece c.in-Ok.ensures.number c.in-Ok.ensures.whole can.0 can.1 can.2 can.3 can.4) in
+    let told : IsStepReply chunk.number chunk.piece Taken (writer_of old) (writer_of mid) =
+    subst (λ (r : StepReply). IsStepReply chunk.number chunk.piece r (writer_of old) c.checkpoint_step.new.self) c.in-Ok-Taken.field-0-is
+    c.in-Ok-Taken.ensures.stepped in
     let new : Parts g.row.D.Denot g.row.A.Denot = record old { writer = c.checkpoint_flip.new.self; copying = Idle } in
-    let flipped : IsFlipReply can.1 (Flipped c.in-Ok-Flipped.number) (writer_of mid) (writer_of new) = subst (λ (r : FlipReply). IsFlipReply can.1 r (writer_of mid) c.checkpoint_flip.new.self) c.in-Ok-Flipped.field-0-is (c.in-Ok-Flipped.ensures.flipped can.0 can.1 step) in (
-      all_well history failures old new c.requires.all can refl refl (c.checkpoint_flip.ensures.writer can.0 can.1 step) (omega (arith, c.checkpoint_step.ensures.kept, flipped.0, flipped.1)) (omega (arith, c.checkpoint_step.ensures.later, c.checkpoint_flip.ensures.later)) c.requires.sound c.in-Ok-Flipped.ensures.sound.1 (c.in-Ok-Flipped.ensures.quiet ∙ c.in-Ok-Taken.ensures.quiet),
+    let flipped : IsFlipReply can.1 (Flipped c.in-Ok-Flipped.number) (writer_of mid) (writer_of new) =
+    subst (λ (r : FlipReply). IsFlipReply can.1 r (writer_of mid) c.checkpoint_flip.new.self) c.in-Ok-Flipped.field-0-is
+    (c.in-Ok-Flipped.ensures.flipped can.0 can.1 step) in (
+      all_well history failures old new c.requires.all can refl refl (c.checkpoint_flip.ensures.writer can.0 can.1 step)
+          (omega (arith, c.checkpoint_step.ensures.kept, flipped.0, flipped.1))
+          (omega (arith, c.checkpoint_step.ensures.later, c.checkpoint_flip.ensures.later)) c.requires.sound c.in-Ok-Flipped.ensures.sound.1
+          (c.in-Ok-Flipped.ensures.quiet ∙ c.in-Ok-Taken.ensures.quiet),
       flipped.0,
-      whole_current old new (value_of old.core) (writer_of mid) can.1 chunk.number c.in-Ok-Flipped.number chunk.piece c.in-Ok.ensures.whole told flipped c.requires.given_up refl
-          (none_unwritten history can.0 can.1 new (c.checkpoint_flip.ensures.writer can.0 can.1 step) (omega (arith, whole_synced old new (value_of old.core) (writer_of mid) can.1 chunk.number c.in-Ok-Flipped.number chunk.piece c.in-Ok.ensures.whole told flipped, c.in-Ok.ensures.number, can.4.made, can.4.shown.shown.made, can.4.writer.made)) c.requires.all),
+      whole_current old new (value_of old.core) (writer_of mid) can.1 chunk.number c.in-Ok-Flipped.number chunk.piece c.in-Ok.ensures.whole told flipped
+          c.requires.given_up refl
+          (none_unwritten history can.0 can.1 new (c.checkpoint_flip.ensures.writer can.0 can.1 step)
+          (omega (
+            arith,
+            whole_synced old new (value_of old.core)
+                (writer_of mid) can.1 chunk.number c.in-Ok-Flipped.number chunk.piece c.in-Ok.ensures.whole told flipped,
+            c.in-Ok.ensures.number,
+            can.4.made,
+            can.4.shown.shown.made,
+            can.4.writer.made,
+          )) c.requires.all),
     )
 
 pub returns-in-Err-checkpoint_flip-clause-moves : goal.returns-in-Err-checkpoint_flip-clause-moves
@@ -121,47 +203,83 @@ returns-in-Err-checkpoint_flip-clause-moves g c =
     let history = g.D.Device.history in
     let failures = g.D.Device.failures in
     let old = c.args.self.now in
-    let laws : CopyLaws history old = record { txns = c.copy_whole.ensures.sound; shown = c.each_list.ensures.shown; one = c.one_copy.ensures; page = c.next_pieces.ensures.page; entries = c.next_pieces.ensures.entries } in
+    let laws : CopyLaws history old = record {
+      txns = c.copy_whole.ensures.sound;
+      shown = c.each_list.ensures.shown;
+      one = c.one_copy.ensures;
+      page = c.next_pieces.ensures.page;
+      entries = c.next_pieces.ensures.entries;
+    } in
     let chunk = c.in-Ok.chunk in
     let can = c.requires.runs in
     let mid : Parts g.row.D.Denot g.row.A.Denot = record old { writer = c.checkpoint_step.new.self } in
-    let told : IsStepReply chunk.number chunk.piece Taken (writer_of old) (writer_of mid) = subst (λ (r : StepReply). IsStepReply chunk.number chunk.piece r (writer_of old) c.checkpoint_step.new.self) c.in-Ok-Taken.field-0-is c.in-Ok-Taken.ensures.stepped in
+    let told : IsStepReply chunk.number chunk.piece Taken (writer_of old) (writer_of mid) =
+    subst (λ (r : StepReply). IsStepReply chunk.number chunk.piece r (writer_of old) c.checkpoint_step.new.self) c.in-Ok-Taken.field-0-is
+    c.in-Ok-Taken.ensures.stepped in
     let first : MovesOn history old mid = moves_at history old mid refl refl
-    (λ run handed s k is. c.checkpoint_step.ensures.writer run handed is.writer (whole_is history old laws c.requires.sound chunk.number chunk.piece c.in-Ok.ensures.number c.in-Ok.ensures.whole run handed s k is))
-    c.checkpoint_step.ensures.images (omega (arith, c.checkpoint_step.ensures.kept)) (stays_begun old mid refl c.requires.given_up told.1.0 told.1.1.0 (whole_empty (value_of old.core) chunk.number chunk.piece (writer_of old) (writer_of mid) c.in-Ok.ensures.whole told)) in
+    (λ run handed s k is. c.checkpoint_step.ensures.writer run handed is.writer
+    (whole_is history old laws c.requires.sound chunk.number chunk.piece c.in-Ok.ensures.number c.in-Ok.ensures.whole run handed s k is))
+    c.checkpoint_step.ensures.images (omega (arith, c.checkpoint_step.ensures.kept))
+    (stays_begun old mid refl c.requires.given_up told.1.0 told.1.1.0
+    (whole_empty (value_of old.core) chunk.number chunk.piece (writer_of old) (writer_of mid) c.in-Ok.ensures.whole told)) in
     let new : Parts g.row.D.Denot g.row.A.Denot = record old { writer = c.checkpoint_flip.new.self } in
-    moves_then history old mid new first (moves_by history mid new refl refl c.checkpoint_flip.ensures.writer c.checkpoint_flip.ensures.images (omega (arith, c.in-Err-checkpoint_flip.ensures.kept)) (stays_failed mid new refl refl c.in-Err-checkpoint_flip.ensures.err.1))
+    moves_then history old mid new first (moves_by history mid new refl refl c.checkpoint_flip.ensures.writer c.checkpoint_flip.ensures.images
+    (omega (arith, c.in-Err-checkpoint_flip.ensures.kept)) (stays_failed mid new refl refl c.in-Err-checkpoint_flip.ensures.err.1))
 
 pub returns-in-Err-checkpoint_flip-clause-answer : goal.returns-in-Err-checkpoint_flip-clause-answer
 returns-in-Err-checkpoint_flip-clause-answer g c =
     let history = g.D.Device.history in
     let failures = g.D.Device.failures in
     let old = c.args.self.now in
-    let laws : CopyLaws history old = record { txns = c.copy_whole.ensures.sound; shown = c.each_list.ensures.shown; one = c.one_copy.ensures; page = c.next_pieces.ensures.page; entries = c.next_pieces.ensures.entries } in
+    let laws : CopyLaws history old = record {
+      txns = c.copy_whole.ensures.sound;
+      shown = c.each_list.ensures.shown;
+      one = c.one_copy.ensures;
+      page = c.next_pieces.ensures.page;
+      entries = c.next_pieces.ensures.entries;
+    } in
     let chunk = c.in-Ok.chunk in
     let can = c.requires.runs in
     let mid : Parts g.row.D.Denot g.row.A.Denot = record old { writer = c.checkpoint_step.new.self } in
-    let step : IsWriter history can.0 can.1 (writer_of mid) = c.checkpoint_step.ensures.writer can.0 can.1 can.4.writer (whole_is history old laws c.requires.sound chunk.number chunk.piece c.in-Ok.ensures.number c.in-Ok.ensures.whole can.0 can.1 can.2 can.3 can.4) in
+    let step : IsWriter history can.0 can.1 (writer_of mid) =
+    c.checkpoint_step.ensures.writer can.0 can.1 can.4.writer
+    (whole_is history old laws c.requires.sound chunk.number chunk.piece c.in-Ok.ensures.number c.in-Ok.ensures.whole can.0 can.1 can.2 can.3 can.4) in
     let new : Parts g.row.D.Denot g.row.A.Denot = record old { writer = c.checkpoint_flip.new.self } in
-    failed_later history failures old mid new c.requires.all can refl refl (c.checkpoint_flip.ensures.writer can.0 can.1 step) (omega (arith, c.checkpoint_step.ensures.kept, c.in-Err-checkpoint_flip.ensures.kept)) (omega (arith, c.checkpoint_step.ensures.later, c.checkpoint_flip.ensures.later)) c.in-Err-checkpoint_flip.error c.requires.sound c.in-Ok-Taken.ensures.sound.1 c.in-Ok-Taken.ensures.quiet c.in-Err-checkpoint_flip.ensures.err
+    failed_later history failures old mid new c.requires.all can refl refl (c.checkpoint_flip.ensures.writer can.0 can.1 step)
+    (omega (arith, c.checkpoint_step.ensures.kept, c.in-Err-checkpoint_flip.ensures.kept))
+    (omega (arith, c.checkpoint_step.ensures.later, c.checkpoint_flip.ensures.later)) c.in-Err-checkpoint_flip.error c.requires.sound
+    c.in-Ok-Taken.ensures.sound.1 c.in-Ok-Taken.ensures.quiet c.in-Err-checkpoint_flip.ensures.err
 
 pub returns-in-Err-clause-around : goal.returns-in-Err-clause-around
 returns-in-Err-clause-around g c = none_copied_around g.D.Device.history c.args.self.now
 
 pub returns-in-Err-checkpoint_step-clause-around : goal.returns-in-Err-checkpoint_step-clause-around
-returns-in-Err-checkpoint_step-clause-around g c = let old = c.args.self.now in half_copied g.D.Device.history (writer.halves_of (writer_of old)) (device_of old) (writer.device_of c.checkpoint_step.new.self) c.checkpoint_step.ensures.around
+returns-in-Err-checkpoint_step-clause-around g c = let old = c.args.self.now in
+    half_copied g.D.Device.history (writer.halves_of (writer_of old)) (device_of old)
+    (writer.device_of c.checkpoint_step.new.self) c.checkpoint_step.ensures.around
 
 pub returns-in-Ok-Flipped-clause-around : goal.returns-in-Ok-Flipped-clause-around
 returns-in-Ok-Flipped-clause-around g c =
     let history = g.D.Device.history in
     let old = c.args.self.now in
-    let laws : CopyLaws history old = record { txns = c.copy_whole.ensures.sound; shown = c.each_list.ensures.shown; one = c.one_copy.ensures; page = c.next_pieces.ensures.page; entries = c.next_pieces.ensures.entries } in
+    let laws : CopyLaws history old = record {
+      txns = c.copy_whole.ensures.sound;
+      shown = c.each_list.ensures.shown;
+      one = c.one_copy.ensures;
+      page = c.next_pieces.ensures.page;
+      entries = c.next_pieces.ensures.entries;
+    } in
     let chunk = c.in-Ok.chunk in
     let mid : Parts g.row.D.Denot g.row.A.Denot = record old { writer = c.checkpoint_step.new.self } in
-    let told : IsStepReply chunk.number chunk.piece Taken (writer_of old) (writer_of mid) = subst (λ (r : StepReply). IsStepReply chunk.number chunk.piece r (writer_of old) c.checkpoint_step.new.self) c.in-Ok-Taken.field-0-is c.in-Ok-Taken.ensures.stepped in
+    let told : IsStepReply chunk.number chunk.piece Taken (writer_of old) (writer_of mid) =
+    subst (λ (r : StepReply). IsStepReply chunk.number chunk.piece r (writer_of old) c.checkpoint_step.new.self) c.in-Ok-Taken.field-0-is
+    c.in-Ok-Taken.ensures.stepped in
     let first : MovesOn history old mid = moves_at history old mid refl refl
-    (λ run handed s k is. c.checkpoint_step.ensures.writer run handed is.writer (whole_is history old laws c.requires.sound chunk.number chunk.piece c.in-Ok.ensures.number c.in-Ok.ensures.whole run handed s k is))
-    c.checkpoint_step.ensures.images (omega (arith, c.checkpoint_step.ensures.kept)) (stays_begun old mid refl c.requires.given_up told.1.0 told.1.1.0 (whole_empty (value_of old.core) chunk.number chunk.piece (writer_of old) (writer_of mid) c.in-Ok.ensures.whole told)) in
+    (λ run handed s k is. c.checkpoint_step.ensures.writer run handed is.writer
+    (whole_is history old laws c.requires.sound chunk.number chunk.piece c.in-Ok.ensures.number c.in-Ok.ensures.whole run handed s k is))
+    c.checkpoint_step.ensures.images (omega (arith, c.checkpoint_step.ensures.kept))
+    (stays_begun old mid refl c.requires.given_up told.1.0 told.1.1.0
+    (whole_empty (value_of old.core) chunk.number chunk.piece (writer_of old) (writer_of mid) c.in-Ok.ensures.whole told)) in
     let new : Parts g.row.D.Denot g.row.A.Denot = record old { writer = c.checkpoint_flip.new.self; copying = Idle } in
     copies_then history old mid new (can_run_on history old mid first c.requires.runs) c.in-Ok-Taken.ensures.sound.1 told.1.1.1
     (half_copied history (writer.halves_of (writer_of old)) (device_of old) (device_of mid) c.checkpoint_step.ensures.around)
@@ -171,13 +289,24 @@ pub returns-in-Err-checkpoint_flip-clause-around : goal.returns-in-Err-checkpoin
 returns-in-Err-checkpoint_flip-clause-around g c =
     let history = g.D.Device.history in
     let old = c.args.self.now in
-    let laws : CopyLaws history old = record { txns = c.copy_whole.ensures.sound; shown = c.each_list.ensures.shown; one = c.one_copy.ensures; page = c.next_pieces.ensures.page; entries = c.next_pieces.ensures.entries } in
+    let laws : CopyLaws history old = record {
+      txns = c.copy_whole.ensures.sound;
+      shown = c.each_list.ensures.shown;
+      one = c.one_copy.ensures;
+      page = c.next_pieces.ensures.page;
+      entries = c.next_pieces.ensures.entries;
+    } in
     let chunk = c.in-Ok.chunk in
     let mid : Parts g.row.D.Denot g.row.A.Denot = record old { writer = c.checkpoint_step.new.self } in
-    let told : IsStepReply chunk.number chunk.piece Taken (writer_of old) (writer_of mid) = subst (λ (r : StepReply). IsStepReply chunk.number chunk.piece r (writer_of old) c.checkpoint_step.new.self) c.in-Ok-Taken.field-0-is c.in-Ok-Taken.ensures.stepped in
+    let told : IsStepReply chunk.number chunk.piece Taken (writer_of old) (writer_of mid) =
+    subst (λ (r : StepReply). IsStepReply chunk.number chunk.piece r (writer_of old) c.checkpoint_step.new.self) c.in-Ok-Taken.field-0-is
+    c.in-Ok-Taken.ensures.stepped in
     let first : MovesOn history old mid = moves_at history old mid refl refl
-    (λ run handed s k is. c.checkpoint_step.ensures.writer run handed is.writer (whole_is history old laws c.requires.sound chunk.number chunk.piece c.in-Ok.ensures.number c.in-Ok.ensures.whole run handed s k is))
-    c.checkpoint_step.ensures.images (omega (arith, c.checkpoint_step.ensures.kept)) (stays_begun old mid refl c.requires.given_up told.1.0 told.1.1.0 (whole_empty (value_of old.core) chunk.number chunk.piece (writer_of old) (writer_of mid) c.in-Ok.ensures.whole told)) in
+    (λ run handed s k is. c.checkpoint_step.ensures.writer run handed is.writer
+    (whole_is history old laws c.requires.sound chunk.number chunk.piece c.in-Ok.ensures.number c.in-Ok.ensures.whole run handed s k is))
+    c.checkpoint_step.ensures.images (omega (arith, c.checkpoint_step.ensures.kept))
+    (stays_begun old mid refl c.requires.given_up told.1.0 told.1.1.0
+    (whole_empty (value_of old.core) chunk.number chunk.piece (writer_of old) (writer_of mid) c.in-Ok.ensures.whole told)) in
     let new : Parts g.row.D.Denot g.row.A.Denot = record old { writer = c.checkpoint_flip.new.self } in
     copies_then history old mid new (can_run_on history old mid first c.requires.runs) c.in-Ok-Taken.ensures.sound.1 told.1.1.1
     (half_copied history (writer.halves_of (writer_of old)) (device_of old) (device_of mid) c.checkpoint_step.ensures.around)

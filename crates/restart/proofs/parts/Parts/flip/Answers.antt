@@ -47,22 +47,30 @@ groups-preserved g c =
       left = omega (arith, first.left, more.left);
       behind = λ may. absurd (more.could-not (subst (λ engine. MayFlip (writer_of engine)) (sym (first.behind may)) may));
       groups = group_more g.D.Device.failures (writer_of c.args.self.now) c.groups.self c.flip_or_flush.new.self first.groups more;
-      around = copies_then g.D.Device.history c.args.self.now c.groups.self c.flip_or_flush.new.self (can_run_on g.D.Device.history c.args.self.now c.groups.self first.moves c.requires.runs) first.well.sound first.halves first.around c.flip_or_flush.ensures.around;
+      around = copies_then g.D.Device.history c.args.self.now c.groups.self c.flip_or_flush.new.self
+          (can_run_on g.D.Device.history c.args.self.now c.groups.self first.moves c.requires.runs) first.well.sound first.halves first.around
+          c.flip_or_flush.ensures.around;
     }
 
 pub groups-smaller : goal.groups-smaller
 groups-smaller g c = c.in-None.ensures.flushed.fewer
 
 pub returns-in-Some-clause-moves : goal.returns-in-Some-clause-moves
-returns-in-Some-clause-moves g c = moves_then g.D.Device.history c.args.self.now c.groups.self c.flip_or_flush.new.self c.groups.invariant.moves c.flip_or_flush.ensures.moves
+returns-in-Some-clause-moves g c =
+    moves_then g.D.Device.history c.args.self.now c.groups.self c.flip_or_flush.new.self c.groups.invariant.moves c.flip_or_flush.ensures.moves
 
 pub returns-in-Some-clause-answer : goal.returns-in-Some-clause-answer
-returns-in-Some-clause-answer g c = answer_then g.D.Device.failures c.args.self.now c.groups.self c.flip_or_flush.new.self c.in-Some.reply c.groups.invariant.well c.groups.invariant.copying c.requires.whole c.groups.invariant.halves c.groups.invariant.left c.groups.invariant.behind c.in-Some.ensures.answer
+returns-in-Some-clause-answer g c =
+    answer_then g.D.Device.failures c.args.self.now c.groups.self c.flip_or_flush.new.self c.in-Some.reply c.groups.invariant.well c.groups.invariant.copying
+    c.requires.whole c.groups.invariant.halves c.groups.invariant.left c.groups.invariant.behind c.in-Some.ensures.answer
 
 pub returns-in-Some-clause-around : goal.returns-in-Some-clause-around
 returns-in-Some-clause-around g c =
     let first = c.groups.invariant in
-    copies_then g.D.Device.history c.args.self.now c.groups.self c.flip_or_flush.new.self (can_run_on g.D.Device.history c.args.self.now c.groups.self first.moves c.requires.runs) first.well.sound first.halves first.around c.flip_or_flush.ensures.around
+    copies_then g.D.Device.history c.args.self.now c.groups.self c.flip_or_flush.new.self
+    (can_run_on g.D.Device.history c.args.self.now c.groups.self first.moves c.requires.runs) first.well.sound first.halves first.around
+    c.flip_or_flush.ensures.around
 
 pub returns-in-Some-clause-groups : goal.returns-in-Some-clause-groups
-returns-in-Some-clause-groups g c = groups_then (writer_of c.args.self.now) (writer_of c.groups.self) (writer_of c.flip_or_flush.new.self) c.groups.invariant.groups c.in-Some.ensures.groups
+returns-in-Some-clause-groups g c = groups_then (writer_of c.args.self.now) (writer_of c.groups.self)
+    (writer_of c.flip_or_flush.new.self) c.groups.invariant.groups c.in-Some.ensures.groups

@@ -72,9 +72,15 @@ returns-in-Ok-Flushed-clause-serves g c =
     let new : Parts g.row.D.Denot g.row.A.Denot = record mid { writer = c.flush_group.new.self } in
     let all : unhanded mid ≡ [] = c.hand_over.ensures.all.0 c.if-not-hand_over.false in
     let can = can_run_on history old mid over.moves c.requires in
-    let is : IsFlushReply (flush.Flushed c.in-Ok-Flushed.number) (writer_of mid) (writer_of new) = subst (λ (f : FlushReply). IsFlushReply f (writer_of mid) c.flush_group.new.self) c.in-Ok-Flushed.field-0-is c.in-Ok-Flushed.ensures.flushed in
+    let is : IsFlushReply (flush.Flushed c.in-Ok-Flushed.number) (writer_of mid) (writer_of new) =
+    subst (λ (f : FlushReply). IsFlushReply f (writer_of mid) c.flush_group.new.self) c.in-Ok-Flushed.field-0-is c.in-Ok-Flushed.ensures.flushed in
     let grows : horizon_of mid ≤ horizon_of new = omega (arith, is.0, is.1) in
-    serves_by history old new Flush (Horizon c.in-Ok-Flushed.number) (moves history failures old mid over new all sound refl refl refl can c.flush_group.ensures.writer c.flush_group.ensures.images c.flush_group.ensures.later (stays_flushed mid new refl refl (writer.halves_of (writer_of mid)).geometry.slots (horizon_of mid) (c.in-Ok-Flushed.number - horizon_of mid) (slots_are history mid can) (over.failed ∙ sound) (c.flush_group.ensures.image c.in-Ok-Flushed.number (c.in-Ok-Flushed.is ∙ ap Ok c.in-Ok-Flushed.field-0-is)) c.kept_place.ensures) grows) refl tt (λ n le. omega (arith, le, is.0))
+    serves_by history old new Flush (Horizon c.in-Ok-Flushed.number)
+    (moves history failures old mid over new all sound refl refl refl can c.flush_group.ensures.writer c.flush_group.ensures.images
+    c.flush_group.ensures.later (stays_flushed mid new refl refl (writer.halves_of (writer_of mid)).geometry.slots (horizon_of mid)
+    (c.in-Ok-Flushed.number - horizon_of mid) (slots_are history mid can) (over.failed
+    ∙ sound) (c.flush_group.ensures.image c.in-Ok-Flushed.number (c.in-Ok-Flushed.is ∙ ap Ok c.in-Ok-Flushed.field-0-is)) c.kept_place.ensures) grows) refl
+    tt (λ n le. omega (arith, le, is.0))
 
 pub returns-in-Ok-Flushed-clause-answer : goal.returns-in-Ok-Flushed-clause-answer
 returns-in-Ok-Flushed-clause-answer g c =
@@ -87,8 +93,14 @@ returns-in-Ok-Flushed-clause-answer g c =
     let new : Parts g.row.D.Denot g.row.A.Denot = record mid { writer = c.flush_group.new.self } in
     let all : unhanded mid ≡ [] = c.hand_over.ensures.all.0 c.if-not-hand_over.false in
     let can = can_run_on history old mid over.moves c.requires in
-    let is : IsFlushReply (flush.Flushed c.in-Ok-Flushed.number) (writer_of mid) (writer_of new) = subst (λ (f : FlushReply). IsFlushReply f (writer_of mid) c.flush_group.new.self) c.in-Ok-Flushed.field-0-is c.in-Ok-Flushed.ensures.flushed in
-    flushed history failures old mid over new all sound refl refl refl can c.flush_group.ensures.writer c.flush_group.ensures.images c.flush_group.ensures.later (stays_flushed mid new refl refl (writer.halves_of (writer_of mid)).geometry.slots (horizon_of mid) (c.in-Ok-Flushed.number - horizon_of mid) (slots_are history mid can) (over.failed ∙ sound) (c.flush_group.ensures.image c.in-Ok-Flushed.number (c.in-Ok-Flushed.is ∙ ap Ok c.in-Ok-Flushed.field-0-is)) c.kept_place.ensures) c.in-Ok-Flushed.number is (c.flush_group.ensures.image c.in-Ok-Flushed.number (c.in-Ok-Flushed.is ∙ ap Ok c.in-Ok-Flushed.field-0-is)) c.in-Ok-Flushed.ensures.sound.1 c.in-Ok-Flushed.ensures.quiet
+    let is : IsFlushReply (flush.Flushed c.in-Ok-Flushed.number) (writer_of mid) (writer_of new) =
+    subst (λ (f : FlushReply). IsFlushReply f (writer_of mid) c.flush_group.new.self) c.in-Ok-Flushed.field-0-is c.in-Ok-Flushed.ensures.flushed in
+    flushed history failures old mid over new all sound refl refl refl can c.flush_group.ensures.writer c.flush_group.ensures.images c.flush_group.ensures.later
+    (stays_flushed mid new refl refl (writer.halves_of (writer_of mid)).geometry.slots (horizon_of mid) (c.in-Ok-Flushed.number - horizon_of mid)
+    (slots_are history mid can) (over.failed ∙ sound) (c.flush_group.ensures.image c.in-Ok-Flushed.number (c.in-Ok-Flushed.is
+    ∙ ap Ok c.in-Ok-Flushed.field-0-is)) c.kept_place.ensures) c.in-Ok-Flushed.number is
+    (c.flush_group.ensures.image c.in-Ok-Flushed.number (c.in-Ok-Flushed.is ∙ ap Ok c.in-Ok-Flushed.field-0-is)) c.in-Ok-Flushed.ensures.sound.1
+    c.in-Ok-Flushed.ensures.quiet
 
 pub returns-in-Ok-Flushed-clause-can_run : goal.returns-in-Ok-Flushed-clause-can_run
 returns-in-Ok-Flushed-clause-can_run g c =
@@ -101,9 +113,14 @@ returns-in-Ok-Flushed-clause-can_run g c =
     let new : Parts g.row.D.Denot g.row.A.Denot = record mid { writer = c.flush_group.new.self } in
     let all : unhanded mid ≡ [] = c.hand_over.ensures.all.0 c.if-not-hand_over.false in
     let can = can_run_on history old mid over.moves c.requires in
-    let is : IsFlushReply (flush.Flushed c.in-Ok-Flushed.number) (writer_of mid) (writer_of new) = subst (λ (f : FlushReply). IsFlushReply f (writer_of mid) c.flush_group.new.self) c.in-Ok-Flushed.field-0-is c.in-Ok-Flushed.ensures.flushed in
+    let is : IsFlushReply (flush.Flushed c.in-Ok-Flushed.number) (writer_of mid) (writer_of new) =
+    subst (λ (f : FlushReply). IsFlushReply f (writer_of mid) c.flush_group.new.self) c.in-Ok-Flushed.field-0-is c.in-Ok-Flushed.ensures.flushed in
     let grows : horizon_of mid ≤ horizon_of new = omega (arith, is.0, is.1) in
-    can_run_on history old new (moves history failures old mid over new all sound refl refl refl can c.flush_group.ensures.writer c.flush_group.ensures.images c.flush_group.ensures.later (stays_flushed mid new refl refl (writer.halves_of (writer_of mid)).geometry.slots (horizon_of mid) (c.in-Ok-Flushed.number - horizon_of mid) (slots_are history mid can) (over.failed ∙ sound) (c.flush_group.ensures.image c.in-Ok-Flushed.number (c.in-Ok-Flushed.is ∙ ap Ok c.in-Ok-Flushed.field-0-is)) c.kept_place.ensures) grows) c.requires
+    can_run_on history old new (moves history failures old mid over new all sound refl refl refl can c.flush_group.ensures.writer c.flush_group.ensures.images
+    c.flush_group.ensures.later (stays_flushed mid new refl refl (writer.halves_of (writer_of mid)).geometry.slots (horizon_of mid)
+    (c.in-Ok-Flushed.number - horizon_of mid) (slots_are history mid can) (over.failed
+    ∙ sound) (c.flush_group.ensures.image c.in-Ok-Flushed.number (c.in-Ok-Flushed.is ∙ ap Ok c.in-Ok-Flushed.field-0-is)) c.kept_place.ensures) grows)
+    c.requires
 
 pub returns-in-Ok-Nothing-clause-serves : goal.returns-in-Ok-Nothing-clause-serves
 returns-in-Ok-Nothing-clause-serves g c =
@@ -116,9 +133,12 @@ returns-in-Ok-Nothing-clause-serves g c =
     let new : Parts g.row.D.Denot g.row.A.Denot = record mid { writer = c.flush_group.new.self } in
     let all : unhanded mid ≡ [] = c.hand_over.ensures.all.0 c.if-not-hand_over.false in
     let can = can_run_on history old mid over.moves c.requires in
-    let is : IsFlushReply (flush.Nothing) (writer_of mid) (writer_of new) = subst (λ (f : FlushReply). IsFlushReply f (writer_of mid) c.flush_group.new.self) c.in-Ok-Nothing.field-0-is c.in-Ok-Nothing.ensures.flushed in
+    let is : IsFlushReply (flush.Nothing) (writer_of mid) (writer_of new) =
+    subst (λ (f : FlushReply). IsFlushReply f (writer_of mid) c.flush_group.new.self) c.in-Ok-Nothing.field-0-is c.in-Ok-Nothing.ensures.flushed in
     let grows : horizon_of mid ≤ horizon_of new = omega (arith, ap (λ w. writer.synced_of w) is.0) in
-    serves_by history old new Flush (Horizon c.synced.result) (moves history failures old mid over new all sound refl refl refl can c.flush_group.ensures.writer c.flush_group.ensures.images c.flush_group.ensures.later (stays_same mid new refl refl is.0) grows) refl tt (λ n le. omega (arith, le, c.synced.ensures))
+    serves_by history old new Flush (Horizon c.synced.result)
+    (moves history failures old mid over new all sound refl refl refl can c.flush_group.ensures.writer c.flush_group.ensures.images
+    c.flush_group.ensures.later (stays_same mid new refl refl is.0) grows) refl tt (λ n le. omega (arith, le, c.synced.ensures))
 
 pub returns-in-Ok-Nothing-clause-answer : goal.returns-in-Ok-Nothing-clause-answer
 returns-in-Ok-Nothing-clause-answer g c =
@@ -131,8 +151,11 @@ returns-in-Ok-Nothing-clause-answer g c =
     let new : Parts g.row.D.Denot g.row.A.Denot = record mid { writer = c.flush_group.new.self } in
     let all : unhanded mid ≡ [] = c.hand_over.ensures.all.0 c.if-not-hand_over.false in
     let can = can_run_on history old mid over.moves c.requires in
-    let is : IsFlushReply (flush.Nothing) (writer_of mid) (writer_of new) = subst (λ (f : FlushReply). IsFlushReply f (writer_of mid) c.flush_group.new.self) c.in-Ok-Nothing.field-0-is c.in-Ok-Nothing.ensures.flushed in
-    none_to_flush history failures old mid over new all sound refl refl refl can c.flush_group.ensures.writer c.flush_group.ensures.images c.flush_group.ensures.later (stays_same mid new refl refl is.0) c.synced.result c.synced.ensures is c.in-Ok-Nothing.ensures.sound.1 c.in-Ok-Nothing.ensures.quiet
+    let is : IsFlushReply (flush.Nothing) (writer_of mid) (writer_of new) =
+    subst (λ (f : FlushReply). IsFlushReply f (writer_of mid) c.flush_group.new.self) c.in-Ok-Nothing.field-0-is c.in-Ok-Nothing.ensures.flushed in
+    none_to_flush history failures old mid over new all sound refl refl refl can c.flush_group.ensures.writer c.flush_group.ensures.images
+    c.flush_group.ensures.later (stays_same mid new refl refl is.0) c.synced.result c.synced.ensures is c.in-Ok-Nothing.ensures.sound.1
+    c.in-Ok-Nothing.ensures.quiet
 
 pub returns-in-Ok-Nothing-clause-can_run : goal.returns-in-Ok-Nothing-clause-can_run
 returns-in-Ok-Nothing-clause-can_run g c =
@@ -145,9 +168,11 @@ returns-in-Ok-Nothing-clause-can_run g c =
     let new : Parts g.row.D.Denot g.row.A.Denot = record mid { writer = c.flush_group.new.self } in
     let all : unhanded mid ≡ [] = c.hand_over.ensures.all.0 c.if-not-hand_over.false in
     let can = can_run_on history old mid over.moves c.requires in
-    let is : IsFlushReply (flush.Nothing) (writer_of mid) (writer_of new) = subst (λ (f : FlushReply). IsFlushReply f (writer_of mid) c.flush_group.new.self) c.in-Ok-Nothing.field-0-is c.in-Ok-Nothing.ensures.flushed in
+    let is : IsFlushReply (flush.Nothing) (writer_of mid) (writer_of new) =
+    subst (λ (f : FlushReply). IsFlushReply f (writer_of mid) c.flush_group.new.self) c.in-Ok-Nothing.field-0-is c.in-Ok-Nothing.ensures.flushed in
     let grows : horizon_of mid ≤ horizon_of new = omega (arith, ap (λ w. writer.synced_of w) is.0) in
-    can_run_on history old new (moves history failures old mid over new all sound refl refl refl can c.flush_group.ensures.writer c.flush_group.ensures.images c.flush_group.ensures.later (stays_same mid new refl refl is.0) grows) c.requires
+    can_run_on history old new (moves history failures old mid over new all sound refl refl refl can c.flush_group.ensures.writer c.flush_group.ensures.images
+    c.flush_group.ensures.later (stays_same mid new refl refl is.0) grows) c.requires
 
 pub returns-in-Ok-LogFull-clause-serves : goal.returns-in-Ok-LogFull-clause-serves
 returns-in-Ok-LogFull-clause-serves g c =
@@ -160,9 +185,12 @@ returns-in-Ok-LogFull-clause-serves g c =
     let new : Parts g.row.D.Denot g.row.A.Denot = record mid { writer = c.flush_group.new.self } in
     let all : unhanded mid ≡ [] = c.hand_over.ensures.all.0 c.if-not-hand_over.false in
     let can = can_run_on history old mid over.moves c.requires in
-    let is : IsFlushReply (flush.LogFull) (writer_of mid) (writer_of new) = subst (λ (f : FlushReply). IsFlushReply f (writer_of mid) c.flush_group.new.self) c.in-Ok-LogFull.field-0-is c.in-Ok-LogFull.ensures.flushed in
+    let is : IsFlushReply (flush.LogFull) (writer_of mid) (writer_of new) =
+    subst (λ (f : FlushReply). IsFlushReply f (writer_of mid) c.flush_group.new.self) c.in-Ok-LogFull.field-0-is c.in-Ok-LogFull.ensures.flushed in
     let grows : horizon_of mid ≤ horizon_of new = omega (arith, ap (λ w. writer.synced_of w) is.0) in
-    serves_by history old new Flush (LogFull) (moves history failures old mid over new all sound refl refl refl can c.flush_group.ensures.writer c.flush_group.ensures.images c.flush_group.ensures.later (stays_same mid new refl refl is.0) grows) refl tt (λ n le. le)
+    serves_by history old new Flush (LogFull)
+    (moves history failures old mid over new all sound refl refl refl can c.flush_group.ensures.writer c.flush_group.ensures.images
+    c.flush_group.ensures.later (stays_same mid new refl refl is.0) grows) refl tt (λ n le. le)
 
 pub returns-in-Ok-LogFull-clause-answer : goal.returns-in-Ok-LogFull-clause-answer
 returns-in-Ok-LogFull-clause-answer g c =
@@ -175,8 +203,10 @@ returns-in-Ok-LogFull-clause-answer g c =
     let new : Parts g.row.D.Denot g.row.A.Denot = record mid { writer = c.flush_group.new.self } in
     let all : unhanded mid ≡ [] = c.hand_over.ensures.all.0 c.if-not-hand_over.false in
     let can = can_run_on history old mid over.moves c.requires in
-    let is : IsFlushReply (flush.LogFull) (writer_of mid) (writer_of new) = subst (λ (f : FlushReply). IsFlushReply f (writer_of mid) c.flush_group.new.self) c.in-Ok-LogFull.field-0-is c.in-Ok-LogFull.ensures.flushed in
-    log_full history failures old mid over new all sound refl refl refl can c.flush_group.ensures.writer c.flush_group.ensures.images c.flush_group.ensures.later (stays_same mid new refl refl is.0) is c.in-Ok-LogFull.ensures.sound.1
+    let is : IsFlushReply (flush.LogFull) (writer_of mid) (writer_of new) =
+    subst (λ (f : FlushReply). IsFlushReply f (writer_of mid) c.flush_group.new.self) c.in-Ok-LogFull.field-0-is c.in-Ok-LogFull.ensures.flushed in
+    log_full history failures old mid over new all sound refl refl refl can c.flush_group.ensures.writer c.flush_group.ensures.images
+    c.flush_group.ensures.later (stays_same mid new refl refl is.0) is c.in-Ok-LogFull.ensures.sound.1
 
 pub returns-in-Ok-LogFull-clause-can_run : goal.returns-in-Ok-LogFull-clause-can_run
 returns-in-Ok-LogFull-clause-can_run g c =
@@ -189,9 +219,11 @@ returns-in-Ok-LogFull-clause-can_run g c =
     let new : Parts g.row.D.Denot g.row.A.Denot = record mid { writer = c.flush_group.new.self } in
     let all : unhanded mid ≡ [] = c.hand_over.ensures.all.0 c.if-not-hand_over.false in
     let can = can_run_on history old mid over.moves c.requires in
-    let is : IsFlushReply (flush.LogFull) (writer_of mid) (writer_of new) = subst (λ (f : FlushReply). IsFlushReply f (writer_of mid) c.flush_group.new.self) c.in-Ok-LogFull.field-0-is c.in-Ok-LogFull.ensures.flushed in
+    let is : IsFlushReply (flush.LogFull) (writer_of mid) (writer_of new) =
+    subst (λ (f : FlushReply). IsFlushReply f (writer_of mid) c.flush_group.new.self) c.in-Ok-LogFull.field-0-is c.in-Ok-LogFull.ensures.flushed in
     let grows : horizon_of mid ≤ horizon_of new = omega (arith, ap (λ w. writer.synced_of w) is.0) in
-    can_run_on history old new (moves history failures old mid over new all sound refl refl refl can c.flush_group.ensures.writer c.flush_group.ensures.images c.flush_group.ensures.later (stays_same mid new refl refl is.0) grows) c.requires
+    can_run_on history old new (moves history failures old mid over new all sound refl refl refl can c.flush_group.ensures.writer c.flush_group.ensures.images
+    c.flush_group.ensures.later (stays_same mid new refl refl is.0) grows) c.requires
 
 pub returns-in-Err-clause-serves : goal.returns-in-Err-clause-serves
 returns-in-Err-clause-serves g c =
@@ -206,7 +238,10 @@ returns-in-Err-clause-serves g c =
     let can = can_run_on history old mid over.moves c.requires in
     let kept : horizon_of new ≡ horizon_of mid = c.in-Err.ensures.kept in
     let grows : horizon_of mid ≤ horizon_of new = omega (arith, kept) in
-    serves_by history old new Flush (Refused c.in-Err.error) (moves history failures old mid over new all sound refl refl refl can c.flush_group.ensures.writer c.flush_group.ensures.images c.flush_group.ensures.later (⊎_elim (λ none. stays_same mid new refl refl none.4) (λ failed. stays_failed mid new refl refl failed.1) c.in-Err.ensures.err) grows) refl tt (λ n le. le)
+    serves_by history old new Flush (Refused c.in-Err.error)
+    (moves history failures old mid over new all sound refl refl refl can c.flush_group.ensures.writer c.flush_group.ensures.images
+    c.flush_group.ensures.later (⊎_elim (λ none. stays_same mid new refl refl none.4) (λ failed.
+    stays_failed mid new refl refl failed.1) c.in-Err.ensures.err) grows) refl tt (λ n le. le)
 
 pub returns-in-Err-clause-answer : goal.returns-in-Err-clause-answer
 returns-in-Err-clause-answer g c =
@@ -221,7 +256,9 @@ returns-in-Err-clause-answer g c =
     let can = can_run_on history old mid over.moves c.requires in
     let kept : horizon_of new ≡ horizon_of mid = c.in-Err.ensures.kept in
     let grows : horizon_of mid ≤ horizon_of new = omega (arith, kept) in
-    not_flushed history failures old mid over new all sound refl refl refl can c.flush_group.ensures.writer c.flush_group.ensures.images c.flush_group.ensures.later (⊎_elim (λ none. stays_same mid new refl refl none.4) (λ failed. stays_failed mid new refl refl failed.1) c.in-Err.ensures.err) c.in-Err.error c.in-Err.ensures.err kept c.in-Err.ensures.left
+    not_flushed history failures old mid over new all sound refl refl refl can c.flush_group.ensures.writer c.flush_group.ensures.images
+    c.flush_group.ensures.later (⊎_elim (λ none. stays_same mid new refl refl none.4) (λ failed.
+    stays_failed mid new refl refl failed.1) c.in-Err.ensures.err) c.in-Err.error c.in-Err.ensures.err kept c.in-Err.ensures.left
 
 pub returns-in-Err-clause-can_run : goal.returns-in-Err-clause-can_run
 returns-in-Err-clause-can_run g c =
@@ -236,7 +273,9 @@ returns-in-Err-clause-can_run g c =
     let can = can_run_on history old mid over.moves c.requires in
     let kept : horizon_of new ≡ horizon_of mid = c.in-Err.ensures.kept in
     let grows : horizon_of mid ≤ horizon_of new = omega (arith, kept) in
-    can_run_on history old new (moves history failures old mid over new all sound refl refl refl can c.flush_group.ensures.writer c.flush_group.ensures.images c.flush_group.ensures.later (⊎_elim (λ none. stays_same mid new refl refl none.4) (λ failed. stays_failed mid new refl refl failed.1) c.in-Err.ensures.err) grows) c.requires
+    can_run_on history old new (moves history failures old mid over new all sound refl refl refl can c.flush_group.ensures.writer c.flush_group.ensures.images
+    c.flush_group.ensures.later (⊎_elim (λ none. stays_same mid new refl refl none.4) (λ failed.
+    stays_failed mid new refl refl failed.1) c.in-Err.ensures.err) grows) c.requires
 
 pub returns-then-has_failed-clause-around : goal.returns-then-has_failed-clause-around
 returns-then-has_failed-clause-around g c = around_none g.D.Device.history c.args.self.now c.args.self.now
@@ -249,28 +288,32 @@ returns-in-Ok-Flushed-clause-around g c =
     let history = g.D.Device.history in
     let old = c.args.self.now in
     let mid = c.hand_over.new.self in
-    then_around history (writer_of old) (writer_of mid) c.flush_group.new.self (around_hand_over history old mid c.hand_over.ensures.hands) c.flush_group.ensures.around
+    then_around history (writer_of old) (writer_of mid) c.flush_group.new.self
+    (around_hand_over history old mid c.hand_over.ensures.hands) c.flush_group.ensures.around
 
 pub returns-in-Ok-Nothing-clause-around : goal.returns-in-Ok-Nothing-clause-around
 returns-in-Ok-Nothing-clause-around g c =
     let history = g.D.Device.history in
     let old = c.args.self.now in
     let mid = c.hand_over.new.self in
-    then_around history (writer_of old) (writer_of mid) c.flush_group.new.self (around_hand_over history old mid c.hand_over.ensures.hands) c.flush_group.ensures.around
+    then_around history (writer_of old) (writer_of mid) c.flush_group.new.self
+    (around_hand_over history old mid c.hand_over.ensures.hands) c.flush_group.ensures.around
 
 pub returns-in-Ok-LogFull-clause-around : goal.returns-in-Ok-LogFull-clause-around
 returns-in-Ok-LogFull-clause-around g c =
     let history = g.D.Device.history in
     let old = c.args.self.now in
     let mid = c.hand_over.new.self in
-    then_around history (writer_of old) (writer_of mid) c.flush_group.new.self (around_hand_over history old mid c.hand_over.ensures.hands) c.flush_group.ensures.around
+    then_around history (writer_of old) (writer_of mid) c.flush_group.new.self
+    (around_hand_over history old mid c.hand_over.ensures.hands) c.flush_group.ensures.around
 
 pub returns-in-Err-clause-around : goal.returns-in-Err-clause-around
 returns-in-Err-clause-around g c =
     let history = g.D.Device.history in
     let old = c.args.self.now in
     let mid = c.hand_over.new.self in
-    then_around history (writer_of old) (writer_of mid) c.flush_group.new.self (around_hand_over history old mid c.hand_over.ensures.hands) c.flush_group.ensures.around
+    then_around history (writer_of old) (writer_of mid) c.flush_group.new.self
+    (around_hand_over history old mid c.hand_over.ensures.hands) c.flush_group.ensures.around
 
 pub returns-then-has_failed-clause-slot : goal.returns-then-has_failed-clause-slot
 returns-then-has_failed-clause-slot g c = slots_none g.D.Device.history c.args.self.now
@@ -279,13 +322,17 @@ pub returns-then-not-hand_over-clause-slot : goal.returns-then-not-hand_over-cla
 returns-then-not-hand_over-clause-slot g c = slots_over g.D.Device.history c.args.self.now c.hand_over.new.self c.hand_over.ensures.hands
 
 pub returns-in-Ok-Flushed-clause-slot : goal.returns-in-Ok-Flushed-clause-slot
-returns-in-Ok-Flushed-clause-slot g c = slots_then g.D.Device.history c.args.self.now c.hand_over.new.self c.hand_over.ensures.hands c.flush_group.new.self c.flush_group.ensures.slot
+returns-in-Ok-Flushed-clause-slot g c =
+    slots_then g.D.Device.history c.args.self.now c.hand_over.new.self c.hand_over.ensures.hands c.flush_group.new.self c.flush_group.ensures.slot
 
 pub returns-in-Ok-Nothing-clause-slot : goal.returns-in-Ok-Nothing-clause-slot
-returns-in-Ok-Nothing-clause-slot g c = slots_then g.D.Device.history c.args.self.now c.hand_over.new.self c.hand_over.ensures.hands c.flush_group.new.self c.flush_group.ensures.slot
+returns-in-Ok-Nothing-clause-slot g c =
+    slots_then g.D.Device.history c.args.self.now c.hand_over.new.self c.hand_over.ensures.hands c.flush_group.new.self c.flush_group.ensures.slot
 
 pub returns-in-Ok-LogFull-clause-slot : goal.returns-in-Ok-LogFull-clause-slot
-returns-in-Ok-LogFull-clause-slot g c = slots_then g.D.Device.history c.args.self.now c.hand_over.new.self c.hand_over.ensures.hands c.flush_group.new.self c.flush_group.ensures.slot
+returns-in-Ok-LogFull-clause-slot g c =
+    slots_then g.D.Device.history c.args.self.now c.hand_over.new.self c.hand_over.ensures.hands c.flush_group.new.self c.flush_group.ensures.slot
 
 pub returns-in-Err-clause-slot : goal.returns-in-Err-clause-slot
-returns-in-Err-clause-slot g c = slots_then g.D.Device.history c.args.self.now c.hand_over.new.self c.hand_over.ensures.hands c.flush_group.new.self c.flush_group.ensures.slot
+returns-in-Err-clause-slot g c =
+    slots_then g.D.Device.history c.args.self.now c.hand_over.new.self c.hand_over.ensures.hands c.flush_group.new.self c.flush_group.ensures.slot

@@ -17,7 +17,8 @@ invariant_of-found g c =
     let engine = c.args.self.now in
     let are = whole_cells (core_of engine) _ c.in-Whole.cells c.in-Whole.is c.in_ok-number.ensures.whole in
     record {
-      inside = subst (IsGivenInside engine.geometry.pages) (sym (given_same (core_of engine) (cells_of c.in-Whole.cells) _ are c.in_ok-number.ensures.number)) (held_inside h engine c.requires.can_run);
+      inside = subst (IsGivenInside engine.geometry.pages) (sym (given_same (core_of engine) (cells_of c.in-Whole.cells) _ are c.in_ok-number.ensures.number))
+          (held_inside h engine c.requires.can_run);
       numbered = omega (arith, c.in_ok-number.ensures.number, held_small h engine c.requires.can_run);
     }
 
@@ -34,5 +35,6 @@ pub returns-clause-no_memory : goal.returns-clause-no_memory
 returns-clause-no_memory g c =
     let engine = c.args.self.now in
     let are = whole_cells (core_of engine) _ c.in-Whole.cells c.in-Whole.is c.in_ok-number.ensures.whole in
-    let fits : map.len (cells_of c.in-Whole.cells).entries ≤ engine.geometry.entries = omega (arith, ap map.len are.entries, held_fits g.D.Device.history engine c.requires.can_run) in
+    let fits : map.len (cells_of c.in-Whole.cells).entries ≤ engine.geometry.entries =
+    omega (arith, ap map.len are.entries, held_fits g.D.Device.history engine c.requires.can_run) in
     only_memory c.load.result _ _ c.load.ensures.full c.load.ensures.refused fits

@@ -11,9 +11,11 @@ unreachable-requires g c =
 
 pub returns-in-Flipped-clause-written : goal.returns-in-Flipped-clause-written
 returns-in-Flipped-clause-written g c =
-    written_whole g.D.Device.history g.D.Device.failures c.copy_anew.result _ c.args.self c.copy_anew.new.self c.in-Flipped.is c.copy_anew.ensures.copies c.copy_anew.ensures.can_run c.requires.quiet c.active_txns-txns.ensures.sound
+    written_whole g.D.Device.history g.D.Device.failures c.copy_anew.result _ c.args.self c.copy_anew.new.self c.in-Flipped.is c.copy_anew.ensures.copies
+    c.copy_anew.ensures.can_run c.requires.quiet c.active_txns-txns.ensures.sound
     c.each_list.ensures.shown c.one_copy.ensures
 
 pub returns-in-Refused-clause-refused : goal.returns-in-Refused-clause-refused
 returns-in-Refused-clause-refused g c =
-    subst (λ (r : Reply g.row.A.Denot). CopiesAnew g.D.Device.history g.D.Device.failures r c.args.self c.copy_anew.new.self) c.in-Refused.is c.copy_anew.ensures.copies
+    subst (λ (r : Reply g.row.A.Denot). CopiesAnew g.D.Device.history g.D.Device.failures r c.args.self c.copy_anew.new.self) c.in-Refused.is
+    c.copy_anew.ensures.copies

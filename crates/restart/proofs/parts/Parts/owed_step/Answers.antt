@@ -10,7 +10,8 @@ use Rattle.restart.proofs.parts.Parts.owed_step.Goals as goal
 pub returns-then-owes_none : goal.returns-then-owes_none
 returns-then-owes_none g c =
     let old = c.args.self.now in
-    answered_still (core.Step c.args.txn) old reply.Skipped core.Skipped refl (skips_step (core_of old) c.args.txn (c.owes_none.ensures.yes c.if-owes_none.true))
+    answered_still (core.Step c.args.txn) old reply.Skipped core.Skipped refl
+    (skips_step (core_of old) c.args.txn (c.owes_none.ensures.yes c.if-owes_none.true))
 
 pub returns-in-Ok : goal.returns-in-Ok
 returns-in-Ok g c =

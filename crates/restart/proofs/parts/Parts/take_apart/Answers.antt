@@ -4,13 +4,16 @@ use Rattle.restart.proofs.Moving.{can_run_on}
 use Rattle.restart.proofs.parts.Parts.take_apart.Goals as goal
 
 pub returns-then-all-clause-parts : goal.returns-then-all-clause-parts
-returns-then-all-clause-parts g c = are_parts g.D.Device.history c.args.self c.hand_over-all.new.self c.hand_over-all.ensures.hands (c.hand_over-all.ensures.all.0 c.if-all.true)
+returns-then-all-clause-parts g c = are_parts g.D.Device.history c.args.self c.hand_over-all.new.self c.hand_over-all.ensures.hands
+    (c.hand_over-all.ensures.all.0 c.if-all.true)
 
 pub returns-then-all-clause-left : goal.returns-then-all-clause-left
-returns-then-all-clause-left g c past is = leaves_parts g.D.Device.history c.args.self c.hand_over-all.new.self c.hand_over-all.ensures.hands past is (c.hand_over-all.ensures.all.0 c.if-all.true)
+returns-then-all-clause-left g c past is = leaves_parts g.D.Device.history c.args.self c.hand_over-all.new.self c.hand_over-all.ensures.hands past is
+    (c.hand_over-all.ensures.all.0 c.if-all.true)
 
 pub returns-else-all-clause-back : goal.returns-else-all-clause-back
-returns-else-all-clause-back g c = given_back g.D.Device.history c.args.self c.hand_over-all.new.self c.hand_over-all.ensures.hands (λ none. false≢true (cc (c.if-all.false, c.hand_over-all.ensures.all.1 none)))
+returns-else-all-clause-back g c = given_back g.D.Device.history c.args.self c.hand_over-all.new.self c.hand_over-all.ensures.hands (λ none.
+    false≢true (cc (c.if-all.false, c.hand_over-all.ensures.all.1 none)))
 
 pub returns-else-all-clause-can_run : goal.returns-else-all-clause-can_run
 returns-else-all-clause-can_run g c = can_run_on g.D.Device.history c.args.self c.hand_over-all.new.self c.hand_over-all.ensures.hands.moves c.requires

@@ -21,7 +21,15 @@ returns-in-Err-clause-images g c = λ run handed is.
 pub returns-in-Err-clause-writer : goal.returns-in-Err-clause-writer
 returns-in-Err-clause-writer g c = λ run handed is.
     let w = c.args.self.now in
-    let new : Writer g.row.D.Denot g.row.A.Denot = record { device = c.carry.new.device; halves = w.halves; log = w.log; waiting = w.waiting; synced = w.synced; image = w.image; failed = true } in
+    let new : Writer g.row.D.Denot g.row.A.Denot = record {
+      device = c.carry.new.device;
+      halves = w.halves;
+      log = w.log;
+      waiting = w.waiting;
+      synced = w.synced;
+      image = w.image;
+      failed = true;
+    } in
     failed_one g.D.Device.history run handed c.args.count w is new refl refl refl refl (returns-in-Err-clause-images g c run handed is)
 
 pub returns-in-Ok-clause-writer : goal.returns-in-Ok-clause-writer
@@ -32,10 +40,20 @@ returns-in-Ok-clause-writer g c = λ run handed is.
     let group : List RecordValue = take count w.waiting.items in
     let (slots, planned) = c.requires.planned in
     let now = (history c.carry.new.device).disk.content in
-    let new : Writer g.row.D.Denot g.row.A.Denot = record { device = c.carry.new.device; halves = w.halves; log = w.log; waiting = c.drop-drain.new.self.0; synced = w.synced + count; image = c.in-Ok.image; failed = w.failed } in
+    let new : Writer g.row.D.Denot g.row.A.Denot = record {
+      device = c.carry.new.device;
+      halves = w.halves;
+      log = w.log;
+      waiting = c.drop-drain.new.self.0;
+      synced = w.synced + count;
+      image = c.in-Ok.image;
+      failed = w.failed;
+    } in
     let image : IfSome c.in-Ok.image (IsUnderway run (other w.halves.current) now (w.synced + length group)) =
-    c.in-Ok.ensures.carried slots w.synced group planned run (other w.halves.current) is.image is.opened (omega (arith, long history run handed count w is, is.within, is.made)) (group_between history run handed count w is) in
-    carried_one history run handed count w is new refl refl refl (c.drop-drain.ensures.items ∙ c.drain.ensures.kept) c.carry.ensures.outside c.in-Ok.ensures.synced image
+    c.in-Ok.ensures.carried slots w.synced group planned run (other w.halves.current) is.image is.opened
+    (omega (arith, long history run handed count w is, is.within, is.made)) (group_between history run handed count w is) in
+    carried_one history run handed count w is new refl refl refl (c.drop-drain.ensures.items
+    ∙ c.drain.ensures.kept) c.carry.ensures.outside c.in-Ok.ensures.synced image
 
 pub returns-in-Ok-clause-image : goal.returns-in-Ok-clause-image
 returns-in-Ok-clause-image g c = λ run handed slots is slots_is some planned.
@@ -50,7 +68,8 @@ carry-requires-clause-stands g c = λ i it.
     let w = c.args.self.now in
     let (run, handed, is) = c.requires.appended in
     let content = (g.D.Device.history w.device).disk.content in
-    let there : IsUnderway run (other w.halves.current) content w.synced i = subst (λ (t : Option NewImage). IfSome t (IsUnderway run (other w.halves.current) content w.synced)) it is.image in
+    let there : IsUnderway run (other w.halves.current) content w.synced i =
+    subst (λ (t : Option NewImage). IfSome t (IsUnderway run (other w.halves.current) content w.synced)) it is.image in
     (there.groups, there.stands)
 
 pub returns-in-Ok-clause-rest : goal.returns-in-Ok-clause-rest
@@ -60,14 +79,30 @@ pub returns-in-Ok-clause-around : goal.returns-in-Ok-clause-around
 returns-in-Ok-clause-around g c =
     let w = c.args.self.now in
     let (run, handed, is) = c.requires.appended in
-    let new : Writer g.row.D.Denot g.row.A.Denot = record { device = c.carry.new.device; halves = w.halves; log = w.log; waiting = c.drop-drain.new.self.0; synced = w.synced + c.args.count; image = c.in-Ok.image; failed = w.failed } in
+    let new : Writer g.row.D.Denot g.row.A.Denot = record {
+      device = c.carry.new.device;
+      halves = w.halves;
+      log = w.log;
+      waiting = c.drop-drain.new.self.0;
+      synced = w.synced + c.args.count;
+      image = c.in-Ok.image;
+      failed = w.failed;
+    } in
     carried_around g.D.Device.history run handed c.args.count w is new refl refl c.in-Ok.ensures.none c.carry.ensures.outside c.carry.ensures.any_moment
 
 pub returns-in-Err-clause-around : goal.returns-in-Err-clause-around
 returns-in-Err-clause-around g c =
     let w = c.args.self.now in
     let (run, handed, is) = c.requires.appended in
-    let new : Writer g.row.D.Denot g.row.A.Denot = record { device = c.carry.new.device; halves = w.halves; log = w.log; waiting = w.waiting; synced = w.synced; image = w.image; failed = true } in
+    let new : Writer g.row.D.Denot g.row.A.Denot = record {
+      device = c.carry.new.device;
+      halves = w.halves;
+      log = w.log;
+      waiting = w.waiting;
+      synced = w.synced;
+      image = w.image;
+      failed = true;
+    } in
     carried_around g.D.Device.history run handed c.args.count w is new refl refl (λ none. none) c.carry.ensures.outside c.carry.ensures.any_moment
 
 pub returns-in-Err-clause-left : goal.returns-in-Err-clause-left

@@ -15,13 +15,15 @@ use Rattle.store_writer.proofs.Idle.{from_ok, from_err}
 use Rattle.store_writer.proofs.Flipping.{leaves_flipping, flipped_one}
 use Rattle.store_writer.proofs.Alone.{none_alone, flipped_alone}
 use Rattle.store_writer.proofs.writer.Writer.checkpoint_flip.Goals as goal
-use Rattle.store_writer.proofs.writer.Writer.checkpoint_flip.Goals.{then-handed-image-via-then-handed-image, then-handed-image-via-else-handed-image+then-reached-image}
+use Rattle.store_writer.proofs.writer.Writer.checkpoint_flip.Goals.{then-handed-image-via-then-handed-image}
+use Rattle.store_writer.proofs.writer.Writer.checkpoint_flip.Goals.{then-handed-image-via-else-handed-image+then-reached-image}
 
 pub returns-in_default-clause-images : goal.returns-in_default-clause-images
 returns-in_default-clause-images g c = λ run handed is. started (g.D.Device.history c.args.self.now.device) (LeftBy run c.args.self.now.synced handed) is.images
 
 pub returns-then-handed-image-clause-images : goal.returns-then-handed-image-clause-images
-returns-then-handed-image-clause-images g c = λ run handed is. started (g.D.Device.history c.args.self.now.device) (LeftBy run c.args.self.now.synced handed) is.images
+returns-then-handed-image-clause-images g c = λ run handed is.
+    started (g.D.Device.history c.args.self.now.device) (LeftBy run c.args.self.now.synced handed) is.images
 
 pub returns-then-handed-image-clause-flipped : goal.returns-then-handed-image-clause-flipped
 returns-then-handed-image-clause-flipped g c = λ run handed is. (
@@ -34,8 +36,10 @@ returns-then-handed-image-clause-flipped g c = λ run handed is. (
       let base : c.in-Some.image.base ≡ image.base = ap (λ (x : NewImage). x.base) same in
       let count = length_between run old.synced handed is.opened is.reached is.made in
       elim c.then-handed-image.branch [
-        | then-handed-image-via-then-handed-image w ↦ absurd (omega (arith, w.if-handed-image.true, c.len.ensures, ap length is.waits, count, is.reached, number, most))
-        | then-handed-image-via-else-handed-image+then-reached-image w ↦ absurd (omega (arith, w.if-reached-image.true, c.max-reached.ensures, number, base, reaches))
+        | then-handed-image-via-then-handed-image w ↦ absurd
+            (omega (arith, w.if-handed-image.true, c.len.ensures, ap length is.waits, count, is.reached, number, most))
+        | then-handed-image-via-else-handed-image+then-reached-image w ↦ absurd
+            (omega (arith, w.if-reached-image.true, c.max-reached.ensures, number, base, reaches))
       ],
 )
 
@@ -44,40 +48,68 @@ returns-then-is_err-clause-images g c = λ run handed is.
     let history = g.D.Device.history in
     let old = c.args.self.now in
     let image : NewImage = c.in-Some.image in
-    let there : IsUnderway run (other old.halves.current) (history old.device).disk.content old.synced image = subst (λ (t : Option NewImage). IfSome t (IsUnderway run (other old.halves.current) (history old.device).disk.content old.synced)) c.in-Some.is (stood history run handed old is c.if-self.false).image in
+    let there : IsUnderway run (other old.halves.current) (history old.device).disk.content old.synced image =
+    subst (λ (t : Option NewImage). IfSome t (IsUnderway run (other old.halves.current) (history old.device).disk.content old.synced)) c.in-Some.is
+    (stood history run handed old is c.if-self.false).image in
     let count = length_between run old.synced handed is.opened is.reached is.made in
     let whole : image.stage ≡ Whole = c.in-Whole.is in
-    leaves_flipping history run handed old is c.if-self.false image there whole (omega (arith, c.if-reached-image.false, c.max-reached.ensures)) (omega (arith, c.if-handed-image.false, c.len.ensures, ap length is.waits, count, is.reached)) (history c.flip.new.device) c.flip.ensures.any_moment
+    leaves_flipping history run handed old is c.if-self.false image there whole (omega (arith, c.if-reached-image.false, c.max-reached.ensures))
+    (omega (arith, c.if-handed-image.false, c.len.ensures, ap length is.waits, count, is.reached)) (history c.flip.new.device) c.flip.ensures.any_moment
 
 pub returns-then-is_err-clause-writer : goal.returns-then-is_err-clause-writer
 returns-then-is_err-clause-writer g c = λ run handed is.
     let old = c.args.self.now in
-    let new : Writer g.row.D.Denot g.row.A.Denot = record { device = c.flip.new.device; halves = c.flip.new.self; log = old.log; waiting = old.waiting; synced = old.synced; image = old.image; failed = true } in
-    carried_on g.D.Device.history run handed old new is (from_err _ _ (sym c.is_err.ensures.value ∙ c.if-is_err.true) c.flip.ensures.err) refl refl (λ sound. absurd (false≢true (sym sound))) (returns-then-is_err-clause-images g c run handed is)
+    let new : Writer g.row.D.Denot g.row.A.Denot = record {
+      device = c.flip.new.device;
+      halves = c.flip.new.self;
+      log = old.log;
+      waiting = old.waiting;
+      synced = old.synced;
+      image = old.image;
+      failed = true;
+    } in
+    carried_on g.D.Device.history run handed old new is (from_err _ _ (sym c.is_err.ensures.value ∙ c.if-is_err.true) c.flip.ensures.err) refl refl (λ sound.
+    absurd (false≢true (sym sound))) (returns-then-is_err-clause-images g c run handed is)
 
 pub returns-clause-images : goal.returns-clause-images
 returns-clause-images g c = λ run handed is.
     let history = g.D.Device.history in
     let old = c.args.self.now in
     let image : NewImage = c.in-Some.image in
-    let there : IsUnderway run (other old.halves.current) (history old.device).disk.content old.synced image = subst (λ (t : Option NewImage). IfSome t (IsUnderway run (other old.halves.current) (history old.device).disk.content old.synced)) c.in-Some.is (stood history run handed old is c.if-self.false).image in
+    let there : IsUnderway run (other old.halves.current) (history old.device).disk.content old.synced image =
+    subst (λ (t : Option NewImage). IfSome t (IsUnderway run (other old.halves.current) (history old.device).disk.content old.synced)) c.in-Some.is
+    (stood history run handed old is c.if-self.false).image in
     let count = length_between run old.synced handed is.opened is.reached is.made in
     let whole : image.stage ≡ Whole = c.in-Whole.is in
-    leaves_flipping history run handed old is c.if-self.false image there whole (omega (arith, c.if-reached-image.false, c.max-reached.ensures)) (omega (arith, c.if-handed-image.false, c.len.ensures, ap length is.waits, count, is.reached)) (history c.flip.new.device) c.flip.ensures.any_moment
+    leaves_flipping history run handed old is c.if-self.false image there whole (omega (arith, c.if-reached-image.false, c.max-reached.ensures))
+    (omega (arith, c.if-handed-image.false, c.len.ensures, ap length is.waits, count, is.reached)) (history c.flip.new.device) c.flip.ensures.any_moment
 
 pub returns-clause-writer : goal.returns-clause-writer
 returns-clause-writer g c = λ run handed is.
     let history = g.D.Device.history in
     let old = c.args.self.now in
     let image : NewImage = c.in-Some.image in
-    let there : IsUnderway run (other old.halves.current) (history old.device).disk.content old.synced image = subst (λ (t : Option NewImage). IfSome t (IsUnderway run (other old.halves.current) (history old.device).disk.content old.synced)) c.in-Some.is (stood history run handed old is c.if-self.false).image in
+    let there : IsUnderway run (other old.halves.current) (history old.device).disk.content old.synced image =
+    subst (λ (t : Option NewImage). IfSome t (IsUnderway run (other old.halves.current) (history old.device).disk.content old.synced)) c.in-Some.is
+    (stood history run handed old is c.if-self.false).image in
     let count = length_between run old.synced handed is.opened is.reached is.made in
-    let new : Writer g.row.D.Denot g.row.A.Denot = record { device = c.flip.new.device; halves = c.flip.new.self; log = image.log; waiting = c.drop-drain.new.self.0; synced = c.max-reached.result; image = None; failed = old.failed } in
+    let new : Writer g.row.D.Denot g.row.A.Denot = record {
+      device = c.flip.new.device;
+      halves = c.flip.new.self;
+      log = image.log;
+      waiting = c.drop-drain.new.self.0;
+      synced = c.max-reached.result;
+      image = None;
+      failed = old.failed;
+    } in
     let whole : image.stage ≡ Whole = c.in-Whole.is in
     let good = sym c.is_err.ensures.value ∙ c.if-is_err.false in
     let halves_is : c.flip.new.self ≡ record { geometry = old.halves.geometry; current = other old.halves.current } = from_ok _ _ good c.flip.ensures.flipped in
-    let named : Names (sector (history new.device).disk.content 1) (other old.halves.current) = subst (λ (h : HalvesValue). Names (sector (history new.device).disk.content 1) h.current) halves_is (from_ok _ _ good c.flip.ensures.named) in
-    flipped_one history run handed old is c.if-self.false image there whole (omega (arith, c.if-reached-image.false, c.max-reached.ensures)) (omega (arith, c.if-handed-image.false, c.len.ensures, ap length is.waits, count, is.reached)) new halves_is refl c.max-reached.ensures (c.drop-drain.ensures.items ∙ c.drain.ensures.kept ∙ ap (λ (k : ℕ). drop (k - old.synced) old.waiting.items) c.max-reached.ensures) refl
+    let named : Names (sector (history new.device).disk.content 1) (other old.halves.current) =
+    subst (λ (h : HalvesValue). Names (sector (history new.device).disk.content 1) h.current) halves_is (from_ok _ _ good c.flip.ensures.named) in
+    flipped_one history run handed old is c.if-self.false image there whole (omega (arith, c.if-reached-image.false, c.max-reached.ensures))
+    (omega (arith, c.if-handed-image.false, c.len.ensures, ap length is.waits, count, is.reached)) new halves_is refl c.max-reached.ensures
+    (c.drop-drain.ensures.items ∙ c.drain.ensures.kept ∙ ap (λ (k : ℕ). drop (k - old.synced) old.waiting.items) c.max-reached.ensures) refl
     c.flip.ensures.outside named (from_ok _ _ good c.flip.ensures.synced)
 
 pub returns-clause-flipped : goal.returns-clause-flipped
@@ -87,7 +119,13 @@ returns-clause-flipped g c = λ run handed is.
     let count = length_between run old.synced handed is.opened is.reached is.made in (
       refl,
       omega (arith, c.max-reached.ensures),
-      (image, c.in-Some.is, c.in-Whole.is, omega (arith, c.if-handed-image.false, c.len.ensures, ap length is.waits, count, is.reached), omega (arith, c.if-reached-image.false, c.max-reached.ensures)),
+      (
+        image,
+        c.in-Some.is,
+        c.in-Whole.is,
+        omega (arith, c.if-handed-image.false, c.len.ensures, ap length is.waits, count, is.reached),
+        omega (arith, c.if-reached-image.false, c.max-reached.ensures),
+      ),
       (λ t it. let same : image ≡ t = cc (c.in-Some.is, it) in c.max-reached.ensures ∙ ap (λ (x : NewImage). reach x old.synced) same),
       refl,
       record {
@@ -98,7 +136,8 @@ returns-clause-flipped g c = λ run handed is.
     )
 
 pub returns-in_default-stage-clause-images : goal.returns-in_default-stage-clause-images
-returns-in_default-stage-clause-images g c = λ run handed is. started (g.D.Device.history c.args.self.now.device) (LeftBy run c.args.self.now.synced handed) is.images
+returns-in_default-stage-clause-images g c = λ run handed is.
+    started (g.D.Device.history c.args.self.now.device) (LeftBy run c.args.self.now.synced handed) is.images
 
 pub returns-then-self-clause-around : goal.returns-then-self-clause-around
 returns-then-self-clause-around g c = none_alone g.D.Device.history (λ n. n ≡ 1) c.args.self.now.device
@@ -113,7 +152,8 @@ pub returns-then-handed-image-clause-around : goal.returns-then-handed-image-cla
 returns-then-handed-image-clause-around g c = none_alone g.D.Device.history (λ n. n ≡ 1) c.args.self.now.device
 
 pub returns-then-is_err-clause-around : goal.returns-then-is_err-clause-around
-returns-then-is_err-clause-around g c = flipped_alone g.D.Device.history c.args.self.now.device c.flip.new.device c.flip.ensures.outside c.flip.ensures.any_moment
+returns-then-is_err-clause-around g c =
+    flipped_alone g.D.Device.history c.args.self.now.device c.flip.new.device c.flip.ensures.outside c.flip.ensures.any_moment
 
 pub returns-clause-around : goal.returns-clause-around
 returns-clause-around g c = flipped_alone g.D.Device.history c.args.self.now.device c.flip.new.device c.flip.ensures.outside c.flip.ensures.any_moment
@@ -122,4 +162,12 @@ pub returns-then-is_err-clause-left : goal.returns-then-is_err-clause-left
 returns-then-is_err-clause-left g c =
     let old = c.args.self.now in
     let same : c.flip.new.self ≡ old.halves = from_err _ _ (sym c.is_err.ensures.value ∙ c.if-is_err.true) c.flip.ensures.err in
-    ap (λ (h : HalvesValue). record { device = c.flip.new.device; halves = h; log = old.log; waiting = old.waiting; synced = old.synced; image = old.image; failed = true }) same
+    ap (λ (h : HalvesValue). record {
+      device = c.flip.new.device;
+      halves = h;
+      log = old.log;
+      waiting = old.waiting;
+      synced = old.synced;
+      image = old.image;
+      failed = true;
+    }) same

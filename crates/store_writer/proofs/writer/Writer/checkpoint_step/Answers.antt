@@ -19,7 +19,8 @@ take_whole-requires-clause-whole g c =
     (run, handed, is, subst (λ (p : Piece g.row.A.Denot). IsChunk run c.args.self.now c.args.chunk.number p) c.in-Whole.is chunk)
 
 pub returns-then-is_full-clause-images : goal.returns-then-is_full-clause-images
-returns-then-is_full-clause-images g c = λ run handed is. started (g.D.Device.history c.args.self.now.device) (LeftBy run c.args.self.now.synced handed) is.images
+returns-then-is_full-clause-images g c = λ run handed is.
+    started (g.D.Device.history c.args.self.now.device) (LeftBy run c.args.self.now.synced handed) is.images
 
 pub take_start-requires-clause-start : goal.take_start-requires-clause-start
 take_start-requires-clause-start g c =
@@ -34,34 +35,49 @@ take_page-requires-clause-page g c =
 pub take_entries-requires-clause-entries : goal.take_entries-requires-clause-entries
 take_entries-requires-clause-entries g c =
     let (run, handed, is, chunk) = c.requires in
-    let asked = subst (λ (p : Piece g.row.A.Denot). IsChunk run c.args.self.now c.args.chunk.number p) c.in-Entries.is chunk in
-    (run, handed, is, λ image there. subst (λ (l : List (Pair × Mark)). IsEntriesChunk run image c.args.chunk.number l) (sym c.deref.ensures.value) (asked image there))
+    let asked = subst (λ (p : Piece g.row.A.Denot). IsChunk run c.args.self.now c.args.chunk.number p) c.in-Entries.is chunk in (
+      run,
+      handed,
+      is,
+      λ image there. subst (λ (l : List (Pair × Mark)). IsEntriesChunk run image c.args.chunk.number l) (sym c.deref.ensures.value)
+          (asked image there),
+    )
 
 pub returns-in-Page-clause-writer : goal.returns-in-Page-clause-writer
-returns-in-Page-clause-writer g c = λ run handed is chunk. c.take_page.ensures.writer run handed is (subst (λ (p : Piece g.row.A.Denot). IsChunk run c.args.self.now c.args.chunk.number p) c.in-Page.is chunk)
+returns-in-Page-clause-writer g c = λ run handed is chunk.
+    c.take_page.ensures.writer run handed is (subst (λ (p : Piece g.row.A.Denot). IsChunk run c.args.self.now c.args.chunk.number p) c.in-Page.is chunk)
 
 pub returns-in-Entries-clause-writer : goal.returns-in-Entries-clause-writer
 returns-in-Entries-clause-writer g c = λ run handed is chunk.
     let asked = subst (λ (p : Piece g.row.A.Denot). IsChunk run c.args.self.now c.args.chunk.number p) c.in-Entries.is chunk in
-    c.take_entries.ensures.writer run handed is (λ image there. subst (λ (l : List (Pair × Mark)). IsEntriesChunk run image c.args.chunk.number l) (sym c.deref.ensures.value) (asked image there))
+    c.take_entries.ensures.writer run handed is (λ image there.
+    subst (λ (l : List (Pair × Mark)). IsEntriesChunk run image c.args.chunk.number l) (sym c.deref.ensures.value) (asked image there))
 
 pub returns-in-Entries-clause-stepped : goal.returns-in-Entries-clause-stepped
-returns-in-Entries-clause-stepped g c = entries_answered c.args.chunk.number c.in-Entries.entries c.deref.result.now c.args.chunk.piece c.args.self.now c.take_entries.new.self c.take_entries.result c.deref.ensures.value c.in-Entries.is c.take_entries.ensures.stepped
+returns-in-Entries-clause-stepped g c =
+    entries_answered c.args.chunk.number c.in-Entries.entries c.deref.result.now c.args.chunk.piece c.args.self.now c.take_entries.new.self
+    c.take_entries.result c.deref.ensures.value c.in-Entries.is c.take_entries.ensures.stepped
 
 pub returns-in-Page-clause-stepped : goal.returns-in-Page-clause-stepped
-returns-in-Page-clause-stepped g c = page_answered c.args.chunk.number c.in-Page.page c.in-Page.rows c.args.chunk.piece c.args.self.now c.take_page.new.self c.take_page.result c.in-Page.is c.take_page.ensures.stepped
+returns-in-Page-clause-stepped g c =
+    page_answered c.args.chunk.number c.in-Page.page c.in-Page.rows c.args.chunk.piece c.args.self.now c.take_page.new.self c.take_page.result c.in-Page.is
+    c.take_page.ensures.stepped
 
 pub returns-in-Page-clause-place : goal.returns-in-Page-clause-place
 returns-in-Page-clause-place g c =
     let (run, handed, is, chunk) = c.requires in
-    let some : 0 < c.args.self.now.halves.geometry.pages = omega (arith, (is.holds c.if-self.false).store.limits.some_page, ap (λ (x : GeometryValue). x.pages) is.geometry-is) in
-    taken_place c.args.self.now.halves.geometry.pages c.args.chunk.number c.args.chunk.piece c.args.self.now c.take_page.new.self c.take_page.result some (returns-in-Page-clause-stepped g c)
+    let some : 0 < c.args.self.now.halves.geometry.pages =
+    omega (arith, (is.holds c.if-self.false).store.limits.some_page, ap (λ (x : GeometryValue). x.pages) is.geometry-is) in
+    taken_place c.args.self.now.halves.geometry.pages c.args.chunk.number c.args.chunk.piece c.args.self.now c.take_page.new.self c.take_page.result some
+    (returns-in-Page-clause-stepped g c)
 
 pub returns-in-Entries-clause-place : goal.returns-in-Entries-clause-place
 returns-in-Entries-clause-place g c =
     let (run, handed, is, chunk) = c.requires in
-    let some : 0 < c.args.self.now.halves.geometry.pages = omega (arith, (is.holds c.if-self.false).store.limits.some_page, ap (λ (x : GeometryValue). x.pages) is.geometry-is) in
-    taken_place c.args.self.now.halves.geometry.pages c.args.chunk.number c.args.chunk.piece c.args.self.now c.take_entries.new.self c.take_entries.result some (returns-in-Entries-clause-stepped g c)
+    let some : 0 < c.args.self.now.halves.geometry.pages =
+    omega (arith, (is.holds c.if-self.false).store.limits.some_page, ap (λ (x : GeometryValue). x.pages) is.geometry-is) in
+    taken_place c.args.self.now.halves.geometry.pages c.args.chunk.number c.args.chunk.piece c.args.self.now c.take_entries.new.self c.take_entries.result some
+    (returns-in-Entries-clause-stepped g c)
 
 pub returns-in-Entries-clause-again : goal.returns-in-Entries-clause-again
 returns-in-Entries-clause-again g c = λ sound must.
@@ -69,7 +85,9 @@ returns-in-Entries-clause-again g c = λ sound must.
     c.take_entries.ensures.again (subst (λ (l : List (Pair × Mark)). AreRefused (length l) c.args.self.now) (sym c.deref.ensures.value) refused)
 
 pub returns-then-self-clause-around : goal.returns-then-self-clause-around
-returns-then-self-clause-around g c = none_alone g.D.Device.history (InHalf c.args.self.now.halves.geometry (other c.args.self.now.halves.current)) c.args.self.now.device
+returns-then-self-clause-around g c = none_alone g.D.Device.history
+    (InHalf c.args.self.now.halves.geometry (other c.args.self.now.halves.current)) c.args.self.now.device
 
 pub returns-then-is_full-clause-around : goal.returns-then-is_full-clause-around
-returns-then-is_full-clause-around g c = none_alone g.D.Device.history (InHalf c.args.self.now.halves.geometry (other c.args.self.now.halves.current)) c.args.self.now.device
+returns-then-is_full-clause-around g c = none_alone g.D.Device.history
+    (InHalf c.args.self.now.halves.geometry (other c.args.self.now.halves.current)) c.args.self.now.device

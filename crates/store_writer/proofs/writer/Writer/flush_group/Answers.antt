@@ -1,4 +1,5 @@
-use Rattle.std.proofs.Common.{⊎_elim, true, ◌≡◌, ◌≢◌, ◌≤◌, ◌<◌, ◌-◌, List, [], ◌∷◌, Ok, refl, sym, ap, subst, ◌∙◌, take, length, length-take, length-append, arith, inl, inr, ℕ}
+use Rattle.std.proofs.Common.{⊎_elim, true, ◌≡◌, ◌≢◌, ◌≤◌, ◌<◌, ◌-◌, List, [], ◌∷◌, Ok, refl, sym, ap, subst, ◌∙◌, take, length, length-take, length-append}
+use Rattle.std.proofs.Common.{arith, inl, inr, ℕ}
 use Rattle.std.proofs.lemmas.Bool.{false≢true, cases_lt}
 use Rattle.std.proofs.lemmas.List.{nil_from_length}
 use Rattle.records.specs.RecordValue.{RecordValue}
@@ -22,41 +23,67 @@ use Rattle.gate_log.specs.Area.{InSlot}
 use Rattle.store_writer.proofs.writer.Writer.flush_group.Goals as goal
 
 pub returns-then-count-eq0-clause-images : goal.returns-then-count-eq0-clause-images
-returns-then-count-eq0-clause-images g c = λ run handed is. started (g.D.Device.history c.args.self.now.device) (LeftBy run c.args.self.now.synced handed) is.images
+returns-then-count-eq0-clause-images g c = λ run handed is.
+    started (g.D.Device.history c.args.self.now.device) (LeftBy run c.args.self.now.synced handed) is.images
 
 pub returns-then-is_full-clause-images : goal.returns-then-is_full-clause-images
-returns-then-is_full-clause-images g c = λ run handed is. started (g.D.Device.history c.args.self.now.device) (LeftBy run c.args.self.now.synced handed) is.images
+returns-then-is_full-clause-images g c = λ run handed is.
+    started (g.D.Device.history c.args.self.now.device) (LeftBy run c.args.self.now.synced handed) is.images
 
 pub returns-in_err-body-clause-images : goal.returns-in_err-body-clause-images
-returns-in_err-body-clause-images g c = λ run handed is. started (g.D.Device.history c.args.self.now.device) (LeftBy run c.args.self.now.synced handed) is.images
+returns-in_err-body-clause-images g c = λ run handed is.
+    started (g.D.Device.history c.args.self.now.device) (LeftBy run c.args.self.now.synced handed) is.images
 
 pub returns-in_err-plan-clause-images : goal.returns-in_err-plan-clause-images
-returns-in_err-plan-clause-images g c = λ run handed is. started (g.D.Device.history c.args.self.now.device) (LeftBy run c.args.self.now.synced handed) is.images
+returns-in_err-plan-clause-images g c = λ run handed is.
+    started (g.D.Device.history c.args.self.now.device) (LeftBy run c.args.self.now.synced handed) is.images
 
 pub returns-then-count-eq0-clause-flushed : goal.returns-then-count-eq0-clause-flushed
 returns-then-count-eq0-clause-flushed g c =
-    let none : length c.deref.result.now ≡ 0 = ⊎_elim (λ some. absurd (omega (arith, (c.group_len-count.ensures.fits some).some, length-take c.group_len-count.result c.deref.result.now, c.if-count-eq0.true))) (λ none. omega (arith, none)) (cases_lt 0 (length c.deref.result.now)) in
+    let none : length c.deref.result.now ≡ 0 = ⊎_elim (λ some.
+    absurd (omega (arith, (c.group_len-count.ensures.fits some).some, length-take c.group_len-count.result c.deref.result.now, c.if-count-eq0.true)))
+    (λ none. omega (arith, none)) (cases_lt 0 (length c.deref.result.now)) in
     (refl, nil_from_length c.args.self.now.waiting.items (omega (arith, ap length c.deref.ensures.value, none)))
 
 pub returns-then-count-eq0-clause-nothing : goal.returns-then-count-eq0-clause-nothing
 returns-then-count-eq0-clause-nothing g c = λ _ run handed is.
-    let none : length c.deref.result.now ≡ 0 = ⊎_elim (λ some. absurd (omega (arith, (c.group_len-count.ensures.fits some).some, length-take c.group_len-count.result c.deref.result.now, c.if-count-eq0.true))) (λ none. omega (arith, none)) (cases_lt 0 (length c.deref.result.now)) in
-    omega (arith, none, ap length c.deref.ensures.value, ap length is.waits, length_between run c.args.self.now.synced handed is.opened is.reached is.made, is.reached)
+    let none : length c.deref.result.now ≡ 0 = ⊎_elim (λ some.
+    absurd (omega (arith, (c.group_len-count.ensures.fits some).some, length-take c.group_len-count.result c.deref.result.now, c.if-count-eq0.true)))
+    (λ none. omega (arith, none)) (cases_lt 0 (length c.deref.result.now)) in
+    omega (
+      arith,
+      none,
+      ap length c.deref.ensures.value,
+      ap length is.waits,
+      length_between run c.args.self.now.synced handed is.opened is.reached is.made,
+      is.reached,
+    )
 
 pub carry_on-requires-clause-planned : goal.carry_on-requires-clause-planned
-carry_on-requires-clause-planned g c =
-    (c.geometry-2.result.slots, subst (λ (rs : List RecordValue). IsPlan c.args.self.now.image c.geometry-2.result.slots c.args.self.now.synced rs c.in_ok-plan.plan) (ap (take c.group_len-count.result) c.deref-3.ensures.value) c.in_ok-plan.ensures.planned)
+carry_on-requires-clause-planned g c = (
+  c.geometry-2.result.slots,
+  subst (λ (rs : List RecordValue).
+      IsPlan c.args.self.now.image c.geometry-2.result.slots c.args.self.now.synced rs c.in_ok-plan.plan)
+      (ap (take c.group_len-count.result) c.deref-3.ensures.value) c.in_ok-plan.ensures.planned,
+)
 
 pub returns-in-Ok-Done-clause-err : goal.returns-in-Ok-Done-clause-err
 returns-in-Ok-Done-clause-err g c =
-    let waits : c.args.self.now.waiting.items ≢ [] = λ none. c.if-count-eq0.false (omega (arith, c.group_len-count.ensures.within, ap length c.deref.ensures.value, ap length none)) in
+    let waits : c.args.self.now.waiting.items ≢ [] = λ none.
+    c.if-count-eq0.false (omega (arith, c.group_len-count.ensures.within, ap length c.deref.ensures.value, ap length none)) in
     let done : c.append_spelled.result ≡ Ok Done = cc (c.in-Ok-Done.is, c.in-Ok-Done.field-0-is) in
     let quiet = on_ok_at c.append_spelled.result done c.append_spelled.ensures.quiet in
-    IfErr-weaker c.carry_on.result _ _ (λ e failed. inr (failed.0, failed.1, (λ _. (waits, λ few. omega (arith, quiet, failed.3 (omega (arith, quiet, few))))), λ was. absurd (false≢true (sym c.if-self.false ∙ was)))) c.carry_on.ensures.err
+    IfErr-weaker c.carry_on.result _ _ (λ e failed. inr (
+      failed.0,
+      failed.1,
+      (λ _. (waits, λ few. omega (arith, quiet, failed.3 (omega (arith, quiet, few))))),
+      λ was. absurd (false≢true (sym c.if-self.false ∙ was)),
+    )) c.carry_on.ensures.err
 
 pub returns-clause-err : goal.returns-clause-err
 returns-clause-err g c =
-    let waits : c.args.self.now.waiting.items ≢ [] = λ none. c.if-count-eq0.false (omega (arith, c.group_len-count.ensures.within, ap length c.deref.ensures.value, ap length none)) in
+    let waits : c.args.self.now.waiting.items ≢ [] = λ none.
+    c.if-count-eq0.false (omega (arith, c.group_len-count.ensures.within, ap length c.deref.ensures.value, ap length none)) in
     inr (refl, refl, λ _. (waits, c.in-Err.ensures.refused.1), λ was. absurd (false≢true (sym c.if-self.false ∙ was)))
 
 pub carry_on-requires-clause-appended : goal.carry_on-requires-clause-appended
@@ -67,12 +94,21 @@ carry_on-requires-clause-appended g c =
     let count = c.group_len-count.result in
     let within : count ≤ length old.waiting.items = omega (arith, ap length c.deref.ensures.value, c.group_len-count.ensures.within) in
     let done : c.append_spelled.result ≡ Ok Done = cc (c.in-Ok-Done.is, c.in-Ok-Done.field-0-is) in
-    let mid : Writer g.row.D.Denot g.row.A.Denot = record { device = c.append_spelled.new.device; halves = old.halves; log = c.append_spelled.new.self; waiting = old.waiting; synced = old.synced; image = old.image; failed = old.failed } in
+    let mid : Writer g.row.D.Denot g.row.A.Denot = record {
+      device = c.append_spelled.new.device;
+      halves = old.halves;
+      log = c.append_spelled.new.self;
+      waiting = old.waiting;
+      synced = old.synced;
+      image = old.image;
+      failed = old.failed;
+    } in
     let closed : old.log.open_slots ≢ old.log.area.slots = λ all. cc (c.append_spelled.ensures.full.1 all, done) in
     let group : List RecordValue = take count c.deref-2.result.now in
     let spelled : IsGroup group c.deref-4.result.now = subst (IsGroup group) (sym c.deref-4.ensures.value) (c.in_ok-body.ensures.ok) in
     let has : HasAppended history run handed count mid =
-    has_appended history run handed old is c.if-self.false count group (ap (take count) c.deref-2.ensures.value) within closed mid refl c.append_spelled.ensures.area refl refl refl c.append_spelled.ensures.outside
+    has_appended history run handed old is c.if-self.false count group
+    (ap (take count) c.deref-2.ensures.value) within closed mid refl c.append_spelled.ensures.area refl refl refl c.append_spelled.ensures.outside
     (c.append_spelled.ensures.done done group _ spelled (stands history run handed old is c.if-self.false)) (c.append_spelled.ensures.synced done) in
     (run, handed, has)
 
@@ -83,12 +119,21 @@ returns-in-Ok-Done-clause-writer g c = λ run handed is.
     let count = c.group_len-count.result in
     let within : count ≤ length old.waiting.items = omega (arith, ap length c.deref.ensures.value, c.group_len-count.ensures.within) in
     let done : c.append_spelled.result ≡ Ok Done = cc (c.in-Ok-Done.is, c.in-Ok-Done.field-0-is) in
-    let mid : Writer g.row.D.Denot g.row.A.Denot = record { device = c.append_spelled.new.device; halves = old.halves; log = c.append_spelled.new.self; waiting = old.waiting; synced = old.synced; image = old.image; failed = old.failed } in
+    let mid : Writer g.row.D.Denot g.row.A.Denot = record {
+      device = c.append_spelled.new.device;
+      halves = old.halves;
+      log = c.append_spelled.new.self;
+      waiting = old.waiting;
+      synced = old.synced;
+      image = old.image;
+      failed = old.failed;
+    } in
     let closed : old.log.open_slots ≢ old.log.area.slots = λ all. cc (c.append_spelled.ensures.full.1 all, done) in
     let group : List RecordValue = take count c.deref-2.result.now in
     let spelled : IsGroup group c.deref-4.result.now = subst (IsGroup group) (sym c.deref-4.ensures.value) (c.in_ok-body.ensures.ok) in
     let has : HasAppended history run handed count mid =
-    has_appended history run handed old is c.if-self.false count group (ap (take count) c.deref-2.ensures.value) within closed mid refl c.append_spelled.ensures.area refl refl refl c.append_spelled.ensures.outside
+    has_appended history run handed old is c.if-self.false count group
+    (ap (take count) c.deref-2.ensures.value) within closed mid refl c.append_spelled.ensures.area refl refl refl c.append_spelled.ensures.outside
     (c.append_spelled.ensures.done done group _ spelled (stands history run handed old is c.if-self.false)) (c.append_spelled.ensures.synced done) in
     c.carry_on.ensures.writer run handed has
 
@@ -101,22 +146,33 @@ returns-in-Ok-Done-clause-image g c = λ n replies.
     let slots = c.geometry-2.result.slots in
     let within : count ≤ length old.waiting.items = omega (arith, ap length c.deref.ensures.value, c.group_len-count.ensures.within) in
     let done : c.append_spelled.result ≡ Ok Done = cc (c.in-Ok-Done.is, c.in-Ok-Done.field-0-is) in
-    let mid : Writer g.row.D.Denot g.row.A.Denot = record { device = c.append_spelled.new.device; halves = old.halves; log = c.append_spelled.new.self; waiting = old.waiting; synced = old.synced; image = old.image; failed = old.failed } in
+    let mid : Writer g.row.D.Denot g.row.A.Denot = record {
+      device = c.append_spelled.new.device;
+      halves = old.halves;
+      log = c.append_spelled.new.self;
+      waiting = old.waiting;
+      synced = old.synced;
+      image = old.image;
+      failed = old.failed;
+    } in
     let closed : old.log.open_slots ≢ old.log.area.slots = λ all. cc (c.append_spelled.ensures.full.1 all, done) in
     let group : List RecordValue = take count c.deref-2.result.now in
     let spelled : IsGroup group c.deref-4.result.now = subst (IsGroup group) (sym c.deref-4.ensures.value) (c.in_ok-body.ensures.ok) in
     let has : HasAppended history run handed count mid =
-    has_appended history run handed old is c.if-self.false count group (ap (take count) c.deref-2.ensures.value) within closed mid refl c.append_spelled.ensures.area refl refl refl c.append_spelled.ensures.outside
+    has_appended history run handed old is c.if-self.false count group
+    (ap (take count) c.deref-2.ensures.value) within closed mid refl c.append_spelled.ensures.area refl refl refl c.append_spelled.ensures.outside
     (c.append_spelled.ensures.done done group _ spelled (stands history run handed old is c.if-self.false)) (c.append_spelled.ensures.synced done) in
     let planned : IsPlan old.image slots old.synced (take count old.waiting.items) c.in_ok-plan.plan =
-    subst (λ (rs : List RecordValue). IsPlan old.image slots old.synced rs c.in_ok-plan.plan) (ap (take count) c.deref-3.ensures.value) c.in_ok-plan.ensures.planned in
+    subst (λ (rs : List RecordValue). IsPlan old.image slots old.synced rs c.in_ok-plan.plan)
+    (ap (take count) c.deref-3.ensures.value) c.in_ok-plan.ensures.planned in
     let flushed = IfOk-at_ok _ replies c.carry_on.ensures.flushed in
     let number : Flushed n ≡ Flushed c.carry_on.new.self.synced = flushed.0 in
     let same : n ≡ c.carry_on.new.self.synced = cc number in
     let counted : count ≡ n - old.synced = omega (arith, same, flushed.1) in
     let slots_are : slots ≡ old.halves.geometry.slots = ap (λ (x : GeometryValue). x.slots) c.geometry-2.ensures in
     let becomes : BecomesImage slots old.synced count old.image c.carry_on.new.self.image =
-    on_ok_at c.carry_on.result replies c.carry_on.ensures.image run handed slots has (slots_are ∙ ap (λ (x : GeometryValue). x.slots) is.geometry-is) (omega (arith, c.if-count-eq0.false)) planned in
+    on_ok_at c.carry_on.result replies c.carry_on.ensures.image run handed slots has (slots_are
+    ∙ ap (λ (x : GeometryValue). x.slots) is.geometry-is) (omega (arith, c.if-count-eq0.false)) planned in
     subst (λ (k : ℕ). BecomesImage old.halves.geometry.slots old.synced k old.image c.carry_on.new.self.image) counted
     (subst (λ (k : ℕ). BecomesImage k old.synced count old.image c.carry_on.new.self.image) slots_are becomes)
 
@@ -127,15 +183,25 @@ returns-in-Ok-Done-clause-images g c = λ run handed is.
     let count = c.group_len-count.result in
     let within : count ≤ length old.waiting.items = omega (arith, ap length c.deref.ensures.value, c.group_len-count.ensures.within) in
     let done : c.append_spelled.result ≡ Ok Done = cc (c.in-Ok-Done.is, c.in-Ok-Done.field-0-is) in
-    let mid : Writer g.row.D.Denot g.row.A.Denot = record { device = c.append_spelled.new.device; halves = old.halves; log = c.append_spelled.new.self; waiting = old.waiting; synced = old.synced; image = old.image; failed = old.failed } in
+    let mid : Writer g.row.D.Denot g.row.A.Denot = record {
+      device = c.append_spelled.new.device;
+      halves = old.halves;
+      log = c.append_spelled.new.self;
+      waiting = old.waiting;
+      synced = old.synced;
+      image = old.image;
+      failed = old.failed;
+    } in
     let closed : old.log.open_slots ≢ old.log.area.slots = λ all. cc (c.append_spelled.ensures.full.1 all, done) in
     let group : List RecordValue = take count c.deref-2.result.now in
     let spelled : IsGroup group c.deref-4.result.now = subst (IsGroup group) (sym c.deref-4.ensures.value) (c.in_ok-body.ensures.ok) in
     let has : HasAppended history run handed count mid =
-    has_appended history run handed old is c.if-self.false count group (ap (take count) c.deref-2.ensures.value) within closed mid refl c.append_spelled.ensures.area refl refl refl c.append_spelled.ensures.outside
+    has_appended history run handed old is c.if-self.false count group
+    (ap (take count) c.deref-2.ensures.value) within closed mid refl c.append_spelled.ensures.area refl refl refl c.append_spelled.ensures.outside
     (c.append_spelled.ensures.done done group _ spelled (stands history run handed old is c.if-self.false)) (c.append_spelled.ensures.synced done) in
     joined (history old.device) (history mid.device) (history c.carry_on.new.self.device) (LeftBy run old.synced handed)
-    (leaves history run handed old is c.if-self.false count group (ap (take count) c.deref-2.ensures.value) within closed (history mid.device) (c.append_spelled.ensures.any_moment group spelled))
+    (leaves history run handed old is c.if-self.false count group (ap (take count) c.deref-2.ensures.value) within closed (history mid.device)
+    (c.append_spelled.ensures.any_moment group spelled))
     (c.carry_on.ensures.images run handed has)
 
 pub returns-clause-images : goal.returns-clause-images
@@ -147,12 +213,21 @@ returns-clause-images g c = λ run handed is.
     let closed : old.log.open_slots ≢ old.log.area.slots = λ all. cc (c.append_spelled.ensures.full.1 all, c.in-Err.is) in
     let group : List RecordValue = take count c.deref-2.result.now in
     let spelled : IsGroup group c.deref-4.result.now = subst (IsGroup group) (sym c.deref-4.ensures.value) (c.in_ok-body.ensures.ok) in
-    leaves history run handed old is c.if-self.false count group (ap (take count) c.deref-2.ensures.value) within closed (history c.append_spelled.new.device) (c.append_spelled.ensures.any_moment group spelled)
+    leaves history run handed old is c.if-self.false count group (ap (take count) c.deref-2.ensures.value) within closed (history c.append_spelled.new.device)
+    (c.append_spelled.ensures.any_moment group spelled)
 
 pub returns-clause-writer : goal.returns-clause-writer
 returns-clause-writer g c = λ run handed is.
     let old = c.args.self.now in
-    let new : Writer g.row.D.Denot g.row.A.Denot = record { device = c.append_spelled.new.device; halves = old.halves; log = c.append_spelled.new.self; waiting = old.waiting; synced = old.synced; image = old.image; failed = true } in
+    let new : Writer g.row.D.Denot g.row.A.Denot = record {
+      device = c.append_spelled.new.device;
+      halves = old.halves;
+      log = c.append_spelled.new.self;
+      waiting = old.waiting;
+      synced = old.synced;
+      image = old.image;
+      failed = true;
+    } in
     carried_on g.D.Device.history run handed old new is refl refl refl (λ sound. absurd (false≢true (sym sound))) (returns-clause-images g c run handed is)
 
 pub returns-in-Ok-Done-clause-flushed : goal.returns-in-Ok-Done-clause-flushed
@@ -161,14 +236,34 @@ returns-in-Ok-Done-clause-flushed g c =
     let old = c.args.self.now in
     let count = c.group_len-count.result in
     let done : c.append_spelled.result ≡ Ok Done = cc (c.in-Ok-Done.is, c.in-Ok-Done.field-0-is) in
-    let spelled : IsGroup (take count c.deref-2.result.now) c.deref-4.result.now = subst (IsGroup (take count c.deref-2.result.now)) (sym c.deref-4.ensures.value) (c.in_ok-body.ensures.ok) in
+    let spelled : IsGroup (take count c.deref-2.result.now) c.deref-4.result.now =
+    subst (IsGroup (take count c.deref-2.result.now)) (sym c.deref-4.ensures.value) (c.in_ok-body.ensures.ok) in
     let before = stands g.D.Device.history run handed old is c.if-self.false in
-    let after = c.append_spelled.ensures.done done (take count c.deref-2.result.now) (stood g.D.Device.history run handed old is c.if-self.false).has.groups spelled before in
-    let mid : Writer g.row.D.Denot g.row.A.Denot = record { device = c.append_spelled.new.device; halves = old.halves; log = c.append_spelled.new.self; waiting = old.waiting; synced = old.synced; image = old.image; failed = old.failed } in
+    let after = c.append_spelled.ensures.done done (take count c.deref-2.result.now)
+    (stood g.D.Device.history run handed old is c.if-self.false).has.groups spelled before in
+    let mid : Writer g.row.D.Denot g.row.A.Denot = record {
+      device = c.append_spelled.new.device;
+      halves = old.halves;
+      log = c.append_spelled.new.self;
+      waiting = old.waiting;
+      synced = old.synced;
+      image = old.image;
+      failed = old.failed;
+    } in
     let some : 0 < count = omega (arith, c.if-count-eq0.false) in
-    let fills : FillsGroup c.deref.result.now count = record { fits = c.group_len-count.ensures.fits (omega (arith, some, c.group_len-count.ensures.within)); full = c.group_len-count.ensures.most } in
+    let fills : FillsGroup c.deref.result.now count = record {
+      fits = c.group_len-count.ensures.fits (omega (arith, some, c.group_len-count.ensures.within));
+      full = c.group_len-count.ensures.most;
+    } in
     flushed_more old mid c.carry_on.new.self count c.carry_on.result refl refl refl
-    (log_more old.log c.append_spelled.new.self c.append_spelled.ensures.area (omega (arith, before.counted, after.counted, length-append (stood g.D.Device.history run handed old is c.if-self.false).has.groups (take count c.deref-2.result.now ∷ []))))
+    (log_more old.log c.append_spelled.new.self c.append_spelled.ensures.area
+    (omega (
+      arith,
+      before.counted,
+      after.counted,
+      length-append (stood g.D.Device.history run handed old is c.if-self.false).has.groups
+          (take count c.deref-2.result.now ∷ []),
+    )))
     some (subst (λ (rs : List RecordValue). FillsGroup rs count) c.deref.ensures.value fills) c.carry_on.ensures.flushed c.carry_on.ensures.rest
 
 pub returns-then-count-eq0-clause-full : goal.returns-then-count-eq0-clause-full
@@ -195,28 +290,54 @@ returns-in-Ok-Done-clause-around g c =
     let history = g.D.Device.history in
     let old = c.args.self.now in
     let done : c.append_spelled.result ≡ Ok Done = cc (c.in-Ok-Done.is, c.in-Ok-Done.field-0-is) in
-    let mid : Writer g.row.D.Denot g.row.A.Denot = record { device = c.append_spelled.new.device; halves = old.halves; log = c.append_spelled.new.self; waiting = old.waiting; synced = old.synced; image = old.image; failed = old.failed } in
+    let mid : Writer g.row.D.Denot g.row.A.Denot = record {
+      device = c.append_spelled.new.device;
+      halves = old.halves;
+      log = c.append_spelled.new.self;
+      waiting = old.waiting;
+      synced = old.synced;
+      image = old.image;
+      failed = old.failed;
+    } in
     let closed : old.log.open_slots ≢ old.log.area.slots = λ all. cc (c.append_spelled.ensures.full.1 all, done) in
     let group : List RecordValue = take c.group_len-count.result c.deref-2.result.now in
     let spelled : IsGroup group c.deref-4.result.now = subst (IsGroup group) (sym c.deref-4.ensures.value) (c.in_ok-body.ensures.ok) in
     then_around history old mid c.carry_on.new.self
-    (appended_around history run handed old is c.if-self.false closed mid group refl c.append_spelled.ensures.area refl c.append_spelled.ensures.outside (c.append_spelled.ensures.any_moment group spelled)) c.carry_on.ensures.around
+    (appended_around history run handed old is c.if-self.false closed mid group refl c.append_spelled.ensures.area refl c.append_spelled.ensures.outside
+    (c.append_spelled.ensures.any_moment group spelled)) c.carry_on.ensures.around
 
 pub returns-clause-around : goal.returns-clause-around
 returns-clause-around g c =
     let (run, handed, is) = c.requires in
     let history = g.D.Device.history in
     let old = c.args.self.now in
-    let new : Writer g.row.D.Denot g.row.A.Denot = record { device = c.append_spelled.new.device; halves = old.halves; log = c.append_spelled.new.self; waiting = old.waiting; synced = old.synced; image = old.image; failed = true } in
+    let new : Writer g.row.D.Denot g.row.A.Denot = record {
+      device = c.append_spelled.new.device;
+      halves = old.halves;
+      log = c.append_spelled.new.self;
+      waiting = old.waiting;
+      synced = old.synced;
+      image = old.image;
+      failed = true;
+    } in
     let closed : old.log.open_slots ≢ old.log.area.slots = λ all. cc (c.append_spelled.ensures.full.1 all, c.in-Err.is) in
     let group : List RecordValue = take c.group_len-count.result c.deref-2.result.now in
     let spelled : IsGroup group c.deref-4.result.now = subst (IsGroup group) (sym c.deref-4.ensures.value) (c.in_ok-body.ensures.ok) in
-    appended_around history run handed old is c.if-self.false closed new group refl c.append_spelled.ensures.area refl c.append_spelled.ensures.outside (c.append_spelled.ensures.any_moment group spelled)
+    appended_around history run handed old is c.if-self.false closed new group refl c.append_spelled.ensures.area refl c.append_spelled.ensures.outside
+    (c.append_spelled.ensures.any_moment group spelled)
 
 pub returns-in-Ok-Done-clause-left : goal.returns-in-Ok-Done-clause-left
 returns-in-Ok-Done-clause-left g c =
     let old = c.args.self.now in
-    let mid : Writer g.row.D.Denot g.row.A.Denot = record { device = c.append_spelled.new.device; halves = old.halves; log = c.append_spelled.new.self; waiting = old.waiting; synced = old.synced; image = old.image; failed = old.failed } in
+    let mid : Writer g.row.D.Denot g.row.A.Denot = record {
+      device = c.append_spelled.new.device;
+      halves = old.halves;
+      log = c.append_spelled.new.self;
+      waiting = old.waiting;
+      synced = old.synced;
+      image = old.image;
+      failed = old.failed;
+    } in
     failed_behind old mid c.carry_on.new.self c.group_len-count.result c.carry_on.result refl c.carry_on.ensures.left
 
 pub returns-clause-left : goal.returns-clause-left
@@ -242,7 +363,8 @@ pub returns-in-Ok-Full-clause-slot : goal.returns-in-Ok-Full-clause-slot
 returns-in-Ok-Full-clause-slot g c =
     let old = c.args.self.now in
     let full : c.append_spelled.result ≡ Ok Full = cc (c.in-Ok-Full.is, c.in-Ok-Full.field-0-is) in
-    subst (λ d. WritesOnly g.D.Device.history (InOpenedSlots old) old.device d) (sym (c.append_spelled.ensures.unchanged full).1) (none_alone g.D.Device.history (InOpenedSlots old) old.device)
+    subst (λ d. WritesOnly g.D.Device.history (InOpenedSlots old) old.device d) (sym (c.append_spelled.ensures.unchanged full).1)
+    (none_alone g.D.Device.history (InOpenedSlots old) old.device)
 
 pub returns-in-Ok-Done-clause-slot : goal.returns-in-Ok-Done-clause-slot
 returns-in-Ok-Done-clause-slot g c =
@@ -254,8 +376,10 @@ returns-in-Ok-Done-clause-slot g c =
     alone_then history (InOpenedSlots old) old.device c.append_spelled.new.device c.carry_on.new.self.device
     (λ n loose. absurd (false≢true (sym (c.append_spelled.ensures.synced done n) ∙ loose)))
     (alone_wider history (InSlot old.log.area old.log.open_slots) (InOpenedSlots old) (λ n here. inl here) old.device c.append_spelled.new.device
-    (slot_alone history old.log old.device c.append_spelled.new.device group c.append_spelled.ensures.outside (c.append_spelled.ensures.any_moment group spelled)))
-    (alone_wider history (InNewSlot old.image) (InOpenedSlots old) (λ n there. inr there) c.append_spelled.new.device c.carry_on.new.self.device c.carry_on.ensures.slot)
+    (slot_alone history old.log old.device c.append_spelled.new.device group c.append_spelled.ensures.outside
+    (c.append_spelled.ensures.any_moment group spelled)))
+    (alone_wider history (InNewSlot old.image) (InOpenedSlots old) (λ n there.
+    inr there) c.append_spelled.new.device c.carry_on.new.self.device c.carry_on.ensures.slot)
 
 pub returns-clause-slot : goal.returns-clause-slot
 returns-clause-slot g c =
@@ -264,4 +388,5 @@ returns-clause-slot g c =
     let group : List RecordValue = take c.group_len-count.result c.deref-2.result.now in
     let spelled : IsGroup group c.deref-4.result.now = subst (IsGroup group) (sym c.deref-4.ensures.value) (c.in_ok-body.ensures.ok) in
     alone_wider history (InSlot old.log.area old.log.open_slots) (InOpenedSlots old) (λ n here. inl here) old.device c.append_spelled.new.device
-    (slot_alone history old.log old.device c.append_spelled.new.device group c.append_spelled.ensures.outside (c.append_spelled.ensures.any_moment group spelled))
+    (slot_alone history old.log old.device c.append_spelled.new.device group c.append_spelled.ensures.outside
+    (c.append_spelled.ensures.any_moment group spelled))

@@ -5,5 +5,13 @@ use Rattle.store_writer.proofs.writer.Writer.new.Goals as goal
 
 pub returns-clause-writer : goal.returns-clause-writer
 returns-clause-writer g c = λ cells is.
-    let w : Writer g.row.D.Denot g.row.A.Denot = record { device = c.args.device; halves = c.args.halves; log = c.args.log; waiting = c.new.result; synced = c.args.synced; image = None; failed = false } in
+    let w : Writer g.row.D.Denot g.row.A.Denot = record {
+      device = c.args.device;
+      halves = c.args.halves;
+      log = c.args.log;
+      waiting = c.new.result;
+      synced = c.args.synced;
+      image = None;
+      failed = false;
+    } in
     opened_writer g.D.Device.history cells w is c.new.ensures.items refl

@@ -31,51 +31,82 @@ unreachable-requires g c =
     cc no
 
 pub returns-then-is_full-clause-images : goal.returns-then-is_full-clause-images
-returns-then-is_full-clause-images g c = λ run handed is. started (g.D.Device.history c.args.self.now.device) (LeftBy run c.args.self.now.synced handed) is.images
+returns-then-is_full-clause-images g c = λ run handed is.
+    started (g.D.Device.history c.args.self.now.device) (LeftBy run c.args.self.now.synced handed) is.images
 
 pub returns-then-is_full-clause-stepped : goal.returns-then-is_full-clause-stepped
 returns-then-is_full-clause-stepped g c = (
   refl,
   elim c.then-is_full.branch [
     | then-is_full-via-then-is_full w ↦ inr (inl (w.if-is_full.ensures.0 refl ∙ ap (λ (x : GeometryValue). x.slots) c.geometry-geometry.ensures))
-    | then-is_full-via-else-is_full+then-has_no_room w ↦ inr (inr (c.in-Some.image, c.in-Partly.pages, c.in-Partly.count, c.in-Partly.highest, c.in-Partly.life, c.in-Some.is, c.in-Partly.is, subst (λ (x : GeometryValue). x.entries < c.in-Partly.count + length c.args.entries.now) c.geometry-geometry.ensures (w.if-has_no_room.ensures.0 refl)))
+    | then-is_full-via-else-is_full+then-has_no_room w ↦ inr
+        (inr (
+          c.in-Some.image,
+          c.in-Partly.pages,
+          c.in-Partly.count,
+          c.in-Partly.highest,
+          c.in-Partly.life,
+          c.in-Some.is,
+          c.in-Partly.is,
+          subst (λ (x : GeometryValue). x.entries < c.in-Partly.count + length c.args.entries.now) c.geometry-geometry.ensures
+              (w.if-has_no_room.ensures.0 refl),
+        ))
   ],
 )
 
 pub write_next-requires-clause-pages : goal.write_next-requires-clause-pages
 write_next-requires-clause-pages g c =
     let (run, handed, is, asked) = c.requires.entries in
-    subst (λ (x : GeometryValue). (i : ℕ) (e : Pair × Mark) → slice_get c.args.entries.now i ≡ Some e → e.0.rid.page < x.pages) (sym is.geometry-is) (asked c.in-Some.image c.in-Some.is).inside
+    subst (λ (x : GeometryValue). (i : ℕ) (e : Pair × Mark) → slice_get c.args.entries.now i ≡ Some e
+    → e.0.rid.page < x.pages) (sym is.geometry-is) (asked c.in-Some.image c.in-Some.is).inside
 
 pub write_next-requires-clause-base : goal.write_next-requires-clause-base
 write_next-requires-clause-base g c =
     let (run, handed, is, asked) = c.requires.entries in
     let chunk = asked c.in-Some.image c.in-Some.is in
-    let there : IsUnderway run (other c.args.self.now.halves.current) (g.D.Device.history c.args.self.now.device).disk.content c.args.self.now.synced c.in-Some.image =
-    subst (λ (t : Option NewImage). IfSome t (IsUnderway run (other c.args.self.now.halves.current) (g.D.Device.history c.args.self.now.device).disk.content c.args.self.now.synced)) c.in-Some.is (stood g.D.Device.history run handed c.args.self.now is c.requires.sound).image in
+    let there : IsUnderway run (other c.args.self.now.halves.current)
+    (g.D.Device.history c.args.self.now.device).disk.content c.args.self.now.synced c.in-Some.image =
+    subst (λ (t : Option NewImage).
+    IfSome t (IsUnderway run (other c.args.self.now.halves.current) (g.D.Device.history c.args.self.now.device).disk.content c.args.self.now.synced))
+    c.in-Some.is (stood g.D.Device.history run handed c.args.self.now is c.requires.sound).image in
     omega (arith, there.rise, chunk.later, chunk.small)
 
 pub returns-then-is_err-clause-images : goal.returns-then-is_err-clause-images
 returns-then-is_err-clause-images g c = λ run handed is.
     let history = g.D.Device.history in
     let old = c.args.self.now in
-    let within = subst (λ (x : GeometryValue). RunsWithin (λ n. InHalfImage x (other old.halves.current) n ⊎ ((history old.device).disk.unsynced n ≡ true)) (history old.device).disk.content (history old.device) (history c.write_next.new.device)) is.geometry-is c.write_next.ensures.within in
+    let within = subst (λ (x : GeometryValue). RunsWithin (λ n. InHalfImage x (other old.halves.current) n
+    ⊎ ((history old.device).disk.unsynced n ≡ true)) (history old.device).disk.content (history old.device) (history c.write_next.new.device))
+    is.geometry-is c.write_next.ensures.within in
     leaves_kept history run handed old is c.requires.sound (history c.write_next.new.device)
-    (writing run.geometry (other old.halves.current) (history old.device) (history c.write_next.new.device) (stood history run handed old is c.requires.sound).loose within)
+    (writing run.geometry (other old.halves.current) (history old.device) (history c.write_next.new.device)
+    (stood history run handed old is c.requires.sound).loose within)
 
 pub returns-then-is_err-clause-writer : goal.returns-then-is_err-clause-writer
 returns-then-is_err-clause-writer g c = λ run handed is asked.
     let old = c.args.self.now in
-    let new : Writer g.row.D.Denot g.row.A.Denot = record { device = c.write_next.new.device; halves = old.halves; log = old.log; waiting = old.waiting; synced = old.synced; image = old.image; failed = true } in
-    carried_on g.D.Device.history run handed old new is refl refl refl (λ sound. absurd (false≢true (sym sound))) (returns-then-is_err-clause-images g c run handed is)
+    let new : Writer g.row.D.Denot g.row.A.Denot = record {
+      device = c.write_next.new.device;
+      halves = old.halves;
+      log = old.log;
+      waiting = old.waiting;
+      synced = old.synced;
+      image = old.image;
+      failed = true;
+    } in
+    carried_on g.D.Device.history run handed old new is refl refl refl (λ sound. absurd (false≢true (sym sound)))
+    (returns-then-is_err-clause-images g c run handed is)
 
 pub returns-clause-images : goal.returns-clause-images
 returns-clause-images g c = λ run handed is.
     let history = g.D.Device.history in
     let old = c.args.self.now in
-    let within = subst (λ (x : GeometryValue). RunsWithin (λ n. InHalfImage x (other old.halves.current) n ⊎ ((history old.device).disk.unsynced n ≡ true)) (history old.device).disk.content (history old.device) (history c.write_next.new.device)) is.geometry-is c.write_next.ensures.within in
+    let within = subst (λ (x : GeometryValue). RunsWithin (λ n. InHalfImage x (other old.halves.current) n
+    ⊎ ((history old.device).disk.unsynced n ≡ true)) (history old.device).disk.content (history old.device) (history c.write_next.new.device))
+    is.geometry-is c.write_next.ensures.within in
     leaves_kept history run handed old is c.requires.sound (history c.write_next.new.device)
-    (writing run.geometry (other old.halves.current) (history old.device) (history c.write_next.new.device) (stood history run handed old is c.requires.sound).loose within)
+    (writing run.geometry (other old.halves.current) (history old.device) (history c.write_next.new.device)
+    (stood history run handed old is c.requires.sound).loose within)
 
 pub returns-clause-writer : goal.returns-clause-writer
 returns-clause-writer g c = λ run handed is asked.
@@ -84,20 +115,35 @@ returns-clause-writer g c = λ run handed is asked.
     let half = other old.halves.current in
     let image : NewImage = c.in-Some.image in
     let stand = stood history run handed old is c.requires.sound in
-    let within = subst (λ (x : GeometryValue). RunsWithin (λ n. InHalfImage x half n ⊎ ((history old.device).disk.unsynced n ≡ true)) (history old.device).disk.content (history old.device) (history c.write_next.new.device)) is.geometry-is c.write_next.ensures.within in
+    let within = subst (λ (x : GeometryValue). RunsWithin (λ n. InHalfImage x half n
+    ⊎ ((history old.device).disk.unsynced n ≡ true)) (history old.device).disk.content (history old.device) (history c.write_next.new.device))
+    is.geometry-is c.write_next.ensures.within in
     let before : Image = (history old.device).disk.content in
     let after : Image = (history c.write_next.new.device).disk.content in
-    let there : IsUnderway run half before old.synced image = subst (λ (t : Option NewImage). IfSome t (IsUnderway run half before old.synced)) c.in-Some.is stand.image in
+    let there : IsUnderway run half before old.synced image =
+    subst (λ (t : Option NewImage). IfSome t (IsUnderway run half before old.synced)) c.in-Some.is stand.image in
     let chunk = asked image c.in-Some.is in
-    let at : Partly run.geometry.pages chunk.count chunk.above chunk.life ≡ Partly c.in-Partly.pages c.in-Partly.count c.in-Partly.highest c.in-Partly.life = sym chunk.next ∙ c.in-Partly.is in
-    let part : IsPart run half before image.base image.number run.geometry.pages chunk.count chunk.above chunk.life = subst (IsContent run half before image.base image.number) chunk.next there.content in
+    let at : Partly run.geometry.pages chunk.count chunk.above chunk.life ≡ Partly c.in-Partly.pages c.in-Partly.count c.in-Partly.highest c.in-Partly.life =
+    sym chunk.next ∙ c.in-Partly.is in
+    let part : IsPart run half before image.base image.number run.geometry.pages chunk.count chunk.above chunk.life =
+    subst (IsContent run half before image.base image.number) chunk.next there.content in
     let good = sym c.is_err.ensures.value ∙ c.if-is_err.false in
-    let log = written_log run.geometry half (history old.device) (history c.write_next.new.device) stand.loose within image.log there.groups there.area-is there.stands in
+    let log = written_log run.geometry half (history old.device)
+    (history c.write_next.new.device) stand.loose within image.log there.groups there.area-is there.stands in
     let content : IsContent run half after image.base c.args.number c.stage_behind-stage.result =
-    with_entries run half before after image c.args.number c.args.entries.now chunk there.low there.rise part old.halves.geometry is.geometry-is c.in-Partly.pages c.in-Partly.count c.in-Partly.highest c.in-Partly.life at
+    with_entries run half before after image c.args.number c.args.entries.now chunk there.low there.rise part old.halves.geometry is.geometry-is
+    c.in-Partly.pages c.in-Partly.count c.in-Partly.highest c.in-Partly.life at
     (from_ok _ _ good c.write_next.ensures.part) (from_ok _ _ good c.write_next.ensures.whole) c.stage_behind-stage.result c.stage_behind-stage.ensures in
     let taken : NewImage = record { base = image.base; number = c.args.number; stage = c.stage_behind-stage.result; log = image.log } in
-    let new : Writer g.row.D.Denot g.row.A.Denot = record { device = c.write_next.new.device; halves = old.halves; log = old.log; waiting = old.waiting; synced = old.synced; image = Some taken; failed = old.failed } in
+    let new : Writer g.row.D.Denot g.row.A.Denot = record {
+      device = c.write_next.new.device;
+      halves = old.halves;
+      log = old.log;
+      waiting = old.waiting;
+      synced = old.synced;
+      image = Some taken;
+      failed = old.failed;
+    } in
     carried_on history run handed old new is refl refl refl
     (λ sound. stands_with history run handed old is c.requires.sound new refl refl refl
     (written_outside run.geometry half (history old.device) (history c.write_next.new.device) stand.loose within)
@@ -106,10 +152,12 @@ returns-clause-writer g c = λ run handed is asked.
     (returns-clause-images g c run handed is)
 
 pub returns-in_default-clause-around : goal.returns-in_default-clause-around
-returns-in_default-clause-around g c = none_alone g.D.Device.history (InHalf c.args.self.now.halves.geometry (other c.args.self.now.halves.current)) c.args.self.now.device
+returns-in_default-clause-around g c = none_alone g.D.Device.history
+    (InHalf c.args.self.now.halves.geometry (other c.args.self.now.halves.current)) c.args.self.now.device
 
 pub returns-then-is_full-clause-around : goal.returns-then-is_full-clause-around
-returns-then-is_full-clause-around g c = none_alone g.D.Device.history (InHalf c.args.self.now.halves.geometry (other c.args.self.now.halves.current)) c.args.self.now.device
+returns-then-is_full-clause-around g c = none_alone g.D.Device.history
+    (InHalf c.args.self.now.halves.geometry (other c.args.self.now.halves.current)) c.args.self.now.device
 
 pub returns-then-is_err-clause-around : goal.returns-then-is_err-clause-around
 returns-then-is_err-clause-around g c =

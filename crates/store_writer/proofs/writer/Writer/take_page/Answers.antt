@@ -23,29 +23,45 @@ pub returns-in_default-clause-images : goal.returns-in_default-clause-images
 returns-in_default-clause-images g c = λ run handed is. started (g.D.Device.history c.args.self.now.device) (LeftBy run c.args.self.now.synced handed) is.images
 
 pub returns-then-is_full-clause-images : goal.returns-then-is_full-clause-images
-returns-then-is_full-clause-images g c = λ run handed is. started (g.D.Device.history c.args.self.now.device) (LeftBy run c.args.self.now.synced handed) is.images
+returns-then-is_full-clause-images g c = λ run handed is.
+    started (g.D.Device.history c.args.self.now.device) (LeftBy run c.args.self.now.synced handed) is.images
 
 pub returns-then-is_err-clause-images : goal.returns-then-is_err-clause-images
 returns-then-is_err-clause-images g c = λ run handed is.
     let history = g.D.Device.history in
     let old = c.args.self.now in
-    let within = subst (λ (x : GeometryValue). RunsWithin (λ n. InHalfImage x (other old.halves.current) n ⊎ ((history old.device).disk.unsynced n ≡ true)) (history old.device).disk.content (history old.device) (history c.write_rows.new.device)) is.geometry-is c.write_rows.ensures.within in
+    let within = subst (λ (x : GeometryValue). RunsWithin (λ n. InHalfImage x (other old.halves.current) n
+    ⊎ ((history old.device).disk.unsynced n ≡ true)) (history old.device).disk.content (history old.device) (history c.write_rows.new.device))
+    is.geometry-is c.write_rows.ensures.within in
     leaves_kept history run handed old is c.requires.sound (history c.write_rows.new.device)
-    (writing run.geometry (other old.halves.current) (history old.device) (history c.write_rows.new.device) (stood history run handed old is c.requires.sound).loose within)
+    (writing run.geometry (other old.halves.current) (history old.device) (history c.write_rows.new.device)
+    (stood history run handed old is c.requires.sound).loose within)
 
 pub returns-then-is_err-clause-writer : goal.returns-then-is_err-clause-writer
 returns-then-is_err-clause-writer g c = λ run handed is page.
     let old = c.args.self.now in
-    let new : Writer g.row.D.Denot g.row.A.Denot = record { device = c.write_rows.new.device; halves = old.halves; log = old.log; waiting = old.waiting; synced = old.synced; image = old.image; failed = true } in
-    carried_on g.D.Device.history run handed old new is refl refl refl (λ sound. absurd (false≢true (sym sound))) (returns-then-is_err-clause-images g c run handed is)
+    let new : Writer g.row.D.Denot g.row.A.Denot = record {
+      device = c.write_rows.new.device;
+      halves = old.halves;
+      log = old.log;
+      waiting = old.waiting;
+      synced = old.synced;
+      image = old.image;
+      failed = true;
+    } in
+    carried_on g.D.Device.history run handed old new is refl refl refl (λ sound. absurd (false≢true (sym sound)))
+    (returns-then-is_err-clause-images g c run handed is)
 
 pub returns-clause-images : goal.returns-clause-images
 returns-clause-images g c = λ run handed is.
     let history = g.D.Device.history in
     let old = c.args.self.now in
-    let within = subst (λ (x : GeometryValue). RunsWithin (λ n. InHalfImage x (other old.halves.current) n ⊎ ((history old.device).disk.unsynced n ≡ true)) (history old.device).disk.content (history old.device) (history c.write_rows.new.device)) is.geometry-is c.write_rows.ensures.within in
+    let within = subst (λ (x : GeometryValue). RunsWithin (λ n. InHalfImage x (other old.halves.current) n
+    ⊎ ((history old.device).disk.unsynced n ≡ true)) (history old.device).disk.content (history old.device) (history c.write_rows.new.device))
+    is.geometry-is c.write_rows.ensures.within in
     leaves_kept history run handed old is c.requires.sound (history c.write_rows.new.device)
-    (writing run.geometry (other old.halves.current) (history old.device) (history c.write_rows.new.device) (stood history run handed old is c.requires.sound).loose within)
+    (writing run.geometry (other old.halves.current) (history old.device) (history c.write_rows.new.device)
+    (stood history run handed old is c.requires.sound).loose within)
 
 pub returns-clause-writer : goal.returns-clause-writer
 returns-clause-writer g c = λ run handed is asked.
@@ -54,22 +70,40 @@ returns-clause-writer g c = λ run handed is asked.
     let half = other old.halves.current in
     let image : NewImage = c.in-Some.image in
     let stand = stood history run handed old is c.requires.sound in
-    let within = subst (λ (x : GeometryValue). RunsWithin (λ n. InHalfImage x half n ⊎ ((history old.device).disk.unsynced n ≡ true)) (history old.device).disk.content (history old.device) (history c.write_rows.new.device)) is.geometry-is c.write_rows.ensures.within in
+    let within = subst (λ (x : GeometryValue). RunsWithin (λ n. InHalfImage x half n
+    ⊎ ((history old.device).disk.unsynced n ≡ true)) (history old.device).disk.content (history old.device) (history c.write_rows.new.device))
+    is.geometry-is c.write_rows.ensures.within in
     let before = (history old.device).disk.content in
     let after = (history c.write_rows.new.device).disk.content in
-    let there : IsUnderway run half before old.synced image = subst (λ (t : Option NewImage). IfSome t (IsUnderway run half before old.synced)) c.in-Some.is stand.image in
+    let there : IsUnderway run half before old.synced image =
+    subst (λ (t : Option NewImage). IfSome t (IsUnderway run half before old.synced)) c.in-Some.is stand.image in
     let chunk = asked image c.in-Some.is in
     let (count, highest, life, at) = chunk.next in
-    let part : IsPart run half before image.base image.number c.args.page count highest life = subst (IsContent run half before image.base image.number) at there.content in
+    let part : IsPart run half before image.base image.number c.args.page count highest life =
+    subst (IsContent run half before image.base image.number) at there.content in
     let good = sym c.is_err.ensures.value ∙ c.if-is_err.false in
-    let same : SameOutside (InPage (header_sector run.geometry half) c.args.page) before after = subst (λ (x : GeometryValue). SameOutside (InPage (header_sector x half) c.args.page) before after) is.geometry-is c.write_rows.ensures.outside in
+    let same : SameOutside (InPage (header_sector run.geometry half) c.args.page) before after =
+    subst (λ (x : GeometryValue). SameOutside (InPage (header_sector x half) c.args.page) before after) is.geometry-is c.write_rows.ensures.outside in
     let has : HasPage (header_sector run.geometry half) after c.args.page c.args.rows =
-    subst (λ (x : GeometryValue). HasPage (header_sector x half) after c.args.page c.args.rows) is.geometry-is (from_ok _ _ good c.write_rows.ensures.written) in
-    let next : IsPart run half after image.base c.args.number (c.args.page + 1) count highest life = page_part run half before after image.base image.number c.args.number there.low there.rise chunk.later c.args.page count highest life c.args.rows part chunk.below chunk.rows-are chunk.slots same has in
-    let log = written_log run.geometry half (history old.device) (history c.write_rows.new.device) stand.loose within image.log there.groups there.area-is there.stands in
+    subst (λ (x : GeometryValue). HasPage (header_sector x half) after c.args.page c.args.rows) is.geometry-is
+    (from_ok _ _ good c.write_rows.ensures.written) in
+    let next : IsPart run half after image.base c.args.number (c.args.page + 1) count highest life =
+    page_part run half before after image.base image.number c.args.number there.low there.rise chunk.later c.args.page count highest life c.args.rows part
+    chunk.below chunk.rows-are chunk.slots same has in
+    let log = written_log run.geometry half (history old.device)
+    (history c.write_rows.new.device) stand.loose within image.log there.groups there.area-is there.stands in
     let taken : NewImage = c.with_page.result in
-    let taken_is : record image { number = c.args.number; stage = Partly (c.args.page + 1) count highest life } ≡ taken = sym (c.with_page.ensures c.args.page count highest life at) in
-    let new : Writer g.row.D.Denot g.row.A.Denot = record { device = c.write_rows.new.device; halves = old.halves; log = old.log; waiting = old.waiting; synced = old.synced; image = Some taken; failed = old.failed } in
+    let taken_is : record image { number = c.args.number; stage = Partly (c.args.page + 1) count highest life } ≡ taken =
+    sym (c.with_page.ensures c.args.page count highest life at) in
+    let new : Writer g.row.D.Denot g.row.A.Denot = record {
+      device = c.write_rows.new.device;
+      halves = old.halves;
+      log = old.log;
+      waiting = old.waiting;
+      synced = old.synced;
+      image = Some taken;
+      failed = old.failed;
+    } in
     carried_on history run handed old new is refl refl refl
     (λ sound. stands_with history run handed old is c.requires.sound new refl refl refl
     (written_outside run.geometry half (history old.device) (history c.write_rows.new.device) stand.loose within)
@@ -88,15 +122,22 @@ pub returns-clause-stepped : goal.returns-clause-stepped
 returns-clause-stepped g c =
     let (run, handed, is, asked) = c.requires.page in
     let (count, highest, life, at) = (asked c.in-Some.image c.in-Some.is).next in (
-      (λ refused. ⊎_elim (λ none. cc (none, c.in-Some.is)) (λ full. false≢true (c.if-is_full.ensures.1 (full ∙ sym (ap (λ (x : GeometryValue). x.slots) c.geometry.ensures)))) refused),
-      (c.with_page.result, (refl, refl, refl, refl, refl, refl), (c.in-Some.image, count, highest, life, c.in-Some.is, at, c.with_page.ensures c.args.page count highest life at)),
+      (λ refused. ⊎_elim (λ none. cc (none, c.in-Some.is)) (λ full.
+          false≢true (c.if-is_full.ensures.1 (full ∙ sym (ap (λ (x : GeometryValue). x.slots) c.geometry.ensures)))) refused),
+      (
+        c.with_page.result,
+        (refl, refl, refl, refl, refl, refl),
+        (c.in-Some.image, count, highest, life, c.in-Some.is, at, c.with_page.ensures c.args.page count highest life at),
+      ),
     )
 
 pub returns-in_default-clause-around : goal.returns-in_default-clause-around
-returns-in_default-clause-around g c = none_alone g.D.Device.history (InHalf c.args.self.now.halves.geometry (other c.args.self.now.halves.current)) c.args.self.now.device
+returns-in_default-clause-around g c = none_alone g.D.Device.history
+    (InHalf c.args.self.now.halves.geometry (other c.args.self.now.halves.current)) c.args.self.now.device
 
 pub returns-then-is_full-clause-around : goal.returns-then-is_full-clause-around
-returns-then-is_full-clause-around g c = none_alone g.D.Device.history (InHalf c.args.self.now.halves.geometry (other c.args.self.now.halves.current)) c.args.self.now.device
+returns-then-is_full-clause-around g c = none_alone g.D.Device.history
+    (InHalf c.args.self.now.halves.geometry (other c.args.self.now.halves.current)) c.args.self.now.device
 
 pub returns-then-is_err-clause-around : goal.returns-then-is_err-clause-around
 returns-then-is_err-clause-around g c =

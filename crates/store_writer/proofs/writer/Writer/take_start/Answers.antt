@@ -24,19 +24,29 @@ returns-in-Ok-clause-images g c = λ run handed is.
     let history = g.D.Device.history in
     let old = c.args.self.now in
     leaves_kept history run handed old is c.requires.sound (history c.write_first.new.device)
-    (subst (λ (x : GeometryValue). LeavesOnly (history old.device) (history c.write_first.new.device) (SameOutside (InHalf x (other old.halves.current)) (history old.device).disk.content)) is.geometry-is c.write_first.ensures.any_moment)
+    (subst (λ (x : GeometryValue). LeavesOnly (history old.device) (history c.write_first.new.device)
+    (SameOutside (InHalf x (other old.halves.current)) (history old.device).disk.content)) is.geometry-is c.write_first.ensures.any_moment)
 
 pub returns-clause-images : goal.returns-clause-images
 returns-clause-images g c = λ run handed is.
     let history = g.D.Device.history in
     let old = c.args.self.now in
     leaves_kept history run handed old is c.requires.sound (history c.write_first.new.device)
-    (subst (λ (x : GeometryValue). LeavesOnly (history old.device) (history c.write_first.new.device) (SameOutside (InHalf x (other old.halves.current)) (history old.device).disk.content)) is.geometry-is c.write_first.ensures.any_moment)
+    (subst (λ (x : GeometryValue). LeavesOnly (history old.device) (history c.write_first.new.device)
+    (SameOutside (InHalf x (other old.halves.current)) (history old.device).disk.content)) is.geometry-is c.write_first.ensures.any_moment)
 
 pub returns-clause-writer : goal.returns-clause-writer
 returns-clause-writer g c = λ run handed is start.
     let old = c.args.self.now in
-    let new : Writer g.row.D.Denot g.row.A.Denot = record { device = c.write_first.new.device; halves = old.halves; log = old.log; waiting = old.waiting; synced = old.synced; image = old.image; failed = true } in
+    let new : Writer g.row.D.Denot g.row.A.Denot = record {
+      device = c.write_first.new.device;
+      halves = old.halves;
+      log = old.log;
+      waiting = old.waiting;
+      synced = old.synced;
+      image = old.image;
+      failed = true;
+    } in
     carried_on g.D.Device.history run handed old new is refl refl refl (λ sound. absurd (false≢true (sym sound))) (returns-clause-images g c run handed is)
 
 pub returns-in-Ok-clause-writer : goal.returns-in-Ok-clause-writer
@@ -47,20 +57,36 @@ returns-in-Ok-clause-writer g c = λ run handed is start.
     let now = (history c.write_first.new.device).disk in
     let life : Life = c.lists_alone-cells.result.life in
     let image : NewImage = record { base = c.args.number; number = c.args.number; stage = Partly 0 0 None life; log = c.in-Ok.log } in
-    let new : Writer g.row.D.Denot g.row.A.Denot = record { device = c.write_first.new.device; halves = old.halves; log = old.log; waiting = old.waiting; synced = old.synced; image = Some image; failed = old.failed } in
+    let new : Writer g.row.D.Denot g.row.A.Denot = record {
+      device = c.write_first.new.device;
+      halves = old.halves;
+      log = old.log;
+      waiting = old.waiting;
+      synced = old.synced;
+      image = Some image;
+      failed = old.failed;
+    } in
     let cells_are = c.lists_alone-cells.ensures in
-    let part = subst (λ (x : Cells). IsImagePart run.geometry (header_sector run.geometry half) now.content 0 (record x { rows = map.empty; entries = map.empty })) cells_are
-    (subst (λ (x : GeometryValue). IsImagePart x (header_sector x half) now.content 0 (record (cells_of c.lists_alone-cells.result) { rows = map.empty; entries = map.empty })) is.geometry-is c.in-Ok.ensures.written) in
-    let area : image.log.area ≡ log_area run.geometry half = subst (λ (x : GeometryValue). image.log.area ≡ log_area x half) is.geometry-is c.in-Ok.ensures.area in
+    let part = subst (λ (x : Cells). IsImagePart run.geometry (header_sector run.geometry half) now.content 0
+    (record x { rows = map.empty; entries = map.empty })) cells_are
+    (subst (λ (x : GeometryValue). IsImagePart x (header_sector x half) now.content 0
+    (record (cells_of c.lists_alone-cells.result) { rows = map.empty; entries = map.empty })) is.geometry-is c.in-Ok.ensures.written) in
+    let area : image.log.area ≡ log_area run.geometry half =
+    subst (λ (x : GeometryValue). image.log.area ≡ log_area x half) is.geometry-is c.in-Ok.ensures.area in
     carried_on history run handed old new is refl refl refl
     (λ sound. stands_with history run handed old is c.requires.sound new refl refl refl
     (subst (λ (x : GeometryValue). SameOutside (InHalf x half) (history old.device).disk.content now.content) is.geometry-is c.write_first.ensures.outside)
     (subst (λ (x : GeometryValue). (n : ℕ) → now.unsynced n ≡ true → InHalfImage x half n) is.geometry-is c.in-Ok.ensures.loose)
-    (start_taken run half now.content old.synced image c.args.life c.args.lists is.opened refl (ap (λ (l : Life). Partly 0 0 None l) (ap (λ (x : Cells). x.life) cells_are)) start part area c.in-Ok.ensures.empty))
+    (start_taken run half now.content old.synced image c.args.life c.args.lists is.opened refl
+    (ap (λ (l : Life). Partly 0 0 None l) (ap (λ (x : Cells). x.life) cells_are)) start part area c.in-Ok.ensures.empty))
     (returns-in-Ok-clause-images g c run handed is)
 
 pub returns-in-Ok-clause-around : goal.returns-in-Ok-clause-around
-returns-in-Ok-clause-around g c = these_alone g.D.Device.history (InHalf c.args.self.now.halves.geometry (other c.args.self.now.halves.current)) c.args.self.now.device c.write_first.new.device c.write_first.ensures.outside c.write_first.ensures.any_moment
+returns-in-Ok-clause-around g c = these_alone g.D.Device.history
+    (InHalf c.args.self.now.halves.geometry (other c.args.self.now.halves.current)) c.args.self.now.device c.write_first.new.device
+    c.write_first.ensures.outside c.write_first.ensures.any_moment
 
 pub returns-clause-around : goal.returns-clause-around
-returns-clause-around g c = these_alone g.D.Device.history (InHalf c.args.self.now.halves.geometry (other c.args.self.now.halves.current)) c.args.self.now.device c.write_first.new.device c.write_first.ensures.outside c.write_first.ensures.any_moment
+returns-clause-around g c = these_alone g.D.Device.history
+    (InHalf c.args.self.now.halves.geometry (other c.args.self.now.halves.current)) c.args.self.now.device c.write_first.new.device
+    c.write_first.ensures.outside c.write_first.ensures.any_moment

@@ -20,20 +20,31 @@ returns-in-Ok-clause-images g c = λ run handed is.
     let history = g.D.Device.history in
     let old = c.args.self.now in
     leaves_kept history run handed old is c.requires.sound (history c.write_whole.new.device)
-    (subst (λ (x : GeometryValue). LeavesOnly (history old.device) (history c.write_whole.new.device) (SameOutside (InHalf x (other old.halves.current)) (history old.device).disk.content)) is.geometry-is c.write_whole.ensures.any_moment)
+    (subst (λ (x : GeometryValue). LeavesOnly (history old.device) (history c.write_whole.new.device)
+    (SameOutside (InHalf x (other old.halves.current)) (history old.device).disk.content)) is.geometry-is c.write_whole.ensures.any_moment)
 
 pub returns-in-Err-clause-images : goal.returns-in-Err-clause-images
 returns-in-Err-clause-images g c = λ run handed is.
     let history = g.D.Device.history in
     let old = c.args.self.now in
     leaves_kept history run handed old is c.requires.sound (history c.write_whole.new.device)
-    (subst (λ (x : GeometryValue). LeavesOnly (history old.device) (history c.write_whole.new.device) (SameOutside (InHalf x (other old.halves.current)) (history old.device).disk.content)) is.geometry-is c.write_whole.ensures.any_moment)
+    (subst (λ (x : GeometryValue). LeavesOnly (history old.device) (history c.write_whole.new.device)
+    (SameOutside (InHalf x (other old.halves.current)) (history old.device).disk.content)) is.geometry-is c.write_whole.ensures.any_moment)
 
 pub returns-in-Err-clause-writer : goal.returns-in-Err-clause-writer
 returns-in-Err-clause-writer g c = λ run handed is whole.
     let old = c.args.self.now in
-    let new : Writer g.row.D.Denot g.row.A.Denot = record { device = c.write_whole.new.device; halves = old.halves; log = old.log; waiting = old.waiting; synced = old.synced; image = old.image; failed = true } in
-    carried_on g.D.Device.history run handed old new is refl refl refl (λ sound. absurd (false≢true (sym sound))) (returns-in-Err-clause-images g c run handed is)
+    let new : Writer g.row.D.Denot g.row.A.Denot = record {
+      device = c.write_whole.new.device;
+      halves = old.halves;
+      log = old.log;
+      waiting = old.waiting;
+      synced = old.synced;
+      image = old.image;
+      failed = true;
+    } in
+    carried_on g.D.Device.history run handed old new is refl refl refl (λ sound. absurd (false≢true (sym sound)))
+    (returns-in-Err-clause-images g c run handed is)
 
 pub returns-in-Ok-clause-writer : goal.returns-in-Ok-clause-writer
 returns-in-Ok-clause-writer g c = λ run handed is whole.
@@ -43,9 +54,19 @@ returns-in-Ok-clause-writer g c = λ run handed is whole.
     let cells = cells_of c.args.cells.now in
     let now = (history c.write_whole.new.device).disk in
     let image : NewImage = record { base = c.args.number; number = c.args.number; stage = Whole; log = c.in-Ok.log } in
-    let new : Writer g.row.D.Denot g.row.A.Denot = record { device = c.write_whole.new.device; halves = old.halves; log = old.log; waiting = old.waiting; synced = old.synced; image = Some image; failed = old.failed } in
-    let holds : HoldsImage run.geometry half now.content c.args.number cells = subst (λ (x : GeometryValue). HoldsImage x half now.content c.args.number cells) is.geometry-is c.in-Ok.ensures.written in
-    let area : image.log.area ≡ log_area run.geometry half = subst (λ (x : GeometryValue). image.log.area ≡ log_area x half) is.geometry-is c.in-Ok.ensures.area in
+    let new : Writer g.row.D.Denot g.row.A.Denot = record {
+      device = c.write_whole.new.device;
+      halves = old.halves;
+      log = old.log;
+      waiting = old.waiting;
+      synced = old.synced;
+      image = Some image;
+      failed = old.failed;
+    } in
+    let holds : HoldsImage run.geometry half now.content c.args.number cells =
+    subst (λ (x : GeometryValue). HoldsImage x half now.content c.args.number cells) is.geometry-is c.in-Ok.ensures.written in
+    let area : image.log.area ≡ log_area run.geometry half =
+    subst (λ (x : GeometryValue). image.log.area ≡ log_area x half) is.geometry-is c.in-Ok.ensures.area in
     carried_on history run handed old new is refl refl refl
     (λ sound. stands_with history run handed old is c.requires.sound new refl refl refl
     (subst (λ (x : GeometryValue). SameOutside (InHalf x half) (history old.device).disk.content now.content) is.geometry-is c.write_whole.ensures.outside)
@@ -64,7 +85,11 @@ write_whole-requires-clause-current g c =
     (stood g.D.Device.history run handed c.args.self.now is c.requires.sound).store.current
 
 pub returns-in-Ok-clause-around : goal.returns-in-Ok-clause-around
-returns-in-Ok-clause-around g c = these_alone g.D.Device.history (InHalf c.args.self.now.halves.geometry (other c.args.self.now.halves.current)) c.args.self.now.device c.write_whole.new.device c.write_whole.ensures.outside c.write_whole.ensures.any_moment
+returns-in-Ok-clause-around g c = these_alone g.D.Device.history
+    (InHalf c.args.self.now.halves.geometry (other c.args.self.now.halves.current)) c.args.self.now.device c.write_whole.new.device
+    c.write_whole.ensures.outside c.write_whole.ensures.any_moment
 
 pub returns-in-Err-clause-around : goal.returns-in-Err-clause-around
-returns-in-Err-clause-around g c = these_alone g.D.Device.history (InHalf c.args.self.now.halves.geometry (other c.args.self.now.halves.current)) c.args.self.now.device c.write_whole.new.device c.write_whole.ensures.outside c.write_whole.ensures.any_moment
+returns-in-Err-clause-around g c = these_alone g.D.Device.history
+    (InHalf c.args.self.now.halves.geometry (other c.args.self.now.halves.current)) c.args.self.now.device c.write_whole.new.device
+    c.write_whole.ensures.outside c.write_whole.ensures.any_moment
