@@ -37,9 +37,9 @@ pub(crate) enum Copying {
 }
 
 /// Pops the records that wait, hands them in under the lock, writes them in groups, and publishes behind each group how far they are
-/// synced. Now and then it looks under the lock for records that the queue refused. Once two thirds of the slots of the log are open it takes
-/// an image, each chunk of it copied under the lock anew, some of them behind each group, and makes it current. Where nothing waits it sleeps
-/// until records are made, or for a short while. After want of memory it tries again.
+/// synced. Now and then it looks under the lock for records that the queue refused. As half the slots of the log are open it begins
+/// an image (`wants_image`), copies each chunk of it under the lock anew, some of them behind each group, and makes it current. Where
+/// nothing waits it sleeps until records are made, or for a short while. After want of memory it tries again.
 ///
 /// It ends where the stop flag is read, or with `DeviceFailed` where the device failed, now or earlier, stop flag or not. What is
 /// held or waits then is not written. A crash at any moment leaves all records that were synced as the loop began (`goes_on`), and
@@ -248,7 +248,7 @@ fn write<B: Group, D: Device, G: Gate, A: Memory>(
     Ok(reply == FlushReply::LogFull)
 }
 
-// Takes the next chunk of an image, or makes it current; or begins one, where it is wanted.
+// Takes the next chunk of an image, or makes it current; or begins one, where half the slots are open.
 fn copy<B: Group, D: Device, R: Wait, G: Gate, A: Memory>(
     rt: &R,
     shared: &Shared<B, A>,
