@@ -75,7 +75,6 @@ pub struct Waits {
     /// Rings where there is something to build, and where all are to stop.
     pub resting: Bell,
     pause_every: AtomicU64,
-    ended_runs: AtomicU64,
     // How many threads want the lock, that others wait for, and don't have it yet.
     wanting: AtomicU64,
 }
@@ -87,7 +86,6 @@ impl Waits {
             pushed: Bell::new(),
             resting: Bell::new(),
             pause_every: AtomicU64::new(PAUSE_EVERY),
-            ended_runs: AtomicU64::new(0),
             wanting: AtomicU64::new(0),
         }
     }
@@ -122,16 +120,5 @@ impl Waits {
     /// Whether a seat or the flusher wants the lock: the builder and the cleaner let it go first.
     pub fn is_lock_wanted(&self) -> bool {
         self.wanting.load(Ordering::SeqCst) > 0
-    }
-
-    /// How many runs of the loops have ended. The loops of one run end where this is no longer what it was as they began.
-    pub fn ended_runs(&self) -> u64 {
-        self.ended_runs.load(Ordering::SeqCst)
-    }
-
-    /// Ends the run of the loops, and wakes all that sleep.
-    pub fn end_run(&self) {
-        self.ended_runs.fetch_add(1, Ordering::SeqCst);
-        self.ring_all();
     }
 }

@@ -1,7 +1,9 @@
 -- The next commit is at the front of its seat's list.
-use Rattle.std.proofs.Common.{◌≡◌, ◌+◌, ◌<◌, ◌≤◌, ℕ, zero, suc, Bool, true, false, cond, eqb, eq-eqb, ne_eqb, List, [], ◌∷◌, ◌++◌, length, map, Option, None, Some, Result, Ok, Err, IfOk, Vec, take, drop, inl, inr, refl, sym, ap, ◌∙◌, subst, arith, append-nil}
+use Rattle.std.proofs.Common.{◌≡◌, ◌+◌, ◌<◌, ◌≤◌, ℕ, zero, suc, Bool, true, false, cond, eqb, eq-eqb, ne_eqb, List, [], ◌∷◌, ◌++◌, length, map, Option, None, Some, Result, Ok, Err, IfOk, IfNone, IfSome, Vec, inl, inr, refl, sym, ap, ◌∙◌, subst, arith, append-nil, vec_len}
 use Rattle.std.proofs.lemmas.Bool.{cases_eq, eqb-true}
-use Rattle.std.specs.Prelude.{slice_get, slice_index_or, slice_set}
+use Rattle.std.proofs.lemmas.List.{reverse-append}
+use Rattle.std.specs.Option.{option_to_list}
+use Rattle.std.specs.Prelude.{IsSome, reverse, slice_get, slice_index_or, slice_set}
 use Rattle.records.specs.declared.error.Error.{Error}
 use Rattle.register.specs.Register.{AreAllCommits, AreBySeats, AreNumbered, Commits, made_by}
 use Rattle.sessions.specs.Values.{CommitValue, SessionValue}
@@ -121,9 +123,9 @@ moved seats more number next lists gathered later commits a b c g =
 
 -- ---- the lists
 
-pub list_at : {A : Type 0} (lists : List (Vec CommitValue A)) (k : ℕ) (v : Vec CommitValue A) (l : List CommitValue) → v ≡ slice_index_or lists k v → slice_get (lists_of lists) k ≡ Some l → l ≡ v.items
+pub list_at : {A : Type 0} (lists : List (Vec CommitValue A)) (k : ℕ) (v : Vec CommitValue A) (l : List CommitValue) → v ≡ slice_index_or lists k v → slice_get (lists_of lists) k ≡ Some l → l ≡ reverse v.items
 list_at [] k v l e at = absurd cc
-list_at (x ∷ xs) zero v l e at = sym (some_is x.items l at) ∙ ap (λ (y : Vec CommitValue _). y.items) (sym e)
+list_at (x ∷ xs) zero v l e at = sym (some_is (reverse x.items) l at) ∙ ap (λ (y : Vec CommitValue _). reverse y.items) (sym e)
 list_at (x ∷ xs) (suc k) v l e at = list_at xs k v l e at
 
 pub list_within : {A : Type 0} (lists : List (Vec CommitValue A)) (k : ℕ) (l : List CommitValue) → slice_get (lists_of lists) k ≡ Some l → k < length lists
@@ -131,21 +133,45 @@ list_within [] k l at = absurd cc
 list_within (x ∷ xs) zero l at = omega arith
 list_within (x ∷ xs) (suc k) l at = let r = list_within xs k l at in omega (arith, r)
 
-split_front : (number : ℕ) (items rest : List CommitValue) (c : CommitValue) → heads_with number items ≡ true → c ≡ slice_index_or items 0 c → rest ≡ take 0 items ++ drop (0 + 1) items → (items ≡ c ∷ rest) × (c.ticket.commit ≡ Some number)
-split_front number [] rest c heads is left = absurd cc
-split_front number (x ∷ xs) rest c heads is left = ((λ i. sym is i ∷ sym left i), ap (λ (y : CommitValue). y.ticket.commit) is ∙ is_number number x.ticket.commit heads)
+-- what is at the end of a list is its next commit
+pub heads_last : (number : ℕ) (list rest : List CommitValue) (c : CommitValue) → list ≡ rest ++ c ∷ [] → is_numbered number c.ticket.commit ≡ heads_with number (reverse list)
+heads_last number list rest c is = sym (ap (λ l. heads_with number (reverse l)) is ∙ ap (heads_with number) (reverse-append rest (c ∷ [])))
 
-pub takes : {A : Type 0} (number k : ℕ) (lists : List (Vec CommitValue A)) (old new : Vec CommitValue A) (c : CommitValue) (list : List CommitValue) → slice_get (lists_of lists) k ≡ Some list → heads_with number list ≡ true
-    → old ≡ slice_index_or lists k old → c ≡ slice_index_or old.items 0 c → new.items ≡ take 0 old.items ++ drop (0 + 1) old.items → TakesFrom number c (lists_of lists) (lists_of (slice_set lists k new))
-takes number k lists old new c list there heads at is left =
-    let same : list ≡ old.items = list_at lists k old list at there in
-    let split = split_front number old.items new.items c (ap (heads_with number) (sym same) ∙ heads) is left in record {
-      k = k;
-      rest = new.items;
-      there = there ∙ ap Some (same ∙ split.0);
-      left = map_set (λ (v : Vec CommitValue _). v.items) lists k new;
-      numbered = split.1;
-    }
+pub heads_none : (number : ℕ) (list : List CommitValue) → length list ≡ 0 → false ≡ heads_with number (reverse list)
+heads_none number [] none = refl
+heads_none number (x ∷ xs) none = absurd (omega (arith, none))
+
+-- it is popped
+is_popped : (number : ℕ) (popped : Option CommitValue) (items rest : List CommitValue) → heads_with number (reverse items) ≡ true → items ≡ rest ++ option_to_list popped → (0 < length items → IsSome popped)
+    → (c : CommitValue) × (popped ≡ Some c) × (reverse items ≡ c ∷ reverse rest) × (c.ticket.commit ≡ Some number)
+is_popped number None [] rest heads is some = absurd cc
+is_popped number None (x ∷ xs) rest heads is some = let no : false ≡ true = some (omega arith) in absurd cc
+is_popped number (Some c) items rest heads is some =
+    let back : reverse items ≡ c ∷ reverse rest = ap reverse is ∙ reverse-append rest (c ∷ []) in
+    (c, refl, back, is_number number c.ticket.commit (sym (ap (heads_with number) back) ∙ heads))
+
+module _ {A : Type 0} (number k : ℕ) (lists : List (Vec CommitValue A)) (old new : Vec CommitValue A) (popped : Option CommitValue) (list : List CommitValue) (there : slice_get (lists_of lists) k ≡ Some list) (heads : heads_with number list ≡ true)
+    (at : old ≡ slice_index_or lists k old) (is : old.items ≡ new.items ++ option_to_list popped) (some : 0 < vec_len old → IsSome popped) where
+  same : list ≡ reverse old.items
+  same = list_at lists k old list at there
+
+  taken : (c : CommitValue) × (popped ≡ Some c) × (reverse old.items ≡ c ∷ reverse new.items) × (c.ticket.commit ≡ Some number)
+  taken = is_popped number popped old.items new.items (sym (ap (heads_with number) same) ∙ heads) is (λ (within : 0 < length old.items). some (subst (λ (n : ℕ). 0 < n) (sym old.ok.0) within))
+
+  takes : TakesFrom number taken.0 (lists_of lists) (lists_of (slice_set lists k new))
+  takes = record {
+    k = k;
+    rest = reverse new.items;
+    there = there ∙ ap Some (same ∙ taken.2);
+    left = map_set (λ (v : Vec CommitValue _). reverse v.items) lists k new;
+    numbered = taken.3;
+  }
+
+  pub takes_some : IfSome popped (λ commit. TakesFrom number commit (lists_of lists) (lists_of (slice_set lists k new)))
+  takes_some = subst (λ (r : Option CommitValue). IfSome r (λ commit. TakesFrom number commit (lists_of lists) (lists_of (slice_set lists k new)))) (sym taken.1) takes
+
+  pub takes_none : (Q : Type 0) → IfNone popped Q
+  takes_none Q = subst (λ (r : Option CommitValue). IfNone r Q) (sym taken.1) tt
 
 -- ---- the seats
 

@@ -1,5 +1,5 @@
 -- The commits of all seats, by number.
-use Rattle.std.specs.Prelude.{Bool, false, length, List, map, None, Option, slice_get, slice_set, Some, ℕ, [], ◌==◌, ◌∷◌, ◌≡◌}
+use Rattle.std.specs.Prelude.{Bool, false, length, List, map, None, Option, reverse, slice_get, slice_set, Some, ℕ, [], ◌==◌, ◌∷◌, ◌≡◌}
 use Rattle.std.specs.declared.vec.Vec.{Vec}
 use Rattle.register.specs.Register.{AreAllCommits}
 use Rattle.sessions.specs.Values.{CommitValue, SessionValue}
@@ -21,9 +21,9 @@ pub record AreCommitsOf (seats : List SeatValue) (commits : List CommitValue) : 
 
 -- ---- how they are gathered (no public clause cites these)
 
--- these vectors of commits, as lists
+-- the commits that are left in these vectors, each of which has the last commit first
 abbrev pub lists_of : {A : Type 0} → List (Vec CommitValue A) → List (List CommitValue)
-lists_of lists = map (λ v. v.items) lists
+lists_of lists = map (λ v. reverse v.items) lists
 
 -- the commits of each session
 abbrev pub commits_of : List SessionValue → List (List CommitValue)

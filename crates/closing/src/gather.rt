@@ -1,5 +1,5 @@
 //! The commits of all seats, by number.
-ghost use Rattle.std.specs.Prelude.{◌≡◌, ◌<◌, ℕ, List, false, true, length, map, IfErr, IfNone, IfOk, IfSome, Some, slice_get};
+ghost use Rattle.std.specs.Prelude.{◌≡◌, ◌<◌, ℕ, List, false, true, length, map, reverse, IfErr, IfNone, IfOk, IfSome, Some, slice_get};
 ghost use Rattle.records.specs.declared.error.Error.TheVariants.{NoMemory};
 ghost use Rattle.locked_core.specs.Locked.{locked_of};
 ghost use Rattle.register.specs.Register.{AreAllCommits};
@@ -23,17 +23,17 @@ fn is_numbered<A: Memory>(commit: &Commit<A>, number: u64) -> bool
     }
 }
 
-// Whether the first commit has this number.
+// Whether the next commit has this number. The next one is at the end, so that it is taken out in one step.
 fn heads<A: Memory>(list: &[Commit<A>], number: u64) -> bool
-    ensures { result ≡ heads_with number list.now }
+    ensures { result ≡ heads_with number (reverse list.now) }
 {
-    match list.first() {
-        Some(commit) => is_numbered(commit, number),
+    match list.split_last() {
+        Some((commit, _)) => is_numbered(commit, number),
         None => false,
     }
 }
 
-// The first list whose first commit has this number.
+// The first list whose next commit has this number.
 fn find_next<A: Memory>(lists: &[Vec<Commit<A>, A>], number: u64) -> Option<usize>
     ensures some { IfSome result (λ k. (list : List CommitValue) × (slice_get (lists_of lists.now) k ≡ Some list) × (heads_with number list ≡ true)) }
     ensures within { IfSome result (λ k. k < length lists.now) }
@@ -47,20 +47,17 @@ fn find_next<A: Memory>(lists: &[Vec<Commit<A>, A>], number: u64) -> Option<usiz
     None
 }
 
-// Takes the commit of this number, if it is the first of a list.
+// Takes the commit of this number, if it is the next of a list.
 fn take_next<A: Memory>(lists: &mut Vec<Vec<Commit<A>, A>, A>, number: u64) -> Option<Commit<A>>
     ensures some { IfSome result (λ commit. TakesFrom number commit (lists_of lists.old.items) (lists_of lists.new.items)) }
     ensures none { IfNone result ((k : ℕ) (list : List CommitValue) → slice_get (lists_of lists.old.items) k ≡ Some list → heads_with number list ≡ false) }
 {
     let k = find_next(lists, number)?;
     let list = &mut lists[k];
-    if list.is_empty() {
-        return None;
-    }
-    Some(list.remove(0))
+    list.pop()
 }
 
-// All commits, by number, of the lists of all sessions.
+// All commits, by number, of the lists of all sessions, each of which is taken from its end.
 fn gather<R: Wait, A: Memory>(
     rt: &R,
     alloc: A,
@@ -80,7 +77,7 @@ fn gather<R: Wait, A: Memory>(
     unreachable!()
 }
 
-// The commits of each seat.
+// The commits of each seat, the last one first.
 fn lists_of_seats<B: Group, A: Memory>(
     alloc: A,
     seats: Vec<Seat<B, A>, A>,
@@ -90,7 +87,9 @@ fn lists_of_seats<B: Group, A: Memory>(
 {
     let mut lists = Vec::with_capacity(alloc, seats.len())?;
     for seat in seats {
-        lists.push(seat.into_session().into_commits())?;
+        let mut commits = seat.into_session().into_commits();
+        commits.reverse();
+        lists.push(commits)?;
     }
     Ok(lists)
 }

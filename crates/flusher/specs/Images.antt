@@ -1,5 +1,5 @@
--- When an image is wanted, and which piece of it is due.
-use Rattle.std.specs.Prelude.{◌≡◌, ◌⊎◌, ◌-◌, ◌/◌, ◌≤◌, ◌<◌, ℕ, List, Option, Some, None, false}
+-- When an image begins, and which piece of it is due.
+use Rattle.std.specs.Prelude.{◌≡◌, ◌⊎◌, ◌/◌, ◌≤◌, ℕ, List, Option, Some, None, false}
 use Rattle.records.specs.declared.pair.Mark.{Mark}
 use Rattle.records.specs.declared.pair.Pair.{Pair}
 use Rattle.model.specs.Table.{Table}
@@ -13,9 +13,9 @@ use Rattle.store_writer.specs.declared.image.NewImage.{NewImage}
 use Rattle.store_writer.specs.declared.writer.Writer.{Writer}
 use Rattle.flusher.specs.Part.{FlushValue, last_handed, run_of}
 
--- two thirds of the slots of the current half's log are open, and one at least
-abbrev pub IsNearlyFull : {D A : Type 0} → Writer D A → Type 0
-IsNearlyFull w = (0 < (log_of w).open_slots) × ((halves_of w).geometry.slots - (halves_of w).geometry.slots / 3 ≤ (log_of w).open_slots)
+-- half the slots of the current half's log are open, where half of an odd number is rounded down
+abbrev pub IsHalfOpen : {D A : Type 0} → Writer D A → Type 0
+IsHalfOpen w = (halves_of w).geometry.slots / 2 ≤ (log_of w).open_slots
 
 -- an image is copied in steps and is at this place, or whole where there is none, unless a flush gave it up
 abbrev pub IsAt : (pages : ℕ) → Option CopyPlace → Option NewImage → Type 0

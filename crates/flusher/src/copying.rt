@@ -7,7 +7,7 @@ ghost use Rattle.nsf_core.specs.Outbox.{HandsOn};
 ghost use Rattle.store_writer.specs.Parts.{halves_of, has_failed, image_of};
 ghost use Rattle.store_writer.specs.Places.{IsAtPiece};
 ghost use Rattle.store_writer.specs.Writer.{IsChunk, MustStartAgain};
-ghost use Rattle.flusher.specs.Images.{IsPieceDue, IsNearlyFull, TakesNext};
+ghost use Rattle.flusher.specs.Images.{IsHalfOpen, IsPieceDue, TakesNext};
 
 use crate::part::FlushPart;
 use image_model::{Chunk, CopyPlace};
@@ -57,13 +57,12 @@ impl<B: Group, D: Device, A: Memory> FlushPart<B, D, A> {
         !self.held.is_empty()
     }
 
-    /// Whether two thirds of the slots of the current half's log are open, and one at least: an image is wanted, which empties it.
+    /// Whether half the slots of the current half's log are open: then an image begins, which empties it.
     pub fn wants_image(&self) -> bool
-        ensures { IsTrue result ↔ IsNearlyFull self.now.writer }
+        ensures begins { IsTrue result ↔ IsHalfOpen self.now.writer }
     {
-        let open = self.writer.open_slots();
         let slots = u64::from(self.writer.geometry().slots);
-        open > 0 && open >= slots - slots / 3
+        self.writer.open_slots() >= slots / 2
     }
 
     /// Pushes records that wait in the core to the queue, pops records that wait there, and hands in all that is held. No clause

@@ -79,8 +79,15 @@ impl<B: Group, D: Device, A: Memory> FlushPart<B, D, A> {
     ghost use Rattle.locked_core.specs.Locked.{locked_of};
     ghost use Rattle.flusher.specs.Part.{HasGot, IsFlusher, FlushLeaves, Publishes, last_handed, popped_by, run_of};
 
-    /// The part of a flusher that has popped nothing, with a writer over what was opened.
-    pub fn new(alloc: A, ends: FlushEnds<A>, writer: StoreWriter<D, A>) -> FlushPart<B, D, A>
+    /// The part of a flusher that has popped nothing, with a writer over what was opened. How far that is synced is published, so that
+    /// a ticket from before is known to be safe from the beginning.
+    pub fn new(
+        alloc: A,
+        board: &Board<A>,
+        ends: FlushEnds<A>,
+        writer: StoreWriter<D, A>,
+    ) -> FlushPart<B, D, A>
+        requires site { board.now ≡ B.site.board }
         requires popper { ends.popper ≡ record { queue = B.site.queue; records = [] } }
         requires board { ends.published.board ≡ B.site.board }
         requires writer { IsWriter D.history (opened_run (halves_of writer) B.site.opened.given.last (opening_cells B.site.opened.given)) B.site.opened.given.last writer }
@@ -89,9 +96,10 @@ impl<B: Group, D: Device, A: Memory> FlushPart<B, D, A> {
         requires fits { len B.site.opened.given.entries ≤ B.site.opened.places }
         requires horizon { ends.published.horizon ≤ synced_of writer }
         requires failed { ends.published.failed ≡ has_failed writer }
-        ensures { result ≡ record { handed = []; held = []; writer = writer; published = ends.published } }
+        ensures { result ≡ record { handed = []; held = []; writer = writer; published = count_of ends.published.board writer } }
     {
-        let FlushEnds { popper, view } = ends;
+        let FlushEnds { popper, mut view } = ends;
+        publish(board, &mut view, &writer);
         let last = writer.synced();
         FlushPart {
             alloc,

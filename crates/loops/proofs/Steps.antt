@@ -1,8 +1,8 @@
 -- What a step of the builder means to the loop.
-use Rattle.std.proofs.Common.{◌≡◌, ◌≢◌, ◌⊎◌, IfErr, IfOk, IfSome, is_some, Option, None, Some, ◌<◌, ◌≤◌, ℕ, Bool, true, false, nat_lt, refl, Result, Ok, Err, inl, inr, sym, subst, max, arith, ltb-true, ltb-false}
+use Rattle.std.proofs.Common.{◌≡◌, ◌≢◌, ◌⊎◌, IfErr, IfOk, IfSome, Option, None, Some, ◌<◌, ◌≤◌, ℕ, Bool, true, false, nat_lt, refl, Result, Ok, Err, inl, inr, sym, subst, max, arith, ltb-true, ltb-false}
 use Rattle.std.proofs.Math.Logic.{∥∥₁_map}
 use Rattle.records.specs.declared.error.Error.{Error}
-use Rattle.records.specs.declared.error.Error.TheVariants.{NoIndex, NoMemory, Stopped}
+use Rattle.records.specs.declared.error.Error.TheVariants.{IndexFull, NoIndex, NoMemory, Stopped}
 use Rattle.records.specs.declared.pair.Pair.{Pair}
 use Rattle.core_contracts.specs.Events.{Event, Refused}
 use Rattle.core_model.specs.Histories.{Opened}
@@ -58,10 +58,16 @@ ended_why o P (Err e) (inl stopped) = inl stopped.0
 ended_why o P (Err e) (inr refused) = inr (refused.0, refused.1 refl, refused.2)
 
 -- why a builder ended that is ended by the stop flag alone
-pub looked_why : {T : Type 0} (o : Opened) (P : Type 0) (run : Option ℕ) → run ≡ None → (result : Result T Error) → IfErr result (λ e. ((e ≡ Stopped) × (run ≡ None → P)) ⊎ ((e ≢ NoMemory) × (is_some run ≡ true → e ≢ NoIndex) × ∥ WasServed o Event.Build (Refused e) ∥₁)) → IfErr result (λ e. ((e ≡ Stopped) × P) ⊎ ((e ≢ NoMemory) × ∥ WasServed o Event.Build (Refused e) ∥₁))
-looked_why o P run none (Ok x) why = tt
-looked_why o P run none (Err e) (inl stopped) = inl (stopped.0, stopped.1 none)
-looked_why o P run none (Err e) (inr refused) = inr (refused.0, refused.2)
+pub looked_why : {T : Type 0} (o : Opened) (P : Type 0) (result : Result T Error) → IfErr result (λ e. ((e ≡ Stopped) × (false ≡ false → P)) ⊎ ((e ≢ NoMemory) × (false ≡ true → e ≢ NoIndex) × ∥ WasServed o Event.Build (Refused e) ∥₁)) → IfErr result (λ e. ((e ≡ Stopped) × P) ⊎ ((e ≢ NoMemory) × ∥ WasServed o Event.Build (Refused e) ∥₁))
+looked_why o P (Ok x) why = tt
+looked_why o P (Err e) (inl stopped) = inl (stopped.0, stopped.1 refl)
+looked_why o P (Err e) (inr refused) = inr (refused.0, refused.2)
+
+-- why a builder ended that is ended with its clients, and that waited for room or not
+pub told_why : (o : Opened) (P : Type 0) (is_full : Bool) (e : Error) → (is_full ≡ true → e ≡ IndexFull) → (is_full ≡ false → e ≡ Stopped) → (is_full ≡ true → ∥ WasServed o Event.Build (Refused IndexFull) ∥₁) → P → (in_run : Bool)
+    → ((e ≡ Stopped) × P) ⊎ ((e ≢ NoMemory) × (in_run ≡ true → e ≢ NoIndex) × ∥ WasServed o Event.Build (Refused e) ∥₁)
+told_why o P true e full not was p in_run = inr (subst (λ (x : Error). (x ≢ NoMemory) × (in_run ≡ true → x ≢ NoIndex) × ∥ WasServed o Event.Build (Refused x) ∥₁) (sym (full refl)) ((λ same. cc), (λ on same. cc), was refl))
+told_why o P false e full not was p in_run = inl (not refl, p)
 
 -- ---- one index behind another
 

@@ -1,7 +1,7 @@
 -- What a step of the builder means to the loop.
 use Rattle.std.specs.Prelude.{◌≡◌, ◌≢◌, ◌⊎◌, ◌<◌, ◌≤◌, Bool, true, ℕ, Result, Ok, Err, IfErr, IfOk}
 use Rattle.records.specs.declared.error.Error.{Error}
-use Rattle.records.specs.declared.error.Error.TheVariants.{NoIndex, NoMemory, Stopped}
+use Rattle.records.specs.declared.error.Error.TheVariants.{IndexFull, NoIndex, NoMemory, Stopped}
 use Rattle.records.specs.declared.pair.Pair.{Pair}
 use Rattle.core_contracts.specs.Events.{Built, Event, Refused, Reply}
 use Rattle.core_contracts.specs.Events as events
@@ -13,7 +13,7 @@ use Rattle.nsf_core.specs.declared.reply.BuildReply.TheVariants as reply
 use Rattle.shared.specs.Seats.{BuildValue}
 use Rattle.shared.specs.Served.{WasServed}
 use Rattle.loops.specs.declared.build.Outcome.{Outcome}
-use Rattle.loops.specs.declared.build.Outcome.TheVariants.{Done, Refused, Scanned, Attempted, Marked, Nothing}
+use Rattle.loops.specs.declared.build.Outcome.TheVariants.{Done, Refused, Scanned, Attempted, Marked, Full, Nothing}
 
 -- Some core that may lie under the lock replies so to a step of the builder, and has made so many attempts then.
 pub record HasStepped (o : Opened) (reply : Reply) (attempts : ℕ) : Type 0 where
@@ -39,13 +39,14 @@ pub record BuildsOn (o : Opened) (old : BuildValue) (result : Result Ticket Erro
   pub rises : old.progress ≤ new.progress
   pub attempted : old.progress < new.progress → ∥ HasAttempted o new.progress ∥₁
 
--- What a step means to a loop that waits for an index where there is none, or to one that doesn't: the loop ends where the step completed the
--- index, or where it was refused, but for want of memory, and for want of an index only where the loop doesn't wait for one. (No public clause
--- cites this.)
+-- What a step means to a loop that waits for an index where there is none and for room in it, or to one that doesn't: the loop ends where the
+-- step completed the index, or where it was refused, but for want of memory; and for want of an index, or of room, only where the loop doesn't
+-- wait for one. (No public clause cites this.)
 abbrev pub IsOutcome : (waits : Bool) → Outcome → Result BuildReply Error → Type 0
 IsOutcome waits (Done ticket) step = step ≡ Ok (reply.Done ticket)
 IsOutcome waits (Refused e) step = (step ≡ Err e) × (e ≢ NoMemory) × (waits ≡ true → e ≢ NoIndex)
 IsOutcome waits Attempted step = (pair : Pair) × ((step ≡ Ok (reply.Placed pair)) ⊎ (step ≡ Ok (reply.Rejected pair)))
 IsOutcome waits Scanned step = (page : ℕ) × (step ≡ Ok (reply.Scanned page))
 IsOutcome waits Marked step = (pair : Pair) × (ticket : Ticket) × (step ≡ Ok (reply.Marked pair ticket))
+IsOutcome waits Full step = (step ≡ Err IndexFull) × (waits ≡ true)
 IsOutcome waits Nothing step = (step ≡ Ok reply.Idle) ⊎ (step ≡ Err NoMemory) ⊎ ((step ≡ Err NoIndex) × (waits ≡ true))

@@ -1,6 +1,6 @@
 //! The loop that builds the index.
-ghost use Rattle.std.specs.Prelude.{◌≡◌, ◌≢◌, ◌⊎◌, ◌<◌, ◌≤◌, IsTrue, IfOk, IfErr, None, is_some, true};
-ghost use Rattle.records.specs.declared.error.Error.TheVariants.{NoIndex, NoMemory, Stopped};
+ghost use Rattle.std.specs.Prelude.{◌≡◌, ◌≢◌, ◌⊎◌, ◌<◌, ◌≤◌, IsTrue, IfOk, IfErr, false, true};
+ghost use Rattle.records.specs.declared.error.Error.TheVariants.{IndexFull, NoIndex, NoMemory, Stopped};
 ghost use Rattle.core_contracts.specs.Events.{Event, Refused};
 ghost use Rattle.nsf_core.specs.Builds.{built};
 ghost use Rattle.nsf_core.specs.Replies.{reply_by};
@@ -14,6 +14,7 @@ use nsf_core::{BuildReply, Ticket};
 use records::Error;
 use shared::{BuildPart, Group, GroupView, Memory, Shared};
 use std::sync::Wait;
+use std::sync::atomic::AtomicU64;
 
 /// What a step of the builder means to the loop.
 #[derive(Clone, Copy)]
@@ -28,6 +29,8 @@ pub(crate) enum Outcome {
     Attempted,
     /// A checkpoint was made.
     Marked,
+    /// There is no room in the index for the next pair.
+    Full,
     /// Nothing was done: the index was complete before, or there is none yet, or memory is wanting.
     Nothing,
 }
@@ -52,21 +55,23 @@ pub fn build_loop<B: Group, R: Wait, G: Gate, A: Memory>(
     ensures attempted { build.old.progress < build.new.progress → ∥ HasAttempted B.site.opened build.new.progress ∥₁ }
     ensures view { view.new ≡ record view.old { stopped = view.new.stopped } }
 {
-    build_until(rt, shared, build, view, gate, None)
+    build_until(rt, shared, build, view, gate, false, &AtomicU64::new(0))
 }
 
-/// The same, until the run ends, if it is in one. Then it also waits for an index where there is none.
+/// The same, until the run ends, if it is in one. Then it also waits for an index where there is none, and for room in a full one, since
+/// places that transactions reserved come back as they end. A run that ends while it waits for room is told as `IndexFull`.
 pub(crate) fn build_until<B: Group, R: Wait, G: Gate, A: Memory>(
     rt: &R,
     shared: &Shared<B, A>,
     build: &mut BuildPart<B>,
     view: &mut GroupView<B>,
     gate: &G,
-    run: Option<u64>,
+    in_run: bool,
+    ended: &AtomicU64,
 ) -> Result<Ticket, Error>
     ensures done { IfOk result (λ ticket. ∥ WasServed B.site.opened Event.Build (built (reply.Done ticket)) ∥₁) }
     ensures published { IfOk result (λ ticket. ∥ HasPublished B.site.opened ticket build.new.progress ∥₁) }
-    ensures why { IfErr result (λ e. ((e ≡ Stopped) × (run ≡ None → IsTrue view.new.stopped)) ⊎ ((e ≢ NoMemory) × (is_some run ≡ true → e ≢ NoIndex) × ∥ WasServed B.site.opened Event.Build (Refused e) ∥₁)) }
+    ensures why { IfErr result (λ e. ((e ≡ Stopped) × (in_run ≡ false → IsTrue view.new.stopped)) ⊎ ((e ≢ NoMemory) × (in_run ≡ true → e ≢ NoIndex) × ∥ WasServed B.site.opened Event.Build (Refused e) ∥₁)) }
     ensures rises { build.old.progress ≤ build.new.progress }
     ensures attempted { build.old.progress < build.new.progress → ∥ HasAttempted B.site.opened build.new.progress ∥₁ }
     ensures view { view.new ≡ record view.old { stopped = view.new.stopped } }
@@ -74,16 +79,18 @@ pub(crate) fn build_until<B: Group, R: Wait, G: Gate, A: Memory>(
     let bell = &shared.board().waits().resting;
     let mut rest = Rest::new();
     let mut steps = 0;
+    let mut is_full = false;
     for _ in rt.forever() {
         let rings = bell.rings();
-        if has_ended(shared, run) {
-            return Err(Error::Stopped);
+        if has_ended(in_run, ended) {
+            return Err(end_told(is_full));
         }
         if view.stopped(shared) {
             return Err(Error::Stopped);
         }
         let (step, attempts) = build_step(rt, shared);
-        match outcome_of(step, run.is_some()) {
+        is_full = false;
+        match outcome_of(step, in_run) {
             Outcome::Done(ticket) => {
                 build.raise_progress(shared, attempts);
                 return Ok(ticket);
@@ -99,13 +106,29 @@ pub(crate) fn build_until<B: Group, R: Wait, G: Gate, A: Memory>(
                 steps = leave_room(rt, shared, rings, steps);
             }
             Outcome::Marked => {}
+            Outcome::Full => {
+                is_full = true;
+                rest.sleep(rt, bell, rings);
+            }
             Outcome::Nothing => rest.sleep(rt, bell, rings),
         }
     }
     unreachable!()
 }
 
-// What this answer of a step means, to a loop that waits for an index where there is none, or to one that doesn't.
+// Why a run of the builder is told to have ended with its clients: because they ended, or for want of room that it waited for.
+fn end_told(is_full: bool) -> Error
+    ensures full { is_full ≡ true → result ≡ IndexFull }
+    ensures not { is_full ≡ false → result ≡ Stopped }
+{
+    if is_full {
+        Error::IndexFull
+    } else {
+        Error::Stopped
+    }
+}
+
+// What this answer of a step means, to a loop that waits for an index where there is none and for room in it, or to one that doesn't.
 fn outcome_of(step: Result<BuildReply, Error>, waits: bool) -> Outcome
     ensures { IsOutcome waits result step }
 {
@@ -118,6 +141,7 @@ fn outcome_of(step: Result<BuildReply, Error>, waits: bool) -> Outcome
         Ok(BuildReply::Idle) => Outcome::Nothing,
         Err(Error::NoMemory) => Outcome::Nothing,
         Err(Error::NoIndex) if waits => Outcome::Nothing,
+        Err(Error::IndexFull) if waits => Outcome::Full,
         Err(error) => Outcome::Refused(error),
     }
 }

@@ -1,5 +1,5 @@
 //! The loop that cleans the index.
-ghost use Rattle.std.specs.Prelude.{◌≡◌, None, true};
+ghost use Rattle.std.specs.Prelude.{◌≡◌, false, true};
 ghost use Rattle.core_contracts.specs.Events.{Event};
 ghost use Rattle.nsf_core.specs.Cleaning.{cleaner};
 ghost use Rattle.nsf_core.specs.Replies.{reply_by};
@@ -11,6 +11,7 @@ use nsf_core::CleanReply;
 use records::Error;
 use shared::{Group, GroupView, Memory, Shared};
 use std::sync::Wait;
+use std::sync::atomic::AtomicU64;
 
 /// Makes steps of the cleaner, each under the lock anew, until the stop flag is read. What is refused it passes over. After some
 /// steps that removed nothing it leaves room for the others by a pause, and behind a round through the index that removed nothing it
@@ -23,7 +24,7 @@ pub fn clean_loop<B: Group, R: Wait, G: Gate, A: Memory>(
 )
     ensures { view.new ≡ record view.old { stopped = true } }
 {
-    clean_until(rt, shared, view, gate, None);
+    clean_until(rt, shared, view, gate, false, &AtomicU64::new(0));
 }
 
 /// The same, until the run ends, if it is in one.
@@ -32,17 +33,18 @@ pub(crate) fn clean_until<B: Group, R: Wait, G: Gate, A: Memory>(
     shared: &Shared<B, A>,
     view: &mut GroupView<B>,
     gate: &G,
-    run: Option<u64>,
+    in_run: bool,
+    ended: &AtomicU64,
 )
     ensures view { view.new ≡ record view.old { stopped = view.new.stopped } }
-    ensures stopped { run ≡ None → view.new.stopped ≡ true }
+    ensures stopped { in_run ≡ false → view.new.stopped ≡ true }
 {
     let bell = &shared.board().waits().resting;
     let mut rest = Rest::new();
     let mut steps = 0;
     for _ in rt.forever() {
         let rings = bell.rings();
-        if has_ended(shared, run) {
+        if has_ended(in_run, ended) {
             return;
         }
         let is_stopped = view.stopped(shared);

@@ -1,5 +1,5 @@
 //! The loop that writes the records and takes images.
-ghost use Rattle.std.specs.Prelude.{◌≡◌, ◌<◌, ◌≤◌, ◌-◌, ◌*◌, ◌/◌, true, false, IsTrue, None, OnOk, IfOk, IfErr};
+ghost use Rattle.std.specs.Prelude.{◌≡◌, ◌<◌, ◌≤◌, ◌-◌, ◌*◌, ◌/◌, true, false, IsTrue, OnOk, IfOk, IfErr};
 ghost use Rattle.records.specs.declared.error.Error.TheVariants.{DeviceFailed};
 ghost use Rattle.store_writer.specs.Parts.{halves_of, has_failed, image_of};
 ghost use Rattle.store_writer.specs.Places.{IsAtPiece};
@@ -19,6 +19,7 @@ use records::{Error, Geometry};
 use sector_device::Device;
 use shared::{Group, GroupView, Memory, Shared};
 use std::sync::Wait;
+use std::sync::atomic::AtomicU64;
 use store_writer::{FlipReply, FlushReply, StepReply, kept_place};
 
 // After so many rounds the lock is taken though no record was popped: one that the queue refused may wait in the core, and nobody
@@ -37,9 +38,9 @@ pub(crate) enum Copying {
 }
 
 /// Pops the records that wait, hands them in under the lock, writes them in groups, and publishes behind each group how far they are
-/// synced. Now and then it looks under the lock for records that the queue refused. Once two thirds of the slots of the log are open it takes
-/// an image, each chunk of it copied under the lock anew, some of them behind each group, and makes it current. Where nothing waits it sleeps
-/// until records are made, or for a short while. After want of memory it tries again.
+/// synced. Now and then it looks under the lock for records that the queue refused. As half the slots of the log are open it begins
+/// an image (`wants_image`), copies each chunk of it under the lock anew, some of them behind each group, and makes it current. Where
+/// nothing waits it sleeps until records are made, or for a short while. After want of memory it tries again.
 ///
 /// It ends where the stop flag is read, or with `DeviceFailed` where the device failed, now or earlier, stop flag or not. What is
 /// held or waits then is not written. A crash at any moment leaves all records that were synced as the loop began (`goes_on`), and
@@ -57,7 +58,7 @@ pub fn flush_loop<B: Group, D: Device, R: Wait, G: Gate, A: Memory>(
     ensures failed { IfErr result (λ e. (e ≡ DeviceFailed) × (has_failed part.new.writer ≡ true)) }
     ensures view { view.new ≡ record view.old { stopped = view.new.stopped } }
 {
-    flush_until(rt, shared, part, view, gate, None)
+    flush_until(rt, shared, part, view, gate, false, &AtomicU64::new(0))
 }
 
 /// The same, until the run ends, if it is in one.
@@ -67,11 +68,12 @@ pub(crate) fn flush_until<B: Group, D: Device, R: Wait, G: Gate, A: Memory>(
     part: &mut FlushPart<B, D, A>,
     view: &mut GroupView<B>,
     gate: &G,
-    run: Option<u64>,
+    in_run: bool,
+    ended: &AtomicU64,
 ) -> Result<(), Error>
     ensures goes_on { GoesOn D.history D.failures B.site.opened part.old part.new }
     ensures through { RunsThrough D.history D.failures B.site.opened part.old part.new }
-    ensures stopped { OnOk result ((run ≡ None → IsTrue view.new.stopped) × (has_failed part.new.writer ≡ false)) }
+    ensures stopped { OnOk result ((in_run ≡ false → IsTrue view.new.stopped) × (has_failed part.new.writer ≡ false)) }
     ensures failed { IfErr result (λ e. (e ≡ DeviceFailed) × (has_failed part.new.writer ≡ true)) }
     ensures view { view.new ≡ record view.old { stopped = view.new.stopped } }
 {
@@ -86,7 +88,7 @@ pub(crate) fn flush_until<B: Group, D: Device, R: Wait, G: Gate, A: Memory>(
             return Err(Error::DeviceFailed);
         }
         let rings = bell.rings();
-        if has_ended(shared, run) {
+        if has_ended(in_run, ended) {
             return Ok(());
         }
         if view.stopped(shared) {
@@ -248,7 +250,7 @@ fn write<B: Group, D: Device, G: Gate, A: Memory>(
     Ok(reply == FlushReply::LogFull)
 }
 
-// Takes the next chunk of an image, or makes it current; or begins one, where it is wanted.
+// Takes the next chunk of an image, or makes it current; or begins one, where half the slots are open.
 fn copy<B: Group, D: Device, R: Wait, G: Gate, A: Memory>(
     rt: &R,
     shared: &Shared<B, A>,

@@ -1,9 +1,10 @@
 //! How the loops sleep while there is nothing for them to do. No contract rests on it.
-ghost use Rattle.std.specs.Prelude.{◌≡◌, None, false};
+ghost use Rattle.std.specs.Prelude.{◌≡◌, false};
 
 use board::Bell;
 use shared::{Group, Memory, Shared};
 use std::sync::Wait;
+use std::sync::atomic::{AtomicU64, Ordering};
 use std::thread;
 use std::time::Duration;
 
@@ -130,12 +131,9 @@ pub(crate) fn pause_cleaner<R: Wait>(rt: &R, bell: &Bell, rings: u64, steps: u32
     0
 }
 
-/// Whether the run has ended in which a loop was begun, if it was begun in one.
-pub(crate) fn has_ended<B: Group, A: Memory>(shared: &Shared<B, A>, run: Option<u64>) -> bool
-    ensures { run ≡ None → result ≡ false }
+/// Whether the run has ended that a loop is in, if it is in one.
+pub(crate) fn has_ended(in_run: bool, ended: &AtomicU64) -> bool
+    ensures { in_run ≡ false → result ≡ false }
 {
-    match run {
-        Some(number) => shared.board().waits().ended_runs() != number,
-        None => false,
-    }
+    in_run && ended.load(Ordering::SeqCst) > 0
 }

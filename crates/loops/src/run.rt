@@ -16,6 +16,7 @@ use records::Error;
 use sector_device::Device;
 use shared::{BuildPart, Group, GroupView, Seat, Shared};
 use std::sync::Wait;
+use std::sync::atomic::{AtomicU64, Ordering};
 use std::thread::{Threads, join};
 
 /// What is left of the loops, and what the clients returned.
@@ -30,7 +31,8 @@ pub struct Ended<B: Group, D: Device, X> {
     /// How the flusher ended.
     pub flushed: Result<(), Error>,
     /// The ticket of an index that a core which may lie under the lock completed meanwhile, of several that of the last one; else why
-    /// none was, which is `Stopped` where the clients ended first or there was nothing to build. A later build that was refused is told
+    /// none was, which is `Stopped` where the clients ended first or there was nothing to build, and `IndexFull` where they ended while there
+    /// was no room for the next pair. A later build that was refused is told
     /// in its place. (No clause says that the ticket is the last one, or that no later build was refused.)
     pub built: Result<Ticket, Error>,
 }
@@ -39,11 +41,12 @@ pub struct Ended<B: Group, D: Device, X> {
 /// three, and waits for that. With what comes back it may be called again.
 ///
 /// Of the board the seat has seen no more than before, and its view may have another name (`seen`). Flusher and builder end as
-/// `flush_loop` and `build_loop` do, or with the clients; and that there is no index is no reason to end (`builder`).
+/// `flush_loop` and `build_loop` do, or with the clients; and that there is no index is no reason to end (`builder`). Nobody but this call
+/// can end the run.
 ///
-/// Not proved: that a loop makes a step and that the call returns; that a build under way is carried on, and each that a client begins, also where it dropped an index that was complete;
-/// that the builder waits where the index is complete or there is none; and that a refusal other than for want of memory, as where the
-/// index is full, ends it, so that what is to be built then waits for the next run.
+/// Not proved: that a loop makes a step and that the call returns; that a build under way is carried on, and each that a client begins,
+/// also where it dropped an index that was complete; that the builder waits where the index is complete or there is none, and tries again
+/// where the index is full; and that another refusal ends it, so that what is to be built then waits for the next run.
 pub fn run_beside<
     B: Group + Send + Sync,
     D: Device + Send + Drop,
@@ -71,18 +74,19 @@ pub fn run_beside<
     ensures failed { IfErr result.flushed (λ e. (e ≡ DeviceFailed) × (has_failed result.flush.writer ≡ true)) }
     ensures builder { BuildsOn B.site.opened build result.built result.build }
 {
-    let run = shared.board().waits().ended_runs();
+    let has_ended = AtomicU64::new(0);
+    let ended = &has_ended;
     let flush_view = shared.another_view(&mut seat);
     let clean_view = shared.another_view(&mut seat);
     let build_view = shared.another_view(&mut seat);
     let (flushing, building) = join(
         rt,
-        move || flush_until_end(rt, shared, flush, flush_view, gate, run),
+        move || flush_until_end(rt, shared, flush, flush_view, gate, ended),
         move ||
             requires clients { F.pre clients }
         {
             clean_beside(
-                rt, shared, build, clean_view, build_view, gate, run, clients,
+                rt, shared, build, clean_view, build_view, gate, ended, clients,
             )
         },
     );
@@ -117,14 +121,14 @@ fn flush_until_end<B: Group, D: Device, R: Wait, G: Gate>(
     mut flush: FlushPart<B, D>,
     mut view: GroupView<B>,
     gate: &G,
-    run: u64,
+    ended: &AtomicU64,
 ) -> Flushed<B, D>
     ensures goes_on { GoesOn D.history D.failures B.site.opened flush result.flush }
     ensures through { RunsThrough D.history D.failures B.site.opened flush result.flush }
     ensures sound { OnOk result.ended (has_failed result.flush.writer ≡ false) }
     ensures failed { IfErr result.ended (λ e. (e ≡ DeviceFailed) × (has_failed result.flush.writer ≡ true)) }
 {
-    let ended = flush_until(rt, shared, &mut flush, &mut view, gate, Some(run));
+    let ended = flush_until(rt, shared, &mut flush, &mut view, gate, true, ended);
     Flushed { flush, ended }
 }
 
@@ -149,7 +153,7 @@ fn clean_beside<
     clean_view: GroupView<B>,
     build_view: GroupView<B>,
     gate: &G,
-    run: u64,
+    ended: &AtomicU64,
     clients: F,
 ) -> Built<B, X>
     requires clients { F.pre clients }
@@ -158,10 +162,10 @@ fn clean_beside<
 {
     let (_, building) = join(
         rt,
-        move || clean_until_end(rt, shared, clean_view, gate, run),
+        move || clean_until_end(rt, shared, clean_view, gate, ended),
         move ||
             requires clients { F.pre clients }
-        { build_beside(rt, shared, build, build_view, gate, run, clients) },
+        { build_beside(rt, shared, build, build_view, gate, ended, clients) },
     );
     building
 }
@@ -171,9 +175,9 @@ fn clean_until_end<B: Group, R: Wait, G: Gate>(
     shared: &Shared<B>,
     mut view: GroupView<B>,
     gate: &G,
-    run: u64,
+    ended: &AtomicU64,
 ) {
-    clean_until(rt, shared, &mut view, gate, Some(run));
+    clean_until(rt, shared, &mut view, gate, true, ended);
 }
 
 // Runs the builder beside the clients, which end the run.
@@ -189,7 +193,7 @@ fn build_beside<
     build: BuildPart<B>,
     view: GroupView<B>,
     gate: &G,
-    run: u64,
+    ended: &AtomicU64,
     clients: F,
 ) -> Built<B, X>
     requires clients { F.pre clients }
@@ -198,11 +202,11 @@ fn build_beside<
 {
     let (building, clients) = join(
         rt,
-        move || build_until_end(rt, shared, build, view, gate, run),
+        move || build_until_end(rt, shared, build, view, gate, ended),
         move || -> X
             requires { F.pre clients }
             ensures { F.post clients result }
-        { call_and_end(shared, clients) },
+        { call_and_end(shared, ended, clients) },
     );
     let Building { build, ended } = building;
     Built {
@@ -213,12 +217,17 @@ fn build_beside<
 }
 
 // What the clients return. Behind that the run ends.
-fn call_and_end<B: Group, X, F: FnOnce() -> X>(shared: &Shared<B>, clients: F) -> X
+fn call_and_end<B: Group, X, F: FnOnce() -> X>(
+    shared: &Shared<B>,
+    ended: &AtomicU64,
+    clients: F,
+) -> X
     requires { F.pre clients }
     ensures { F.post clients result }
 {
     let returned = clients();
-    shared.board().waits().end_run();
+    ended.store(1, Ordering::SeqCst);
+    shared.board().waits().ring_all();
     returned
 }
 
@@ -234,13 +243,13 @@ fn build_until_end<B: Group, R: Wait, G: Gate>(
     mut build: BuildPart<B>,
     mut view: GroupView<B>,
     gate: &G,
-    run: u64,
+    ended: &AtomicU64,
 ) -> Building<B>
     ensures { BuildsOn B.site.opened build result.ended result.build }
 {
     let mut completed = None;
     for _ in rt.forever() {
-        match build_until(rt, shared, &mut build, &mut view, gate, Some(run)) {
+        match build_until(rt, shared, &mut build, &mut view, gate, true, ended) {
             Ok(ticket) => completed = Some(ticket),
             Err(error) => {
                 let ended = end_of(completed, error);

@@ -46,12 +46,12 @@ IsOpenable image = ∥ OpensSoundly image ∥₁
 abbrev pub StaysOpenable : Disk → Type 0
 StaysOpenable disk = (image : Image) → IsCrashImage disk image → IsOpenable image
 
--- A flusher's part that has popped nothing: all that was opened is synced, and the device has not failed. No slot of the log is open,
--- and no image is under way.
+-- A flusher's part that has popped nothing: all that was opened is synced, and is published so, and the device has not failed. No slot
+-- of the log is open, and no image is under way.
 pub record IsNewFlusher {D A : Type 0} (board : TableId) (o : Opened) (f : FlushValue D A) : Type 0 where
   pub handed : f.handed ≡ []
   pub held : f.held ≡ []
-  pub published : f.published ≡ record { board = board; horizon = 0; failed = false }
+  pub published : f.published ≡ record { board = board; horizon = o.given.last; failed = false }
   pub synced : synced_of f.writer ≡ o.given.last
   pub sound : has_failed f.writer ≡ false
   pub empty : (log_of f.writer).open_slots ≡ 0

@@ -53,7 +53,8 @@ pub fn open_store<D: Device, A: Memory>(
 
 impl<D: Device, A: Memory> OpenStore<D, A> {
     /// What the threads share, and what each of them has: new seats, each at its number; the part of the flusher, which has popped
-    /// nothing, over the device with all of it synced, an empty log and no image under way; and the builder's part.
+    /// nothing, over the device with all of it synced, an empty log and no image under way; and the builder's part. The board begins
+    /// at what is synced.
     ///
     /// The one error is `NoMemory`, and the device is given back then, as it is.
     pub fn start<B: Group>(self) -> Result<(Shared<B, A>, Parts<B, D, A>), (Error, D)>
@@ -73,7 +74,7 @@ impl<D: Device, A: Memory> OpenStore<D, A> {
         match opening.start::<B>() {
             Ok((shared, parts)) => {
                 let shared::Parts { seats, ends, build } = parts;
-                let flush = FlushPart::new(alloc, ends, writer);
+                let flush = FlushPart::new(alloc, shared.board(), ends, writer);
                 Ok((
                     shared,
                     Parts {

@@ -1,4 +1,4 @@
-//! The calls of a seat that make one step of the core, or read it.
+//! The calls of a seat that make one step of the core, or read it. Each pushes first what the queue had refused.
 ghost use Rattle.std.specs.Prelude.{◌≡◌, Err, IfOk, OnErr, Option, Some, false, true, ℕ};
 ghost use Rattle.records.specs.declared.error.Error.TheVariants.{NoSuchTxn};
 ghost use Rattle.records.specs.declared.row.Row.{Row as RowValue};
@@ -99,6 +99,7 @@ impl<B: Group, A: Memory> Shared<B, A> {
     {
         let mut guard = self.hold(rt);
         let locked = &mut *guard;
+        locked.push_outbox(rt, &self.queue);
         locked.compare_seat(&self.registry, &mut seat.part);
         locked.get(rid)
     }
@@ -109,7 +110,8 @@ impl<B: Group, A: Memory> Shared<B, A> {
     pub fn find<R: Wait>(&self, rt: &R, key: Key) -> Result<Vec<Rid, A>, Error>
         ensures { ∥ WasServed B.site.opened (Event.Find key) (reply_by (λ rids. Reply.Found rids.items) result) ∥₁ }
     {
-        let locked = self.hold(rt);
+        let mut locked = self.hold(rt);
+        locked.push_outbox(rt, &self.queue);
         locked.find(key)
     }
 
@@ -117,7 +119,8 @@ impl<B: Group, A: Memory> Shared<B, A> {
     pub fn life<R: Wait>(&self, rt: &R) -> Life
         ensures { ∥ WasServed B.site.opened Event.Life (Reply.LifeIs result) ∥₁ }
     {
-        let locked = self.hold(rt);
+        let mut locked = self.hold(rt);
+        locked.push_outbox(rt, &self.queue);
         locked.life()
     }
 }

@@ -33,11 +33,6 @@ pub struct Shared<B: Group, A: Memory = Global> {
 }
 
 impl<B: Group, A: Memory> Shared<B, A> {
-    /// The lock with what lies under it, for the threads that take no seat.
-    pub fn locked(&self) -> &Mutex<Locked<B, A>> {
-        &self.locked
-    }
-
     /// The queue of records to the flusher.
     pub fn queue(&self) -> &RecordQueue<A>
         ensures { result.now ≡ B.site.queue }
