@@ -5,3 +5,4 @@ mod Taking
 mod Pieces
 mod Tables
 mod Ending
+pub mod Orders

@@ -3,13 +3,16 @@ ghost use Rattle.std.specs.Prelude.{◌≡◌};
 
 use nsf_core::Ticket;
 use records::{Body, Error, Key, Rid, Txn};
+use refused_memory::Refusing;
 use shared::{Change, Group, Memory, Seat, Shared};
+use std::alloc::Global;
 use std::sync::Wait;
 
 /// A request for the transaction that began last, and for the row that was inserted last.
 #[derive(Clone, Copy)]
 pub(crate) enum Request {
     Create,
+    Drop,
     Begin,
     Insert(&'static [u8]),
     Update(&'static [u8]),
@@ -18,7 +21,8 @@ pub(crate) enum Request {
     Commit,
 }
 
-/// What a seat answers: the number of a record and that of a commit, the number of a transaction, or the place of a row.
+/// What a seat answers: the number of a record and that of a commit, the number of a transaction, or the place of a row. A want of
+/// memory where no allocation was refused is an answer of its own, which is never right.
 #[derive(Clone, Copy, PartialEq)]
 pub(crate) enum Answer {
     Written(u64, Option<u64>),
@@ -26,6 +30,7 @@ pub(crate) enum Answer {
     Changed(Rid),
     Ended,
     Refused(Error),
+    WantsNothing,
 }
 
 /// The transaction that began last, and the place of the row that was inserted last.
@@ -60,11 +65,14 @@ fn written(ticket: Ticket) -> Answer {
     Answer::Written(ticket.record.get(), ticket.commit)
 }
 
-// The place of a change that was begun. One that found no memory for a later step is carried on.
+// The place of a change that was begun. One that found no memory for a later step is carried on, where an allocation was refused
+// since so many were.
 fn carried<B: Group, A: Memory, R: Wait>(
     rt: &R,
     shared: &Shared<B, A>,
     seat: &mut Seat<B, A>,
+    memory: &Refusing<Global>,
+    refused: u64,
     txn: Txn,
     change: Change,
 ) -> Result<Answer, Error>
@@ -73,6 +81,9 @@ fn carried<B: Group, A: Memory, R: Wait>(
     match change.rest {
         None => Ok(Answer::Changed(change.rid)),
         Some(Error::NoMemory) => {
+            if memory.refused() == refused {
+                return Ok(Answer::WantsNothing);
+            }
             shared.carry_on(rt, seat, txn)?;
             Ok(Answer::Changed(change.rid))
         }
@@ -110,13 +121,16 @@ fn ask<B: Group, A: Memory, R: Wait>(
     rt: &R,
     shared: &Shared<B, A>,
     seat: &mut Seat<B, A>,
+    memory: &Refusing<Global>,
     last: &mut Last,
     request: Request,
 ) -> Result<Answer, Error>
     ensures { seat.new.number ≡ seat.old.number }
 {
+    let refused = memory.refused();
     match request {
         Request::Create => Ok(written(shared.create_index(rt, seat)?)),
+        Request::Drop => Ok(written(shared.drop_index(rt, seat)?)),
         Request::Begin => {
             let txn = shared.begin(rt, seat)?;
             last.txn = Some(txn);
@@ -129,7 +143,7 @@ fn ask<B: Group, A: Memory, R: Wait>(
         Request::Commit => Ok(written(shared.commit_if_ready(rt, seat, last.begun()?)?)),
         _ => {
             let change = make_change(rt, shared, seat, last, request)?;
-            carried(rt, shared, seat, last.begun()?, change)
+            carried(rt, shared, seat, memory, refused, last.begun()?, change)
         }
     }
 }
@@ -142,18 +156,21 @@ fn told(answered: Result<Answer, Error>) -> Answer {
     }
 }
 
-/// What a seat answers to a request, which is made once more where memory was refused.
+/// What a seat answers to a request, which is made once more where it wants memory and an allocation was refused.
 pub(crate) fn ask_again<B: Group, A: Memory, R: Wait>(
     rt: &R,
     shared: &Shared<B, A>,
     seat: &mut Seat<B, A>,
+    memory: &Refusing<Global>,
     last: &mut Last,
     request: Request,
 ) -> Answer
     ensures { seat.new.number ≡ seat.old.number }
 {
-    match ask(rt, shared, seat, last, request) {
-        Err(Error::NoMemory) => told(ask(rt, shared, seat, last, request)),
+    let refused = memory.refused();
+    match ask(rt, shared, seat, memory, last, request) {
+        Err(Error::NoMemory) if memory.refused() == refused => Answer::WantsNothing,
+        Err(Error::NoMemory) => told(ask(rt, shared, seat, memory, last, request)),
         answered => told(answered),
     }
 }

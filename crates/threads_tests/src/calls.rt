@@ -1,4 +1,6 @@
-//! The calls of a seat that have long contracts, each with the test before it. Nothing is promised of them here.
+//! The calls of a seat that have long contracts, each with the test before it. That the seat keeps its number is all that is promised here.
+ghost use Rattle.std.specs.Prelude.{◌≡◌};
+
 use demonstration::key_of;
 use nsf_core::Ticket;
 use records::{Body, Error, Rid, Txn};
@@ -9,7 +11,9 @@ pub fn begin<B: Group, R: Wait>(
     rt: &R,
     shared: &Shared<B>,
     seat: &mut Seat<B>,
-) -> Result<Txn, Error> {
+) -> Result<Txn, Error>
+    ensures { seat.new.number ≡ seat.old.number }
+{
     shared.begin(rt, seat)
 }
 
@@ -21,7 +25,9 @@ pub fn insert<B: Group, R: Wait>(
     txn: Txn,
     first: u16,
     second: u16,
-) -> Result<Rid, Error> {
+) -> Result<Rid, Error>
+    ensures { seat.new.number ≡ seat.old.number }
+{
     if !seat.ready(txn) {
         return Err(Error::NoSuchTxn);
     }
@@ -38,7 +44,9 @@ pub fn delete<B: Group, R: Wait>(
     seat: &mut Seat<B>,
     txn: Txn,
     rid: Rid,
-) -> Result<(), Error> {
+) -> Result<(), Error>
+    ensures { seat.new.number ≡ seat.old.number }
+{
     if !seat.ready(txn) {
         return Err(Error::NoSuchTxn);
     }
@@ -48,12 +56,25 @@ pub fn delete<B: Group, R: Wait>(
     }
 }
 
+pub fn abort<B: Group, R: Wait>(
+    rt: &R,
+    shared: &Shared<B>,
+    seat: &mut Seat<B>,
+    txn: Txn,
+) -> Result<(), Error>
+    ensures { seat.new.number ≡ seat.old.number }
+{
+    shared.abort(rt, seat, txn)
+}
+
 pub fn commit<B: Group, R: Wait>(
     rt: &R,
     shared: &Shared<B>,
     seat: &mut Seat<B>,
     txn: Txn,
-) -> Result<Ticket, Error> {
+) -> Result<Ticket, Error>
+    ensures { seat.new.number ≡ seat.old.number }
+{
     if !seat.ready(txn) {
         return Err(Error::NoSuchTxn);
     }
@@ -65,9 +86,62 @@ pub fn await_ack<B: Group, R: Wait>(
     shared: &Shared<B>,
     seat: &mut Seat<B>,
     ticket: &Ticket,
-) -> Result<(), Error> {
+) -> Result<(), Error>
+    ensures { seat.new.number ≡ seat.old.number }
+{
     match shared.await_ack(rt, seat, *ticket) {
         Ok(_) => Ok(()),
         Err(error) => Err(error),
     }
+}
+
+pub fn is_acked<B: Group>(shared: &Shared<B>, seat: &mut Seat<B>, ticket: &Ticket) -> bool
+    ensures { seat.new.number ≡ seat.old.number }
+{
+    shared.is_acked(seat, *ticket)
+}
+
+/// Whether the device has failed.
+pub fn has_failed<B: Group>(shared: &Shared<B>, seat: &mut Seat<B>) -> bool
+    ensures { seat.new.number ≡ seat.old.number }
+{
+    shared.another_view(seat).failed(shared)
+}
+
+/// Whether the row at the place has the key of these two numbers.
+pub fn reads<B: Group, R: Wait>(
+    rt: &R,
+    shared: &Shared<B>,
+    seat: &mut Seat<B>,
+    rid: Rid,
+    first: u16,
+    second: u16,
+) -> Result<bool, Error>
+    ensures { seat.new.number ≡ seat.old.number }
+{
+    let key = key_of(first, second)?;
+    match shared.get(rt, seat, rid) {
+        Some(row) => Ok(row.key == key),
+        None => Ok(false),
+    }
+}
+
+/// Drops the index, and creates another one.
+pub fn make_anew<B: Group, R: Wait>(
+    rt: &R,
+    shared: &Shared<B>,
+    seat: &mut Seat<B>,
+) -> Result<(), Error>
+    ensures { seat.new.number ≡ seat.old.number }
+{
+    shared.drop_index(rt, seat)?;
+    shared.create_index(rt, seat)?;
+    Ok(())
+}
+
+/// How many attempts the builder has told of.
+pub fn progress<B: Group>(shared: &Shared<B>, seat: &mut Seat<B>) -> u64
+    ensures { seat.new.number ≡ seat.old.number }
+{
+    shared.progress(seat)
 }

@@ -1,6 +1,6 @@
 //! What is found behind a crash.
 use crate::example::formatted;
-use crate::seats::Kept;
+use crate::seats::{Put, Told};
 use demonstration::key_of;
 use nsf_core::Core;
 use records::{ENTRIES_MAX, Error, Geometry, Key, Mark, Rid};
@@ -47,30 +47,50 @@ fn has_row(core: &Core<Global>, rid: Rid, key: &Key) -> bool {
     }
 }
 
-// How many of the rows are not there.
-fn count_lost(core: &Core<Global>, kept: &[Kept]) -> Result<u32, Error> {
-    let mut lost: u32 = 0;
-    for row in kept {
-        let there = has_row(core, row.rid, &key_of(row.first, row.second)?);
-        lost = lost.saturating_add(u32::from(!there));
+// How many of the rows are there.
+fn count_there(core: &Core<Global>, rows: &[Put]) -> Result<u32, Error> {
+    let mut there: u32 = 0;
+    for row in rows {
+        let key = key_of(row.first, row.second)?;
+        there = there.saturating_add(u32::from(has_row(core, row.rid, &key)));
     }
-    Ok(lost)
+    Ok(there)
 }
 
-// How many of the rows are not there where the store on the device is opened, and how many marked entries are there.
-fn look<D: Device + Drop>(alloc: Global, device: D, kept: &[Kept]) -> Result<(u32, u32), Error> {
+/// What a restart finds: how many rows are lost that were told to be safe, how many are there that were told to be gone, and how many
+/// marked entries there are.
+#[derive(Debug, Drop, PartialEq)]
+pub struct Behind {
+    pub lost: u32,
+    pub back: u32,
+    pub marked: u32,
+}
+
+// How many rows were told to be safe.
+fn count_kept(told: &Told) -> u32 {
+    u32::try_from(told.kept.len()).unwrap_or(u32::MAX)
+}
+
+// What is found where the store on the device is opened.
+fn look<D: Device + Drop>(alloc: Global, device: D, told: &Told) -> Result<Behind, Error> {
     match restart(alloc, device) {
-        Ok(engine) => Ok((
-            count_lost(engine.core(), kept)?,
-            count_marked(engine.core()),
-        )),
+        Ok(engine) => {
+            let core = engine.core();
+            let behind = Behind {
+                lost: count_kept(told).saturating_sub(count_there(core, &told.kept)?),
+                back: count_there(core, &told.gone)?,
+                marked: count_marked(core),
+            };
+            drop(engine.into_device());
+            Ok(behind)
+        }
         Err((error, _)) => Err(error),
     }
 }
 
-/// How many of the rows a crash takes from the disk, and how many marked entries it leaves there.
-pub fn behind_crash(alloc: Global, disk: Disk, kept: &[Kept]) -> Result<(u32, u32), Error> {
+/// What a restart finds behind a crash of the disk.
+pub fn behind_crash(alloc: Global, disk: Disk, told: &Told) -> Result<Behind, Error> {
     let mut disk = disk.into_inner();
     disk.crash(&[Fate::Junk]);
-    look(alloc, disk, kept)
+    look(alloc, disk, told)
 }

@@ -1,9 +1,13 @@
-//! Four writers beside the loops, on a new store.
-ghost use Rattle.std.specs.Prelude.{◌≡◌};
+//! Four writers beside the loops, on a new store, to the end of all threads.
+ghost use Rattle.std.specs.Prelude.{◌≡◌, ◌++◌, ◌∷◌, [], ◌<◌, ℕ, map, slice_index_or, vec_len};
+ghost use Rattle.closing.specs.Gathered.{AreAllSeats};
+ghost use Rattle.shared.specs.Seats.{AreNewSeats};
 
-use crate::found::{behind_crash, failing};
-use crate::seats::{Built, Cast, Told, Writer, cast_of, end, gather, write_all};
+use crate::found::{Behind, behind_crash, failing};
+use crate::seats::{Told, WRITERS, Writer, gather, seats_of, write_all, writers_of};
 use crate::stage::{HeldDisk, Stage};
+use closing::finish;
+use demonstration::set_up;
 use flusher::FlushPart;
 use loops::{Ended, run_beside};
 use opening::{OpenError, OpenStore, Parts, open_store};
@@ -12,131 +16,127 @@ use sector_device::Device;
 use shared::{BuildPart, Group, Seat, Shared};
 use std::alloc::Global;
 use std::marker::Brand;
+use std::mem::forget;
 use std::rt::Clock;
 use std::sync::Wait;
 use std::thread::Threads;
 
-// Of four writers, and of two more.
-const SEATS: usize = 6;
+// Of the writers, of one that looks at the index behind them, and of the loops.
+const SEATS: usize = WRITERS as usize + 2;
 
 /// What was seen: how many tickets of the writers were acknowledged, and how many refused for the device's failure; what else was refused
-/// to them, and what to the flusher; whether the index found a row, and the builder told attempts, where loops were held; and how many
-/// acknowledged rows a crash took, and how many marked entries it left.
+/// to them; how the flusher ended, and all threads; whether the index found a row, and the builder told attempts, where loops were
+/// held; and what a crash left.
 #[derive(Debug, Drop, PartialEq)]
 pub struct Seen {
     pub acknowledged: u32,
     pub failed: u32,
     pub refused: Option<Error>,
     pub flusher: Option<Error>,
+    pub end: Option<Error>,
     pub found: bool,
     pub told: bool,
-    pub lost: u32,
-    pub marked: u32,
-}
-
-// What the writers were told, and what was seen of the index.
-#[derive(Drop)]
-struct Played {
-    told: Told,
-    built: Built,
+    pub behind: Behind,
 }
 
 // What the threads leave.
 #[derive(Drop)]
 struct Left<D> {
-    played: Result<Played, Error>,
+    told: Told,
     flusher: Option<Error>,
+    end: Option<Error>,
     device: D,
 }
 
-// What is done behind the writers, where loops were held.
-fn end_if_held<B: Group, R: Wait + Clock>(
-    rt: &R,
-    shared: &Shared<B>,
-    seat: &mut Seat<B>,
-    stage: &Stage<'_, R>,
-) -> Result<Built, Error> {
-    if stage.is_set() {
-        end(rt, shared, seat, stage)
-    } else {
-        Ok(Built {
-            found: false,
-            told: false,
-        })
-    }
-}
-
-// All that the seats do beside the loops.
-fn play_seats<B: Group + Send + Sync, R: Threads + Wait + Clock + Sync>(
-    rt: &R,
-    alloc: Global,
-    shared: &Shared<B>,
-    mut writers: Vec<Writer<B>>,
-    mut seat: Seat<B>,
-    stage: &Stage<'_, R>,
-) -> Result<Played, Error> {
-    write_all(rt, shared, &mut writers, stage);
-    let built = end_if_held(rt, shared, &mut seat, stage)?;
-    let told = gather(alloc, &writers)?;
-    Ok(Played { told, built })
-}
-
-// Runs the seats beside the loops.
+// Runs the writers beside the loops.
 fn run_loops<B: Group + Send + Sync, D: Device + Send + Drop, R: Threads + Wait + Clock + Sync>(
     rt: &R,
-    alloc: Global,
     shared: &Shared<B>,
-    cast: Cast<B>,
+    writers: Vec<Writer<B>>,
+    last: Seat<B>,
     flush: FlushPart<B, D>,
     build: BuildPart<B>,
     stage: &Stage<'_, R>,
-) -> Ended<B, D, Result<Played, Error>> {
-    let Cast {
-        writers,
-        seat,
-        last,
-    } = cast;
-    let client = move || play_seats(rt, alloc, shared, writers, seat, stage);
+) -> Ended<B, D, Vec<Writer<B>>>
+    ensures len { vec_len result.clients ≡ vec_len writers }
+    ensures numbers { (k : ℕ) (w : _) → k < vec_len writers → (slice_index_or result.clients.items k w).seat.number ≡ (slice_index_or writers.items k w).seat.number }
+    ensures last { result.seat.number ≡ last.number }
+{
+    let client = move || write_all(rt, shared, writers, stage);
     run_beside(rt, shared, last, flush, build, stage, client)
 }
 
-// What they leave.
-fn left_of<B: Group, D: Device + Drop>(ended: Ended<B, D, Result<Played, Error>>) -> Left<D> {
+// The device, and what was refused at the end. What else is left is not let go: to prove its destructors here would cost more than the
+// test.
+fn close<B: Group, D: Device, R: Wait>(
+    rt: &R,
+    alloc: Global,
+    shared: Shared<B>,
+    seats: Vec<Seat<B>>,
+    flush: FlushPart<B, D>,
+) -> (D, Option<Error>)
+    requires seats { AreAllSeats B.site.seats seats.items }
+{
+    match finish(rt, alloc, shared, seats, flush, Vec::new(alloc)) {
+        Ok(closed) => {
+            forget(closed.core);
+            forget(closed.commits);
+            (closed.device, None)
+        }
+        Err((error, device)) => (device, Some(error)),
+    }
+}
+
+// Takes back what the threads leave.
+fn end<B: Group, D: Device + Drop, R: Wait>(
+    rt: &R,
+    alloc: Global,
+    shared: Shared<B>,
+    ended: Ended<B, D, Vec<Writer<B>>>,
+) -> Result<Left<D>, Error>
+    requires seats { AreAllSeats B.site.seats (map (λ w. w.seat) ended.clients.items ++ ended.seat ∷ []) }
+{
     let Ended {
         clients,
+        seat,
         flush,
         flushed,
         ..
     } = ended;
-    let (device, _) = flush.into_parts();
-    Left {
-        played: clients,
+    let told = gather(alloc, &clients)?;
+    let seats = seats_of(alloc, clients, seat)?;
+    let (device, end) = close(rt, alloc, shared, seats, flush);
+    Ok(Left {
+        told,
         flusher: flushed.err(),
+        end,
         device,
-    }
+    })
 }
 
 // Plays the scene with these parts.
 fn play_with<B: Group + Send + Sync, D: Device + Send + Drop, R: Threads + Wait + Clock + Sync>(
     rt: &R,
     alloc: Global,
-    shared: &Shared<B>,
+    shared: Shared<B>,
     parts: Parts<B, D>,
     stage: &Stage<'_, R>,
-) -> Result<Left<D>, Error> {
+) -> Result<Left<D>, Error>
+    requires seats { AreNewSeats B.site.board B.site.seats parts.seats.items }
+{
     let Parts {
         mut seats,
         flush,
         build,
     } = parts;
-    match cast_of(rt, alloc, shared, &mut seats) {
-        Ok(cast) => {
-            stage.arm();
-            let ended = run_loops(rt, alloc, shared, cast, flush, build, stage);
-            Ok(left_of(ended))
-        }
-        Err(error) => Err(error),
-    }
+    let Some(mut last) = seats.pop() else {
+        return Err(Error::NoMemory);
+    };
+    set_up(rt, &shared, &mut last)?;
+    let writers = writers_of(alloc, seats)?;
+    stage.arm();
+    let ended = run_loops(rt, &shared, writers, last, flush, build, stage);
+    end(rt, alloc, shared, ended)
 }
 
 // Plays the scene in the store.
@@ -149,7 +149,7 @@ fn play_in<B: Group + Send + Sync, D: Device + Send + Drop, R: Threads + Wait + 
     requires names { store.site ≡ B.site }
 {
     match store.start::<B>() {
-        Ok((shared, parts)) => play_with(rt, alloc, &shared, parts, stage),
+        Ok((shared, parts)) => play_with(rt, alloc, shared, parts, stage),
         Err((error, _)) => Err(error),
     }
 }
@@ -176,20 +176,20 @@ pub fn play<R: Threads + Wait + Clock + Sync>(
 ) -> Result<Seen, OpenError> {
     let disk = failing(alloc, fails_behind)?;
     let Left {
-        played,
+        told,
         flusher,
+        end,
         device,
     } = play_on(rt, alloc, HeldDisk { disk, stage }, stage)?;
-    let Played { told, built } = played?;
-    let (lost, marked) = behind_crash(alloc, device.disk, &told.kept)?;
+    let behind = behind_crash(alloc, device.disk, &told)?;
     Ok(Seen {
         acknowledged: told.acknowledged,
         failed: told.failed,
         refused: told.refused,
         flusher,
-        found: built.found,
-        told: built.told,
-        lost,
-        marked,
+        end,
+        found: told.built.found,
+        told: told.built.told,
+        behind,
     })
 }

@@ -1,8 +1,12 @@
 //! What seats do beside the loops.
-use crate::calls::{await_ack, begin, commit, delete, insert};
-use crate::example::take_seat;
+ghost use Rattle.std.specs.Prelude.{◌≡◌, ◌++◌, ◌∷◌, [], ◌<◌, ℕ, IfOk, map, slice_index_or, vec_len};
+
+use crate::calls::{
+    abort, await_ack, begin, commit, delete, has_failed, insert, is_acked, make_anew, progress,
+    reads,
+};
 use crate::stage::Stage;
-use demonstration::{key_of, set_up};
+use demonstration::key_of;
 use model::Life;
 use nsf_core::Ticket;
 use records::{Error, Rid};
@@ -12,7 +16,8 @@ use std::rt::Clock;
 use std::sync::Wait;
 use std::thread::{Threads, for_each_mut};
 
-const WRITERS: u16 = 4;
+/// How many seats write.
+pub const WRITERS: u16 = 4;
 
 // How many transactions a writer makes.
 const CHANGES: u16 = 15;
@@ -37,69 +42,75 @@ const SECOND_ROW: Rid = Rid { page: 0, slot: 1 };
 
 const ROWS: u16 = 0xffff;
 
-/// A row whose commit was acknowledged, and that no later transaction has touched.
-#[derive(Clone, Copy)]
-pub struct Kept {
+/// A row that a writer put.
+#[derive(Clone, Copy, PartialEq)]
+pub struct Put {
     pub rid: Rid,
     pub first: u16,
     pub second: u16,
 }
 
-/// A writer: its seat and number, the rows that it was told to be safe, how many tickets were acknowledged, and how many were refused for
-/// the device's failure; and what else was refused.
+/// A writer: its seat and number; the rows that it was told to be safe, and those that it was told to be gone, or took back itself; how
+/// many tickets were acknowledged, and how many were refused for the device's failure; what else was refused; and what it saw of the
+/// index.
 #[derive(Drop)]
 pub struct Writer<B: Group> {
-    seat: Seat<B>,
+    pub seat: Seat<B>,
     number: u16,
-    kept: Vec<Kept>,
+    kept: Vec<Put>,
+    gone: Vec<Put>,
     acknowledged: u32,
     failed: u32,
     refused: Option<Error>,
-}
-
-/// The seats: those of the writers, one for what is done behind them, and one for the loops' views.
-#[derive(Drop)]
-pub struct Cast<B: Group> {
-    pub writers: Vec<Writer<B>>,
-    pub seat: Seat<B>,
-    pub last: Seat<B>,
+    built: Built,
 }
 
 /// What all writers were told.
 #[derive(Drop)]
 pub struct Told {
-    pub kept: Vec<Kept>,
+    pub kept: Vec<Put>,
+    pub gone: Vec<Put>,
     pub acknowledged: u32,
     pub failed: u32,
     pub refused: Option<Error>,
+    pub built: Built,
 }
 
 /// What is seen of the index once it is complete: whether it finds a row at its place alone, and whether the builder has told attempts.
-#[derive(Drop)]
+#[derive(Clone, Copy)]
 pub struct Built {
     pub found: bool,
     pub told: bool,
 }
 
+impl Built {
+    // Nothing was seen yet.
+    fn unseen() -> Built {
+        Built {
+            found: false,
+            told: false,
+        }
+    }
+}
+
 // ---- before the writers' rows
 
-// Waits until a ticket is acknowledged, or both loops are held.
+// Waits until a ticket is acknowledged, or both loops are held, or the device has failed.
 fn wait_unless_held<B: Group, R: Wait + Clock>(
-    rt: &R,
     shared: &Shared<B>,
     seat: &mut Seat<B>,
     stage: &Stage<'_, R>,
     ticket: &Ticket,
-) {
-    for _ in rt.forever() {
-        if stage.holds() {
-            return;
-        }
-        if shared.is_acked(seat, *ticket) {
+)
+    ensures { seat.new.number ≡ seat.old.number }
+{
+    for _ in stage.looks() {
+        if stage.holds() || is_acked(shared, seat, ticket) || has_failed(shared, seat) {
             return;
         }
         stage.rest();
     }
+    stage.is_too_late();
 }
 
 // One transaction: a row is put, and another one is deleted, if there is another one.
@@ -107,9 +118,12 @@ fn change<B: Group, R: Wait>(
     rt: &R,
     shared: &Shared<B>,
     seat: &mut Seat<B>,
-    (first, second): (u16, u16),
+    numbers: (u16, u16),
     gone: Option<Rid>,
-) -> Result<(Rid, Ticket), Error> {
+) -> Result<(Rid, Ticket), Error>
+    ensures { seat.new.number ≡ seat.old.number }
+{
+    let (first, second) = numbers;
     let txn = begin(rt, shared, seat)?;
     let rid = insert(rt, shared, seat, txn, first, second)?;
     if let Some(gone) = gone {
@@ -119,62 +133,92 @@ fn change<B: Group, R: Wait>(
     Ok((rid, ticket))
 }
 
-// Commits rows until both loops are held, each in a group of its own.
+// One transaction that is taken back: a row is put.
+fn take_back<B: Group, R: Wait>(
+    rt: &R,
+    shared: &Shared<B>,
+    seat: &mut Seat<B>,
+    numbers: (u16, u16),
+) -> Result<Rid, Error>
+    ensures { seat.new.number ≡ seat.old.number }
+{
+    let (first, second) = numbers;
+    let txn = begin(rt, shared, seat)?;
+    let rid = insert(rt, shared, seat, txn, first, second)?;
+    abort(rt, shared, seat, txn)?;
+    Ok(rid)
+}
+
+// Commits rows until both loops are held, each in a group of its own, or the device has failed.
 fn fill<B: Group, R: Wait + Clock>(
     rt: &R,
     shared: &Shared<B>,
     seat: &mut Seat<B>,
     stage: &Stage<'_, R>,
-) -> Result<(), Error> {
+) -> Result<(), Error>
+    ensures { seat.new.number ≡ seat.old.number }
+{
     for row in 0..ROWS_MAX {
-        if stage.holds() {
+        if stage.holds() || has_failed(shared, seat) {
             return Ok(());
         }
         let (_, ticket) = change(rt, shared, seat, (FILLING, row), None)?;
-        wait_unless_held(rt, shared, seat, stage, &ticket);
+        wait_unless_held(shared, seat, stage, &ticket);
     }
     stage.await_held();
     Ok(())
 }
 
 // While both loops are held, a row is inserted and read back. Then the flusher is let go, and while the builder is held a row that it has
-// scanned is deleted, the commit is acknowledged, and the cleaner goes on twice.
+// scanned is deleted, the commit is acknowledged, and the cleaner goes on twice. Whether it was acknowledged, and not refused for the
+// device's failure.
 fn lead<B: Group, R: Wait + Clock>(
     rt: &R,
     shared: &Shared<B>,
     seat: &mut Seat<B>,
     stage: &Stage<'_, R>,
-) -> Result<(), Error> {
+) -> Result<bool, Error>
+    ensures { seat.new.number ≡ seat.old.number }
+{
     fill(rt, shared, seat, stage)?;
     let txn = begin(rt, shared, seat)?;
     let rid = insert(rt, shared, seat, txn, LEADING, 0)?;
-    if shared.get(rt, seat, rid).is_none() {
+    if !reads(rt, shared, seat, rid, LEADING, 0)? {
         return Err(Error::NoSuchRow);
     }
     stage.flusher.let_go();
     delete(rt, shared, seat, txn, FIRST_ROW)?;
     let ticket = commit(rt, shared, seat, txn)?;
-    await_ack(rt, shared, seat, &ticket)?;
+    let waited = await_ack(rt, shared, seat, &ticket);
     stage.await_cleaner(2);
-    stage.builder.let_go();
-    Ok(())
+    match waited {
+        Ok(()) => Ok(true),
+        Err(Error::DeviceFailed) => Ok(false),
+        Err(error) => Err(error),
+    }
 }
 
 // ---- the writers
 
-// Notes what a writer was told of a row. Nothing is acknowledged behind a failure.
+// Notes what a writer was told of a row, and of the one that its transaction deleted. Nothing is acknowledged behind a failure.
 fn note<B: Group>(
     writer: &mut Writer<B>,
-    row: Kept,
+    put: Put,
+    deleted: Option<Put>,
     waited: Result<(), Error>,
-) -> Result<(), Error> {
+) -> Result<(), Error>
+    ensures { writer.new.seat ≡ writer.old.seat }
+{
     match waited {
         Ok(()) => {
             if writer.failed > 0 {
                 return Err(Error::DeviceFailed);
             }
             writer.acknowledged = writer.acknowledged.saturating_add(1);
-            writer.kept.push(row)?;
+            writer.kept.push(put)?;
+            if let Some(deleted) = deleted {
+                writer.gone.push(deleted)?;
+            }
             Ok(())
         }
         Err(Error::DeviceFailed) => {
@@ -185,142 +229,216 @@ fn note<B: Group>(
     }
 }
 
-// The row that a transaction of this number is to delete.
-fn gone_at(number: u16, kept: &mut Vec<Kept>) -> Option<Rid> {
-    if number % 4 == 2 {
-        match kept.pop() {
-            Some(row) => Some(row.rid),
-            None => None,
-        }
-    } else {
-        None
+// A transaction that is kept: a row is put, and the one before, if it is to be deleted, is no longer among those that are there.
+fn keep_row<B: Group, R: Wait>(
+    rt: &R,
+    shared: &Shared<B>,
+    writer: &mut Writer<B>,
+    second: u16,
+    deleted: Option<Put>,
+) -> Result<Put, Error>
+    ensures { writer.new.seat.number ≡ writer.old.seat.number }
+{
+    let first = writer.number;
+    let gone = match deleted {
+        Some(row) => Some(row.rid),
+        None => None,
+    };
+    if writer.kept.last().copied() == deleted {
+        writer.kept.pop();
     }
+    let (rid, ticket) = change(rt, shared, &mut writer.seat, (first, second), gone)?;
+    let put = Put { rid, first, second };
+    let waited = await_ack(rt, shared, &mut writer.seat, &ticket);
+    note(writer, put, deleted, waited)?;
+    Ok(put)
 }
 
-// A writer puts a row in each transaction, and in each third of four deletes one. It waits for each commit, and goes on where the device
-// has failed.
+// A writer puts a row in each transaction. In each third of four it deletes the row before, and each fourth it takes back. It waits for
+// each commit, and goes on where the device has failed.
 fn write_rows<B: Group, R: Wait>(
     rt: &R,
     shared: &Shared<B>,
     writer: &mut Writer<B>,
-) -> Result<(), Error> {
+) -> Result<(), Error>
+    ensures { writer.new.seat.number ≡ writer.old.seat.number }
+{
     let first = writer.number;
+    let mut before = None;
     for second in 0..CHANGES {
-        let gone = gone_at(second, &mut writer.kept);
-        let (rid, ticket) = change(rt, shared, &mut writer.seat, (first, second), gone)?;
-        let waited = await_ack(rt, shared, &mut writer.seat, &ticket);
-        note(writer, Kept { rid, first, second }, waited)?;
+        if second % 4 == 3 {
+            let rid = take_back(rt, shared, &mut writer.seat, (first, second))?;
+            writer.gone.push(Put { rid, first, second })?;
+        } else {
+            let deleted = if second % 4 == 2 { before } else { None };
+            before = Some(keep_row(rt, shared, writer, second, deleted)?);
+        }
     }
     Ok(())
 }
 
-// All that a writer does. The first one begins as `lead` says, where loops are to be held.
+// What the first writer does before its rows, where loops are to be held. In any case they are let go.
+fn lead_if_set<B: Group, R: Wait + Clock>(
+    rt: &R,
+    shared: &Shared<B>,
+    writer: &mut Writer<B>,
+    stage: &Stage<'_, R>,
+) -> Result<(), Error>
+    ensures { writer.new.seat.number ≡ writer.old.seat.number }
+{
+    if writer.number > 0 || !stage.is_set() {
+        return Ok(());
+    }
+    let led = lead(rt, shared, &mut writer.seat, stage);
+    stage.flusher.let_go();
+    stage.builder.let_go();
+    if led? {
+        writer.gone.push(Put {
+            rid: FIRST_ROW,
+            first: ROWS,
+            second: 0,
+        })?;
+    }
+    Ok(())
+}
+
+// The last of the seats looks at the index behind the writers, where loops were held and the device has not failed.
+fn look_behind<B: Group, R: Wait + Clock>(
+    rt: &R,
+    shared: &Shared<B>,
+    writer: &mut Writer<B>,
+    stage: &Stage<'_, R>,
+) -> Result<(), Error>
+    ensures { writer.new.seat.number ≡ writer.old.seat.number }
+{
+    stage.await_written(u64::from(WRITERS));
+    if stage.is_set() && !has_failed(shared, &mut writer.seat) {
+        writer.built = end(rt, shared, &mut writer.seat, stage)?;
+    }
+    Ok(())
+}
+
+// All that a seat does. The first one begins as `lead` says, where loops are to be held.
+fn work<B: Group, R: Wait + Clock>(
+    rt: &R,
+    shared: &Shared<B>,
+    writer: &mut Writer<B>,
+    stage: &Stage<'_, R>,
+) -> Result<(), Error>
+    ensures { writer.new.seat.number ≡ writer.old.seat.number }
+{
+    if writer.number >= WRITERS {
+        return look_behind(rt, shared, writer, stage);
+    }
+    lead_if_set(rt, shared, writer, stage)?;
+    write_rows(rt, shared, writer)
+}
+
+// What comes of it.
 fn write<B: Group, R: Wait + Clock>(
     rt: &R,
     shared: &Shared<B>,
     writer: &mut Writer<B>,
     stage: &Stage<'_, R>,
-) {
-    if writer.number == 0 && stage.is_set() {
-        if let Err(error) = lead(rt, shared, &mut writer.seat, stage) {
-            writer.refused = Some(error);
-            return;
-        }
-    }
-    if let Err(error) = write_rows(rt, shared, writer) {
-        writer.refused = Some(error);
-    }
+)
+    ensures { writer.new.seat.number ≡ writer.old.seat.number }
+{
+    writer.refused = work(rt, shared, writer, stage).err();
+    stage.has_written();
 }
 
-// Four writers, each with one of the seats.
-fn writers_of<B: Group>(alloc: Global, seats: &mut Vec<Seat<B>>) -> Result<Vec<Writer<B>>, Error> {
-    let mut writers = Vec::new(alloc);
-    for number in 0..WRITERS {
+/// A writer for each of these seats.
+pub fn writers_of<B: Group>(
+    alloc: Global,
+    seats: Vec<Seat<B>>,
+) -> Result<Vec<Writer<B>>, AllocError>
+    ensures { IfOk result (λ writers. map (λ w. w.seat) writers.items ≡ seats.items) }
+{
+    let mut writers = Vec::with_capacity(alloc, seats.len())?;
+    let mut number: u16 = 0;
+    for seat in seats {
         writers.push(Writer {
-            seat: take_seat(seats)?,
+            seat,
             number,
             kept: Vec::new(alloc),
+            gone: Vec::new(alloc),
             acknowledged: 0,
             failed: 0,
             refused: None,
+            built: Built::unseen(),
         })?;
+        number = number.saturating_add(1);
     }
     Ok(writers)
-}
-
-// Sets the rows up by one seat, and makes writers of others.
-fn prepare<B: Group, R: Wait>(
-    rt: &R,
-    alloc: Global,
-    shared: &Shared<B>,
-    last: &mut Seat<B>,
-    seats: &mut Vec<Seat<B>>,
-) -> Result<Vec<Writer<B>>, Error> {
-    set_up(rt, shared, last)?;
-    writers_of(alloc, seats)
-}
-
-/// Sets the rows up, and gives each seat its part.
-pub fn cast_of<B: Group, R: Wait>(
-    rt: &R,
-    alloc: Global,
-    shared: &Shared<B>,
-    seats: &mut Vec<Seat<B>>,
-) -> Result<Cast<B>, Error> {
-    let mut last = take_seat(seats)?;
-    let seat = take_seat(seats)?;
-    match prepare(rt, alloc, shared, &mut last, seats) {
-        Ok(writers) => Ok(Cast {
-            writers,
-            seat,
-            last,
-        }),
-        Err(error) => Err(error),
-    }
 }
 
 /// Runs all writers, each in a thread.
 pub fn write_all<B: Group + Send + Sync, R: Threads + Wait + Clock + Sync>(
     rt: &R,
     shared: &Shared<B>,
-    writers: &mut Vec<Writer<B>>,
+    mut writers: Vec<Writer<B>>,
     stage: &Stage<'_, R>,
-) {
+) -> Vec<Writer<B>>
+    ensures len { vec_len result ≡ vec_len writers }
+    ensures numbers { (k : ℕ) (w : _) → k < vec_len writers → (slice_index_or result.items k w).seat.number ≡ (slice_index_or writers.items k w).seat.number }
+{
     for_each_mut(
         rt,
-        writers,
+        &mut writers,
         8,
         &|_: usize, writer: &mut Writer<B>| { write(rt, shared, writer, stage) },
     );
+    writers
 }
 
 /// What they were told.
 pub fn gather<B: Group>(alloc: Global, writers: &[Writer<B>]) -> Result<Told, AllocError> {
     let mut told = Told {
         kept: Vec::new(alloc),
+        gone: Vec::new(alloc),
         acknowledged: 0,
         failed: 0,
         refused: None,
+        built: Built::unseen(),
     };
     for writer in writers {
         told.kept.extend_from_slice(&writer.kept)?;
+        told.gone.extend_from_slice(&writer.gone)?;
         told.acknowledged = told.acknowledged.saturating_add(writer.acknowledged);
         told.failed = told.failed.saturating_add(writer.failed);
         told.refused = told.refused.or(writer.refused);
+        told.built = writer.built;
     }
     Ok(told)
+}
+
+/// The seats of all writers, with the last one behind them.
+pub fn seats_of<B: Group>(
+    alloc: Global,
+    writers: Vec<Writer<B>>,
+    last: Seat<B>,
+) -> Result<Vec<Seat<B>>, AllocError>
+    ensures { IfOk result (λ seats. seats.items ≡ map (λ w. w.seat) writers.items ++ last ∷ []) }
+{
+    let mut seats = Vec::with_capacity(alloc, writers.len())?;
+    for writer in writers {
+        seats.push(writer.seat)?;
+    }
+    seats.push(last)?;
+    Ok(seats)
 }
 
 // ---- behind the writers
 
 // Waits until the index is complete.
 fn await_index<B: Group, R: Wait + Clock>(rt: &R, shared: &Shared<B>, stage: &Stage<'_, R>) {
-    for _ in rt.forever() {
+    for _ in stage.looks() {
         if let Life::Complete = shared.life(rt) {
             return;
         }
         stage.rest();
     }
+    stage.is_too_late();
 }
 
 // Puts a row and deletes it, waits until the cleaner has looked at each entry, and until all that is on the device.
@@ -329,7 +447,9 @@ fn leave_mark<B: Group, R: Wait + Clock>(
     shared: &Shared<B>,
     seat: &mut Seat<B>,
     stage: &Stage<'_, R>,
-) -> Result<(), Error> {
+) -> Result<(), Error>
+    ensures { seat.new.number ≡ seat.old.number }
+{
     let (rid, _) = change(rt, shared, seat, (ENDING, 0), None)?;
     change(rt, shared, seat, (ENDING, 1), Some(rid))?;
     stage.await_cleaner(STEPS_OF_CLEANER);
@@ -337,32 +457,28 @@ fn leave_mark<B: Group, R: Wait + Clock>(
     await_ack(rt, shared, seat, &ticket)
 }
 
-// Drops the index, and creates another one.
-fn make_anew<B: Group, R: Wait>(
-    rt: &R,
-    shared: &Shared<B>,
-    seat: &mut Seat<B>,
-) -> Result<(), Error> {
-    shared.drop_index(rt, seat)?;
-    shared.create_index(rt, seat)?;
-    Ok(())
+// Whether the index finds the second row at its place alone.
+fn finds_row<B: Group, R: Wait>(rt: &R, shared: &Shared<B>) -> Result<bool, Error> {
+    let found = shared.find(rt, key_of(ROWS, 1)?)?;
+    Ok(found.as_slice() == [SECOND_ROW].as_slice())
 }
 
-/// Waits until the index is complete, and until one that is made in its place is; a row is deleted, and the cleaner takes its entry
-/// away.
-pub fn end<B: Group, R: Wait + Clock>(
+// Waits until the index is complete, and until one that is made in its place is; a row is deleted, and the cleaner takes its entry
+// away.
+fn end<B: Group, R: Wait + Clock>(
     rt: &R,
     shared: &Shared<B>,
     seat: &mut Seat<B>,
     stage: &Stage<'_, R>,
-) -> Result<Built, Error> {
+) -> Result<Built, Error>
+    ensures { seat.new.number ≡ seat.old.number }
+{
     await_index(rt, shared, stage);
     make_anew(rt, shared, seat)?;
     await_index(rt, shared, stage);
     leave_mark(rt, shared, seat, stage)?;
-    let found = shared.find(rt, key_of(ROWS, 1)?)?;
     Ok(Built {
-        found: found.as_slice() == [SECOND_ROW].as_slice(),
-        told: shared.progress(seat) > 0,
+        found: finds_row(rt, shared)?,
+        told: progress(shared, seat) > 0,
     })
 }

@@ -3,6 +3,7 @@ ghost use Rattle.std.specs.Prelude.{◌≡◌};
 
 use loops::{Gate, Point};
 use sector_device::{Device, Failed, SECTOR_SIZE};
+use std::ops::Range;
 use std::rt::Clock;
 use std::sync::atomic::{AtomicBool, AtomicU64, Ordering};
 use std::thread;
@@ -49,7 +50,7 @@ impl Hold {
     }
 }
 
-/// Where flusher and builder are held, once they are to be; and how many steps the cleaner has begun.
+/// Where flusher and builder are held, once they are to be; how many steps the cleaner has begun, and how many writers have ended.
 #[derive(Drop)]
 pub struct Stage<'a, R> {
     rt: &'a R,
@@ -58,6 +59,7 @@ pub struct Stage<'a, R> {
     armed: AtomicBool,
     late: AtomicBool,
     cleaned: AtomicU64,
+    written: AtomicU64,
 }
 
 impl<'a, R: Clock> Stage<'a, R> {
@@ -69,7 +71,23 @@ impl<'a, R: Clock> Stage<'a, R> {
             armed: AtomicBool::new(false),
             late: AtomicBool::new(false),
             cleaned: AtomicU64::new(0),
+            written: AtomicU64::new(0),
         }
+    }
+
+    /// A number for each look that a thread may take.
+    pub fn looks(&self) -> Range<u32> {
+        0..LOOKS
+    }
+
+    /// A thread looked for something in vain.
+    pub fn is_too_late(&self) {
+        self.late.store(true, Ordering::SeqCst);
+    }
+
+    /// A writer has ended.
+    pub fn has_written(&self) {
+        self.written.fetch_add(1, Ordering::SeqCst);
     }
 
     /// Whether a loop is to be held.
@@ -99,13 +117,24 @@ impl<'a, R: Clock> Stage<'a, R> {
 
     // Looks until the flag is set.
     fn look(&self, flag: &AtomicBool) {
-        for _ in 0..LOOKS {
+        for _ in self.looks() {
             if flag.load(Ordering::SeqCst) {
                 return;
             }
             self.rest();
         }
-        self.late.store(true, Ordering::SeqCst);
+        self.is_too_late();
+    }
+
+    // Looks until the count has come so far.
+    fn look_for(&self, count: &AtomicU64, wanted: u64) {
+        for _ in self.looks() {
+            if count.load(Ordering::SeqCst) >= wanted {
+                return;
+            }
+            self.rest();
+        }
+        self.is_too_late();
     }
 
     // Holds a thread that comes by this place, where it is the first one.
@@ -125,13 +154,12 @@ impl<'a, R: Clock> Stage<'a, R> {
     /// Looks until the cleaner has begun so many steps more.
     pub fn await_cleaner(&self, steps: u64) {
         let before = self.cleaned.load(Ordering::SeqCst);
-        for _ in 0..LOOKS {
-            if self.cleaned.load(Ordering::SeqCst).saturating_sub(before) >= steps {
-                return;
-            }
-            self.rest();
-        }
-        self.late.store(true, Ordering::SeqCst);
+        self.look_for(&self.cleaned, before.saturating_add(steps));
+    }
+
+    /// Looks until so many writers have ended.
+    pub fn await_written(&self, writers: u64) {
+        self.look_for(&self.written, writers);
     }
 }
 

@@ -1,4 +1,4 @@
-use Rattle.seat_tests.proofs.Seats.{all_new, first_set}
+use Rattle.closing.proofs.Orders.{all_new, first_set}
 use Rattle.seat_tests.proofs.play.ask_first.Goals as goal
 
 pub returns-then-is_empty : goal.returns-then-is_empty
