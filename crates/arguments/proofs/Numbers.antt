@@ -1,5 +1,6 @@
 -- What a parse reads of an option that takes a number.
-use Rattle.std.proofs.Common.{◌&&◌, ◌==◌, ◌≡◌, ◌⊎◌, ◌∙◌, ◌<◌, ◌≤◌, ◌^◌, ℕ, Bool, true, false, List, [], ◌∷◌, Option, Some, None, Result, Ok, map, length, codes, IfSome, unwrap_or, ap, lit<, lit≤, refl, sym, subst, inl, inr, arith}
+use Rattle.std.proofs.Common.{◌&&◌, ◌==◌, ◌≡◌, ◌⊎◌, ◌∙◌, ◌<◌, ◌≤◌, ◌^◌, ℕ, Bool, true, false, List, [], ◌∷◌, Option, Some, None, Result, Ok, map, length, codes}
+use Rattle.std.proofs.Common.{IfSome, unwrap_or, ap, lit<, lit≤, refl, sym, subst, inl, inr, arith}
 use Rattle.std.specs.Borrow.{Bor}
 use Rattle.std.specs.List.{All, slice_index_or}
 use Rattle.std.specs.Str.{bytes_eq}
@@ -9,7 +10,8 @@ use Rattle.std.proofs.lemmas.Bool.{cases_lt, ne_eqb}
 use Rattle.std.proofs.lemmas.List.{get_or-map, length-map}
 use Rattle.std.proofs.lemmas.List.Elements.{All-cons, All-get_or, All-nil}
 use Rattle.std.proofs.lemmas.Slice.Eq.{bytes_eq-Decides}
-use Rattle.clap.specs.Words.{Accepts, App, IsParsedFrom, ReadsOne, Rule, SameRules, Text, app_of, args_of, found_of, groups_of, matched_of, one_of, one_text, parser_of, rows_of, rule_of, without_minus}
+use Rattle.clap.specs.Words.{Accepts, App, IsParsedFrom, ReadsOne, Rule, SameRules, Text, app_of, args_of, found_of, groups_of, matched_of, one_of, one_text}
+use Rattle.clap.specs.Words.{parser_of, rows_of, rule_of, without_minus}
 use Rattle.clap.specs.Facts.{Entry, EntryPasses, HasReading, PassesArg, parser_of_value}
 use Rattle.clap.specs.Built.{IsAuto}
 use Rattle.clap.specs.Walk.{is_empty}
@@ -224,8 +226,10 @@ module _ (old : Command) (m : ArgMatches) (p : IsParsedFrom old m) (names : Bor 
       → (given ≡ options_in (rows_of (found_of m))) × AreInRange (with_defaults given)
   options_found given pages entries slots sectors stop fate =
       let a = got (codes "pages") 1 PAGES_MAX given.pages (λ e. refl, (other, (other, (other, (other, (other, tt)))))) refl refl refl (lit< tt) pages in
-      let b = got (codes "entries") ENTRIES_MIN ENTRIES_MAX given.entries (other, (λ e. refl, (other, (other, (other, (other, tt)))))) refl refl refl (lit< tt) entries in
-      let c = got (codes "slots") LOG_SLOTS_MIN LOG_SLOTS_MAX given.slots (other, (other, (λ e. refl, (other, (other, (other, tt)))))) refl refl refl (lit< tt) slots in
+      let b = got (codes "entries") ENTRIES_MIN ENTRIES_MAX given.entries (other, (λ e. refl, (other, (other, (other, (other, tt)))))) refl refl refl
+      (lit< tt) entries in
+      let c = got (codes "slots") LOG_SLOTS_MIN LOG_SLOTS_MAX given.slots (other, (other, (λ e. refl, (other, (other, (other, tt)))))) refl refl refl
+      (lit< tt) slots in
       let d = got (codes "sectors") 0 SECTORS_MAX given.sectors (other, (other, (other, (λ e. refl, (other, (other, tt)))))) refl refl refl (lit< tt) sectors in
       let e = got (codes "stop") 1 4294967295 given.stop (other, (other, (other, (other, (λ e. refl, (other, tt)))))) refl refl refl (lit< tt) stop in (
         λ i. record { pages = a.0 i; entries = b.0 i; slots = c.0 i; sectors = d.0 i; stop = e.0 i; fate = fate i },

@@ -1,14 +1,17 @@
 -- The words of the program, as its command line reads them: what the options ask for, and what is wrong with the words.
-use Rattle.std.specs.Prelude.{◌≡◌, ◌≢◌, ◌≤◌, ◌⊎◌, ℕ, true, pos, List, [], Option, Some, IfSome, option_map, option_and_then, codes, map}
+use Rattle.std.specs.Prelude.{◌≡◌, ◌≢◌, ◌≤◌, ◌⊎◌, ℕ, true, pos, List, [], Option, Some, IfSome, option_map}
+use Rattle.std.specs.Prelude.{option_and_then, codes, map}
 use Rattle.std.specs.Borrow.{Bor}
 use Rattle.std.specs.Str.Parse.{digits_value, without_leading_plus}
-use Rattle.clap.specs.Words.{App, IsAmong, Row, Rule, Text, fault_of, first_of, matches_of, new_app, new_rule, one_of, with_rule}
+use Rattle.clap.specs.Words.{App, IsAmong, Row, Rule, Text, fault_of, first_of, matches_of, new_app, new_rule, one_of}
+use Rattle.clap.specs.Words.{with_rule}
 use Rattle.clap.specs.Simple.{on_top}
 use Rattle.clap.specs.declared.builder.value_parser.ValueParser.{ValueParser}
 use Rattle.clap.specs.declared.builder.value_parser.ValueParser.TheVariants as parser
 use Rattle.clap.specs.declared.error.kind.ErrorKind.{ErrorKind}
 use Rattle.clap.specs.declared.error.kind.ErrorKind.TheVariants.{DisplayHelp, DisplayVersion}
-use Rattle.records.specs.declared.geometry.TheConstants.{ENTRIES_MAX, ENTRIES_MIN, LOG_SLOTS_MAX, LOG_SLOTS_MIN, PAGES_MAX}
+use Rattle.records.specs.declared.geometry.TheConstants.{ENTRIES_MAX, ENTRIES_MIN, LOG_SLOTS_MAX, LOG_SLOTS_MIN}
+use Rattle.records.specs.declared.geometry.TheConstants.{PAGES_MAX}
 use Rattle.replay_values.specs.Arguments.{fate_of_name, with_defaults}
 use Rattle.replay_values.specs.declared.given.Arguments.{Arguments}
 use Rattle.replay_values.specs.declared.given.Options.{Options}
@@ -42,7 +45,8 @@ command_line names =
 -- The command line of the program, of which the names of the fates may lie anywhere in memory.
 abbrev pub IsCommandLine : App → Type 0
 IsCommandLine app =
-    (names : Bor (List (Bor Text))) × (map (λ name. name.now) names.now ≡ map (λ name. name.now) FATES) × (app ≡ command_line names)
+    (names : Bor (List (Bor Text))) × (map (λ name. name.now) names.now ≡ map (λ name. name.now) FATES)
+    × (app ≡ command_line names)
 
 -- the number that an option was given, where it was
 abbrev pub number_in : Text → List Row → Option ℕ
@@ -66,7 +70,8 @@ options_in rows = record {
 -- The words have no fault, and ask for this: what they give for each option, and the default where they don't give it.
 abbrev pub Ask : List Text → Arguments → Type 0
 Ask words arguments =
-    (app : App) × IsCommandLine app × (fault_of app words ≡ []) × (arguments ≡ with_defaults (options_in (matches_of app words)))
+    (app : App) × IsCommandLine app × (fault_of app words ≡ [])
+    × (arguments ≡ with_defaults (options_in (matches_of app words)))
 
 -- the words fail in this way
 abbrev pub FailBy : List Text → ErrorKind → Type 0

@@ -22,7 +22,8 @@ module _ {O E : Type 0} where
       (((kind ≡ DisplayHelp) ⊎ (kind ≡ DisplayVersion)) × IsHelp status errors errors')
       ⊎ ((kind ≢ DisplayHelp) × (kind ≢ DisplayVersion) × IsFault status output output')
 
-  -- Help or the version is told where the words ask for it, and a fault where they have one. Want of memory is not told.
+  -- Help or the version is told where the words ask for it, and a fault where they have one. Want of memory is not
+  -- told.
   abbrev pub Tells : List Text → NoArguments → O → O → E → E → Type 0
   Tells words NoMemory output output' errors errors' = (output' ≡ output) × (errors' ≡ errors)
   Tells words (Told status) output output' errors errors' =

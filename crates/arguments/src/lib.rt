@@ -1,8 +1,8 @@
 //! The arguments of the programs `nsf-replay` and `nsf-threads`, read from their words.
 //!
-//! Proved: `read` answers what the words ask for (`asked`), each number in its range (`in_range`). Help and faults come only where
-//! the words have them, with their status (`none`). What words ask for is said in the terms of `clap`'s own contract.
-//! Only tested: the texts of help and of faults.
+//! Proved: `read` answers what the words ask for (`asked`), each number in its range (`in_range`). Help and faults come
+//! only where the words have them, with their status (`none`). What words ask for is said in the terms of `clap`'s own
+//! contract. Only tested: the texts of help and of faults.
 #![tactic(auto)]
 
 mod threads;
@@ -143,9 +143,9 @@ fn tell<O: Write, E: Write>(error: &Error, output: &mut O, errors: &mut E) -> u8
     }
 }
 
-/// The arguments that the words give, the first of which is the program's own name. Where they are bad, the error stream
-/// says why, and the status is 2. Where they ask for help or for the version, the output has it, and the status is 0, or 1 where
-/// it can't be written.
+/// The arguments that the words give, the first of which is the program's own name. Where they are bad, the error
+/// stream says why, and the status is 2. Where they ask for help or for the version, the output has it, and the status
+/// is 0, or 1 where it can't be written.
 pub fn read<S: AsStr, O: Write, E: Write>(
     alloc: Global,
     words: &[S],

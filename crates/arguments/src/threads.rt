@@ -26,8 +26,8 @@ const CHANGES_HELP: &str = "Transactions of each, 1 to 60 [default: 8]";
 
 const WATCH_HELP: &str = "Shows on the error stream how far the builder is";
 
-/// What the arguments ask for: the path of the store's file, if it is in one, how many threads write, how many transactions each of
-/// them makes, and whether the builder's progress is to be shown.
+/// What the arguments ask for: the path of the store's file, if it is in one, how many threads write, how many
+/// transactions each of them makes, and whether the builder's progress is to be shown.
 #[derive(Debug, Drop)]
 pub struct ThreadsArguments {
     pub file: Option<String>,
@@ -82,8 +82,8 @@ fn arguments_of<S: AsStr>(alloc: Global, words: &[S]) -> Result<ThreadsArguments
     })
 }
 
-/// The arguments of `nsf-threads` that the words give, the first of which is the program's own name. Where they are bad, or ask
-/// for help or for the version, that is told as by `read`.
+/// The arguments of `nsf-threads` that the words give, the first of which is the program's own name. Where they are
+/// bad, or ask for help or for the version, that is told as by `read`.
 pub fn read_threads<S: AsStr, O: Write, E: Write>(
     alloc: Global,
     words: &[S],

@@ -10,7 +10,8 @@ const STEPS_MAX: u32 = 100_000;
 
 /// Calls of a core.
 ///
-/// What is measured is generic over them, so that its proofs read nothing of what a core is made of, nor of what it promises.
+/// What is measured is generic over them, so that its proofs read nothing of what a core is made of, nor of what it
+/// promises.
 pub(crate) trait CoreCalls {
     /// Begins a transaction.
     fn begin(&mut self) -> Result<Txn, Error>;

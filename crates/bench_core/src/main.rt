@@ -1,7 +1,7 @@
-//! What single calls of the core and of a store cost, beside the least that such work could: a build beside a sort of the same pairs,
-//! an image and a restart beside a copy of as many bytes. Without arguments it plays a round over a small store, and says what the
-//! core's index and the store that was opened again have; `table ROUNDS` prints each figure of each round, and the least and the
-//! median of the ratios.
+//! What single calls of the core and of a store cost, beside the least that such work could: a build beside a sort of
+//! the same pairs, an image and a restart beside a copy of as many bytes. Without arguments it plays a round over a
+//! small store, and says what the core's index and the store that was opened again have; `table ROUNDS` prints each
+//! figure of each round, and the least and the median of the ratios.
 //!
 //! Proved: that it is safe, and meets what the calls below ask. Neither proved nor tested: that a figure is right.
 #![tactic(auto)]

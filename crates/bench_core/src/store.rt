@@ -33,7 +33,8 @@ pub(crate) enum Said {
 
 /// A store that is open. It is closed, and never let go.
 ///
-/// What is measured is generic over it, so that its proofs read nothing of what a store is made of, nor of what it promises.
+/// What is measured is generic over it, so that its proofs read nothing of what a store is made of, nor of what it
+/// promises.
 pub(crate) trait OpenStore: Sized {
     /// The disk that it lies on.
     type Disk;

@@ -105,8 +105,8 @@ fn least_and_median(mut figures: Vec<u64>) -> Result<(u64, u64)> {
     Ok((least, median))
 }
 
-// Prints a line: what each round took and what stands beside it, and of the figures and of their ratios, in hundredths, the least and
-// the median.
+// Prints a line: what each round took and what stands beside it, and of the figures and of their ratios, in hundredths,
+// the least and the median.
 fn print_line<R: Print + Alloc<A = Global>>(rt: &R, line: Line, rounds: &[Round]) -> Result<()> {
     let mut figures = Vec::new(rt.alloc());
     let mut ratios = Vec::new(rt.alloc());

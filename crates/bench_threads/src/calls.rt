@@ -98,8 +98,8 @@ fn put<B: Group, R: Wait>(
     insert(rt, shared, seat, txn, key, Body::new(b"row")?)
 }
 
-/// A transaction that puts a row with this number as its key, or deletes the one that is at the place, and waits until that is safe.
-/// Answers the place of the row that is there then.
+/// A transaction that puts a row with this number as its key, or deletes the one that is at the place, and waits until
+/// that is safe. Answers the place of the row that is there then.
 pub(crate) fn turn<B: Group, R: Wait>(
     rt: &R,
     shared: &Shared<B>,

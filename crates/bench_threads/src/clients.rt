@@ -12,7 +12,8 @@ use std::time::CpuClock;
 // No more clients than this run side by side.
 const THREADS_MAX: usize = 64;
 
-// How often, and each how many microseconds behind the last time, it is tried to create the index, and looked whether it is complete.
+// How often, and each how many microseconds behind the last time, it is tried to create the index, and looked whether
+// it is complete.
 const LOOKS: u32 = 1_000_000;
 
 const BETWEEN_TRIES: u64 = 10;
@@ -26,8 +27,8 @@ pub(crate) struct Commit {
     pub took: u64,
 }
 
-/// So many pages are filled at first. Writers commit for so many milliseconds before the index is created (at 0 it is created and
-/// completed before they begin), and for so many behind its end.
+/// So many pages are filled at first. Writers commit for so many milliseconds before the index is created (at 0 it is
+/// created and completed before they begin), and for so many behind its end.
 #[derive(Clone, Copy)]
 pub(crate) struct Plan {
     pub pages: u16,
@@ -35,8 +36,8 @@ pub(crate) struct Plan {
     pub after: u64,
 }
 
-/// When the writers began, when the index was created and was seen to be complete, and when the writers ended; and the processor time
-/// of all threads from the writers' beginning to their end: in nanoseconds.
+/// When the writers began, when the index was created and was seen to be complete, and when the writers ended; and the
+/// processor time of all threads from the writers' beginning to their end: in nanoseconds.
 #[derive(Clone, Copy)]
 pub(crate) struct Times {
     pub begun: u64,

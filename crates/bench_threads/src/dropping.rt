@@ -16,8 +16,8 @@ use std::sync::Wait;
 use std::sync::atomic::{AtomicBool, Ordering};
 use std::thread::{Threads, for_each_mut};
 
-// The rows of a full table, and the most entries that changes of its rows leave of which so many are of one transaction: while it is
-// active, it may add four for each.
+// The rows of a full table, and the most entries that changes of its rows leave of which so many are of one
+// transaction: while it is active, it may add four for each.
 const ROWS: u32 = PAGES_MAX * SLOTS_PER_PAGE as u32;
 
 const ENTRIES: u32 = ENTRIES_MAX - 3 * TOGETHER as u32;

@@ -1,9 +1,10 @@
-//! What the threads of a store do: commits a second of writers, quiet and beside a build, how long they wait, and what an idle store
-//! costs. Without arguments it lets two writers commit beside a small build, and says whether there were commits and the build ended;
-//! `table` prints figures, of one number of writers where one is given; `drop` says how long a drop of a full index takes, and others
-//! wait for it; `finish N` how long the end of all threads takes behind N commits of one seat; `picture FILE` draws commits a second
-//! over time, beside a build; `file FILE` makes stores in new files, whose names begin so, and prints commits a second on them, with
-//! real syncs, and how long an opening takes.
+//! What the threads of a store do: commits a second of writers, quiet and beside a build, how long they wait, and what
+//! an idle store costs. Without arguments it lets two writers commit beside a small build, and says whether there were
+//! commits and the build ended; `table` prints figures, of one number of writers where one is given; `drop` says how
+//! long a drop of a full index takes, and others wait for it; `finish N` how long the end of all threads takes behind N
+//! commits of one seat; `picture FILE` draws commits a second over time, beside a build; `file FILE` makes stores in
+//! new files, whose names begin so, and prints commits a second on them, with real syncs, and how long an opening
+//! takes.
 //!
 //! Proved: that it is safe, and meets what the calls below ask. Neither proved nor tested: that a figure is right.
 #![tactic(auto)]

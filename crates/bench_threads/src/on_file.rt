@@ -72,8 +72,8 @@ fn open<R: Alloc<A = Global> + Clock + Files<File = File>>(rt: &R, path: &str) -
     }
 }
 
-/// Makes stores in new files, and prints a line for one writer on one of them, one for eight on another, and how long the opening of
-/// a full one takes.
+/// Makes stores in new files, and prints a line for one writer on one of them, one for eight on another, and how long
+/// the opening of a full one takes.
 pub(crate) fn measure<
     R: Print + Alloc<A = Global> + Threads + Wait + Clock + CpuClock + Files<File = File> + Sync,
 >(rt: &R, path: &str) -> Result<()> {

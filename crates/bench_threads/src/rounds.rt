@@ -137,8 +137,8 @@ fn begin<
     }
 }
 
-/// A round over the store on the disk, which has a seat for each of so many clients, but only so many writers work beside the one that
-/// leads. What was not flushed in the end is lost.
+/// A round over the store on the disk, which has a seat for each of so many clients, but only so many writers work
+/// beside the one that leads. What was not flushed in the end is lost.
 pub(crate) fn play_on<D: Device + Send + Drop, R: Threads + Wait + Clock + CpuClock + Sync>(
     rt: &R,
     alloc: Global,

@@ -19,8 +19,8 @@ const BESIDE: u64 = 1_000;
 // No more builds than these.
 const ROUNDS_MAX: u32 = 60;
 
-/// Commits that are counted: how long their transactions took, in how many nanoseconds they came, how much processor time all threads
-/// used in the whole rounds, how many commits these had, and how many rounds there were.
+/// Commits that are counted: how long their transactions took, in how many nanoseconds they came, how much processor
+/// time all threads used in the whole rounds, how many commits these had, and how many rounds there were.
 #[derive(Drop)]
 struct Counted {
     took: Vec<u64>,
@@ -110,8 +110,8 @@ pub(crate) fn print_all<R: Print + Alloc<A = Global>>(
     print(rt, writers, how, &mut counted)
 }
 
-/// Prints a line for so many writers that commit while an index is built over many full pages, in as many builds one after the other as
-/// take a second; and one that says how long a build took.
+/// Prints a line for so many writers that commit while an index is built over many full pages, in as many builds one
+/// after the other as take a second; and one that says how long a build took.
 pub(crate) fn beside<R: Print + Alloc<A = Global> + Threads + Wait + Clock + CpuClock + Sync>(
     rt: &R,
     writers: u8,

@@ -1,5 +1,6 @@
 -- Each step keeps the rule of the board.
-use Rattle.std.proofs.Common.{◌≡◌, ◌≢◌, ℕ, zero, suc, ◌≤◌, max, Bool, true, false, eqb, List, [], ◌∷◌, ◌++◌, length, set, get_or, refl, sym, ap, ◌∙◌, subst, ⊎_elim, le_refl, le_trans, arith}
+use Rattle.std.proofs.Common.{◌≡◌, ◌≢◌, ℕ, zero, suc, ◌≤◌, max, Bool, true, false, eqb, List, [], ◌∷◌, ◌++◌, length, set, get_or, refl, sym, ap, ◌∙◌, subst}
+use Rattle.std.proofs.Common.{⊎_elim, le_refl, le_trans, arith}
 use mathlib.Core.Logic.{dite}
 use mathlib.Core.Option.{none, some, some-ne-none, some-injective}
 use native.Mathlib.Decide.{ℕ_discrete}
@@ -9,7 +10,8 @@ use Rattle.atomic_table.proofs.Lists.{at_set, set_else, at_longer}
 use Rattle.board.specs.declared.knowledge.Knowledge.{Knowledge}
 use Rattle.board.specs.Views.{part_ways}
 use Rattle.board.specs.Rule.{Posted, flag, words_of, Fits, SomeStops, AllApart, IsBoardKept, first_view, spent_view}
-use Rattle.board.specs.Steps.{without_builder, builder_of, without_reader, reader_of, staying, leaving, seen_by, flushed_by, built_by, informed, RaisesHorizon, RaisesProgress, SetsFailed, SetsStop, ReadsHorizon, ReadsProgress, ReadsFailed, ReadsStop, Compares}
+use Rattle.board.specs.Steps.{without_builder, builder_of, without_reader, reader_of, staying, leaving, seen_by, flushed_by, built_by, informed, RaisesHorizon}
+use Rattle.board.specs.Steps.{RaisesProgress, SetsFailed, SetsStop, ReadsHorizon, ReadsProgress, ReadsFailed, ReadsStop, Compares}
 use Rattle.board.proofs.Names.{off, at_end, apart_set, apart_end, apart_cut}
 
 at_here : {A : Type 0} (l : List A) (i : ℕ) (a b : A) → get_elem? l i ≡ some a → get_elem? (set l i b) i ≡ some b
@@ -18,17 +20,20 @@ at_here (x ∷ xs) zero a b e = refl
 at_here (x ∷ xs) (suc i) a b e = at_here xs i a b e
 
 -- a view changes, and still says that its holder has set the flag if it did
-stops_on : (views : List Knowledge) (seat : ℕ) (v w : Knowledge) → get_elem? views seat ≡ some v → (v.stops ≡ true → w.stops ≡ true) → SomeStops views → SomeStops (set views seat w)
+stops_on : (views : List Knowledge) (seat : ℕ) (v w : Knowledge) → get_elem? views seat ≡ some v → (v.stops ≡ true → w.stops ≡ true) → SomeStops views
+    → SomeStops (set views seat w)
 stops_on views seat v w at keep (j, u, there, did) =
     dite (ℕ_discrete j seat)
-    (λ (same : j ≡ seat). let is : u ≡ v = some-injective u v (sym there ∙ (ap (get_elem? views) same ∙ at)) in (seat, w, at_here views seat v w at, keep (ap (λ (x : Knowledge). x.stops) (sym is) ∙ did)))
+    (λ (same : j ≡ seat). let is : u ≡ v = some-injective u v (sym there ∙ (ap (get_elem? views) same ∙ at)) in
+    (seat, w, at_here views seat v w at, keep (ap (λ (x : Knowledge). x.stops) (sym is) ∙ did)))
     (λ (apart : j ≢ seat). (j, u, set_else views seat j w apart ∙ there, did))
 
 abbrev FitsAll : Posted → ℕ → ℕ → List Knowledge → Type 0
 FitsAll b flusher builder views = (seat : ℕ) (v : Knowledge) → get_elem? views seat ≡ some v → Fits b flusher builder seat v
 
 -- one view is new, and the others fit what is posted now
-fits_set : (b b' : Posted) (flusher builder builder' : ℕ) (views : List Knowledge) (seat : ℕ) (w : Knowledge) → ((j : ℕ) (u : Knowledge) → j ≢ seat → Fits b flusher builder j u → Fits b' flusher builder' j u)
+fits_set : (b b' : Posted) (flusher builder builder' : ℕ) (views : List Knowledge) (seat : ℕ) (w : Knowledge)
+    → ((j : ℕ) (u : Knowledge) → j ≢ seat → Fits b flusher builder j u → Fits b' flusher builder' j u)
     → FitsAll b flusher builder views → Fits b' flusher builder' seat w → FitsAll b' flusher builder' (set views seat w)
 fits_set b b' flusher builder builder' views seat w others fits mine j u e =
     ⊎_elim
@@ -43,7 +48,8 @@ abbrev Table : Type 0
 Table = State (Unit {0}) Knowledge
 
 -- the step of one view, from what was posted to b
-moved : (s : Table) (k : IsBoardKept s) (seat i n : ℕ) (c : List (ℕ × Unit {0})) (v w : Knowledge) (b : Posted) → get_elem? s.views seat ≡ some v → set s.words i n ≡ words_of b
+moved : (s : Table) (k : IsBoardKept s) (seat i n : ℕ) (c : List (ℕ × Unit {0})) (v w : Knowledge) (b : Posted) → get_elem? s.views seat ≡ some v
+    → set s.words i n ≡ words_of b
     → ((j : ℕ) (u : Knowledge) → j ≢ seat → Fits k.posted k.flusher k.builder j u → Fits b k.flusher k.builder j u) → Fits b k.flusher k.builder seat w
     → (b.stopped ≡ true → SomeStops (set s.views seat w)) → w.may_stop ≡ v.may_stop → w.name ≡ v.name → IsBoardKept (stepped s i n seat c w keeps)
 moved s k seat i n c v w b at is others mine stops may name = record {
@@ -57,10 +63,12 @@ moved s k seat i n c v w b at is others mine stops may name = record {
 }
 
 -- a word is stored
-written : (s : Table) (k : IsBoardKept s) (i : ℕ) (f : ℕ → ℕ) (b : Posted) → set (words_of k.posted) i (f (get_or (words_of k.posted) i 0)) ≡ words_of b → set s.words i (f (get_or s.words i 0)) ≡ words_of b
+written : (s : Table) (k : IsBoardKept s) (i : ℕ) (f : ℕ → ℕ) (b : Posted) → set (words_of k.posted) i (f (get_or (words_of k.posted) i 0)) ≡ words_of b
+    → set s.words i (f (get_or s.words i 0)) ≡ words_of b
 written s k i f b is = ap (λ (ws : List ℕ). set ws i (f (get_or ws i 0))) k.words ∙ is
 
-pub raises_horizon : (slots seat : ℕ) (me : Seated) (n : ℕ) → me.0.flushes ≡ true → Allows IsBoardKept slots seat me 0 (λ x. max x n) (RaisesHorizon (step slots 0 n 0 none) me)
+pub raises_horizon : (slots seat : ℕ) (me : Seated) (n : ℕ) → me.0.flushes ≡ true
+    → Allows IsBoardKept slots seat me 0 (λ x. max x n) (RaisesHorizon (step slots 0 n 0 none) me)
 raises_horizon slots seat me n flushes s k _ at _ =
     let v : Knowledge = me.0 in
     let w : Knowledge = record v { published = max v.published n } in
@@ -96,7 +104,8 @@ raises_horizon slots seat me n flushes s k _ at _ =
       refl,
     )
 
-pub raises_progress : (slots seat : ℕ) (me : Seated) (n : ℕ) → me.0.builds ≡ true → Allows IsBoardKept slots seat me 1 (λ x. max x n) (RaisesProgress (step slots 1 n 0 none) me)
+pub raises_progress : (slots seat : ℕ) (me : Seated) (n : ℕ) → me.0.builds ≡ true
+    → Allows IsBoardKept slots seat me 1 (λ x. max x n) (RaisesProgress (step slots 1 n 0 none) me)
 raises_progress slots seat me n builds s k _ at _ =
     let v : Knowledge = me.0 in
     let w : Knowledge = record v { attempts = max v.attempts n } in
@@ -132,7 +141,8 @@ raises_progress slots seat me n builds s k _ at _ =
       refl,
     )
 
-pub sets_failed : (slots seat : ℕ) (me : Seated) → me.0.flushes ≡ true → Allows IsBoardKept slots seat me 2 (λ _. 1) (λ _. SetsFailed (step slots 2 1 0 none) me 1)
+pub sets_failed : (slots seat : ℕ) (me : Seated) → me.0.flushes ≡ true
+    → Allows IsBoardKept slots seat me 2 (λ _. 1) (λ _. SetsFailed (step slots 2 1 0 none) me 1)
 sets_failed slots seat me flushes s k _ at _ =
     let v : Knowledge = me.0 in
     let w : Knowledge = record v { device_failed = true } in
@@ -202,10 +212,13 @@ sets_stop slots seat me may s k _ at _ =
     )
 
 -- A step that changes no word. The view has seen more.
-sees : (s : Table) (k : IsBoardKept s) (seat i : ℕ) (c : List (ℕ × Unit {0})) (v w : Knowledge) → get_elem? s.views seat ≡ some v → set (words_of k.posted) i (get_or (words_of k.posted) i 0) ≡ words_of k.posted
-    → Fits k.posted k.flusher k.builder seat w → (v.stops ≡ true → w.stops ≡ true) → w.may_stop ≡ v.may_stop → w.name ≡ v.name → IsBoardKept (stepped s i (get_or s.words i 0) seat c w keeps)
+sees : (s : Table) (k : IsBoardKept s) (seat i : ℕ) (c : List (ℕ × Unit {0})) (v w : Knowledge) → get_elem? s.views seat ≡ some v
+    → set (words_of k.posted) i (get_or (words_of k.posted) i 0) ≡ words_of k.posted
+    → Fits k.posted k.flusher k.builder seat w → (v.stops ≡ true → w.stops ≡ true) → w.may_stop ≡ v.may_stop → w.name ≡ v.name
+    → IsBoardKept (stepped s i (get_or s.words i 0) seat c w keeps)
 sees s k seat i c v w at is mine keep may name =
-    moved s k seat i (get_or s.words i 0) c v w k.posted at (written s k i (λ x. x) k.posted is) (λ j u apart fit. fit) mine (λ on. stops_on s.views seat v w at keep (k.stops on)) may name
+    moved s k seat i (get_or s.words i 0) c v w k.posted at (written s k i (λ x. x) k.posted is) (λ j u apart fit. fit) mine (λ on.
+    stops_on s.views seat v w at keep (k.stops on)) may name
 
 pub reads_horizon : (slots seat : ℕ) (me : Seated) → Allows IsBoardKept slots seat me 0 (λ n. n) (ReadsHorizon (step slots 0 0 0 none) me)
 reads_horizon slots seat me s k _ at _ =
@@ -214,7 +227,16 @@ reads_horizon slots seat me s k _ at _ =
     let w : Knowledge = record v { horizon = n; checked = false } in
     let old = k.fits seat v at in
     let is : n ≡ k.posted.horizon = ap (λ (ws : List ℕ). get_or ws 0 0) k.words in
-    let mine : Fits k.posted k.flusher k.builder seat w = record { horizon = omega arith; progress = old.progress; failed = old.failed; stopped = old.stopped; of_flusher = old.of_flusher; of_builder = old.of_builder; stops = old.stops } in
+    let mine : Fits k.posted k.flusher k.builder seat w =
+    record {
+      horizon = omega arith;
+      progress = old.progress;
+      failed = old.failed;
+      stopped = old.stopped;
+      of_flusher = old.of_flusher;
+      of_builder = old.of_builder;
+      stops = old.stops;
+    } in
     (w, keeps, tt, sees s k seat 0 me.1 v w at refl mine (λ did. did) refl refl, (omega arith, refl))
 
 pub reads_progress : (slots seat : ℕ) (me : Seated) → Allows IsBoardKept slots seat me 1 (λ n. n) (ReadsProgress (step slots 1 0 0 none) me)
@@ -224,7 +246,16 @@ reads_progress slots seat me s k _ at _ =
     let w : Knowledge = record v { progress = n } in
     let old = k.fits seat v at in
     let is : n ≡ k.posted.progress = ap (λ (ws : List ℕ). get_or ws 1 0) k.words in
-    let mine : Fits k.posted k.flusher k.builder seat w = record { horizon = old.horizon; progress = omega arith; failed = old.failed; stopped = old.stopped; of_flusher = old.of_flusher; of_builder = old.of_builder; stops = old.stops } in
+    let mine : Fits k.posted k.flusher k.builder seat w =
+    record {
+      horizon = old.horizon;
+      progress = omega arith;
+      failed = old.failed;
+      stopped = old.stopped;
+      of_flusher = old.of_flusher;
+      of_builder = old.of_builder;
+      stops = old.stops;
+    } in
     (w, keeps, tt, sees s k seat 1 me.1 v w at refl mine (λ did. did) refl refl, (omega arith, refl))
 
 flag_is : (b : Bool) → eqb (flag b) 1 ≡ b
@@ -238,16 +269,28 @@ reads_failed slots seat me s k _ at _ =
     let w : Knowledge = record v { failed = eqb n 1; checked = true } in
     let old = k.fits seat v at in
     let is : eqb n 1 ≡ k.posted.failed = ap (λ (ws : List ℕ). eqb (get_or ws 2 0) 1) k.words ∙ flag_is k.posted.failed in
-    let mine : Fits k.posted k.flusher k.builder seat w = record { horizon = old.horizon; progress = old.progress; failed = λ on. sym is ∙ on; stopped = old.stopped; of_flusher = old.of_flusher; of_builder = old.of_builder; stops = old.stops } in
+    let mine : Fits k.posted k.flusher k.builder seat w =
+    record {
+      horizon = old.horizon;
+      progress = old.progress;
+      failed = λ on. sym is
+          ∙ on;
+      stopped = old.stopped;
+      of_flusher = old.of_flusher;
+      of_builder = old.of_builder;
+      stops = old.stops;
+    } in
     (w, keeps, tt, sees s k seat 2 me.1 v w at refl mine (λ did. did) refl refl, ((λ on. is ∙ old.failed on), refl))
 
 -- the view with the first name is the only one that may stop
-only_first : (views : List Knowledge) (seat : ℕ) (v : Knowledge) → get_elem? views seat ≡ some v → v.may_stop ≡ true → v.name ≡ [] → AllApart views → ((j : ℕ) (u : Knowledge) → get_elem? views j ≡ some u → u.stops ≡ true → u.may_stop ≡ true)
+only_first : (views : List Knowledge) (seat : ℕ) (v : Knowledge) → get_elem? views seat ≡ some v → v.may_stop ≡ true → v.name ≡ [] → AllApart views
+    → ((j : ℕ) (u : Knowledge) → get_elem? views j ≡ some u → u.stops ≡ true → u.may_stop ≡ true)
     → SomeStops views → v.stops ≡ true
 only_first views seat v at may first apart can (j, u, there, did) =
     dite (ℕ_discrete j seat)
     (λ (same : j ≡ seat). let is : u ≡ v = some-injective u v (sym there ∙ (ap (get_elem? views) same ∙ at)) in ap (λ (x : Knowledge). x.stops) (sym is) ∙ did)
-    (λ (other : j ≢ seat). off (ap (λ (x : List Bool). part_ways x u.name) (sym first) ∙ apart seat j v u (λ (is : seat ≡ j). other (sym is)) at there may (can j u there did)))
+    (λ (other : j ≢ seat). off (ap (λ (x : List Bool). part_ways x u.name) (sym first)
+    ∙ apart seat j v u (λ (is : seat ≡ j). other (sym is)) at there may (can j u there did)))
 
 pub reads_stop : (slots seat : ℕ) (me : Seated) → me.0.may_stop ≡ true → Allows IsBoardKept slots seat me 3 (λ n. n) (ReadsStop (step slots 3 0 0 none) me)
 reads_stop slots seat me may s k _ at _ =
@@ -256,8 +299,19 @@ reads_stop slots seat me may s k _ at _ =
     let w : Knowledge = record v { stopped = eqb n 1 } in
     let old = k.fits seat v at in
     let is : eqb n 1 ≡ k.posted.stopped = ap (λ (ws : List ℕ). eqb (get_or ws 3 0) 1) k.words ∙ flag_is k.posted.stopped in
-    let mine : Fits k.posted k.flusher k.builder seat w = record { horizon = old.horizon; progress = old.progress; failed = old.failed; stopped = λ on. sym is ∙ on; of_flusher = old.of_flusher; of_builder = old.of_builder; stops = old.stops } in
-    let alone : v.name ≡ [] → eqb n 1 ≡ true → v.stops ≡ true = λ first on. only_first s.views seat v at may first k.apart (λ j u there. (k.fits j u there).stops) (k.stops (sym is ∙ on)) in
+    let mine : Fits k.posted k.flusher k.builder seat w =
+    record {
+      horizon = old.horizon;
+      progress = old.progress;
+      failed = old.failed;
+      stopped = λ on. sym is
+          ∙ on;
+      of_flusher = old.of_flusher;
+      of_builder = old.of_builder;
+      stops = old.stops;
+    } in
+    let alone : v.name ≡ [] → eqb n 1 ≡ true → v.stops ≡ true = λ first on.
+    only_first s.views seat v at may first k.apart (λ j u there. (k.fits j u there).stops) (k.stops (sym is ∙ on)) in
     (w, keeps, tt, sees s k seat 3 me.1 v w at refl mine (λ did. did) refl refl, ((λ on. is ∙ old.stopped on), alone, refl))
 
 pub compares : (slots seat : ℕ) (me : Seated) → Allows IsBoardKept slots seat me 0 (λ n. n) (Compares (step slots 0 0 0 none) me)
@@ -268,7 +322,11 @@ compares slots seat me s k _ at _ =
       keeps,
       tt,
       sees s k seat 0 me.1 v v at refl old (λ did. did) refl refl,
-      (refl, (λ is. (let own = old.of_flusher is in let seen = old.horizon in omega arith, λ on. sym (old.of_flusher is).2 ∙ old.failed on)), (λ is. let own = old.of_builder is in let seen = old.progress in omega arith)),
+      (
+        refl,
+        (λ is. (let own = old.of_flusher is in let seen = old.horizon in omega arith, λ on. sym (old.of_flusher is).2 ∙ old.failed on)),
+        (λ is. let own = old.of_builder is in let seen = old.progress in omega arith),
+      ),
     )
 
 -- the first table
@@ -281,7 +339,15 @@ begins = record { posted = nothing; flusher = 0; builder = 0; words = refl; fits
     one : FitsAll nothing 0 0 (first_view ∷ [])
     one zero v e =
         subst (Fits nothing 0 0 0) (some-injective first_view v e)
-        record { horizon = le_refl 0; progress = le_refl 0; failed = λ on. off on; stopped = λ on. off on; of_flusher = λ _. (refl, refl, refl); of_builder = λ _. (refl, refl); stops = λ on. off on }
+        record {
+          horizon = le_refl 0;
+          progress = le_refl 0;
+          failed = λ on. off on;
+          stopped = λ on. off on;
+          of_flusher = λ _. (refl, refl, refl);
+          of_builder = λ _. (refl, refl);
+          stops = λ on. off on;
+        }
     one (suc j) v e = absurd (some-ne-none v (sym e))
 
     alone : AllApart (first_view ∷ [])
@@ -294,18 +360,22 @@ stops_front views more (j, u, there, did) = (j, u, at_longer views more j u ther
 
 -- a view becomes two, which fit
 cut : (s : Table) (k : IsBoardKept s) (seat : ℕ) (v left right : Knowledge) (builder : ℕ) → get_elem? s.views seat ≡ some v
-    → ((j : ℕ) (u : Knowledge) → j ≢ seat → Fits k.posted k.flusher k.builder j u → Fits k.posted k.flusher builder j u) → Fits k.posted k.flusher builder seat left
-    → Fits k.posted k.flusher builder (length (set s.views seat left)) right → (v.stops ≡ true → left.stops ≡ true) → AllApart (set s.views seat left ++ right ∷ [])
+    → ((j : ℕ) (u : Knowledge) → j ≢ seat → Fits k.posted k.flusher k.builder j u → Fits k.posted k.flusher builder j u)
+    → Fits k.posted k.flusher builder seat left
+    → Fits k.posted k.flusher builder (length (set s.views seat left)) right → (v.stops ≡ true → left.stops ≡ true)
+    → AllApart (set s.views seat left ++ right ∷ [])
     → IsBoardKept record { words = s.words; homes = s.homes; views = set s.views seat left ++ right ∷ [] }
 cut s k seat v left right builder at others mine theirs keep apart =
     let end : ℕ = length (set s.views seat left) in
-    let first : FitsAll k.posted k.flusher builder (set s.views seat left) = fits_set k.posted k.posted k.flusher k.builder builder s.views seat left others k.fits mine in
+    let first : FitsAll k.posted k.flusher builder (set s.views seat left) =
+    fits_set k.posted k.posted k.flusher k.builder builder s.views seat left others k.fits mine in
     record {
       posted = k.posted;
       flusher = k.flusher;
       builder = builder;
       words = k.words;
-      fits = λ j u e. ⊎_elim (first j u) (λ (t : (j ≡ end) × (right ≡ u)). subst (λ (y : ℕ × Knowledge). Fits k.posted k.flusher builder y.0 y.1) (λ i. (sym t.0 i, t.1 i)) theirs) (at_end (set s.views seat left) right u j e);
+      fits = λ j u e. ⊎_elim (first j u) (λ (t : (j ≡ end) × (right ≡ u)).
+          subst (λ (y : ℕ × Knowledge). Fits k.posted k.flusher builder y.0 y.1) (λ i. (sym t.0 i, t.1 i)) theirs) (at_end (set s.views seat left) right u j e);
       stops = λ on. stops_front (set s.views seat left) (right ∷ []) (stops_on s.views seat v left at keep (k.stops on));
       apart = apart;
     }
@@ -314,13 +384,30 @@ pub cuts_view : (seat : ℕ) (v : Knowledge) → v.may_stop ≡ true → Splits 
 cuts_view seat v may s k at =
     let old = k.fits seat v at in
     cut s k seat v (staying v) (leaving v) k.builder at (λ j u _ f. f)
-    record { horizon = old.horizon; progress = old.progress; failed = old.failed; stopped = old.stopped; of_flusher = old.of_flusher; of_builder = old.of_builder; stops = old.stops }
-    record { horizon = old.horizon; progress = old.progress; failed = old.failed; stopped = old.stopped; of_flusher = λ on. off on; of_builder = λ on. off on; stops = λ on. off on }
+    record {
+      horizon = old.horizon;
+      progress = old.progress;
+      failed = old.failed;
+      stopped = old.stopped;
+      of_flusher = old.of_flusher;
+      of_builder = old.of_builder;
+      stops = old.stops;
+    }
+    record {
+      horizon = old.horizon;
+      progress = old.progress;
+      failed = old.failed;
+      stopped = old.stopped;
+      of_flusher = λ on. off on;
+      of_builder = λ on. off on;
+      stops = λ on. off on;
+    }
     (λ did. did)
     (apart_cut s.views seat v at may k.apart)
 
 -- what is cut off may do nothing, and has seen no more than is posted
-tells : (seat : ℕ) (v told : Knowledge) → ((b : Posted) (flusher builder : ℕ) → Fits b flusher builder seat v → (j : ℕ) → Fits b flusher builder j told) → told.may_stop ≡ false → Splits IsBoardKept seat v v told
+tells : (seat : ℕ) (v told : Knowledge) → ((b : Posted) (flusher builder : ℕ) → Fits b flusher builder seat v → (j : ℕ) → Fits b flusher builder j told)
+    → told.may_stop ≡ false → Splits IsBoardKept seat v v told
 tells seat v told fit none_may s k at =
     let old = k.fits seat v at in
     cut s k seat v v told k.builder at (λ j u _ f. f) old (fit k.posted k.flusher k.builder old (length (set s.views seat v))) (λ did. did)
@@ -329,7 +416,15 @@ tells seat v told fit none_may s k at =
 pub tells_seen : (seat : ℕ) (v : Knowledge) → Splits IsBoardKept seat v v (seen_by v)
 tells_seen seat v =
     tells seat v (seen_by v)
-    (λ b flusher builder old j. record { horizon = old.horizon; progress = old.progress; failed = old.failed; stopped = old.stopped; of_flusher = λ on. off on; of_builder = λ on. off on; stops = λ on. off on })
+    (λ b flusher builder old j. record {
+      horizon = old.horizon;
+      progress = old.progress;
+      failed = old.failed;
+      stopped = old.stopped;
+      of_flusher = λ on. off on;
+      of_builder = λ on. off on;
+      stops = λ on. off on;
+    })
     refl
 
 pub tells_flushed : (seat : ℕ) (v : Knowledge) → v.flushes ≡ true → Splits IsBoardKept seat v v (flushed_by v)
@@ -337,7 +432,16 @@ tells_flushed seat v flushes =
     tells seat v (flushed_by v)
     (λ b flusher builder old j.
     let own = old.of_flusher flushes in
-    record { horizon = omega arith; progress = old.progress; failed = λ on. own.2 ∙ on; stopped = old.stopped; of_flusher = λ on. off on; of_builder = λ on. off on; stops = λ on. off on })
+    record {
+      horizon = omega arith;
+      progress = old.progress;
+      failed = λ on. own.2
+          ∙ on;
+      stopped = old.stopped;
+      of_flusher = λ on. off on;
+      of_builder = λ on. off on;
+      stops = λ on. off on;
+    })
     refl
 
 pub tells_built : (seat : ℕ) (v : Knowledge) → v.builds ≡ true → Splits IsBoardKept seat v v (built_by v)
@@ -345,7 +449,15 @@ tells_built seat v builds =
     tells seat v (built_by v)
     (λ b flusher builder old j.
     let own = old.of_builder builds in
-    record { horizon = old.horizon; progress = omega arith; failed = old.failed; stopped = old.stopped; of_flusher = λ on. off on; of_builder = λ on. off on; stops = λ on. off on })
+    record {
+      horizon = old.horizon;
+      progress = omega arith;
+      failed = old.failed;
+      stopped = old.stopped;
+      of_flusher = λ on. off on;
+      of_builder = λ on. off on;
+      stops = λ on. off on;
+    })
     refl
 
 pub cuts_builder : (seat : ℕ) (v : Knowledge) → v.builds ≡ true → Splits IsBoardKept seat v (without_builder v) (builder_of v)
@@ -365,8 +477,25 @@ cuts_builder seat v builds s k at =
       of_builder = λ is. absurd (apart ((f.of_builder is).0 ∙ sym own.0));
       stops = f.stops;
     })
-    record { horizon = old.horizon; progress = old.progress; failed = old.failed; stopped = old.stopped; of_flusher = old.of_flusher; of_builder = λ on. off on; stops = old.stops }
-    record { horizon = old.horizon; progress = old.progress; failed = old.failed; stopped = old.stopped; of_flusher = λ on. off on; of_builder = λ _. (refl, own.1); stops = λ on. off on }
+    record {
+      horizon = old.horizon;
+      progress = old.progress;
+      failed = old.failed;
+      stopped = old.stopped;
+      of_flusher = old.of_flusher;
+      of_builder = λ on. off on;
+      stops = old.stops;
+    }
+    record {
+      horizon = old.horizon;
+      progress = old.progress;
+      failed = old.failed;
+      stopped = old.stopped;
+      of_flusher = λ on. off on;
+      of_builder = λ _.
+          (refl, own.1);
+      stops = λ on. off on;
+    }
     (λ did. did)
     (apart_end (set s.views seat left) right (apart_set s.views seat v left at (λ can. (can, λ other e. e)) k.apart) (λ j u e can may. off may))
 
@@ -376,12 +505,29 @@ cuts_reader seat v may never s k at =
     let left = without_reader v in
     let right = reader_of v in
     cut s k seat v left right k.builder at (λ j u _ f. f)
-    record { horizon = old.horizon; progress = old.progress; failed = old.failed; stopped = old.stopped; of_flusher = old.of_flusher; of_builder = old.of_builder; stops = λ did. off (sym never ∙ did) }
-    record { horizon = old.horizon; progress = old.progress; failed = old.failed; stopped = old.stopped; of_flusher = λ on. off on; of_builder = λ on. off on; stops = λ did. off (sym never ∙ did) }
+    record {
+      horizon = old.horizon;
+      progress = old.progress;
+      failed = old.failed;
+      stopped = old.stopped;
+      of_flusher = old.of_flusher;
+      of_builder = old.of_builder;
+      stops = λ did. off (sym never ∙ did);
+    }
+    record {
+      horizon = old.horizon;
+      progress = old.progress;
+      failed = old.failed;
+      stopped = old.stopped;
+      of_flusher = λ on. off on;
+      of_builder = λ on. off on;
+      stops = λ did. off (sym never ∙ did);
+    }
     (λ did. did)
     (apart_end (set s.views seat left) right (apart_set s.views seat v left at (λ can. off can) k.apart) apart)
   where
-    apart : (j : ℕ) (u : Knowledge) → get_elem? (set s.views seat (without_reader v)) j ≡ some u → u.may_stop ≡ true → (reader_of v).may_stop ≡ true → part_ways (reader_of v).name u.name ≡ true
+    apart : (j : ℕ) (u : Knowledge) → get_elem? (set s.views seat (without_reader v)) j ≡ some u → u.may_stop ≡ true → (reader_of v).may_stop ≡ true
+        → part_ways (reader_of v).name u.name ≡ true
     apart j u e can _ =
         ⊎_elim
         (λ (x : (j ≡ seat) × (without_reader v ≡ u)). off (ap (λ (y : Knowledge). y.may_stop) x.1 ∙ can))
@@ -404,14 +550,27 @@ learns seat v other told never s k at apart there =
       of_builder = mine.of_builder;
       stops = mine.stops;
     } in
-    let spent : Fits k.posted k.flusher k.builder other spent_view = record { horizon = omega arith; progress = omega arith; failed = λ on. off on; stopped = λ on. off on; of_flusher = λ on. off on; of_builder = λ on. off on; stops = λ on. off on } in
-    let first : FitsAll k.posted k.flusher k.builder (set s.views seat both) = fits_set k.posted k.posted k.flusher k.builder k.builder s.views seat both (λ j u _ f. f) k.fits joined in
+    let spent : Fits k.posted k.flusher k.builder other spent_view =
+    record {
+      horizon = omega arith;
+      progress = omega arith;
+      failed = λ on. off on;
+      stopped = λ on. off on;
+      of_flusher = λ on. off on;
+      of_builder = λ on.
+          off on;
+      stops = λ on. off on;
+    } in
+    let first : FitsAll k.posted k.flusher k.builder (set s.views seat both) =
+    fits_set k.posted k.posted k.flusher k.builder k.builder s.views seat both (λ j u _ f. f) k.fits joined in
     record {
       posted = k.posted;
       flusher = k.flusher;
       builder = k.builder;
       words = k.words;
       fits = fits_set k.posted k.posted k.flusher k.builder k.builder (set s.views seat both) other spent_view (λ j u _ f. f) first spent;
-      stops = λ on. stops_on (set s.views seat both) other told spent_view there (λ did. off (sym never ∙ did)) (stops_on s.views seat v both at (λ did. did) (k.stops on));
-      apart = apart_set (set s.views seat both) other told spent_view there (λ can. off can) (apart_set s.views seat v both at (λ can. (can, λ name e. e)) k.apart);
+      stops = λ on. stops_on (set s.views seat both) other told spent_view there (λ did. off (sym never ∙ did))
+          (stops_on s.views seat v both at (λ did. did) (k.stops on));
+      apart = apart_set (set s.views seat both) other told spent_view there (λ can. off can)
+          (apart_set s.views seat v both at (λ can. (can, λ name e. e)) k.apart);
     }

@@ -84,7 +84,8 @@ ReadsProgress st m n m' = (m.0.progress ≤ n) × (m' ≡ (record m.0 { progress
 
 -- it reads the failed flag, which stays set where it was seen set, and has looked at it since the horizon
 abbrev pub ReadsFailed : Tells
-ReadsFailed st m n m' = (m.0.failed ≡ true → (n == 1) ≡ true) × (m' ≡ (record m.0 { failed = n == 1; checked = true }, m.1))
+ReadsFailed st m n m' = (m.0.failed ≡ true → (n == 1) ≡ true)
+    × (m' ≡ (record m.0 { failed = n == 1; checked = true }, m.1))
 
 -- where the view was never made two, nobody else can have set the flag
 abbrev pub ReadsStop : Tells

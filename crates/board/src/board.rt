@@ -22,8 +22,8 @@ const FAILED: usize = 2;
 
 const STOP: usize = 3;
 
-/// Four words that threads share by a `&`, and what they sleep on. To a contract a board is its identity, which each of its views
-/// names.
+/// Four words that threads share by a `&`, and what they sleep on. To a contract a board is its identity, which each of
+/// its views names.
 #[derive(Drop)]
 pub struct Board<A: Allocator> {
     table: Table<(), Knowledge, (), BoardRule, A>,
@@ -126,7 +126,8 @@ impl<A: Allocator> Board<A> {
         shared.load::<ReadProgress>(&mut view.seat, PROGRESS)
     }
 
-    /// The flusher sets the failed flag, which says that its device failed. It stays set. Those who wait for the horizon are woken.
+    /// The flusher sets the failed flag, which says that its device failed. It stays set. Those who wait for the
+    /// horizon are woken.
     pub fn fail(&self, view: &mut FlushView)
         requires { view.old.board ≡ self.now }
         ensures { view.new ≡ record view.old { failed = true } }
@@ -136,8 +137,8 @@ impl<A: Allocator> Board<A> {
         self.waits.published.ring();
     }
 
-    /// Reads the failed flag. It stays true once this view has seen it. The view has then checked it behind the last horizon that it
-    /// read.
+    /// Reads the failed flag. It stays true once this view has seen it. The view has then checked it behind the last
+    /// horizon that it read.
     pub fn failed(&self, view: &mut View) -> bool
         requires { view.old.board ≡ self.now }
         ensures seen { view.new ≡ record view.old { failed = result; checked = true } }

@@ -5,16 +5,17 @@
 //! alone raises the horizon or says that the device failed. The builder has the [`BuildView`] and alone raises the
 //! progress. Every other thread has a [`View`]: it reads the four words and may set the stop flag.
 //!
-//! Threads that have nothing to do sleep on the bells of the board, which its steps ring ([`Waits`]). Nothing rests on a ring: each
-//! sleep ends by itself.
+//! Threads that have nothing to do sleep on the bells of the board, which its steps ring ([`Waits`]). Nothing rests on
+//! a ring: each sleep ends by itself.
 //!
 //! Only [`Board::new`] takes memory. Every other call returns at once with its answer: it takes no memory, waits for
 //! nothing and cannot fail. A call of the six kinds of step makes one atomic step on one word.
 //!
-//! Proved: what each call does to the view that it steps with, and nothing else (`seen`, `stays`, `leaves`). No horizon or progress
-//! is read below one that the view saw (`rises`). `settle` tells that no horizon which another view saw is above the flusher's
-//! count (`horizon`). The flusher's own count is what is published: that it is at most what is synced is kept by the type above.
-//! Neither: that a read is of now, that a ring wakes anyone, that a thread gets on, or fairness.
+//! Proved: what each call does to the view that it steps with, and nothing else (`seen`, `stays`, `leaves`). No horizon
+//! or progress is read below one that the view saw (`rises`). `settle` tells that no horizon which another view saw is
+//! above the flusher's count (`horizon`). The flusher's own count is what is published: that it is at most what is
+//! synced is kept by the type above. Neither: that a read is of now, that a ring wakes anyone, that a thread gets on,
+//! or fairness.
 #![tactic(auto)]
 
 mod board;

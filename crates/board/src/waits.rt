@@ -1,7 +1,7 @@
 //! What threads sleep on while there is nothing for them to do.
 //!
-//! No contract rests on any of it: a sleep ends by itself after a time that its caller names, and a thread that wakes up looks
-//! again at what it waits for.
+//! No contract rests on any of it: a sleep ends by itself after a time that its caller names, and a thread that wakes
+//! up looks again at what it waits for.
 use std::hint;
 use std::sync::Wait;
 use std::sync::atomic::{AtomicU64, Ordering};
@@ -41,8 +41,8 @@ impl Bell {
         }
     }
 
-    /// Looks so often whether it rings, where no other thread does, and says whether it has: a short wait costs less so than by a
-    /// sleep, but one processor at most is to be kept busy by it.
+    /// Looks so often whether it rings, where no other thread does, and says whether it has: a short wait costs less so
+    /// than by a sleep, but one processor at most is to be kept busy by it.
     pub fn look(&self, rings: u64, times: u32) -> bool {
         let is_first = self.lookers.fetch_add(1, Ordering::SeqCst) == 0;
         let times = if is_first { times } else { 1 };

@@ -1,5 +1,6 @@
 -- How the flusher's part goes on from call to call.
-use Rattle.std.proofs.Common.{◌≡◌, ℕ, ◌≤◌, true, false, List, [], ◌++◌, Result, Ok, Err, IfErr, OnOk, OnErr, inl, inr, refl, sym, ap, ◌∙◌, subst, arith, append-nil, append_assoc}
+use Rattle.std.proofs.Common.{◌≡◌, ℕ, ◌≤◌, true, false, List, [], ◌++◌, Result, Ok, Err, IfErr, OnOk, OnErr, inl, inr, refl, sym, ap, ◌∙◌, subst, arith}
+use Rattle.std.proofs.Common.{append-nil, append_assoc}
 use Rattle.std.proofs.lemmas.Bool.{false≢true}
 use Rattle.records.specs.RecordValue.{RecordValue}
 use Rattle.records.specs.declared.error.Error.{Error}
@@ -44,7 +45,8 @@ module _ {D A : Type 0} (history : D → History) (failures : D → ℕ) (o : Op
     geometry = ap (λ (h : HalvesValue). h.geometry) takes.got.halves;
     rises = omega (arith, takes.got.synced);
     images =
-        subst (λ (n : ℕ). LeavesOnly (history (device_of old.writer)) (history (device_of new.writer)) (GivesBeginning o (halves_of new.writer).geometry new.handed n)) takes.got.synced
+        subst (λ (n : ℕ). LeavesOnly (history (device_of old.writer)) (history (device_of new.writer))
+        (GivesBeginning o (halves_of new.writer).geometry new.handed n)) takes.got.synced
         (subst (λ (d : D). LeavesOnly (history d) (history (device_of new.writer)) (FlushLeaves o new)) takes.got.device (left_now new is));
     later = omega (arith, ap failures takes.got.device);
     counted = counted_same (has_failed old.writer) (has_failed new.writer) (failures (device_of old.writer)) (failures (device_of new.writer)) takes.got.failed;
@@ -53,17 +55,22 @@ module _ {D A : Type 0} (history : D → History) (failures : D → ℕ) (o : Op
   }
 
   -- by a call of the writer
-  pub writes_by_call : (old new : FlushValue D A) → Publishes old new → (halves_of new.writer).geometry ≡ (halves_of old.writer).geometry → synced_of old.writer ≤ synced_of new.writer
-      → LeavesOnly (history (device_of old.writer)) (history (device_of new.writer)) (FlushLeaves o old) → failures (device_of old.writer) ≤ failures (device_of new.writer)
-      → (has_failed new.writer ≡ true → has_failed old.writer ≡ false → Rises (failures (device_of old.writer)) (failures (device_of new.writer))) → (has_failed new.writer ≡ false → has_failed old.writer ≡ false)
+  pub writes_by_call : (old new : FlushValue D A) → Publishes old new → (halves_of new.writer).geometry ≡ (halves_of old.writer).geometry
+      → synced_of old.writer ≤ synced_of new.writer
+      → LeavesOnly (history (device_of old.writer)) (history (device_of new.writer)) (FlushLeaves o old)
+      → failures (device_of old.writer) ≤ failures (device_of new.writer)
+      → (has_failed new.writer ≡ true → has_failed old.writer ≡ false → Rises (failures (device_of old.writer)) (failures (device_of new.writer)))
+      → (has_failed new.writer ≡ false → has_failed old.writer ≡ false)
       → (has_failed new.writer ≡ false → failures (device_of new.writer) ≡ failures (device_of old.writer)) → WritesOn history failures o old new
   writes_by_call old new publishes geometry rises images later counted stays quiet = record {
     more = [];
     handed = publishes.handed ∙ sym (append-nil old.handed);
     geometry = geometry;
     rises = rises;
-    images = weaker (history (device_of old.writer)) (history (device_of new.writer)) (FlushLeaves o old) (GivesBeginning o (halves_of new.writer).geometry new.handed (synced_of old.writer))
-        (λ image left. subst (λ (rs : List RecordValue). GivesBeginning o (halves_of new.writer).geometry rs (synced_of old.writer) image) (sym publishes.handed)
+    images = weaker (history (device_of old.writer)) (history (device_of new.writer)) (FlushLeaves o old)
+        (GivesBeginning o (halves_of new.writer).geometry new.handed (synced_of old.writer))
+        (λ image left. subst (λ (rs : List RecordValue). GivesBeginning o (halves_of new.writer).geometry rs (synced_of old.writer) image)
+        (sym publishes.handed)
         (same_store o (halves_of old.writer).geometry (halves_of new.writer).geometry old.handed (synced_of old.writer) image geometry left)) images;
     later = later;
     counted = counted;
@@ -72,7 +79,8 @@ module _ {D A : Type 0} (history : D → History) (failures : D → ℕ) (o : Op
   }
 
   -- by one and then another
-  pub writes_then : (old mid new : FlushValue D A) → WritesOn history failures o old mid → WritesOn history failures o mid new → WritesOn history failures o old new
+  pub writes_then : (old mid new : FlushValue D A) → WritesOn history failures o old mid → WritesOn history failures o mid new
+      → WritesOn history failures o old new
   writes_then old mid new first second = record {
     more = first.more ++ second.more;
     handed = second.handed ∙ (ap (λ l. l ++ second.more) first.handed ∙ append_assoc old.handed first.more second.more);
@@ -81,14 +89,20 @@ module _ {D A : Type 0} (history : D → History) (failures : D → ℕ) (o : Op
     images =
         let P : Image → Type 0 = GivesBeginning o (halves_of new.writer).geometry new.handed (synced_of old.writer) in
         joined (history (device_of old.writer)) (history (device_of mid.writer)) (history (device_of new.writer)) P
-        (weaker (history (device_of old.writer)) (history (device_of mid.writer)) (GivesBeginning o (halves_of mid.writer).geometry mid.handed (synced_of old.writer)) P
-        (λ image left. beginning_of o (halves_of new.writer).geometry mid.handed second.more new.handed (synced_of old.writer) (synced_of old.writer) image second.handed (omega arith)
-        (same_store o (halves_of mid.writer).geometry (halves_of new.writer).geometry mid.handed (synced_of old.writer) image second.geometry left)) first.images)
-        (weaker (history (device_of mid.writer)) (history (device_of new.writer)) (GivesBeginning o (halves_of new.writer).geometry new.handed (synced_of mid.writer)) P
-        (λ image left. beginning_of o (halves_of new.writer).geometry new.handed [] new.handed (synced_of mid.writer) (synced_of old.writer) image (sym (append-nil new.handed)) first.rises left) second.images);
+        (weaker (history (device_of old.writer)) (history (device_of mid.writer))
+        (GivesBeginning o (halves_of mid.writer).geometry mid.handed (synced_of old.writer)) P
+        (λ image left. beginning_of o (halves_of new.writer).geometry mid.handed second.more new.handed (synced_of old.writer)
+        (synced_of old.writer) image second.handed (omega arith)
+        (same_store o (halves_of mid.writer).geometry (halves_of new.writer).geometry mid.handed (synced_of old.writer) image second.geometry left))
+        first.images)
+        (weaker (history (device_of mid.writer)) (history (device_of new.writer))
+        (GivesBeginning o (halves_of new.writer).geometry new.handed (synced_of mid.writer)) P
+        (λ image left. beginning_of o (halves_of new.writer).geometry new.handed [] new.handed (synced_of mid.writer) (synced_of old.writer) image
+        (sym (append-nil new.handed)) first.rises left) second.images);
     later = omega (arith, first.later, second.later);
     counted =
-        counted_then (has_failed old.writer) (has_failed mid.writer) (has_failed new.writer) (failures (device_of old.writer)) (failures (device_of mid.writer)) (failures (device_of new.writer)) first.later second.later first.counted second.counted;
+        counted_then (has_failed old.writer) (has_failed mid.writer) (has_failed new.writer) (failures (device_of old.writer)) (failures (device_of mid.writer))
+        (failures (device_of new.writer)) first.later second.later first.counted second.counted;
     stays = λ now. first.stays (second.stays now);
     quiet = λ now. second.quiet now ∙ first.quiet (second.stays now);
   }
@@ -96,12 +110,14 @@ module _ {D A : Type 0} (history : D → History) (failures : D → ℕ) (o : Op
 -- ---- calls that met no failure of the device
 
 module _ {D A : Type 0} (failures : D → ℕ) (old new : Writer D A) where
-  pub quiet_flush : {T : Type 0} (result : Result T Error) → OnOk result (failures (device_of new) ≡ failures (device_of old)) → IfErr result (λ e. IsNotFlushed failures e old new) → has_failed new ≡ false → failures (device_of new) ≡ failures (device_of old)
+  pub quiet_flush : {T : Type 0} (result : Result T Error) → OnOk result (failures (device_of new) ≡ failures (device_of old))
+      → IfErr result (λ e. IsNotFlushed failures e old new) → has_failed new ≡ false → failures (device_of new) ≡ failures (device_of old)
   quiet_flush (Ok x) quiet err sound = quiet
   quiet_flush (Err e) quiet (inl none) sound = ap (λ (w : Writer D A). failures (device_of w)) none.4
   quiet_flush (Err e) quiet (inr device) sound = absurd (false≢true (sym sound ∙ device.1))
 
-  pub quiet_call : {T : Type 0} (result : Result T Error) → OnOk result (failures (device_of new) ≡ failures (device_of old)) → IfErr result (λ e. HasFailed failures e old new) → has_failed new ≡ false → failures (device_of new) ≡ failures (device_of old)
+  pub quiet_call : {T : Type 0} (result : Result T Error) → OnOk result (failures (device_of new) ≡ failures (device_of old))
+      → IfErr result (λ e. HasFailed failures e old new) → has_failed new ≡ false → failures (device_of new) ≡ failures (device_of old)
   quiet_call (Ok x) quiet err sound = quiet
   quiet_call (Err e) quiet device sound = absurd (false≢true (sym sound ∙ device.1))
 
@@ -124,7 +140,8 @@ module _ {D A : Type 0} where
   }
 
   -- what is held is handed in, or nothing is
-  pub took_in : {T : Type 0} (old new : FlushValue D A) (result : Result T Error) → new.published ≡ old.published → OnOk result ((new.handed ≡ old.handed ++ old.held) × (new.held ≡ [])) → OnOk result (HasGot old.held old.writer new.writer)
+  pub took_in : {T : Type 0} (old new : FlushValue D A) (result : Result T Error) → new.published ≡ old.published
+      → OnOk result ((new.handed ≡ old.handed ++ old.held) × (new.held ≡ [])) → OnOk result (HasGot old.held old.writer new.writer)
       → OnErr result ((new.handed ≡ old.handed) × (new.held ≡ old.held)) → OnErr result (HasGot [] old.writer new.writer) → HasTaken old new
   took_in old new (Ok x) published ok got err still = record { more = old.held; handed = ok.0; got = got; published = published }
   took_in old new (Err e) published ok got err still = record { more = []; handed = err.0 ∙ sym (append-nil old.handed); got = still; published = published }

@@ -1,5 +1,6 @@
 -- Seats in their order: lemmas for those who hand seats out and take them back.
-use Rattle.std.proofs.Common.{◌≡◌, ◌⊎◌, ◌∙◌, ◌+◌, ◌<◌, ◌++◌, ◌∷◌, ℕ, zero, suc, List, [], Some, subst, length, map, inl, inr, ⊎_elim, refl, sym, ap, arith, length-append}
+use Rattle.std.proofs.Common.{◌≡◌, ◌⊎◌, ◌∙◌, ◌+◌, ◌<◌, ◌++◌, ◌∷◌, ℕ, zero, suc, List, [], Some, subst, length, map, inl, inr, ⊎_elim, refl, sym, ap, arith}
+use Rattle.std.proofs.Common.{length-append}
 use Rattle.std.proofs.lemmas.List.{length-map}
 use Rattle.std.proofs.lemmas.Option.{get_or_from_slice_get, slice_get_within}
 use Rattle.std.specs.Prelude.{slice_get, slice_index_or, slice_set}
@@ -47,11 +48,13 @@ in_mapped f (y ∷ ys) (suc k) x at = in_mapped f ys k x at
 pub one_more : (count : ℕ) (seats : List SeatValue) (s : SeatValue) → AreAllSeats count seats → s.number ≡ count → AreAllSeats (count + 1) (seats ++ s ∷ [])
 one_more count seats s all next = record {
   counted = length-append seats (s ∷ []) ∙ ap (λ (n : ℕ). n + 1) all.counted;
-  each = λ k x at. ⊎_elim (λ early. all.each k x early) (λ last. ap (λ (z : SeatValue). z.number) last.1 ∙ (next ∙ (sym all.counted ∙ sym last.0))) (get_either seats s x k at);
+  each = λ k x at. ⊎_elim (λ early. all.each k x early) (λ last. ap (λ (z : SeatValue). z.number) last.1
+      ∙ (next ∙ (sym all.counted ∙ sym last.0))) (get_either seats s x k at);
 }
 
 -- new seats but for the last of them
-pub all_but_last : (board : TableId) (count : ℕ) (seats : List SeatValue) (s : SeatValue) → AreNewSeats board count (seats ++ s ∷ []) → AreAllSeats (length seats) seats × (s.number ≡ length seats) × (length seats + 1 ≡ count)
+pub all_but_last : (board : TableId) (count : ℕ) (seats : List SeatValue) (s : SeatValue) → AreNewSeats board count (seats ++ s ∷ [])
+    → AreAllSeats (length seats) seats × (s.number ≡ length seats) × (length seats + 1 ≡ count)
 all_but_last board count seats s new = (
   record { counted = refl; each = λ k x at. (new.each k x (get_first seats s x k at)).0 },
   (new.each (length seats) s (get_last seats s)).0,
@@ -97,7 +100,8 @@ some_is : (s t : SeatValue) → Some s ≡ Some t → s ≡ t
 some_is s t e = cc
 
 -- the first of them may be another of its number
-pub first_set : (count : ℕ) (seats : List SeatValue) (old new : SeatValue) → AreAllSeats count seats → old ≡ slice_index_or seats 0 old → new.number ≡ old.number → AreAllSeats count (slice_set seats 0 new)
+pub first_set : (count : ℕ) (seats : List SeatValue) (old new : SeatValue) → AreAllSeats count seats → old ≡ slice_index_or seats 0 old
+    → new.number ≡ old.number → AreAllSeats count (slice_set seats 0 new)
 first_set count [] old new all at same = all
 first_set count (x ∷ xs) old new all at same = record { counted = all.counted; each = each }
   where

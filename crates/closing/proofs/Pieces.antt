@@ -27,7 +27,8 @@ use Rattle.flusher.specs.Part.{FlushValue, IsFlusher, last_handed, run_of}
 
 -- ---- the image
 
-module _ {D A : Type 0} (history : D → History) (o : Opened) (f : FlushValue D A) (is : IsFlusher history o f) (l : LockedValue) (all : f.handed ≡ l.pushed) (none : l.core.outbox ≡ []) (last : (g : GeometryValue) → l.core.last ≡ end_of (lock.run_of g o l)) (number : ℕ) (told : number ≡ l.core.last) where
+module _ {D A : Type 0} (history : D → History) (o : Opened) (f : FlushValue D A) (is : IsFlusher history o f) (l : LockedValue) (all : f.handed ≡ l.pushed)
+    (none : l.core.outbox ≡ []) (last : (g : GeometryValue) → l.core.last ≡ end_of (lock.run_of g o l)) (number : ℕ) (told : number ≡ l.core.last) where
   abbrev g : GeometryValue
   g = (halves_of f.writer).geometry
 
@@ -40,7 +41,8 @@ module _ {D A : Type 0} (history : D → History) (o : Opened) (f : FlushValue D
   pub number_is : number ≡ last_handed o f
   number_is = told ∙ (last g ∙ ap end_of same_run)
 
-  pub whole_chunk : {A : Type 0} (store : (x : GeometryValue) → x.pages ≡ o.pages → x.entries ≡ o.places → IsOfGeometry l.core x) (piece : Piece A) → IsAllOf l.core (cells_at (lock.run_of g o l) number) piece → IsChunk (run_of o f) f.writer number piece
+  pub whole_chunk : {A : Type 0} (store : (x : GeometryValue) → x.pages ≡ o.pages → x.entries ≡ o.places → IsOfGeometry l.core x) (piece : Piece A)
+      → IsAllOf l.core (cells_at (lock.run_of g o l) number) piece → IsChunk (run_of o f) f.writer number piece
   whole_chunk store (Whole copied) of =
       let same : cells_of copied ≡ cells_at (run_of o f) number = of.0 ∙ ap (λ (r : Run). cells_at r number) same_run in
       record {
@@ -61,7 +63,8 @@ pub record HasImage {D A : Type 0} (number : ℕ) (old new : Writer D A) : Type 
   pub begun : HasBegun number stage.Whole image
   pub synced : synced_of new ≡ synced_of old
 
-pub image_taken : {D A : Type 0} (number : ℕ) (v : LockedValue) (run : Run) (piece : Piece A) (old new : Writer D A) (reply : StepReply) → IsAllOf v.core (cells_at run number) piece → IsStepReply number piece reply old new → HasImage number old new
+pub image_taken : {D A : Type 0} (number : ℕ) (v : LockedValue) (run : Run) (piece : Piece A) (old new : Writer D A) (reply : StepReply)
+    → IsAllOf v.core (cells_at run number) piece → IsStepReply number piece reply old new → HasImage number old new
 image_taken number v run (Whole copied) old new Taken of is = record { image = is.1.0; there = is.1.1.0; begun = is.1.2; synced = is.1.1.4 }
 image_taken number v run (Whole copied) old new StartAgain of is = absurd is.1
 image_taken number v run (Start life lists) old new reply of is = absurd of
@@ -69,10 +72,12 @@ image_taken number v run (Page page rows) old new reply of is = absurd of
 image_taken number v run (Entries entries) old new reply of is = absurd of
 
 -- and so it can be made current, and all records are synced then
-module _ {D A : Type 0} (number handed : ℕ) (old mid new : Writer D A) (has : HasImage number old mid) (is : number ≡ handed) (reached : synced_of old ≤ handed) where
+module _ {D A : Type 0} (number handed : ℕ) (old mid new : Writer D A) (has : HasImage number old mid) (is : number ≡ handed)
+    (reached : synced_of old ≤ handed) where
   can_flip : CanFlip handed mid
   can_flip = (has.image, has.there, has.begun.2, omega (arith, has.begun.1, is), omega (arith, has.begun.0, has.begun.1))
 
   pub all_synced : (reply : FlipReply) → IsFlipReply handed reply mid new → synced_of new ≡ handed
-  all_synced (Flipped n) flipped = let to : n ≡ reach has.image (synced_of mid) = flipped.3 has.image has.there in omega (arith, flipped.0, to, has.begun.0, has.synced, is, reached)
+  all_synced (Flipped n) flipped = let to : n ≡ reach has.image (synced_of mid) = flipped.3 has.image has.there in
+      omega (arith, flipped.0, to, has.begun.0, has.synced, is, reached)
   all_synced Behind flipped = absurd (flipped.1 can_flip)

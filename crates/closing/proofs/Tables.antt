@@ -31,7 +31,8 @@ pub first_commits : (n : ℕ) (commits : Commits) → up_to n (commits_in commit
 first_commits n [] = refl
 first_commits n (c ∷ cs) = by (nat_le c.1.ticket.«record» n) (first_commits n cs)
   where
-    by : (b : Bool) → up_to n (commits_in cs) ≡ commits_in (commits_up_to n cs) → cond b (c.1 ∷ up_to n (commits_in cs)) (up_to n (commits_in cs)) ≡ commits_in (cond b (c ∷ commits_up_to n cs) (commits_up_to n cs))
+    by : (b : Bool) → up_to n (commits_in cs) ≡ commits_in (commits_up_to n cs)
+        → cond b (c.1 ∷ up_to n (commits_in cs)) (up_to n (commits_in cs)) ≡ commits_in (cond b (c ∷ commits_up_to n cs) (commits_up_to n cs))
     by true same = ap (λ (l : List CommitValue). c.1 ∷ l) same
     by false same = same
 
@@ -56,13 +57,15 @@ held_again : (x : Given) → recovered (opening_cells x) x.last ≡ x
 held_again x = ap (recovered (opening_cells x)) (let more : x.last ≡ x.last + 0 = omega arith in more) ∙ given_again x
 
 pub rows_alone : (v : CoreValue) → v.txns.active ≡ [] → committed_rows v ≡ v.heap.rows
-rows_alone v none = ap (λ (txns : List (ℕ × TxnState)). all_reverted v.heap.rows (finite.entries (lists_of txns))) none ∙ ap (λ (x : Given). x.table) (held_again (held_by v))
+rows_alone v none = ap (λ (txns : List (ℕ × TxnState)). all_reverted v.heap.rows (finite.entries (lists_of txns))) none
+    ∙ ap (λ (x : Given). x.table) (held_again (held_by v))
 
 pub cells_alone : (v : CoreValue) (cells : Cells) → IsCellsOf v cells → v.txns.active ≡ [] → recovered cells v.last ≡ held_by v
 cells_alone v cells is none = ap (λ (c : Cells). recovered c v.last) same ∙ held_again (held_by v)
   where
     no_list : cells.pending ≡ finite.empty {X = List ChangeValue} {R = nat_cmp}
-    no_list = alike nat_exact cells.pending finite.empty (λ t. is.pending t ∙ (ap (λ (txns : List (ℕ × TxnState)). list_shown (state_of t txns)) none ∙ sym (finite.get-empty nat_cmp t)))
+    no_list = alike nat_exact cells.pending finite.empty (λ t. is.pending t
+        ∙ (ap (λ (txns : List (ℕ × TxnState)). list_shown (state_of t txns)) none ∙ sym (finite.get-empty nat_cmp t)))
 
     same : cells ≡ opening_cells (held_by v)
     same = λ i. record { rows = is.rows i; entries = is.entries i; pending = no_list i; life = is.life i }

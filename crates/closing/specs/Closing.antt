@@ -26,8 +26,12 @@ table_with table (c ∷ cs) = table_with (applied table c.writes) cs
 abbrev pub up_to : ℕ → List CommitValue → List CommitValue
 up_to number commits = filter (λ c. nat_le c.ticket.«record» number) commits
 
--- The core is as these seats left it: the sessions of the seats have what it has of the active transactions, its commits, and what was done to the index; it holds the history that its calls tell; and no record of it waits. Those that the flusher had popped are the first that it made. Its committed table, and its rows once no transaction is active, are what was opened with the commits set over it.
-pub record IsCoreOf (o : Opened) (seats : List SeatValue) (popped : List RecordValue) (core : CoreValue) (commits : List CommitValue) : Type 0 where
+-- The core is as these seats left it: the sessions of the seats have what it has of the active transactions, its
+-- commits, and what was done to the index; it holds the history that its calls tell; and no record of it waits. Those
+-- that the flusher had popped are the first that it made. Its committed table, and its rows once no transaction is
+-- active, are what was opened with the commits set over it.
+pub record IsCoreOf (o : Opened) (seats : List SeatValue) (popped : List RecordValue) (core : CoreValue)
+    (commits : List CommitValue) : Type 0 where
   pub pushed : List RecordValue
   pub shared : IsShared o core pushed (sessions_of seats)
   pub holds : HoldsHistory o (items_of no_writes shared.register.kept.calls) core
@@ -36,8 +40,10 @@ pub record IsCoreOf (o : Opened) (seats : List SeatValue) (popped : List RecordV
   pub committed : committed_rows core ≡ table_with o.given.table commits
   pub rows : core.txns.active ≡ [] → core.heap.rows ≡ table_with o.given.table commits
 
--- The crash state gives all that was made: the table of what was opened with all commits set over it, the core's life, and what is recovered of the core's cells. With no active transaction that is the core's rows and entries.
-pub record GivesAll (o : Opened) (g : GeometryValue) (core : CoreValue) (commits : List CommitValue) (image : Image) : Type 0 where
+-- The crash state gives all that was made: the table of what was opened with all commits set over it, the core's life,
+-- and what is recovered of the core's cells. With no active transaction that is the core's rows and entries.
+pub record GivesAll (o : Opened) (g : GeometryValue) (core : CoreValue) (commits : List CommitValue)
+    (image : Image) : Type 0 where
   pub given : Given
   pub gives : Gives image g given
   pub table : given.table ≡ table_with o.given.table commits
@@ -46,10 +52,14 @@ pub record GivesAll (o : Opened) (g : GeometryValue) (core : CoreValue) (commits
   pub cells : Cells
   pub of_core : IsCellsOf core cells
   pub recovers : given ≡ recovered cells core.last
-  pub alone : core.txns.active ≡ [] → given ≡ record { table = core.heap.rows; entries = core.index.entries; life = core.life; last = core.last }
+  pub alone : core.txns.active ≡ []
+      → given ≡ record { table = core.heap.rows; entries = core.index.entries; life = core.life; last = core.last }
 
--- The crash state gives what some of the records that these seats, the builder and the cleaner made, the first ones, make of what was opened, with every record up to the floor; those that the flusher had popped are the first that were made. Its table is that of what was opened with the seats' commits up to its last record set over it.
-pub record GivesSome (o : Opened) (g : GeometryValue) (seats : List SeatValue) (popped : List RecordValue) (floor : ℕ) (image : Image) : Type 0 where
+-- The crash state gives what some of the records that these seats, the builder and the cleaner made, the first ones,
+-- make of what was opened, with every record up to the floor; those that the flusher had popped are the first that were
+-- made. Its table is that of what was opened with the seats' commits up to its last record set over it.
+pub record GivesSome (o : Opened) (g : GeometryValue) (seats : List SeatValue) (popped : List RecordValue) (floor : ℕ)
+    (image : Image) : Type 0 where
   pub core : CoreValue
   pub pushed : List RecordValue
   pub shared : IsShared o core pushed (sessions_of seats)
@@ -60,4 +70,5 @@ pub record GivesSome (o : Opened) (g : GeometryValue) (seats : List SeatValue) (
   pub gives : Gives image g (given_after o.given (take count (pushed ++ core.outbox)))
   pub commits : List CommitValue
   pub all : AreCommitsOf seats commits
-  pub table : (given_after o.given (take count (pushed ++ core.outbox))).table ≡ table_with o.given.table (up_to (o.given.last + count) commits)
+  pub table : (given_after o.given (take count (pushed ++ core.outbox))).table
+      ≡ table_with o.given.table (up_to (o.given.last + count) commits)

@@ -1,5 +1,6 @@
 -- The commits of all seats, by number.
-use Rattle.std.specs.Prelude.{Bool, false, length, List, map, None, Option, reverse, slice_get, slice_set, Some, ℕ, [], ◌==◌, ◌∷◌, ◌≡◌}
+use Rattle.std.specs.Prelude.{Bool, false, length, List, map, None, Option, reverse, slice_get, slice_set, Some, ℕ, []}
+use Rattle.std.specs.Prelude.{◌==◌, ◌∷◌, ◌≡◌}
 use Rattle.std.specs.declared.vec.Vec.{Vec}
 use Rattle.register.specs.Register.{AreAllCommits}
 use Rattle.sessions.specs.Values.{CommitValue, SessionValue}
@@ -14,7 +15,8 @@ pub record AreAllSeats (count : ℕ) (seats : List SeatValue) : Type 0 where
 abbrev pub sessions_of : List SeatValue → List SessionValue
 sessions_of seats = map (λ s. s.session) seats
 
--- These are the commits of all seats, by number: the numbers are 1 to n, each once, and a seat's own commits are in their order.
+-- These are the commits of all seats, by number: the numbers are 1 to n, each once, and a seat's own commits are in
+-- their order.
 pub record AreCommitsOf (seats : List SeatValue) (commits : List CommitValue) : Type 0 where
   pub all : AreAllCommits (sessions_of seats) (length commits)
   pub by_number : commits ≡ map (λ c. c.1) all.commits

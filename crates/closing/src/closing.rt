@@ -26,8 +26,8 @@ use std::alloc::Global;
 use std::sync::Wait;
 use tail::RecordQueue;
 
-/// What is left at the end: the device, to which every record was written; the core; the number of the last record; and the
-/// commits of all seats, in the order of their numbers.
+/// What is left at the end: the device, to which every record was written; the core; the number of the last record; and
+/// the commits of all seats, in the order of their numbers.
 #[derive(Drop)]
 pub struct Closed<D, A: Memory = Global> {
     pub device: D,
@@ -69,7 +69,8 @@ fn close<B: Group, D: Device, R: Wait, A: Memory>(
     ensures all { OnOk result (flush.new.handed ≡ (locked_of locked.new).pushed) }
     ensures none_waits { OnOk result ((locked_of locked.new).core.outbox ≡ []) }
     ensures synced { OnOk result (synced_of flush.new.writer ≡ last_handed B.site.opened flush.new) }
-    ensures gathered { IfOk result (λ v. (count : ℕ) (all : AreAllCommits (sessions_of seats.items) count) → v.items ≡ map (λ c. c.1) all.commits) }
+    ensures gathered { IfOk result (λ v. (count : ℕ) (all : AreAllCommits (sessions_of seats.items) count)
+        → v.items ≡ map (λ c. c.1) all.commits) }
     ensures book { (locked_of locked.new).book ≡ (locked_of locked.old).book }
     ensures sound { OnOk result (has_failed flush.new.writer ≡ false) }
     ensures err { IfErr result (λ e. (e ≡ NoMemory) ⊎ ((e ≡ DeviceFailed) × (has_failed flush.new.writer ≡ true))) }
@@ -90,12 +91,13 @@ fn told<B: Group, D: Device, A: Memory>(flush: &FlushPart<B, D, A>, error: Error
     }
 }
 
-/// Takes every seat back, and writes every record out that was made: those that wait in the core and in the queue too, in groups
-/// or, once the log is full, in an image. Then the device holds what the core does, and each acknowledgement is of a record on it.
+/// Takes every seat back, and writes every record out that was made: those that wait in the core and in the queue too,
+/// in groups or, once the log is full, in an image. Then the device holds what the core does, and each acknowledgement
+/// is of a record on it.
 ///
-/// A crash at any moment of the call, and of the device that is given back, whatever the answer is, leaves what some of the records
-/// that were made make of what was opened, the first ones, with all that were synced before; and each acknowledgement is of one of
-/// those.
+/// A crash at any moment of the call, and of the device that is given back, whatever the answer is, leaves what some of
+/// the records that were made make of what was opened, the first ones, with all that were synced before; and each
+/// acknowledgement is of one of those.
 ///
 /// `DeviceFailed` where the device failed, now or earlier, and else `NoMemory`.
 pub fn finish<B: Group, D: Device, R: Wait, A: Memory>(
@@ -108,15 +110,24 @@ pub fn finish<B: Group, D: Device, R: Wait, A: Memory>(
 ) -> Result<Closed<D, A>, (Error, D)>
     requires seats { AreAllSeats B.site.seats seats.items }
     ensures commits { IfOk result (λ c. ∥ AreCommitsOf seats.items c.commits.items ∥₁) }
-    ensures core { IfOk result (λ c. ∥ IsCoreOf B.site.opened seats.items (popped_by flush) (value_of c.core) c.commits.items ∥₁) }
-    ensures device { IfOk result (λ c. (image : Image) → IsCrashImage (D.history c.device).disk image → ∥ GivesAll B.site.opened (halves_of flush.writer).geometry (value_of c.core) c.commits.items image ∥₁) }
+    ensures core { IfOk result (λ c. ∥ IsCoreOf B.site.opened seats.items (popped_by flush)
+        (value_of c.core) c.commits.items ∥₁) }
+    ensures device { IfOk result (λ c. (image : Image) → IsCrashImage (D.history c.device).disk image
+        → ∥ GivesAll B.site.opened (halves_of flush.writer).geometry (value_of c.core) c.commits.items image ∥₁) }
     ensures horizon { IfOk result (λ c. c.horizon ≡ (value_of c.core).last) }
     ensures acks { IfOk result (λ c. All (λ a. a.ticket.«record» ≤ c.horizon) acks.items) }
     ensures acked { All (λ a. a.ticket.«record» ≤ synced_of flush.writer) acks.items }
-    ensures images { IfOk result (λ c. LeavesOnly (D.history (device_of flush.writer)) (D.history c.device) (λ image. ∥ GivesSome B.site.opened (halves_of flush.writer).geometry seats.items (popped_by flush) (synced_of flush.writer) image ∥₁)) }
-    ensures left { IfErr result (λ r. LeavesOnly (D.history (device_of flush.writer)) (D.history r.1) (λ image. ∥ GivesSome B.site.opened (halves_of flush.writer).geometry seats.items (popped_by flush) (synced_of flush.writer) image ∥₁)) }
+    ensures images { IfOk result (λ c. LeavesOnly (D.history (device_of flush.writer)) (D.history c.device) (λ image.
+        ∥ GivesSome B.site.opened (halves_of flush.writer).geometry seats.items (popped_by flush)
+        (synced_of flush.writer) image ∥₁)) }
+    ensures left { IfErr result (λ r. LeavesOnly (D.history (device_of flush.writer)) (D.history r.1) (λ image.
+        ∥ GivesSome B.site.opened (halves_of flush.writer).geometry seats.items (popped_by flush)
+        (synced_of flush.writer) image ∥₁)) }
     ensures sound { OnOk result (has_failed flush.writer ≡ false) }
-    ensures err { IfErr result (λ r. ((r.0 ≡ NoMemory) × (has_failed flush.writer ≡ false) × (D.failures r.1 ≡ D.failures (device_of flush.writer))) ⊎ ((r.0 ≡ DeviceFailed) × (has_failed flush.writer ≡ false → Rises (D.failures (device_of flush.writer)) (D.failures r.1)))) }
+    ensures err { IfErr result (λ r. ((r.0 ≡ NoMemory) × (has_failed flush.writer ≡ false)
+        × (D.failures r.1 ≡ D.failures (device_of flush.writer)))
+        ⊎ ((r.0 ≡ DeviceFailed) × (has_failed flush.writer ≡ false
+        → Rises (D.failures (device_of flush.writer)) (D.failures r.1)))) }
     ensures later { IfErr result (λ r. D.failures (device_of flush.writer) ≤ D.failures r.1) }
 {
     let (mut locked, queue, registry, board) = shared.into_parts();

@@ -1,10 +1,12 @@
 //! The commits of all seats, by number.
-ghost use Rattle.std.specs.Prelude.{◌≡◌, ◌<◌, ℕ, List, false, true, length, map, reverse, IfErr, IfNone, IfOk, IfSome, Some, slice_get};
+ghost use Rattle.std.specs.Prelude.{◌≡◌, ◌<◌, ℕ, List, false, true, length, map, reverse, IfErr, IfNone, IfOk, IfSome};
+ghost use Rattle.std.specs.Prelude.{Some, slice_get};
 ghost use Rattle.records.specs.declared.error.Error.TheVariants.{NoMemory};
 ghost use Rattle.locked_core.specs.Locked.{locked_of};
 ghost use Rattle.register.specs.Register.{AreAllCommits};
 ghost use Rattle.sessions.specs.Values.{CommitValue, SessionValue};
-ghost use Rattle.closing.specs.Gathered.{AreSeen, TakesFrom, commits_of, heads_with, is_numbered, lists_of, sessions_of};
+ghost use Rattle.closing.specs.Gathered.{AreSeen, TakesFrom, commits_of, heads_with, is_numbered, lists_of};
+ghost use Rattle.closing.specs.Gathered.{sessions_of};
 
 use locked_core::Locked;
 use records::Error;
@@ -35,9 +37,11 @@ fn heads<A: Memory>(list: &[Commit<A>], number: u64) -> bool
 
 // The first list whose next commit has this number.
 fn find_next<A: Memory>(lists: &[Vec<Commit<A>, A>], number: u64) -> Option<usize>
-    ensures some { IfSome result (λ k. (list : List CommitValue) × (slice_get (lists_of lists.now) k ≡ Some list) × (heads_with number list ≡ true)) }
+    ensures some { IfSome result (λ k. (list : List CommitValue) × (slice_get (lists_of lists.now) k ≡ Some list)
+        × (heads_with number list ≡ true)) }
     ensures within { IfSome result (λ k. k < length lists.now) }
-    ensures none { IfNone result ((k : ℕ) (list : List CommitValue) → slice_get (lists_of lists.now) k ≡ Some list → heads_with number list ≡ false) }
+    ensures none { IfNone result ((k : ℕ) (list : List CommitValue) → slice_get (lists_of lists.now) k ≡ Some list
+        → heads_with number list ≡ false) }
 {
     for k in 0..lists.len() {
         if heads(&lists[k], number) {
@@ -49,8 +53,10 @@ fn find_next<A: Memory>(lists: &[Vec<Commit<A>, A>], number: u64) -> Option<usiz
 
 // Takes the commit of this number, if it is the next of a list.
 fn take_next<A: Memory>(lists: &mut Vec<Vec<Commit<A>, A>, A>, number: u64) -> Option<Commit<A>>
-    ensures some { IfSome result (λ commit. TakesFrom number commit (lists_of lists.old.items) (lists_of lists.new.items)) }
-    ensures none { IfNone result ((k : ℕ) (list : List CommitValue) → slice_get (lists_of lists.old.items) k ≡ Some list → heads_with number list ≡ false) }
+    ensures some { IfSome result (λ commit. TakesFrom number commit (lists_of lists.old.items)
+        (lists_of lists.new.items)) }
+    ensures none { IfNone result ((k : ℕ) (list : List CommitValue) → slice_get (lists_of lists.old.items) k ≡ Some list
+        → heads_with number list ≡ false) }
 {
     let k = find_next(lists, number)?;
     let list = &mut lists[k];
@@ -63,7 +69,8 @@ fn gather<R: Wait, A: Memory>(
     alloc: A,
     mut lists: Vec<Vec<Commit<A>, A>, A>,
 ) -> Result<Vec<Commit<A>, A>, Error>
-    ensures ok { IfOk result (λ v. (book : List SessionValue) (count : ℕ) → lists_of lists.items ≡ commits_of book → (all : AreAllCommits book count) → v.items ≡ map (λ c. c.1) all.commits) }
+    ensures ok { IfOk result (λ v. (book : List SessionValue) (count : ℕ) → lists_of lists.items ≡ commits_of book
+        → (all : AreAllCommits book count) → v.items ≡ map (λ c. c.1) all.commits) }
     ensures no_memory { IfErr result (λ e. e ≡ NoMemory) }
 {
     let mut gathered = Vec::new(alloc);
@@ -100,7 +107,8 @@ pub(crate) fn gather_commits<B: Group, R: Wait, A: Memory>(
     alloc: A,
     seats: Vec<Seat<B, A>, A>,
 ) -> Result<Vec<Commit<A>, A>, Error>
-    ensures ok { IfOk result (λ v. (count : ℕ) (all : AreAllCommits (sessions_of seats.items) count) → v.items ≡ map (λ c. c.1) all.commits) }
+    ensures ok { IfOk result (λ v. (count : ℕ) (all : AreAllCommits (sessions_of seats.items) count)
+        → v.items ≡ map (λ c. c.1) all.commits) }
     ensures no_memory { IfErr result (λ e. e ≡ NoMemory) }
 {
     let lists = lists_of_seats(alloc, seats)?;

@@ -16,8 +16,8 @@ use std::sync::Wait;
 use store_writer::FlushReply;
 use tail::RecordQueue;
 
-// Hands in what was popped, pushes the records that wait in the core, and pops and hands in those that wait in the queue, until the
-// writer has got every record that was made.
+// Hands in what was popped, pushes the records that wait in the core, and pops and hands in those that wait in the
+// queue, until the writer has got every record that was made.
 fn hand_in_all<B: Group, D: Device, R: Wait, A: Memory>(
     rt: &R,
     alloc: A,

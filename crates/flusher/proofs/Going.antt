@@ -1,5 +1,6 @@
 -- How the flusher's part goes on from call to call.
-use Rattle.std.proofs.Common.{◌≡◌, ℕ, ◌+◌, ◌<◌, ◌≤◌, Bool, true, false, List, [], ◌++◌, length, take, Result, Ok, Err, IfErr, IfOk, OnErr, OnOk, inl, inr, refl, sym, ap, ◌∙◌, subst, arith, append-nil, append_assoc, length-append}
+use Rattle.std.proofs.Common.{◌≡◌, ℕ, ◌+◌, ◌<◌, ◌≤◌, Bool, true, false, List, [], ◌++◌, length, take, Result, Ok, Err, IfErr, IfOk, OnErr, OnOk, inl, inr, refl}
+use Rattle.std.proofs.Common.{sym, ap, ◌∙◌, subst, arith, append-nil, append_assoc, length-append}
 use Rattle.std.proofs.lemmas.Bool.{false≢true}
 use Rattle.std.proofs.lemmas.List.{take-append-le}
 use Rattle.records.specs.GeometryValue.{GeometryValue}
@@ -37,12 +38,14 @@ module _ {D A : Type 0} (old new : Writer D A) where
   left_geometry : IsAsBefore old new → (halves_of new).geometry ≡ (halves_of old).geometry
   left_geometry is = ap (λ (w : Writer D A). (halves_of w).geometry) is
 
-  pub step_geometry : {A : Type 0} (number : ℕ) (piece : Piece A) (result : Result StepReply Error) → IfOk result (λ reply. IsStepReply number piece reply old new) → OnErr result (IsAsBefore old new) → (halves_of new).geometry ≡ (halves_of old).geometry
+  pub step_geometry : {A : Type 0} (number : ℕ) (piece : Piece A) (result : Result StepReply Error)
+      → IfOk result (λ reply. IsStepReply number piece reply old new) → OnErr result (IsAsBefore old new) → (halves_of new).geometry ≡ (halves_of old).geometry
   step_geometry number piece (Ok Taken) is left = ap (λ (h : HalvesValue). h.geometry) is.1.1.1
   step_geometry number piece (Ok StartAgain) is left = same_geometry is.0
   step_geometry number piece (Err e) is left = left_geometry left
 
-  pub flip_geometry : (n : ℕ) (result : Result FlipReply Error) → IfOk result (λ reply. IsFlipReply n reply old new) → OnErr result (IsAsBefore old new) → (halves_of new).geometry ≡ (halves_of old).geometry
+  pub flip_geometry : (n : ℕ) (result : Result FlipReply Error) → IfOk result (λ reply. IsFlipReply n reply old new) → OnErr result (IsAsBefore old new)
+      → (halves_of new).geometry ≡ (halves_of old).geometry
   flip_geometry n (Ok (Flipped m)) is left = ap (λ (h : HalvesValue). h.geometry) is.5.halves-are
   flip_geometry n (Ok Behind) is left = same_geometry is.0
   flip_geometry n (Err e) is left = left_geometry left
@@ -65,13 +68,15 @@ pub counted_same : (old new : Bool) (a b : ℕ) → new ≡ old → Counts old n
 counted_same old new a b same now before = absurd (false≢true (sym before ∙ sym same ∙ now))
 
 module _ {D A : Type 0} (failures : D → ℕ) (old new : Writer D A) where
-  pub counted_by_flush : {T : Type 0} (result : Result T Error) → OnOk result ((has_failed old ≡ false) × (has_failed new ≡ false)) → IfErr result (λ e. IsNotFlushed failures e old new)
+  pub counted_by_flush : {T : Type 0} (result : Result T Error) → OnOk result ((has_failed old ≡ false) × (has_failed new ≡ false))
+      → IfErr result (λ e. IsNotFlushed failures e old new)
       → has_failed new ≡ true → has_failed old ≡ false → Rises (failures (device_of old)) (failures (device_of new))
   counted_by_flush (Ok x) sound err now before = absurd (false≢true (sym sound.1 ∙ now))
   counted_by_flush (Err e) sound (inl none) now before = absurd (false≢true (sym before ∙ (ap (λ (w : Writer D A). has_failed w) (sym none.4) ∙ now)))
   counted_by_flush (Err e) sound (inr failed) now before = (failed.2 before).1
 
-  pub counted_by_call : {T : Type 0} (result : Result T Error) → OnOk result ((has_failed old ≡ false) × (has_failed new ≡ false)) → IfErr result (λ e. HasFailed failures e old new)
+  pub counted_by_call : {T : Type 0} (result : Result T Error) → OnOk result ((has_failed old ≡ false) × (has_failed new ≡ false))
+      → IfErr result (λ e. HasFailed failures e old new)
       → has_failed new ≡ true → has_failed old ≡ false → Rises (failures (device_of old)) (failures (device_of new))
   counted_by_call (Ok x) sound err now before = absurd (false≢true (sym sound.1 ∙ now))
   counted_by_call (Err e) sound failed now before = failed.2 before
@@ -80,7 +85,8 @@ module _ {D A : Type 0} (failures : D → ℕ) (old new : Writer D A) where
 
 module _ (o : Opened) where
   -- what gives a beginning of some records gives one of more, with every record up to a lower floor
-  pub beginning_of : (g : GeometryValue) (handed more now : List RecordValue) (floor low : ℕ) (image : Image) → now ≡ handed ++ more → low ≤ floor → GivesBeginning o g handed floor image → GivesBeginning o g now low image
+  pub beginning_of : (g : GeometryValue) (handed more now : List RecordValue) (floor low : ℕ) (image : Image) → now ≡ handed ++ more → low ≤ floor
+      → GivesBeginning o g handed floor image → GivesBeginning o g now low image
   beginning_of g handed more now floor low image is below left =
       let first : take left.count now ≡ take left.count handed = ap (take left.count) is ∙ take-append-le left.count handed more left.most in
       record {
@@ -92,7 +98,8 @@ module _ (o : Opened) where
         opens = subst (λ (rs : List RecordValue). CanOpen o → CanOpen (record o { given = given_after o.given rs })) (sym first) left.opens;
       }
 
-  pub same_store : (g now : GeometryValue) (handed : List RecordValue) (floor : ℕ) (image : Image) → now ≡ g → GivesBeginning o g handed floor image → GivesBeginning o now handed floor image
+  pub same_store : (g now : GeometryValue) (handed : List RecordValue) (floor : ℕ) (image : Image) → now ≡ g → GivesBeginning o g handed floor image
+      → GivesBeginning o now handed floor image
   same_store g now handed floor image is left = subst (λ (x : GeometryValue). GivesBeginning o x handed floor image) (sym is) left
 
 module _ {D A : Type 0} (history : D → History) (failures : D → ℕ) (o : Opened) where
@@ -122,7 +129,8 @@ module _ {D A : Type 0} (history : D → History) (failures : D → ℕ) (o : Op
     rises = omega (arith, takes.got.synced);
     horizon = omega (arith, ap (λ (c : FlusherCount). c.horizon) takes.published);
     images =
-        subst (λ (n : ℕ). LeavesOnly (history (device_of old.writer)) (history (device_of new.writer)) (GivesBeginning o (halves_of new.writer).geometry new.handed n)) takes.got.synced
+        subst (λ (n : ℕ). LeavesOnly (history (device_of old.writer)) (history (device_of new.writer))
+        (GivesBeginning o (halves_of new.writer).geometry new.handed n)) takes.got.synced
         (subst (λ (d : D). LeavesOnly (history d) (history (device_of new.writer)) (FlushLeaves o new)) takes.got.device
         (started (history (device_of new.writer)) (FlushLeaves o new) (λ image crash. is_left history o new is image (is.writer.images image crash))));
     later = omega (arith, ap failures takes.got.device);
@@ -130,9 +138,12 @@ module _ {D A : Type 0} (history : D → History) (failures : D → ℕ) (o : Op
   }
 
   -- by a call of the writer
-  pub goes_by_call : (old new : FlushValue D A) → old.published.horizon ≤ synced_of old.writer → Publishes old new → (halves_of new.writer).geometry ≡ (halves_of old.writer).geometry → synced_of old.writer ≤ synced_of new.writer
-      → LeavesOnly (history (device_of old.writer)) (history (device_of new.writer)) (FlushLeaves o old) → failures (device_of old.writer) ≤ failures (device_of new.writer)
-      → (has_failed new.writer ≡ true → has_failed old.writer ≡ false → Rises (failures (device_of old.writer)) (failures (device_of new.writer))) → GoesOn history failures o old new
+  pub goes_by_call : (old new : FlushValue D A) → old.published.horizon ≤ synced_of old.writer → Publishes old new
+      → (halves_of new.writer).geometry ≡ (halves_of old.writer).geometry → synced_of old.writer ≤ synced_of new.writer
+      → LeavesOnly (history (device_of old.writer)) (history (device_of new.writer)) (FlushLeaves o old)
+      → failures (device_of old.writer) ≤ failures (device_of new.writer)
+      → (has_failed new.writer ≡ true → has_failed old.writer ≡ false → Rises (failures (device_of old.writer)) (failures (device_of new.writer)))
+      → GoesOn history failures o old new
   goes_by_call old new low publishes geometry rises images later counted = record {
     popped = [];
     popped-are = ap (λ l. l ++ new.held) publishes.handed ∙ ap (λ l. old.handed ++ l) publishes.held ∙ sym (append-nil (popped_by old));
@@ -141,8 +152,10 @@ module _ {D A : Type 0} (history : D → History) (failures : D → ℕ) (o : Op
     geometry = geometry;
     rises = rises;
     horizon = omega (arith, low, rises, ap (λ (c : FlusherCount). c.horizon) publishes.published);
-    images = weaker (history (device_of old.writer)) (history (device_of new.writer)) (FlushLeaves o old) (GivesBeginning o (halves_of new.writer).geometry new.handed (synced_of old.writer))
-        (λ image left. subst (λ (rs : List RecordValue). GivesBeginning o (halves_of new.writer).geometry rs (synced_of old.writer) image) (sym publishes.handed)
+    images = weaker (history (device_of old.writer)) (history (device_of new.writer)) (FlushLeaves o old)
+        (GivesBeginning o (halves_of new.writer).geometry new.handed (synced_of old.writer))
+        (λ image left. subst (λ (rs : List RecordValue). GivesBeginning o (halves_of new.writer).geometry rs (synced_of old.writer) image)
+        (sym publishes.handed)
         (same_store o (halves_of old.writer).geometry (halves_of new.writer).geometry old.handed (synced_of old.writer) image geometry left)) images;
     later = later;
     counted = counted;
@@ -161,11 +174,17 @@ module _ {D A : Type 0} (history : D → History) (failures : D → ℕ) (o : Op
     images =
         let P : Image → Type 0 = GivesBeginning o (halves_of new.writer).geometry new.handed (synced_of old.writer) in
         joined (history (device_of old.writer)) (history (device_of mid.writer)) (history (device_of new.writer)) P
-        (weaker (history (device_of old.writer)) (history (device_of mid.writer)) (GivesBeginning o (halves_of mid.writer).geometry mid.handed (synced_of old.writer)) P
-        (λ image left. beginning_of o (halves_of new.writer).geometry mid.handed second.more new.handed (synced_of old.writer) (synced_of old.writer) image second.handed (omega arith)
-        (same_store o (halves_of mid.writer).geometry (halves_of new.writer).geometry mid.handed (synced_of old.writer) image second.geometry left)) first.images)
-        (weaker (history (device_of mid.writer)) (history (device_of new.writer)) (GivesBeginning o (halves_of new.writer).geometry new.handed (synced_of mid.writer)) P
-        (λ image left. beginning_of o (halves_of new.writer).geometry new.handed [] new.handed (synced_of mid.writer) (synced_of old.writer) image (sym (append-nil new.handed)) first.rises left) second.images);
+        (weaker (history (device_of old.writer)) (history (device_of mid.writer))
+        (GivesBeginning o (halves_of mid.writer).geometry mid.handed (synced_of old.writer)) P
+        (λ image left. beginning_of o (halves_of new.writer).geometry mid.handed second.more new.handed (synced_of old.writer)
+        (synced_of old.writer) image second.handed (omega arith)
+        (same_store o (halves_of mid.writer).geometry (halves_of new.writer).geometry mid.handed (synced_of old.writer) image second.geometry left))
+        first.images)
+        (weaker (history (device_of mid.writer)) (history (device_of new.writer))
+        (GivesBeginning o (halves_of new.writer).geometry new.handed (synced_of mid.writer)) P
+        (λ image left. beginning_of o (halves_of new.writer).geometry new.handed [] new.handed (synced_of mid.writer) (synced_of old.writer) image
+        (sym (append-nil new.handed)) first.rises left) second.images);
     later = omega (arith, first.later, second.later);
-    counted = counted_then (has_failed old.writer) (has_failed mid.writer) (has_failed new.writer) (failures (device_of old.writer)) (failures (device_of mid.writer)) (failures (device_of new.writer)) first.later second.later first.counted second.counted;
+    counted = counted_then (has_failed old.writer) (has_failed mid.writer) (has_failed new.writer) (failures (device_of old.writer))
+        (failures (device_of mid.writer)) (failures (device_of new.writer)) first.later second.later first.counted second.counted;
   }

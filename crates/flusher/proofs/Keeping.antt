@@ -1,5 +1,6 @@
 -- What each call leaves of the flusher's part.
-use Rattle.std.proofs.Common.{◌≡◌, ℕ, ◌+◌, ◌-◌, ◌≤◌, false, true≢false, List, [], ◌++◌, length, take, Result, Ok, Err, refl, sym, ap, subst, ◌∙◌, arith, append-nil, length-append, IfOk, IfErr, OnOk, OnErr, inl, inr}
+use Rattle.std.proofs.Common.{◌≡◌, ℕ, ◌+◌, ◌-◌, ◌≤◌, false, true≢false, List, [], ◌++◌, length, take, Result, Ok, Err, refl, sym, ap, subst, ◌∙◌, arith}
+use Rattle.std.proofs.Common.{append-nil, length-append, IfOk, IfErr, OnOk, OnErr, inl, inr}
 use Rattle.std.proofs.Math.Seq.{take-append_seam, take-length, take-nil}
 use Rattle.std.proofs.lemmas.List.{length-take-le}
 use Rattle.std.specs.FinMap.{len}
@@ -48,9 +49,11 @@ module _ {D : Type 0} (history : D → History) (o : Opened) where
   abbrev over : GeometryValue → List RecordValue → Run
   over g records = record { geometry = g; last = o.given.last; cells = opening_cells o.given; records = records }
 
-  with_run : {A : Type 0} (g now : GeometryValue) (records more : List RecordValue) (m n : ℕ) (w : Writer D A) → g ≡ now → records ≡ more → m ≡ n → IsWriter history (over g records) m w → IsWriter history (over now more) n w
+  with_run : {A : Type 0} (g now : GeometryValue) (records more : List RecordValue) (m n : ℕ) (w : Writer D A) → g ≡ now → records ≡ more → m ≡ n
+      → IsWriter history (over g records) m w → IsWriter history (over now more) n w
   with_run g now records more m n w geometry list number is =
-      subst (λ k. IsWriter history (over now more) k w) number (subst (λ l. IsWriter history (over now l) m w) list (subst (λ x. IsWriter history (over x records) m w) geometry is))
+      subst (λ k. IsWriter history (over now more) k w) number
+      (subst (λ l. IsWriter history (over now l) m w) list (subst (λ x. IsWriter history (over x records) m w) geometry is))
 
   -- before the first record
   fits_none : len o.given.entries ≤ o.places → FitPlaces o []
@@ -63,7 +66,8 @@ module _ {D : Type 0} (history : D → History) (o : Opened) where
       subst (λ (l : List RecordValue). CanOpen (record o { given = given_after o.given l })) (sym (take-nil n))
       (subst (λ (x : Given). CanOpen (record o { given = x })) (sym (given_again o.given)) can)
 
-  pub begun : {A : Type 0} (w : Writer D A) (v : FlusherCount) → IsWriter history (opened_run (halves_of w) o.given.last (opening_cells o.given)) o.given.last w → (halves_of w).geometry.pages ≡ o.pages → (halves_of w).geometry.entries ≡ o.places
+  pub begun : {A : Type 0} (w : Writer D A) (v : FlusherCount) → IsWriter history (opened_run (halves_of w) o.given.last (opening_cells o.given)) o.given.last w
+      → (halves_of w).geometry.pages ≡ o.pages → (halves_of w).geometry.entries ≡ o.places
       → len o.given.entries ≤ o.places → v.horizon ≤ synced_of w → v.failed ≡ has_failed w → IsFlusher history o (flush_value [] [] w v)
   begun w v is pages places room low flag = record {
     pages = pages;
@@ -76,14 +80,17 @@ module _ {D : Type 0} (history : D → History) (o : Opened) where
   }
 
   -- what a crash leaves
-  pub left_gives : (g : GeometryValue) (handed : List RecordValue) (floor : ℕ) → g.entries ≡ o.places → FitPlaces o handed → MayOpenAgain o handed → o.given.last ≤ floor → (image : Image) → LeftBy (over g handed) floor (o.given.last + length handed) image → GivesBeginning o g handed floor image
+  pub left_gives : (g : GeometryValue) (handed : List RecordValue) (floor : ℕ) → g.entries ≡ o.places → FitPlaces o handed → MayOpenAgain o handed
+      → o.given.last ≤ floor → (image : Image) → LeftBy (over g handed) floor (o.given.last + length handed) image → GivesBeginning o g handed floor image
   left_gives g handed floor places fits opens low image left =
       let count : ℕ = left.number - o.given.last in
       let most : count ≤ length handed = omega (arith, left.most) in
       let size : length (take count handed) ≡ count = length-take-le count handed most in
       let number : left.number ≡ o.given.last + length (take count handed) = omega (arith, size, low, left.least) in
-      let same : recovered (cells_at (over g handed) left.number) left.number ≡ given_after o.given (take count handed) = ap (recovered (cells_at (over g handed) left.number)) number in
-      let room : len (given_after o.given (take count handed)).entries ≤ g.entries = subst (λ n. len (given_after o.given (take count handed)).entries ≤ n) (sym places) (fits count most) in
+      let same : recovered (cells_at (over g handed) left.number) left.number ≡ given_after o.given (take count handed) =
+      ap (recovered (cells_at (over g handed) left.number)) number in
+      let room : len (given_after o.given (take count handed)).entries ≤ g.entries =
+      subst (λ n. len (given_after o.given (take count handed)).entries ≤ n) (sym places) (fits count most) in
       record {
         count = count;
         most = most;
@@ -93,33 +100,40 @@ module _ {D : Type 0} (history : D → History) (o : Opened) where
         opens = λ can. opens can count most;
       }
 
-  pub is_left : {A : Type 0} (f : FlushValue D A) → IsFlusher history o f → (image : Image) → LeftBy (run_of o f) (synced_of f.writer) (last_handed o f) image → FlushLeaves o f image
+  pub is_left : {A : Type 0} (f : FlushValue D A) → IsFlusher history o f → (image : Image) → LeftBy (run_of o f) (synced_of f.writer) (last_handed o f) image
+      → FlushLeaves o f image
   is_left f is = left_gives (halves_of f.writer).geometry f.handed (synced_of f.writer) is.places is.fits is.opens is.writer.opened
 
   -- the writer has gone on, and stands for the same records
-  pub goes_on : {A : Type 0} (f : FlushValue D A) (w : Writer D A) (v : FlusherCount) → IsFlusher history o f → IsWriter history (run_of o f) (last_handed o f) w → v.horizon ≤ synced_of w → v.failed ≡ has_failed w → IsFlusher history o (record f { writer = w; published = v })
+  pub goes_on : {A : Type 0} (f : FlushValue D A) (w : Writer D A) (v : FlusherCount) → IsFlusher history o f
+      → IsWriter history (run_of o f) (last_handed o f) w → v.horizon ≤ synced_of w → v.failed ≡ has_failed w
+      → IsFlusher history o (record f { writer = w; published = v })
   goes_on f w v is stands low flag = record {
     pages = ap (λ (g : GeometryValue). g.pages) stands.geometry-is ∙ is.pages;
     places = ap (λ (g : GeometryValue). g.entries) stands.geometry-is ∙ is.places;
     fits = is.fits;
     opens = is.opens;
-    writer = with_run (halves_of f.writer).geometry (halves_of w).geometry f.handed f.handed (last_handed o f) (last_handed o f) w (sym stands.geometry-is) refl refl stands;
+    writer = with_run (halves_of f.writer).geometry (halves_of w).geometry f.handed f.handed (last_handed o f) (last_handed o f) w
+        (sym stands.geometry-is) refl refl stands;
     horizon = low;
     failed = flag;
   }
 
-  module _ {A : Type 0} (popped held : List RecordValue) (w : Writer D A) (v : FlusherCount) (all : popped ≡ popped_by (flush_value popped held w v)) (is : IsFlusher history o (flush_value popped held w v)) where
+  module _ {A : Type 0} (popped held : List RecordValue) (w : Writer D A) (v : FlusherCount) (all : popped ≡ popped_by (flush_value popped held w v))
+      (is : IsFlusher history o (flush_value popped held w v)) where
     abbrev handed : List RecordValue
     handed = take (length popped - length held) popped
 
     -- what is held comes next, where all can follow
-    module _ (follow : FollowOpening o popped) (fits : FitPlaces o popped) (longer_stands : (run : Run) (n : ℕ) (more : List RecordValue) → IsWriter history run n w → IsRun (longer run more) → IsWriter history (longer run more) n w)
+    module _ (follow : FollowOpening o popped) (fits : FitPlaces o popped) (longer_stands : (run : Run) (n : ℕ) (more : List RecordValue)
+        → IsWriter history run n w → IsRun (longer run more) → IsWriter history (longer run more) n w)
         (next : (run : Run) (more : List RecordValue) → end_of run + length more ≤ LAST_NUMBER → AreNext (longer run more) (end_of run) more) where
       abbrev run : Run
       run = run_of o (flush_value popped held w v)
 
       in_order : AreFollowing run.geometry.pages o.given.last (opening_cells o.given) (handed ++ held)
-      in_order = subst (λ p. AreFollowing p o.given.last (opening_cells o.given) (handed ++ held)) (sym is.pages) (subst (AreFollowing o.pages o.given.last (opening_cells o.given)) all follow.in_order)
+      in_order = subst (λ p. AreFollowing p o.given.last (opening_cells o.given) (handed ++ held)) (sym is.pages)
+          (subst (AreFollowing o.pages o.given.last (opening_cells o.given)) all follow.in_order)
 
       small : end_of run + length held ≤ LAST_NUMBER
       small = omega (arith, follow.small, ap length all, length-append handed held)
@@ -131,7 +145,9 @@ module _ {D : Type 0} (history : D → History) (o : Opened) where
       can_take = (longer run held, end_of run, stands, next run held small)
 
       -- the writer took it
-      pub takes : MayOpenAgain o popped → (new : Writer D A) → ((run : Run) (n : ℕ) → IsWriter history run n w → AreNext run n held → IsWriter history run (n + length held) new) → synced_of new ≡ synced_of w → has_failed new ≡ has_failed w
+      pub takes : MayOpenAgain o popped → (new : Writer D A)
+          → ((run : Run) (n : ℕ) → IsWriter history run n w → AreNext run n held → IsWriter history run (n + length held) new) → synced_of new ≡ synced_of w
+          → has_failed new ≡ has_failed w
           → IsFlusher history o (flush_value popped [] new v)
       takes opens new took synced failed =
           let now : IsWriter history (longer run held) (end_of run + length held) new = took (longer run held) (end_of run) stands (next run held small) in
@@ -141,7 +157,8 @@ module _ {D : Type 0} (history : D → History) (o : Opened) where
             places = ap (λ (g : GeometryValue). g.entries) now.geometry-is ∙ is.places;
             fits = subst (FitPlaces o) (sym (all_handed popped)) fits;
             opens = subst (MayOpenAgain o) (sym (all_handed popped)) opens;
-            writer = with_run (halves_of w).geometry (halves_of new).geometry (handed ++ held) (take (length popped - 0) popped) (end_of run + length held) (o.given.last + length (take (length popped - 0) popped)) new
+            writer = with_run (halves_of w).geometry (halves_of new).geometry (handed ++ held) (take (length popped - 0) popped) (end_of run + length held)
+                (o.given.last + length (take (length popped - 0) popped)) new
                 (sym now.geometry-is) list (omega (arith, ap length list, length-append handed held)) now;
             horizon = subst (λ n. v.horizon ≤ n) (sym synced) is.horizon;
             failed = is.failed ∙ sym failed;
@@ -150,21 +167,35 @@ module _ {D : Type 0} (history : D → History) (o : Opened) where
   -- ---- records that are popped
 
   -- these are the fields behind what was popped more
-  pub value_is : {A : Type 0} (old : FlushValue D A) (more popped held : List RecordValue) (w : Writer D A) (v : FlusherCount) → popped ≡ old.handed ++ (old.held ++ more) → held ≡ old.held ++ more → w ≡ old.writer → v ≡ old.published
+  pub value_is : {A : Type 0} (old : FlushValue D A) (more popped held : List RecordValue) (w : Writer D A) (v : FlusherCount)
+      → popped ≡ old.handed ++ (old.held ++ more) → held ≡ old.held ++ more → w ≡ old.writer → v ≡ old.published
       → flush_value popped held w v ≡ record old { held = old.held ++ more }
   value_is old more popped held w v all is same told = λ i. record { handed = front i; held = is i; writer = same i; published = told i }
     where
       front : take (length popped - length held) popped ≡ old.handed
-      front = ap (λ l. take (length l - length held) l) all ∙ ap (λ (l : List RecordValue). take (length (old.handed ++ (old.held ++ more)) - length l) (old.handed ++ (old.held ++ more))) is ∙ front_is old.handed (old.held ++ more)
+      front = ap (λ l. take (length l - length held) l) all
+          ∙ ap (λ (l : List RecordValue). take (length (old.handed ++ (old.held ++ more)) - length l) (old.handed ++ (old.held ++ more))) is
+          ∙ front_is old.handed (old.held ++ more)
 
-  pub all_popped : {A : Type 0} (old : FlushValue D A) (more popped held : List RecordValue) (w : Writer D A) (v : FlusherCount) → popped ≡ old.handed ++ (old.held ++ more) → held ≡ old.held ++ more → w ≡ old.writer → v ≡ old.published
+  pub all_popped : {A : Type 0} (old : FlushValue D A) (more popped held : List RecordValue) (w : Writer D A) (v : FlusherCount)
+      → popped ≡ old.handed ++ (old.held ++ more) → held ≡ old.held ++ more → w ≡ old.writer → v ≡ old.published
       → popped ≡ popped_by (flush_value popped held w v)
   all_popped old more popped held w v all is same told = all ∙ sym (ap popped_by (value_is old more popped held w v all is same told))
 
-  pub still_flusher : {A : Type 0} (old : FlushValue D A) (more popped held : List RecordValue) (w : Writer D A) (v : FlusherCount) → popped ≡ old.handed ++ (old.held ++ more) → held ≡ old.held ++ more → w ≡ old.writer → v ≡ old.published
+  pub still_flusher : {A : Type 0} (old : FlushValue D A) (more popped held : List RecordValue) (w : Writer D A) (v : FlusherCount)
+      → popped ≡ old.handed ++ (old.held ++ more) → held ≡ old.held ++ more → w ≡ old.writer → v ≡ old.published
       → IsFlusher history o old → IsFlusher history o (flush_value popped held w v)
   still_flusher old more popped held w v all is same told stands =
-      subst (IsFlusher history o) (sym (value_is old more popped held w v all is same told)) (record { pages = stands.pages; places = stands.places; fits = stands.fits; opens = stands.opens; writer = stands.writer; horizon = stands.horizon; failed = stands.failed })
+      subst (IsFlusher history o) (sym (value_is old more popped held w v all is same told))
+      (record {
+        pages = stands.pages;
+        places = stands.places;
+        fits = stands.fits;
+        opens = stands.opens;
+        writer = stands.writer;
+        horizon = stands.horizon;
+        failed = stands.failed;
+      })
 
 -- ---- answers
 
@@ -172,23 +203,27 @@ module _ {D A : Type 0} (failures : D → ℕ) (old new : Writer D A) where
   same_synced : new ≡ old → synced_of old ≤ synced_of new
   same_synced is = omega (arith, ap (λ (w : Writer D A). synced_of w) is)
 
-  pub flush_rises : (result : Result FlushReply Error) → IfOk result (λ reply. IsFlushReply reply old new) → OnErr result (synced_of new ≡ synced_of old) → synced_of old ≤ synced_of new
+  pub flush_rises : (result : Result FlushReply Error) → IfOk result (λ reply. IsFlushReply reply old new) → OnErr result (synced_of new ≡ synced_of old)
+      → synced_of old ≤ synced_of new
   flush_rises (Ok (Flushed n)) is kept = omega (arith, is.0, is.1)
   flush_rises (Ok Nothing) is kept = same_synced is.0
   flush_rises (Ok LogFull) is kept = same_synced is.0
   flush_rises (Err e) is kept = omega (arith, kept)
 
-  pub flip_rises : (n : ℕ) (result : Result FlipReply Error) → IfOk result (λ reply. IsFlipReply n reply old new) → OnErr result (synced_of new ≡ synced_of old) → synced_of old ≤ synced_of new
+  pub flip_rises : (n : ℕ) (result : Result FlipReply Error) → IfOk result (λ reply. IsFlipReply n reply old new) → OnErr result (synced_of new ≡ synced_of old)
+      → synced_of old ≤ synced_of new
   flip_rises m (Ok (Flipped n)) is kept = omega (arith, is.0, is.1)
   flip_rises m (Ok Behind) is kept = same_synced is.0
   flip_rises m (Err e) is kept = omega (arith, kept)
 
-  pub flush_sound : {A : Type 0} (result : Result A Error) → OnOk result ((has_failed old ≡ false) × (has_failed new ≡ false)) → IfErr result (λ e. IsNotFlushed failures e old new) → has_failed new ≡ false → has_failed old ≡ false
+  pub flush_sound : {A : Type 0} (result : Result A Error) → OnOk result ((has_failed old ≡ false) × (has_failed new ≡ false))
+      → IfErr result (λ e. IsNotFlushed failures e old new) → has_failed new ≡ false → has_failed old ≡ false
   flush_sound (Ok reply) sound err now = sound.0
   flush_sound (Err e) sound (inl none) now = none.1
   flush_sound (Err e) sound (inr device) now = absurd (true≢false (sym device.1 ∙ now))
 
-  pub still_sound : {A : Type 0} (result : Result A Error) → OnOk result ((has_failed old ≡ false) × (has_failed new ≡ false)) → IfErr result (λ e. HasFailed failures e old new) → has_failed new ≡ false → has_failed old ≡ false
+  pub still_sound : {A : Type 0} (result : Result A Error) → OnOk result ((has_failed old ≡ false) × (has_failed new ≡ false))
+      → IfErr result (λ e. HasFailed failures e old new) → has_failed new ≡ false → has_failed old ≡ false
   still_sound (Ok reply) sound err now = sound.0
   still_sound (Err e) sound device now = absurd (true≢false (sym device.1 ∙ now))
 
@@ -199,27 +234,45 @@ module _ {D : Type 0} (history : D → History) (o : Opened) where
   abbrev pub AreKept : {A : Type 0} (popped held : List RecordValue) → Writer D A → FlusherCount → Type 0
   AreKept popped held w v = (popped ≡ popped_by (flush_value popped held w v)) × IsFlusher history o (flush_value popped held w v)
 
-  module _ {A : Type 0} (popped held : List RecordValue) (w : Writer D A) (v : FlusherCount) (kept : AreKept popped held w v) (follow : FollowOpening o popped) (fits : FitPlaces o popped) (longer_stands : (run : Run) (n : ℕ) (more : List RecordValue) → IsWriter history run n w → IsRun (longer run more) → IsWriter history (longer run more) n w)
-      (next : (run : Run) (more : List RecordValue) → end_of run + length more ≤ LAST_NUMBER → AreNext (longer run more) (end_of run) more) (records : List RecordValue) (same : records ≡ held) where
+  module _ {A : Type 0} (popped held : List RecordValue) (w : Writer D A) (v : FlusherCount) (kept : AreKept popped held w v) (follow : FollowOpening o popped)
+      (fits : FitPlaces o popped) (longer_stands : (run : Run) (n : ℕ) (more : List RecordValue) → IsWriter history run n w → IsRun (longer run more)
+      → IsWriter history (longer run more) n w)
+      (next : (run : Run) (more : List RecordValue) → end_of run + length more ≤ LAST_NUMBER
+      → AreNext (longer run more) (end_of run) more) (records : List RecordValue) (same : records ≡ held) where
     pub can_hand_in : (run : Run) × (n : ℕ) × IsWriter history run n w × AreNext run n records
-    can_hand_in = subst (λ (l : List RecordValue). (run : Run) × (n : ℕ) × IsWriter history run n w × AreNext run n l) (sym same) (can_take history o popped held w v kept.0 kept.1 follow fits longer_stands next)
+    can_hand_in = subst (λ (l : List RecordValue). (run : Run) × (n : ℕ) × IsWriter history run n w
+        × AreNext run n l) (sym same) (can_take history o popped held w v kept.0 kept.1 follow fits longer_stands next)
 
-    pub kept_by_taking : MayOpenAgain o popped → (p h : List RecordValue) (new : Writer D A) → p ≡ popped → h ≡ [] → ((run : Run) (n : ℕ) → IsWriter history run n w → AreNext run n records → IsWriter history run (n + length records) new) → synced_of new ≡ synced_of w → has_failed new ≡ has_failed w → AreKept p h new v
+    pub kept_by_taking : MayOpenAgain o popped → (p h : List RecordValue) (new : Writer D A) → p ≡ popped → h ≡ []
+        → ((run : Run) (n : ℕ) → IsWriter history run n w → AreNext run n records → IsWriter history run (n + length records) new) → synced_of new ≡ synced_of w
+        → has_failed new ≡ has_failed w → AreKept p h new v
     kept_by_taking opens p h new all none took synced failed =
         let takes_held : (run : Run) (n : ℕ) → IsWriter history run n w → AreNext run n held → IsWriter history run (n + length held) new =
-        subst (λ (l : List RecordValue). (run : Run) (n : ℕ) → IsWriter history run n w → AreNext run n l → IsWriter history run (n + length l) new) same took in
-        let now : AreKept popped [] new v = (sym (append-nil _ ∙ all_handed popped), takes history o popped held w v kept.0 kept.1 follow fits longer_stands next opens new takes_held synced failed) in
+        subst (λ (l : List RecordValue). (run : Run) (n : ℕ) → IsWriter history run n w → AreNext run n l
+        → IsWriter history run (n + length l) new) same took in
+        let now : AreKept popped [] new v = (
+          sym (append-nil _ ∙ all_handed popped),
+          takes history o popped held w v kept.0 kept.1 follow fits longer_stands next opens new takes_held synced failed,
+        ) in
         subst (λ x. AreKept x h new v) (sym all) (subst (λ x. AreKept popped x new v) (sym none) now)
 
-    pub kept_by_refusal : (p h : List RecordValue) (new : Writer D A) → p ≡ popped → h ≡ records → ((run : Run) (n : ℕ) → IsWriter history run n w → IsWriter history run n new) → synced_of new ≡ synced_of w → has_failed new ≡ has_failed w → AreKept p h new v
+    pub kept_by_refusal : (p h : List RecordValue) (new : Writer D A) → p ≡ popped → h ≡ records
+        → ((run : Run) (n : ℕ) → IsWriter history run n w → IsWriter history run n new) → synced_of new ≡ synced_of w → has_failed new ≡ has_failed w
+        → AreKept p h new v
     kept_by_refusal p h new all back keeps synced failed =
         let f : FlushValue D A = flush_value popped held w v in
-        let now : AreKept popped held new v = (kept.0, goes_on history o f new v kept.1 (keeps (run_of o f) (last_handed o f) kept.1.writer) (subst (λ n. v.horizon ≤ n) (sym synced) kept.1.horizon) (kept.1.failed ∙ sym failed)) in
+        let now : AreKept popped held new v = (
+          kept.0,
+          goes_on history o f new v kept.1 (keeps (run_of o f) (last_handed o f) kept.1.writer)
+              (subst (λ n. v.horizon ≤ n) (sym synced) kept.1.horizon) (kept.1.failed ∙ sym failed),
+        ) in
         subst (λ x. AreKept x h new v) (sym all) (subst (λ x. AreKept popped x new v) (sym (back ∙ same)) now)
 
   -- at first
-  pub kept_at_first : {A : Type 0} (popped held : List RecordValue) (w : Writer D A) (v : FlusherCount) (last : ℕ) → popped ≡ [] → held ≡ [] → IsWriter history (opened_run (halves_of w) o.given.last (opening_cells o.given)) o.given.last w
-      → (halves_of w).geometry.pages ≡ o.pages → (halves_of w).geometry.entries ≡ o.places → len o.given.entries ≤ o.places → v.horizon ≤ synced_of w → v.failed ≡ has_failed w → last ≡ synced_of w
+  pub kept_at_first : {A : Type 0} (popped held : List RecordValue) (w : Writer D A) (v : FlusherCount) (last : ℕ) → popped ≡ [] → held ≡ []
+      → IsWriter history (opened_run (halves_of w) o.given.last (opening_cells o.given)) o.given.last w
+      → (halves_of w).geometry.pages ≡ o.pages → (halves_of w).geometry.entries ≡ o.places → len o.given.entries ≤ o.places → v.horizon ≤ synced_of w
+      → v.failed ≡ has_failed w → last ≡ synced_of w
       → AreKept popped held w v × (last ≡ last_handed o (flush_value popped held w v))
   kept_at_first popped held w v last none none_held is pages places room low flag told =
       subst (λ (p : List RecordValue). AreKept p held w v × (last ≡ last_handed o (flush_value p held w v))) (sym none)
@@ -227,8 +280,10 @@ module _ {D : Type 0} (history : D → History) (o : Opened) where
       ((refl, begun history o w v is pages places room low flag), omega (arith, told, is.opened, is.reached)))
 
   -- as the popping begins
-  pub begins_popping : {A : Type 0} (old : FlushValue D A) (popped held : List RecordValue) (w : Writer D A) (v : FlusherCount) → flush_value popped held w v ≡ old → AreKept popped held w v
-      → (w ≡ old.writer) × (v ≡ old.published) × IsFlusher history o old × ((more : List RecordValue) × (popped ≡ old.handed ++ (old.held ++ more)) × (held ≡ old.held ++ more))
+  pub begins_popping : {A : Type 0} (old : FlushValue D A) (popped held : List RecordValue) (w : Writer D A) (v : FlusherCount)
+      → flush_value popped held w v ≡ old → AreKept popped held w v
+      → (w ≡ old.writer) × (v ≡ old.published) × IsFlusher history o old
+      × ((more : List RecordValue) × (popped ≡ old.handed ++ (old.held ++ more)) × (held ≡ old.held ++ more))
   begins_popping old popped held w v is kept = (
     ap (λ (f : FlushValue D _). f.writer) is,
     ap (λ (f : FlushValue D _). f.published) is,
@@ -238,18 +293,26 @@ module _ {D : Type 0} (history : D → History) (o : Opened) where
 
   -- ---- the number of the last record that the writer has got
 
-  module _ {A : Type 0} (popped held : List RecordValue) (w : Writer D A) (v : FlusherCount) (kept : AreKept popped held w v) (last : ℕ) (is : last ≡ last_handed o (flush_value popped held w v)) (records : List RecordValue) (same : records ≡ held) where
-    pub last_then : (more : ℕ) (p h : List RecordValue) (new : Writer D A) (now : FlusherCount) → more ≡ length records → p ≡ popped → h ≡ [] → last + more ≡ last_handed o (flush_value p h new now)
+  module _ {A : Type 0} (popped held : List RecordValue) (w : Writer D A) (v : FlusherCount) (kept : AreKept popped held w v) (last : ℕ)
+      (is : last ≡ last_handed o (flush_value popped held w v)) (records : List RecordValue) (same : records ≡ held) where
+    pub last_then : (more : ℕ) (p h : List RecordValue) (new : Writer D A) (now : FlusherCount) → more ≡ length records → p ≡ popped → h ≡ []
+        → last + more ≡ last_handed o (flush_value p h new now)
     last_then more p h new now size all none =
-        let front : take (length p - length h) p ≡ popped = ap (λ (l : List RecordValue). take (length l - length h) l) all ∙ ap (λ (l : List RecordValue). take (length popped - length l) popped) none ∙ all_handed popped in
+        let front : take (length p - length h) p ≡ popped = ap (λ (l : List RecordValue). take (length l - length h) l) all
+        ∙ ap (λ (l : List RecordValue). take (length popped - length l) popped) none ∙ all_handed popped in
         omega (arith, is, size, ap length same, ap length front, ap length kept.0, length-append (take (length popped - length held) popped) held)
 
   -- ---- as a call of the writer leaves them
 
   module _ {A : Type 0} (popped held : List RecordValue) (w : Writer D A) (v : FlusherCount) (kept : AreKept popped held w v) (new : Writer D A) where
-    pub kept_by_call : (board : TableId) (now : FlusherCount) → IsWriter history (run_of o (flush_value popped held w v)) (last_handed o (flush_value popped held w v)) new → now ≡ count_of board new → AreKept popped held new now
-    kept_by_call board now stands told =
-        (kept.0, goes_on history o (flush_value popped held w v) new now kept.1 stands (omega (arith, ap (λ (c : FlusherCount). c.horizon) told)) (ap (λ (c : FlusherCount). c.failed) told))
+    pub kept_by_call : (board : TableId) (now : FlusherCount)
+        → IsWriter history (run_of o (flush_value popped held w v)) (last_handed o (flush_value popped held w v)) new → now ≡ count_of board new
+        → AreKept popped held new now
+    kept_by_call board now stands told = (
+      kept.0,
+      goes_on history o (flush_value popped held w v) new now kept.1 stands (omega (arith, ap (λ (c : FlusherCount). c.horizon) told))
+          (ap (λ (c : FlusherCount). c.failed) told),
+    )
 
     -- what is published may be raised to what the writer has synced
     pub may_publish : synced_of w ≤ synced_of new → v.horizon ≤ synced_of new
@@ -261,26 +324,37 @@ module _ {D : Type 0} (history : D → History) (o : Opened) where
   -- ---- what a call tells, of the part that the contract names
 
   module _ {A : Type 0} (old f : FlushValue D A) (is : f ≡ old) (new : Writer D A) where
-    pub images_of : IsFlusher history o f → ((run : Run) (n : ℕ) → IsWriter history run n f.writer → LeavesOnly (history (device_of f.writer)) (history (device_of new)) (LeftBy run (synced_of f.writer) n))
+    pub images_of : IsFlusher history o f → ((run : Run) (n : ℕ) → IsWriter history run n f.writer
+        → LeavesOnly (history (device_of f.writer)) (history (device_of new)) (LeftBy run (synced_of f.writer) n))
         → LeavesOnly (history (device_of old.writer)) (history (device_of new)) (FlushLeaves o old)
     images_of stands images =
         subst (λ (x : FlushValue D A). LeavesOnly (history (device_of x.writer)) (history (device_of new)) (FlushLeaves o x)) is
-        (weaker (history (device_of f.writer)) (history (device_of new)) (LeftBy (run_of o f) (synced_of f.writer) (last_handed o f)) (FlushLeaves o f) (is_left history o f stands) (images (run_of o f) (last_handed o f) stands.writer))
+        (weaker (history (device_of f.writer)) (history (device_of new)) (LeftBy (run_of o f) (synced_of f.writer) (last_handed o f)) (FlushLeaves o f)
+        (is_left history o f stands) (images (run_of o f) (last_handed o f) stands.writer))
 
-    pub nothing_of : (result : Result FlushReply Error) → IsFlusher history o f → (result ≡ Ok Nothing → (run : Run) (n : ℕ) → IsWriter history run n f.writer → synced_of f.writer ≡ n) → result ≡ Ok Nothing → synced_of old.writer ≡ last_handed o old
-    nothing_of result stands nothing same = subst (λ (x : FlushValue D A). synced_of x.writer ≡ last_handed o x) is (nothing same (run_of o f) (last_handed o f) stands.writer)
+    pub nothing_of : (result : Result FlushReply Error) → IsFlusher history o f
+        → (result ≡ Ok Nothing → (run : Run) (n : ℕ) → IsWriter history run n f.writer → synced_of f.writer ≡ n) → result ≡ Ok Nothing
+        → synced_of old.writer ≡ last_handed o old
+    nothing_of result stands nothing same = subst (λ (x : FlushValue D A). synced_of x.writer ≡ last_handed o x) is
+        (nothing same (run_of o f) (last_handed o f) stands.writer)
 
-    pub flipped_of : (result : Result FlipReply Error) → IsFlusher history o f → ((run : Run) (n : ℕ) → IsWriter history run n f.writer → IfOk result (λ reply. IsFlipReply n reply f.writer new))
+    pub flipped_of : (result : Result FlipReply Error) → IsFlusher history o f
+        → ((run : Run) (n : ℕ) → IsWriter history run n f.writer → IfOk result (λ reply. IsFlipReply n reply f.writer new))
         → IfOk result (λ reply. IsFlipReply (last_handed o old) reply old.writer new)
-    flipped_of result stands flipped = subst (λ (x : FlushValue D A). IfOk result (λ reply. IsFlipReply (last_handed o x) reply x.writer new)) is (flipped (run_of o f) (last_handed o f) stands.writer)
+    flipped_of result stands flipped = subst (λ (x : FlushValue D A). IfOk result (λ reply. IsFlipReply (last_handed o x) reply x.writer new)) is
+        (flipped (run_of o f) (last_handed o f) stands.writer)
 
-    pub behind_of : (result : Result FlipReply Error) → IsFlusher history o f → ((run : Run) (n : ℕ) → IsWriter history run n f.writer → has_failed f.writer ≡ false → ¬ CanFlip n f.writer → result ≡ Ok Behind)
+    pub behind_of : (result : Result FlipReply Error) → IsFlusher history o f
+        → ((run : Run) (n : ℕ) → IsWriter history run n f.writer → has_failed f.writer ≡ false → ¬ CanFlip n f.writer → result ≡ Ok Behind)
         → has_failed old.writer ≡ false → ¬ CanFlip (last_handed o old) old.writer → result ≡ Ok Behind
-    behind_of result stands behind = subst (λ (x : FlushValue D A). has_failed x.writer ≡ false → ¬ CanFlip (last_handed o x) x.writer → result ≡ Ok Behind) is (behind (run_of o f) (last_handed o f) stands.writer)
+    behind_of result stands behind = subst (λ (x : FlushValue D A). has_failed x.writer ≡ false → ¬ CanFlip (last_handed o x) x.writer
+        → result ≡ Ok Behind) is (behind (run_of o f) (last_handed o f) stands.writer)
 
-  pub chunk_of : {A : Type 0} (old f : FlushValue D A) → f ≡ old → (number : ℕ) {E : Type 0} (piece : Piece E) → IsChunk (run_of o old) old.writer number piece → IsChunk (run_of o f) f.writer number piece
+  pub chunk_of : {A : Type 0} (old f : FlushValue D A) → f ≡ old → (number : ℕ) {E : Type 0} (piece : Piece E) → IsChunk (run_of o old) old.writer number piece
+      → IsChunk (run_of o f) f.writer number piece
   chunk_of old f is number {E} piece chunk = subst (λ (x : FlushValue D _). IsChunk (run_of o x) x.writer number piece) (sym is) chunk
 
-  pub can_step : {A : Type 0} (old f : FlushValue D A) → f ≡ old → IsFlusher history o f → (number : ℕ) {E : Type 0} (piece : Piece E) → IsChunk (run_of o old) old.writer number piece
+  pub can_step : {A : Type 0} (old f : FlushValue D A) → f ≡ old → IsFlusher history o f → (number : ℕ) {E : Type 0} (piece : Piece E)
+      → IsChunk (run_of o old) old.writer number piece
       → (run : Run) × (n : ℕ) × IsWriter history run n f.writer × IsChunk run f.writer number piece
   can_step old f is stands number piece chunk = (run_of o f, last_handed o f, stands.writer, chunk_of old f is number piece chunk)

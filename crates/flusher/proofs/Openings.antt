@@ -42,7 +42,8 @@ pair_whole table p t = by (get table p.rid) refl
     by (Some row) some = record {
       row = row;
       is_there = some;
-      has_key = ∥∥₁_elim t (Coded-set (coded_list coded_ℕ) row.key p.key) (λ (x : IsPairOf table p). ap (λ (r : Row). r.key) (one_row row x.row (sym some ∙ x.is_there)) ∙ x.has_key);
+      has_key = ∥∥₁_elim t (Coded-set (coded_list coded_ℕ) row.key p.key) (λ (x : IsPairOf table p).
+          ap (λ (r : Row). r.key) (one_row row x.row (sym some ∙ x.is_there)) ∙ x.has_key);
     }
 
 pub can_open_whole : (o : Opened) → ∥ CanOpen o ∥₁ → CanOpen o
@@ -61,14 +62,17 @@ can_open_whole o t = record {
 
 -- ---- what was popped is the first of what was pushed
 
-pushed_open : (o : Opened) (core : CoreValue) (pushed : List RecordValue) (book : List SessionValue) → IsShared o core pushed book → (n : ℕ) → n ≤ length pushed → CanOpen (record o { given = given_after o.given (take n pushed) })
+pushed_open : (o : Opened) (core : CoreValue) (pushed : List RecordValue) (book : List SessionValue) → IsShared o core pushed book → (n : ℕ) → n ≤ length pushed
+    → CanOpen (record o { given = given_after o.given (take n pushed) })
 pushed_open o core pushed book shared n le =
     let so = shared.register.kept.replied in
     (served_crashed o shared.opens (pushed ++ core.outbox) shared.register.kept.calls so.state so.standing so.served pushed core.outbox refl n le).1
 
-pub popped_open : (o : Opened) (core : CoreValue) (pushed : List RecordValue) (book : List SessionValue) (popped : List RecordValue) → popped ≡ take (length popped) pushed → ∥ IsShared o core pushed book ∥₁ → MayOpenAgain o popped
+pub popped_open : (o : Opened) (core : CoreValue) (pushed : List RecordValue) (book : List SessionValue) (popped : List RecordValue)
+    → popped ≡ take (length popped) pushed → ∥ IsShared o core pushed book ∥₁ → MayOpenAgain o popped
 popped_open o core pushed book popped is shared can n le =
     let first : take n popped ≡ take n pushed = ap (take n) is ∙ take-take n (length popped) pushed le in
     let within : n ≤ length pushed = omega (arith, le, ap length is, length-take (length popped) pushed) in
     subst (λ (l : List RecordValue). CanOpen (record o { given = given_after o.given l })) (sym first)
-    (can_open_whole (record o { given = given_after o.given (take n pushed) }) (∥∥₁_map shared (λ (all : IsShared o core pushed book). pushed_open o core pushed book all n within)))
+    (can_open_whole (record o { given = given_after o.given (take n pushed) })
+    (∥∥₁_map shared (λ (all : IsShared o core pushed book). pushed_open o core pushed book all n within)))

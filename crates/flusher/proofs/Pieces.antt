@@ -1,5 +1,6 @@
 -- What is copied under the lock may be taken, where every record made was handed in.
-use Rattle.std.proofs.Common.{◌≡◌, ◌≢◌, ◌≤◌, ◌<◌, ◌+◌, ℕ, false, List, [], ◌∷◌, ◌++◌, length, take, Option, None, Some, inl, refl, sym, ap, ◌∙◌, subst, arith, append-nil, length-append, length-take, ⊎_elim}
+use Rattle.std.proofs.Common.{◌≡◌, ◌≢◌, ◌≤◌, ◌<◌, ◌+◌, ℕ, false, List, [], ◌∷◌, ◌++◌, length, take, Option, None, Some, inl, refl, sym, ap, ◌∙◌, subst, arith}
+use Rattle.std.proofs.Common.{append-nil, length-append, length-take, ⊎_elim}
 use Rattle.std.proofs.lemmas.List.{take_all}
 use Rattle.records.specs.GeometryValue.{GeometryValue}
 use Rattle.records.specs.RecordValue.{RecordValue}
@@ -34,11 +35,13 @@ none_longer [] le = refl
 none_longer (x ∷ l) le = absurd (omega (arith, le))
 
 -- as many were handed in as were made
-pub all_made : (handed pushed outbox : List RecordValue) → handed ≡ take (length handed) pushed → length (pushed ++ outbox) ≤ length handed → pushed ++ outbox ≡ handed
+pub all_made : (handed pushed outbox : List RecordValue) → handed ≡ take (length handed) pushed → length (pushed ++ outbox) ≤ length handed
+    → pushed ++ outbox ≡ handed
 all_made handed pushed outbox is long =
     let size : length (pushed ++ outbox) ≡ length pushed + length outbox = length-append pushed outbox in
     let short : length handed ≤ length pushed = omega (arith, ap length is, length-take (length handed) pushed) in
-    ap (λ l. pushed ++ l) (none_longer outbox (omega (arith, size, short, long))) ∙ append-nil pushed ∙ sym (is ∙ take_all (length handed) pushed (omega (arith, size, long)))
+    ap (λ l. pushed ++ l) (none_longer outbox (omega (arith, size, short, long))) ∙ append-nil pushed
+    ∙ sym (is ∙ take_all (length handed) pushed (omega (arith, size, long)))
 
 -- ---- pieces
 
@@ -49,7 +52,8 @@ not_none image i is none = cc
 there : (pages : ℕ) (place : Option CopyPlace) (image : Option NewImage) → image ≢ None → IsAt pages place image → IsAtPlace pages place image
 there pages place image some either = ⊎_elim (λ none. absurd (some none)) (λ is. is) either
 
-module _ {D A : Type 0} (history : D → History) (o : Opened) (f : FlushValue D A) (is : IsFlusher history o f) (l : LockedValue) (all : l.pushed ++ l.core.outbox ≡ f.handed) (last : (g : GeometryValue) → l.core.last ≡ end_of (lock.run_of g o l))
+module _ {D A : Type 0} (history : D → History) (o : Opened) (f : FlushValue D A) (is : IsFlusher history o f) (l : LockedValue)
+    (all : l.pushed ++ l.core.outbox ≡ f.handed) (last : (g : GeometryValue) → l.core.last ≡ end_of (lock.run_of g o l))
     (store : (g : GeometryValue) → g.pages ≡ o.pages → g.entries ≡ o.places → IsOfGeometry l.core g) (number : ℕ) (told : number ≡ l.core.last) where
   abbrev g : GeometryValue
   g = (halves_of f.writer).geometry
@@ -78,7 +82,8 @@ module _ {D A : Type 0} (history : D → History) (o : Opened) (f : FlushValue D
   whole_chunk (Page page rows) of = absurd of
   whole_chunk (Entries entries) of = absurd of
 
-  pub whole_at : {A : Type 0} (pages : ℕ) (image : Option NewImage) (piece : Piece A) → IsAllOf l.core (cells_at (lock.run_of g o l) number) piece → IsAtPiece pages piece image
+  pub whole_at : {A : Type 0} (pages : ℕ) (image : Option NewImage) (piece : Piece A) → IsAllOf l.core (cells_at (lock.run_of g o l) number) piece
+      → IsAtPiece pages piece image
   whole_at pages image (Whole copied) of = tt
   whole_at pages image (Start life lists) of = absurd of
   whole_at pages image (Page page rows) of = absurd of
@@ -89,7 +94,8 @@ module _ {D A : Type 0} (history : D → History) (o : Opened) (f : FlushValue D
     abbrev cells : Cells
     cells = cells_at (run_of o f) (last_handed o f)
 
-    piece_then : {A : Type 0} (place : CopyPlace) (piece : Piece A) → IsPieceDue g.pages place (image_of f.writer) → IsPieceOf l.core cells place piece → IsChunk (run_of o f) f.writer (last_handed o f) piece
+    piece_then : {A : Type 0} (place : CopyPlace) (piece : Piece A) → IsPieceDue g.pages place (image_of f.writer) → IsPieceOf l.core cells place piece
+        → IsChunk (run_of o f) f.writer (last_handed o f) piece
     piece_then at.Start (Start life lists) due of = record {
       late = is.writer.reached;
       made = omega arith;
@@ -101,10 +107,19 @@ module _ {D A : Type 0} (history : D → History) (o : Opened) (f : FlushValue D
     }
     piece_then (at.Page page) (Page copied rows) due of = λ image there_is.
         subst (λ p. IsPageChunk (run_of o f) image (last_handed o f) p rows) (sym of.0)
-        (next.page page rows sound (there g.pages (Some (at.Page page)) (image_of f.writer) (not_none (image_of f.writer) image there_is) due) (record { rows-are = of.1.rows-are; slots = of.1.slots }) image there_is)
+        (next.page page rows sound (there g.pages (Some (at.Page page)) (image_of f.writer) (not_none (image_of f.writer) image there_is) due)
+        (record { rows-are = of.1.rows-are; slots = of.1.slots }) image there_is)
     piece_then (at.Entries above) (Entries entries) due of = λ image there_is.
         next.entries above entries.items sound (there g.pages (Some (at.Entries above)) (image_of f.writer) (not_none (image_of f.writer) image there_is) due)
-        (record { more = of.more; listed = of.listed; most = of.most; full = of.full; rest = of.rest; inside = λ i e found. subst (λ n. e.0.rid.page < n) of_geometry.pages (of.inside i e found) }) image there_is
+        (record {
+          more = of.more;
+          listed = of.listed;
+          most = of.most;
+          full = of.full;
+          rest = of.rest;
+          inside = λ i e found.
+              subst (λ n. e.0.rid.page < n) of_geometry.pages (of.inside i e found);
+        }) image there_is
     piece_then at.Start (Whole copied) due of = absurd of
     piece_then at.Start (Page page rows) due of = absurd of
     piece_then at.Start (Entries entries) due of = absurd of
@@ -115,17 +130,22 @@ module _ {D A : Type 0} (history : D → History) (o : Opened) (f : FlushValue D
     piece_then (at.Entries above) (Start life lists) due of = absurd of
     piece_then (at.Entries above) (Page page rows) due of = absurd of
 
-    pub piece_chunk : {A : Type 0} (place : CopyPlace) (piece : Piece A) → IsPieceDue g.pages place (image_of f.writer) → IsPieceOf l.core (cells_at (lock.run_of g o l) number) place piece → IsChunk (run_of o f) f.writer number piece
+    pub piece_chunk : {A : Type 0} (place : CopyPlace) (piece : Piece A) → IsPieceDue g.pages place (image_of f.writer)
+        → IsPieceOf l.core (cells_at (lock.run_of g o l) number) place piece → IsChunk (run_of o f) f.writer number piece
     piece_chunk {A} place piece due of =
-        let now : IsPieceOf l.core cells place piece = subst (λ n. IsPieceOf l.core (cells_at (run_of o f) n) place piece) number_is (subst (λ (r : Run). IsPieceOf l.core (cells_at r number) place piece) same_run of) in
+        let now : IsPieceOf l.core cells place piece = subst (λ n. IsPieceOf l.core (cells_at (run_of o f) n) place piece) number_is
+        (subst (λ (r : Run). IsPieceOf l.core (cells_at r number) place piece) same_run of) in
         subst (λ n. IsChunk (run_of o f) f.writer n piece) (sym number_is) (piece_then place piece due now)
 
 -- a piece that may be taken comes where the image is
-pub at_piece : {A D : Type 0} (v : CoreValue) (cells : Cells) (f : FlushValue D A) (pages : ℕ) (place : CopyPlace) (piece : Piece A) → IsPieceOf v cells place piece → IsPieceDue pages place (image_of f.writer) → ¬ MustStartAgain piece f.writer → IsAtPiece pages piece (image_of f.writer)
+pub at_piece : {A D : Type 0} (v : CoreValue) (cells : Cells) (f : FlushValue D A) (pages : ℕ) (place : CopyPlace) (piece : Piece A)
+    → IsPieceOf v cells place piece → IsPieceDue pages place (image_of f.writer) → ¬ MustStartAgain piece f.writer → IsAtPiece pages piece (image_of f.writer)
 at_piece v now f pages at.Start (Start life lists) of due may = tt
 at_piece v now f pages (at.Page page) (Page copied rows) of due may =
-    subst (λ p. IsAtPlace pages (Some (at.Page p)) (image_of f.writer)) (sym of.0) (there pages (Some (at.Page page)) (image_of f.writer) (λ none. may (inl none)) due)
-at_piece v now f pages (at.Entries above) (Entries entries) of due may = (above, there pages (Some (at.Entries above)) (image_of f.writer) (λ none. may (inl none)) due)
+    subst (λ p. IsAtPlace pages (Some (at.Page p)) (image_of f.writer)) (sym of.0)
+    (there pages (Some (at.Page page)) (image_of f.writer) (λ none. may (inl none)) due)
+at_piece v now f pages (at.Entries above) (Entries entries) of due may =
+    (above, there pages (Some (at.Entries above)) (image_of f.writer) (λ none. may (inl none)) due)
 at_piece v now f pages at.Start (Whole copied) of due may = absurd of
 at_piece v now f pages at.Start (Page page rows) of due may = absurd of
 at_piece v now f pages at.Start (Entries entries) of due may = absurd of

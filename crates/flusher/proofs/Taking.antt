@@ -13,7 +13,14 @@ module _ {D A : Type 0} where
 
   -- no record was popped
   pub took_none : (f : FlushValue D A) → TakesIn f f
-  took_none f = record { popped = []; popped-are = sym (append-nil (popped_by f)); more = []; handed = sym (append-nil f.handed); got = got_none f.writer; published = refl }
+  took_none f = record {
+    popped = [];
+    popped-are = sym (append-nil (popped_by f));
+    more = [];
+    handed = sym (append-nil f.handed);
+    got = got_none f.writer;
+    published = refl;
+  }
 
   module _ (old mid : FlushValue D A) (popped : List RecordValue) (is : mid ≡ record old { held = old.held ++ popped }) where
     all_are : popped_by mid ≡ popped_by old ++ popped
@@ -56,16 +63,20 @@ module _ {D A : Type 0} where
         published = published_is;
       }
 
-      pub took_in : (result : Result (Unit {0}) Error) → OnOk result ((new.handed ≡ popped_by mid) × (new.held ≡ [])) → OnOk result (HasGot mid.held mid.writer new.writer) → OnErr result ((new.handed ≡ mid.handed) × (new.held ≡ mid.held)) → OnErr result (HasGot [] mid.writer new.writer)
+      pub took_in : (result : Result (Unit {0}) Error) → OnOk result ((new.handed ≡ popped_by mid) × (new.held ≡ []))
+          → OnOk result (HasGot mid.held mid.writer new.writer) → OnErr result ((new.handed ≡ mid.handed) × (new.held ≡ mid.held))
+          → OnErr result (HasGot [] mid.writer new.writer)
           → TakesIn old new
       took_in (Ok x) ok got err still = got_all ok got
       took_in (Err e) ok got err still = got_nothing err still
 
   -- what was handed in is a beginning of what was pushed
-  pub begins : (mid new : FlushValue D A) (pushed now : List RecordValue) (result : Result (Unit {0}) Error) → OnOk result ((new.handed ≡ popped_by mid) × (new.held ≡ [])) → popped_by mid ≡ take (length (popped_by mid)) pushed → now ≡ pushed
+  pub begins : (mid new : FlushValue D A) (pushed now : List RecordValue) (result : Result (Unit {0}) Error)
+      → OnOk result ((new.handed ≡ popped_by mid) × (new.held ≡ [])) → popped_by mid ≡ take (length (popped_by mid)) pushed → now ≡ pushed
       → OnOk result (new.handed ≡ take (length new.handed) now)
   begins mid new pushed now (Ok x) ok beginning same =
-      subst (λ (l : List RecordValue). new.handed ≡ take (length new.handed) l) (sym same) (subst (λ (l : List RecordValue). l ≡ take (length l) pushed) (sym ok.0) beginning)
+      subst (λ (l : List RecordValue). new.handed ≡ take (length new.handed) l) (sym same)
+      (subst (λ (l : List RecordValue). l ≡ take (length l) pushed) (sym ok.0) beginning)
   begins mid new pushed now (Err e) ok beginning same = tt
 
   -- some were popped and handed in, and then more

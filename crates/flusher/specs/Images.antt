@@ -27,9 +27,14 @@ IsPieceDue pages at.Start image = Unit {0}
 IsPieceDue pages (at.Page page) image = IsAt pages (Some (at.Page page)) image
 IsPieceDue pages (at.Entries above) image = IsAt pages (Some (at.Entries above)) image
 
--- the piece of an image that is due may be taken, as the last record handed in left its cells (no public clause cites this)
+-- the piece of an image that is due may be taken, as the last record handed in left its cells (no public clause cites
+-- this)
 pub record TakesNext {D A : Type 0} (o : Opened) (f : FlushValue D A) : Type 0 where
-  pub page : (page : ℕ) (rows : Table) → has_failed f.writer ≡ false → IsAtPlace (halves_of f.writer).geometry.pages (Some (at.Page page)) (image_of f.writer) → AreRowsNow (run_of o f) page rows
+  pub page : (page : ℕ) (rows : Table) → has_failed f.writer ≡ false
+      → IsAtPlace (halves_of f.writer).geometry.pages (Some (at.Page page)) (image_of f.writer)
+      → AreRowsNow (run_of o f) page rows
       → (i : NewImage) → image_of f.writer ≡ Some i → IsPageChunk (run_of o f) i (last_handed o f) page rows
-  pub entries : (above : Option Pair) (entries : List (Pair × Mark)) → has_failed f.writer ≡ false → IsAtPlace (halves_of f.writer).geometry.pages (Some (at.Entries above)) (image_of f.writer) → AreEntriesNow (run_of o f) above entries
+  pub entries : (above : Option Pair) (entries : List (Pair × Mark)) → has_failed f.writer ≡ false
+      → IsAtPlace (halves_of f.writer).geometry.pages (Some (at.Entries above)) (image_of f.writer)
+      → AreEntriesNow (run_of o f) above entries
       → (i : NewImage) → image_of f.writer ≡ Some i → IsEntriesChunk (run_of o f) i (last_handed o f) entries

@@ -23,7 +23,8 @@ pub record EndsValue : Type 0 where
   pub popper : Handed
   pub published : FlusherCount
 
--- The records that the writer has got, in order, and those that were popped behind them; the writer; and what was published.
+-- The records that the writer has got, in order, and those that were popped behind them; the writer; and what was
+-- published.
 pub record FlushValue (D A : Type 0) : Type 0 where
   pub handed : List RecordValue
   pub held : List RecordValue
@@ -32,7 +33,12 @@ pub record FlushValue (D A : Type 0) : Type 0 where
 
 -- of the records that were popped, these are held, and the writer has got those before them
 abbrev pub flush_value : {D A : Type 0} → (popped held : List RecordValue) → Writer D A → FlusherCount → FlushValue D A
-flush_value popped held writer published = record { handed = take (length popped - length held) popped; held = held; writer = writer; published = published }
+flush_value popped held writer published = record {
+  handed = take (length popped - length held) popped;
+  held = held;
+  writer = writer;
+  published = published;
+}
 
 -- all records that were popped, in order, each once
 abbrev pub popped_by : {D A : Type 0} → FlushValue D A → List RecordValue
@@ -40,7 +46,12 @@ popped_by f = f.handed ++ f.held
 
 -- the store as it was opened, with the records that the writer has got since
 abbrev pub run_of : {D A : Type 0} → Opened → FlushValue D A → Run
-run_of o f = record { geometry = (halves_of f.writer).geometry; last = o.given.last; cells = opening_cells o.given; records = f.handed }
+run_of o f = record {
+  geometry = (halves_of f.writer).geometry;
+  last = o.given.last;
+  cells = opening_cells o.given;
+  records = f.handed;
+}
 
 -- the number of the last of them
 abbrev pub last_handed : {D A : Type 0} → Opened → FlushValue D A → ℕ
@@ -48,11 +59,12 @@ last_handed o f = o.given.last + length f.handed
 
 -- A core may begin with what is given after each prefix of the records, where it may with what was opened.
 abbrev pub MayOpenAgain : Opened → List RecordValue → Type 0
-MayOpenAgain o records = CanOpen o → (n : ℕ) → n ≤ length records → CanOpen (record o { given = given_after o.given (take n records) })
+MayOpenAgain o records = CanOpen o → (n : ℕ) → n ≤ length records
+    → CanOpen (record o { given = given_after o.given (take n records) })
 
--- The writer stands for the records that it got over what was opened, and its store has the pages of that, and places for the
--- entries after each of the records, with which a core may begin. What was published is not above what the writer has synced, and
--- tells whether its device failed.
+-- The writer stands for the records that it got over what was opened, and its store has the pages of that, and places
+-- for the entries after each of the records, with which a core may begin. What was published is not above what the
+-- writer has synced, and tells whether its device failed.
 pub record IsFlusher {D A : Type 0} (history : D → History) (o : Opened) (f : FlushValue D A) : Type 0 where
   pub pages : (halves_of f.writer).geometry.pages ≡ o.pages
   pub places : (halves_of f.writer).geometry.entries ≡ o.places
@@ -62,10 +74,11 @@ pub record IsFlusher {D A : Type 0} (history : D → History) (o : Opened) (f : 
   pub horizon : f.published.horizon ≤ synced_of f.writer
   pub failed : f.published.failed ≡ has_failed f.writer
 
--- The crash state has the cells as some of these records, the first ones, left those that were opened, with every record up to the
--- floor; a reader finds what these records make of what was opened; and a core may begin with that, where it may with what was
--- opened.
-pub record GivesBeginning (o : Opened) (g : GeometryValue) (handed : List RecordValue) (floor : ℕ) (image : Image) : Type 0 where
+-- The crash state has the cells as some of these records, the first ones, left those that were opened, with every
+-- record up to the floor; a reader finds what these records make of what was opened; and a core may begin with that,
+-- where it may with what was opened.
+pub record GivesBeginning (o : Opened) (g : GeometryValue) (handed : List RecordValue) (floor : ℕ)
+    (image : Image) : Type 0 where
   pub count : ℕ
   pub most : count ≤ length handed
   pub least : floor ≤ o.given.last + count
@@ -91,7 +104,8 @@ pub record HasGot {D A : Type 0} (more : List RecordValue) (old new : Writer D A
   pub failed : has_failed new ≡ has_failed old
   pub image : image_of new ≡ image_of old
 
--- no record was popped or handed in, and what was published is now what the writer has synced, and whether its device failed
+-- no record was popped or handed in, and what was published is now what the writer has synced, and whether its device
+-- failed
 pub record Publishes {D A : Type 0} (old new : FlushValue D A) : Type 0 where
   pub handed : new.handed ≡ old.handed
   pub held : new.held ≡ old.held

@@ -65,8 +65,8 @@ impl<B: Group, D: Device, A: Memory> FlushPart<B, D, A> {
         self.writer.open_slots() >= slots / 2
     }
 
-    /// Pushes records that wait in the core to the queue, pops records that wait there, and hands in all that is held. No clause
-    /// says how many are pushed or popped: one that the queue refuses waits on in the core.
+    /// Pushes records that wait in the core to the queue, pops records that wait there, and hands in all that is held.
+    /// No clause says how many are pushed or popped: one that the queue refuses waits on in the core.
     ///
     /// The one error is `NoMemory`. Then what was popped is held, and none was handed in.
     pub fn take_in<R: Wait>(
@@ -79,9 +79,11 @@ impl<B: Group, D: Device, A: Memory> FlushPart<B, D, A> {
         ensures takes { TakesIn self.old self.new }
         ensures none_held { OnOk result (self.new.held ≡ []) }
         ensures kept { OnErr result (self.new.handed ≡ self.old.handed) }
-        ensures beginning { OnOk result (self.new.handed ≡ take (length self.new.handed) (locked_of locked.new).pushed) }
+        ensures beginning { OnOk result (self.new.handed ≡ take (length self.new.handed)
+            (locked_of locked.new).pushed) }
         ensures no_memory { IfErr result (λ e. e ≡ Error.NoMemory) }
-        ensures pushed { HandsOn (locked_of locked.old).core (locked_of locked.new).core (locked_of locked.old).pushed (locked_of locked.new).pushed }
+        ensures pushed { HandsOn (locked_of locked.old).core (locked_of locked.new).core (locked_of locked.old).pushed
+            (locked_of locked.new).pushed }
         ensures book { (locked_of locked.new).book ≡ (locked_of locked.old).book }
     {
         locked.push_outbox(rt, queue);
@@ -89,8 +91,8 @@ impl<B: Group, D: Device, A: Memory> FlushPart<B, D, A> {
         self.hand_in(rt, queue, locked)
     }
 
-    /// Copies all cells, as the last record made left them, as a chunk that may be taken: that record was handed in first, and so
-    /// were all before it.
+    /// Copies all cells, as the last record made left them, as a chunk that may be taken: that record was handed in
+    /// first, and so were all before it.
     ///
     /// The one error is `NoMemory`, also where a record made was not handed in, as one that the queue refused.
     pub fn copy_whole<R: Wait>(
@@ -103,11 +105,16 @@ impl<B: Group, D: Device, A: Memory> FlushPart<B, D, A> {
         ensures takes { TakesIn self.old self.new }
         ensures number { IfOk result (λ chunk. chunk.number ≡ last_handed B.site.opened self.new) }
         ensures last { IfOk result (λ chunk. chunk.number ≡ (locked_of locked.new).core.last) }
-        ensures chunk { IfOk result (λ chunk. IsChunk (run_of B.site.opened self.new) self.new.writer chunk.number chunk.piece) }
-        ensures whole { IfOk result (λ chunk. (g : GeometryValue) → IsAllOf (locked_of locked.new).core (cells_at (made.run_of g B.site.opened (locked_of locked.new)) chunk.number) chunk.piece) }
-        ensures at { IfOk result (λ chunk. IsAtPiece (halves_of self.new.writer).geometry.pages chunk.piece (image_of self.new.writer)) }
+        ensures chunk { IfOk result (λ chunk.
+            IsChunk (run_of B.site.opened self.new) self.new.writer chunk.number chunk.piece) }
+        ensures whole { IfOk result (λ chunk. (g : GeometryValue)
+            → IsAllOf (locked_of locked.new).core
+            (cells_at (made.run_of g B.site.opened (locked_of locked.new)) chunk.number) chunk.piece) }
+        ensures at { IfOk result (λ chunk. IsAtPiece (halves_of self.new.writer).geometry.pages chunk.piece
+            (image_of self.new.writer)) }
         ensures no_memory { IfErr result (λ e. e ≡ Error.NoMemory) }
-        ensures pushed { HandsOn (locked_of locked.old).core (locked_of locked.new).core (locked_of locked.old).pushed (locked_of locked.new).pushed }
+        ensures pushed { HandsOn (locked_of locked.old).core (locked_of locked.new).core (locked_of locked.old).pushed
+            (locked_of locked.new).pushed }
         ensures book { (locked_of locked.new).book ≡ (locked_of locked.old).book }
     {
         self.take_in(rt, queue, locked)?;
@@ -134,11 +141,16 @@ impl<B: Group, D: Device, A: Memory> FlushPart<B, D, A> {
         ensures takes { TakesIn self.old self.new }
         ensures number { IfOk result (λ chunk. chunk.number ≡ last_handed B.site.opened self.new) }
         ensures last { IfOk result (λ chunk. chunk.number ≡ (locked_of locked.new).core.last) }
-        ensures chunk { IfOk result (λ chunk. IsChunk (run_of B.site.opened self.new) self.new.writer chunk.number chunk.piece) }
-        ensures piece { IfOk result (λ chunk. (g : GeometryValue) → IsPieceOf (locked_of locked.new).core (cells_at (made.run_of g B.site.opened (locked_of locked.new)) chunk.number) place chunk.piece) }
-        ensures at { IfOk result (λ chunk. ¬ MustStartAgain chunk.piece self.new.writer → IsAtPiece (halves_of self.new.writer).geometry.pages chunk.piece (image_of self.new.writer)) }
+        ensures chunk { IfOk result (λ chunk.
+            IsChunk (run_of B.site.opened self.new) self.new.writer chunk.number chunk.piece) }
+        ensures piece { IfOk result (λ chunk. (g : GeometryValue)
+            → IsPieceOf (locked_of locked.new).core
+            (cells_at (made.run_of g B.site.opened (locked_of locked.new)) chunk.number) place chunk.piece) }
+        ensures at { IfOk result (λ chunk. ¬ MustStartAgain chunk.piece self.new.writer
+            → IsAtPiece (halves_of self.new.writer).geometry.pages chunk.piece (image_of self.new.writer)) }
         ensures no_memory { IfErr result (λ e. e ≡ Error.NoMemory) }
-        ensures pushed { HandsOn (locked_of locked.old).core (locked_of locked.new).core (locked_of locked.old).pushed (locked_of locked.new).pushed }
+        ensures pushed { HandsOn (locked_of locked.old).core (locked_of locked.new).core (locked_of locked.old).pushed
+            (locked_of locked.new).pushed }
         ensures book { (locked_of locked.new).book ≡ (locked_of locked.old).book }
     {
         self.take_in(rt, queue, locked)?;

@@ -7,8 +7,8 @@ use std::alloc::Global;
 use std::marker::Model;
 use tail::Popper;
 
-/// The end of the queue that pops, and the flusher's view of the board, for a part that is to be made. Who has them alone can neither
-/// pop a record nor publish a horizon. To a contract they are an `EndsValue`.
+/// The end of the queue that pops, and the flusher's view of the board, for a part that is to be made. Who has them
+/// alone can neither pop a record nor publish a horizon. To a contract they are an `EndsValue`.
 #[derive(Drop)]
 pub struct FlushEnds<A: Memory = Global> {
     pub(crate) popper: Popper<A>,

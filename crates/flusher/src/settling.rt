@@ -8,9 +8,9 @@ use locked_core::{Group, Memory};
 use sector_device::Device;
 
 impl<B: Group, D: Device, A: Memory> FlushPart<B, D, A> {
-    /// Compares what another thread has seen of the board with what was published: no horizon that it has seen is above the last
-    /// synced record, and a failed flag that it has seen is true. Nothing changes but the view, which has now seen the horizon and
-    /// the failed flag that were published.
+    /// Compares what another thread has seen of the board with what was published: no horizon that it has seen is above
+    /// the last synced record, and a failed flag that it has seen is true. Nothing changes but the view, which has now
+    /// seen the horizon and the failed flag that were published.
     pub fn settle(&mut self, board: &Board<A>, view: &mut View)
         requires board { board.now ≡ B.site.board }
         requires view { view.old.board ≡ board.now }
@@ -18,7 +18,10 @@ impl<B: Group, D: Device, A: Memory> FlushPart<B, D, A> {
         ensures horizon { view.old.horizon ≤ self.old.published.horizon }
         ensures synced { view.old.horizon ≤ synced_of self.old.writer }
         ensures failed { IsTrue view.old.failed → has_failed self.old.writer ≡ true }
-        ensures view { view.new ≡ record view.old { horizon = self.old.published.horizon; failed = self.old.published.failed } }
+        ensures view { view.new ≡ record view.old {
+          horizon = self.old.published.horizon;
+          failed = self.old.published.failed;
+        } }
     {
         self.stands();
         board.settle(&mut self.view, view);

@@ -21,13 +21,15 @@ use Rattle.restart.specs.Reopening.{IsNotOpened, IsOpened}
 use Rattle.headline.specs.Stops.{IsFoundAs}
 use Rattle.headline_threads.specs.Seats.{HoldsSeats}
 
-module _ {D : Type 0} (history : D → History) (o : Opened) (g : GeometryValue) (seats : List SeatValue) (popped : List RecordValue) (floor : ℕ) (old found : D) (found-as : IsFoundAs (history old).disk (history found))
+module _ {D : Type 0} (history : D → History) (o : Opened) (g : GeometryValue) (seats : List SeatValue) (popped : List RecordValue) (floor : ℕ) (old found : D)
+    (found-as : IsFoundAs (history old).disk (history found))
     (some : (image : Image) → IsCrashImage (history old).disk image → ∥ GivesSome o g seats popped floor image ∥₁) where
   -- what the device gives now
   now : ∥ GivesSome o g seats popped floor (history found).disk.content ∥₁
   now = some (history found).disk.content (found-as.left (history found).disk.content (content_is_image (history found).disk (history found).whole))
 
-  pub held : {A : Type 0} (one : (image : Image) (g h : GeometryValue) (x y : Given) → Gives image g x → Gives image h y → x ≡ y) (acks : List AckValue) → All (λ (a : AckValue). a.ticket.«record» ≤ floor) acks
+  pub held : {A : Type 0} (one : (image : Image) (g h : GeometryValue) (x y : Given) → Gives image g x → Gives image h y → x ≡ y) (acks : List AckValue)
+      → All (λ (a : AckValue). a.ticket.«record» ≤ floor) acks
       → (engine : Parts D A) → IsOpened history found engine → ∥ HoldsSeats o.given.table seats acks (core_of engine) ∥₁
   held one acks low engine is = ∥∥₁_map now by
     where
@@ -39,13 +41,16 @@ module _ {D : Type 0} (history : D → History) (o : Opened) (g : GeometryValue)
             commits = left.commits;
             of-seats = left.all;
             number = number;
-            safe = All-weaker (λ (a : AckValue). a.ticket.«record» ≤ floor) (λ (a : AckValue). a.ticket.«record» ≤ number) (λ a below. omega (arith, below, left.least)) acks low;
+            safe = All-weaker (λ (a : AckValue). a.ticket.«record» ≤ floor) (λ (a : AckValue). a.ticket.«record» ≤ number) (λ a below.
+                omega (arith, below, left.least)) acks low;
             rows = ap (λ (v : CoreValue). v.heap.rows) is.core ∙ ap (λ (x : Given). x.table) same ∙ left.table;
           }
 
-  pub refused_so : (readable : (image : Image) (g : GeometryValue) (given : Given) (e : Error) → Gives image g given → ¬ IsUnreadable image e) (failures : D → ℕ) (after : D) (e : Error) → IsNotOpened history failures found after e
+  pub refused_so : (readable : (image : Image) (g : GeometryValue) (given : Given) (e : Error) → Gives image g given → ¬ IsUnreadable image e) (failures : D
+      → ℕ) (after : D) (e : Error) → IsNotOpened history failures found after e
       → (e ≡ NoMemory) ⊎ (e ≡ DeviceFailed)
   refused_so readable failures after e not = ⊎_elim
       (λ refuses. ⊎_elim (λ memory. inl memory) (λ failed. inr failed.0) refuses)
-      (λ unreadable. absurd (∥∥₁_elim now (λ (a b : ⊥). absurd a) (λ (left : GivesSome o g seats popped floor (history found).disk.content). readable (history found).disk.content g _ e left.gives unreadable)))
+      (λ unreadable. absurd (∥∥₁_elim now (λ (a b : ⊥). absurd a) (λ (left : GivesSome o g seats popped floor (history found).disk.content).
+      readable (history found).disk.content g _ e left.gives unreadable)))
       not.why

@@ -7,8 +7,8 @@ use Rattle.shared.specs.Seats.{AckValue, SeatValue}
 use Rattle.closing.specs.Closing.{table_with, up_to}
 use Rattle.closing.specs.Gathered.{AreCommitsOf}
 
--- These are the commits of all seats, in the order of their numbers. The rows are those that were opened, with the commits up to a
--- record set over them, one after another; and no acknowledgement is of a later record.
+-- These are the commits of all seats, in the order of their numbers. The rows are those that were opened, with the
+-- commits up to a record set over them, one after another; and no acknowledgement is of a later record.
 pub record HoldsSeats (opened : Table) (seats : List SeatValue) (acks : List AckValue) (core : CoreValue) : Type 0 where
   pub commits : List CommitValue
   pub of-seats : AreCommitsOf seats commits

@@ -29,7 +29,9 @@ fn finish_device<B: Group, D: Device, R: Wait, A: Memory>(
     acks: Vec<Ack<B>, A>,
 ) -> D
     requires seats { AreAllSeats B.site.seats seats.items }
-    ensures some { (image : Image) → IsCrashImage (D.history result).disk image → ∥ GivesSome B.site.opened (halves_of flush.writer).geometry seats.items (popped_by flush) (synced_of flush.writer) image ∥₁ }
+    ensures some { (image : Image) → IsCrashImage (D.history result).disk image
+        → ∥ GivesSome B.site.opened (halves_of flush.writer).geometry seats.items (popped_by flush)
+        (synced_of flush.writer) image ∥₁ }
     ensures acked { All (λ a. a.ticket.«record» ≤ synced_of flush.writer) acks.items }
 {
     match finish(rt, alloc, shared, seats, flush, acks) {
@@ -38,11 +40,12 @@ fn finish_device<B: Group, D: Device, R: Wait, A: Memory>(
     }
 }
 
-/// Takes every seat back and writes out what they made, as `finish` does. Whatever that answers, the power then fails; and the store
-/// is opened again.
+/// Takes every seat back and writes out what they made, as `finish` does. Whatever that answers, the power then fails;
+/// and the store is opened again.
 ///
-/// What it holds are the rows that the threads began with, with the first commits of all seats set over them, in the order of
-/// their numbers; and each whose acknowledgement is handed in is among them (`holds`). `NoMemory` and `DeviceFailed` are those of the opening.
+/// What it holds are the rows that the threads began with, with the first commits of all seats set over them, in the
+/// order of their numbers; and each whose acknowledgement is handed in is among them (`holds`). `NoMemory` and
+/// `DeviceFailed` are those of the opening.
 pub fn finish_and_open<B: Group, D: Mortal, R: Wait, A: Memory>(
     rt: &R,
     alloc: A,
@@ -52,7 +55,8 @@ pub fn finish_and_open<B: Group, D: Mortal, R: Wait, A: Memory>(
     acks: Vec<Ack<B>, A>,
 ) -> Result<Engine<D, A>, Error>
     requires seats { AreAllSeats B.site.seats seats.items }
-    ensures holds { IfOk result (λ engine. ∥ HoldsSeats B.site.opened.given.table seats.items acks.items (core_of engine) ∥₁) }
+    ensures holds { IfOk result (λ engine. ∥ HoldsSeats B.site.opened.given.table seats.items acks.items
+        (core_of engine) ∥₁) }
     ensures refused { IfErr result (λ e. (e ≡ NoMemory) ⊎ (e ≡ DeviceFailed)) }
 {
     one_answer();

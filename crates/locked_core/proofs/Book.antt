@@ -43,7 +43,8 @@ set_itself (x ∷ xs) zero a e = ap (λ y. y ∷ xs) (sym (some_is x a e))
 set_itself (x ∷ xs) (suc n) a e = ap (λ l. x ∷ l) (set_itself xs n a e)
 
 -- a half is changed in its place
-module _ (z : TableId) (seats : ℕ) (items : List HalfValue) (n : ℕ) (old : HalfValue) (count : length items ≡ seats) (within : n < seats) (at : old ≡ slice_index_or items n old) where
+module _ (z : TableId) (seats : ℕ) (items : List HalfValue) (n : ℕ) (old : HalfValue) (count : length items ≡ seats) (within : n < seats)
+    (at : old ≡ slice_index_or items n old) where
   here : n < length items
   here = omega (arith, count, within)
 
@@ -70,7 +71,8 @@ module _ (z : TableId) (seats : ℕ) (items : List HalfValue) (n : ℕ) (old : H
       shown_set = map-set shown items n new ∙ ap (slice_set (map shown items) n) (ap shown is)
 
 -- a half is changed twice, and the first change shows the session that it showed
-module _ (z : TableId) (seats : ℕ) (items : List HalfValue) (n : ℕ) (old : HalfValue) (count : length items ≡ seats) (within : n < seats) (at : old ≡ slice_index_or items n old) (book : IsBook z items)
+module _ (z : TableId) (seats : ℕ) (items : List HalfValue) (n : ℕ) (old : HalfValue) (count : length items ≡ seats) (within : n < seats)
+    (at : old ≡ slice_index_or items n old) (book : IsBook z items)
     (new : HalfValue) (p : SessionValue) (agree : old.session ≡ p) (is : new ≡ record old { session = p }) where
   pub there : slice_get (map shown items) n ≡ Some p
   there = shown_at z seats items n old count within at ∙ ap Some agree
@@ -78,14 +80,17 @@ module _ (z : TableId) (seats : ℕ) (items : List HalfValue) (n : ℕ) (old : H
   pub once : map shown (slice_set items n new) ≡ map shown items
   once = shown_set z seats items n old count within at book new p is ∙ set_itself (map shown items) n p there
 
-  module _ (next : HalfValue) (later : next ≡ slice_index_or (slice_set items n new) n next) (last : HalfValue) (q : SessionValue) (ends : last ≡ record next { session = q }) where
+  module _ (next : HalfValue) (later : next ≡ slice_index_or (slice_set items n new) n next) (last : HalfValue) (q : SessionValue)
+      (ends : last ≡ record next { session = q }) where
     pub count_twice : length (slice_set (slice_set items n new) n last) ≡ seats
     count_twice = set_length (slice_set items n new) n last ∙ (set_length items n new ∙ count)
 
     pub book_twice : IsBook z (slice_set (slice_set items n new) n last)
-    book_twice = book_set z seats (slice_set items n new) n next (count_set z seats items n old count within at book new p is) within later (book_set z seats items n old count within at book new p is) last q ends
+    book_twice = book_set z seats (slice_set items n new) n next (count_set z seats items n old count within at book new p is) within later
+        (book_set z seats items n old count within at book new p is) last q ends
 
     pub shown_twice : map shown (slice_set (slice_set items n new) n last) ≡ slice_set (map shown items) n q
     shown_twice =
-        shown_set z seats (slice_set items n new) n next (count_set z seats items n old count within at book new p is) within later (book_set z seats items n old count within at book new p is) last q ends
+        shown_set z seats (slice_set items n new) n next (count_set z seats items n old count within at book new p is) within later
+        (book_set z seats items n old count within at book new p is) last q ends
         ∙ ap (λ (l : List SessionValue). slice_set l n q) once

@@ -55,7 +55,8 @@ txn_back Commit = refl
 txn_back End = refl
 
 abbrev coded_txn : Coded TxnAction
-coded_txn = code_by ((Part × (ChangeValue × Option Bool)) ⊎ Bool) (coded⊎ (coded× coded_part (coded× coded_change (coded_option coded_bool))) coded_bool) txn_in txn_out txn_back
+coded_txn = code_by ((Part × (ChangeValue × Option Bool))
+    ⊎ Bool) (coded⊎ (coded× coded_part (coded× coded_change (coded_option coded_bool))) coded_bool) txn_in txn_out txn_back
 
 -- what is done with a pair, or without one
 abbrev index_in : IndexAction → (Pair × Option Bool) ⊎ Option Bool
@@ -86,7 +87,8 @@ index_back (Clean pair) = refl
 index_back Drop = refl
 
 abbrev coded_index : Coded IndexAction
-coded_index = code_by ((Pair × Option Bool) ⊎ Option Bool) (coded⊎ (coded× coded_pair (coded_option coded_bool)) (coded_option coded_bool)) index_in index_out index_back
+coded_index = code_by ((Pair × Option Bool) ⊎ Option Bool)
+    (coded⊎ (coded× coded_pair (coded_option coded_bool)) (coded_option coded_bool)) index_in index_out index_back
 
 abbrev action_in : Action → (ℕ × TxnAction) ⊎ IndexAction
 action_in (OfTxn txn action) = inl (txn, action)

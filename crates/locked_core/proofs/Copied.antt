@@ -66,10 +66,12 @@ no_list g o txn = subst (λ (l : Option (List ChangeValue)). ArePlaced g.pages 0
 
 module _ (o : Opened) (core : CoreValue) (pushed : List RecordValue) (book : List SessionValue) (shared : ∥ IsShared o core pushed book ∥₁) where
   pub histories : ∥ ((calls : List (Event × Reply)) × HasReplied o calls pushed core × HoldsHistory o (items_of no_writes calls) core) ∥₁
-  histories = ∥∥₁_map shared (λ (h : IsShared o core pushed book). (h.register.kept.calls, h.register.kept.replied, holds o h.opens h.register.kept.calls pushed core h.register.kept.replied))
+  histories = ∥∥₁_map shared (λ (h : IsShared o core pushed book).
+      (h.register.kept.calls, h.register.kept.replied, holds o h.opens h.register.kept.calls pushed core h.register.kept.replied))
 
   last_number : core.last ≡ o.given.last + length (pushed ++ core.outbox)
-  last_number = ∥∥₁_elim shared (Coded-set coded_ℕ _ _) (λ (h : IsShared o core pushed book). numbered o h.opens h.register.kept.calls pushed core h.register.kept.replied)
+  last_number = ∥∥₁_elim shared (Coded-set coded_ℕ _ _) (λ (h : IsShared o core pushed book).
+      numbered o h.opens h.register.kept.calls pushed core h.register.kept.replied)
 
   module _ (sound : IsSound core.txns) where
     abbrev all : Cells
@@ -95,7 +97,10 @@ module _ (o : Opened) (core : CoreValue) (pushed : List RecordValue) (book : Lis
     pub run_kept : g.pages ≡ o.pages → ∥ IsRun run ∥₁
     run_kept pages = ∥∥₁_map shared (λ (h : IsShared o core pushed book).
         let so : HasReplied o h.register.kept.calls pushed core = h.register.kept.replied in
-        record { following = subst (λ n. AreFollowing n o.given.last (opening_cells o.given) (pushed ++ core.outbox)) (sym pages) so.served.log.in_order; placed = no_list g o })
+        record {
+          following = subst (λ n. AreFollowing n o.given.last (opening_cells o.given) (pushed ++ core.outbox)) (sym pages) so.served.log.in_order;
+          placed = no_list g o;
+        })
 
     pub end_is : core.last ≡ end_of run
     end_is = last_number
@@ -109,7 +114,10 @@ module _ (o : Opened) (core : CoreValue) (pushed : List RecordValue) (book : Lis
     cells_now sound = subst (IsCellsOf core) (sym cells_end) (all_shown sound)
 
     pub store_now : g.pages ≡ o.pages → g.entries ≡ o.places → IsOfGeometry core g
-    store_now pages entries = record { pages = ∥∥₁_elim shared (Coded-set coded_ℕ _ _) (λ h. (of h).pages); entries = ∥∥₁_elim shared (Coded-set coded_ℕ _ _) (λ h. (of h).entries) }
+    store_now pages entries = record {
+      pages = ∥∥₁_elim shared (Coded-set coded_ℕ _ _) (λ h. (of h).pages);
+      entries = ∥∥₁_elim shared (Coded-set coded_ℕ _ _) (λ h. (of h).entries);
+    }
       where
         of : IsShared o core pushed book → IsOfGeometry core g
         of h =
@@ -130,12 +138,14 @@ module _ (o : Opened) (l : LockedValue) (shown : (g : GeometryValue) → IsCells
   shown_at : (number : ℕ) → number ≡ l.core.last → (g : GeometryValue) → IsCellsOf l.core (cells_at (run_of g o l) number)
   shown_at number is g = subst (λ n. IsCellsOf l.core (cells_at (run_of g o l) n)) (sym is) (shown g)
 
-  pub whole_now : {A : Type 0} (result : Result (Chunk A) Error) → IfOk result (λ chunk. chunk.number ≡ l.core.last) → IfOk result (λ chunk. IsWholeOf l.core chunk.piece)
+  pub whole_now : {A : Type 0} (result : Result (Chunk A) Error) → IfOk result (λ chunk. chunk.number ≡ l.core.last)
+      → IfOk result (λ chunk. IsWholeOf l.core chunk.piece)
       → IfOk result (λ chunk. (g : GeometryValue) → IsAllOf l.core (cells_at (run_of g o l) chunk.number) chunk.piece)
   whole_now (Ok chunk) number whole = λ g. all_copied l.core (cells_at (run_of g o l) chunk.number) chunk.piece (shown_at chunk.number number g) whole
   whole_now (Err e) number whole = tt
 
-  pub piece_now : {A : Type 0} (place : CopyPlace) (result : Result (Chunk A) Error) → IfOk result (λ chunk. chunk.number ≡ l.core.last) → IfOk result (λ chunk. (cells : Cells) → IsCellsOf l.core cells → IsPieceOf l.core cells place chunk.piece)
+  pub piece_now : {A : Type 0} (place : CopyPlace) (result : Result (Chunk A) Error) → IfOk result (λ chunk. chunk.number ≡ l.core.last)
+      → IfOk result (λ chunk. (cells : Cells) → IsCellsOf l.core cells → IsPieceOf l.core cells place chunk.piece)
       → IfOk result (λ chunk. (g : GeometryValue) → IsPieceOf l.core (cells_at (run_of g o l) chunk.number) place chunk.piece)
   piece_now place (Ok chunk) number piece = λ g. piece (cells_at (run_of g o l) chunk.number) (shown_at chunk.number number g)
   piece_now place (Err e) number piece = tt

@@ -1,5 +1,6 @@
 -- What is told of records that follow, and not how, is told whole.
-use Rattle.std.proofs.Common.{◌≡◌, ◌≢◌, ◌⊎◌, ℕ, ◌+◌, ◌-◌, ◌<◌, List, [], ◌∷◌, ◌++◌, length, take, Option, None, Some, inl, inr, refl, sym, ap, ◌∙◌, ⊎_elim, arith, length-append}
+use Rattle.std.proofs.Common.{◌≡◌, ◌≢◌, ◌⊎◌, ℕ, ◌+◌, ◌-◌, ◌<◌, List, [], ◌∷◌, ◌++◌, length, take, Option, None, Some, inl, inr, refl, sym, ap, ◌∙◌, ⊎_elim}
+use Rattle.std.proofs.Common.{arith, length-append}
 use Rattle.std.proofs.Math.Logic.{∥∥₁_elim, ∥∥₁_map}
 use Rattle.std.proofs.Math.Seq.{take-append_seam}
 use Rattle.std.proofs.lemmas.Bool.{cases_lt}
@@ -33,7 +34,8 @@ below_whole : (m n : ℕ) → ∥ m < n ∥₁ → m < n
 below_whole m n t = ⊎_elim (λ l. l) (λ g. absurd (∥∥₁_elim t ⊥_prop (λ l. omega (arith, l, g)))) (cases_lt m n)
 
 same_nat : (m n : ℕ) → (m ≡ n) ⊎ (m ≢ n)
-same_nat m n = ⊎_elim (λ l. inr (λ e. omega (arith, l, e))) (λ g. ⊎_elim (λ l. inr (λ e. omega (arith, l, e))) (λ h. inl (omega (arith, g, h))) (cases_lt n m)) (cases_lt m n)
+same_nat m n = ⊎_elim (λ l. inr (λ e. omega (arith, l, e))) (λ g. ⊎_elim (λ l. inr (λ e. omega (arith, l, e))) (λ h. inl (omega (arith, g, h))) (cases_lt n m))
+    (cases_lt m n)
 
 -- ---- one transaction's record
 
@@ -106,7 +108,8 @@ by_whole : (pages : ℕ) (cells : Cells) (action : Action) → ∥ CanFollowBy p
 by_whole pages cells (OfTxn txn action) t = txn_whole pages cells txn action t
 by_whole pages cells (OfIndex action) t = index_whole pages cells.life action t
 
-pub following_whole : (pages last : ℕ) (cells : Cells) (records : List RecordValue) → ∥ AreFollowing pages last cells records ∥₁ → AreFollowing pages last cells records
+pub following_whole : (pages last : ℕ) (cells : Cells) (records : List RecordValue) → ∥ AreFollowing pages last cells records ∥₁
+    → AreFollowing pages last cells records
 following_whole pages last cells [] t = tt
 following_whole pages last cells (r ∷ records) t = (
   record { number = nat_whole _ _ (∥∥₁_map t (λ x. x.0.number)); allowed = by_whole pages cells r.action (∥∥₁_map t (λ x. x.0.allowed)) },

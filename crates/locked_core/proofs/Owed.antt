@@ -21,10 +21,13 @@ use Rattle.register.proofs.Laws.{next_agreed, unfinished_seen}
 use Rattle.locked_core.proofs.Kept.{txn_kept}
 use Rattle.locked_core.specs.Names.{IsShared}
 
-pub next_kept : (o : Opened) (core new : CoreValue) (pushed : List RecordValue) (book : List SessionValue) (k : ℕ) (p q : SessionValue) (there : slice_get book k ≡ Some p) (shared : IsShared o core pushed book) (txn : ℕ) (result : Result (Unit {0}) Error)
-    → (is_active p txn ≡ false → (result ≡ Err NoSuchTxn) × (new ≡ core)) → (is_active p txn ≡ true → Serves core (Event.Step txn) (reply_by (λ _. Reply.Stepped) result) new)
+pub next_kept : (o : Opened) (core new : CoreValue) (pushed : List RecordValue) (book : List SessionValue) (k : ℕ) (p q : SessionValue)
+    (there : slice_get book k ≡ Some p) (shared : IsShared o core pushed book) (txn : ℕ) (result : Result (Unit {0}) Error)
+    → (is_active p txn ≡ false → (result ≡ Err NoSuchTxn) × (new ≡ core))
+    → (is_active p txn ≡ true → Serves core (Event.Step txn) (reply_by (λ _. Reply.Stepped) result) new)
     → OnOk result (q ≡ stepped p new txn) → OnErr result (q ≡ p) → IsShared o new pushed (slice_set book k q)
-next_kept o core new pushed book k p q there shared txn result foreign is = txn_kept o core new pushed book k p q there shared txn (Event.Step txn) (λ _. Reply.Stepped) (λ _. stepped p new txn)
+next_kept o core new pushed book k p q there shared txn result foreign is =
+    txn_kept o core new pushed book k p q there shared txn (Event.Step txn) (λ _. Reply.Stepped) (λ _. stepped p new txn)
     (λ own done serves. next_agreed o shared.opens pushed core book shared.register k p there txn own new serves) result foreign is
 
 -- ---- a transaction with a change to finish in its seat's session
@@ -45,7 +48,8 @@ owes_or_not (Some x) = by x.progress
     by UndoesRow = inr (other UndoesRow (λ e. (absurd cc)) (λ e. (absurd cc)))
     by UndoesEntry = inr (other UndoesEntry (λ e. (absurd cc)) (λ e. (absurd cc)))
 
-pub owes_now : (o : Opened) (core : CoreValue) (pushed : List RecordValue) (book : List SessionValue) (k : ℕ) (p : SessionValue) → slice_get book k ≡ Some p → ∥ IsShared o core pushed book ∥₁ → (txn : ℕ) → is_unfinished p txn ≡ true → OwesOrNone (txn_shown core txn)
+pub owes_now : (o : Opened) (core : CoreValue) (pushed : List RecordValue) (book : List SessionValue) (k : ℕ) (p : SessionValue) → slice_get book k ≡ Some p
+    → ∥ IsShared o core pushed book ∥₁ → (txn : ℕ) → is_unfinished p txn ≡ true → OwesOrNone (txn_shown core txn)
 owes_now o core pushed book k p there shared txn unfinished = by (owes_or_not (txn_shown core txn))
   where
     seen : IsShared o core pushed book → (m : Option ActiveValue) → active_of txn p.active ≡ m → has_unfinished m ≡ true → OwesOrNone (txn_shown core txn)

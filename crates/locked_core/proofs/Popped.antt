@@ -35,11 +35,13 @@ beginning_follows : (o : Opened) (popped pushed : List RecordValue) → popped �
 beginning_follows o popped pushed is all =
     let less : length popped ≤ length pushed = no_longer popped pushed is in
     record {
-      in_order = subst (AreFollowing o.pages o.given.last (opening_cells o.given)) (sym is) (following-take o.pages o.given.last (opening_cells o.given) pushed (length popped) all.in_order);
+      in_order = subst (AreFollowing o.pages o.given.last (opening_cells o.given)) (sym is)
+          (following-take o.pages o.given.last (opening_cells o.given) pushed (length popped) all.in_order);
       small = omega (arith, less, all.small);
     }
 
-pub popped_follow : (o : Opened) (core : CoreValue) (pushed : List RecordValue) (book : List SessionValue) (popped : List RecordValue) → popped ≡ take (length popped) pushed → ∥ IsShared o core pushed book ∥₁ → FollowOpening o popped
+pub popped_follow : (o : Opened) (core : CoreValue) (pushed : List RecordValue) (book : List SessionValue) (popped : List RecordValue)
+    → popped ≡ take (length popped) pushed → ∥ IsShared o core pushed book ∥₁ → FollowOpening o popped
 popped_follow o core pushed book popped is shared =
     let told : ∥ FollowOpening o popped ∥₁ = ∥∥₁_map shared (λ all. beginning_follows o popped pushed is (pushed_follow o core pushed book all)) in
     record {
@@ -64,7 +66,8 @@ pushed_fit o core pushed book shared n le =
     let so = shared.register.kept.replied in
     (served_crashed o shared.opens (pushed ++ core.outbox) shared.register.kept.calls so.state so.standing so.served pushed core.outbox refl n le).1.fits.room
 
-pub popped_fit : (o : Opened) (core : CoreValue) (pushed : List RecordValue) (book : List SessionValue) (popped : List RecordValue) → popped ≡ take (length popped) pushed → ∥ IsShared o core pushed book ∥₁ → FitPlaces o popped
+pub popped_fit : (o : Opened) (core : CoreValue) (pushed : List RecordValue) (book : List SessionValue) (popped : List RecordValue)
+    → popped ≡ take (length popped) pushed → ∥ IsShared o core pushed book ∥₁ → FitPlaces o popped
 popped_fit o core pushed book popped is shared n le =
     subst (λ (l : List RecordValue). len (given_after o.given l).entries ≤ o.places) (sym (first_of n popped pushed is le))
     (∥∥₁_elim shared le_prop (λ all. pushed_fit o core pushed book all n (omega (arith, le, no_longer popped pushed is))))

@@ -23,7 +23,8 @@ use Rattle.register.specs.Agreement.{row_at}
 use Rattle.register.specs.Reading.{ReadsBack, ShowsRow, unfinished_of}
 use Rattle.locked_core.specs.Names.{IsShared}
 
-module _ (o : Opened) (core new : CoreValue) (pushed : List RecordValue) (book : List SessionValue) (k : ℕ) (p q : SessionValue) (there : slice_get book k ≡ Some p) (shared : ∥ IsShared o core pushed book ∥₁) (txn : ℕ) where
+module _ (o : Opened) (core new : CoreValue) (pushed : List RecordValue) (book : List SessionValue) (k : ℕ) (p q : SessionValue)
+    (there : slice_get book k ≡ Some p) (shared : ∥ IsShared o core pushed book ∥₁) (txn : ℕ) where
   -- a call that isn't refused is of a transaction of the seat
   own : {T : Type 0} (x : T) → (is_active p txn ≡ false → (◌≡◌ {A = Result T Error} (Ok x) (Err NoSuchTxn)) × (new ≡ core)) → is_active p txn ≡ true
   own {T} x foreign = by (is_active p txn) refl
@@ -35,44 +36,56 @@ module _ (o : Opened) (core new : CoreValue) (pushed : List RecordValue) (book :
       by true is = is
       by false is = absurd (not_both (foreign is).0)
 
-  pub insert_row : (row : Row) (result : Result Place Error) → (is_active p txn ≡ false → (result ≡ Err NoSuchTxn) × (new ≡ core)) → (is_active p txn ≡ true → Serves core (Event.Insert txn row) (reply_by Reply.Rid result) new)
-      → IfOk result (λ rid. q ≡ changed p new txn (record { rid = rid; row = Some row })) → IfOk result (λ rid. ShowsRow txn (record { rid = rid; row = Some row }) q)
+  pub insert_row : (row : Row) (result : Result Place Error) → (is_active p txn ≡ false → (result ≡ Err NoSuchTxn) × (new ≡ core))
+      → (is_active p txn ≡ true → Serves core (Event.Insert txn row) (reply_by Reply.Rid result) new)
+      → IfOk result (λ rid. q ≡ changed p new txn (record { rid = rid; row = Some row }))
+      → IfOk result (λ rid. ShowsRow txn (record { rid = rid; row = Some row }) q)
   insert_row row (Ok rid) foreign serves ok =
       let mine = own rid foreign in
       subst (ShowsRow txn (record { rid = rid; row = Some row })) (sym ok)
-      (∥∥₁_elim shared (Coded-set (coded_option (coded_option coded_row)) _ _) (λ (h : IsShared o core pushed book). insert_reads o h.opens pushed core book h.register k p there txn mine row rid new (serves mine)))
+      (∥∥₁_elim shared (Coded-set (coded_option (coded_option coded_row)) _ _) (λ (h : IsShared o core pushed book).
+      insert_reads o h.opens pushed core book h.register k p there txn mine row rid new (serves mine)))
   insert_row row (Err e) foreign serves ok = tt
 
-  pub delete_row : (rid : Place) (result : Result (Unit {0}) Error) → (is_active p txn ≡ false → (result ≡ Err NoSuchTxn) × (new ≡ core)) → (is_active p txn ≡ true → Serves core (Event.Delete txn rid) (reply_by (λ _. Reply.Stepped) result) new)
-      → OnOk result (q ≡ changed p new txn (record { rid = rid; row = None })) → OnOk result ∥ ReadsBack (get core.heap.rows rid) txn (record { rid = rid; row = None }) q ∥₁
+  pub delete_row : (rid : Place) (result : Result (Unit {0}) Error) → (is_active p txn ≡ false → (result ≡ Err NoSuchTxn) × (new ≡ core))
+      → (is_active p txn ≡ true → Serves core (Event.Delete txn rid) (reply_by (λ _. Reply.Stepped) result) new)
+      → OnOk result (q ≡ changed p new txn (record { rid = rid; row = None }))
+      → OnOk result ∥ ReadsBack (get core.heap.rows rid) txn (record { rid = rid; row = None }) q ∥₁
   delete_row rid (Ok x) foreign serves ok =
       let mine = own x foreign in
       subst (λ y. ∥ ReadsBack (get core.heap.rows rid) txn (record { rid = rid; row = None }) y ∥₁) (sym ok)
       (∥∥₁_map shared (λ (h : IsShared o core pushed book). delete_reads o h.opens pushed core book h.register k p there txn mine rid new (serves mine)))
   delete_row rid (Err e) foreign serves ok = tt
 
-  pub update_row : (rid : Place) (row : Row) (result : Result (Unit {0}) Error) → (is_active p txn ≡ false → (result ≡ Err NoSuchTxn) × (new ≡ core)) → (is_active p txn ≡ true → Serves core (Event.Update txn rid row) (reply_by (λ _. Reply.Stepped) result) new)
-      → OnOk result (q ≡ changed p new txn (record { rid = rid; row = Some row })) → OnOk result ∥ ReadsBack (get core.heap.rows rid) txn (record { rid = rid; row = Some row }) q ∥₁
+  pub update_row : (rid : Place) (row : Row) (result : Result (Unit {0}) Error) → (is_active p txn ≡ false → (result ≡ Err NoSuchTxn) × (new ≡ core))
+      → (is_active p txn ≡ true → Serves core (Event.Update txn rid row) (reply_by (λ _. Reply.Stepped) result) new)
+      → OnOk result (q ≡ changed p new txn (record { rid = rid; row = Some row }))
+      → OnOk result ∥ ReadsBack (get core.heap.rows rid) txn (record { rid = rid; row = Some row }) q ∥₁
   update_row rid row (Ok x) foreign serves ok =
       let mine = own x foreign in
       subst (λ y. ∥ ReadsBack (get core.heap.rows rid) txn (record { rid = rid; row = Some row }) y ∥₁) (sym ok)
       (∥∥₁_map shared (λ (h : IsShared o core pushed book). update_reads o h.opens pushed core book h.register k p there txn mine rid row new (serves mine)))
   update_row rid row (Err e) foreign serves ok = tt
 
-  pub step_row : (result : Result (Unit {0}) Error) → (is_active p txn ≡ false → (result ≡ Err NoSuchTxn) × (new ≡ core)) → (is_active p txn ≡ true → Serves core (Event.Step txn) (reply_by (λ _. Reply.Stepped) result) new)
+  pub step_row : (result : Result (Unit {0}) Error) → (is_active p txn ≡ false → (result ≡ Err NoSuchTxn) × (new ≡ core))
+      → (is_active p txn ≡ true → Serves core (Event.Step txn) (reply_by (λ _. Reply.Stepped) result) new)
       → OnOk result (q ≡ stepped p new txn) → OnOk result ((change : Write) → unfinished_of txn p ≡ Some change → ShowsRow txn change q)
   step_row (Ok x) foreign serves ok = λ change finish.
       let mine = own x foreign in
       subst (ShowsRow txn change) (sym ok)
-      (∥∥₁_elim shared (Coded-set (coded_option (coded_option coded_row)) _ _) (λ (h : IsShared o core pushed book). step_reads o h.opens pushed core book h.register k p there txn mine change finish new (serves mine)))
+      (∥∥₁_elim shared (Coded-set (coded_option (coded_option coded_row)) _ _) (λ (h : IsShared o core pushed book).
+      step_reads o h.opens pushed core book h.register k p there txn mine change finish new (serves mine)))
   step_row (Err e) foreign serves ok = tt
 
 -- ---- a row that is held
 
-pub held_row : (o : Opened) (core : CoreValue) (pushed : List RecordValue) (book : List SessionValue) → ∥ IsShared o core pushed book ∥₁ → (k : ℕ) (session : SessionValue) → slice_get book k ≡ Some session → (txn : ℕ) (rid : Place) (row : Option Row)
+pub held_row : (o : Opened) (core : CoreValue) (pushed : List RecordValue) (book : List SessionValue) → ∥ IsShared o core pushed book ∥₁
+    → (k : ℕ) (session : SessionValue) → slice_get book k ≡ Some session → (txn : ℕ) (rid : Place) (row : Option Row)
     → ShowsRow txn (record { rid = rid; row = row }) session → get core.heap.rows rid ≡ row
-held_row o core pushed book shared k session there txn rid row shows = ∥∥₁_elim shared (Coded-set (coded_option coded_row) _ _) (λ (h : IsShared o core pushed book). by h (active_of txn session.active) refl shows)
+held_row o core pushed book shared k session there txn rid row shows =
+    ∥∥₁_elim shared (Coded-set (coded_option coded_row) _ _) (λ (h : IsShared o core pushed book). by h (active_of txn session.active) refl shows)
   where
-    by : IsShared o core pushed book → (found : Option ActiveValue) → active_of txn session.active ≡ found → row_at rid (unwrap_or (option_map (λ (a : ActiveValue). a.rows) found) []) ≡ Some row → get core.heap.rows rid ≡ row
+    by : IsShared o core pushed book → (found : Option ActiveValue) → active_of txn session.active ≡ found
+        → row_at rid (unwrap_or (option_map (λ (a : ActiveValue). a.rows) found) []) ≡ Some row → get core.heap.rows rid ≡ row
     by h None here is = absurd cc
     by h (Some a) here is = rows_seen o h.opens pushed core book h.register k session there txn a here rid row is

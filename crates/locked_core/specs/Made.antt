@@ -12,9 +12,15 @@ use Rattle.nsf_core.specs.View.{CoreValue}
 use Rattle.core_copies.specs.Shown.{FitsStoreOf}
 use Rattle.locked_core.specs.Locked.{LockedValue}
 
--- the records made since the opening, those pushed and then those that wait, over what was opened, in a store of this geometry
+-- the records made since the opening, those pushed and then those that wait, over what was opened, in a store of this
+-- geometry
 abbrev pub run_of : GeometryValue → Opened → LockedValue → Run
-run_of g o l = record { geometry = g; last = o.given.last; cells = opening_cells o.given; records = l.pushed ++ l.core.outbox }
+run_of g o l = record {
+  geometry = g;
+  last = o.given.last;
+  cells = opening_cells o.given;
+  records = l.pushed ++ l.core.outbox;
+}
 
 -- the piece is all of these cells, and an image of the core's store has room for them
 abbrev pub IsAllOf : {A : Type 0} → CoreValue → Cells → Piece A → Type 0

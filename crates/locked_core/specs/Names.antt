@@ -12,7 +12,8 @@ use Rattle.tail.specs.Ends.{QueueName}
 use Rattle.register.specs.Agreement.{IsRegister}
 use Rattle.register.specs.History.{ShowsCommits}
 
--- the queue to the flusher, the registry of the sessions, the board, how many seats there are, and what the core began with
+-- the queue to the flusher, the registry of the sessions, the board, how many seats there are, and what the core began
+-- with
 pub record Names : Type 0 where
   pub queue : QueueName
   pub table : TableId
@@ -31,11 +32,19 @@ no_names = record {
   table = no_table;
   board = no_table;
   seats = 0;
-  opened = record { given = record { table = map.empty; entries = map.empty; life = Absent; last = 0 }; pages = 0; places = 0 };
+  opened = record {
+    given = record { table = map.empty; entries = map.empty; life = Absent; last = 0 };
+    pages = 0;
+    places = 0;
+  };
 }
 
--- What the core and the sessions under the lock keep: the sessions have what the core has of the active transactions, and its commits and what was done to the index, each in one list of all seats in the order of their numbers; and for each record number from that of the opening on, the records up to it give the table of the opening with the commits up to it set over it.
-pub record IsShared (opened : Opened) (core : CoreValue) (pushed : List RecordValue) (book : List SessionValue) : Type 0 where
+-- What the core and the sessions under the lock keep: the sessions have what the core has of the active transactions,
+-- and its commits and what was done to the index, each in one list of all seats in the order of their numbers; and for
+-- each record number from that of the opening on, the records up to it give the table of the opening with the commits
+-- up to it set over it.
+pub record IsShared (opened : Opened) (core : CoreValue) (pushed : List RecordValue)
+    (book : List SessionValue) : Type 0 where
   pub opens : CanOpen opened
   pub register : IsRegister opened pushed core book
   pub tables : ShowsCommits opened (pushed ++ core.outbox) core register.commits.commits

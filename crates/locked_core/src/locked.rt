@@ -1,6 +1,7 @@
 //! What lies under the lock, and the steps on it.
 ghost use Rattle.std.specs.FinMap as table;
-ghost use Rattle.std.specs.Prelude.{◌≡◌, ◌↔◌, ◌++◌, ◌∷◌, [], IsTrue, false, true, Err, None, Option, Some, IfErr, IfOk, List, OnErr, OnOk, length, map, slice_get, slice_set, take, ℕ};
+ghost use Rattle.std.specs.Prelude.{◌≡◌, ◌↔◌, ◌++◌, ◌∷◌, [], IsTrue, false, true, Err, None, Option, Some, IfErr, IfOk};
+ghost use Rattle.std.specs.Prelude.{List, OnErr, OnOk, length, map, slice_get, slice_set, take, ℕ};
 ghost use Rattle.records.specs.GeometryValue.{GeometryValue};
 ghost use Rattle.core_contracts.specs.Events.{Event, Reply};
 ghost use Rattle.records.specs.declared.error.Error.TheVariants.{NoMemory, NoSuchTxn};
@@ -50,8 +51,8 @@ use std::marker::PhantomData;
 use std::sync::Wait;
 use tail::{Memory, Popper, Pusher, RecordQueue};
 
-/// What lies under the lock: the core, the end of the queue that its records go to, and a half of each seat's session. To
-/// a contract it is a `LockedValue`.
+/// What lies under the lock: the core, the end of the queue that its records go to, and a half of each seat's session.
+/// To a contract it is a `LockedValue`.
 #[derive(Drop)]
 pub struct Locked<B: Group, A: Memory = Global> {
     core: Core<A>,
@@ -95,7 +96,8 @@ impl<B: Group, A: Memory> Locked<B, A> {
         ensures seats { length result.2.items ≡ B.site.seats }
         ensures halves { IsBook B.site.table result.2.items }
         ensures book { map shown result.2.items ≡ (locked_of self).book }
-        ensures shared { ∥ IsShared B.site.opened (locked_of self).core (locked_of self).pushed (locked_of self).book ∥₁ }
+        ensures shared { ∥ IsShared B.site.opened (locked_of self).core (locked_of self).pushed
+            (locked_of self).book ∥₁ }
     {
         let Locked {
             core,
@@ -106,15 +108,16 @@ impl<B: Group, A: Memory> Locked<B, A> {
         (core, pusher, book)
     }
 
-    /// Pushes the records that wait to the queue, in the order of their making, and answers whether none waits any more. One
-    /// that the queue refuses stays, and so do those behind it.
+    /// Pushes the records that wait to the queue, in the order of their making, and answers whether none waits any
+    /// more. One that the queue refuses stays, and so do those behind it.
     ///
-    /// No clause says that a record is pushed where the queue would take it, since the queue promises room for none: it may
-    /// refuse any push for want of memory. A caller learns from the answer how it is.
+    /// No clause says that a record is pushed where the queue would take it, since the queue promises room for none: it
+    /// may refuse any push for want of memory. A caller learns from the answer how it is.
     pub fn push_outbox<R: Wait>(&mut self, rt: &R, queue: &RecordQueue<A>) -> bool
         requires { queue.now ≡ B.site.queue }
         ensures none_waits { IsTrue result ↔ ((locked_of self.new).core.outbox ≡ []) }
-        ensures pushed { HandsOn (locked_of self.old).core (locked_of self.new).core (locked_of self.old).pushed (locked_of self.new).pushed }
+        ensures pushed { HandsOn (locked_of self.old).core (locked_of self.new).core (locked_of self.old).pushed
+            (locked_of self.new).pushed }
         ensures book { (locked_of self.new).book ≡ (locked_of self.old).book }
     {
         let mut sink = QueueSink {
@@ -127,8 +130,8 @@ impl<B: Group, A: Memory> Locked<B, A> {
         self.core.waiting() == 0
     }
 
-    /// Compares what was popped of the queue with what was pushed to it: it is the first of that, in order, its records can
-    /// follow what was opened, and after each of them there are places for the entries. Nothing changes.
+    /// Compares what was popped of the queue with what was pushed to it: it is the first of that, in order, its records
+    /// can follow what was opened, and after each of them there are places for the entries. Nothing changes.
     pub fn compare<R: Wait>(&mut self, rt: &R, queue: &RecordQueue<A>, popper: &mut Popper<A>)
         requires queue { queue.now ≡ B.site.queue }
         requires popper { popper.old.queue ≡ B.site.queue }
@@ -157,11 +160,13 @@ impl<B: Group, A: Memory> Locked<B, A> {
     pub fn begin(&mut self, registry: &Registry<A>, seat: &mut SeatPart<B, A>) -> Result<Txn, Error>
         requires { registry.now ≡ B.site.table }
         ensures before { slice_get (locked_of self.old).book seat.old.number ≡ Some seat.old.session }
-        ensures served { Serves (locked_of self.old).core Event.Begin (reply_by Reply.Txn result) (locked_of self.new).core }
+        ensures served { Serves (locked_of self.old).core Event.Begin (reply_by Reply.Txn result)
+            (locked_of self.new).core }
         ensures number { seat.new.number ≡ seat.old.number }
         ensures ok { IfOk result (λ txn. seat.new.session ≡ begun seat.old.session txn) }
         ensures refused { OnErr result (seat.new.session ≡ seat.old.session) }
-        ensures book { (locked_of self.new).book ≡ slice_set (locked_of self.old).book seat.old.number seat.new.session }
+        ensures book { (locked_of self.new).book ≡ slice_set
+            (locked_of self.old).book seat.old.number seat.new.session }
         ensures pushed { (locked_of self.new).pushed ≡ (locked_of self.old).pushed }
     {
         let begun = seat.session.begin(&mut self.core);
@@ -183,13 +188,19 @@ impl<B: Group, A: Memory> Locked<B, A> {
         requires registry { registry.now ≡ B.site.table }
         requires ready { is_active seat.old.session txn ≡ true → is_ready seat.old.session txn ≡ true }
         ensures before { slice_get (locked_of self.old).book seat.old.number ≡ Some seat.old.session }
-        ensures foreign { is_active seat.old.session txn ≡ false → (result ≡ Err NoSuchTxn) × ((locked_of self.new).core ≡ (locked_of self.old).core) }
-        ensures served { is_active seat.old.session txn ≡ true → Serves (locked_of self.old).core (Event.Insert txn (record { key = key; body = body })) (reply_by Reply.Rid result) (locked_of self.new).core }
-        ensures ok { IfOk result (λ rid. seat.new.session ≡ changed seat.old.session (locked_of self.new).core txn (record { rid = rid; row = Some (record { key = key; body = body }) })) }
-        ensures row { IfOk result (λ rid. ShowsRow txn (record { rid = rid; row = Some (record { key = key; body = body }) }) seat.new.session) }
+        ensures foreign { is_active seat.old.session txn ≡ false → (result ≡ Err NoSuchTxn)
+            × ((locked_of self.new).core ≡ (locked_of self.old).core) }
+        ensures served { is_active seat.old.session txn ≡ true
+            → Serves (locked_of self.old).core (Event.Insert txn (record { key = key; body = body }))
+            (reply_by Reply.Rid result) (locked_of self.new).core }
+        ensures ok { IfOk result (λ rid. seat.new.session ≡ changed seat.old.session (locked_of self.new).core txn
+            (record { rid = rid; row = Some (record { key = key; body = body }) })) }
+        ensures row { IfOk result (λ rid.
+            ShowsRow txn (record { rid = rid; row = Some (record { key = key; body = body }) }) seat.new.session) }
         ensures refused { OnErr result (seat.new.session ≡ seat.old.session) }
         ensures number { seat.new.number ≡ seat.old.number }
-        ensures book { (locked_of self.new).book ≡ slice_set (locked_of self.old).book seat.old.number seat.new.session }
+        ensures book { (locked_of self.new).book ≡ slice_set
+            (locked_of self.old).book seat.old.number seat.new.session }
         ensures pushed { (locked_of self.new).pushed ≡ (locked_of self.old).pushed }
     {
         registry.change(&mut seat.half, &mut self.book[seat.number], &seat.session);
@@ -211,13 +222,19 @@ impl<B: Group, A: Memory> Locked<B, A> {
         requires registry { registry.now ≡ B.site.table }
         requires ready { is_active seat.old.session txn ≡ true → is_ready seat.old.session txn ≡ true }
         ensures before { slice_get (locked_of self.old).book seat.old.number ≡ Some seat.old.session }
-        ensures foreign { is_active seat.old.session txn ≡ false → (result ≡ Err NoSuchTxn) × ((locked_of self.new).core ≡ (locked_of self.old).core) }
-        ensures served { is_active seat.old.session txn ≡ true → Serves (locked_of self.old).core (Event.Delete txn rid) (reply_by (λ _. Reply.Stepped) result) (locked_of self.new).core }
-        ensures ok { OnOk result (seat.new.session ≡ changed seat.old.session (locked_of self.new).core txn (record { rid = rid; row = None })) }
-        ensures row { OnOk result ∥ ReadsBack (table.get (locked_of self.old).core.heap.rows rid) txn (record { rid = rid; row = None }) seat.new.session ∥₁ }
+        ensures foreign { is_active seat.old.session txn ≡ false → (result ≡ Err NoSuchTxn)
+            × ((locked_of self.new).core ≡ (locked_of self.old).core) }
+        ensures served { is_active seat.old.session txn ≡ true
+            → Serves (locked_of self.old).core (Event.Delete txn rid) (reply_by (λ _. Reply.Stepped) result)
+            (locked_of self.new).core }
+        ensures ok { OnOk result (seat.new.session ≡ changed seat.old.session (locked_of self.new).core txn
+            (record { rid = rid; row = None })) }
+        ensures row { OnOk result ∥ ReadsBack (table.get (locked_of self.old).core.heap.rows rid) txn
+            (record { rid = rid; row = None }) seat.new.session ∥₁ }
         ensures refused { OnErr result (seat.new.session ≡ seat.old.session) }
         ensures number { seat.new.number ≡ seat.old.number }
-        ensures book { (locked_of self.new).book ≡ slice_set (locked_of self.old).book seat.old.number seat.new.session }
+        ensures book { (locked_of self.new).book ≡ slice_set
+            (locked_of self.old).book seat.old.number seat.new.session }
         ensures pushed { (locked_of self.new).pushed ≡ (locked_of self.old).pushed }
     {
         registry.change(&mut seat.half, &mut self.book[seat.number], &seat.session);
@@ -241,13 +258,19 @@ impl<B: Group, A: Memory> Locked<B, A> {
         requires registry { registry.now ≡ B.site.table }
         requires ready { is_active seat.old.session txn ≡ true → is_ready seat.old.session txn ≡ true }
         ensures before { slice_get (locked_of self.old).book seat.old.number ≡ Some seat.old.session }
-        ensures foreign { is_active seat.old.session txn ≡ false → (result ≡ Err NoSuchTxn) × ((locked_of self.new).core ≡ (locked_of self.old).core) }
-        ensures served { is_active seat.old.session txn ≡ true → Serves (locked_of self.old).core (Event.Update txn rid (record { key = key; body = body })) (reply_by (λ _. Reply.Stepped) result) (locked_of self.new).core }
-        ensures ok { OnOk result (seat.new.session ≡ changed seat.old.session (locked_of self.new).core txn (record { rid = rid; row = Some (record { key = key; body = body }) })) }
-        ensures row { OnOk result ∥ ReadsBack (table.get (locked_of self.old).core.heap.rows rid) txn (record { rid = rid; row = Some (record { key = key; body = body }) }) seat.new.session ∥₁ }
+        ensures foreign { is_active seat.old.session txn ≡ false → (result ≡ Err NoSuchTxn)
+            × ((locked_of self.new).core ≡ (locked_of self.old).core) }
+        ensures served { is_active seat.old.session txn ≡ true
+            → Serves (locked_of self.old).core (Event.Update txn rid (record { key = key; body = body }))
+            (reply_by (λ _. Reply.Stepped) result) (locked_of self.new).core }
+        ensures ok { OnOk result (seat.new.session ≡ changed seat.old.session (locked_of self.new).core txn
+            (record { rid = rid; row = Some (record { key = key; body = body }) })) }
+        ensures row { OnOk result ∥ ReadsBack (table.get (locked_of self.old).core.heap.rows rid) txn
+            (record { rid = rid; row = Some (record { key = key; body = body }) }) seat.new.session ∥₁ }
         ensures refused { OnErr result (seat.new.session ≡ seat.old.session) }
         ensures number { seat.new.number ≡ seat.old.number }
-        ensures book { (locked_of self.new).book ≡ slice_set (locked_of self.old).book seat.old.number seat.new.session }
+        ensures book { (locked_of self.new).book ≡ slice_set
+            (locked_of self.old).book seat.old.number seat.new.session }
         ensures pushed { (locked_of self.new).pushed ≡ (locked_of self.old).pushed }
     {
         registry.change(&mut seat.half, &mut self.book[seat.number], &seat.session);
@@ -267,12 +290,16 @@ impl<B: Group, A: Memory> Locked<B, A> {
     ) -> Result<Undone, Error>
         requires { registry.now ≡ B.site.table }
         ensures before { slice_get (locked_of self.old).book seat.old.number ≡ Some seat.old.session }
-        ensures foreign { is_active seat.old.session txn ≡ false → (result ≡ Err NoSuchTxn) × ((locked_of self.new).core ≡ (locked_of self.old).core) }
-        ensures served { is_active seat.old.session txn ≡ true → Serves (locked_of self.old).core (Event.Undo txn) (reply_by undone_reply result) (locked_of self.new).core }
+        ensures foreign { is_active seat.old.session txn ≡ false → (result ≡ Err NoSuchTxn)
+            × ((locked_of self.new).core ≡ (locked_of self.old).core) }
+        ensures served { is_active seat.old.session txn ≡ true
+            → Serves (locked_of self.old).core (Event.Undo txn) (reply_by undone_reply result)
+            (locked_of self.new).core }
         ensures ok { OnOk result (seat.new.session ≡ rolling_back seat.old.session (locked_of self.new).core txn) }
         ensures refused { OnErr result (seat.new.session ≡ seat.old.session) }
         ensures number { seat.new.number ≡ seat.old.number }
-        ensures book { (locked_of self.new).book ≡ slice_set (locked_of self.old).book seat.old.number seat.new.session }
+        ensures book { (locked_of self.new).book ≡ slice_set
+            (locked_of self.old).book seat.old.number seat.new.session }
         ensures pushed { (locked_of self.new).pushed ≡ (locked_of self.old).pushed }
     {
         let undone = seat.session.undo_step(&mut self.core, txn);
@@ -280,8 +307,8 @@ impl<B: Group, A: Memory> Locked<B, A> {
         undone
     }
 
-    /// Creates the index, and keeps the number of its record with the seat. The record that is made is the creation, with the
-    /// ticket's number.
+    /// Creates the index, and keeps the number of its record with the seat. The record that is made is the creation,
+    /// with the ticket's number.
     ///
     /// The refusals are those of the core's `create_index`. After a refusal all is as before.
     pub fn create_index(
@@ -291,12 +318,15 @@ impl<B: Group, A: Memory> Locked<B, A> {
     ) -> Result<Ticket, Error>
         requires { registry.now ≡ B.site.table }
         ensures before { slice_get (locked_of self.old).book seat.old.number ≡ Some seat.old.session }
-        ensures served { Serves (locked_of self.old).core Event.Create (reply_by reply_of_ticket result) (locked_of self.new).core }
+        ensures served { Serves (locked_of self.old).core Event.Create (reply_by reply_of_ticket result)
+            (locked_of self.new).core }
         ensures ok { IfOk result (λ ticket. seat.new.session ≡ with_turn seat.old.session (Created ticket.«record»)) }
-        ensures recorded { IfOk result (λ ticket. (locked_of self.new).core.outbox ≡ (locked_of self.old).core.outbox ++ record { number = ticket.«record»; action = OfIndex IndexAction.Create } ∷ []) }
+        ensures recorded { IfOk result (λ ticket. (locked_of self.new).core.outbox ≡ (locked_of self.old).core.outbox
+            ++ record { number = ticket.«record»; action = OfIndex IndexAction.Create } ∷ []) }
         ensures refused { OnErr result (seat.new.session ≡ seat.old.session) }
         ensures number { seat.new.number ≡ seat.old.number }
-        ensures book { (locked_of self.new).book ≡ slice_set (locked_of self.old).book seat.old.number seat.new.session }
+        ensures book { (locked_of self.new).book ≡ slice_set
+            (locked_of self.old).book seat.old.number seat.new.session }
         ensures pushed { (locked_of self.new).pushed ≡ (locked_of self.old).pushed }
     {
         each_number();
@@ -305,9 +335,9 @@ impl<B: Group, A: Memory> Locked<B, A> {
         created
     }
 
-    /// Drops the index, be it complete or not, and keeps the number of its record with the seat. The record that is made is the
-    /// dropping, with the ticket's number. The entries that the index had are answered, for the caller to let go, best behind the
-    /// lock.
+    /// Drops the index, be it complete or not, and keeps the number of its record with the seat. The record that is
+    /// made is the dropping, with the ticket's number. The entries that the index had are answered, for the caller to
+    /// let go, best behind the lock.
     ///
     /// The refusals are those of the core's `drop_index`. After a refusal all is as before.
     pub fn drop_index(
@@ -317,13 +347,16 @@ impl<B: Group, A: Memory> Locked<B, A> {
     ) -> Result<Detached<A>, Error>
         requires { registry.now ≡ B.site.table }
         ensures before { slice_get (locked_of self.old).book seat.old.number ≡ Some seat.old.session }
-        ensures served { Serves (locked_of self.old).core Event.Drop (reply_by reply_of_detached result) (locked_of self.new).core }
+        ensures served { Serves (locked_of self.old).core Event.Drop (reply_by reply_of_detached result)
+            (locked_of self.new).core }
         ensures taken { IfOk result (λ d. entries_of d ≡ (locked_of self.old).core.index.entries) }
         ensures ok { IfOk result (λ d. seat.new.session ≡ with_turn seat.old.session (Dropped d.ticket.«record»)) }
-        ensures recorded { IfOk result (λ d. (locked_of self.new).core.outbox ≡ (locked_of self.old).core.outbox ++ record { number = d.ticket.«record»; action = OfIndex IndexAction.Drop } ∷ []) }
+        ensures recorded { IfOk result (λ d. (locked_of self.new).core.outbox ≡ (locked_of self.old).core.outbox
+            ++ record { number = d.ticket.«record»; action = OfIndex IndexAction.Drop } ∷ []) }
         ensures refused { OnErr result (seat.new.session ≡ seat.old.session) }
         ensures number { seat.new.number ≡ seat.old.number }
-        ensures book { (locked_of self.new).book ≡ slice_set (locked_of self.old).book seat.old.number seat.new.session }
+        ensures book { (locked_of self.new).book ≡ slice_set
+            (locked_of self.old).book seat.old.number seat.new.session }
         ensures pushed { (locked_of self.new).pushed ≡ (locked_of self.old).pushed }
     {
         each_number();
@@ -344,13 +377,18 @@ impl<B: Group, A: Memory> Locked<B, A> {
         requires registry { registry.now ≡ B.site.table }
         requires unfinished { is_active seat.old.session txn ≡ true → is_unfinished seat.old.session txn ≡ true }
         ensures before { slice_get (locked_of self.old).book seat.old.number ≡ Some seat.old.session }
-        ensures foreign { is_active seat.old.session txn ≡ false → (result ≡ Err NoSuchTxn) × ((locked_of self.new).core ≡ (locked_of self.old).core) }
-        ensures served { is_active seat.old.session txn ≡ true → Serves (locked_of self.old).core (Event.Step txn) (reply_by (λ _. Reply.Stepped) result) (locked_of self.new).core }
+        ensures foreign { is_active seat.old.session txn ≡ false → (result ≡ Err NoSuchTxn)
+            × ((locked_of self.new).core ≡ (locked_of self.old).core) }
+        ensures served { is_active seat.old.session txn ≡ true
+            → Serves (locked_of self.old).core (Event.Step txn) (reply_by (λ _. Reply.Stepped) result)
+            (locked_of self.new).core }
         ensures ok { OnOk result (seat.new.session ≡ stepped seat.old.session (locked_of self.new).core txn) }
-        ensures row { OnOk result ((change : Write) → unfinished_of txn seat.old.session ≡ Some change → ShowsRow txn change seat.new.session) }
+        ensures row { OnOk result ((change : Write) → unfinished_of txn seat.old.session ≡ Some change
+            → ShowsRow txn change seat.new.session) }
         ensures refused { OnErr result (seat.new.session ≡ seat.old.session) }
         ensures number { seat.new.number ≡ seat.old.number }
-        ensures book { (locked_of self.new).book ≡ slice_set (locked_of self.old).book seat.old.number seat.new.session }
+        ensures book { (locked_of self.new).book ≡ slice_set
+            (locked_of self.old).book seat.old.number seat.new.session }
         ensures pushed { (locked_of self.new).pushed ≡ (locked_of self.old).pushed }
     {
         registry.change(&mut seat.half, &mut self.book[seat.number], &seat.session);
@@ -369,14 +407,19 @@ impl<B: Group, A: Memory> Locked<B, A> {
         txn: Txn,
     ) -> Result<(), Error>
         requires registry { registry.now ≡ B.site.table }
-        requires none_left { is_active seat.old.session txn ≡ true → HasNoChange (txn_shown (locked_of self.old).core txn) }
+        requires none_left { is_active seat.old.session txn ≡ true
+            → HasNoChange (txn_shown (locked_of self.old).core txn) }
         ensures before { slice_get (locked_of self.old).book seat.old.number ≡ Some seat.old.session }
-        ensures foreign { is_active seat.old.session txn ≡ false → (result ≡ Err NoSuchTxn) × ((locked_of self.new).core ≡ (locked_of self.old).core) }
-        ensures served { is_active seat.old.session txn ≡ true → Serves (locked_of self.old).core (Event.End txn) (reply_by (λ _. Reply.Ended) result) (locked_of self.new).core }
+        ensures foreign { is_active seat.old.session txn ≡ false → (result ≡ Err NoSuchTxn)
+            × ((locked_of self.new).core ≡ (locked_of self.old).core) }
+        ensures served { is_active seat.old.session txn ≡ true
+            → Serves (locked_of self.old).core (Event.End txn) (reply_by (λ _. Reply.Ended) result)
+            (locked_of self.new).core }
         ensures ok { OnOk result (seat.new.session ≡ ended seat.old.session txn) }
         ensures refused { OnErr result (seat.new.session ≡ seat.old.session) }
         ensures number { seat.new.number ≡ seat.old.number }
-        ensures book { (locked_of self.new).book ≡ slice_set (locked_of self.old).book seat.old.number seat.new.session }
+        ensures book { (locked_of self.new).book ≡ slice_set
+            (locked_of self.old).book seat.old.number seat.new.session }
         ensures pushed { (locked_of self.new).pushed ≡ (locked_of self.old).pushed }
     {
         let ended = seat.session.end(&mut self.core, txn);
@@ -384,8 +427,8 @@ impl<B: Group, A: Memory> Locked<B, A> {
         ended
     }
 
-    /// Commits a transaction of the seat: it is none of the active ones from then on, and the commit is the last one of the
-    /// seat's session. The record that is made is the transaction's commit, with the ticket's number.
+    /// Commits a transaction of the seat: it is none of the active ones from then on, and the commit is the last one of
+    /// the seat's session. The record that is made is the transaction's commit, with the ticket's number.
     ///
     /// The refusals are those of the session's `commit`. After a refusal all is as before.
     pub fn commit(
@@ -397,13 +440,18 @@ impl<B: Group, A: Memory> Locked<B, A> {
         requires registry { registry.now ≡ B.site.table }
         requires ready { is_active seat.old.session txn ≡ true → is_ready seat.old.session txn ≡ true }
         ensures before { slice_get (locked_of self.old).book seat.old.number ≡ Some seat.old.session }
-        ensures foreign { is_active seat.old.session txn ≡ false → (result ≡ Err NoSuchTxn) × ((locked_of self.new).core ≡ (locked_of self.old).core) }
-        ensures served { is_active seat.old.session txn ≡ true → Serves (locked_of self.old).core (Event.Commit txn) (reply_by reply_of_ticket result) (locked_of self.new).core }
+        ensures foreign { is_active seat.old.session txn ≡ false → (result ≡ Err NoSuchTxn)
+            × ((locked_of self.new).core ≡ (locked_of self.old).core) }
+        ensures served { is_active seat.old.session txn ≡ true
+            → Serves (locked_of self.old).core (Event.Commit txn) (reply_by reply_of_ticket result)
+            (locked_of self.new).core }
         ensures ok { IfOk result (λ ticket. seat.new.session ≡ committed seat.old.session txn ticket) }
-        ensures recorded { IfOk result (λ ticket. (locked_of self.new).core.outbox ≡ (locked_of self.old).core.outbox ++ record { number = ticket.«record»; action = OfTxn txn TxnAction.Commit } ∷ []) }
+        ensures recorded { IfOk result (λ ticket. (locked_of self.new).core.outbox ≡ (locked_of self.old).core.outbox
+            ++ record { number = ticket.«record»; action = OfTxn txn TxnAction.Commit } ∷ []) }
         ensures refused { OnErr result (seat.new.session ≡ seat.old.session) }
         ensures number { seat.new.number ≡ seat.old.number }
-        ensures book { (locked_of self.new).book ≡ slice_set (locked_of self.old).book seat.old.number seat.new.session }
+        ensures book { (locked_of self.new).book ≡ slice_set
+            (locked_of self.old).book seat.old.number seat.new.session }
         ensures pushed { (locked_of self.new).pushed ≡ (locked_of self.old).pushed }
     {
         each_number();
@@ -417,7 +465,8 @@ impl<B: Group, A: Memory> Locked<B, A> {
     ///
     /// The answers and refusals are those of the core's `build_step`. After a refusal all is as before.
     pub fn build_step(&mut self) -> Result<BuildReply, Error>
-        ensures served { Serves (locked_of self.old).core Event.Build (reply_by built result) (locked_of self.new).core }
+        ensures served { Serves (locked_of self.old).core Event.Build (reply_by built result)
+            (locked_of self.new).core }
         ensures pushed { (locked_of self.new).pushed ≡ (locked_of self.old).pushed }
         ensures book { (locked_of self.new).book ≡ (locked_of self.old).book }
     {
@@ -428,19 +477,23 @@ impl<B: Group, A: Memory> Locked<B, A> {
     ///
     /// The answers and refusals are those of the core's `clean_step`. After a refusal all is as before.
     pub fn clean_step(&mut self) -> Result<CleanReply, Error>
-        ensures served { Serves (locked_of self.old).core Event.Clean (reply_by cleaner result) (locked_of self.new).core }
+        ensures served { Serves (locked_of self.old).core Event.Clean (reply_by cleaner result)
+            (locked_of self.new).core }
         ensures pushed { (locked_of self.new).pushed ≡ (locked_of self.old).pushed }
         ensures book { (locked_of self.new).book ≡ (locked_of self.old).book }
     {
         self.core.clean_step()
     }
 
-    /// The row at the place, as it is now, also before its transaction's commit. If a transaction holds the place, that is the
-    /// row which its seat's session has for it.
+    /// The row at the place, as it is now, also before its transaction's commit. If a transaction holds the place, that
+    /// is the row which its seat's session has for it.
     pub fn get(&self, rid: Rid) -> Option<Row>
         ensures row { result ≡ table.get (locked_of self.now).core.heap.rows rid }
-        ensures held { (seat : ℕ) (session : SessionValue) → slice_get (locked_of self.now).book seat ≡ Some session → (txn : ℕ) (row : Option RowValue) → ShowsRow txn (record { rid = rid; row = row }) session → result ≡ row }
-        ensures served { Serves (locked_of self.now).core (Event.Get rid) (Reply.RowIs result) (locked_of self.now).core }
+        ensures held { (seat : ℕ) (session : SessionValue) → slice_get (locked_of self.now).book seat ≡ Some session
+            → (txn : ℕ) (row : Option RowValue) → ShowsRow txn (record { rid = rid; row = row }) session
+            → result ≡ row }
+        ensures served { Serves (locked_of self.now).core (Event.Get rid) (Reply.RowIs result)
+            (locked_of self.now).core }
     {
         self.core.get(rid)
     }
@@ -449,7 +502,8 @@ impl<B: Group, A: Memory> Locked<B, A> {
     ///
     /// The refusals are those of the core's `find`.
     pub fn find(&self, key: Key) -> Result<Vec<Rid, A>, Error>
-        ensures { Serves (locked_of self.now).core (Event.Find key) (reply_by (λ rids. Reply.Found rids.items) result) (locked_of self.now).core }
+        ensures { Serves (locked_of self.now).core (Event.Find key) (reply_by (λ rids. Reply.Found rids.items) result)
+            (locked_of self.now).core }
     {
         self.core.find(key)
     }
@@ -476,41 +530,53 @@ impl<B: Group, A: Memory> Locked<B, A> {
     {
         self.core.may_end(txn)
     }
-    /// A law: what whoever gets at this finds, whatever the seats, the builder and the cleaner did before. The core and the
-    /// sessions agree; the core has replied to some calls, each reply one that was allowed, and holds the history that they
-    /// tell; the records pushed and then those that wait are a run, each of which can follow the one before, and they leave
-    /// the core's cells over those of the opening.
+    /// A law: what whoever gets at this finds, whatever the seats, the builder and the cleaner did before. The core and
+    /// the sessions agree; the core has replied to some calls, each reply one that was allowed, and holds the history
+    /// that they tell; the records pushed and then those that wait are a run, each of which can follow the one before,
+    /// and they leave the core's cells over those of the opening.
     pub fn each_hold(&self)
-        ensures shared { ∥ IsShared B.site.opened (locked_of self.now).core (locked_of self.now).pushed (locked_of self.now).book ∥₁ }
-        ensures holds { ∥ ((calls : List (Event × Reply)) × HasReplied B.site.opened calls (locked_of self.now).pushed (locked_of self.now).core × HoldsHistory B.site.opened (items_of no_writes calls) (locked_of self.now).core) ∥₁ }
-        ensures run { (g : GeometryValue) → g.pages ≡ B.site.opened.pages → ∥ IsRun (run_of g B.site.opened (locked_of self.now)) ∥₁ }
-        ensures last { (g : GeometryValue) → (locked_of self.now).core.last ≡ end_of (run_of g B.site.opened (locked_of self.now)) }
-        ensures cells { (g : GeometryValue) → IsCellsOf (locked_of self.now).core (cells_at (run_of g B.site.opened (locked_of self.now)) (locked_of self.now).core.last) }
-        ensures store { (g : GeometryValue) → g.pages ≡ B.site.opened.pages → g.entries ≡ B.site.opened.places → IsOfGeometry (locked_of self.now).core g }
+        ensures shared { ∥ IsShared B.site.opened (locked_of self.now).core (locked_of self.now).pushed
+            (locked_of self.now).book ∥₁ }
+        ensures holds { ∥ ((calls : List (Event × Reply))
+            × HasReplied B.site.opened calls (locked_of self.now).pushed (locked_of self.now).core
+            × HoldsHistory B.site.opened (items_of no_writes calls) (locked_of self.now).core) ∥₁ }
+        ensures run { (g : GeometryValue) → g.pages ≡ B.site.opened.pages
+            → ∥ IsRun (run_of g B.site.opened (locked_of self.now)) ∥₁ }
+        ensures last { (g : GeometryValue) → (locked_of self.now).core.last
+            ≡ end_of (run_of g B.site.opened (locked_of self.now)) }
+        ensures cells { (g : GeometryValue)
+            → IsCellsOf (locked_of self.now).core (cells_at (run_of g B.site.opened (locked_of self.now))
+            (locked_of self.now).core.last) }
+        ensures store { (g : GeometryValue) → g.pages ≡ B.site.opened.pages → g.entries ≡ B.site.opened.places
+            → IsOfGeometry (locked_of self.now).core g }
     {
         let _txns = self.core.active_txns();
     }
 
-    /// All cells, as a chunk with the number of the last record made: they are those that the records pushed and then those
-    /// that wait have left.
+    /// All cells, as a chunk with the number of the last record made: they are those that the records pushed and then
+    /// those that wait have left.
     ///
     /// The one error is `NoMemory`.
     pub fn copy_whole(&self, alloc: A) -> Result<Chunk<A>, Error>
         ensures number { IfOk result (λ chunk. chunk.number ≡ (locked_of self.now).core.last) }
-        ensures whole { IfOk result (λ chunk. (g : GeometryValue) → IsAllOf (locked_of self.now).core (cells_at (run_of g B.site.opened (locked_of self.now)) chunk.number) chunk.piece) }
+        ensures whole { IfOk result (λ chunk. (g : GeometryValue)
+            → IsAllOf (locked_of self.now).core (cells_at (run_of g B.site.opened (locked_of self.now)) chunk.number)
+            chunk.piece) }
         ensures no_memory { IfErr result (λ e. e ≡ NoMemory) }
     {
         self.each_hold();
         self.core.copy_whole(alloc)
     }
 
-    /// The next chunk of an image whose copying has come to this place, with the number of the last record made: a piece of
-    /// the cells that the records pushed and then those that wait have left.
+    /// The next chunk of an image whose copying has come to this place, with the number of the last record made: a
+    /// piece of the cells that the records pushed and then those that wait have left.
     ///
     /// The one error is `NoMemory`.
     pub fn copy_step(&self, alloc: A, place: CopyPlace) -> Result<Chunk<A>, Error>
         ensures number { IfOk result (λ chunk. chunk.number ≡ (locked_of self.now).core.last) }
-        ensures piece { IfOk result (λ chunk. (g : GeometryValue) → IsPieceOf (locked_of self.now).core (cells_at (run_of g B.site.opened (locked_of self.now)) chunk.number) place chunk.piece) }
+        ensures piece { IfOk result (λ chunk. (g : GeometryValue)
+            → IsPieceOf (locked_of self.now).core (cells_at (run_of g B.site.opened (locked_of self.now)) chunk.number)
+            place chunk.piece) }
         ensures no_memory { IfErr result (λ e. e ≡ NoMemory) }
     {
         self.each_hold();

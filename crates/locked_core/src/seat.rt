@@ -27,7 +27,8 @@ impl<B: Group, A: Memory> Model for SeatPart<B, A> {
 
     ghost view = { λ s. record { number = s.number; session = s.session } };
 
-    ghost invariant = { λ s. (s.half ≡ record { table = B.site.table; number = s.number; session = s.session }) × (s.number < B.site.seats) };
+    ghost invariant = { λ s. (s.half ≡ record { table = B.site.table; number = s.number; session = s.session })
+        × (s.number < B.site.seats) };
 }
 
 impl<B: Group, A: Memory> SeatPart<B, A> {
@@ -65,8 +66,8 @@ impl<B: Group, A: Memory> SeatPart<B, A> {
         self.session.is_active(txn)
     }
 
-    /// Whether the transaction may begin a change or commit: it is one of the seat's, has no change to finish, and isn't
-    /// rolling back.
+    /// Whether the transaction may begin a change or commit: it is one of the seat's, has no change to finish, and
+    /// isn't rolling back.
     pub fn ready(&self, txn: Txn) -> bool
         ensures { result ≡ is_ready self.now.session txn }
     {

@@ -54,7 +54,8 @@ use Rattle.shared.specs.contracts.shared.Shared as Shared
 abbrev H : RattleType
 H = Heap.the_row
 
-rejoined_send : (R : RattleType) (D : Type 0) (split : D → R.Denot) (join : R.Denot → D) (e : (d : D) → join (split d) ≡ d) → IsSend R → IsSend (rejoined R D split join e)
+rejoined_send : (R : RattleType) (D : Type 0) (split : D → R.Denot) (join : R.Denot → D) (e : (d : D) → join (split d) ≡ d) → IsSend R
+    → IsSend (rejoined R D split join e)
 rejoined_send R D split join e s = recorded_send R D split (split_one R D split join e) s
 
 -- one layer of the tree: a node is sent where the nodes in it are
@@ -73,7 +74,11 @@ module _ (p : Parts (knot.frame H ghosts)) (n : IsSend (rows (knot.frame H ghost
       let h = knot.at-Child H ghosts p in
       rejoined_send (knot.layer-Parts H ghosts h) _ (deep.split-Parts H.Denot ghosts) (deep.join-Parts H.Denot ghosts) (deep.joins-Parts H.Denot ghosts)
       (variants_send (knot.type-Parts H ghosts h) (
-        (as_row_send (row_field (as_row (Vec.the_field Entry.the_row H ghosts))) (as_row_send (Vec.the_field Entry.the_row H ghosts) (Vec-send Entry.the_row entry.the_send)), tt),
+        (
+          as_row_send (row_field (as_row (Vec.the_field Entry.the_row H ghosts)))
+              (as_row_send (Vec.the_field Entry.the_row H ghosts) (Vec-send Entry.the_row entry.the_send)),
+          tt,
+        ),
         ((as_row_send (row_field (Vec.the_row h H ghosts)) (Vec-send h child_send), tt), tt),
       ))
 
@@ -86,22 +91,28 @@ module _ (p : Parts (knot.frame H ghosts)) (n : IsSend (rows (knot.frame H ghost
   layer_send : IsSend (knot.view-Node H ghosts p)
   layer_send = view_send (knot.at-Node H ghosts p) _ _ (Node.the_view H ghosts) (Node.the_invariant H ghosts) inside_send
 
-step_send : (p : Parts (knot.frame H ghosts)) → ((j : the_members) → IsSend (rows (knot.frame H ghosts) p j)) → (i : the_members) → IsSend (rows (knot.frame H ghosts) (knot.step H ghosts p) i)
-step_send p all member-Node = goals.has_of (knot.frame H ghosts) goals.send (knot.step H ghosts p) member-Node (goals.part_has goals.send (knot.view-Node H ghosts p) (layer_send p (all member-Node)))
+step_send : (p : Parts (knot.frame H ghosts)) → ((j : the_members) → IsSend (rows (knot.frame H ghosts) p j)) → (i : the_members)
+    → IsSend (rows (knot.frame H ghosts) (knot.step H ghosts p) i)
+step_send p all member-Node = goals.has_of (knot.frame H ghosts) goals.send (knot.step H ghosts p) member-Node
+    (goals.part_has goals.send (knot.view-Node H ghosts p) (layer_send p (all member-Node)))
 
 node_send : IsSend (Node.the_row H ghosts)
 node_send = tied_send (knot.frame H ghosts) (knot.step H ghosts) (knot.sizes H ghosts) step_send member-Node
 
 tree_send : IsSend (BTree.the_row H ghosts)
 tree_send =
-    let f : IsSend (BTree.TheInside.the_field H ghosts).row = struct_send (shape (BTree.TheInside.the_type H ghosts)) (send, (option.the_field_send _ (Box-send _ node_send), (search sendable depth 6, tt))) in
-    let w : IsSend (BTree.TheInside.the_row H ghosts) = recorded_send (BTree.TheInside.the_field H ghosts).row _ _ (BTree.TheInside.the_type H ghosts).to_one f in
+    let f : IsSend (BTree.TheInside.the_field H ghosts).row =
+    struct_send (shape (BTree.TheInside.the_type H ghosts)) (send, (option.the_field_send _ (Box-send _ node_send), (search sendable depth 6, tt))) in
+    let w : IsSend (BTree.TheInside.the_row H ghosts) =
+    recorded_send (BTree.TheInside.the_field H ghosts).row _ _ (BTree.TheInside.the_type H ghosts).to_one f in
     search view_send depth 3
 
 index_send : IsSend (MarkedIndex.the_row H ghosts)
 index_send =
-    let f : IsSend (MarkedIndex.TheInside.the_field H ghosts).row = struct_send (shape (MarkedIndex.TheInside.the_type H ghosts)) (tree_send, (search sendable depth 6, (search sendable depth 6, tt))) in
-    let w : IsSend (MarkedIndex.TheInside.the_row H ghosts) = recorded_send (MarkedIndex.TheInside.the_field H ghosts).row _ _ (MarkedIndex.TheInside.the_type H ghosts).to_one f in
+    let f : IsSend (MarkedIndex.TheInside.the_field H ghosts).row =
+    struct_send (shape (MarkedIndex.TheInside.the_type H ghosts)) (tree_send, (search sendable depth 6, (search sendable depth 6, tt))) in
+    let w : IsSend (MarkedIndex.TheInside.the_row H ghosts) =
+    recorded_send (MarkedIndex.TheInside.the_field H ghosts).row _ _ (MarkedIndex.TheInside.the_type H ghosts).to_one f in
     search view_send depth 3
 
 core_parts_send : IsSend (CoreParts.the_field H ghosts).row
@@ -133,13 +144,25 @@ core_send = struct_send (shape (Core.the_type H ghosts)) (core_parts_send, tt)
 module _ (B : RattleType) (g : group.Ghosts B.Denot) (m : memory.Ghosts H.Denot) where
   locked_send : IsSend (Locked.the_row B H g m ghosts)
   locked_send = recorded_send (Locked.the_field B H g m ghosts).row _ _ (Locked.the_type B H g m ghosts).to_one (
-      struct_send (shape (Locked.the_type B H g m ghosts)) (core_send, (pusher.the_send H m ghosts send frees, (Vec-send (Half.the_row H ghosts) (half.the_send H ghosts send frees), (search sendable depth 6, tt))))
+      struct_send (shape (Locked.the_type B H g m ghosts)) (
+        core_send,
+        (pusher.the_send H m ghosts send frees, (Vec-send (Half.the_row H ghosts) (half.the_send H ghosts send frees), (search sendable depth 6, tt))),
+      )
       )
 
   pub shared_sync : IsSync (Shared.the_row B H g m ghosts)
   shared_sync = let l = locked_send in
       recorded_sync (Shared.the_field B H g m ghosts).row _ _ (Shared.the_type B H g m ghosts).to_one (
-      struct_sync (shape (Shared.the_type B H g m ghosts)) (search (crosses, sendable) depth 8, (queue.the_sync H m ghosts send sync frees, (registry.the_sync H ghosts send sync frees, (board.the_sync H ghosts send sync frees, (search sendable depth 6, tt)))))
+      struct_sync (shape (Shared.the_type B H g m ghosts)) (
+        search (crosses, sendable) depth 8,
+        (
+          queue.the_sync H m ghosts send sync frees,
+          (
+            registry.the_sync H ghosts send sync frees,
+            (board.the_sync H ghosts send sync frees, (search sendable depth 6, tt)),
+          ),
+        ),
+      )
       )
 
   pub seat_send : IsSend (Seat.the_row B H g m ghosts)

@@ -9,5 +9,7 @@ use Rattle.sessions.specs.Values.{SessionValue}
 use Rattle.locked_core.specs.Names.{IsShared}
 use Rattle.shared.specs.Served.{WasServed}
 
-pub was_served : (o : Opened) (core new : CoreValue) (pushed : List RecordValue) (book : List SessionValue) → ∥ IsShared o core pushed book ∥₁ → (e : Event) (reply : Reply) → Serves core e reply new → ∥ WasServed o e reply ∥₁
-was_served o core new pushed book shared e reply serves = ∥∥₁_map shared (λ all. record { core = core; new = new; pushed = pushed; book = book; shared = all; serves = serves })
+pub was_served : (o : Opened) (core new : CoreValue) (pushed : List RecordValue) (book : List SessionValue) → ∥ IsShared o core pushed book ∥₁
+    → (e : Event) (reply : Reply) → Serves core e reply new → ∥ WasServed o e reply ∥₁
+was_served o core new pushed book shared e reply serves =
+    ∥∥₁_map shared (λ all. record { core = core; new = new; pushed = pushed; book = book; shared = all; serves = serves })

@@ -29,7 +29,8 @@ use Rattle.loops.specs.declared.flush.Copying.TheVariants.{Idle, Steps, GivenUp}
 
 -- an image that is copied in steps stays at its place where a group is flushed, or is given up
 abbrev pub KeepsPlace : Type 0
-KeepsPlace = (pages slots synced count : ℕ) (place : Option CopyPlace) (old new : Option NewImage) → BecomesImage slots synced count old new → IsAtPlace pages place old → (new ≡ None) ⊎ IsAtPlace pages place new
+KeepsPlace = (pages slots synced count : ℕ) (place : Option CopyPlace) (old new : Option NewImage) → BecomesImage slots synced count old new
+    → IsAtPlace pages place old → (new ≡ None) ⊎ IsAtPlace pages place new
 
 module _ {D A : Type 0} (copying : Copying) (old new : FlushValue D A) (was : StandsBy copying old) where
   -- records were popped and handed in
@@ -47,23 +48,30 @@ module _ {D A : Type 0} (copying : Copying) (old new : FlushValue D A) (was : St
   stands_failed failed sound = absurd (false≢true (sym sound ∙ failed))
 
 -- a group was flushed
-carried : (copying : Copying) (pages slots synced count : ℕ) (old new : Option NewImage) → KeepsPlace → BecomesImage slots synced count old new → IsCopying pages copying old → IsCopying pages copying new
+carried : (copying : Copying) (pages slots synced count : ℕ) (old new : Option NewImage) → KeepsPlace → BecomesImage slots synced count old new
+    → IsCopying pages copying old → IsCopying pages copying new
 carried Idle pages slots synced count old new keeps becomes was = tt
 carried GivenUp pages slots synced count old new keeps becomes was = tt
-carried (Steps place) pages slots synced count old new keeps becomes was = ⊎_elim (λ none. inl (becomes.none none)) (λ at. keeps pages slots synced count place old new becomes at) was
+carried (Steps place) pages slots synced count old new keeps becomes was =
+    ⊎_elim (λ none. inl (becomes.none none)) (λ at. keeps pages slots synced count place old new becomes at) was
 
 -- the device had not failed where a group was flushed
-pub flush_before : {D A : Type 0} (old new : Writer D A) (result : Result FlushReply Error) → OnOk result ((has_failed old ≡ false) × (has_failed new ≡ false)) → IfOk result (λ _. has_failed old ≡ false)
+pub flush_before : {D A : Type 0} (old new : Writer D A) (result : Result FlushReply Error) → OnOk result ((has_failed old ≡ false) × (has_failed new ≡ false))
+    → IfOk result (λ _. has_failed old ≡ false)
 flush_before old new (Ok reply) sound = sound.0
 flush_before old new (Err e) sound = tt
 
-module _ {D A : Type 0} (failures : D → ℕ) (keeps : KeepsPlace) (copying : Copying) (old new : FlushValue D A) (halves : halves_of new.writer ≡ halves_of old.writer) where
-  pub stands_by_flush : (result : Result FlushReply Error) → IfOk result (λ reply. IsFlushReply reply old.writer new.writer) → IfOk result (λ _. has_failed old.writer ≡ false)
-      → ((n : ℕ) → result ≡ Ok (Flushed n) → BecomesImage (halves_of old.writer).geometry.slots (synced_of old.writer) (n - synced_of old.writer) (image_of old.writer) (image_of new.writer))
+module _ {D A : Type 0} (failures : D → ℕ) (keeps : KeepsPlace) (copying : Copying) (old new : FlushValue D A)
+    (halves : halves_of new.writer ≡ halves_of old.writer) where
+  pub stands_by_flush : (result : Result FlushReply Error) → IfOk result (λ reply. IsFlushReply reply old.writer new.writer)
+      → IfOk result (λ _. has_failed old.writer ≡ false)
+      → ((n : ℕ) → result ≡ Ok (Flushed n)
+      → BecomesImage (halves_of old.writer).geometry.slots (synced_of old.writer) (n - synced_of old.writer) (image_of old.writer) (image_of new.writer))
       → IfErr result (λ e. IsNotFlushed failures e old.writer new.writer) → StandsBy copying old → StandsBy copying new
   stands_by_flush (Ok (Flushed n)) is before image err was = λ sound.
       subst (λ (h : HalvesValue). IsCopying h.geometry.pages copying (image_of new.writer)) (sym halves)
-      (carried copying (halves_of old.writer).geometry.pages (halves_of old.writer).geometry.slots (synced_of old.writer) (n - synced_of old.writer) (image_of old.writer) (image_of new.writer) keeps (image n refl) (was before))
+      (carried copying (halves_of old.writer).geometry.pages (halves_of old.writer).geometry.slots (synced_of old.writer) (n - synced_of old.writer)
+      (image_of old.writer) (image_of new.writer) keeps (image n refl) (was before))
   stands_by_flush (Ok Nothing) is before image err was = stands_still copying old new was is.0
   stands_by_flush (Ok LogFull) is before image err was = stands_still copying old new was is.0
   stands_by_flush (Err e) is before image (inl none) was = stands_still copying old new was none.4
@@ -71,24 +79,31 @@ module _ {D A : Type 0} (failures : D → ℕ) (keeps : KeepsPlace) (copying : C
 
 module _ {D A : Type 0} (old new : FlushValue D A) where
   -- a piece was taken
-  pub stands_by_piece : {A : Type 0} (number : ℕ) (piece : Piece A) (behind : Option CopyPlace) (result : Result StepReply Error) → result ≡ Ok Taken → IfOk result (λ reply. IsStepReply number piece reply old.writer new.writer)
+  pub stands_by_piece : {A : Type 0} (number : ℕ) (piece : Piece A) (behind : Option CopyPlace) (result : Result StepReply Error) → result ≡ Ok Taken
+      → IfOk result (λ reply. IsStepReply number piece reply old.writer new.writer)
       → (¬ MustStartAgain piece old.writer → IsAtPiece (halves_of old.writer).geometry.pages piece (image_of old.writer))
-      → (result ≡ Ok Taken → IsAtPiece (halves_of old.writer).geometry.pages piece (image_of old.writer) → IsAtPlace (halves_of old.writer).geometry.pages (place_behind (halves_of old.writer).geometry.pages piece) (image_of new.writer))
+      → (result ≡ Ok Taken → IsAtPiece (halves_of old.writer).geometry.pages piece (image_of old.writer)
+      → IsAtPlace (halves_of old.writer).geometry.pages (place_behind (halves_of old.writer).geometry.pages piece) (image_of new.writer))
       → behind ≡ place_behind (halves_of old.writer).geometry.pages piece → StandsBy (Steps behind) new
   stands_by_piece number piece behind result is stepped at place told sound =
-      let now : IsStepReply number piece Taken old.writer new.writer = subst (λ (r : Result StepReply Error). IfOk r (λ reply. IsStepReply number piece reply old.writer new.writer)) is stepped in
+      let now : IsStepReply number piece Taken old.writer new.writer =
+      subst (λ (r : Result StepReply Error). IfOk r (λ reply. IsStepReply number piece reply old.writer new.writer)) is stepped in
       let halves : halves_of new.writer ≡ halves_of old.writer = now.1.1.1 in
       subst (λ (p : Option CopyPlace). IsCopying (halves_of new.writer).geometry.pages (Steps p) (image_of new.writer)) (sym told)
-      (subst (λ (h : HalvesValue). IsCopying h.geometry.pages (Steps (place_behind (halves_of old.writer).geometry.pages piece)) (image_of new.writer)) (sym halves) (inr (place is (at now.0))))
+      (subst (λ (h : HalvesValue). IsCopying h.geometry.pages (Steps (place_behind (halves_of old.writer).geometry.pages piece)) (image_of new.writer))
+      (sym halves) (inr (place is (at now.0))))
 
   -- no flip was made
-  pub stands_behind : (copying : Copying) (handed : ℕ) (result : Result FlipReply Error) → result ≡ Ok Behind → IfOk result (λ reply. IsFlipReply handed reply old.writer new.writer) → StandsBy copying old → StandsBy copying new
+  pub stands_behind : (copying : Copying) (handed : ℕ) (result : Result FlipReply Error) → result ≡ Ok Behind
+      → IfOk result (λ reply. IsFlipReply handed reply old.writer new.writer) → StandsBy copying old → StandsBy copying new
   stands_behind copying handed result is flipped was =
-      let now : IsFlipReply handed Behind old.writer new.writer = subst (λ (r : Result FlipReply Error). IfOk r (λ reply. IsFlipReply handed reply old.writer new.writer)) is flipped in
+      let now : IsFlipReply handed Behind old.writer new.writer =
+      subst (λ (r : Result FlipReply Error). IfOk r (λ reply. IsFlipReply handed reply old.writer new.writer)) is flipped in
       stands_still copying old new was now.0
 
 -- the place behind a piece, in a store that is as large
-pub behind_is : {A : Type 0} (piece : Piece A) (g now : GeometryValue) (behind : Option CopyPlace) → behind ≡ place_behind g.pages piece → g ≡ now → behind ≡ place_behind now.pages piece
+pub behind_is : {A : Type 0} (piece : Piece A) (g now : GeometryValue) (behind : Option CopyPlace) → behind ≡ place_behind g.pages piece → g ≡ now
+    → behind ≡ place_behind now.pages piece
 behind_is piece g now behind told is = subst (λ (x : GeometryValue). behind ≡ place_behind x.pages piece) is told
 
 -- the piece that is due
@@ -97,5 +112,7 @@ is_due pages at.Start image is = tt
 is_due pages (at.Page page) image is = is
 is_due pages (at.Entries above) image is = is
 
-pub due_of : {D A : Type 0} (copying : Copying) (place : CopyPlace) (f : FlushValue D A) → copying ≡ Steps (Some place) → StandsBy copying f → has_failed f.writer ≡ false → IsPieceDue (halves_of f.writer).geometry.pages place (image_of f.writer)
-due_of copying place f is was sound = is_due (halves_of f.writer).geometry.pages place (image_of f.writer) (subst (λ (x : Copying). IsCopying (halves_of f.writer).geometry.pages x (image_of f.writer)) is (was sound))
+pub due_of : {D A : Type 0} (copying : Copying) (place : CopyPlace) (f : FlushValue D A) → copying ≡ Steps (Some place) → StandsBy copying f
+    → has_failed f.writer ≡ false → IsPieceDue (halves_of f.writer).geometry.pages place (image_of f.writer)
+due_of copying place f is was sound = is_due (halves_of f.writer).geometry.pages place (image_of f.writer)
+    (subst (λ (x : Copying). IsCopying (halves_of f.writer).geometry.pages x (image_of f.writer)) is (was sound))

@@ -1,5 +1,6 @@
 -- What a step of the builder means to the loop.
-use Rattle.std.proofs.Common.{◌≡◌, ◌≢◌, ◌⊎◌, IfErr, IfOk, IfSome, Option, None, Some, ◌<◌, ◌≤◌, ℕ, Bool, true, false, nat_lt, refl, Result, Ok, Err, inl, inr, sym, subst, max, arith, ltb-true, ltb-false}
+use Rattle.std.proofs.Common.{◌≡◌, ◌≢◌, ◌⊎◌, IfErr, IfOk, IfSome, Option, None, Some, ◌<◌, ◌≤◌, ℕ, Bool, true, false, nat_lt, refl, Result, Ok, Err, inl, inr}
+use Rattle.std.proofs.Common.{sym, subst, max, arith, ltb-true, ltb-false}
 use Rattle.std.proofs.Math.Logic.{∥∥₁_map}
 use Rattle.records.specs.declared.error.Error.{Error}
 use Rattle.records.specs.declared.error.Error.TheVariants.{IndexFull, NoIndex, NoMemory, Stopped}
@@ -26,7 +27,8 @@ module _ (o : Opened) (step : Result BuildReply Error) (attempts : ℕ) (was : �
   was_done ticket is = so_served (Ok (reply.Done ticket)) is
 
   pub was_published : (ticket : Ticket) → step ≡ Ok (reply.Done ticket) → (progress : ℕ) → attempts ≤ progress → ∥ HasPublished o ticket progress ∥₁
-  was_published ticket is progress told = ∥∥₁_map (so_stepped (Ok (reply.Done ticket)) is) (λ stepped. record { attempts = attempts; stepped = stepped; told = told })
+  was_published ticket is progress told = ∥∥₁_map (so_stepped (Ok (reply.Done ticket)) is) (λ stepped.
+      record { attempts = attempts; stepped = stepped; told = told })
 
   pub was_refused : (e : Error) → step ≡ Err e → ∥ WasServed o Event.Build (Refused e) ∥₁
   was_refused e is = so_served (Err e) is
@@ -39,7 +41,8 @@ module _ (o : Opened) (step : Result BuildReply Error) (attempts : ℕ) (was : �
   was_completed ticket is = ∥∥₁_map (so_stepped (Ok (reply.Done ticket)) is) (λ stepped. inr (ticket, stepped))
 
 -- a count that was raised is one of the two
-pub raised : (o : Opened) (first was attempts new : ℕ) → new ≡ max was attempts → (first < was → ∥ HasAttempted o was ∥₁) → ∥ HasAttempted o attempts ∥₁ → first < new → ∥ HasAttempted o new ∥₁
+pub raised : (o : Opened) (first was attempts new : ℕ) → new ≡ max was attempts → (first < was → ∥ HasAttempted o was ∥₁) → ∥ HasAttempted o attempts ∥₁
+    → first < new → ∥ HasAttempted o new ∥₁
 raised o first was attempts new is before now more = by (nat_lt was attempts) refl
   where
     at : (n : ℕ) → new ≡ n → ∥ HasAttempted o n ∥₁ → ∥ HasAttempted o new ∥₁
@@ -52,35 +55,45 @@ raised o first was attempts new is before now more = by (nat_lt was attempts) re
         at was same (before (omega (arith, same, more)))
 
 -- why a builder ended that is ended with its clients
-pub ended_why : {T : Type 0} (o : Opened) (P : Type 0) (result : Result T Error) → IfErr result (λ e. ((e ≡ Stopped) × P) ⊎ ((e ≢ NoMemory) × (true ≡ true → e ≢ NoIndex) × ∥ WasServed o Event.Build (Refused e) ∥₁)) → IfErr result (λ e. (e ≡ Stopped) ⊎ ((e ≢ NoMemory) × (e ≢ NoIndex) × ∥ WasServed o Event.Build (Refused e) ∥₁))
+pub ended_why : {T : Type 0} (o : Opened) (P : Type 0) (result : Result T Error)
+    → IfErr result (λ e. ((e ≡ Stopped) × P) ⊎ ((e ≢ NoMemory) × (true ≡ true → e ≢ NoIndex) × ∥ WasServed o Event.Build (Refused e) ∥₁))
+    → IfErr result (λ e. (e ≡ Stopped) ⊎ ((e ≢ NoMemory) × (e ≢ NoIndex) × ∥ WasServed o Event.Build (Refused e) ∥₁))
 ended_why o P (Ok x) why = tt
 ended_why o P (Err e) (inl stopped) = inl stopped.0
 ended_why o P (Err e) (inr refused) = inr (refused.0, refused.1 refl, refused.2)
 
 -- why a builder ended that is ended by the stop flag alone
-pub looked_why : {T : Type 0} (o : Opened) (P : Type 0) (result : Result T Error) → IfErr result (λ e. ((e ≡ Stopped) × (false ≡ false → P)) ⊎ ((e ≢ NoMemory) × (false ≡ true → e ≢ NoIndex) × ∥ WasServed o Event.Build (Refused e) ∥₁)) → IfErr result (λ e. ((e ≡ Stopped) × P) ⊎ ((e ≢ NoMemory) × ∥ WasServed o Event.Build (Refused e) ∥₁))
+pub looked_why : {T : Type 0} (o : Opened) (P : Type 0) (result : Result T Error)
+    → IfErr result (λ e. ((e ≡ Stopped) × (false ≡ false → P)) ⊎ ((e ≢ NoMemory) × (false ≡ true → e ≢ NoIndex) × ∥ WasServed o Event.Build (Refused e) ∥₁))
+    → IfErr result (λ e. ((e ≡ Stopped) × P) ⊎ ((e ≢ NoMemory) × ∥ WasServed o Event.Build (Refused e) ∥₁))
 looked_why o P (Ok x) why = tt
 looked_why o P (Err e) (inl stopped) = inl (stopped.0, stopped.1 refl)
 looked_why o P (Err e) (inr refused) = inr (refused.0, refused.2)
 
 -- why a builder ended that is ended with its clients, and that waited for room or not
-pub told_why : (o : Opened) (P : Type 0) (is_full : Bool) (e : Error) → (is_full ≡ true → e ≡ IndexFull) → (is_full ≡ false → e ≡ Stopped) → (is_full ≡ true → ∥ WasServed o Event.Build (Refused IndexFull) ∥₁) → P → (in_run : Bool)
+pub told_why : (o : Opened) (P : Type 0) (is_full : Bool) (e : Error) → (is_full ≡ true → e ≡ IndexFull) → (is_full ≡ false → e ≡ Stopped)
+    → (is_full ≡ true → ∥ WasServed o Event.Build (Refused IndexFull) ∥₁) → P → (in_run : Bool)
     → ((e ≡ Stopped) × P) ⊎ ((e ≢ NoMemory) × (in_run ≡ true → e ≢ NoIndex) × ∥ WasServed o Event.Build (Refused e) ∥₁)
-told_why o P true e full not was p in_run = inr (subst (λ (x : Error). (x ≢ NoMemory) × (in_run ≡ true → x ≢ NoIndex) × ∥ WasServed o Event.Build (Refused x) ∥₁) (sym (full refl)) ((λ same. cc), (λ on same. cc), was refl))
+told_why o P true e full not was p in_run =
+    inr (subst (λ (x : Error). (x ≢ NoMemory) × (in_run ≡ true → x ≢ NoIndex)
+    × ∥ WasServed o Event.Build (Refused x) ∥₁) (sym (full refl)) ((λ same. cc), (λ on same. cc), was refl))
 told_why o P false e full not was p in_run = inl (not refl, p)
 
 -- ---- one index behind another
 
 -- what was published of an index that was completed stays so
 pub still_published : (o : Opened) (ticket : Ticket) (was now : ℕ) → was ≤ now → ∥ HasPublished o ticket was ∥₁ → ∥ HasPublished o ticket now ∥₁
-still_published o ticket was now rises before = ∥∥₁_map before (λ published. record { attempts = published.attempts; stepped = published.stepped; told = omega (arith, published.told, rises) })
+still_published o ticket was now rises before = ∥∥₁_map before (λ published.
+    record { attempts = published.attempts; stepped = published.stepped; told = omega (arith, published.told, rises) })
 
-pub still_last : (o : Opened) (completed : Option Ticket) (was now : ℕ) → was ≤ now → IfSome completed (λ ticket. ∥ HasPublished o ticket was ∥₁) → IfSome completed (λ ticket. ∥ HasPublished o ticket now ∥₁)
+pub still_last : (o : Opened) (completed : Option Ticket) (was now : ℕ) → was ≤ now → IfSome completed (λ ticket. ∥ HasPublished o ticket was ∥₁)
+    → IfSome completed (λ ticket. ∥ HasPublished o ticket now ∥₁)
 still_last o None was now rises before = tt
 still_last o (Some ticket) was now rises before = still_published o ticket was now rises before
 
 -- a count that rose twice is that of an attempt
-pub attempted_on : (o : Opened) (first was now : ℕ) → was ≤ now → (first < was → ∥ HasAttempted o was ∥₁) → (was < now → ∥ HasAttempted o now ∥₁) → first < now → ∥ HasAttempted o now ∥₁
+pub attempted_on : (o : Opened) (first was now : ℕ) → was ≤ now → (first < was → ∥ HasAttempted o was ∥₁) → (was < now → ∥ HasAttempted o now ∥₁) → first < now
+    → ∥ HasAttempted o now ∥₁
 attempted_on o first was now rises before later more = by (nat_lt was now) refl
   where
     by : (b : Bool) → nat_lt was now ≡ b → ∥ HasAttempted o now ∥₁
@@ -90,7 +103,8 @@ attempted_on o first was now rises before later more = by (nat_lt was now) refl
         subst (λ (k : ℕ). ∥ HasAttempted o k ∥₁) (sym same) (before (omega (arith, same, more)))
 
 -- what holds of the index that was completed last holds of the one that is told
-pub last_told : (P : Ticket → Type 0) (completed : Option Ticket) (error : Error) (result : Result Ticket Error) → IfOk result (λ ticket. (completed ≡ Some ticket) × (error ≡ Stopped)) → IfSome completed P → IfOk result P
+pub last_told : (P : Ticket → Type 0) (completed : Option Ticket) (error : Error) (result : Result Ticket Error)
+    → IfOk result (λ ticket. (completed ≡ Some ticket) × (error ≡ Stopped)) → IfSome completed P → IfOk result P
 last_told P None error (Ok ticket) is before = absurd (none_told ticket is.0)
   where
     none_told : (t : Ticket) → None ≡ Some t → ⊥
@@ -101,6 +115,7 @@ last_told P (Some last) error (Ok ticket) is before =
 last_told P completed error (Err e) is before = tt
 
 -- why the last build ended is why none is told
-pub why_told : (W : Error → Type 0) (completed : Option Ticket) (error : Error) (result : Result Ticket Error) → IfErr result (λ e. (e ≡ error) × (error ≡ Stopped → completed ≡ None)) → W error → IfErr result W
+pub why_told : (W : Error → Type 0) (completed : Option Ticket) (error : Error) (result : Result Ticket Error)
+    → IfErr result (λ e. (e ≡ error) × (error ≡ Stopped → completed ≡ None)) → W error → IfErr result W
 why_told W completed error (Ok ticket) is why = tt
 why_told W completed error (Err e) is why = subst W (sym is.0) why

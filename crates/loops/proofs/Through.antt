@@ -23,12 +23,17 @@ module _ {D A : Type 0} (history : D → History) (failures : D → ℕ) (o : Op
   pub through_taking : (old new : FlushValue D A) → TakesIn old new → RunsThrough history failures o old new
   through_taking old new takes = record { states = new ∷ []; steps = (inl takes, refl) }
 
-  steps_then : (old mid new : FlushValue D A) (states more : List (FlushValue D A)) → GoesThrough history failures o old states mid → GoesThrough history failures o mid more new → GoesThrough history failures o old (states ++ more) new
+  steps_then : (old mid new : FlushValue D A) (states more : List (FlushValue D A)) → GoesThrough history failures o old states mid
+      → GoesThrough history failures o mid more new → GoesThrough history failures o old (states ++ more) new
   steps_then old mid new [] more is then = subst (λ (f : FlushValue D A). GoesThrough history failures o f more new) is then
   steps_then old mid new (next ∷ states) more is then = (is.0, steps_then next mid new states more is.1 then)
 
-  pub through_then : (old mid new : FlushValue D A) → RunsThrough history failures o old mid → RunsThrough history failures o mid new → RunsThrough history failures o old new
-  through_then old mid new first second = record { states = first.states ++ second.states; steps = steps_then old mid new first.states second.states first.steps second.steps }
+  pub through_then : (old mid new : FlushValue D A) → RunsThrough history failures o old mid → RunsThrough history failures o mid new
+      → RunsThrough history failures o old new
+  through_then old mid new first second = record {
+    states = first.states ++ second.states;
+    steps = steps_then old mid new first.states second.states first.steps second.steps;
+  }
 
   -- ---- calls of the writer
 
@@ -36,10 +41,12 @@ module _ {D A : Type 0} (history : D → History) (failures : D → ℕ) (o : Op
     pub through_call : Calls history failures o old new → RunsThrough history failures o old new
     through_call call = record { states = new ∷ []; steps = (inr call, refl) }
 
-    counted : Calls history failures o old new → has_failed new.writer ≡ true → has_failed old.writer ≡ false → Rises (failures (device_of old.writer)) (failures (device_of new.writer))
+    counted : Calls history failures o old new → has_failed new.writer ≡ true → has_failed old.writer ≡ false
+        → Rises (failures (device_of old.writer)) (failures (device_of new.writer))
     counted call = by call.made
       where
-        by : IsFlush failures old new ⊎ (IsStep failures o old new ⊎ IsFlip failures o old new) → has_failed new.writer ≡ true → has_failed old.writer ≡ false → Rises (failures (device_of old.writer)) (failures (device_of new.writer))
+        by : IsFlush failures old new ⊎ (IsStep failures o old new ⊎ IsFlip failures o old new) → has_failed new.writer ≡ true → has_failed old.writer ≡ false
+            → Rises (failures (device_of old.writer)) (failures (device_of new.writer))
         by (inl flush) = counted_by_flush failures old.writer new.writer flush.result flush.sound flush.err
         by (inr (inl step)) = counted_by_call failures old.writer new.writer step.result step.sound step.err
         by (inr (inr flip)) = counted_by_call failures old.writer new.writer flip.result flip.sound flip.err
@@ -47,9 +54,12 @@ module _ {D A : Type 0} (history : D → History) (failures : D → ℕ) (o : Op
     pub goes_by : old.published.horizon ≤ synced_of old.writer → Calls history failures o old new → GoesOn history failures o old new
     goes_by low call = goes_by_call history failures o old new low call.publishes call.geometry call.rises call.images call.later (counted call)
 
-    module _ (publishes : Publishes old new) (images : LeavesOnly (history (device_of old.writer)) (history (device_of new.writer)) (FlushLeaves o old)) (later : failures (device_of old.writer) ≤ failures (device_of new.writer)) where
-      pub by_flush : (result : Result FlushReply Error) → halves_of new.writer ≡ halves_of old.writer → IfOk result (λ reply. IsFlushReply reply old.writer new.writer) → OnOk result ((has_failed old.writer ≡ false) × (has_failed new.writer ≡ false))
-          → IfErr result (λ e. IsNotFlushed failures e old.writer new.writer) → OnErr result (synced_of new.writer ≡ synced_of old.writer) → OnErr result (IsBeforeFlush old.writer new.writer) → Calls history failures o old new
+    module _ (publishes : Publishes old new) (images : LeavesOnly (history (device_of old.writer)) (history (device_of new.writer)) (FlushLeaves o old))
+        (later : failures (device_of old.writer) ≤ failures (device_of new.writer)) where
+      pub by_flush : (result : Result FlushReply Error) → halves_of new.writer ≡ halves_of old.writer
+          → IfOk result (λ reply. IsFlushReply reply old.writer new.writer) → OnOk result ((has_failed old.writer ≡ false) × (has_failed new.writer ≡ false))
+          → IfErr result (λ e. IsNotFlushed failures e old.writer new.writer) → OnErr result (synced_of new.writer ≡ synced_of old.writer)
+          → OnErr result (IsBeforeFlush old.writer new.writer) → Calls history failures o old new
       by_flush result halves flushed sound err kept left = record {
         made = inl (record { result = result; flushed = flushed; sound = sound; err = err; left = left });
         publishes = publishes;
@@ -59,8 +69,10 @@ module _ {D A : Type 0} (history : D → History) (failures : D → ℕ) (o : Op
         later = later;
       }
 
-      pub by_step : (number : ℕ) (piece : Piece A) (result : Result StepReply Error) → IsChunk (run_of o old) old.writer number piece → IfOk result (λ reply. IsStepReply number piece reply old.writer new.writer)
-          → OnOk result ((has_failed old.writer ≡ false) × (has_failed new.writer ≡ false)) → IfErr result (λ e. HasFailed failures e old.writer new.writer) → synced_of new.writer ≡ synced_of old.writer → OnErr result (IsAsBefore old.writer new.writer) → Calls history failures o old new
+      pub by_step : (number : ℕ) (piece : Piece A) (result : Result StepReply Error) → IsChunk (run_of o old) old.writer number piece
+          → IfOk result (λ reply. IsStepReply number piece reply old.writer new.writer)
+          → OnOk result ((has_failed old.writer ≡ false) × (has_failed new.writer ≡ false)) → IfErr result (λ e. HasFailed failures e old.writer new.writer)
+          → synced_of new.writer ≡ synced_of old.writer → OnErr result (IsAsBefore old.writer new.writer) → Calls history failures o old new
       by_step number piece result chunk stepped sound err kept left = record {
         made = inr (inl (record { number = number; piece = piece; chunk = chunk; result = result; stepped = stepped; sound = sound; err = err; left = left }));
         publishes = publishes;
@@ -70,8 +82,10 @@ module _ {D A : Type 0} (history : D → History) (failures : D → ℕ) (o : Op
         later = later;
       }
 
-      pub by_flip : (result : Result FlipReply Error) → IfOk result (λ reply. IsFlipReply (last_handed o old) reply old.writer new.writer) → OnOk result ((has_failed old.writer ≡ false) × (has_failed new.writer ≡ false))
-          → IfErr result (λ e. HasFailed failures e old.writer new.writer) → OnErr result (synced_of new.writer ≡ synced_of old.writer) → OnErr result (IsAsBefore old.writer new.writer) → Calls history failures o old new
+      pub by_flip : (result : Result FlipReply Error) → IfOk result (λ reply. IsFlipReply (last_handed o old) reply old.writer new.writer)
+          → OnOk result ((has_failed old.writer ≡ false) × (has_failed new.writer ≡ false))
+          → IfErr result (λ e. HasFailed failures e old.writer new.writer) → OnErr result (synced_of new.writer ≡ synced_of old.writer)
+          → OnErr result (IsAsBefore old.writer new.writer) → Calls history failures o old new
       by_flip result flipped sound err kept left = record {
         made = inr (inr (record { result = result; flipped = flipped; sound = sound; err = err; left = left }));
         publishes = publishes;

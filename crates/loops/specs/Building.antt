@@ -22,26 +22,31 @@ pub record HasStepped (o : Opened) (reply : Reply) (attempts : ℕ) : Type 0 whe
 
 -- so it replies by a pair that it placed, or that has an entry, or that the index is complete
 abbrev pub HasAttempted : Opened → ℕ → Type 0
-HasAttempted o attempts = ((pair : Pair) × (HasStepped o (Built (events.Placed pair)) attempts ⊎ HasStepped o (Built (events.Rejected pair)) attempts)) ⊎ ((ticket : Ticket) × HasStepped o (built (reply.Done ticket)) attempts)
+HasAttempted o attempts = ((pair : Pair) × (HasStepped o (Built (events.Placed pair)) attempts
+    ⊎ HasStepped o (Built (events.Rejected pair)) attempts))
+    ⊎ ((ticket : Ticket) × HasStepped o (built (reply.Done ticket)) attempts)
 
--- It replies that the index is complete, with this ticket, and no attempt that it has made then is missing in what was published.
+-- It replies that the index is complete, with this ticket, and no attempt that it has made then is missing in what was
+-- published.
 pub record HasPublished (o : Opened) (ticket : Ticket) (progress : ℕ) : Type 0 where
   pub attempts : ℕ
   pub stepped : HasStepped o (built (reply.Done ticket)) attempts
   pub told : attempts ≤ progress
 
--- A builder that is ended with its clients has gone on so: it completed the index, and has published all attempts; or it was ended, or a
--- step was refused, but not for want of memory or of an index. What it publishes never goes back, and is the number of attempts then.
+-- A builder that is ended with its clients has gone on so: it completed the index, and has published all attempts; or
+-- it was ended, or a step was refused, but not for want of memory or of an index. What it publishes never goes back,
+-- and is the number of attempts then.
 pub record BuildsOn (o : Opened) (old : BuildValue) (result : Result Ticket Error) (new : BuildValue) : Type 0 where
   pub done : IfOk result (λ ticket. ∥ WasServed o Event.Build (built (reply.Done ticket)) ∥₁)
   pub published : IfOk result (λ ticket. ∥ HasPublished o ticket new.progress ∥₁)
-  pub why : IfErr result (λ e. (e ≡ Stopped) ⊎ ((e ≢ NoMemory) × (e ≢ NoIndex) × ∥ WasServed o Event.Build (Refused e) ∥₁))
+  pub why : IfErr result (λ e. (e ≡ Stopped) ⊎ ((e ≢ NoMemory) × (e ≢ NoIndex)
+      × ∥ WasServed o Event.Build (Refused e) ∥₁))
   pub rises : old.progress ≤ new.progress
   pub attempted : old.progress < new.progress → ∥ HasAttempted o new.progress ∥₁
 
--- What a step means to a loop that waits for an index where there is none and for room in it, or to one that doesn't: the loop ends where the
--- step completed the index, or where it was refused, but for want of memory; and for want of an index, or of room, only where the loop doesn't
--- wait for one. (No public clause cites this.)
+-- What a step means to a loop that waits for an index where there is none and for room in it, or to one that doesn't:
+-- the loop ends where the step completed the index, or where it was refused, but for want of memory; and for want of an
+-- index, or of room, only where the loop doesn't wait for one. (No public clause cites this.)
 abbrev pub IsOutcome : (waits : Bool) → Outcome → Result BuildReply Error → Type 0
 IsOutcome waits (Done ticket) step = step ≡ Ok (reply.Done ticket)
 IsOutcome waits (Refused e) step = (step ≡ Err e) × (e ≢ NoMemory) × (waits ≡ true → e ≢ NoIndex)

@@ -17,8 +17,10 @@ IsCopying pages GivenUp image = Unit {0}
 
 -- so it is of the flusher's image, unless its device failed
 abbrev pub StandsBy : {D A : Type 0} → Copying → FlushValue D A → Type 0
-StandsBy copying f = has_failed f.writer ≡ false → IsCopying (halves_of f.writer).geometry.pages copying (image_of f.writer)
+StandsBy copying f = has_failed f.writer ≡ false
+    → IsCopying (halves_of f.writer).geometry.pages copying (image_of f.writer)
 
--- the steps of an image of a full store: its beginning, each page, each full chunk of entries, what is behind them, and the flip
+-- the steps of an image of a full store: its beginning, each page, each full chunk of entries, what is behind them, and
+-- the flip
 abbrev pub steps_of_image : GeometryValue → ℕ
 steps_of_image g = g.pages + g.entries / CHUNK_ENTRIES + 3

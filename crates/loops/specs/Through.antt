@@ -5,7 +5,8 @@ use Rattle.core_model.specs.Histories.{Opened}
 use Rattle.sector_device.specs.History.{History, LeavesOnly}
 use Rattle.image_model.specs.declared.chunk.Piece.{Piece}
 use Rattle.store_writer.specs.Parts.{device_of, halves_of, has_failed, synced_of}
-use Rattle.store_writer.specs.Writer.{HasFailed, IsAsBefore, IsBeforeFlush, IsChunk, IsFlipReply, IsFlushReply, IsNotFlushed, IsStepReply}
+use Rattle.store_writer.specs.Writer.{HasFailed, IsAsBefore, IsBeforeFlush, IsChunk, IsFlipReply, IsFlushReply}
+use Rattle.store_writer.specs.Writer.{IsNotFlushed, IsStepReply}
 use Rattle.store_writer.specs.declared.writer.FlipReply.{FlipReply}
 use Rattle.store_writer.specs.declared.writer.FlushReply.{FlushReply}
 use Rattle.store_writer.specs.declared.writer.StepReply.{StepReply}
@@ -39,9 +40,10 @@ pub record IsFlip {D A : Type 0} (failures : D → ℕ) (o : Opened) (old new : 
   pub err : IfErr result (λ e. HasFailed failures e old.writer new.writer)
   pub left : OnErr result (IsAsBefore old.writer new.writer)
 
--- One call of the writer: no record was popped or handed in, and what is published is what is synced now. A crash at any moment of it
--- leaves what one before it could, with all that were synced then.
-pub record Calls {D A : Type 0} (history : D → History) (failures : D → ℕ) (o : Opened) (old new : FlushValue D A) : Type 0 where
+-- One call of the writer: no record was popped or handed in, and what is published is what is synced now. A crash at
+-- any moment of it leaves what one before it could, with all that were synced then.
+pub record Calls {D A : Type 0} (history : D → History) (failures : D
+    → ℕ) (o : Opened) (old new : FlushValue D A) : Type 0 where
   pub made : IsFlush failures old new ⊎ (IsStep failures o old new ⊎ IsFlip failures o old new)
   pub publishes : Publishes old new
   pub geometry : (halves_of new.writer).geometry ≡ (halves_of old.writer).geometry
@@ -49,12 +51,16 @@ pub record Calls {D A : Type 0} (history : D → History) (failures : D → ℕ)
   pub images : LeavesOnly (history (device_of old.writer)) (history (device_of new.writer)) (FlushLeaves o old)
   pub later : failures (device_of old.writer) ≤ failures (device_of new.writer)
 
--- from each state to the next by records that were popped and handed in, or by one call of the writer; and it is the last one now
-abbrev pub GoesThrough : {D A : Type 0} → (D → History) → (D → ℕ) → Opened → FlushValue D A → List (FlushValue D A) → FlushValue D A → Type 0
+-- from each state to the next by records that were popped and handed in, or by one call of the writer; and it is the
+-- last one now
+abbrev pub GoesThrough : {D A : Type 0} → (D → History) → (D → ℕ) → Opened → FlushValue D A → List (FlushValue D A)
+    → FlushValue D A → Type 0
 GoesThrough history failures o old [] new = new ≡ old
-GoesThrough history failures o old (next ∷ states) new = (TakesIn old next ⊎ Calls history failures o old next) × GoesThrough history failures o next states new
+GoesThrough history failures o old (next ∷ states) new = (TakesIn old next ⊎ Calls history failures o old next)
+    × GoesThrough history failures o next states new
 
 -- there are such states
-pub record RunsThrough {D A : Type 0} (history : D → History) (failures : D → ℕ) (o : Opened) (old new : FlushValue D A) : Type 0 where
+pub record RunsThrough {D A : Type 0} (history : D → History) (failures : D
+    → ℕ) (o : Opened) (old new : FlushValue D A) : Type 0 where
   pub states : List (FlushValue D A)
   pub steps : GoesThrough history failures o old states new

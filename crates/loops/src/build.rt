@@ -35,10 +35,10 @@ pub(crate) enum Outcome {
     Nothing,
 }
 
-/// Makes steps of the builder, each under the lock anew, until one completes the index, and publishes behind each attempt how many
-/// were made since the store was opened. Now and then it leaves room for the seats by a short pause. Where the index was complete
-/// before, it sleeps, and looks again. After want of memory it tries again: the same step, since one that was refused has changed
-/// nothing (`each_refusal` of `shared`).
+/// Makes steps of the builder, each under the lock anew, until one completes the index, and publishes behind each
+/// attempt how many were made since the store was opened. Now and then it leaves room for the seats by a short pause.
+/// Where the index was complete before, it sleeps, and looks again. After want of memory it tries again: the same step,
+/// since one that was refused has changed nothing (`each_refusal` of `shared`).
 ///
 /// `Stopped` where the stop flag was read. Else the refusal is one of the core's `build_step`, but not `NoMemory`.
 pub fn build_loop<B: Group, R: Wait, G: Gate, A: Memory>(
@@ -50,7 +50,8 @@ pub fn build_loop<B: Group, R: Wait, G: Gate, A: Memory>(
 ) -> Result<Ticket, Error>
     ensures done { IfOk result (λ ticket. ∥ WasServed B.site.opened Event.Build (built (reply.Done ticket)) ∥₁) }
     ensures published { IfOk result (λ ticket. ∥ HasPublished B.site.opened ticket build.new.progress ∥₁) }
-    ensures why { IfErr result (λ e. ((e ≡ Stopped) × IsTrue view.new.stopped) ⊎ ((e ≢ NoMemory) × ∥ WasServed B.site.opened Event.Build (Refused e) ∥₁)) }
+    ensures why { IfErr result (λ e. ((e ≡ Stopped) × IsTrue view.new.stopped)
+        ⊎ ((e ≢ NoMemory) × ∥ WasServed B.site.opened Event.Build (Refused e) ∥₁)) }
     ensures rises { build.old.progress ≤ build.new.progress }
     ensures attempted { build.old.progress < build.new.progress → ∥ HasAttempted B.site.opened build.new.progress ∥₁ }
     ensures view { view.new ≡ record view.old { stopped = view.new.stopped } }
@@ -58,8 +59,9 @@ pub fn build_loop<B: Group, R: Wait, G: Gate, A: Memory>(
     build_until(rt, shared, build, view, gate, false, &AtomicU64::new(0))
 }
 
-/// The same, until the run ends, if it is in one. Then it also waits for an index where there is none, and for room in a full one, since
-/// places that transactions reserved come back as they end. A run that ends while it waits for room is told as `IndexFull`.
+/// The same, until the run ends, if it is in one. Then it also waits for an index where there is none, and for room in
+/// a full one, since places that transactions reserved come back as they end. A run that ends while it waits for room
+/// is told as `IndexFull`.
 pub(crate) fn build_until<B: Group, R: Wait, G: Gate, A: Memory>(
     rt: &R,
     shared: &Shared<B, A>,
@@ -71,7 +73,8 @@ pub(crate) fn build_until<B: Group, R: Wait, G: Gate, A: Memory>(
 ) -> Result<Ticket, Error>
     ensures done { IfOk result (λ ticket. ∥ WasServed B.site.opened Event.Build (built (reply.Done ticket)) ∥₁) }
     ensures published { IfOk result (λ ticket. ∥ HasPublished B.site.opened ticket build.new.progress ∥₁) }
-    ensures why { IfErr result (λ e. ((e ≡ Stopped) × (in_run ≡ false → IsTrue view.new.stopped)) ⊎ ((e ≢ NoMemory) × (in_run ≡ true → e ≢ NoIndex) × ∥ WasServed B.site.opened Event.Build (Refused e) ∥₁)) }
+    ensures why { IfErr result (λ e. ((e ≡ Stopped) × (in_run ≡ false → IsTrue view.new.stopped))
+        ⊎ ((e ≢ NoMemory) × (in_run ≡ true → e ≢ NoIndex) × ∥ WasServed B.site.opened Event.Build (Refused e) ∥₁)) }
     ensures rises { build.old.progress ≤ build.new.progress }
     ensures attempted { build.old.progress < build.new.progress → ∥ HasAttempted B.site.opened build.new.progress ∥₁ }
     ensures view { view.new ≡ record view.old { stopped = view.new.stopped } }
@@ -116,7 +119,8 @@ pub(crate) fn build_until<B: Group, R: Wait, G: Gate, A: Memory>(
     unreachable!()
 }
 
-// Why a run of the builder is told to have ended with its clients: because they ended, or for want of room that it waited for.
+// Why a run of the builder is told to have ended with its clients: because they ended, or for want of room that it
+// waited for.
 fn end_told(is_full: bool) -> Error
     ensures full { is_full ≡ true → result ≡ IndexFull }
     ensures not { is_full ≡ false → result ≡ Stopped }
@@ -128,7 +132,8 @@ fn end_told(is_full: bool) -> Error
     }
 }
 
-// What this answer of a step means, to a loop that waits for an index where there is none and for room in it, or to one that doesn't.
+// What this answer of a step means, to a loop that waits for an index where there is none and for room in it, or to one
+// that doesn't.
 fn outcome_of(step: Result<BuildReply, Error>, waits: bool) -> Outcome
     ensures { IsOutcome waits result step }
 {
@@ -146,7 +151,8 @@ fn outcome_of(step: Result<BuildReply, Error>, waits: bool) -> Outcome
     }
 }
 
-// One step of the builder, which may have made a record, and how many attempts were made since the store was opened, with it.
+// One step of the builder, which may have made a record, and how many attempts were made since the store was opened,
+// with it.
 fn build_step<B: Group, R: Wait, A: Memory>(
     rt: &R,
     shared: &Shared<B, A>,

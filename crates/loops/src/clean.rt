@@ -13,9 +13,9 @@ use shared::{Group, GroupView, Memory, Shared};
 use std::sync::Wait;
 use std::sync::atomic::AtomicU64;
 
-/// Makes steps of the cleaner, each under the lock anew, until the stop flag is read. What is refused it passes over. After some
-/// steps that removed nothing it leaves room for the others by a pause, and behind a round through the index that removed nothing it
-/// sleeps, longer each time.
+/// Makes steps of the cleaner, each under the lock anew, until the stop flag is read. What is refused it passes over.
+/// After some steps that removed nothing it leaves room for the others by a pause, and behind a round through the index
+/// that removed nothing it sleeps, longer each time.
 pub fn clean_loop<B: Group, R: Wait, G: Gate, A: Memory>(
     rt: &R,
     shared: &Shared<B, A>,

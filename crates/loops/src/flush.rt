@@ -22,8 +22,8 @@ use std::sync::Wait;
 use std::sync::atomic::AtomicU64;
 use store_writer::{FlipReply, FlushReply, StepReply, kept_place};
 
-// After so many rounds the lock is taken though no record was popped: one that the queue refused may wait in the core, and nobody
-// else may call again.
+// After so many rounds the lock is taken though no record was popped: one that the queue refused may wait in the core,
+// and nobody else may call again.
 const LOOK_EVERY: u32 = 32;
 
 /// How far the copying of an image has come.
@@ -37,14 +37,15 @@ pub(crate) enum Copying {
     GivenUp,
 }
 
-/// Pops the records that wait, hands them in under the lock, writes them in groups, and publishes behind each group how far they are
-/// synced. Now and then it looks under the lock for records that the queue refused. As half the slots of the log are open it begins
-/// an image (`wants_image`), copies each chunk of it under the lock anew, some of them behind each group, and makes it current. Where
-/// nothing waits it sleeps until records are made, or for a short while. After want of memory it tries again.
+/// Pops the records that wait, hands them in under the lock, writes them in groups, and publishes behind each group how
+/// far they are synced. Now and then it looks under the lock for records that the queue refused. As half the slots of
+/// the log are open it begins an image (`wants_image`), copies each chunk of it under the lock anew, some of them
+/// behind each group, and makes it current. Where nothing waits it sleeps until records are made, or for a short while.
+/// After want of memory it tries again.
 ///
-/// It ends where the stop flag is read, or with `DeviceFailed` where the device failed, now or earlier, stop flag or not. What is
-/// held or waits then is not written. A crash at any moment leaves all records that were synced as the loop began (`goes_on`), and
-/// those that were synced before the call of the writer that it falls into (`through`).
+/// It ends where the stop flag is read, or with `DeviceFailed` where the device failed, now or earlier, stop flag or
+/// not. What is held or waits then is not written. A crash at any moment leaves all records that were synced as the
+/// loop began (`goes_on`), and those that were synced before the call of the writer that it falls into (`through`).
 pub fn flush_loop<B: Group, D: Device, R: Wait, G: Gate, A: Memory>(
     rt: &R,
     shared: &Shared<B, A>,
@@ -109,9 +110,9 @@ pub(crate) fn flush_until<B: Group, D: Device, R: Wait, G: Gate, A: Memory>(
     unreachable!()
 }
 
-// What was found in a round, before which so much was synced, and so much had been handed in, and which went well or was cut short for
-// want of memory. Where memory is wanting for the records that wait, there is nothing to do for a while. A round that began with records
-// that wait takes none from the queue, so there may be more at once.
+// What was found in a round, before which so much was synced, and so much had been handed in, and which went well or
+// was cut short for want of memory. Where memory is wanting for the records that wait, there is nothing to do for a
+// while. A round that began with records that wait takes none from the queue, so there may be more at once.
 fn found<B: Group, D: Device, A: Memory>(
     part: &FlushPart<B, D, A>,
     synced: u64,
@@ -131,9 +132,9 @@ fn found<B: Group, D: Device, A: Memory>(
     }
 }
 
-// One round: the records that wait are handed in, where they are to be taken, a group of them is written, and some steps of an image
-// are made where they are due. Beside an image records are taken where the bell has rung, so that a few of the builder's take no group of
-// their own.
+// One round: the records that wait are handed in, where they are to be taken, a group of them is written, and some
+// steps of an image are made where they are due. Beside an image records are taken where the bell has rung, so that a
+// few of the builder's take no group of their own.
 fn round<B: Group, D: Device, R: Wait, G: Gate, A: Memory>(
     rt: &R,
     shared: &Shared<B, A>,
@@ -153,8 +154,8 @@ fn round<B: Group, D: Device, R: Wait, G: Gate, A: Memory>(
     copy_some(rt, shared, part, copying, is_full, gate)
 }
 
-// How many steps of an image are made a round: so many that an image, also of a full index, is whole before a quarter of the log's
-// slots are written behind its beginning; and no more.
+// How many steps of an image are made a round: so many that an image, also of a full index, is whole before a quarter
+// of the log's slots are written behind its beginning; and no more.
 fn steps_a_round(geometry: Geometry) -> u32
     ensures in_time { steps_of_image geometry < geometry.slots / 4 * result }
     ensures no_more { geometry.slots / 4 * (result - 1) ≤ steps_of_image geometry }
@@ -203,8 +204,8 @@ fn hand_in<B: Group, D: Device, R: Wait, A: Memory>(
     part.stands();
 }
 
-// Takes none while records wait for the writer, which are to be written first; and takes the lock only where some were popped, or
-// where it is to look.
+// Takes none while records wait for the writer, which are to be written first; and takes the lock only where some were
+// popped, or where it is to look.
 fn take_in<B: Group, D: Device, R: Wait, A: Memory>(
     rt: &R,
     shared: &Shared<B, A>,
@@ -292,7 +293,8 @@ fn copy_piece<B: Group, D: Device, R: Wait, G: Gate, A: Memory>(
     gate: &G,
 ) -> Result<(), Error>
     requires copying { StandsBy copying.old part.old }
-    requires due { has_failed part.old.writer ≡ false → IsPieceDue (halves_of part.old.writer).geometry.pages place (image_of part.old.writer) }
+    requires due { has_failed part.old.writer ≡ false
+        → IsPieceDue (halves_of part.old.writer).geometry.pages place (image_of part.old.writer) }
     ensures goes_on { GoesOn D.history D.failures B.site.opened part.old part.new }
     ensures through { RunsThrough D.history D.failures B.site.opened part.old part.new }
     ensures copying { StandsBy copying.new part.new }
@@ -327,12 +329,15 @@ fn copied_piece<B: Group, D: Device, R: Wait, A: Memory>(
     part: &mut FlushPart<B, D, A>,
     place: CopyPlace,
 ) -> Result<Chunk<A>, Error>
-    requires due { has_failed part.old.writer ≡ false → IsPieceDue (halves_of part.old.writer).geometry.pages place (image_of part.old.writer) }
+    requires due { has_failed part.old.writer ≡ false
+        → IsPieceDue (halves_of part.old.writer).geometry.pages place (image_of part.old.writer) }
     ensures goes_on { GoesOn D.history D.failures B.site.opened part.old part.new }
     ensures through { RunsThrough D.history D.failures B.site.opened part.old part.new }
     ensures copying { (copying : CopyingValue) → StandsBy copying part.old → StandsBy copying part.new }
-    ensures chunk { IfOk result (λ chunk. IsChunk (run_of B.site.opened part.new) part.new.writer chunk.number chunk.piece) }
-    ensures at { IfOk result (λ chunk. ¬ MustStartAgain chunk.piece part.new.writer → IsAtPiece (halves_of part.new.writer).geometry.pages chunk.piece (image_of part.new.writer)) }
+    ensures chunk { IfOk result (λ chunk.
+        IsChunk (run_of B.site.opened part.new) part.new.writer chunk.number chunk.piece) }
+    ensures at { IfOk result (λ chunk. ¬ MustStartAgain chunk.piece part.new.writer
+        → IsAtPiece (halves_of part.new.writer).geometry.pages chunk.piece (image_of part.new.writer)) }
 {
     part.stands();
     if part.has_failed() {
@@ -353,8 +358,10 @@ fn copied_whole<B: Group, D: Device, R: Wait, A: Memory>(
     ensures goes_on { GoesOn D.history D.failures B.site.opened part.old part.new }
     ensures through { RunsThrough D.history D.failures B.site.opened part.old part.new }
     ensures copying { (copying : CopyingValue) → StandsBy copying part.old → StandsBy copying part.new }
-    ensures chunk { IfOk result (λ chunk. IsChunk (run_of B.site.opened part.new) part.new.writer chunk.number chunk.piece) }
-    ensures at { IfOk result (λ chunk. IsAtPiece (halves_of part.new.writer).geometry.pages chunk.piece (image_of part.new.writer)) }
+    ensures chunk { IfOk result (λ chunk.
+        IsChunk (run_of B.site.opened part.new) part.new.writer chunk.number chunk.piece) }
+    ensures at { IfOk result (λ chunk. IsAtPiece (halves_of part.new.writer).geometry.pages chunk.piece
+        (image_of part.new.writer)) }
 {
     let mut locked = shared.hold(rt);
     let copied = part.copy_whole(rt, shared.queue(), &mut *locked);
@@ -371,7 +378,8 @@ fn take_chunk<B: Group, D: Device, A: Memory>(
 ) -> Result<(), Error>
     requires copying { StandsBy copying.old part.old }
     requires chunk { IsChunk (run_of B.site.opened part.old) part.old.writer chunk.number chunk.piece }
-    requires at { ¬ MustStartAgain chunk.piece part.old.writer → IsAtPiece (halves_of part.old.writer).geometry.pages chunk.piece (image_of part.old.writer) }
+    requires at { ¬ MustStartAgain chunk.piece part.old.writer
+        → IsAtPiece (halves_of part.old.writer).geometry.pages chunk.piece (image_of part.old.writer) }
     ensures goes_on { GoesOn D.history D.failures B.site.opened part.old part.new }
     ensures through { RunsThrough D.history D.failures B.site.opened part.old part.new }
     ensures copying { StandsBy copying.new part.new }

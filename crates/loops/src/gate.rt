@@ -17,7 +17,8 @@ pub enum Point {
     CleanStep,
 }
 
-/// What is called at each point of a loop, with no lock held. (That it is called, and that no lock is held then, no clause says.)
+/// What is called at each point of a loop, with no lock held. (That it is called, and that no lock is held then, no
+/// clause says.)
 pub trait Gate {
     fn at(&self, point: Point);
 }

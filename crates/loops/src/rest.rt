@@ -19,8 +19,8 @@ const LOOKS: u32 = 16;
 // So often the flusher looks behind a group whether records were made meanwhile, before it sleeps.
 const RING_LOOKS: u32 = 4_000;
 
-// How many microseconds the flusher sleeps where nothing waits, at first, and where an image is copied; and the builder where it leaves
-// room for the others.
+// How many microseconds the flusher sleeps where nothing waits, at first, and where an image is copied; and the builder
+// where it leaves room for the others.
 const FLUSHER_SLEEP: u64 = 1_000;
 
 const COPY_PAUSE: u64 = 20;
@@ -102,8 +102,8 @@ fn await_ring<R: Wait>(rt: &R, bell: &Bell, rings: u64) {
     }
 }
 
-/// A pause of the builder, so that the seats get the lock, where it has made so many steps since the last one. Answers how many it has
-/// made since then.
+/// A pause of the builder, so that the seats get the lock, where it has made so many steps since the last one. Answers
+/// how many it has made since then.
 pub(crate) fn leave_room<B: Group, R: Wait, A: Memory>(
     rt: &R,
     shared: &Shared<B, A>,

@@ -30,23 +30,24 @@ pub struct Ended<B: Group, D: Device, X> {
     pub build: BuildPart<B>,
     /// How the flusher ended.
     pub flushed: Result<(), Error>,
-    /// The ticket of an index that a core which may lie under the lock completed meanwhile, of several that of the last one; else why
-    /// none was, which is `Stopped` where the clients ended first or there was nothing to build, and `IndexFull` where they ended while there
-    /// was no room for the next pair. A later build that was refused is told
+    /// The ticket of an index that a core which may lie under the lock completed meanwhile, of several that of the last
+    /// one; else why none was, which is `Stopped` where the clients ended first or there was nothing to build, and
+    /// `IndexFull` where they ended while there was no room for the next pair. A later build that was refused is told
     /// in its place. (No clause says that the ticket is the last one, or that no later build was refused.)
     pub built: Result<Ticket, Error>,
 }
 
-/// Runs flusher, cleaner and builder beside the clients, each in a thread of its own, until the clients have ended; then it ends the
-/// three, and waits for that. With what comes back it may be called again.
+/// Runs flusher, cleaner and builder beside the clients, each in a thread of its own, until the clients have ended;
+/// then it ends the three, and waits for that. With what comes back it may be called again.
 ///
-/// Of the board the seat has seen no more than before, and its view may have another name (`seen`). Flusher and builder end as
-/// `flush_loop` and `build_loop` do, or with the clients; and that there is no index is no reason to end (`builder`). Nobody but this call
-/// can end the run.
+/// Of the board the seat has seen no more than before, and its view may have another name (`seen`). Flusher and builder
+/// end as `flush_loop` and `build_loop` do, or with the clients; and that there is no index is no reason to end
+/// (`builder`). Nobody but this call can end the run.
 ///
-/// Not proved: that a loop makes a step and that the call returns; that a build under way is carried on, and each that a client begins,
-/// also where it dropped an index that was complete; that the builder waits where the index is complete or there is none, and tries again
-/// where the index is full; and that another refusal ends it, so that what is to be built then waits for the next run.
+/// Not proved: that a loop makes a step and that the call returns; that a build under way is carried on, and each that
+/// a client begins, also where it dropped an index that was complete; that the builder waits where the index is
+/// complete or there is none, and tries again where the index is full; and that another refusal ends it, so that what
+/// is to be built then waits for the next run.
 pub fn run_beside<
     B: Group + Send + Sync,
     D: Device + Send + Drop,

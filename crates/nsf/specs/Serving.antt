@@ -21,16 +21,19 @@ pub record HoldsAll (o : Opened) (geometry : GeometryValue) (seats : List SeatVa
   pub core : CoreValue
   pub gives : (image : Image) → IsCrashImage disk image → ∥ GivesAll o geometry core commits image ∥₁
 
--- The device was written by these seats, in a store as large as the one that was opened: whatever a crash leaves of it gives what was
--- opened with their commits set over it, up to some record; and with all of them, where nothing was refused.
-pub record LeavesCommits {D : Type 0} (history : D → History) (o : Opened) (device : D) (written : Result Unit Error) : Type 0 where
+-- The device was written by these seats, in a store as large as the one that was opened: whatever a crash leaves of it
+-- gives what was opened with their commits set over it, up to some record; and with all of them, where nothing was
+-- refused.
+pub record LeavesCommits {D : Type 0} (history : D
+    → History) (o : Opened) (device : D) (written : Result Unit Error) : Type 0 where
   pub geometry : GeometryValue
   pub pages : geometry.pages ≡ o.pages
   pub places : geometry.entries ≡ o.places
   pub seats : List SeatValue
   pub popped : List RecordValue
   pub floor : ℕ
-  pub some : (image : Image) → IsCrashImage (history device).disk image → ∥ GivesSome o geometry seats popped floor image ∥₁
+  pub some : (image : Image) → IsCrashImage (history device).disk image
+      → ∥ GivesSome o geometry seats popped floor image ∥₁
   pub all : OnOk written (HoldsAll o geometry seats (history device).disk)
 
 -- It is the same seat still. (No public clause cites this.)

@@ -24,7 +24,8 @@ use std::thread::{Threads, for_each_mut};
 
 /// Something that uses a store beside others, in a thread of its own with a seat of its own.
 pub trait Client {
-    /// What it does, once. It has the seat that it was given until it returns: so it is behind each call that takes the seat.
+    /// What it does, once. It has the seat that it was given until it returns: so it is behind each call that takes the
+    /// seat.
     fn work<B: Group, R: Wait>(&mut self, rt: &R, shared: &Shared<B>, seat: &mut Seat<B>)
         ensures { seat.new.number ≡ seat.old.number };
 }
@@ -35,19 +36,20 @@ pub struct Served<C, D> {
     /// The clients, as many as were given.
     pub clients: Vec<C>,
     pub device: D,
-    /// What `run_beside` told of the builder: the ticket of an index, where one was completed meanwhile; else why none was. (No clause
-    /// says more of it.)
+    /// What `run_beside` told of the builder: the ticket of an index, where one was completed meanwhile; else why none
+    /// was. (No clause says more of it.)
     pub built: Result<Ticket, Error>,
-    /// Why not all was written to the device, if so: what `finish` tells, which is `DeviceFailed` or `NoMemory`. (Here no clause says
-    /// so.)
+    /// Why not all was written to the device, if so: what `finish` tells, which is `DeviceFailed` or `NoMemory`. (Here
+    /// no clause says so.)
     pub written: Result<(), Error>,
 }
 
-/// Opens the store on the device, as `open_store` does, and runs the clients, each in a thread of its own, while others build the
-/// index, clean it and write to the device. When all clients have ended, all that they did is written out.
+/// Opens the store on the device, as `open_store` does, and runs the clients, each in a thread of its own, while others
+/// build the index, clean it and write to the device. When all clients have ended, all that they did is written out.
 ///
-/// Then a crash leaves what was opened with the commits of all seats set over it; where `written` tells a refusal, with those up to
-/// some record (`leaves`). (That a client is called, and which seats are whose, no clause says.) A transaction that a client left active is taken back when the store is opened again.
+/// Then a crash leaves what was opened with the commits of all seats set over it; where `written` tells a refusal, with
+/// those up to some record (`leaves`). (That a client is called, and which seats are whose, no clause says.) A
+/// transaction that a client left active is taken back when the store is opened again.
 ///
 /// The errors are those of `open_store`, and `NoMemory`. The device is given back then; a crash at any moment of
 /// the call leaves what one before could, or what gives the same (`refused`).
@@ -57,7 +59,8 @@ pub fn serve<C: Client + Send + Drop, D: Device + Send + Drop, R: Threads + Wait
     device: D,
     clients: Vec<C>,
 ) -> Result<Served<C, D>, (OpenError, D)>
-    ensures leaves { IfOk result (λ s. (o : Opened) × Opens (D.history device).disk.content o × LeavesCommits D.history o s.device s.written) }
+    ensures leaves { IfOk result (λ s. (o : Opened) × Opens (D.history device).disk.content o
+        × LeavesCommits D.history o s.device s.written) }
     ensures clients { IfOk result (λ s. vec_len s.clients ≡ vec_len clients) }
     ensures refused { IfErr result (λ r. IsNotShared D.history D.failures device r.1 r.0) }
 {
@@ -175,7 +178,8 @@ fn work_all<B: Group + Send + Sync, C: Client + Send, R: Threads + Wait + Sync>(
     mut desks: Vec<Desk<B, C>>,
 ) -> Vec<Desk<B, C>>
     ensures len { vec_len result ≡ vec_len desks }
-    ensures seats { (k : ℕ) (d : _) → k < vec_len desks → KeepsSeat (slice_index_or desks.items k d).seat (slice_index_or result.items k d).seat }
+    ensures seats { (k : ℕ) (d : _) → k < vec_len desks
+        → KeepsSeat (slice_index_or desks.items k d).seat (slice_index_or result.items k d).seat }
 {
     let threads = desks.len().max(1);
     for_each_mut(
@@ -208,7 +212,8 @@ fn run_all<
     build: BuildPart<B>,
 ) -> Ended<B, D, Vec<Desk<B, C>>>
     ensures len { vec_len result.clients ≡ vec_len desks }
-    ensures seats { (k : ℕ) (d : _) → k < vec_len desks → KeepsSeat (slice_index_or desks.items k d).seat (slice_index_or result.clients.items k d).seat }
+    ensures seats { (k : ℕ) (d : _) → k < vec_len desks
+        → KeepsSeat (slice_index_or desks.items k d).seat (slice_index_or result.clients.items k d).seat }
     ensures last { result.seat.number ≡ last.number }
 {
     run_beside(
@@ -220,7 +225,8 @@ fn run_all<
         &NoGate,
         move || -> Vec<Desk<B, C>>
             ensures len { vec_len result ≡ vec_len desks }
-            ensures seats { (k : ℕ) (d : _) → k < vec_len desks → KeepsSeat (slice_index_or desks.items k d).seat (slice_index_or result.items k d).seat }
+            ensures seats { (k : ℕ) (d : _) → k < vec_len desks
+                → KeepsSeat (slice_index_or desks.items k d).seat (slice_index_or result.items k d).seat }
         { work_all(rt, shared, desks) },
     )
 }

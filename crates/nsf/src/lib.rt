@@ -1,5 +1,5 @@
-//! A table with a secondary index that is built while transactions go on, and that survives a crash at any moment: all that a
-//! program names to use it, in one crate.
+//! A table with a secondary index that is built while transactions go on, and that survives a crash at any moment: all
+//! that a program names to use it, in one crate.
 //!
 //! # One thread
 //!
@@ -26,16 +26,23 @@
 //! }
 //! ```
 //!
-//! What `restart`, `run`, `serve`, `build_to_end` and `flush_all` promise is in their contracts. `granted` is the program's own: it makes
-//! an error of a reply that tells that nothing was done (`Refused`, `Skipped`, `LogFull`).
+//! What `restart`, `run`, `serve`, `build_to_end` and `flush_all` promise is in their contracts. `granted` is the
+//! program's own: it makes an error of a reply that tells that nothing was done (`Refused`, `Skipped`, `LogFull`).
 //!
 //! # Many threads
 //!
-//! Each client has a thread of its own and a seat of its own; other threads build the index, clean it and write to the device.
+//! Each client has a thread of its own and a seat of its own; other threads build the index, clean it and write to the
+//! device.
 //!
 //! ```
 //! impl Put {
-//!     fn put_in<B: Group, R: Wait>(&self, rt: &R, shared: &Shared<B>, seat: &mut Seat<B>, txn: Txn) -> Result<Ticket, Error>
+//!     fn put_in<B: Group, R: Wait>(
+//!         &self,
+//!         rt: &R,
+//!         shared: &Shared<B>,
+//!         seat: &mut Seat<B>,
+//!         txn: Txn,
+//!     ) -> Result<Ticket, Error>
 //!         ensures { seat.new.number ≡ seat.old.number }
 //!     {
 //!         let change = shared.insert_if_ready(rt, seat, txn, self.key, Body::new(b"")?)?;
@@ -74,17 +81,18 @@
 //! }
 //! ```
 //!
-//! A client's crate needs no proof of its own for the types that threads share: `serve` picks the group, and starts the threads. Where a
-//! client calls in a loop, the loop's invariant says that the seat is the same one, in a file `Invariants.antt` of the function:
+//! A client's crate needs no proof of its own for the types that threads share: `serve` picks the group, and starts the
+//! threads. Where a client calls in a loop, the loop's invariant says that the seat is the same one, in a file
+//! `Invariants.antt` of the function:
 //!
 //! ```antt
 //! abbrev pub invariant-loop-key : goal.invariant-loop-key
 //! invariant-loop-key g l = l.seat.number ≡ l.fn.seat.number
 //! ```
 //!
-//! A program that starts threads itself opens the store by `open_store`, or by `open_engine` where an engine served it before: nothing
-//! that the engine holds is lost. It calls a function that is generic in the group with `Brand`. It says in its `Invariants.antt` what
-//! the group's names are, as here for a function `work`:
+//! A program that starts threads itself opens the store by `open_store`, or by `open_engine` where an engine served it
+//! before: nothing that the engine holds is lost. It calls a function that is generic in the group with `Brand`. It
+//! says in its `Invariants.antt` what the group's names are, as here for a function `work`:
 //!
 //! ```antt
 //! abbrev pub ghosts-work : goal.ghosts-work
@@ -93,18 +101,20 @@
 //!
 //! That what is shared may go to other threads is `Rattle.nsf.proofs.Crosses.shared_sync`.
 //!
-//! A store of version 1 of the format is told as `OldVersion`. `old_geometry` tells its geometry. `migrate` moves it to another device,
-//! which has to have the sectors of that geometry in version 2 (`Geometry::sectors`), and opens it there.
+//! A store of version 1 of the format is told as `OldVersion`. `old_geometry` tells its geometry. `migrate` moves it to
+//! another device, which has to have the sectors of that geometry in version 2 (`Geometry::sectors`), and opens it
+//! there.
 //!
-//! What calls leave, and what may be opened again, laws say (`left_by_threads` and the others below). A program calls a law to cite it;
-//! the call does nothing.
+//! What calls leave, and what may be opened again, laws say (`left_by_threads` and the others below). A program calls a
+//! law to cite it; the call does nothing.
 //!
 //! # What is promised
 //!
-//! Of one thread: the contracts of `restart`, and above them `live_through` and `live_on` of `headline`. Of many: when all clients of `serve`
-//! have ended, a crash leaves what was opened with commits of some seats set over it, up to a record; all of them where nothing was
-//! refused (`leaves`). So it may be opened again (the law `left_by_threads`). As many clients come back as went in (`clients`).
-//! Only tested (`nsf_tests`): both examples. Neither: that a client is called, or that the commits are those of these clients.
+//! Of one thread: the contracts of `restart`, and above them `live_through` and `live_on` of `headline`. Of many: when
+//! all clients of `serve` have ended, a crash leaves what was opened with commits of some seats set over it, up to a
+//! record; all of them where nothing was refused (`leaves`). So it may be opened again (the law `left_by_threads`). As
+//! many clients come back as went in (`clients`). Only tested (`nsf_tests`): both examples. Neither: that a client is
+//! called, or that the commits are those of these clients.
 #![tactic(auto)]
 
 mod clients;

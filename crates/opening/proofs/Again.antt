@@ -17,7 +17,8 @@ use Rattle.opening.specs.Openings.{IsOpenable, Opens, OpensSoundly}
 
 -- an image gives one thing, of one geometry
 abbrev pub AnswersOne : Type 0
-AnswersOne = ((image : Image) (g h : GeometryValue) (x y : Given) → Gives image g x → Gives image h y → g ≡ h) × ((image : Image) (g h : GeometryValue) (x y : Given) → Gives image g x → Gives image h y → x ≡ y)
+AnswersOne = ((image : Image) (g h : GeometryValue) (x y : Given) → Gives image g x → Gives image h y → g ≡ h)
+    × ((image : Image) (g h : GeometryValue) (x y : Given) → Gives image g x → Gives image h y → x ≡ y)
 
 -- an image that gives something sound opens soundly
 pub gives_soundly : (image : Image) (g : GeometryValue) (given : Given) → Gives image g given → CanOpen (over g given) → OpensSoundly image
@@ -31,8 +32,10 @@ module _ (one : AnswersOne) where
   -- what a store opens with that opens soundly is sound
   sound_opening : (image : Image) (o : Opened) → Opens image o → OpensSoundly image → CanOpen o
   sound_opening image o opens soundly =
-      let sizes : soundly.opens.geometry ≡ opens.geometry = one.0 image soundly.opens.geometry opens.geometry soundly.opens.given opens.given soundly.opens.gives opens.gives in
-      let same : soundly.opens.given ≡ opens.given = one.1 image soundly.opens.geometry opens.geometry soundly.opens.given opens.given soundly.opens.gives opens.gives in
+      let sizes : soundly.opens.geometry ≡ opens.geometry =
+      one.0 image soundly.opens.geometry opens.geometry soundly.opens.given opens.given soundly.opens.gives opens.gives in
+      let same : soundly.opens.given ≡ opens.given =
+      one.1 image soundly.opens.geometry opens.geometry soundly.opens.given opens.given soundly.opens.gives opens.gives in
       subst CanOpen (sym opens.opened)
       (subst (λ (x : Given). CanOpen (over opens.geometry x)) same
       (subst (λ (h : GeometryValue). CanOpen (over h soundly.opens.given)) sizes
@@ -44,7 +47,8 @@ module _ (one : AnswersOne) where
 module _ (o : Opened) (g : GeometryValue) (image : Image) (pages : g.pages ≡ o.pages) (places : g.entries ≡ o.places) where
   again : (given : Given) → Gives image g given → CanOpen (record o { given = given }) → OpensSoundly image
   again given gives can = gives_soundly image g given gives
-      (subst (λ (n : ℕ). CanOpen (record { given = given; pages = g.pages; places = n })) (sym places) (subst (λ (n : ℕ). CanOpen (record { given = given; pages = n; places = o.places })) (sym pages) can))
+      (subst (λ (n : ℕ). CanOpen (record { given = given; pages = g.pages; places = n })) (sym places)
+      (subst (λ (n : ℕ). CanOpen (record { given = given; pages = n; places = o.places })) (sym pages) can))
 
   pub flushed_again : (handed : List RecordValue) (floor : ℕ) → CanOpen o → GivesBeginning o g handed floor image → IsOpenable image
   flushed_again handed floor can left = ∣ again (given_after o.given (take left.count handed)) left.gives (left.opens can) ∣₁
@@ -56,4 +60,5 @@ module _ (o : Opened) (g : GeometryValue) (image : Image) (pages : g.pages ≡ o
       by left =
           let so = left.shared.register.kept.replied in
           let made : List RecordValue = left.pushed ++ left.core.outbox in
-          again (given_after o.given (take left.count made)) left.gives (served_recovers o left.shared.opens made left.shared.register.kept.calls so.state so.standing so.served left.count left.most).1
+          again (given_after o.given (take left.count made)) left.gives
+          (served_recovers o left.shared.opens made left.shared.register.kept.calls so.state so.standing so.served left.count left.most).1

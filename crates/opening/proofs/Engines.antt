@@ -29,7 +29,8 @@ module _ (old new : CoreValue) (fresh : IsFresh old new) (can : CanOpen (held.op
   pub fresh_begins : IsJustOpened new
   fresh_begins = record {
     opens = subst CanOpen (sym fresh.same) can;
-    begins = subst (λ (o : Opened). BeginsWith o new) (sym fresh.same) (record { stands = fresh.stands; none_waits = ap (λ (v : CoreValue). v.outbox) fresh.made });
+    begins = subst (λ (o : Opened). BeginsWith o new) (sym fresh.same)
+        (record { stands = fresh.stands; none_waits = ap (λ (v : CoreValue). v.outbox) fresh.made });
   }
 
 module _ {D A : Type 0} (history : D → History) (o : Opened) (w : Writer D A) (is : IsSettled history o w) where

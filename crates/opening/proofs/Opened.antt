@@ -47,15 +47,18 @@ module _ {D A : Type 0} (history : D → History) (before : D) (engine : Parts D
   }
 
 -- what the core that was opened holds is what the store opened with
-held_is : {D A : Type 0} (history : D → History) (before : D) (engine : Parts D A) (is : IsOpened history before engine) (core : CoreValue) → core ≡ core_of engine → held.opened_of core ≡ over is.geometry is.given
+held_is : {D A : Type 0} (history : D → History) (before : D) (engine : Parts D A) (is : IsOpened history before engine) (core : CoreValue)
+    → core ≡ core_of engine → held.opened_of core ≡ over is.geometry is.given
 held_is history before engine is core same = ap held.opened_of (same ∙ is.core)
 
 -- the core was tested, and a core may begin with what it holds
-pub sound_opened : {D A : Type 0} (history : D → History) (before : D) (engine : Parts D A) (is : IsOpened history before engine) (core : CoreValue) → core ≡ core_of engine → CanOpen (held.opened_of core) → CanOpen (over is.geometry is.given)
+pub sound_opened : {D A : Type 0} (history : D → History) (before : D) (engine : Parts D A) (is : IsOpened history before engine) (core : CoreValue)
+    → core ≡ core_of engine → CanOpen (held.opened_of core) → CanOpen (over is.geometry is.given)
 sound_opened history before engine is core same can = subst CanOpen (held_is history before engine is core same) can
 
 -- the core was tested, and no core may begin with what it holds
-pub unsound_opened : {D A : Type 0} (history : D → History) (before : D) (engine : Parts D A) (is : IsOpened history before engine) (core : CoreValue) → core ≡ core_of engine → (CanOpen (held.opened_of core) → ⊥)
+pub unsound_opened : {D A : Type 0} (history : D → History) (before : D) (engine : Parts D A) (is : IsOpened history before engine) (core : CoreValue)
+    → core ≡ core_of engine → (CanOpen (held.opened_of core) → ⊥)
     → (failures : D → ℕ) (after : D) → after ≡ device_of engine → failures (device_of engine) ≡ failures before → IsUnsound history failures before after
 unsound_opened history before engine is core held_by cannot failures after same quiet = record {
   opened = over is.geometry is.given;
@@ -66,7 +69,8 @@ unsound_opened history before engine is core held_by cannot failures after same 
   quiet = ap failures same ∙ quiet;
 }
 
-module _ {D A : Type 0} (history : D → History) (before : D) (engine : Parts D A) (is : IsOpened history before engine) (emptied : IsEmptied history before engine)
+module _ {D A : Type 0} (history : D → History) (before : D) (engine : Parts D A) (is : IsOpened history before engine)
+    (emptied : IsEmptied history before engine)
     (can : CanOpen (over is.geometry is.given))
     (core : CoreValue) (w : Writer D A) (parts : ArePartsOf engine core w) (left : LeavesPartsOf history engine core w) where
   abbrev o : Opened
@@ -105,7 +109,8 @@ module _ {D A : Type 0} (history : D → History) (before : D) (engine : Parts D
 
   new_writer : IsNewWriter history o w
   new_writer = record {
-    writer = subst (λ (g : GeometryValue). IsWriter history (record { geometry = g; last = is.given.last; cells = opening_cells is.given; records = [] }) is.given.last w) (sym writes.geometry-is) writes;
+    writer = subst (λ (g : GeometryValue). IsWriter history
+        (record { geometry = g; last = is.given.last; cells = opening_cells is.given; records = [] }) is.given.last w) (sym writes.geometry-is) writes;
     pages = ap (λ (g : GeometryValue). g.pages) writes.geometry-is;
     places = ap (λ (g : GeometryValue). g.entries) writes.geometry-is;
     fits = can.fits.room;

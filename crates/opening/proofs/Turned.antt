@@ -19,7 +19,8 @@ module _ (one : AnswersOne) where
   written_openable : (before image : Image) → IsWrittenBack before image → IsOpenable before → IsOpenable image
   written_openable before image back openable =
       ∣ gives_soundly image back.geometry back.given back.gives
-      (sound_whole one before (over back.geometry back.given) openable (record { geometry = back.geometry; given = back.given; gives = back.gave; opened = refl })) ∣₁
+      (sound_whole one before (over back.geometry back.given) openable
+      (record { geometry = back.geometry; given = back.given; gives = back.gave; opened = refl })) ∣₁
 
   module _ {D : Type 0} (history : D → History) (before after : D) (turned : IsTurned history before after) where
     pub openable_back : IsOpenable (history before).disk.content → IsOpenable (history after).disk.content

@@ -46,8 +46,8 @@ IsOpenable image = ∥ OpensSoundly image ∥₁
 abbrev pub StaysOpenable : Disk → Type 0
 StaysOpenable disk = (image : Image) → IsCrashImage disk image → IsOpenable image
 
--- A flusher's part that has popped nothing: all that was opened is synced, and is published so, and the device has not failed. No slot
--- of the log is open, and no image is under way.
+-- A flusher's part that has popped nothing: all that was opened is synced, and is published so, and the device has not
+-- failed. No slot of the log is open, and no image is under way.
 pub record IsNewFlusher {D A : Type 0} (board : TableId) (o : Opened) (f : FlushValue D A) : Type 0 where
   pub handed : f.handed ≡ []
   pub held : f.held ≡ []
@@ -68,15 +68,16 @@ pub record IsNewWriter {D A : Type 0} (history : D → History) (o : Opened) (w 
   pub empty : (log_of w).open_slots ≡ 0
   pub idle : image_of w ≡ None
 
--- A store that is open, before its threads have it: what its seats, its queue, their table and its board are called, with what it
--- was opened with; and its device.
+-- A store that is open, before its threads have it: what its seats, its queue, their table and its board are called,
+-- with what it was opened with; and its device.
 pub record StoreValue (D : Type 0) : Type 0 where
   pub site : Names
   pub device : D
 
--- So many seats are open over what the device gave, which is sound, and was written back as a restart does it; no call of the device
--- failed.
-pub record IsOpenedOver {D : Type 0} (history : D → History) (failures : D → ℕ) (before : D) (count : ℕ) (s : StoreValue D) : Type 0 where
+-- So many seats are open over what the device gave, which is sound, and was written back as a restart does it; no call
+-- of the device failed.
+pub record IsOpenedOver {D : Type 0} (history : D → History) (failures : D
+    → ℕ) (before : D) (count : ℕ) (s : StoreValue D) : Type 0 where
   pub seats : s.site.seats ≡ count
   pub opened : Opens (history before).disk.content s.site.opened
   pub sound : CanOpen s.site.opened
@@ -84,8 +85,8 @@ pub record IsOpenedOver {D : Type 0} (history : D → History) (failures : D →
   pub synced : IsSynced (history s.device).disk
   pub quiet : failures s.device ≡ failures before
 
--- The store opens, but no core may begin with what it opens with. It was written back as a restart does it; no call of the device
--- failed, and all of the device is synced.
+-- The store opens, but no core may begin with what it opens with. It was written back as a restart does it; no call of
+-- the device failed, and all of the device is synced.
 pub record IsUnsound {D : Type 0} (history : D → History) (failures : D → ℕ) (before after : D) : Type 0 where
   pub opened : Opened
   pub opens : Opens (history before).disk.content opened
@@ -99,28 +100,33 @@ abbrev pub IsNotShared : {D : Type 0} → (D → History) → (D → ℕ) → D 
 IsNotShared history failures before after (Refused e) = IsNotOpened history failures before after e
 IsNotShared history failures before after Unsound = IsUnsound history failures before after
 
--- So many seats are open over what the engine held, with no transaction active: the same rows and entries, the index as far as it was,
--- after the same last record. It is sound, and all of it is synced: a crash of the device leaves what opens with it. A crash at any
--- moment of the call leaves a prefix of whatever run the engine served, with every record up to its horizon, and so with everything
--- acknowledged; no call of the device failed. No sector was written but those that a copy writes.
-pub record IsOpenedFrom {D A : Type 0} (history : D → History) (failures : D → ℕ) (engine : Parts D A) (count : ℕ) (s : StoreValue D) : Type 0 where
+-- So many seats are open over what the engine held, with no transaction active: the same rows and entries, the index as
+-- far as it was, after the same last record. It is sound, and all of it is synced: a crash of the device leaves what
+-- opens with it. A crash at any moment of the call leaves a prefix of whatever run the engine served, with every record
+-- up to its horizon, and so with everything acknowledged; no call of the device failed. No sector was written but those
+-- that a copy writes.
+pub record IsOpenedFrom {D A : Type 0} (history : D → History) (failures : D
+    → ℕ) (engine : Parts D A) (count : ℕ) (s : StoreValue D) : Type 0 where
   pub seats : s.site.seats ≡ count
   pub quiet : IsQuiet (core_of engine)
   pub opened : s.site.opened ≡ opened_of (core_of engine)
   pub sound : CanOpen s.site.opened
   pub stays : (image : Image) → IsCrashImage (history s.device).disk image → Opens image s.site.opened
-  pub survives : (past : Past A) → IsAt history past engine → LeavesOnly (history (device_of engine)) (history s.device) (Survives past (horizon_of engine))
+  pub survives : (past : Past A) → IsAt history past engine
+      → LeavesOnly (history (device_of engine)) (history s.device) (Survives past (horizon_of engine))
   pub well : failures s.device ≡ failures (device_of engine)
   pub around : WritesOnly history (InCopy (halves_of (writer_of engine))) (device_of engine) s.device
 
--- A transaction is active, and the engine is as it was. Or none is, and what the engine holds is sound: then there was no memory, and
--- it is as it was; or what it holds could not be written, and its run goes on.
+-- A transaction is active, and the engine is as it was. Or none is, and what the engine holds is sound: then there was
+-- no memory, and it is as it was; or what it holds could not be written, and its run goes on.
 abbrev pub IsRefusedFrom : {D A : Type 0} → (D → History) → (D → ℕ) → Parts D A → Parts D A → Error → Type 0
 IsRefusedFrom history failures old new e =
     ((e ≡ TxnsActive) × (IsQuiet (core_of old) → ⊥) × (new ≡ old))
-    ⊎ (IsQuiet (core_of old) × CanOpen (opened_of (core_of old)) × (((e ≡ NoMemory) × (new ≡ old)) ⊎ IsNotWritten history failures old new e))
+    ⊎ (IsQuiet (core_of old) × CanOpen (opened_of (core_of old))
+    × (((e ≡ NoMemory) × (new ≡ old)) ⊎ IsNotWritten history failures old new e))
 
 -- why no engine was shared; it is given back
 abbrev pub IsNotOpenedFrom : {D A : Type 0} → (D → History) → (D → ℕ) → Parts D A → Parts D A → OpenError → Type 0
 IsNotOpenedFrom history failures old new (Refused e) = IsRefusedFrom history failures old new e
-IsNotOpenedFrom history failures old new Unsound = IsQuiet (core_of old) × (CanOpen (opened_of (core_of old)) → ⊥) × (new ≡ old)
+IsNotOpenedFrom history failures old new Unsound = IsQuiet (core_of old) × (CanOpen (opened_of (core_of old)) → ⊥)
+    × (new ≡ old)

@@ -9,14 +9,14 @@ use restart::Engine;
 use sector_device::Device;
 use shared::{Memory, open};
 
-/// Opens the store of an engine that served, for so many threads with a seat each. The store opens with what the engine holds, and
-/// all of that is written as a whole image, with the records that weren't flushed; an image under way is given up. No sector is
-/// written but those that a copy writes (`opened`). Then commits are counted anew, and a build goes on above the pair checkpointed
-/// last, as behind a restart.
+/// Opens the store of an engine that served, for so many threads with a seat each. The store opens with what the engine
+/// holds, and all of that is written as a whole image, with the records that weren't flushed; an image under way is
+/// given up. No sector is written but those that a copy writes (`opened`). Then commits are counted anew, and a build
+/// goes on above the pair checkpointed last, as behind a restart.
 ///
-/// `TxnsActive` where a transaction is active; `Unsound` where a core may not begin with what the engine holds; `NoMemory`; and
-/// `DeviceFailed` as of a copy. With any of them the engine is given back, and its run goes on; it is as it was, but where what it
-/// holds could not be written (`refused`).
+/// `TxnsActive` where a transaction is active; `Unsound` where a core may not begin with what the engine holds;
+/// `NoMemory`; and `DeviceFailed` as of a copy. With any of them the engine is given back, and its run goes on; it is
+/// as it was, but where what it holds could not be written (`refused`).
 pub fn open_engine<D: Device, A: Memory>(
     alloc: A,
     engine: Engine<D, A>,

@@ -1,14 +1,14 @@
 //! A store that many threads have open.
 //!
-//! One call opens the store that a device holds, and gives what its threads need: what they share, a seat for each, the part of
-//! the thread that writes to the device, and the view of the one that builds the index.
+//! One call opens the store that a device holds, and gives what its threads need: what they share, a seat for each, the
+//! part of the thread that writes to the device, and the view of the one that builds the index.
 //!
-//! Proved: `open_store` opens a store as a restart does (`opened`), tells one that no core may begin with (`Unsound`), or refuses
-//! (`refused`). `open_engine` shares an engine that served: the store opens with what the engine holds, and no record up to
-//! its horizon is lost (`opened`); or the engine is given back (`refused`). What threads, or a crash within the opening, leave may be
-//! opened again (the laws `left_by_threads`, `left_by_an_opening`). `OpenStore::start` hands out new seats and a flusher's part with
-//! nothing popped (`seats`, `flush`).
-//! Neither: that `open_engine` doesn't read the device, and writes each sector once at most.
+//! Proved: `open_store` opens a store as a restart does (`opened`), tells one that no core may begin with (`Unsound`),
+//! or refuses (`refused`). `open_engine` shares an engine that served: the store opens with what the engine holds, and
+//! no record up to its horizon is lost (`opened`); or the engine is given back (`refused`). What threads, or a crash
+//! within the opening, leave may be opened again (the laws `left_by_threads`, `left_by_an_opening`). `OpenStore::start`
+//! hands out new seats and a flusher's part with nothing popped (`seats`, `flush`). Neither: that `open_engine` doesn't
+//! read the device, and writes each sector once at most.
 #![tactic(auto)]
 
 mod from_engine;

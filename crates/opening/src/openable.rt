@@ -21,18 +21,21 @@ use sector_device::Device;
 use std::alloc::Allocator;
 use store_reader::{format_gives_nothing, one_answer};
 
-/// Makes the device a store of this geometry, with no row, no index and no record, which may be opened; all of it is synced.
+/// Makes the device a store of this geometry, with no row, no index and no record, which may be opened; all of it is
+/// synced.
 ///
-/// `DeviceTooSmall` means that nothing was written. After `DeviceFailed`, and after a crash within the call, the device must be
-/// formatted again.
+/// `DeviceTooSmall` means that nothing was written. After `DeviceFailed`, and after a crash within the call, the device
+/// must be formatted again.
 pub fn format_store<D: Device>(device: &mut D, geometry: Geometry) -> Result<(), Error>
     ensures openable { OnOk result (IsOpenable (D.history device.new).disk.content) }
     ensures formatted { OnOk result (IsFormatted geometry (D.history device.new).disk.content) }
     ensures closed { OnOk result (AreGatesClosed geometry Half.A (D.history device.new).disk.content) }
     ensures synced { OnOk result (IsSynced (D.history device.new).disk) }
-    ensures too_small { (result ≡ Err Error.DeviceTooSmall) ↔ (length (D.history device.old).disk.content < sectors_of geometry) }
+    ensures too_small { (result ≡ Err Error.DeviceTooSmall)
+        ↔ (length (D.history device.old).disk.content < sectors_of geometry) }
     ensures unchanged { result ≡ Err Error.DeviceTooSmall → device.new ≡ device.old }
-    ensures refused { IfErr result (λ e. (e ≡ Error.DeviceTooSmall) ⊎ IsDeviceFailure (D.failures device.old) (D.failures device.new) e) }
+    ensures refused { IfErr result (λ e. (e ≡ Error.DeviceTooSmall)
+        ⊎ IsDeviceFailure (D.failures device.old) (D.failures device.new) e) }
     ensures quiet { OnOk result (D.failures device.new ≡ D.failures device.old) }
     ensures later { D.failures device.old ≤ D.failures device.new }
 {
@@ -44,8 +47,8 @@ pub fn format_store<D: Device>(device: &mut D, geometry: Geometry) -> Result<(),
     }
 }
 
-/// A law: of a device that may be opened, whatever the store opens with is sound: so `open_store` doesn't answer `Unsound`. And one
-/// that opens with something sound may be opened.
+/// A law: of a device that may be opened, whatever the store opens with is sound: so `open_store` doesn't answer
+/// `Unsound`. And one that opens with something sound may be opened.
 pub fn sound_or_not()
     ensures sound { (image : Image) (o : Opened) → IsOpenable image → Opens image o → CanOpen o }
     ensures openable { (image : Image) (o : Opened) → Opens image o → CanOpen o → IsOpenable image }
@@ -58,21 +61,28 @@ pub fn left_by_a_run<A: Allocator>()
     ensures { (past : Past A) (floor : ℕ) (image : Image) → Survives past floor image → IsOpenable image }
 {}
 
-/// A law: what a crash left of a store that threads write may be opened again, while the flusher writes (`flushed`, of what `flusher`
-/// and `loops` leave) and at the end (`ended`, of what `finish` leaves, whatever it answers).
+/// A law: what a crash left of a store that threads write may be opened again, while the flusher writes (`flushed`, of
+/// what `flusher` and `loops` leave) and at the end (`ended`, of what `finish` leaves, whatever it answers).
 pub fn left_by_threads()
-    ensures flushed { (o : Opened) (g : GeometryValue) (handed : List RecordValue) (floor : ℕ) (image : Image) → CanOpen o → g.pages ≡ o.pages → g.entries ≡ o.places → GivesBeginning o g handed floor image → IsOpenable image }
-    ensures ended { (o : Opened) (g : GeometryValue) (seats : List SeatValue) (popped : List RecordValue) (floor : ℕ) (image : Image) → g.pages ≡ o.pages → g.entries ≡ o.places → ∥ GivesSome o g seats popped floor image ∥₁ → IsOpenable image }
+    ensures flushed { (o : Opened) (g : GeometryValue) (handed : List RecordValue) (floor : ℕ) (image : Image)
+        → CanOpen o → g.pages ≡ o.pages → g.entries ≡ o.places → GivesBeginning o g handed floor image
+        → IsOpenable image }
+    ensures ended { (o : Opened) (g : GeometryValue) (seats : List SeatValue) (popped : List RecordValue) (floor : ℕ)
+        (image : Image) → g.pages ≡ o.pages → g.entries ≡ o.places → ∥ GivesSome o g seats popped floor image ∥₁
+        → IsOpenable image }
 {}
 
-/// A law: where whatever a crash leaves of a device may be opened, so may whatever one leaves at any moment of an `open_store` of it
-/// (`crashes`), and of the device behind the call (`behind`), whatever that answers: the device is what `opened` and `refused` of
-/// `open_store` tell of. One that comes back may be opened at once, if it could be before (`back`). Where all of a device is synced, a
-/// crash leaves what it holds (`synced`).
+/// A law: where whatever a crash leaves of a device may be opened, so may whatever one leaves at any moment of an
+/// `open_store` of it (`crashes`), and of the device behind the call (`behind`), whatever that answers: the device is
+/// what `opened` and `refused` of `open_store` tell of. One that comes back may be opened at once, if it could be
+/// before (`back`). Where all of a device is synced, a crash leaves what it holds (`synced`).
 pub fn left_by_an_opening<D: Device>()
-    ensures crashes { (before after : _) → StaysOpenable (D.history before).disk → IsTurned D.history before after → LeavesOnly (D.history before) (D.history after) IsOpenable }
-    ensures behind { (before after : _) → StaysOpenable (D.history before).disk → IsTurned D.history before after → StaysOpenable (D.history after).disk }
-    ensures back { (before after : _) → IsOpenable (D.history before).disk.content → IsTurned D.history before after → IsOpenable (D.history after).disk.content }
+    ensures crashes { (before after : _) → StaysOpenable (D.history before).disk → IsTurned D.history before after
+        → LeavesOnly (D.history before) (D.history after) IsOpenable }
+    ensures behind { (before after : _) → StaysOpenable (D.history before).disk → IsTurned D.history before after
+        → StaysOpenable (D.history after).disk }
+    ensures back { (before after : _) → IsOpenable (D.history before).disk.content → IsTurned D.history before after
+        → IsOpenable (D.history after).disk.content }
     ensures synced { (disk : Disk) → IsSynced disk → IsOpenable disk.content → StaysOpenable disk }
 {
     one_answer();

@@ -16,12 +16,14 @@ use shared::{Group, Memory, Shared, open};
 
 /// Opens the store on the device, as `restart` does, for so many threads with a seat each.
 ///
-/// Any store may be opened so. What it opens with is tested: where a core may not begin with it, the answer is `Unsound`, and
-/// nothing is lost. A device that was formatted, and then written by this engine, or by threads over it, or by an opening that was
-/// cut off, is never answered so (`format_store`, `left_by_a_run`, `left_by_threads`, `left_by_an_opening`, `sound_or_not`).
+/// Any store may be opened so. What it opens with is tested: where a core may not begin with it, the answer is
+/// `Unsound`, and nothing is lost. A device that was formatted, and then written by this engine, or by threads over it,
+/// or by an opening that was cut off, is never answered so (`format_store`, `left_by_a_run`, `left_by_threads`,
+/// `left_by_an_opening`, `sound_or_not`).
 ///
-/// The other errors are those of `restart`, and `NoMemory`. With any error the device is given back, and gives what it gave; a crash
-/// at any moment of the call leaves what one before could, or what gives the same (`refused`). So it may be opened again.
+/// The other errors are those of `restart`, and `NoMemory`. With any error the device is given back, and gives what it
+/// gave; a crash at any moment of the call leaves what one before could, or what gives the same (`refused`). So it may
+/// be opened again.
 pub fn open_store<D: Device, A: Memory>(
     alloc: A,
     device: D,
@@ -52,9 +54,9 @@ pub fn open_store<D: Device, A: Memory>(
 }
 
 impl<D: Device, A: Memory> OpenStore<D, A> {
-    /// What the threads share, and what each of them has: new seats, each at its number; the part of the flusher, which has popped
-    /// nothing, over the device with all of it synced, an empty log and no image under way; and the builder's part. The board begins
-    /// at what is synced.
+    /// What the threads share, and what each of them has: new seats, each at its number; the part of the flusher, which
+    /// has popped nothing, over the device with all of it synced, an empty log and no image under way; and the
+    /// builder's part. The board begins at what is synced.
     ///
     /// The one error is `NoMemory`, and the device is given back then, as it is.
     pub fn start<B: Group>(self) -> Result<(Shared<B, A>, Parts<B, D, A>), (Error, D)>

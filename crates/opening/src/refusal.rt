@@ -7,7 +7,8 @@ pub enum OpenError {
     /// The restart was refused, or there was no memory behind it.
     #[error("{0}")]
     Refused(#[from] Error),
-    /// The store opens, but is not sound: its index doesn't fit its rows. Nothing of it was lost, and `restart` opens it.
+    /// The store opens, but is not sound: its index doesn't fit its rows. Nothing of it was lost, and `restart` opens
+    /// it.
     #[error("Unsound")]
     Unsound,
 }

@@ -31,5 +31,6 @@ impl<D: Device, A: Memory> Model for OpenStore<D, A> {
 
     ghost view = { λ s. record { site = names_of s.opening; device = device_of s.writer } };
 
-    ghost invariant = { λ s. IsOpening (length s.opening.book.items) s.opening × IsJustOpened (value_of s.opening.core) × IsNewWriter D.history (opened_of (value_of s.opening.core)) s.writer };
+    ghost invariant = { λ s. IsOpening (length s.opening.book.items) s.opening × IsJustOpened (value_of s.opening.core)
+        × IsNewWriter D.history (opened_of (value_of s.opening.core)) s.writer };
 }

@@ -1,5 +1,6 @@
 -- The commits of all sessions, and what they did to the index, as one of these changes.
-use Rattle.std.proofs.Common.{◌≡◌, ◌≢◌, ◌+◌, ◌<◌, ℕ, Bool, true, false, cond, eqb, eq-eqb, ne_eqb, List, [], ◌∷◌, ◌++◌, length, Some, inl, inr, refl, sym, ap, ◌∙◌, subst, arith}
+use Rattle.std.proofs.Common.{◌≡◌, ◌≢◌, ◌+◌, ◌<◌, ℕ, Bool, true, false, cond, eqb, eq-eqb, ne_eqb, List, [], ◌∷◌, ◌++◌, length, Some, inl, inr, refl, sym, ap}
+use Rattle.std.proofs.Common.{◌∙◌, subst, arith}
 use Rattle.std.proofs.lemmas.Bool.{cases_eq}
 use Rattle.std.proofs.lemmas.List.{length-append}
 use Rattle.std.specs.Prelude.{slice_get, slice_set}
@@ -15,7 +16,8 @@ made_by_more : {A : Type 0} (k : ℕ) (all : List (ℕ × A)) (c : A) → made_b
 made_by_more k [] c = ap (λ b. cond b (c ∷ []) []) (eq-eqb k k refl)
 made_by_more k (e ∷ es) c = by (eqb k e.0) (made_by_more k es c)
   where
-    by : (b : Bool) → made_by k (es ++ (k, c) ∷ []) ≡ made_by k es ++ c ∷ [] → cond b (e.1 ∷ made_by k (es ++ (k, c) ∷ [])) (made_by k (es ++ (k, c) ∷ [])) ≡ cond b (e.1 ∷ made_by k es) (made_by k es) ++ c ∷ []
+    by : (b : Bool) → made_by k (es ++ (k, c) ∷ []) ≡ made_by k es ++ c ∷ []
+        → cond b (e.1 ∷ made_by k (es ++ (k, c) ∷ [])) (made_by k (es ++ (k, c) ∷ [])) ≡ cond b (e.1 ∷ made_by k es) (made_by k es) ++ c ∷ []
     by true rest = ap (λ l. e.1 ∷ l) rest
     by false rest = rest
 
@@ -23,7 +25,8 @@ made_by_other : {A : Type 0} (j k : ℕ) (all : List (ℕ × A)) (c : A) → j �
 made_by_other j k [] c apart = ap (λ b. cond b (c ∷ []) []) (ne_eqb j k apart)
 made_by_other j k (e ∷ es) c apart = ap (λ l. cond (eqb j e.0) (e.1 ∷ l) l) (made_by_other j k es c apart)
 
-pub numbered_more : (n m : ℕ) (commits : Commits) (e : ℕ × CommitValue) → AreNumbered n commits → m ≡ n + length commits → e.1.ticket.commit ≡ Some m → AreNumbered n (commits ++ e ∷ [])
+pub numbered_more : (n m : ℕ) (commits : Commits) (e : ℕ × CommitValue) → AreNumbered n commits → m ≡ n + length commits → e.1.ticket.commit ≡ Some m
+    → AreNumbered n (commits ++ e ∷ [])
 numbered_more n m [] e h is number = let same : m ≡ n = omega (arith, is) in (number ∙ ap (λ (x : ℕ). Some x) same, tt)
 numbered_more n m (x ∷ xs) e h is number = (h.0, numbered_more (n + 1) m xs e h.1 (omega (arith, is)) number)
 
@@ -33,7 +36,8 @@ by_seats_more n (x ∷ xs) e h lt = (h.0, by_seats_more n xs e h.1 lt)
 
 -- ---- one session changes
 
-module _ {A : Type 0} (f : SessionValue → List A) (book : List SessionValue) (all : List (ℕ × A)) (in_sessions : (seat : ℕ) (session : SessionValue) → slice_get book seat ≡ Some session → f session ≡ made_by seat all)
+module _ {A : Type 0} (f : SessionValue → List A) (book : List SessionValue) (all : List (ℕ × A)) (in_sessions : (seat : ℕ) (session : SessionValue)
+    → slice_get book seat ≡ Some session → f session ≡ made_by seat all)
     (k : ℕ) (p : SessionValue) (there : slice_get book k ≡ Some p) where
   within : k < length book
   within = get_within book k p there
@@ -41,13 +45,15 @@ module _ {A : Type 0} (f : SessionValue → List A) (book : List SessionValue) (
   its : (new session : SessionValue) (j : ℕ) → j ≡ k → slice_get (slice_set book k new) j ≡ Some session → new ≡ session
   its new session j is at = some_is new session (sym (get_set book k new within) ∙ (ap (slice_get (slice_set book k new)) (sym is) ∙ at))
 
-  pub stays_in : (new : SessionValue) → f new ≡ f p → (j : ℕ) (session : SessionValue) → slice_get (slice_set book k new) j ≡ Some session → f session ≡ made_by j all
+  pub stays_in : (new : SessionValue) → f new ≡ f p → (j : ℕ) (session : SessionValue) → slice_get (slice_set book k new) j ≡ Some session
+      → f session ≡ made_by j all
   stays_in new same j session at = elim (cases_eq j k) [
     | inl is ↦ ap f (sym (its new session j is at)) ∙ (same ∙ (in_sessions k p there ∙ ap (λ n. made_by n all) (sym is)))
     | inr not ↦ in_sessions j session (sym (get_set_other book k j new not) ∙ at)
   ]
 
-  pub more_in : (new : SessionValue) (c : A) → f new ≡ f p ++ c ∷ [] → (j : ℕ) (session : SessionValue) → slice_get (slice_set book k new) j ≡ Some session → f session ≡ made_by j (all ++ (k, c) ∷ [])
+  pub more_in : (new : SessionValue) (c : A) → f new ≡ f p ++ c ∷ [] → (j : ℕ) (session : SessionValue) → slice_get (slice_set book k new) j ≡ Some session
+      → f session ≡ made_by j (all ++ (k, c) ∷ [])
   more_in new c more j session at = elim (cases_eq j k) [
     | inl is ↦
         ap f (sym (its new session j is at))
@@ -64,9 +70,17 @@ module _ {A : Type 0} (f : SessionValue → List A) (book : List SessionValue) (
 -- ---- the commits
 
 pub begins : (book : List SessionValue) → AreEmpty book → AreAllCommits book 0
-begins book empty = record { commits = []; numbered = tt; counted = refl; by_seats = tt; in_sessions = λ seat session at. ap (λ (s : SessionValue). s.commits) (empty seat session at) }
+begins book empty = record {
+  commits = [];
+  numbered = tt;
+  counted = refl;
+  by_seats = tt;
+  in_sessions = λ seat session at.
+      ap (λ (s : SessionValue). s.commits) (empty seat session at);
+}
 
-pub stays : (book : List SessionValue) (count : ℕ) → AreAllCommits book count → (seat : ℕ) (session new : SessionValue) → slice_get book seat ≡ Some session → new.commits ≡ session.commits → AreAllCommits (slice_set book seat new) count
+pub stays : (book : List SessionValue) (count : ℕ) → AreAllCommits book count → (seat : ℕ) (session new : SessionValue) → slice_get book seat ≡ Some session
+    → new.commits ≡ session.commits → AreAllCommits (slice_set book seat new) count
 stays book count all seat session new there same = record {
   commits = all.commits;
   numbered = all.numbered;
@@ -75,7 +89,8 @@ stays book count all seat session new there same = record {
   in_sessions = stays_in (λ (s : SessionValue). s.commits) book all.commits all.in_sessions seat session there new same;
 }
 
-pub commits : (book : List SessionValue) (count : ℕ) → AreAllCommits book count → (seat : ℕ) (session : SessionValue) → slice_get book seat ≡ Some session → (txn : ℕ) (ticket : Ticket) → ticket.commit ≡ Some (count + 1)
+pub commits : (book : List SessionValue) (count : ℕ) → AreAllCommits book count → (seat : ℕ) (session : SessionValue) → slice_get book seat ≡ Some session
+    → (txn : ℕ) (ticket : Ticket) → ticket.commit ≡ Some (count + 1)
     → AreAllCommits (slice_set book seat (committed session txn ticket)) (count + 1)
 commits book count all seat session there txn ticket number =
     let c : CommitValue = record { ticket = ticket; writes = rows_of txn session.active } in

@@ -1,5 +1,6 @@
 -- Lookups in lists of sessions, of transactions and of rows.
-use Rattle.std.proofs.Common.{◌≡◌, ◌≢◌, ℕ, ◌<◌, Bool, true, false, cond, eqb, eq-eqb, ne_eqb, List, [], ◌∷◌, ◌++◌, length, Option, Some, None, filter, not, ◌&&◌, ◌==◌, refl, sym, ap, ◌∙◌, arith, zero, suc}
+use Rattle.std.proofs.Common.{◌≡◌, ◌≢◌, ℕ, ◌<◌, Bool, true, false, cond, eqb, eq-eqb, ne_eqb, List, [], ◌∷◌, ◌++◌, length, Option, Some, None, filter, not}
+use Rattle.std.proofs.Common.{◌&&◌, ◌==◌, refl, sym, ap, ◌∙◌, arith, zero, suc}
 use Rattle.std.proofs.lemmas.Bool.{eqb-true}
 use Rattle.std.specs.FinMap.{get}
 use Rattle.std.specs.Option.{option_map}
@@ -49,7 +50,8 @@ pub new_own : (t : ℕ) (xs : List ActiveValue) → active_of t xs ≡ None → 
 new_own t [] none = ap (λ b. cond b (Some (new_active t)) None) (eq-eqb t t refl)
 new_own t (x ∷ xs) none = by (eqb t x.txn) none (new_own t xs)
   where
-    by : (b : Bool) → cond b (Some x) (active_of t xs) ≡ None → (active_of t xs ≡ None → active_of t (xs ++ new_active t ∷ []) ≡ Some (new_active t)) → cond b (Some x) (active_of t (xs ++ new_active t ∷ [])) ≡ Some (new_active t)
+    by : (b : Bool) → cond b (Some x) (active_of t xs) ≡ None → (active_of t xs ≡ None → active_of t (xs ++ new_active t ∷ []) ≡ Some (new_active t))
+        → cond b (Some x) (active_of t (xs ++ new_active t ∷ [])) ≡ Some (new_active t)
     by true h rest = absurd cc
     by false h rest = rest h
 
@@ -67,7 +69,8 @@ module _ (f : ActiveValue → ActiveValue) (keeps : (a : ActiveValue) → (f a).
   with_own [] = refl
   with_own (x ∷ xs) = by (eqb t x.txn) refl (with_own xs)
     where
-      by : (b : Bool) → eqb t x.txn ≡ b → active_of t (with_active f t xs) ≡ option_map f (active_of t xs) → active_of t (cond b (f x ∷ xs) (x ∷ with_active f t xs)) ≡ option_map f (cond b (Some x) (active_of t xs))
+      by : (b : Bool) → eqb t x.txn ≡ b → active_of t (with_active f t xs) ≡ option_map f (active_of t xs)
+          → active_of t (cond b (f x ∷ xs) (x ∷ with_active f t xs)) ≡ option_map f (cond b (Some x) (active_of t xs))
       by true same rest = ap (λ n. cond (eqb t n) (Some (f x)) (active_of t xs)) (keeps x) ∙ ap (λ b. cond b (Some (f x)) (active_of t xs)) same
       by false same rest = ap (λ b. cond b (Some x) (active_of t (with_active f t xs))) same ∙ rest
 
@@ -75,7 +78,8 @@ module _ (f : ActiveValue → ActiveValue) (keeps : (a : ActiveValue) → (f a).
   with_other u [] apart = refl
   with_other u (x ∷ xs) apart = by (eqb t x.txn) (eqb-true t x.txn) (with_other u xs apart)
     where
-      by : (b : Bool) → (b ≡ true → t ≡ x.txn) → active_of u (with_active f t xs) ≡ active_of u xs → active_of u (cond b (f x ∷ xs) (x ∷ with_active f t xs)) ≡ cond (eqb u x.txn) (Some x) (active_of u xs)
+      by : (b : Bool) → (b ≡ true → t ≡ x.txn) → active_of u (with_active f t xs) ≡ active_of u xs
+          → active_of u (cond b (f x ∷ xs) (x ∷ with_active f t xs)) ≡ cond (eqb u x.txn) (Some x) (active_of u xs)
       by true same rest =
           let no : eqb u x.txn ≡ false = ne_eqb u x.txn (λ e. apart (e ∙ sym (same refl))) in
           ap (λ n. cond (eqb u n) (Some (f x)) (active_of u xs)) (keeps x)
@@ -94,7 +98,8 @@ pub without_other : (u t : ℕ) (xs : List ActiveValue) → u ≢ t → active_o
 without_other u t [] apart = refl
 without_other u t (x ∷ xs) apart = by (eqb t x.txn) (eqb-true t x.txn) (without_other u t xs apart)
   where
-    by : (b : Bool) → (b ≡ true → t ≡ x.txn) → active_of u (without t xs) ≡ active_of u xs → active_of u (cond (not b) (x ∷ without t xs) (without t xs)) ≡ cond (eqb u x.txn) (Some x) (active_of u xs)
+    by : (b : Bool) → (b ≡ true → t ≡ x.txn) → active_of u (without t xs) ≡ active_of u xs
+        → active_of u (cond (not b) (x ∷ without t xs) (without t xs)) ≡ cond (eqb u x.txn) (Some x) (active_of u xs)
     by true same rest = rest ∙ sym (ap (λ b. cond b (Some x) (active_of u xs)) (ne_eqb u x.txn (λ e. apart (e ∙ sym (same refl)))))
     by false same rest = ap (cond (eqb u x.txn) (Some x)) rest
 
@@ -134,7 +139,8 @@ pub row_set : (w : Write) (ws : List Write) → row_at w.rid (with_write w ws) �
 row_set w [] = ap (λ b. cond b (Some w.row) None) (itself w.rid)
 row_set w (v ∷ ws) = by (is_at w.rid v) refl (row_set w ws)
   where
-    by : (b : Bool) → is_at w.rid v ≡ b → row_at w.rid (with_write w ws) ≡ Some w.row → row_at w.rid (cond (not b) (v ∷ filter (λ x. not (is_at w.rid x)) ws) (filter (λ x. not (is_at w.rid x)) ws) ++ w ∷ []) ≡ Some w.row
+    by : (b : Bool) → is_at w.rid v ≡ b → row_at w.rid (with_write w ws) ≡ Some w.row
+        → row_at w.rid (cond (not b) (v ∷ filter (λ x. not (is_at w.rid x)) ws) (filter (λ x. not (is_at w.rid x)) ws) ++ w ∷ []) ≡ Some w.row
     by true e rest = rest
     by false e rest = ap (λ b. cond b (Some v.row) (row_at w.rid (with_write w ws))) e ∙ rest
 
@@ -142,16 +148,20 @@ pub row_apart : (q : Place) (w : Write) (ws : List Write) → q ≢ w.rid → ro
 row_apart q w [] apart = ap (λ b. cond b (Some w.row) None) (not_same q w.rid apart)
 row_apart q w (v ∷ ws) apart = by (is_at w.rid v) refl (row_apart q w ws apart)
   where
-    by : (b : Bool) → is_at w.rid v ≡ b → row_at q (with_write w ws) ≡ row_at q ws → row_at q (cond (not b) (v ∷ filter (λ x. not (is_at w.rid x)) ws) (filter (λ x. not (is_at w.rid x)) ws) ++ w ∷ []) ≡ cond (is_at q v) (Some v.row) (row_at q ws)
+    by : (b : Bool) → is_at w.rid v ≡ b → row_at q (with_write w ws) ≡ row_at q ws
+        → row_at q (cond (not b) (v ∷ filter (λ x. not (is_at w.rid x)) ws) (filter (λ x. not (is_at w.rid x)) ws) ++ w ∷ [])
+        ≡ cond (is_at q v) (Some v.row) (row_at q ws)
     by true e rest = rest ∙ sym (ap (λ b. cond b (Some v.row) (row_at q ws)) (not_same q v.rid (λ is. apart (is ∙ sym (same_place w.rid v.rid e)))))
     by false e rest = ap (cond (is_at q v) (Some v.row)) rest
 
 -- the rows read anew
-pub row_again : (core : CoreValue) (q : Place) (ws : List Write) → row_at q (rows_now core ws) ≡ option_map (λ (r : Option Row). get core.heap.rows q) (row_at q ws)
+pub row_again : (core : CoreValue) (q : Place) (ws : List Write)
+    → row_at q (rows_now core ws) ≡ option_map (λ (r : Option Row). get core.heap.rows q) (row_at q ws)
 row_again core q [] = refl
 row_again core q (w ∷ ws) = by (is_at q w) (same_place q w.rid) (row_again core q ws)
   where
     by : (b : Bool) → (b ≡ true → q ≡ w.rid) → row_at q (rows_now core ws) ≡ option_map (λ (r : Option Row). get core.heap.rows q) (row_at q ws)
-        → cond b (Some (get core.heap.rows w.rid)) (row_at q (rows_now core ws)) ≡ option_map (λ (r : Option Row). get core.heap.rows q) (cond b (Some w.row) (row_at q ws))
+        → cond b (Some (get core.heap.rows w.rid)) (row_at q (rows_now core ws))
+        ≡ option_map (λ (r : Option Row). get core.heap.rows q) (cond b (Some w.row) (row_at q ws))
     by true same rest = ap (λ (r : Place). Some (get core.heap.rows r)) (sym (same refl))
     by false same rest = rest

@@ -16,7 +16,8 @@ use Rattle.core_model.specs.Changes.{Changes, Unchanged, new_pair, old_pair, ◌
 use Rattle.core_model.specs.Histories.{write_of}
 use Rattle.core_model.specs.Invariants.{Invariant, IsHolderOf, IsWellFormed}
 use Rattle.core_model.specs.States.{Active, Made, NewMarked, OldMarked, OldSet, Phase, RowSet, State}
-use Rattle.core_model.specs.Steps.{Begin, CanStart, Next, Start, Undo, after, carried_on, freed, is_indexed, left, new_txn, row_made, row_undone, started, txn_at, undoing, undone, undone_first, update, with_change, with_phase, without_newest}
+use Rattle.core_model.specs.Steps.{Begin, CanStart, Next, Start, Undo, after, carried_on, freed, is_indexed, left, new_txn, row_made, row_undone, started}
+use Rattle.core_model.specs.Steps.{txn_at, undoing, undone, undone_first, update, with_change, with_phase, without_newest}
 use Rattle.nsf_core.specs.View.{CoreValue}
 use Rattle.sessions.specs.Steps.{row_now, rows_now}
 use Rattle.sessions.specs.Values.{ActiveValue, new_active, with_write}
@@ -27,11 +28,13 @@ agree_at : (s : State) (t : ℕ) (a : ActiveValue) (y : Active) (o : Option Acti
 agree_at s t a y o is h = subst (Agree s t (Some a)) (sym is) h
 
 -- a row of the transaction is nothing to another
-row_elsewhere : (s : State) (t u : ℕ) (r : Place) (row : Option Row) → s.holder r ≡ Some t → u ≢ t → (q : Place) → row_held u (s.holder q) (get (set_at s.rows r row) q) ≡ row_held u (s.holder q) (get s.rows q)
+row_elsewhere : (s : State) (t u : ℕ) (r : Place) (row : Option Row) → s.holder r ≡ Some t → u ≢ t → (q : Place)
+    → row_held u (s.holder q) (get (set_at s.rows r row) q) ≡ row_held u (s.holder q) (get s.rows q)
 row_elsewhere s t u r row holds apart q = elim (rid_decided q r) [
   | inl is ↦
       let mine : s.holder q ≡ Some t = ap s.holder is ∙ holds in
-      held_neither u t (s.holder q) (get (set_at s.rows r row) q) (get s.rows q) apart (inr mine) ∙ sym (held_neither u t (s.holder q) (get s.rows q) (get s.rows q) apart (inr mine))
+      held_neither u t (s.holder q) (get (set_at s.rows r row) q) (get s.rows q) apart (inr mine)
+      ∙ sym (held_neither u t (s.holder q) (get s.rows q) (get s.rows q) apart (inr mine))
   | inr not ↦ ap (row_held u (s.holder q)) (get-set_at_other rid_exact s.rows r row q not)
 ]
 
@@ -45,7 +48,8 @@ module _ (s : State) (holds : Invariant s) (t : ℕ) (none : s.txns t ≡ None) 
       not_both both = absurd cc
 
   pub begin_own : Agree (after s (Begin t)) t (Some (new_active t)) ((after s (Begin t)).txns t)
-  begin_own = agree_at (after s (Begin t)) t (new_active t) new_txn ((after s (Begin t)).txns t) (txn_here s t new_txn) (seen_new (after s (Begin t)) t new_txn free refl refl)
+  begin_own = agree_at (after s (Begin t)) t (new_active t) new_txn ((after s (Begin t)).txns t) (txn_here s t new_txn)
+      (seen_new (after s (Begin t)) t new_txn free refl refl)
 
 -- ---- the first step of a change
 
@@ -91,7 +95,8 @@ module _ (s : State) (t : ℕ) (c : ChangeValue) (can : CanStart s t c) where
   start_others u apart q = elim (rid_decided q c.rid) [
     | inl is ↦
         held_neither u t (then.holder q) (get then.rows q) (get then.rows q) apart (inr (ap then.holder is ∙ held_now))
-        ∙ sym (held_neither u t (s.holder q) (get s.rows q) (get s.rows q) apart (subst (λ (o : Option ℕ). (o ≡ None) ⊎ (o ≡ Some t)) (ap s.holder (sym is)) can.mine))
+        ∙ sym (held_neither u t (s.holder q) (get s.rows q) (get s.rows q) apart
+        (subst (λ (o : Option ℕ). (o ≡ None) ⊎ (o ≡ Some t)) (ap s.holder (sym is)) can.mine))
     | inr not ↦ same_apart u q not
   ]
 
@@ -113,7 +118,8 @@ module _ (s : State) (t : ℕ) (fit : IsWellFormed s) (active : s.txns t ≡ Som
   names : IsHolderOf s.holder t it.changes
   names = (fit.txns t it active).names
 
-  carried_txn : (cs : Changes) (phase : Phase) → (y : Active) × ((carried_on s t it cs phase).txns t ≡ Some y) × (y.changes ≡ it.changes) × (y.rolling ≡ it.rolling)
+  carried_txn : (cs : Changes) (phase : Phase) → (y : Active) × ((carried_on s t it cs phase).txns t ≡ Some y) × (y.changes ≡ it.changes)
+      × (y.rolling ≡ it.rolling)
   carried_txn Unchanged phase = (it, active, refl, refl)
   carried_txn (older ▹ c) OldMarked = let y : Active = with_phase it (row_made (new_pair (is_indexed s.life) c)) in (y, txn_here s t y, refl, refl)
   carried_txn (older ▹ c) RowSet = let y : Active = with_phase it Made in (y, txn_here s t y, refl, refl)
@@ -172,19 +178,23 @@ module _ (s : State) (t : ℕ) (fit : IsWellFormed s) (active : s.txns t ≡ Som
   gone_rolls older None = refl
   gone_rolls older (Some p) = refl
 
-  first_txn : (c : ChangeValue) (older : Changes) (applied : Bool) (o : Option Pair) → (y : Active) × ((undone_first s t it c older applied o).txns t ≡ Some y) × (y.rolling ≡ true)
+  first_txn : (c : ChangeValue) (older : Changes) (applied : Bool) (o : Option Pair) → (y : Active) × ((undone_first s t it c older applied o).txns t ≡ Some y)
+      × (y.rolling ≡ true)
   first_txn c older applied (Some p) = let y : Active = undoing it (NewMarked applied) in (y, txn_here s t y, refl)
-  first_txn c older applied None = let y : Active = row_gone older (old_pair (is_indexed s.life) c) in (y, txn_here s t y, gone_rolls older (old_pair (is_indexed s.life) c))
+  first_txn c older applied None = let y : Active = row_gone older (old_pair (is_indexed s.life) c) in
+      (y, txn_here s t y, gone_rolls older (old_pair (is_indexed s.life) c))
 
   undone_txn : (cs : Changes) (phase : Phase) → (y : Active) × ((undone s t it cs phase).txns t ≡ Some y) × (y.rolling ≡ true)
   undone_txn Unchanged phase = let y : Active = undoing it phase in (y, txn_here s t y, refl)
   undone_txn (older ▹ c) OldMarked = first_txn c older false (new_pair (is_indexed s.life) c)
   undone_txn (older ▹ c) RowSet = first_txn c older true (new_pair (is_indexed s.life) c)
   undone_txn (older ▹ c) Made = first_txn c older true (new_pair (is_indexed s.life) c)
-  undone_txn (older ▹ c) (NewMarked applied) = let y : Active = row_gone older (old_pair (is_indexed s.life) c) in (y, txn_here s t y, gone_rolls older (old_pair (is_indexed s.life) c))
+  undone_txn (older ▹ c) (NewMarked applied) = let y : Active = row_gone older (old_pair (is_indexed s.life) c) in
+      (y, txn_here s t y, gone_rolls older (old_pair (is_indexed s.life) c))
   undone_txn (older ▹ c) OldSet = let y : Active = without_newest older in (y, txn_here s t y, refl)
 
-  first_apart : (c : ChangeValue) (older : Changes) (applied : Bool) (o : Option Pair) (u : ℕ) → u ≢ t → (undone_first s t it c older applied o).txns u ≡ s.txns u
+  first_apart : (c : ChangeValue) (older : Changes) (applied : Bool) (o : Option Pair) (u : ℕ) → u ≢ t
+      → (undone_first s t it c older applied o).txns u ≡ s.txns u
   first_apart c older applied (Some p) u apart = txn_apart s t (undoing it (NewMarked applied)) u apart
   first_apart c older applied None u apart = txn_apart s t (row_gone older (old_pair (is_indexed s.life) c)) u apart
 
@@ -196,7 +206,8 @@ module _ (s : State) (t : ℕ) (fit : IsWellFormed s) (active : s.txns t ≡ Som
   undone_apart (older ▹ c) (NewMarked applied) u apart = txn_apart s t (row_gone older (old_pair (is_indexed s.life) c)) u apart
   undone_apart (older ▹ c) OldSet u apart = txn_apart s t (without_newest older) u apart
 
-  first_holder : (c : ChangeValue) (older : Changes) (applied : Bool) (o : Option Pair) (q : Place) → (undone_first s t it c older applied o).holder q ≡ s.holder q
+  first_holder : (c : ChangeValue) (older : Changes) (applied : Bool) (o : Option Pair) (q : Place)
+      → (undone_first s t it c older applied o).holder q ≡ s.holder q
   first_holder c older applied (Some p) q = refl
   first_holder c older applied None q = refl
 
@@ -209,7 +220,8 @@ module _ (s : State) (t : ℕ) (fit : IsWellFormed s) (active : s.txns t ≡ Som
   undone_holder (older ▹ c) OldSet q = refl
 
   first_others : (c : ChangeValue) (older : Changes) (applied : Bool) (o : Option Pair) → s.holder c.rid ≡ Some t → (u : ℕ) → u ≢ t → (q : Place)
-      → row_held u ((undone_first s t it c older applied o).holder q) (get (undone_first s t it c older applied o).rows q) ≡ row_held u (s.holder q) (get s.rows q)
+      → row_held u ((undone_first s t it c older applied o).holder q) (get (undone_first s t it c older applied o).rows q)
+      ≡ row_held u (s.holder q) (get s.rows q)
   first_others c older applied (Some p) holds u apart q = refl
   first_others c older applied None holds u apart q = row_elsewhere s t u c.rid _ holds apart q
 

@@ -7,7 +7,8 @@ use Rattle.records.specs.declared.record.TxnAction.{TxnAction}
 use Rattle.core_model.specs.Histories.{Opened}
 use Rattle.core_model.specs.States.{State}
 use Rattle.core_model.specs.Steps.{MachineStep}
-use Rattle.core_contracts.specs.Events.{after_build, after_clean, BuildReply, CleanReply, Cleaned, Done, Event, Idle, Kept, Placed, Refused, Rejected, Reply, Scanned, Skipped, Standing, standing_after, Wrapped}
+use Rattle.core_contracts.specs.Events.{after_build, after_clean, BuildReply, CleanReply, Cleaned, Done, Event, Idle, Kept, Placed, Refused, Rejected, Reply}
+use Rattle.core_contracts.specs.Events.{Scanned, Skipped, Standing, standing_after, Wrapped}
 use Rattle.core_contracts.specs.Replies.{IsAllowed, IsStepDue, accepted, no_memory, refused, refused_last, skipped, unknown}
 use Rattle.core_contracts.specs.Served.{records_by}
 use Rattle.nsf_core.specs.Replies.{reply_of_ticket, ticket_by}
@@ -21,7 +22,8 @@ IsAnswer Skipped = ⊥
 IsAnswer (Refused error) = ⊥
 IsAnswer _ = Unit {0}
 
-pub due : (s : State) (k : Standing) (e : Event) (reply : Reply) (step : Option MachineStep) → IsAllowed s k e reply step → IsAnswer reply → IsStepDue s k e reply step
+pub due : (s : State) (k : Standing) (e : Event) (reply : Reply) (step : Option MachineStep) → IsAllowed s k e reply step → IsAnswer reply
+    → IsStepDue s k e reply step
 due s k e reply step (unknown a) answer = absurd answer
 due s k e reply step (skipped a b) answer = absurd answer
 due s k e reply step (refused a b error f) answer = absurd answer
@@ -47,7 +49,8 @@ clean_same k Wrapped = refl
 abbrev commits_after : Standing → Reply → ℕ
 commits_after k reply = (standing_after k reply).commits
 
-due_same : (s : State) (k : Standing) (e : Event) (reply : Reply) (step : Option MachineStep) → IsStepDue s k e reply step → IsNoCommit e → commits_after k reply ≡ k.commits
+due_same : (s : State) (k : Standing) (e : Event) (reply : Reply) (step : Option MachineStep) → IsStepDue s k e reply step → IsNoCommit e
+    → commits_after k reply ≡ k.commits
 due_same s k Event.Begin reply step d other = ap (commits_after k) d.0
 due_same s k (Event.Insert t row) reply step d other = ap (commits_after k) d.2
 due_same s k (Event.Delete t r) reply step d other = ap (commits_after k) d.2
@@ -64,7 +67,8 @@ due_same s k (Event.Find key) reply step d other = ap (commits_after k) d.2
 due_same s k Event.Life reply step d other = ap (commits_after k) d.0
 due_same s k Event.Drop reply step d other = ap (commits_after k) d.0
 
-allowed_same : (s : State) (k : Standing) (e : Event) (reply : Reply) (step : Option MachineStep) → IsAllowed s k e reply step → IsNoCommit e → commits_after k reply ≡ k.commits
+allowed_same : (s : State) (k : Standing) (e : Event) (reply : Reply) (step : Option MachineStep) → IsAllowed s k e reply step → IsNoCommit e
+    → commits_after k reply ≡ k.commits
 allowed_same s k e reply step (unknown a) other = refl
 allowed_same s k e reply step (skipped a b) other = refl
 allowed_same s k e reply step (refused a b error f) other = refl
@@ -104,18 +108,21 @@ module _ (o : Opened) (pushed : List RecordValue) (core : CoreValue) (kept : IsR
       let a = answers Event.Begin (Reply.Txn txn) new is in
       let d = due s k Event.Begin (Reply.Txn txn) a.step a.allowed tt in is_txn txn (k.begun + 1) d.0 ∙ ap (λ n. n + 1) kept.replied.stands.shown.begun
 
-  committed : (txn : ℕ) (ticket : Ticket) (new : CoreValue) → Serves core (Event.Commit txn) (reply_of_ticket ticket) new → reply_of_ticket ticket ≡ Reply.Committed (k.made + 1) (k.commits + 1)
+  committed : (txn : ℕ) (ticket : Ticket) (new : CoreValue) → Serves core (Event.Commit txn) (reply_of_ticket ticket) new
+      → reply_of_ticket ticket ≡ Reply.Committed (k.made + 1) (k.commits + 1)
   committed txn ticket new is =
       let answer = ticket_answers ticket.«record» ticket.commit in
       let a = answers (Event.Commit txn) (reply_of_ticket ticket) new is in
       (due s k (Event.Commit txn) (reply_of_ticket ticket) a.step a.allowed answer).0
 
-  pub commit : (txn : ℕ) (ticket : Ticket) (new : CoreValue) → Serves core (Event.Commit txn) (reply_of_ticket ticket) new → (ticket.«record» ≡ core.last + 1) × (ticket.commit ≡ Some (core.commits + 1))
+  pub commit : (txn : ℕ) (ticket : Ticket) (new : CoreValue) → Serves core (Event.Commit txn) (reply_of_ticket ticket) new → (ticket.«record» ≡ core.last + 1)
+      × (ticket.commit ≡ Some (core.commits + 1))
   commit txn ticket new is =
       let numbers = is_commit ticket.«record» ticket.commit (k.made + 1) (k.commits + 1) (committed txn ticket new is) in
       (numbers.0 ∙ ap (λ n. n + 1) kept.replied.stands.shown.made, numbers.1 ∙ ap (λ n. Some (n + 1)) kept.replied.stands.shown.commits)
 
-  pub counted : (txn : ℕ) (ticket : Ticket) (new : CoreValue) → Serves core (Event.Commit txn) (reply_of_ticket ticket) new → (new.last ≡ core.last + 1) × (new.commits ≡ core.commits + 1)
+  pub counted : (txn : ℕ) (ticket : Ticket) (new : CoreValue) → Serves core (Event.Commit txn) (reply_of_ticket ticket) new → (new.last ≡ core.last + 1)
+      × (new.commits ≡ core.commits + 1)
   counted txn ticket new is =
       let answer = ticket_answers ticket.«record» ticket.commit in
       let a = answers (Event.Commit txn) (reply_of_ticket ticket) new is in
@@ -124,7 +131,8 @@ module _ (o : Opened) (pushed : List RecordValue) (core : CoreValue) (kept : IsR
         sym a.shown.commits ∙ (ap (λ (r : Reply). (standing_after k r).commits) reply ∙ ap (λ n. n + 1) kept.replied.stands.shown.commits),
       )
 
-  pub create : (ticket : Ticket) (new : CoreValue) → Serves core Event.Create (reply_of_ticket ticket) new → (ticket.«record» ≡ core.last + 1) × (ticket.commit ≡ None)
+  pub create : (ticket : Ticket) (new : CoreValue) → Serves core Event.Create (reply_of_ticket ticket) new → (ticket.«record» ≡ core.last + 1)
+      × (ticket.commit ≡ None)
   create ticket new is =
       let answer = ticket_answers ticket.«record» ticket.commit in
       let a = answers Event.Create (reply_of_ticket ticket) new is in
@@ -132,7 +140,8 @@ module _ (o : Opened) (pushed : List RecordValue) (core : CoreValue) (kept : IsR
       let numbers = is_turn ticket.«record» ticket.commit (k.made + 1) d.0 in
       (numbers.0 ∙ ap (λ n. n + 1) kept.replied.stands.shown.made, numbers.1)
 
-  pub drop : (ticket : Ticket) (new : CoreValue) → Serves core Event.Drop (reply_of_ticket ticket) new → (ticket.«record» ≡ core.last + 1) × (ticket.commit ≡ None)
+  pub drop : (ticket : Ticket) (new : CoreValue) → Serves core Event.Drop (reply_of_ticket ticket) new → (ticket.«record» ≡ core.last + 1)
+      × (ticket.commit ≡ None)
   drop ticket new is =
       let answer = ticket_answers ticket.«record» ticket.commit in
       let a = answers Event.Drop (reply_of_ticket ticket) new is in
@@ -141,26 +150,33 @@ module _ (o : Opened) (pushed : List RecordValue) (core : CoreValue) (kept : IsR
       (numbers.0 ∙ ap (λ n. n + 1) kept.replied.stands.shown.made, numbers.1)
 
   -- the records that they make
-  pub commit_record : (txn : ℕ) (ticket : Ticket) (new : CoreValue) → Serves core (Event.Commit txn) (reply_of_ticket ticket) new → new.outbox ≡ core.outbox ++ record { number = ticket.«record»; action = OfTxn txn TxnAction.Commit } ∷ []
+  pub commit_record : (txn : ℕ) (ticket : Ticket) (new : CoreValue) → Serves core (Event.Commit txn) (reply_of_ticket ticket) new
+      → new.outbox ≡ core.outbox ++ record { number = ticket.«record»; action = OfTxn txn TxnAction.Commit } ∷ []
   commit_record txn ticket new is =
       let a = answers (Event.Commit txn) (reply_of_ticket ticket) new is in
       let d = due s k (Event.Commit txn) (reply_of_ticket ticket) a.step a.allowed (ticket_answers ticket.«record» ticket.commit) in
       let numbers = is_commit ticket.«record» ticket.commit (k.made + 1) (k.commits + 1) d.0 in
-      a.outbox ∙ (ap (λ step. core.outbox ++ records_by s k.made step) d.1 ∙ ap (λ n. core.outbox ++ record { number = n; action = OfTxn txn TxnAction.Commit } ∷ []) (sym numbers.0))
+      a.outbox ∙ (ap (λ step. core.outbox ++ records_by s k.made step) d.1
+      ∙ ap (λ n. core.outbox ++ record { number = n; action = OfTxn txn TxnAction.Commit } ∷ []) (sym numbers.0))
 
-  pub create_record : (ticket : Ticket) (new : CoreValue) → Serves core Event.Create (reply_of_ticket ticket) new → new.outbox ≡ core.outbox ++ record { number = ticket.«record»; action = OfIndex IndexAction.Create } ∷ []
+  pub create_record : (ticket : Ticket) (new : CoreValue) → Serves core Event.Create (reply_of_ticket ticket) new
+      → new.outbox ≡ core.outbox ++ record { number = ticket.«record»; action = OfIndex IndexAction.Create } ∷ []
   create_record ticket new is =
       let a = answers Event.Create (reply_of_ticket ticket) new is in
       let d = due s k Event.Create (reply_of_ticket ticket) a.step a.allowed (ticket_answers ticket.«record» ticket.commit) in
       let numbers = is_turn ticket.«record» ticket.commit (k.made + 1) d.0 in
-      a.outbox ∙ (ap (λ step. core.outbox ++ records_by s k.made step) d.1 ∙ ap (λ n. core.outbox ++ record { number = n; action = OfIndex IndexAction.Create } ∷ []) (sym numbers.0))
+      a.outbox ∙ (ap (λ step. core.outbox ++ records_by s k.made step) d.1
+      ∙ ap (λ n. core.outbox ++ record { number = n; action = OfIndex IndexAction.Create } ∷ []) (sym numbers.0))
 
-  pub drop_record : (ticket : Ticket) (new : CoreValue) → Serves core Event.Drop (reply_of_ticket ticket) new → new.outbox ≡ core.outbox ++ record { number = ticket.«record»; action = OfIndex IndexAction.Drop } ∷ []
+  pub drop_record : (ticket : Ticket) (new : CoreValue) → Serves core Event.Drop (reply_of_ticket ticket) new
+      → new.outbox ≡ core.outbox ++ record { number = ticket.«record»; action = OfIndex IndexAction.Drop } ∷ []
   drop_record ticket new is =
       let a = answers Event.Drop (reply_of_ticket ticket) new is in
       let d = due s k Event.Drop (reply_of_ticket ticket) a.step a.allowed (ticket_answers ticket.«record» ticket.commit) in
       let numbers = is_turn ticket.«record» ticket.commit (k.made + 1) d.0 in
-      a.outbox ∙ (ap (λ step. core.outbox ++ records_by s k.made step) d.1 ∙ ap (λ n. core.outbox ++ record { number = n; action = OfIndex IndexAction.Drop } ∷ []) (sym numbers.0))
+      a.outbox ∙ (ap (λ step. core.outbox ++ records_by s k.made step) d.1
+      ∙ ap (λ n. core.outbox ++ record { number = n; action = OfIndex IndexAction.Drop } ∷ []) (sym numbers.0))
 
   pub others : (e : Event) (reply : Reply) (new : CoreValue) → IsNoCommit e → Serves core e reply new → new.commits ≡ core.commits
-  others e reply new other serves = let a = serves s k kept.replied.stands in sym a.shown.commits ∙ (allowed_same s k e reply a.step a.allowed other ∙ kept.replied.stands.shown.commits)
+  others e reply new other serves = let a = serves s k kept.replied.stands in sym a.shown.commits
+      ∙ (allowed_same s k e reply a.step a.allowed other ∙ kept.replied.stands.shown.commits)

@@ -1,5 +1,6 @@
 -- All transactions, as one seat makes a step of one.
-use Rattle.std.proofs.Common.{◌≡◌, ◌≢◌, ◌⊎◌, ℕ, ◌<◌, Bool, true, false, cond, eqb, eq-eqb, ne_eqb, List, length, Option, Some, None, is_some, ◌==◌, inl, inr, refl, sym, ap, ◌∙◌, subst}
+use Rattle.std.proofs.Common.{◌≡◌, ◌≢◌, ◌⊎◌, ℕ, ◌<◌, Bool, true, false, cond, eqb, eq-eqb, ne_eqb, List, length, Option, Some, None, is_some, ◌==◌, inl, inr}
+use Rattle.std.proofs.Common.{refl, sym, ap, ◌∙◌, subst}
 use Rattle.std.proofs.lemmas.Bool.{cases_eq}
 use Rattle.std.specs.FinMap.{get}
 use Rattle.std.specs.Prelude.{slice_get, slice_set}
@@ -11,12 +12,15 @@ use Rattle.register.proofs.Seen.{agree_kept, agree_none}
 use Rattle.register.specs.Agreement.{active_in, Agree, AreOwned, HaveOwners, row_held, seen_at}
 
 -- no transaction makes a step
-pub owned_kept : (s new : State) (book : List SessionValue) (owner : ℕ → ℕ) → ((u : ℕ) → new.txns u ≡ s.txns u) → ((u : ℕ) (q : Place) → row_held u (new.holder q) (get new.rows q) ≡ row_held u (s.holder q) (get s.rows q)) → AreOwned s book owner → AreOwned new book owner
+pub owned_kept : (s new : State) (book : List SessionValue) (owner : ℕ → ℕ) → ((u : ℕ) → new.txns u ≡ s.txns u)
+    → ((u : ℕ) (q : Place) → row_held u (new.holder q) (get new.rows q) ≡ row_held u (s.holder q) (get s.rows q)) → AreOwned s book owner
+    → AreOwned new book owner
 owned_kept s new book owner txns held owned j u lt =
     subst (λ o. Agree new u (seen_at book j u) (cond (j == owner u) o None)) (sym (txns u))
     (agree_kept s new u (held u) (seen_at book j u) (cond (j == owner u) (s.txns u) None) (owned j u lt))
 
-pub owners_kept : (s new : State) (book : List SessionValue) (owner : ℕ → ℕ) → ((u : ℕ) → new.txns u ≡ s.txns u) → HaveOwners s book owner → HaveOwners new book owner
+pub owners_kept : (s new : State) (book : List SessionValue) (owner : ℕ → ℕ) → ((u : ℕ) → new.txns u ≡ s.txns u) → HaveOwners s book owner
+    → HaveOwners new book owner
 owners_kept s new book owner txns owners u there = owners u (ap is_some (sym (txns u)) ∙ there)
 
 module _ (s after : State) (book : List SessionValue) (owner : ℕ → ℕ) (k t : ℕ) (p new : SessionValue)
@@ -35,8 +39,10 @@ module _ (s after : State) (book : List SessionValue) (owner : ℕ → ℕ) (k t
   none_of true o e = e
   none_of false o e = refl
 
-  elsewhere_by : (j : ℕ) → j ≢ k → Agree s t (seen_at book j t) (cond (j == owner t) (s.txns t) None) → (k ≡ owner t) ⊎ (s.txns t ≡ None) → seen_at book j t ≡ None
-  elsewhere_by j not h (inl is) = agree_none s t (seen_at book j t) (subst (λ b. Agree s t (seen_at book j t) (cond b (s.txns t) None)) (ne_eqb j (owner t) (λ e. not (e ∙ sym is))) h)
+  elsewhere_by : (j : ℕ) → j ≢ k → Agree s t (seen_at book j t) (cond (j == owner t) (s.txns t) None) → (k ≡ owner t) ⊎ (s.txns t ≡ None)
+      → seen_at book j t ≡ None
+  elsewhere_by j not h (inl is) = agree_none s t (seen_at book j t)
+      (subst (λ b. Agree s t (seen_at book j t) (cond b (s.txns t) None)) (ne_eqb j (owner t) (λ e. not (e ∙ sym is))) h)
   elsewhere_by j not h (inr none) = agree_none s t (seen_at book j t) (subst (Agree s t (seen_at book j t)) (none_of (j == owner t) (s.txns t) none) h)
 
   elsewhere : (j : ℕ) → j ≢ k → j < length book → seen_at book j t ≡ None
@@ -48,10 +54,12 @@ module _ (s after : State) (book : List SessionValue) (owner : ℕ → ℕ) (k t
   at_own : (j : ℕ) → j < length book → Agree after t (seen_at (slice_set book k new) j t) (cond (j == next_owner t) (after.txns t) None)
   at_own j lt = elim (cases_eq j k) [
     | inl is ↦
-        subst (λ x. Agree after t (active_in t x) (cond (j == next_owner t) (after.txns t) None)) (sym (ap (slice_get (slice_set book k new)) is ∙ get_set book k new within))
+        subst (λ x. Agree after t (active_in t x) (cond (j == next_owner t) (after.txns t) None))
+        (sym (ap (slice_get (slice_set book k new)) is ∙ get_set book k new within))
         (subst (λ b. Agree after t (active_of t new.active) (cond b (after.txns t) None)) (sym (eq-eqb j (next_owner t) (is ∙ sym owner_t))) own)
     | inr not ↦
-        subst (λ x. Agree after t x (cond (j == next_owner t) (after.txns t) None)) (sym (ap (active_in t) (get_set_other book k j new not) ∙ elsewhere j not lt))
+        subst (λ x. Agree after t x (cond (j == next_owner t) (after.txns t) None))
+        (sym (ap (active_in t) (get_set_other book k j new not) ∙ elsewhere j not lt))
         (subst (λ b. Agree after t None (cond b (after.txns t) None)) (sym (ne_eqb j (next_owner t) (λ e. not (e ∙ owner_t)))) tt)
   ]
 
@@ -60,7 +68,8 @@ module _ (s after : State) (book : List SessionValue) (owner : ℕ → ℕ) (k t
 
   same_seen : (j u : ℕ) → u ≢ t → seen_at (slice_set book k new) j u ≡ seen_at book j u
   same_seen j u not = elim (cases_eq j k) [
-    | inl is ↦ ap (active_in u) (ap (slice_get (slice_set book k new)) is ∙ get_set book k new within) ∙ (pages u not ∙ sym (ap (active_in u) (ap (slice_get book) is ∙ there)))
+    | inl is ↦ ap (active_in u) (ap (slice_get (slice_set book k new)) is ∙ get_set book k new within)
+        ∙ (pages u not ∙ sym (ap (active_in u) (ap (slice_get book) is ∙ there)))
     | inr other ↦ ap (active_in u) (get_set_other book k j new other)
   ]
 
@@ -73,7 +82,8 @@ module _ (s after : State) (book : List SessionValue) (owner : ℕ → ℕ) (k t
 
   pub owned_later : AreOwned after (slice_set book k new) next_owner
   owned_later j u lt = elim (cases_eq u t) [
-    | inl is ↦ subst (λ n. Agree after n (seen_at (slice_set book k new) j n) (cond (j == next_owner n) (after.txns n) None)) (sym is) (at_own j (subst (λ n. j < n) (set_length book k new) lt))
+    | inl is ↦ subst (λ n. Agree after n (seen_at (slice_set book k new) j n) (cond (j == next_owner n) (after.txns n) None)) (sym is)
+        (at_own j (subst (λ n. j < n) (set_length book k new) lt))
     | inr not ↦ at_other j u not (subst (λ n. j < n) (set_length book k new) lt)
   ]
 

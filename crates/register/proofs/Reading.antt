@@ -34,19 +34,25 @@ use Rattle.register.specs.Reading.{ReadsBack, ShowsRow, unfinished_of}
 
 -- ---- the session after a step
 
-changed_row : (new : CoreValue) (t : ℕ) (change : Write) (p : SessionValue) (a : ActiveValue) → active_of t p.active ≡ Some a → row_at change.rid (rows_of t (changed p new t change).active) ≡ Some (get new.heap.rows change.rid)
+changed_row : (new : CoreValue) (t : ℕ) (change : Write) (p : SessionValue) (a : ActiveValue) → active_of t p.active ≡ Some a
+    → row_at change.rid (rows_of t (changed p new t change).active) ≡ Some (get new.heap.rows change.rid)
 changed_row new t change p a there =
-    ap (λ x. row_at change.rid (unwrap_or (option_map (λ (b : ActiveValue). b.rows) x) [])) (with_own (change_seen new change) (λ b. refl) t p.active ∙ ap (option_map (change_seen new change)) there)
+    ap (λ x. row_at change.rid (unwrap_or (option_map (λ (b : ActiveValue). b.rows) x) [])) (with_own (change_seen new change) (λ b. refl) t p.active
+    ∙ ap (option_map (change_seen new change)) there)
     ∙ row_set (row_now new change.rid) a.rows
 
-changed_unfinished : (new : CoreValue) (t : ℕ) (change : Write) (p : SessionValue) (a : ActiveValue) → active_of t p.active ≡ Some a → unfinished_of t (changed p new t change) ≡ unfinished_in new t change
+changed_unfinished : (new : CoreValue) (t : ℕ) (change : Write) (p : SessionValue) (a : ActiveValue) → active_of t p.active ≡ Some a
+    → unfinished_of t (changed p new t change) ≡ unfinished_in new t change
 changed_unfinished new t change p a there =
-    ap (option_and_then (λ (b : ActiveValue). b.unfinished)) (with_own (change_seen new change) (λ b. refl) t p.active ∙ ap (option_map (change_seen new change)) there)
+    ap (option_and_then (λ (b : ActiveValue). b.unfinished)) (with_own (change_seen new change) (λ b. refl) t p.active
+    ∙ ap (option_map (change_seen new change)) there)
     ∙ ap (λ n. unfinished_in new n change) (number_is t p.active a there)
 
-stepped_row : (new : CoreValue) (t : ℕ) (rid : Place) (row : Option Row) (p : SessionValue) (a : ActiveValue) → active_of t p.active ≡ Some a → row_at rid a.rows ≡ Some row → row_at rid (rows_of t (stepped p new t).active) ≡ Some (get new.heap.rows rid)
+stepped_row : (new : CoreValue) (t : ℕ) (rid : Place) (row : Option Row) (p : SessionValue) (a : ActiveValue) → active_of t p.active ≡ Some a
+    → row_at rid a.rows ≡ Some row → row_at rid (rows_of t (stepped p new t).active) ≡ Some (get new.heap.rows rid)
 stepped_row new t rid row p a there had =
-    ap (λ x. row_at rid (unwrap_or (option_map (λ (b : ActiveValue). b.rows) x) [])) (with_own (step_seen new) (λ b. refl) t p.active ∙ ap (option_map (step_seen new)) there)
+    ap (λ x. row_at rid (unwrap_or (option_map (λ (b : ActiveValue). b.rows) x) [])) (with_own (step_seen new) (λ b. refl) t p.active
+    ∙ ap (option_map (step_seen new)) there)
     ∙ (row_again new rid a.rows ∙ ap (option_map (λ (r : Option Row). get new.heap.rows rid)) had)
 
 -- ---- the row after a step
@@ -54,7 +60,8 @@ stepped_row new t rid row p a there had =
 module _ (s : State) (t : ℕ) (c : ChangeValue) (can : CanStart s t c) where
   -- set, or to be set next
   first_row : (o : Option Pair) → (get (started s t (txn_at s t) c o).rows c.rid ≡ new_row c.rows)
-      ⊎ (((started s t (txn_at s t) c o).txns t ≡ Some (with_change (txn_at s t) c OldMarked)) × (get (started s t (txn_at s t) c o).rows c.rid ≡ get s.rows c.rid))
+      ⊎ (((started s t (txn_at s t) c o).txns t ≡ Some (with_change (txn_at s t) c OldMarked))
+      × (get (started s t (txn_at s t) c o).rows c.rid ≡ get s.rows c.rid))
   first_row None = inl (get-set_at_same rid_exact s.rows c.rid (new_row c.rows))
   first_row (Some p) = inr (txn_here s t (with_change (txn_at s t) c OldMarked), refl)
 
@@ -64,7 +71,8 @@ no_old false c row is = refl
 no_old true c row is = ap (λ rows. old_pair true (record c { rows = rows })) is
 
 inserted_row : (s : State) (t : ℕ) (c : ChangeValue) (row : Row) → c.rows ≡ Inserted row → get (after s (Start t c)).rows c.rid ≡ new_row c.rows
-inserted_row s t c row is = ap (λ o. get (started s t (txn_at s t) c o).rows c.rid) (no_old (is_indexed s.life) c row is) ∙ get-set_at_same rid_exact s.rows c.rid (new_row c.rows)
+inserted_row s t c row is = ap (λ o. get (started s t (txn_at s t) c o).rows c.rid) (no_old (is_indexed s.life) c row is)
+    ∙ get-set_at_same rid_exact s.rows c.rid (new_row c.rows)
 
 module _ (s : State) (holds : Invariant s) (t : ℕ) (active : IsActive s t) (owes : Owes (txn_at s t)) where
   abbrev x : Active
@@ -91,7 +99,8 @@ module _ (s : State) (holds : Invariant s) (t : ℕ) (active : IsActive s t) (ow
 
 -- ---- calls
 
-module _ (o : Opened) (can : CanOpen o) (pushed : List RecordValue) (core : CoreValue) (book : List SessionValue) (r : IsRegister o pushed core book) (seat : ℕ) (p : SessionValue) (there : slice_get book seat ≡ Some p)
+module _ (o : Opened) (can : CanOpen o) (pushed : List RecordValue) (core : CoreValue) (book : List SessionValue) (r : IsRegister o pushed core book) (seat : ℕ)
+    (p : SessionValue) (there : slice_get book seat ≡ Some p)
     (txn : ℕ) (own : is_some (active_of txn p.active) ≡ true) where
   abbrev s : State
   s = st o can pushed core book r
@@ -100,7 +109,8 @@ module _ (o : Opened) (can : CanOpen o) (pushed : List RecordValue) (core : Core
   before_is q = ap (λ (m : Table). get m q) (so o can pushed core book r).stands.shown.rows
 
   -- the first step of a change
-  module _ (e : Event) (reply : Reply) (new : CoreValue) (sv : Serves core e reply new) (rid : Place) (rows : Rows) (step : step_of o can pushed core book r e reply new sv ≡ Some (Start txn (change_of s txn rid rows))) where
+  module _ (e : Event) (reply : Reply) (new : CoreValue) (sv : Serves core e reply new) (rid : Place) (rows : Rows)
+      (step : step_of o can pushed core book r e reply new sv ≡ Some (Start txn (change_of s txn rid rows))) where
     abbrev c : ChangeValue
     c = change_of s txn rid rows
 
@@ -123,7 +133,8 @@ module _ (o : Opened) (can : CanOpen o) (pushed : List RecordValue) (core : Core
     row_is row is = changed_row new txn (write_of c) p mine.0 mine.1 ∙ ap Some is
 
     owed_now : later.txns txn ≡ Some (with_change (txn_at s txn) c OldMarked) → unfinished_of txn (changed p new txn (write_of c)) ≡ Some (write_of c)
-    owed_now is = changed_unfinished new txn (write_of c) p mine.0 mine.1 ∙ (unfinished_is new later (standing_after (std o can pushed core book r) reply) shown txn (with_change (txn_at s txn) c OldMarked) is (write_of c)
+    owed_now is = changed_unfinished new txn (write_of c) p mine.0 mine.1
+        ∙ (unfinished_is new later (standing_after (std o can pushed core book r) reply) shown txn (with_change (txn_at s txn) c OldMarked) is (write_of c)
         ∙ ap (λ b. cond (not b) (Some (write_of c)) None) can_start.ready.1)
 
     started_reads : ReadsBack (get core.heap.rows rid) txn (write_of c) (changed p new txn (write_of c))
@@ -135,24 +146,29 @@ module _ (o : Opened) (can : CanOpen o) (pushed : List RecordValue) (core : Core
     inserted_reads : (row : Row) → rows ≡ Inserted row → ShowsRow txn (write_of c) (changed p new txn (write_of c))
     inserted_reads row is = row_is (new_row rows) (now_is ∙ inserted_row s txn c row is)
 
-  pub insert_reads : (row : Row) (rid : Place) (new : CoreValue) → Serves core (Event.Insert txn row) (Reply.Rid rid) new → ShowsRow txn (record { rid = rid; row = Some row }) (changed p new txn (record { rid = rid; row = Some row }))
+  pub insert_reads : (row : Row) (rid : Place) (new : CoreValue) → Serves core (Event.Insert txn row) (Reply.Rid rid) new
+      → ShowsRow txn (record { rid = rid; row = Some row }) (changed p new txn (record { rid = rid; row = Some row }))
   insert_reads row rid new sv =
       let d = due_of o can pushed core book r (Event.Insert txn row) (Reply.Rid rid) new sv tt in
       let at : rid ≡ d.0 = one_place rid d.0 d.2 in
-      inserted_reads (Event.Insert txn row) (Reply.Rid rid) new sv rid (Inserted row) (d.3 ∙ ap (λ q. Some (Start txn (change_of s txn q (Inserted row)))) (sym at)) row refl
+      inserted_reads (Event.Insert txn row) (Reply.Rid rid) new sv rid (Inserted row) (d.3
+      ∙ ap (λ q. Some (Start txn (change_of s txn q (Inserted row)))) (sym at)) row refl
 
-  pub delete_reads : (rid : Place) (new : CoreValue) → Serves core (Event.Delete txn rid) Reply.Stepped new → ReadsBack (get core.heap.rows rid) txn (record { rid = rid; row = None }) (changed p new txn (record { rid = rid; row = None }))
+  pub delete_reads : (rid : Place) (new : CoreValue) → Serves core (Event.Delete txn rid) Reply.Stepped new
+      → ReadsBack (get core.heap.rows rid) txn (record { rid = rid; row = None }) (changed p new txn (record { rid = rid; row = None }))
   delete_reads rid new sv =
       let d = due_of o can pushed core book r (Event.Delete txn rid) Reply.Stepped new sv tt in
       started_reads (Event.Delete txn rid) Reply.Stepped new sv rid (Deleted d.0) d.3
 
-  pub update_reads : (rid : Place) (row : Row) (new : CoreValue) → Serves core (Event.Update txn rid row) Reply.Stepped new → ReadsBack (get core.heap.rows rid) txn (record { rid = rid; row = Some row }) (changed p new txn (record { rid = rid; row = Some row }))
+  pub update_reads : (rid : Place) (row : Row) (new : CoreValue) → Serves core (Event.Update txn rid row) Reply.Stepped new
+      → ReadsBack (get core.heap.rows rid) txn (record { rid = rid; row = Some row }) (changed p new txn (record { rid = rid; row = Some row }))
   update_reads rid row new sv =
       let d = due_of o can pushed core book r (Event.Update txn rid row) Reply.Stepped new sv tt in
       started_reads (Event.Update txn rid row) Reply.Stepped new sv rid (Updated d.0 row) d.3
 
   -- one more step of it
-  pub step_reads : (change : Write) → unfinished_of txn p ≡ Some change → (new : CoreValue) → Serves core (Event.Step txn) Reply.Stepped new → ShowsRow txn change (stepped p new txn)
+  pub step_reads : (change : Write) → unfinished_of txn p ≡ Some change → (new : CoreValue) → Serves core (Event.Step txn) Reply.Stepped new
+      → ShowsRow txn change (stepped p new txn)
   step_reads change to_finish new sv =
       let d = due_of o can pushed core book r (Event.Step txn) Reply.Stepped new sv tt in
       let active : IsActive s txn = (enabled_of o can pushed core book r (Event.Step txn) Reply.Stepped new sv (Some (MachineStep.Next txn)) d.1).0 in
@@ -164,14 +180,16 @@ module _ (o : Opened) (can : CanOpen o) (pushed : List RecordValue) (core : Core
       sym (owes_one (txn_at s txn) owes) ∙ (sym its.2.unfinished ∙ (sym (ap (option_and_then (λ (b : ActiveValue). b.unfinished)) its.1) ∙ to_finish)) in
       by its.0 its.1 its.2.rows holds active owes (ap (λ (m : Table). get m change.rid) (sym shown.rows)) (txn_at s txn).changes refl newest
     where
-      by : (a : ActiveValue) → active_of txn p.active ≡ Some a → ((q : Place) → row_at q a.rows ≡ row_held txn (s.holder q) (get s.rows q)) → Invariant s → IsActive s txn → Owes (txn_at s txn) → get new.heap.rows change.rid ≡ get (after s (MachineStep.Next txn)).rows change.rid
+      by : (a : ActiveValue) → active_of txn p.active ≡ Some a → ((q : Place) → row_at q a.rows ≡ row_held txn (s.holder q) (get s.rows q)) → Invariant s
+          → IsActive s txn → Owes (txn_at s txn) → get new.heap.rows change.rid ≡ get (after s (MachineStep.Next txn)).rows change.rid
           → (cs : Changes) → (txn_at s txn).changes ≡ cs → newest_write cs ≡ Some change → ShowsRow txn change (stepped p new txn)
       by a here rows holds active owes now Unchanged changes newest = absurd cc
       by a here rows holds active owes now (older ▹ c) changes newest =
           let same : write_of c ≡ change = some_is (write_of c) change newest in
           let at : c.rid ≡ change.rid = ap (λ (w : Write). w.rid) same in
           let holder : s.holder change.rid ≡ Some txn = ap s.holder (sym at) ∙ holder_is s holds txn active owes older c changes in
-          let had : row_at change.rid a.rows ≡ Some (get s.rows change.rid) = rows change.rid ∙ (ap (λ h. row_held txn h (get s.rows change.rid)) holder ∙ held_mine txn (get s.rows change.rid)) in
+          let had : row_at change.rid a.rows ≡ Some (get s.rows change.rid) = rows change.rid
+          ∙ (ap (λ h. row_held txn h (get s.rows change.rid)) holder ∙ held_mine txn (get s.rows change.rid)) in
           let set : get (after s (MachineStep.Next txn)).rows change.rid ≡ change.row =
           ap (get (after s (MachineStep.Next txn)).rows) (sym at) ∙ (next_row s holds txn active owes older c changes ∙ ap (λ (w : Write). w.row) same) in
           stepped_row new txn change.rid (get s.rows change.rid) p a here had ∙ ap Some (now ∙ set)

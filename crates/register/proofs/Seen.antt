@@ -41,7 +41,8 @@ pub agree_none : (s : State) (t : ℕ) (a : Option ActiveValue) → Agree s t a 
 agree_none s t None h = refl
 agree_none s t (Some a) h = absurd h
 
-pub agree_there : (s : State) (t : ℕ) (a : Option ActiveValue) (o : Option Active) → is_some a ≡ true → Agree s t a o → (b : ActiveValue) × (x : Active) × (a ≡ Some b) × (o ≡ Some x) × IsSeen s t b x
+pub agree_there : (s : State) (t : ℕ) (a : Option ActiveValue) (o : Option Active) → is_some a ≡ true → Agree s t a o → (b : ActiveValue) × (x : Active)
+    × (a ≡ Some b) × (o ≡ Some x) × IsSeen s t b x
 agree_there s t None o there h = absurd cc
 agree_there s t (Some a) (Some x) there h = (a, x, refl, refl, h)
 agree_there s t (Some a) None there h = absurd h
@@ -74,7 +75,8 @@ seen_new s t x free owes rolling = record { rows = λ q. sym (none q (s.holder q
 
 -- it holds one row more, with what is there now
 pub seen_changed : (s new : State) (t : ℕ) (a : ActiveValue) (x y : Active) (w : Write) (change : Option Write) → IsSeen s t a x
-    → new.holder w.rid ≡ Some t → w.row ≡ get new.rows w.rid → ((q : Place) → q ≢ w.rid → row_held t (new.holder q) (get new.rows q) ≡ row_held t (s.holder q) (get s.rows q))
+    → new.holder w.rid ≡ Some t → w.row ≡ get new.rows w.rid
+    → ((q : Place) → q ≢ w.rid → row_held t (new.holder q) (get new.rows q) ≡ row_held t (s.holder q) (get s.rows q))
     → change ≡ owed_write y → y.rolling ≡ x.rolling → IsSeen new t (record a { rows = with_write w a.rows; unfinished = change }) y
 seen_changed s new t a x y w change h held row others owes rolling = record {
   rows = λ q. elim (rid_decided q w.rid) [

@@ -1,5 +1,6 @@
 -- The register, as the core serves a call.
-use Rattle.std.proofs.Common.{◌≡◌, ◌≢◌, ◌⊎◌, ℕ, ◌<◌, ◌+◌, arith, length, Bool, true, false, cond, List, [], ◌∷◌, ◌++◌, Option, Some, None, is_some, ◌==◌, ◌≤◌, append_assoc, inl, inr, refl, sym, ap, ◌∙◌, subst}
+use Rattle.std.proofs.Common.{◌≡◌, ◌≢◌, ◌⊎◌, ℕ, ◌<◌, ◌+◌, arith, length, Bool, true, false, cond, List, [], ◌∷◌, ◌++◌, Option, Some, None, is_some, ◌==◌, ◌≤◌}
+use Rattle.std.proofs.Common.{append_assoc, inl, inr, refl, sym, ap, ◌∙◌, subst}
 use Rattle.std.proofs.lemmas.Bool.{cases_eq, eqb-true}
 use Rattle.std.proofs.lemmas.List.{length-append}
 use Rattle.std.specs.FinMap.{get}
@@ -38,7 +39,8 @@ use Rattle.register.specs.Register.{AreEmpty, IsRegisterKept}
 
 -- ---- whether a transaction owes a step
 
-owed_at : (p : Progress) (x : Active) (w : Write) → IsProgressOf p x.phase → x.rolling ≡ rolls p → option_map (λ (step : Owed). w) (owed p) ≡ cond (is_owed x.phase x.rolling) (Some w) None
+owed_at : (p : Progress) (x : Active) (w : Write) → IsProgressOf p x.phase → x.rolling ≡ rolls p
+    → option_map (λ (step : Owed). w) (owed p) ≡ cond (is_owed x.phase x.rolling) (Some w) None
 owed_at Ready x w phase rolling = λ i. cond (is_owed (sym phase i) (sym rolling i)) (Some w) None
 owed_at OwesRow x w phase rolling = λ i. cond (is_owed (sym phase i) (sym rolling i)) (Some w) None
 owed_at OwesEntry x w phase rolling = λ i. cond (is_owed (sym phase i) (sym rolling i)) (Some w) None
@@ -51,14 +53,17 @@ owed_one : (o : Option TxnState) (m : Option Active) (x : Active) (w : Write) �
 owed_one None m x w one is = absurd cc
 owed_one (Some y) m x w one is =
     let same : one.0 ≡ x = same_some one.1 is in
-    owed_at y.progress x w (subst (λ (z : Active). IsProgressOf y.progress z.phase) same one.2.phase) (ap (λ (z : Active). z.rolling) (sym same) ∙ one.2.rolling)
+    owed_at y.progress x w (subst (λ (z : Active). IsProgressOf y.progress z.phase) same one.2.phase) (ap (λ (z : Active). z.rolling) (sym same)
+    ∙ one.2.rolling)
 
-pub unfinished_is : (core : CoreValue) (s : State) (k : Standing) → Shows core s k → (t : ℕ) (x : Active) → s.txns t ≡ Some x → (w : Write) → unfinished_in core t w ≡ cond (is_owed x.phase x.rolling) (Some w) None
+pub unfinished_is : (core : CoreValue) (s : State) (k : Standing) → Shows core s k → (t : ℕ) (x : Active) → s.txns t ≡ Some x → (w : Write)
+    → unfinished_in core t w ≡ cond (is_owed x.phase x.rolling) (Some w) None
 unfinished_is core s k shown t x is w = owed_one _ (s.txns t) x w (shown.txns t) is
 
 -- ---- sessions of which none changes but one
 
-other_session : (book : List SessionValue) (seat : ℕ) (p new : SessionValue) → slice_get book seat ≡ Some p → new.active ≡ p.active → (j u : ℕ) → seen_at (slice_set book seat new) j u ≡ seen_at book j u
+other_session : (book : List SessionValue) (seat : ℕ) (p new : SessionValue) → slice_get book seat ≡ Some p → new.active ≡ p.active → (j u : ℕ)
+    → seen_at (slice_set book seat new) j u ≡ seen_at book j u
 other_session book seat p new there same j u = elim (cases_eq j seat) [
   | inl is ↦
       ap (active_in u) (ap (slice_get (slice_set book seat new)) is ∙ get_set book seat new (get_within book seat p there))
@@ -67,11 +72,14 @@ other_session book seat p new there same j u = elim (cases_eq j seat) [
 ]
 
 -- the same transactions, in a session that changed elsewhere
-pub owned_beside : (s : State) (book : List SessionValue) (owner : ℕ → ℕ) (seat : ℕ) (p new : SessionValue) → slice_get book seat ≡ Some p → new.active ≡ p.active → AreOwned s book owner → AreOwned s (slice_set book seat new) owner
+pub owned_beside : (s : State) (book : List SessionValue) (owner : ℕ → ℕ) (seat : ℕ) (p new : SessionValue) → slice_get book seat ≡ Some p
+    → new.active ≡ p.active → AreOwned s book owner → AreOwned s (slice_set book seat new) owner
 owned_beside s book owner seat p new there same owned j u lt =
-    subst (λ a. Agree s u a (cond (j == owner u) (s.txns u) None)) (sym (other_session book seat p new there same j u)) (owned j u (subst (λ n. j < n) (set_length book seat new) lt))
+    subst (λ a. Agree s u a (cond (j == owner u) (s.txns u) None)) (sym (other_session book seat p new there same j u))
+    (owned j u (subst (λ n. j < n) (set_length book seat new) lt))
 
-pub owners_beside : (s : State) (book : List SessionValue) (owner : ℕ → ℕ) (seat : ℕ) (new : SessionValue) → HaveOwners s book owner → HaveOwners s (slice_set book seat new) owner
+pub owners_beside : (s : State) (book : List SessionValue) (owner : ℕ → ℕ) (seat : ℕ) (new : SessionValue) → HaveOwners s book owner
+    → HaveOwners s (slice_set book seat new) owner
 owners_beside s book owner seat new owners u there = subst (λ n. owner u < n) (sym (set_length book seat new)) (owners u there)
 
 -- ---- the beginning
@@ -95,7 +103,8 @@ opens o core b book empty = record {
     };
   };
   owner = λ t. 0;
-  owned = λ seat t lt. subst (Agree (opened o) t (seen_at book seat t)) (sym (none_of (seat == 0) None refl)) (subst (λ a. Agree (opened o) t a None) (sym (empty_at book empty seat t)) tt);
+  owned = λ seat t lt. subst (Agree (opened o) t (seen_at book seat t)) (sym (none_of (seat == 0) None refl))
+      (subst (λ a. Agree (opened o) t a None) (sym (empty_at book empty seat t)) tt);
   owners = λ t there. absurd (never there);
   commits = (opened_tells o core b book empty).0;
   history = (opened_tells o core b book empty).1;
@@ -131,7 +140,15 @@ other_outbox v waiting s k is =
         places = h.places;
         cleaned = h.cleaned;
         bound = h.bound;
-        scan = record { run = h.scan.run; made = h.scan.made; given = h.scan.given; missed = h.scan.missed; taken = h.scan.taken; in_a_row = h.scan.in_a_row; untaken = h.scan.untaken };
+        scan = record {
+          run = h.scan.run;
+          made = h.scan.made;
+          given = h.scan.given;
+          missed = h.scan.missed;
+          taken = h.scan.taken;
+          in_a_row = h.scan.in_a_row;
+          untaken = h.scan.untaken;
+        };
         made = h.made;
         begun = h.begun;
         active = h.active;
@@ -144,7 +161,8 @@ other_outbox v waiting s k is =
       counted = is.counted;
     }
 
-pub pushes : (o : Opened) (pushed : List RecordValue) (core : CoreValue) (book : List SessionValue) → IsRegister o pushed core book → (new : CoreValue) (after : List RecordValue) → HandsOn core new pushed after → IsRegister o after new book
+pub pushes : (o : Opened) (pushed : List RecordValue) (core : CoreValue) (book : List SessionValue) → IsRegister o pushed core book
+    → (new : CoreValue) (after : List RecordValue) → HandsOn core new pushed after → IsRegister o after new book
 pushes o pushed core book r new after on =
     let so : HasReplied o r.kept.calls pushed core = r.kept.replied in
     let tells : Tells o r.kept.calls new book = subst (λ v. Tells o r.kept.calls v book) (sym on.others) (r.commits, r.history) in
@@ -155,7 +173,8 @@ pushes o pushed core book r new after on =
           state = so.state;
           standing = so.standing;
           stands = subst (λ w. IsState w so.state so.standing) (sym on.others) (other_outbox core new.outbox so.state so.standing so.stands);
-          served = subst (λ made. HasServed o made r.kept.calls so.state so.standing) (ap (λ rs. pushed ++ rs) on.split ∙ (sym (append_assoc pushed on.handed new.outbox) ∙ ap (λ rs. rs ++ new.outbox) (sym on.taken))) so.served;
+          served = subst (λ made. HasServed o made r.kept.calls so.state so.standing) (ap (λ rs. pushed ++ rs) on.split
+              ∙ (sym (append_assoc pushed on.handed new.outbox) ∙ ap (λ rs. rs ++ new.outbox) (sym on.taken))) so.served;
         };
       };
       owner = r.owner;
@@ -203,7 +222,8 @@ module _ (o : Opened) (can : CanOpen o) (pushed : List RecordValue) (core : Core
     last_later =
         let before : core.last ≡ o.given.last + length (pushed ++ core.outbox) = numbered o can r.kept.calls pushed core so in
         let now : new.last ≡ o.given.last + length (pushed ++ new.outbox) = numbered o can calls_now pushed new kept_after.replied in
-        let more : length new.outbox ≡ length core.outbox + length (records_by s k.made answer.step) = ap length answer.outbox ∙ length-append core.outbox (records_by s k.made answer.step) in
+        let more : length new.outbox ≡ length core.outbox + length (records_by s k.made answer.step) = ap length answer.outbox
+        ∙ length-append core.outbox (records_by s k.made answer.step) in
         omega (arith, before, now, more, length-append pushed core.outbox, length-append pushed new.outbox)
 
     pub enabled : IsEnabledAny s answer.step
@@ -213,7 +233,8 @@ module _ (o : Opened) (can : CanOpen o) (pushed : List RecordValue) (core : Core
     shown_by step is = subst (λ x. Shows new (after_any s x) (standing_after k reply)) is answer.shown
 
     -- no transaction made a step
-    pub same_txns : (step : Option MachineStep) → answer.step ≡ step → (later : List SessionValue) → AreOwned (after_any s step) later r.owner → HaveOwners (after_any s step) later r.owner → Tells o calls_now new later → IsRegister o pushed new later
+    pub same_txns : (step : Option MachineStep) → answer.step ≡ step → (later : List SessionValue) → AreOwned (after_any s step) later r.owner
+        → HaveOwners (after_any s step) later r.owner → Tells o calls_now new later → IsRegister o pushed new later
     same_txns step is later owned owners tells = record {
       kept = kept_after;
       owner = r.owner;
@@ -224,15 +245,20 @@ module _ (o : Opened) (can : CanOpen o) (pushed : List RecordValue) (core : Core
     }
 
     -- one transaction of a seat did
-    pub txn_stepped : (step : MachineStep) → answer.step ≡ Some step → (seat t : ℕ) (p q : SessionValue) → slice_get book seat ≡ Some p → (seat ≡ r.owner t) ⊎ (s.txns t ≡ None)
-        → Agree (after s step) t (active_of t q.active) ((after s step).txns t) → ((u : ℕ) → u ≢ t → active_of u q.active ≡ active_of u p.active) → ((u : ℕ) → u ≢ t → (after s step).txns u ≡ s.txns u)
-        → ((u : ℕ) → u ≢ t → (x : Place) → row_held u ((after s step).holder x) (get (after s step).rows x) ≡ row_held u (s.holder x) (get s.rows x)) → Tells o calls_now new (slice_set book seat q) → IsRegister o pushed new (slice_set book seat q)
+    pub txn_stepped : (step : MachineStep) → answer.step ≡ Some step → (seat t : ℕ) (p q : SessionValue) → slice_get book seat ≡ Some p → (seat ≡ r.owner t)
+        ⊎ (s.txns t ≡ None)
+        → Agree (after s step) t (active_of t q.active) ((after s step).txns t) → ((u : ℕ) → u ≢ t → active_of u q.active ≡ active_of u p.active)
+        → ((u : ℕ) → u ≢ t → (after s step).txns u ≡ s.txns u)
+        → ((u : ℕ) → u ≢ t → (x : Place) → row_held u ((after s step).holder x) (get (after s step).rows x) ≡ row_held u (s.holder x) (get s.rows x))
+        → Tells o calls_now new (slice_set book seat q) → IsRegister o pushed new (slice_set book seat q)
     txn_stepped step is seat t p q there mine own pages txns apart tells = record {
       kept = kept_after;
       owner = next_owner s (after s step) book r.owner seat t p q there r.owned mine own pages txns apart;
-      owned = subst (λ x. AreOwned (after_any s x) (slice_set book seat q) (next_owner s (after s step) book r.owner seat t p q there r.owned mine own pages txns apart)) (sym is)
+      owned = subst (λ x. AreOwned (after_any s x) (slice_set book seat q)
+          (next_owner s (after s step) book r.owner seat t p q there r.owned mine own pages txns apart)) (sym is)
           (owned_later s (after s step) book r.owner seat t p q there r.owned mine own pages txns apart);
-      owners = subst (λ x. HaveOwners (after_any s x) (slice_set book seat q) (next_owner s (after s step) book r.owner seat t p q there r.owned mine own pages txns apart)) (sym is)
+      owners = subst (λ x. HaveOwners (after_any s x) (slice_set book seat q)
+          (next_owner s (after s step) book r.owner seat t p q there r.owned mine own pages txns apart)) (sym is)
           (owners_later s (after s step) book r.owner seat t p q there r.owned mine own pages txns apart r.owners);
       commits = tells.0;
       history = tells.1;

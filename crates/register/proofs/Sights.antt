@@ -1,5 +1,6 @@
 -- What a session says of the core.
-use Rattle.std.proofs.Common.{◌≡◌, ◌⊎◌, ℕ, Bool, true, false, cond, List, [], ◌++◌, Option, Some, None, is_some, not, ◌==◌, ◌&&◌, inl, inr, refl, sym, ap, ◌∙◌, subst}
+use Rattle.std.proofs.Common.{◌≡◌, ◌⊎◌, ℕ, Bool, true, false, cond, List, [], ◌++◌, Option, Some, None, is_some, not, ◌==◌, ◌&&◌, inl, inr, refl, sym, ap, ◌∙◌}
+use Rattle.std.proofs.Common.{subst}
 use Rattle.std.specs.FinMap.{get}
 use Rattle.std.specs.Option.{option_map}
 use Rattle.std.specs.Prelude.{slice_get, unwrap_or}
@@ -75,16 +76,21 @@ owes_at UndoesEntry x phase rolling owes = absurd (both (sym (λ i. is_owed (pha
     both e = absurd cc
 
 -- a transaction without a change owes nothing, and one whose owed change the session does not have owes nothing
-owed_not : (indexed : Bool) (cs : Changes) (phase : Phase) (rolling : Bool) → IsShaped indexed cs phase → None ≡ cond (is_owed phase rolling) (newest_write cs) None → is_owed phase rolling ≡ true → ⊥
+owed_not : (indexed : Bool) (cs : Changes) (phase : Phase) (rolling : Bool) → IsShaped indexed cs phase
+    → None ≡ cond (is_owed phase rolling) (newest_write cs) None → is_owed phase rolling ≡ true → ⊥
 owed_not indexed Unchanged phase rolling shaped none owes = let both : false ≡ true = sym (ap (λ f. is_owed f rolling) shaped) ∙ owes in absurd cc
-owed_not indexed (older ▹ c) phase rolling shaped none owes = let both : None ≡ Some (write_of c) = none ∙ ap (λ b. cond b (Some (write_of c)) None) owes in absurd cc
+owed_not indexed (older ▹ c) phase rolling shaped none owes = let both : None ≡ Some (write_of c) = none
+    ∙ ap (λ b. cond b (Some (write_of c)) None) owes in absurd cc
 
 owed_so : (b : Bool) (w : Option Write) (change : Write) → cond b w None ≡ Some change → b ≡ true
 owed_so true w change e = refl
 owed_so false w change e = absurd cc
 
 can_go : (a : ActiveValue) → can_go_on (Some a) ≡ true → (a.unfinished ≡ None) × (a.rolling ≡ false)
-can_go a e = (none_is a.unfinished (first (not (is_some a.unfinished)) (not a.rolling) e), false_is a.rolling (second (not (is_some a.unfinished)) (not a.rolling) e))
+can_go a e = (
+  none_is a.unfinished (first (not (is_some a.unfinished)) (not a.rolling) e),
+  false_is a.rolling (second (not (is_some a.unfinished)) (not a.rolling) e),
+)
   where
     first : (b c : Bool) → (b && c) ≡ true → b ≡ true
     first true c h = refl
@@ -102,7 +108,8 @@ can_go a e = (none_is a.unfinished (first (not (is_some a.unfinished)) (not a.ro
     false_is true h = absurd cc
     false_is false h = refl
 
-module _ (o : Opened) (can : CanOpen o) (pushed : List RecordValue) (core : CoreValue) (book : List SessionValue) (r : IsRegister o pushed core book) (seat : ℕ) (p : SessionValue) (there : slice_get book seat ≡ Some p) (t : ℕ) where
+module _ (o : Opened) (can : CanOpen o) (pushed : List RecordValue) (core : CoreValue) (book : List SessionValue) (r : IsRegister o pushed core book) (seat : ℕ)
+    (p : SessionValue) (there : slice_get book seat ≡ Some p) (t : ℕ) where
   abbrev st : State
   st = r.kept.replied.state
 
@@ -146,7 +153,8 @@ module _ (o : Opened) (can : CanOpen o) (pushed : List RecordValue) (core : Core
         by (Some y) so = owes_at y.progress x (so y refl).0 (so y refl).1 owes
 
     pub rows_here : (rid : Place) (row : Option Row) → row_at rid a.rows ≡ Some row → get core.heap.rows rid ≡ row
-    rows_here rid row is = ap (λ (m : Table). get m rid) (sym r.kept.replied.stands.shown.rows) ∙ row_is t (st.holder rid) (get st.rows rid) row (sym (sight.rows rid) ∙ is)
+    rows_here rid row is = ap (λ (m : Table). get m rid) (sym r.kept.replied.stands.shown.rows)
+        ∙ row_is t (st.holder rid) (get st.rows rid) row (sym (sight.rows rid) ∙ is)
 
   pub ready : is_ready p t ≡ true → IsReadyOrNone (txn_shown core t)
   ready is = by (active_of t p.active) refl is
@@ -156,12 +164,14 @@ module _ (o : Opened) (can : CanOpen o) (pushed : List RecordValue) (core : Core
       by (Some a) found can_it = let so = can_go a can_it in ready_here a found so.0 so.1
 
   -- what a commit would leave
-  pub left_here : is_some (active_of t p.active) ≡ true → (q : Place) → row_at q (rows_of t p.active) ≡ row_held t (holder_of q core.txns.active) (get core.heap.rows q)
+  pub left_here : is_some (active_of t p.active) ≡ true → (q : Place)
+      → row_at q (rows_of t p.active) ≡ row_held t (holder_of q core.txns.active) (get core.heap.rows q)
   left_here own q =
       let its = agree_there st t (active_of t p.active) (st.txns t) own (agreed o can pushed core book r seat p there t own) in
       ap (λ x. row_at q (unwrap_or (option_map (λ (a : ActiveValue). a.rows) x) [])) its.2
       ∙ (its.4.rows q ∙ (λ i. row_held t (r.kept.replied.stands.shown.holder q i) (get (r.kept.replied.stands.shown.rows i) q)))
 
 -- the table at each record
-pub tables : (o : Opened) → CanOpen o → (pushed : List RecordValue) (core : CoreValue) (book : List SessionValue) (r : IsRegister o pushed core book) → ShowsCommits o (pushed ++ core.outbox) core r.commits.commits
+pub tables : (o : Opened) → CanOpen o → (pushed : List RecordValue) (core : CoreValue) (book : List SessionValue) (r : IsRegister o pushed core book)
+    → ShowsCommits o (pushed ++ core.outbox) core r.commits.commits
 tables o can pushed core book r = shows o can r.kept.calls pushed core r.kept.replied r.commits.commits r.history.those r.history.rising

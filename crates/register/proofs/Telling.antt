@@ -29,7 +29,14 @@ IsQuiet e reply = (writes : ℕ → List Write) → (commits_told (items_at writ
 
 pub opened_tells : (o : Opened) (core : CoreValue) → BeginsWith o core → (book : List SessionValue) → AreEmpty book → Tells o [] core book
 opened_tells o core b book empty = (
-  record { commits = []; numbered = tt; counted = sym b.stands.shown.commits; by_seats = tt; in_sessions = λ seat session at. ap (λ (s : SessionValue). s.commits) (empty seat session at) },
+  record {
+    commits = [];
+    numbered = tt;
+    counted = sym b.stands.shown.commits;
+    by_seats = tt;
+    in_sessions = λ seat session at.
+        ap (λ (s : SessionValue). s.commits) (empty seat session at);
+  },
   record {
     those = tt;
     rising = within o.given.last core.last b.stands.shown.made;
@@ -40,7 +47,8 @@ opened_tells o core b book empty = (
     within : (n m : ℕ) → n ≡ m → n ≤ m
     within n m e = omega (arith, e)
 
-module _ (o : Opened) (calls : List (Event × Reply)) (core new : CoreValue) (book : List SessionValue) (all : AreAllCommits book core.commits) (h : AreOfHistory o calls core.last book all.commits)
+module _ (o : Opened) (calls : List (Event × Reply)) (core new : CoreValue) (book : List SessionValue) (all : AreAllCommits book core.commits)
+    (h : AreOfHistory o calls core.last book all.commits)
     (e : Event) (reply : Reply) (later : core.last ≤ new.last) where
   abbrev asked : ℕ → List Write
   asked = asked_over no_writes calls
@@ -49,12 +57,21 @@ module _ (o : Opened) (calls : List (Event × Reply)) (core new : CoreValue) (bo
   calls_after = calls ++ (e, reply) ∷ []
 
   quiet : IsQuiet e reply → new.commits ≡ core.commits → (after : List SessionValue) → length after ≡ length book
-      → ((seat : ℕ) (session : SessionValue) → slice_get after seat ≡ Some session → session.commits ≡ made_by seat all.commits) → ((seat : ℕ) (session : SessionValue) → slice_get after seat ≡ Some session → session.turns ≡ made_by seat h.turns.turns)
+      → ((seat : ℕ) (session : SessionValue) → slice_get after seat ≡ Some session → session.commits ≡ made_by seat all.commits)
+      → ((seat : ℕ) (session : SessionValue) → slice_get after seat ≡ Some session → session.turns ≡ made_by seat h.turns.turns)
       → Tells o calls_after new after
   quiet none counted after count commits turns = (
-    record { commits = all.commits; numbered = all.numbered; counted = counted ∙ all.counted; by_seats = subst (λ n. AreBySeats n all.commits) (sym count) all.by_seats; in_sessions = commits },
     record {
-      those = subst (λ told. AreThose o.given.table told all.commits) (sym (commits_more calls e reply [] (none asked).0 ∙ append-nil (commits_told (items_of no_writes calls)))) h.those;
+      commits = all.commits;
+      numbered = all.numbered;
+      counted = counted
+          ∙ all.counted;
+      by_seats = subst (λ n. AreBySeats n all.commits) (sym count) all.by_seats;
+      in_sessions = commits;
+    },
+    record {
+      those = subst (λ told. AreThose o.given.table told all.commits)
+          (sym (commits_more calls e reply [] (none asked).0 ∙ append-nil (commits_told (items_of no_writes calls)))) h.those;
       rising = rising_on o.given.last core.last all.commits new.last h.rising later;
       turns = record {
         turns = h.turns.turns;
@@ -71,12 +88,15 @@ module _ (o : Opened) (calls : List (Event × Reply)) (core new : CoreValue) (bo
 
   module _ (k : ℕ) (p : SessionValue) (there : slice_get book k ≡ Some p) where
     -- one changes, but for its commits and what it did to the index
-    pub quiet_beside : IsQuiet e reply → new.commits ≡ core.commits → (q : SessionValue) → q.commits ≡ p.commits → q.turns ≡ p.turns → Tells o calls_after new (slice_set book k q)
+    pub quiet_beside : IsQuiet e reply → new.commits ≡ core.commits → (q : SessionValue) → q.commits ≡ p.commits → q.turns ≡ p.turns
+        → Tells o calls_after new (slice_set book k q)
     quiet_beside none counted q commits turns =
-        quiet none counted (slice_set book k q) (set_length book k q) (stays_in (λ (s : SessionValue). s.commits) book all.commits all.in_sessions k p there q commits)
+        quiet none counted (slice_set book k q) (set_length book k q)
+        (stays_in (λ (s : SessionValue). s.commits) book all.commits all.in_sessions k p there q commits)
         (stays_in (λ (s : SessionValue). s.turns) book h.turns.turns h.turns.in_sessions k p there q turns)
 
-    pub turn_tells : (turn : Turn) → new.commits ≡ core.commits → commits_told (items_at asked reply e) ≡ [] → turns_told (items_at asked reply e) ≡ turn ∷ [] → Tells o calls_after new (slice_set book k (with_turn p turn))
+    pub turn_tells : (turn : Turn) → new.commits ≡ core.commits → commits_told (items_at asked reply e) ≡ [] → turns_told (items_at asked reply e) ≡ turn ∷ []
+        → Tells o calls_after new (slice_set book k (with_turn p turn))
     turn_tells turn counted no_commit is = (
       record {
         commits = all.commits;
@@ -86,11 +106,13 @@ module _ (o : Opened) (calls : List (Event × Reply)) (core new : CoreValue) (bo
         in_sessions = stays_in (λ (s : SessionValue). s.commits) book all.commits all.in_sessions k p there (with_turn p turn) refl;
       },
       record {
-        those = subst (λ told. AreThose o.given.table told all.commits) (sym (commits_more calls e reply [] no_commit ∙ append-nil (commits_told (items_of no_writes calls)))) h.those;
+        those = subst (λ told. AreThose o.given.table told all.commits)
+            (sym (commits_more calls e reply [] no_commit ∙ append-nil (commits_told (items_of no_writes calls)))) h.those;
         rising = rising_on o.given.last core.last all.commits new.last h.rising later;
         turns = record {
           turns = h.turns.turns ++ (k, turn) ∷ [];
-          told = map-append (λ (c : ℕ × Turn). c.1) h.turns.turns ((k, turn) ∷ []) ∙ (ap (λ l. l ++ turn ∷ []) h.turns.told ∙ sym (turns_more calls e reply (turn ∷ []) is));
+          told = map-append (λ (c : ℕ × Turn). c.1) h.turns.turns ((k, turn) ∷ [])
+              ∙ (ap (λ l. l ++ turn ∷ []) h.turns.told ∙ sym (turns_more calls e reply (turn ∷ []) is));
           by_seats = by_seats_and (λ (s : SessionValue). s.turns) book h.turns.turns h.turns.in_sessions k p there (with_turn p turn) turn h.turns.by_seats;
           in_sessions = more_in (λ (s : SessionValue). s.turns) book h.turns.turns h.turns.in_sessions k p there (with_turn p turn) turn refl;
         };
@@ -104,9 +126,11 @@ module _ (o : Opened) (calls : List (Event × Reply)) (core new : CoreValue) (bo
       abbrev q : SessionValue
       q = committed p txn ticket
 
-      pub commit_tells : (ticket.«record» ≡ core.last + 1) × (ticket.commit ≡ Some (core.commits + 1)) → (new.last ≡ core.last + 1) × (new.commits ≡ core.commits + 1) → (number : ℕ) (writes : List Write) → ticket.«record» ≡ number
+      pub commit_tells : (ticket.«record» ≡ core.last + 1) × (ticket.commit ≡ Some (core.commits + 1)) → (new.last ≡ core.last + 1)
+          × (new.commits ≡ core.commits + 1) → (number : ℕ) (writes : List Write) → ticket.«record» ≡ number
           → commits_told (items_at asked reply e) ≡ (number, writes) ∷ [] → turns_told (items_at asked reply e) ≡ []
-          → applied (over o.given.table (commits_told (items_of no_writes calls))) c.writes ≡ applied (over o.given.table (commits_told (items_of no_writes calls))) writes → Tells o calls_after new (slice_set book k q)
+          → applied (over o.given.table (commits_told (items_of no_writes calls))) c.writes
+          ≡ applied (over o.given.table (commits_told (items_of no_writes calls))) writes → Tells o calls_after new (slice_set book k q)
       commit_tells numbers counts number writes same is no_turn leaves = (
         record {
           commits = all.commits ++ (k, c) ∷ [];
@@ -118,7 +142,8 @@ module _ (o : Opened) (calls : List (Event × Reply)) (core new : CoreValue) (bo
         record {
           those = subst (λ told. AreThose o.given.table told (all.commits ++ (k, c) ∷ [])) (sym (commits_more calls e reply ((number, writes) ∷ []) is))
               (those_more o.given.table (commits_told (items_of no_writes calls)) all.commits h.those number writes (k, c) same leaves);
-          rising = rising_more o.given.last core.last all.commits (k, c) new.last h.rising (above ticket.«record» numbers.0) (within ticket.«record» new.last numbers.0 counts.0);
+          rising = rising_more o.given.last core.last all.commits (k, c) new.last h.rising (above ticket.«record» numbers.0)
+              (within ticket.«record» new.last numbers.0 counts.0);
           turns = record {
             turns = h.turns.turns;
             told = h.turns.told ∙ sym (turns_more calls e reply [] no_turn ∙ append-nil (turns_told (items_of no_writes calls)));

@@ -47,7 +47,8 @@ changes_written (older ▹ c) q v =
 unnamed : (holder : Place → Option ℕ) (t : ℕ) (cs : Changes) (q : Place) (v : Option Row) → IsHolderOf holder t cs → holder q ≢ Some t → latest cs q v ≡ v
 unnamed holder t Unchanged q v names apart = refl
 unnamed holder t (older ▹ c) q v names apart =
-    ap (λ b. cond b (new_row c.rows) (latest older q v)) (other_key rid_exact q c.rid (λ e. apart (ap holder e ∙ names.0))) ∙ unnamed holder t older q v names.1 apart
+    ap (λ b. cond b (new_row c.rows) (latest older q v)) (other_key rid_exact q c.rid (λ e. apart (ap holder e ∙ names.0)))
+    ∙ unnamed holder t older q v names.1 apart
 
 applied_all : (cs : Changes) → applied_of cs true ≡ cs
 applied_all Unchanged = refl
@@ -55,7 +56,8 @@ applied_all (older ▹ c) = refl
 
 -- ---- the rows that a session has of a transaction without an unfinished change leave what its changes leave
 
-module _ (s : State) (holds : Invariant s) (t : ℕ) (x : Active) (active : s.txns t ≡ Some x) (made : x.phase ≡ Made) (a : ActiveValue) (seen : IsSeen s t a x) where
+module _ (s : State) (holds : Invariant s) (t : ℕ) (x : Active) (active : s.txns t ≡ Some x) (made : x.phase ≡ Made) (a : ActiveValue)
+    (seen : IsSeen s t a x) where
   names : IsHolderOf s.holder t x.changes
   names = (holds.coherent.txns t x active).names
 
@@ -65,7 +67,8 @@ module _ (s : State) (holds : Invariant s) (t : ℕ) (x : Active) (active : s.tx
   mine_at : (q : Place) → s.holder q ≡ Some t → get s.rows q ≡ latest x.changes q (get s.committed q)
   mine_at q mine =
       let held : IsHeld s q t = holds.coherent.held q t mine in
-      held.row ∙ (ap (λ (y : Active). latest (made_of y) q (get s.committed q)) (same_some held.active active) ∙ ap (λ cs. latest cs q (get s.committed q)) all_made)
+      held.row ∙ (ap (λ (y : Active). latest (made_of y) q (get s.committed q)) (same_some held.active active)
+      ∙ ap (λ cs. latest cs q (get s.committed q)) all_made)
 
   left_at : (q : Place) (o : Option ℕ) → s.holder q ≡ o → unwrap_or (row_held t o (get s.rows q)) (get s.committed q) ≡ latest x.changes q (get s.committed q)
   left_at q None is = sym (unnamed s.holder t x.changes q (get s.committed q) names (λ e. none_some (sym is ∙ e)))
@@ -73,7 +76,8 @@ module _ (s : State) (holds : Invariant s) (t : ℕ) (x : Active) (active : s.tx
       none_some : None ≡ Some t → ⊥
       none_some e = absurd cc
   left_at q (Some u) is = elim (cases_eq t u) [
-    | inl same ↦ ap (λ b. unwrap_or (cond b (Some (get s.rows q)) None) (get s.committed q)) (eq-eqb t u same) ∙ mine_at q (is ∙ ap (λ (n : ℕ). Some n) (sym same))
+    | inl same ↦ ap (λ b. unwrap_or (cond b (Some (get s.rows q)) None) (get s.committed q)) (eq-eqb t u same)
+        ∙ mine_at q (is ∙ ap (λ (n : ℕ). Some n) (sym same))
     | inr apart ↦
         ap (λ b. unwrap_or (cond b (Some (get s.rows q)) None) (get s.committed q)) (ne_eqb t u apart)
         ∙ sym (unnamed s.holder t x.changes q (get s.committed q) names (λ e. apart (some_is t u (sym e ∙ is))))
@@ -84,11 +88,13 @@ module _ (s : State) (holds : Invariant s) (t : ℕ) (x : Active) (active : s.tx
       get-applied s.committed a.rows q
       ∙ (seen.one_each q (get s.committed q)
       ∙ (ap (λ (o : Option (Option Row)). unwrap_or o (get s.committed q)) (seen.rows q)
-      ∙ (left_at q (s.holder q) refl ∙ (sym (changes_written x.changes q (get s.committed q)) ∙ sym (get-applied s.committed (writes_of (as_list x.changes)) q))))))
+      ∙ (left_at q (s.holder q) refl ∙ (sym (changes_written x.changes q (get s.committed q))
+      ∙ sym (get-applied s.committed (writes_of (as_list x.changes)) q))))))
 
 -- ---- the committed table is that of the history
 
-pub committed_is : (o : Opened) → CanOpen o → (made : List RecordValue) (pairs : List (Event × Reply)) (s : State) (k : Standing) → HasServed o made pairs s k → s.committed ≡ table_after o.given.table (items_of no_writes pairs)
+pub committed_is : (o : Opened) → CanOpen o → (made : List RecordValue) (pairs : List (Event × Reply)) (s : State) (k : Standing) → HasServed o made pairs s k
+    → s.committed ≡ table_after o.given.table (items_of no_writes pairs)
 committed_is o can made pairs s k h =
     let cells : Cells = cells_after (opening_cells o.given) made in
     let has = made_cells o can made (items_of no_writes pairs) (asked_over no_writes pairs) s h.log in

@@ -1,6 +1,7 @@
 -- What the sessions of all seats and the core agree on.
 use Rattle.std.specs.FinMap.{get}
-use Rattle.std.specs.Prelude.{[], Bool, false, if◌then◌else◌, is_some, length, List, None, not, Option, slice_get, Some, true, unwrap_or, ℕ, ◌<◌, ◌==◌, ◌∷◌, ◌≡◌}
+use Rattle.std.specs.Prelude.{[], Bool, false, if◌then◌else◌, is_some, length, List, None, not, Option, slice_get, Some}
+use Rattle.std.specs.Prelude.{true, unwrap_or, ℕ, ◌<◌, ◌==◌, ◌∷◌, ◌≡◌}
 use Rattle.records.specs.RecordValue.{RecordValue}
 use Rattle.records.specs.Values.{Place}
 use Rattle.records.specs.declared.row.Row.{Row}
@@ -48,8 +49,8 @@ owed_write x = if is_owed x.phase x.rolling then newest_write x.changes else Non
 abbrev pub IsOneEach : List Write → Type 0
 IsOneEach rows = (q : Place) (v : Option Row) → written_at rows q v ≡ unwrap_or (row_at q rows) v
 
--- A session has of a transaction what the core has: just the places that it holds, each once with the row that is there now; the
--- change of which it owes a step; and whether it is rolling back.
+-- A session has of a transaction what the core has: just the places that it holds, each once with the row that is there
+-- now; the change of which it owes a step; and whether it is rolling back.
 pub record IsSeen (s : State) (t : ℕ) (a : ActiveValue) (x : Active) : Type 0 where
   pub rows : (q : Place) → row_at q a.rows ≡ row_held t (s.holder q) (get s.rows q)
   pub one_each : IsOneEach a.rows
@@ -76,7 +77,8 @@ seen_at book seat t = active_in t (slice_get book seat)
 
 -- an active transaction is in the session of its owner, and in no other
 abbrev pub AreOwned : State → List SessionValue → (owner : ℕ → ℕ) → Type 0
-AreOwned s book owner = (seat t : ℕ) → seat < length book → Agree s t (seen_at book seat t) (if seat == owner t then s.txns t else None)
+AreOwned s book owner = (seat t : ℕ) → seat < length book
+    → Agree s t (seen_at book seat t) (if seat == owner t then s.txns t else None)
 
 -- each active transaction has an owner among the seats
 abbrev pub HaveOwners : State → List SessionValue → (owner : ℕ → ℕ) → Type 0
@@ -91,8 +93,10 @@ IsOfNoSeat (Event.Find key) = Unit {0}
 IsOfNoSeat Event.Life = Unit {0}
 IsOfNoSeat _ = ⊥
 
--- The core has replied to some calls since it was opened. Its active transactions are those of the sessions, each in one of them; and its commits, and what was done to the index, are those of the sessions.
-pub record IsRegister (o : Opened) (pushed : List RecordValue) (core : CoreValue) (book : List SessionValue) : Type 0 where
+-- The core has replied to some calls since it was opened. Its active transactions are those of the sessions, each in
+-- one of them; and its commits, and what was done to the index, are those of the sessions.
+pub record IsRegister (o : Opened) (pushed : List RecordValue) (core : CoreValue)
+    (book : List SessionValue) : Type 0 where
   pub kept : IsRegisterKept o pushed core
   pub owner : ℕ → ℕ
   pub owned : AreOwned kept.replied.state book owner

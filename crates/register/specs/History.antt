@@ -1,5 +1,6 @@
 -- What the sessions of all seats say of the history that the core's calls tell.
-use Rattle.std.specs.Prelude.{[], filter, length, List, map, nat_le, slice_get, Some, take, ℕ, ◌++◌, ◌-◌, ◌<◌, ◌∷◌, ◌≡◌, ◌≤◌}
+use Rattle.std.specs.Prelude.{[], filter, length, List, map, nat_le, slice_get, Some, take, ℕ, ◌++◌, ◌-◌, ◌<◌, ◌∷◌, ◌≡◌}
+use Rattle.std.specs.Prelude.{◌≤◌}
 use Rattle.records.specs.RecordValue.{RecordValue}
 use Rattle.model.specs.Given.{given_after}
 use Rattle.model.specs.History.{Checkpointed, Committed, Completed, Created, Deed, Dropped, Item}
@@ -55,10 +56,12 @@ turns_told (item ∷ items) = turn_told item.number item.deed ++ turns_told item
 
 -- ---- they are those of the sessions
 
--- One after the other over this table, these commits are those that a history tells: each has the number of the commit's record, and its rows leave the table that the commit's writes leave.
+-- One after the other over this table, these commits are those that a history tells: each has the number of the
+-- commit's record, and its rows leave the table that the commit's writes leave.
 abbrev pub AreThose : Table → List (ℕ × List Write) → Commits → Type 0
 AreThose table [] [] = Unit {0}
-AreThose table (told ∷ more) (c ∷ cs) = (c.1.ticket.«record» ≡ told.0) × (applied table c.1.writes ≡ applied table told.1) × AreThose (applied table told.1) more cs
+AreThose table (told ∷ more) (c ∷ cs) = (c.1.ticket.«record» ≡ told.0)
+    × (applied table c.1.writes ≡ applied table told.1) × AreThose (applied table told.1) more cs
 AreThose table [] (c ∷ cs) = ⊥
 AreThose table (told ∷ more) [] = ⊥
 
@@ -67,22 +70,30 @@ abbrev pub AreRisingTo : (from to : ℕ) → Commits → Type 0
 AreRisingTo from to [] = from ≤ to
 AreRisingTo from to (c ∷ cs) = (from < c.1.ticket.«record») × AreRisingTo c.1.ticket.«record» to cs
 
--- What was done to the index is what all sessions have, each with the seat that did it; and a session has what its seat did.
+-- What was done to the index is what all sessions have, each with the seat that did it; and a session has what its seat
+-- did.
 pub record AreAllTurns (book : List SessionValue) (all : List Turn) : Type 0 where
   pub turns : List (ℕ × Turn)
   pub told : map (λ (c : ℕ × Turn). c.1) turns ≡ all
   pub by_seats : AreBySeats (length book) turns
-  pub in_sessions : (seat : ℕ) (session : SessionValue) → slice_get book seat ≡ Some session → session.turns ≡ made_by seat turns
+  pub in_sessions : (seat : ℕ) (session : SessionValue) → slice_get book seat ≡ Some session
+      → session.turns ≡ made_by seat turns
 
--- The commits of all sessions, in the order of their numbers, are those of the history that these calls tell, up to the record of this number; and what the sessions did to the index is what it tells of that.
-pub record AreOfHistory (o : Opened) (calls : List (Event × Reply)) (last : ℕ) (book : List SessionValue) (commits : Commits) : Type 0 where
+-- The commits of all sessions, in the order of their numbers, are those of the history that these calls tell, up to the
+-- record of this number; and what the sessions did to the index is what it tells of that.
+pub record AreOfHistory (o : Opened) (calls : List (Event × Reply)) (last : ℕ) (book : List SessionValue)
+    (commits : Commits) : Type 0 where
   pub those : AreThose o.given.table (commits_told (items_of no_writes calls)) commits
   pub rising : AreRisingTo o.given.last last commits
   pub turns : AreAllTurns book (turns_told (items_of no_writes calls))
 
 -- ---- what whoever gets at the core finds
 
--- For each record number from that of the opening on, the records up to it, with the uncommitted changes taken back, give the table of the opening with the commits up to it set over it in order. With all records that is the core's committed table.
+-- For each record number from that of the opening on, the records up to it, with the uncommitted changes taken back,
+-- give the table of the opening with the commits up to it set over it in order. With all records that is the core's
+-- committed table.
 pub record ShowsCommits (o : Opened) (records : List RecordValue) (core : CoreValue) (commits : Commits) : Type 0 where
-  pub recovered : (number : ℕ) → o.given.last ≤ number → (given_after o.given (take (number - o.given.last) records)).table ≡ with_commits o.given.table (commits_up_to number commits)
+  pub recovered : (number : ℕ) → o.given.last ≤ number
+      → (given_after o.given (take (number - o.given.last) records)).table
+      ≡ with_commits o.given.table (commits_up_to number commits)
   pub committed : committed_rows core ≡ with_commits o.given.table commits

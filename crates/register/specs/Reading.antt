@@ -13,6 +13,8 @@ unfinished_of txn session = option_and_then (λ (a : ActiveValue). a.unfinished)
 abbrev pub ShowsRow : ℕ → Write → SessionValue → Type 0
 ShowsRow txn w session = row_at w.rid (rows_of txn session.active) ≡ Some w.row
 
--- The session has the row that the change asked for; or, as long as that change is to be finished, the row that was there before.
+-- The session has the row that the change asked for; or, as long as that change is to be finished, the row that was
+-- there before.
 abbrev pub ReadsBack : (before : Option Row) → ℕ → Write → SessionValue → Type 0
-ReadsBack before txn change session = ShowsRow txn change session ⊎ ((unfinished_of txn session ≡ Some change) × ShowsRow txn (record { rid = change.rid; row = before }) session)
+ReadsBack before txn change session = ShowsRow txn change session
+    ⊎ ((unfinished_of txn session ≡ Some change) × ShowsRow txn (record { rid = change.rid; row = before }) session)

@@ -7,7 +7,8 @@ use Rattle.nsf_core.specs.View.{CoreValue}
 use Rattle.core_laws.specs.Calls.{HasReplied}
 use Rattle.sessions.specs.Values.{CommitValue, SessionValue, empty_session}
 
--- The core has replied to some calls since it was opened, each reply one that was allowed then; and the records that were pushed, with those that wait in it, are all that it made.
+-- The core has replied to some calls since it was opened, each reply one that was allowed then; and the records that
+-- were pushed, with those that wait in it, are all that it made.
 pub record IsRegisterKept (o : Opened) (pushed : List RecordValue) (core : CoreValue) : Type 0 where
   pub calls : List (Event × Reply)
   pub replied : HasReplied o calls pushed core
@@ -38,13 +39,15 @@ abbrev pub AreBySeats : {A : Type 0} → ℕ → List (ℕ × A) → Type 0
 AreBySeats seats [] = Unit {0}
 AreBySeats seats (c ∷ cs) = (c.0 < seats) × AreBySeats seats cs
 
--- The commits of all sessions have the numbers 1 to `count`, each once; and a session has those of its seat, in the order of their numbers.
+-- The commits of all sessions have the numbers 1 to `count`, each once; and a session has those of its seat, in the
+-- order of their numbers.
 pub record AreAllCommits (book : List SessionValue) (count : ℕ) : Type 0 where
   pub commits : Commits
   pub numbered : AreNumbered 1 commits
   pub counted : count ≡ length commits
   pub by_seats : AreBySeats (length book) commits
-  pub in_sessions : (seat : ℕ) (session : SessionValue) → slice_get book seat ≡ Some session → session.commits ≡ made_by seat commits
+  pub in_sessions : (seat : ℕ) (session : SessionValue) → slice_get book seat ≡ Some session
+      → session.commits ≡ made_by seat commits
 
 -- sessions as they are made
 abbrev pub AreEmpty : List SessionValue → Type 0

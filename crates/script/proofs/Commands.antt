@@ -1,6 +1,7 @@
 -- The commands that are read are those that the words spell.
 use Rattle.std.specs.Prelude.{codes}
-use Rattle.std.proofs.Common.{◌≡◌, ℕ, ◌^◌, ◌<◌, ◌≤◌, ◌&&◌, true, false, cond, ltb, leb, eqb, List, [], ◌∷◌, ◌++◌, Option, Some, None, refl, sym, ap, subst, ◌∙◌, arith, inl, inr}
+use Rattle.std.proofs.Common.{◌≡◌, ℕ, ◌^◌, ◌<◌, ◌≤◌, ◌&&◌, true, false, cond, ltb, leb, eqb, List, [], ◌∷◌, ◌++◌, Option, Some, None, refl, sym, ap, subst, ◌∙◌}
+use Rattle.std.proofs.Common.{arith, inl, inr}
 use Rattle.std.specs.Fmt.{decimal}
 use Rattle.std.specs.List.{join_with_byte}
 use Rattle.std.specs.Option.{option_map}
@@ -12,9 +13,11 @@ use Rattle.script.specs.declared.word.TheConstants.{STEPS_MAX}
 use Rattle.script.specs.declared.fate.Fate.{Fate}
 use Rattle.script.specs.declared.fate.Fate.TheVariants.{Old, New, Zero, Gate, Junk}
 use Rattle.script.specs.declared.command.Command.{Command}
-use Rattle.script.specs.declared.command.Command.TheVariants.{Begin, Insert, Delete, Update, Step, Undo, End, Commit, Create, Drop, Build, Clean, Flush, Image, Crash, Get, Find, Dump}
+use Rattle.script.specs.declared.command.Command.TheVariants.{Begin, Insert, Delete, Update, Step, Undo, End, Commit, Create, Drop, Build, Clean, Flush, Image}
+use Rattle.script.specs.declared.command.Command.TheVariants.{Crash, Get, Find, Dump}
 use Rattle.script.specs.Grammar.{rid_text, parted_by, words, is_left_out, IsTxn, IsCount, IsRid, fate_name, SpellSteps, Spell, IsLineOf, IsGood}
-use Rattle.script.specs.Reading.{◌>>=◌, only, first_two, first_three, first_four, number_at, txn_at, count_at, place_at, rid_at, text_at, fate_at, alone_at, insert_at, delete_at, update_at, only_txn_at, steps_at, crash_at, get_at, find_at, store_command_at, command_at}
+use Rattle.script.specs.Reading.{◌>>=◌, only, first_two, first_three, first_four, number_at, txn_at, count_at, place_at, rid_at, text_at, fate_at, alone_at}
+use Rattle.script.specs.Reading.{insert_at, delete_at, update_at, only_txn_at, steps_at, crash_at, get_at, find_at, store_command_at, command_at}
 use Rattle.script.proofs.Steps.{bind_some, mapped, passed, passed_not, some_is, by_name}
 use Rattle.script.proofs.Numbers.{number_takes, number_again, no_such_byte}
 use Rattle.script.proofs.Texts.{text_takes, text_again}
@@ -57,17 +60,21 @@ count_again count h =
     let high : leb count STEPS_MAX ≡ true = le-leb _ _ h.1 in
     rw (number_again count (omega (arith, h.1)), low, high) refl
 
-place_takes : (parts : List (List ℕ)) (rid : Place) → place_at parts ≡ Some rid → (parts ≡ decimal rid.page ∷ decimal rid.slot ∷ []) × (rid.page < 2 ^ 32) × (rid.slot < SLOTS_PER_PAGE)
+place_takes : (parts : List (List ℕ)) (rid : Place) → place_at parts ≡ Some rid → (parts ≡ decimal rid.page ∷ decimal rid.slot ∷ []) × (rid.page < 2 ^ 32)
+    × (rid.slot < SLOTS_PER_PAGE)
 place_takes [] rid e = absurd cc
 place_takes (first ∷ rest) rid e =
-    let p = bind_some (number_at first) (λ page. only rest >>= λ second. number_at second >>= λ slot. cond (ltb slot SLOTS_PER_PAGE) (Some (record { page = page; slot = slot })) None) rid e in
-    let o = bind_some (only rest) (λ second. number_at second >>= λ slot. cond (ltb slot SLOTS_PER_PAGE) (Some (record { page = p.0; slot = slot })) None) rid p.2 in
+    let p = bind_some (number_at first) (λ page. only rest >>= λ second. number_at second >>= λ slot.
+    cond (ltb slot SLOTS_PER_PAGE) (Some (record { page = page; slot = slot })) None) rid e in
+    let o = bind_some (only rest) (λ second. number_at second >>= λ slot.
+    cond (ltb slot SLOTS_PER_PAGE) (Some (record { page = p.0; slot = slot })) None) rid p.2 in
     let s = bind_some (number_at o.0) (λ slot. cond (ltb slot SLOTS_PER_PAGE) (Some (record { page = p.0; slot = slot })) None) rid o.2 in
     let place : Place = record { page = p.0; slot = s.0 } in
     let low = passed (ltb s.0 SLOTS_PER_PAGE) (Some place) rid s.2 in
     let page = number_takes first p.0 p.1 in
     let slot = number_takes o.0 s.0 s.1 in
-    let whole : first ∷ rest ≡ decimal p.0 ∷ decimal s.0 ∷ [] = ap (λ (t : List (List ℕ)). first ∷ t) (only_takes rest o.0 o.1) ∙ ap (λ (w : List ℕ). w ∷ o.0 ∷ []) page.0 ∙ ap (λ (w : List ℕ). decimal p.0 ∷ w ∷ []) slot.0 in
+    let whole : first ∷ rest ≡ decimal p.0 ∷ decimal s.0 ∷ [] = ap (λ (t : List (List ℕ)). first ∷ t) (only_takes rest o.0 o.1)
+    ∙ ap (λ (w : List ℕ). w ∷ o.0 ∷ []) page.0 ∙ ap (λ (w : List ℕ). decimal p.0 ∷ w ∷ []) slot.0 in
     subst (λ (r : Place). (first ∷ rest ≡ decimal r.page ∷ decimal r.slot ∷ []) × (r.page < 2 ^ 32) × (r.slot < SLOTS_PER_PAGE)) (some_is place rid low.1)
     (whole, page.1, ltb-true _ _ low.0)
 
@@ -114,21 +121,24 @@ two_take : (args : List (List ℕ)) (two : List ℕ × List ℕ) → first_two a
 two_take [] two e = absurd cc
 two_take (first ∷ rest) two e =
     let second = bind_some (only rest) (λ second. Some (first, second)) two e in
-    ap (λ (t : List (List ℕ)). first ∷ t) (only_takes rest second.0 second.1) ∙ ap (λ (t : List ℕ × List ℕ). t.0 ∷ t.1 ∷ []) (some_is (first, second.0) two second.2)
+    ap (λ (t : List (List ℕ)). first ∷ t) (only_takes rest second.0 second.1)
+    ∙ ap (λ (t : List ℕ × List ℕ). t.0 ∷ t.1 ∷ []) (some_is (first, second.0) two second.2)
 
 three_take : (args : List (List ℕ)) (three : List ℕ × List ℕ × List ℕ) → first_three args ≡ Some three → args ≡ three.0 ∷ three.1 ∷ three.2 ∷ []
 three_take [] three e = absurd cc
 three_take (first ∷ rest) three e =
     let two = bind_some (first_two rest) (λ two. Some (first, two.0, two.1)) three e in
     let pair = two.0 in
-    ap (λ (t : List (List ℕ)). first ∷ t) (two_take rest pair two.1) ∙ ap (λ (t : List ℕ × List ℕ × List ℕ). t.0 ∷ t.1 ∷ t.2 ∷ []) (some_is (first, pair.0, pair.1) three two.2)
+    ap (λ (t : List (List ℕ)). first ∷ t) (two_take rest pair two.1)
+    ∙ ap (λ (t : List ℕ × List ℕ × List ℕ). t.0 ∷ t.1 ∷ t.2 ∷ []) (some_is (first, pair.0, pair.1) three two.2)
 
 four_take : (args : List (List ℕ)) (four : List ℕ × List ℕ × List ℕ × List ℕ) → first_four args ≡ Some four → args ≡ four.0 ∷ four.1 ∷ four.2 ∷ four.3 ∷ []
 four_take [] four e = absurd cc
 four_take (first ∷ rest) four e =
     let three = bind_some (first_three rest) (λ three. Some (first, three.0, three.1, three.2)) four e in
     let triple = three.0 in
-    ap (λ (t : List (List ℕ)). first ∷ t) (three_take rest triple three.1) ∙ ap (λ (t : List ℕ × List ℕ × List ℕ × List ℕ). t.0 ∷ t.1 ∷ t.2 ∷ t.3 ∷ []) (some_is (first, triple.0, triple.1, triple.2) four three.2)
+    ap (λ (t : List (List ℕ)). first ∷ t) (three_take rest triple three.1)
+    ∙ ap (λ (t : List ℕ × List ℕ × List ℕ × List ℕ). t.0 ∷ t.1 ∷ t.2 ∷ t.3 ∷ []) (some_is (first, triple.0, triple.1, triple.2) four three.2)
 
 alone_takes : (verb : List ℕ) (args : List (List ℕ)) (command c : Command) → Spell (verb ∷ []) command → alone_at command args ≡ Some c → Spell (verb ∷ args) c
 alone_takes verb [] command c spelled e = subst (Spell (verb ∷ [])) (some_is command c e) spelled
@@ -143,14 +153,22 @@ two_are a b c d rest p q = cc
 insert_takes : (verb : List ℕ) (args : List (List ℕ)) (c : Command) → verb ≡ codes "insert" → insert_at args ≡ Some c → Spell (verb ∷ args) c
 unfolding insert_at
 insert_takes verb args c is e =
-    let three = bind_some (first_three args) (λ three. txn_at three.0 >>= λ txn. text_at three.1 >>= λ key. text_at three.2 >>= λ body. Some (Insert txn key body)) c e in
+    let three = bind_some (first_three args) (λ three. txn_at three.0 >>= λ txn. text_at three.1 >>= λ key. text_at three.2 >>= λ body.
+    Some (Insert txn key body)) c e in
     let words = three.0 in
     let txn = bind_some (txn_at words.0) (λ txn. text_at words.1 >>= λ key. text_at words.2 >>= λ body. Some (Insert txn key body)) c three.2 in
     let key = bind_some (text_at words.1) (λ key. text_at words.2 >>= λ body. Some (Insert txn.0 key body)) c txn.2 in
     let body = bind_some (text_at words.2) (λ body. Some (Insert txn.0 key.0 body)) c key.2 in
     let number = txn_takes words.0 txn.0 txn.1 in
-    subst (Spell (verb ∷ args)) (some_is (Insert txn.0 key.0 body.0) c body.2)
-    (words.1, words.2, spelled_so verb (codes "insert") args (decimal txn.0 ∷ words.1 ∷ words.2 ∷ []) is (three_take args words three.1 ∙ ap (λ (w : List ℕ). w ∷ words.1 ∷ words.2 ∷ []) number.0), number.1, text_takes words.1 key.0 key.1, text_takes words.2 body.0 body.1)
+    subst (Spell (verb ∷ args)) (some_is (Insert txn.0 key.0 body.0) c body.2) (
+      words.1,
+      words.2,
+      spelled_so verb (codes "insert") args (decimal txn.0 ∷ words.1 ∷ words.2 ∷ []) is (three_take args words three.1
+          ∙ ap (λ (w : List ℕ). w ∷ words.1 ∷ words.2 ∷ []) number.0),
+      number.1,
+      text_takes words.1 key.0 key.1,
+      text_takes words.2 body.0 body.1,
+    )
 
 delete_takes : (verb : List ℕ) (args : List (List ℕ)) (c : Command) → verb ≡ codes "delete" → delete_at args ≡ Some c → Spell (verb ∷ args) c
 unfolding delete_at
@@ -161,23 +179,36 @@ delete_takes verb args c is e =
     let rid = bind_some (rid_at words.1) (λ rid. Some (Delete txn.0 rid)) c txn.2 in
     let number = txn_takes words.0 txn.0 txn.1 in
     let place = rid_takes words.1 rid.0 rid.1 in
-    subst (Spell (verb ∷ args)) (some_is (Delete txn.0 rid.0) c rid.2)
-    (spelled_so verb (codes "delete") args (decimal txn.0 ∷ rid_text rid.0 ∷ []) is (two_take args words two.1 ∙ two_are words.0 (decimal txn.0) words.1 (rid_text rid.0) [] number.0 place.0), number.1, place.1)
+    subst (Spell (verb ∷ args)) (some_is (Delete txn.0 rid.0) c rid.2) (
+      spelled_so verb (codes "delete") args (decimal txn.0 ∷ rid_text rid.0 ∷ []) is (two_take args words two.1
+          ∙ two_are words.0 (decimal txn.0) words.1 (rid_text rid.0) [] number.0 place.0),
+      number.1,
+      place.1,
+    )
 
 update_takes : (verb : List ℕ) (args : List (List ℕ)) (c : Command) → verb ≡ codes "update" → update_at args ≡ Some c → Spell (verb ∷ args) c
 unfolding update_at
 update_takes verb args c is e =
-    let four = bind_some (first_four args) (λ four. txn_at four.0 >>= λ txn. rid_at four.1 >>= λ rid. text_at four.2 >>= λ key. text_at four.3 >>= λ body. Some (Update txn rid key body)) c e in
+    let four = bind_some (first_four args) (λ four. txn_at four.0 >>= λ txn. rid_at four.1 >>= λ rid. text_at four.2 >>= λ key. text_at four.3 >>= λ body.
+    Some (Update txn rid key body)) c e in
     let words = four.0 in
-    let txn = bind_some (txn_at words.0) (λ txn. rid_at words.1 >>= λ rid. text_at words.2 >>= λ key. text_at words.3 >>= λ body. Some (Update txn rid key body)) c four.2 in
+    let txn = bind_some (txn_at words.0) (λ txn. rid_at words.1 >>= λ rid. text_at words.2 >>= λ key. text_at words.3 >>= λ body.
+    Some (Update txn rid key body)) c four.2 in
     let rid = bind_some (rid_at words.1) (λ rid. text_at words.2 >>= λ key. text_at words.3 >>= λ body. Some (Update txn.0 rid key body)) c txn.2 in
     let key = bind_some (text_at words.2) (λ key. text_at words.3 >>= λ body. Some (Update txn.0 rid.0 key body)) c rid.2 in
     let body = bind_some (text_at words.3) (λ body. Some (Update txn.0 rid.0 key.0 body)) c key.2 in
     let number = txn_takes words.0 txn.0 txn.1 in
     let place = rid_takes words.1 rid.0 rid.1 in
     let same = two_are words.0 (decimal txn.0) words.1 (rid_text rid.0) (words.2 ∷ words.3 ∷ []) number.0 place.0 in
-    subst (Spell (verb ∷ args)) (some_is (Update txn.0 rid.0 key.0 body.0) c body.2)
-    (words.2, words.3, spelled_so verb (codes "update") args (decimal txn.0 ∷ rid_text rid.0 ∷ words.2 ∷ words.3 ∷ []) is (four_take args words four.1 ∙ same), number.1, place.1, text_takes words.2 key.0 key.1, text_takes words.3 body.0 body.1)
+    subst (Spell (verb ∷ args)) (some_is (Update txn.0 rid.0 key.0 body.0) c body.2) (
+      words.2,
+      words.3,
+      spelled_so verb (codes "update") args (decimal txn.0 ∷ rid_text rid.0 ∷ words.2 ∷ words.3 ∷ []) is (four_take args words four.1 ∙ same),
+      number.1,
+      place.1,
+      text_takes words.2 key.0 key.1,
+      text_takes words.3 body.0 body.1,
+    )
 
 only_txn_takes : (args : List (List ℕ)) (txn : ℕ) → only_txn_at args ≡ Some txn → (args ≡ decimal txn ∷ []) × IsTxn txn
 unfolding only_txn_at
@@ -187,14 +218,18 @@ only_txn_takes args txn e =
     (only_takes args word.0 word.1 ∙ ap one_word number.0, number.1)
 
 -- a command of a transaction alone: its name, and the transaction
-of_txn_takes : (verb name : List ℕ) (args : List (List ℕ)) (command : ℕ → Command) (c : Command) → verb ≡ name → ((words : List (List ℕ)) (txn : ℕ) → words ≡ name ∷ decimal txn ∷ [] → IsTxn txn → Spell words (command txn)) → option_map command (only_txn_at args) ≡ Some c → Spell (verb ∷ args) c
+of_txn_takes : (verb name : List ℕ) (args : List (List ℕ)) (command : ℕ → Command) (c : Command) → verb ≡ name
+    → ((words : List (List ℕ)) (txn : ℕ) → words ≡ name ∷ decimal txn ∷ [] → IsTxn txn → Spell words (command txn))
+    → option_map command (only_txn_at args) ≡ Some c → Spell (verb ∷ args) c
 of_txn_takes verb name args command c is spelled e =
     let txn = mapped command (only_txn_at args) c e in
     let number = only_txn_takes args txn.0 txn.1 in
     subst (Spell (verb ∷ args)) txn.2 (spelled (verb ∷ args) txn.0 (spelled_so verb name args (decimal txn.0 ∷ []) is number.0) number.1)
 
 -- a command that asks for steps: its name, and how many
-steps_take : (verb name : List ℕ) (args : List (List ℕ)) (command : ℕ → Command) (c : Command) → verb ≡ name → ((words : List (List ℕ)) (count : ℕ) → SpellSteps name words count → Spell words (command count)) → option_map command (steps_at args) ≡ Some c → Spell (verb ∷ args) c
+steps_take : (verb name : List ℕ) (args : List (List ℕ)) (command : ℕ → Command) (c : Command) → verb ≡ name
+    → ((words : List (List ℕ)) (count : ℕ) → SpellSteps name words count → Spell words (command count)) → option_map command (steps_at args) ≡ Some c
+    → Spell (verb ∷ args) c
 unfolding steps_at
 steps_take verb name [] command c is spelled e =
     let count = mapped command (steps_at []) c e in
@@ -204,9 +239,11 @@ steps_take verb name (first ∷ rest) command c is spelled e =
     let word = bind_some (only (first ∷ rest)) count_at count.0 count.1 in
     let number = count_takes word.0 count.0 word.2 in
     subst (Spell (verb ∷ first ∷ rest)) count.2
-    (spelled (verb ∷ first ∷ rest) count.0 (inr (spelled_so verb name (first ∷ rest) (decimal count.0 ∷ []) is (only_takes (first ∷ rest) word.0 word.1 ∙ ap one_word number.0), number.1)))
+    (spelled (verb ∷ first ∷ rest) count.0
+    (inr (spelled_so verb name (first ∷ rest) (decimal count.0 ∷ []) is (only_takes (first ∷ rest) word.0 word.1 ∙ ap one_word number.0), number.1)))
 
-steps_again : (name : List ℕ) (words : List (List ℕ)) (count : ℕ) → SpellSteps name words count → (args : List (List ℕ)) × (words ≡ name ∷ args) × (steps_at args ≡ Some count)
+steps_again : (name : List ℕ) (words : List (List ℕ)) (count : ℕ) → SpellSteps name words count → (args : List (List ℕ)) × (words ≡ name ∷ args)
+    × (steps_at args ≡ Some count)
 unfolding steps_at
 steps_again name words count (inl h) = ([], h.0, ap (λ (n : ℕ). Some n) (sym h.1))
 steps_again name words count (inr h) = (decimal count ∷ [], h.0, count_again count h.1)
@@ -272,7 +309,8 @@ unfolding command_at store_command_at insert_at delete_at update_at only_txn_at 
 command_again words Begin h = ap command_at h
 command_again words (Insert txn key body) h = ap command_at h.2 ∙ rw (txn_again txn h.3, text_again h.0 key h.4, text_again h.1 body h.5) refl
 command_again words (Delete txn rid) h = ap command_at h.0 ∙ rw (txn_again txn h.1, rid_again rid h.2) refl
-command_again words (Update txn rid key body) h = ap command_at h.2 ∙ rw (txn_again txn h.3, rid_again rid h.4, text_again h.0 key h.5, text_again h.1 body h.6) refl
+command_again words (Update txn rid key body) h = ap command_at h.2
+    ∙ rw (txn_again txn h.3, rid_again rid h.4, text_again h.0 key h.5, text_again h.1 body h.6) refl
 command_again words (Step txn) h = ap command_at h.0 ∙ rw (txn_again txn h.1) refl
 command_again words (Undo txn) h = ap command_at h.0 ∙ rw (txn_again txn h.1) refl
 command_again words (End txn) h = ap command_at h.0 ∙ rw (txn_again txn h.1) refl

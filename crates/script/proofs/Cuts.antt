@@ -1,5 +1,6 @@
 -- The parts of a text that was cut at its first separator.
-use Rattle.std.proofs.Common.{◌≡◌, ℕ, ◌+◌, ◌-◌, ◌<◌, ◌≤◌, Bool, ltb, eqb, List, [], ◌∷◌, length, take, drop, Option, Some, None, refl, sym, ap, ◌∙◌, arith, inl, inr, length-drop}
+use Rattle.std.proofs.Common.{◌≡◌, ℕ, ◌+◌, ◌-◌, ◌<◌, ◌≤◌, Bool, ltb, eqb, List, [], ◌∷◌, length, take, drop, Option, Some, None, refl, sym, ap, ◌∙◌, arith, inl}
+use Rattle.std.proofs.Common.{inr, length-drop}
 use Rattle.std.specs.List.{position, position_or_len}
 use Rattle.std.proofs.lemmas.Bool.{ltb-true, ltb-false, cases_Bool}
 use Rattle.std.proofs.lemmas.List.Sums.{fails_before_first}
@@ -27,7 +28,8 @@ parts_whole s bs e =
           slice_split_none (is s) bs (λ k d lt. fails_before_first (is s) bs k d (omega arith))
     ]
 
-pub parts_cut : (s : ℕ) (bs : List ℕ) (i : ℕ) → Some i ≡ position (λ b. eqb b s) bs → parted_by s bs ≡ take i bs ∷ parted_by s (take (length bs - (i + 1)) (drop (i + 1) bs))
+pub parts_cut : (s : ℕ) (bs : List ℕ) (i : ℕ) → Some i ≡ position (λ b. eqb b s) bs
+    → parted_by s bs ≡ take i bs ∷ parted_by s (take (length bs - (i + 1)) (drop (i + 1) bs))
 parts_cut s bs i e =
     elim (cases_Bool (ltb (first_place s bs) (length bs))) [
       | inr h ↦ let bad = rw h at e in absurd cc
@@ -35,8 +37,10 @@ parts_cut s bs i e =
           let near : first_place s bs < length bs = ltb-true _ _ h in
           let found = rw h at e in
           let at : first_place s bs ≡ i = cc in
-          let whole : take (length bs - (i + 1)) (drop (i + 1) bs) ≡ drop (i + 1) bs = take_all (length bs - (i + 1)) (drop (i + 1) bs) (omega (arith, length-drop (i + 1) bs)) in
-          slice_split_first (is s) bs 0 near ∙ ap (λ (k : ℕ). take k bs ∷ parted_by s (drop (k + 1) bs)) at ∙ ap (λ (t : List ℕ). take i bs ∷ parted_by s t) (sym whole)
+          let whole : take (length bs - (i + 1)) (drop (i + 1) bs) ≡ drop (i + 1) bs =
+          take_all (length bs - (i + 1)) (drop (i + 1) bs) (omega (arith, length-drop (i + 1) bs)) in
+          slice_split_first (is s) bs 0 near ∙ ap (λ (k : ℕ). take k bs ∷ parted_by s (drop (k + 1) bs)) at
+          ∙ ap (λ (t : List ℕ). take i bs ∷ parted_by s t) (sym whole)
     ]
 
 -- ---- behind a separator there is a part

@@ -1,6 +1,7 @@
 -- A script that was read up to a line.
 use Rattle.std.specs.Prelude.{◌⊎◌}
-use Rattle.std.proofs.Common.{◌≡◌, ℕ, suc, ◌+◌, ◌<◌, ◌≤◌, not, eqb, List, [], ◌∷◌, ◌++◌, length, get_or, take, drop, refl, sym, ap, ◌∙◌, append-nil, add-one, arith, inl, inr, length-drop, drop-cons}
+use Rattle.std.proofs.Common.{◌≡◌, ℕ, suc, ◌+◌, ◌<◌, ◌≤◌, not, eqb, List, [], ◌∷◌, ◌++◌, length, get_or, take, drop, refl, sym, ap, ◌∙◌, append-nil, add-one}
+use Rattle.std.proofs.Common.{arith, inl, inr, length-drop, drop-cons}
 use Rattle.std.specs.List.{All, AllZip}
 use Rattle.std.proofs.lemmas.List.{take_more, take_all}
 use Rattle.std.proofs.lemmas.List.Elements.{All-nil, All-push, filter-append}
@@ -52,11 +53,13 @@ AllZip-more R (a ∷ xs) (b ∷ ys) x y h r = (h.0, AllZip-more R xs ys x y h.1 
 kept_more : (lines : List (List ℕ)) (line : List ℕ) → kept (lines ++ line ∷ []) ≡ kept lines ++ kept (line ∷ [])
 kept_more lines line = filter-append (λ l. not (is_left_out l)) lines (line ∷ [])
 
-pub added : (lines : List (List ℕ)) (done : ℕ) (line : List ℕ) (more : List (List ℕ)) (old new : List Command) → HasRead lines done (line ∷ more) old → done < LINES_MAX → Adds line old new → HasRead lines (done + 1) more new
+pub added : (lines : List (List ℕ)) (done : ℕ) (line : List ℕ) (more : List (List ℕ)) (old new : List Command) → HasRead lines done (line ∷ more) old
+    → done < LINES_MAX → Adds line old new → HasRead lines (done + 1) more new
 added lines done line more old new h lt (inl skipped) =
     let n = next lines done line more h.left_is in
     let none : kept (line ∷ []) ≡ [] = rw skipped.0 refl in
-    let same : kept (take (done + 1) lines) ≡ kept (take done lines) = ap kept n.taken ∙ kept_more (take done lines) line ∙ rw none (append-nil (kept (take done lines))) in
+    let same : kept (take (done + 1) lines) ≡ kept (take done lines) = ap kept n.taken ∙ kept_more (take done lines) line
+    ∙ rw none (append-nil (kept (take done lines))) in
     record {
       within = omega arith;
       left_is = n.left;
@@ -83,25 +86,31 @@ ended lines done commands h =
     let whole : take done lines ≡ lines = take_all done lines all in
     record { few = omega (arith, h.within); each = rw whole at h.each }
 
-pub fault : (lines : List (List ℕ)) (done : ℕ) (line : List ℕ) (more : List (List ℕ)) (commands : List Command) → HasRead lines done (line ∷ more) commands → (IsGood line → ⊥) → IsFirstFault lines done
+pub fault : (lines : List (List ℕ)) (done : ℕ) (line : List ℕ) (more : List (List ℕ)) (commands : List Command) → HasRead lines done (line ∷ more) commands
+    → (IsGood line → ⊥) → IsFirstFault lines done
 fault lines done line more commands h bad =
     let n = next lines done line more h.left_is in
     record { is_there = n.there; good_before = h.good; within = h.within; bad = λ _ good. bad (rw n.at at good) }
 
-too_many : (lines : List (List ℕ)) (done : ℕ) (line : List ℕ) (more : List (List ℕ)) (commands : List Command) → HasRead lines done (line ∷ more) commands → LINES_MAX ≤ done → IsFirstFault lines done
+too_many : (lines : List (List ℕ)) (done : ℕ) (line : List ℕ) (more : List (List ℕ)) (commands : List Command) → HasRead lines done (line ∷ more) commands
+    → LINES_MAX ≤ done → IsFirstFault lines done
 too_many lines done line more commands h far =
     let n = next lines done line more h.left_is in
     record { is_there = n.there; good_before = h.good; within = h.within; bad = λ lt good. absurd (omega arith) }
 
-too_many_in : (lines : List (List ℕ)) (done : ℕ) (left : List (List ℕ)) (commands : List Command) → 0 < length left → HasRead lines done left commands → LINES_MAX ≤ done → IsFirstFault lines done
+too_many_in : (lines : List (List ℕ)) (done : ℕ) (left : List (List ℕ)) (commands : List Command) → 0 < length left → HasRead lines done left commands
+    → LINES_MAX ≤ done → IsFirstFault lines done
 too_many_in lines done [] commands some h far = absurd (omega arith)
 too_many_in lines done (line ∷ more) commands some h far = too_many lines done line more commands h far
 
-pub too_many_left : (lines : List (List ℕ)) (done : ℕ) (rest : List ℕ) (commands : List Command) → HasRead lines done (parted_by 10 rest) commands → LINES_MAX ≤ done → IsFirstFault lines done
-too_many_left lines done rest commands h far = too_many_in lines done (parted_by 10 rest) commands (omega (arith, length-slice_split (λ b. eqb b 10) rest)) h far
+pub too_many_left : (lines : List (List ℕ)) (done : ℕ) (rest : List ℕ) (commands : List Command) → HasRead lines done (parted_by 10 rest) commands
+    → LINES_MAX ≤ done → IsFirstFault lines done
+too_many_left lines done rest commands h far = too_many_in lines done (parted_by 10 rest) commands
+    (omega (arith, length-slice_split (λ b. eqb b 10) rest)) h far
 
 -- what adding the next line refuses is what reading the script refuses
-pub refused : (lines : List (List ℕ)) (done : ℕ) (line : List ℕ) (more : List (List ℕ)) (commands : List Command) (e : Error) → HasRead lines done (line ∷ more) commands
+pub refused : (lines : List (List ℕ)) (done : ℕ) (line : List ℕ) (more : List (List ℕ)) (commands : List Command) (e : Error)
+    → HasRead lines done (line ∷ more) commands
     → (e ≡ NoMemory) ⊎ ((e ≡ BadScript (done + 1)) × (IsGood line → ⊥))
     → (e ≡ NoMemory) ⊎ ((index : ℕ) × (e ≡ BadScript (index + 1)) × IsFirstFault lines index)
 refused lines done line more commands e h (inl none) = inl none

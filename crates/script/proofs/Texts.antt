@@ -1,5 +1,6 @@
 -- A word and the bytes that it gives.
-use Rattle.std.proofs.Common.{◌≡◌, ℕ, zero, suc, ◌+◌, ◌*◌, ◌/◌, ◌%◌, ◌<◌, ◌≤◌, ◌&&◌, ◌||◌, Bool, true, false, not, cond, ltb, leb, eqb, List, [], ◌∷◌, length, get_or, Option, Some, None, Result, Ok, Err, refl, ap, subst, ◌∙◌, arith, inl, inr}
+use Rattle.std.proofs.Common.{◌≡◌, ℕ, zero, suc, ◌+◌, ◌*◌, ◌/◌, ◌%◌, ◌<◌, ◌≤◌, ◌&&◌, ◌||◌, Bool, true, false, not, cond, ltb, leb, eqb, List, [], ◌∷◌, length}
+use Rattle.std.proofs.Common.{get_or, Option, Some, None, Result, Ok, Err, refl, ap, subst, ◌∙◌, arith, inl, inr}
 use Rattle.std.specs.Char.{is_ascii_graphic, is_ascii_uppercase, IsAsciiGraphic}
 use Rattle.std.specs.List.{All, list_all, list_any}
 use Rattle.std.specs.Result.{result_ok}
@@ -9,7 +10,8 @@ use Rattle.std.proofs.lemmas.List.Elements.{All-weaker}
 use Rattle.std.proofs.lemmas.List.Sums.{AllPass-from_list_all, list_all-from_AllPass}
 use Rattle.hex.specs.declared.error.FromHexError.{FromHexError}
 use Rattle.hex.specs.declared.error.FromHexError.TheVariants.{OddLength}
-use Rattle.hex.specs.Hex.{IsBytes, lower_digits, encode_with, encode_lower, hex_digit_value, ◌>>=◌, digit_or_error, value_at, pair_value, decode_pairs, decode_of}
+use Rattle.hex.specs.Hex.{IsBytes, lower_digits, encode_with, encode_lower, hex_digit_value, ◌>>=◌, digit_or_error, value_at, pair_value, decode_pairs}
+use Rattle.hex.specs.Hex.{decode_of}
 use Rattle.hex.proofs.HexLemmas.{decode_of-encode_lower}
 use Rattle.script.specs.Grammar.{IsByteText}
 use Rattle.script.specs.Reading.{hex_at, text_at}
@@ -154,7 +156,8 @@ text_takes (first ∷ rest) bytes e =
     (λ is h.
     let p = passed (list_all is_ascii_graphic rest) (Some rest) bytes h in
     let same = some_is rest bytes p.1 in
-    let each : All IsAsciiGraphic rest = All-weaker (λ x. is_ascii_graphic x ≡ true) IsAsciiGraphic graphic_from rest (AllPass-from_list_all is_ascii_graphic rest p.0) in
+    let each : All IsAsciiGraphic rest = All-weaker (λ x. is_ascii_graphic x ≡ true) IsAsciiGraphic graphic_from rest
+    (AllPass-from_list_all is_ascii_graphic rest p.0) in
     inl (ap (λ (b : ℕ). b ∷ rest) is ∙ ap (λ (t : List ℕ). 61 ∷ t) same, subst (All IsAsciiGraphic) same each))
     (by_byte first 58
     (λ is h.
@@ -166,6 +169,7 @@ text_takes (first ∷ rest) bytes e =
 pub text_again : (word bytes : List ℕ) → IsByteText word bytes → text_at word ≡ Some bytes
 unfolding text_at
 text_again word bytes (inl h) =
-    let each : list_all is_ascii_graphic bytes ≡ true = list_all-from_AllPass is_ascii_graphic bytes (All-weaker IsAsciiGraphic (λ x. is_ascii_graphic x ≡ true) graphic_to bytes h.1) in
+    let each : list_all is_ascii_graphic bytes ≡ true =
+    list_all-from_AllPass is_ascii_graphic bytes (All-weaker IsAsciiGraphic (λ x. is_ascii_graphic x ≡ true) graphic_to bytes h.1) in
     ap text_at h.0 ∙ rw each refl
 text_again word bytes (inr h) = ap text_at h.0 ∙ hex_again bytes h.1

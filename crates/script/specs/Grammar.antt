@@ -1,5 +1,6 @@
 -- The grammar of scripts.
-use Rattle.std.specs.Prelude.{◌≡◌, ℕ, ◌^◌, ◌<◌, ◌≤◌, ◌==◌, ◌⊎◌, ◌++◌, Bool, true, not, IsTrue, List, [], ◌∷◌, length, take, slice_index_or, codes}
+use Rattle.std.specs.Prelude.{◌≡◌, ℕ, ◌^◌, ◌<◌, ◌≤◌, ◌==◌, ◌⊎◌, ◌++◌, Bool, true, not, IsTrue, List, [], ◌∷◌, length}
+use Rattle.std.specs.Prelude.{take, slice_index_or, codes}
 use Rattle.std.specs.List.{All, AllZip, filter, slice_split}
 use Rattle.std.specs.Char.{IsAsciiGraphic}
 use Rattle.std.specs.Fmt.{decimal}
@@ -12,7 +13,9 @@ use Rattle.script.specs.declared.word.TheConstants.{STEPS_MAX}
 use Rattle.script.specs.declared.fate.Fate.{Fate}
 use Rattle.script.specs.declared.fate.Fate.TheVariants.{Old, New, Zero, Gate, Junk}
 use Rattle.script.specs.declared.command.Command.{Command}
-use Rattle.script.specs.declared.command.Command.TheVariants.{Begin, Insert, Delete, Update, Step, Undo, End, Commit, Create, Drop, Build, Clean, Flush, Image, Crash, Get, Find, Dump}
+use Rattle.script.specs.declared.command.Command.TheVariants.{Begin, Insert, Delete, Update, Step, Undo, End, Commit}
+use Rattle.script.specs.declared.command.Command.TheVariants.{Create, Drop, Build, Clean, Flush, Image, Crash, Get}
+use Rattle.script.specs.declared.command.Command.TheVariants.{Find, Dump}
 
 -- the parts of a text between its separators: with none, the text itself
 abbrev pub parted_by : ℕ → List ℕ → List (List ℕ)
@@ -49,7 +52,8 @@ rid_text rid = decimal rid.page ++ 46 ∷ decimal rid.slot
 
 -- `=` and graphic bytes as they stand, or `:` and bytes in lower-case hexadecimal digits
 abbrev pub IsByteText : List ℕ → List ℕ → Type 0
-IsByteText word bytes = ((word ≡ 61 ∷ bytes) × All IsAsciiGraphic bytes) ⊎ ((word ≡ 58 ∷ encode_lower bytes) × IsBytes bytes)
+IsByteText word bytes = ((word ≡ 61 ∷ bytes) × All IsAsciiGraphic bytes)
+    ⊎ ((word ≡ 58 ∷ encode_lower bytes) × IsBytes bytes)
 
 -- the name of each fate
 abbrev pub fate_name : Fate → List ℕ
@@ -61,14 +65,18 @@ fate_name Junk = codes "junk"
 
 -- a name and how many steps are asked for; a name alone asks for one
 abbrev pub SpellSteps : List ℕ → List (List ℕ) → ℕ → Type 0
-SpellSteps name words count = ((words ≡ name ∷ []) × (count ≡ 1)) ⊎ ((words ≡ name ∷ decimal count ∷ []) × IsCount count)
+SpellSteps name words count = ((words ≡ name ∷ []) × (count ≡ 1))
+    ⊎ ((words ≡ name ∷ decimal count ∷ []) × IsCount count)
 
 -- the words of a line spell a command
 abbrev pub Spell : List (List ℕ) → Command → Type 0
 Spell words Begin = words ≡ codes "begin" ∷ []
-Spell words (Insert txn key body) = (k b : List ℕ) × (words ≡ codes "insert" ∷ decimal txn ∷ k ∷ b ∷ []) × IsTxn txn × IsByteText k key × IsByteText b body
+Spell words (Insert txn key body) = (k b : List ℕ) × (words ≡ codes "insert" ∷ decimal txn ∷ k ∷ b ∷ []) × IsTxn txn
+    × IsByteText k key × IsByteText b body
 Spell words (Delete txn rid) = (words ≡ codes "delete" ∷ decimal txn ∷ rid_text rid ∷ []) × IsTxn txn × IsRid rid
-Spell words (Update txn rid key body) = (k b : List ℕ) × (words ≡ codes "update" ∷ decimal txn ∷ rid_text rid ∷ k ∷ b ∷ []) × IsTxn txn × IsRid rid × IsByteText k key × IsByteText b body
+Spell words (Update txn rid key body) = (k b : List ℕ)
+    × (words ≡ codes "update" ∷ decimal txn ∷ rid_text rid ∷ k ∷ b ∷ []) × IsTxn txn × IsRid rid × IsByteText k key
+    × IsByteText b body
 Spell words (Step txn) = (words ≡ codes "step" ∷ decimal txn ∷ []) × IsTxn txn
 Spell words (Undo txn) = (words ≡ codes "undo" ∷ decimal txn ∷ []) × IsTxn txn
 Spell words (End txn) = (words ≡ codes "end" ∷ decimal txn ∷ []) × IsTxn txn

@@ -1,5 +1,6 @@
 -- Reading a line from left to right.
-use Rattle.std.specs.Prelude.{◌≡◌, ◌⊎◌, ◌++◌, IsTrue, ℕ, ◌^◌, ◌==◌, ◌&&◌, nat_lt, nat_le, Bool, false, List, [], ◌∷◌, Option, Some, None, if◌then◌else◌, codes}
+use Rattle.std.specs.Prelude.{◌≡◌, ◌⊎◌, ◌++◌, IsTrue, ℕ, ◌^◌, ◌==◌, ◌&&◌, nat_lt, nat_le, Bool, false, List, [], ◌∷◌}
+use Rattle.std.specs.Prelude.{Option, Some, None, if◌then◌else◌, codes}
 use Rattle.std.specs.List.{list_all, list_any}
 use Rattle.std.specs.Char.{is_ascii_graphic, is_ascii_uppercase}
 use Rattle.std.specs.Fmt.{decimal}
@@ -14,7 +15,9 @@ use Rattle.script.specs.declared.word.TheConstants.{STEPS_MAX}
 use Rattle.script.specs.declared.fate.Fate.{Fate}
 use Rattle.script.specs.declared.fate.Fate.TheVariants.{Old, New, Zero, Gate, Junk}
 use Rattle.script.specs.declared.command.Command.{Command}
-use Rattle.script.specs.declared.command.Command.TheVariants.{Begin, Insert, Delete, Update, Step, Undo, End, Commit, Create, Drop, Build, Clean, Flush, Image, Crash, Get, Find, Dump}
+use Rattle.script.specs.declared.command.Command.TheVariants.{Begin, Insert, Delete, Update, Step, Undo, End, Commit}
+use Rattle.script.specs.declared.command.Command.TheVariants.{Create, Drop, Build, Clean, Flush, Image, Crash, Get}
+use Rattle.script.specs.declared.command.Command.TheVariants.{Find, Dump}
 use Rattle.script.specs.Grammar.{parted_by, is_left_out, IsLineOf}
 
 infixl 10 ◌>>=◌
@@ -62,7 +65,8 @@ begins_as_number (first ∷ second ∷ rest) = nat_le 49 first && nat_le first 5
 
 -- a word that is how the number of its digits is written
 unfoldable pub number_at : List ℕ → Option ℕ
-number_at word = if nat_lt (digits_value 10 word) (2 ^ 32) && bytes_eq word (decimal (digits_value 10 word)) then Some (digits_value 10 word) else None
+number_at word = if nat_lt (digits_value 10 word) (2 ^ 32) && bytes_eq word (decimal (digits_value 10 word)) then Some
+    (digits_value 10 word) else None
 
 unfoldable pub txn_at : List ℕ → Option ℕ
 txn_at word = do
@@ -195,4 +199,5 @@ command_at (verb ∷ args) =
 
 -- the commands with the one of a line that is not left out
 abbrev pub Adds : List ℕ → List Command → List Command → Type 0
-Adds line old new = (IsTrue (is_left_out line) × (new ≡ old)) ⊎ ((is_left_out line ≡ false) × (command : Command) × IsLineOf line command × (new ≡ old ++ command ∷ []))
+Adds line old new = (IsTrue (is_left_out line) × (new ≡ old))
+    ⊎ ((is_left_out line ≡ false) × (command : Command) × IsLineOf line command × (new ≡ old ++ command ∷ []))

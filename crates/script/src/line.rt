@@ -2,7 +2,8 @@
 ghost use Rattle.std.specs.Prelude.{◌≡◌, IfOk};
 ghost use Rattle.std.specs.Option.{option_map};
 ghost use Rattle.script.specs.Grammar.{words, is_left_out};
-ghost use Rattle.script.specs.Reading.{parts_left, alone_at, insert_at, delete_at, update_at, only_txn_at, steps_at, crash_at, get_at, find_at, store_command_at, command_at};
+ghost use Rattle.script.specs.Reading.{parts_left, alone_at, insert_at, delete_at, update_at, only_txn_at, steps_at};
+ghost use Rattle.script.specs.Reading.{crash_at, get_at, find_at, store_command_at, command_at};
 
 use crate::command::Command;
 use crate::fate::Fate;

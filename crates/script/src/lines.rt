@@ -50,7 +50,8 @@ fn add_line(
 /// more than a script may have. `NoMemory` where an allocation is refused.
 pub fn read(alloc: Global, text: &[u8]) -> Result<Vec<Command>, Error>
     ensures ok { IfOk result (λ commands. IsScript (lines text.now) commands.items) }
-    ensures err { IfErr result (λ e. (e ≡ NoMemory) ⊎ ((index : ℕ) × (e ≡ BadScript (index + 1)) × IsFirstFault (lines text.now) index)) }
+    ensures err { IfErr result (λ e. (e ≡ NoMemory) ⊎ ((index : ℕ) × (e ≡ BadScript (index + 1))
+        × IsFirstFault (lines text.now) index)) }
 {
     let mut commands = Vec::new(alloc);
     let mut done = 0;

@@ -33,7 +33,8 @@ pub fn only_part(separator: u8, rest: Option<&[u8]>) -> Option<&[u8]>
 
 /// The two parts that are left.
 pub fn two_parts(separator: u8, rest: Option<&[u8]>) -> Option<(&[u8], &[u8])>
-    ensures { option_map (λ w. (w.0.now, w.1.now)) result ≡ first_two (parts_left separator (option_map (λ r. r.now) rest.entry)) }
+    ensures { option_map (λ w. (w.0.now, w.1.now)) result
+        ≡ first_two (parts_left separator (option_map (λ r. r.now) rest.entry)) }
 {
     let (first, rest) = cut_at(separator, rest?);
     let second = only_part(separator, rest)?;
@@ -42,7 +43,8 @@ pub fn two_parts(separator: u8, rest: Option<&[u8]>) -> Option<(&[u8], &[u8])>
 
 /// The three parts that are left.
 pub fn three_parts(separator: u8, rest: Option<&[u8]>) -> Option<(&[u8], &[u8], &[u8])>
-    ensures { option_map (λ w. (w.0.now, w.1.now, w.2.now)) result ≡ first_three (parts_left separator (option_map (λ r. r.now) rest.entry)) }
+    ensures { option_map (λ w. (w.0.now, w.1.now, w.2.now)) result
+        ≡ first_three (parts_left separator (option_map (λ r. r.now) rest.entry)) }
 {
     let (first, rest) = cut_at(separator, rest?);
     let (second, third) = two_parts(separator, rest)?;
@@ -51,7 +53,8 @@ pub fn three_parts(separator: u8, rest: Option<&[u8]>) -> Option<(&[u8], &[u8], 
 
 /// The four parts that are left.
 pub fn four_parts(separator: u8, rest: Option<&[u8]>) -> Option<(&[u8], &[u8], &[u8], &[u8])>
-    ensures { option_map (λ w. (w.0.now, w.1.now, w.2.now, w.3.now)) result ≡ first_four (parts_left separator (option_map (λ r. r.now) rest.entry)) }
+    ensures { option_map (λ w. (w.0.now, w.1.now, w.2.now, w.3.now)) result
+        ≡ first_four (parts_left separator (option_map (λ r. r.now) rest.entry)) }
 {
     let (first, rest) = cut_at(separator, rest?);
     let (second, third, fourth) = three_parts(separator, rest)?;

@@ -16,7 +16,8 @@ use std::marker::Brand;
 use std::mem::forget;
 use std::sync::Wait;
 
-/// The first of the seat's answers that wasn't right, if there was one; whether all was written out; and the device that is left.
+/// The first of the seat's answers that wasn't right, if there was one; whether all was written out; and the device
+/// that is left.
 #[derive(Drop)]
 pub(crate) struct Played<D> {
     pub(crate) wrong: Option<Answer>,
@@ -44,9 +45,9 @@ fn answer_all<B: Group, A: Memory, R: Wait>(
     None
 }
 
-// Whether all was written out, and the device, once the seat is taken back, or once that was refused for want of memory. A want where no
-// allocation was refused is told as another refusal. What else is left is not let go: to prove its destructors here would cost more than
-// the test.
+// Whether all was written out, and the device, once the seat is taken back, or once that was refused for want of
+// memory. A want where no allocation was refused is told as another refusal. What else is left is not let go: to prove
+// its destructors here would cost more than the test.
 fn close<B: Group, D: Device, A: Memory, R: Wait>(
     rt: &R,
     alloc: A,
@@ -151,8 +152,8 @@ fn play_on<D: Device, A: Memory, R: Wait>(
     }
 }
 
-/// Whether a seat gives these answers, and the device once it is taken back. What wants memory is asked once more, where an allocation
-/// was refused.
+/// Whether a seat gives these answers, and the device once it is taken back. What wants memory is asked once more,
+/// where an allocation was refused.
 pub(crate) fn play<D: Device + Drop, A: Memory, R: Wait>(
     rt: &R,
     alloc: A,

@@ -1,5 +1,5 @@
-// Memory is refused to a store and its seat, each allocation in turn. What was refused is asked once more, and all else is as where
-// nothing is refused: each answer, and what a restart finds behind the end.
+// Memory is refused to a store and its seat, each allocation in turn. What was refused is asked once more, and all else
+// is as where nothing is refused: each answer, and what a restart finds behind the end.
 use crate::play::play;
 use crate::requests::{Answer, Request};
 use model::Life;
@@ -26,9 +26,9 @@ const SECOND: Rid = Rid { page: 0, slot: 1 };
 
 const THIRD: Rid = Rid { page: 0, slot: 2 };
 
-// An index is created; rows are inserted and changed, and taken back; others are kept. The index is dropped, and another one is
-// created, which has entries of the rows that come then. An insertion makes two records, a change of a key three, a deletion two; to
-// take one back takes as many. So many records don't fit the first block of the queue.
+// An index is created; rows are inserted and changed, and taken back; others are kept. The index is dropped, and
+// another one is created, which has entries of the rows that come then. An insertion makes two records, a change of a
+// key three, a deletion two; to take one back takes as many. So many records don't fit the first block of the queue.
 const STEPS: [(Request, Answer); 20] = [
     (Request::Create, Answer::Written(1, None)),
     (Request::Begin, Answer::Begun(1)),

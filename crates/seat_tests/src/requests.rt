@@ -21,8 +21,8 @@ pub(crate) enum Request {
     Commit,
 }
 
-/// What a seat answers: the number of a record and that of a commit, the number of a transaction, or the place of a row. A want of
-/// memory where no allocation was refused is an answer of its own, which is never right.
+/// What a seat answers: the number of a record and that of a commit, the number of a transaction, or the place of a
+/// row. A want of memory where no allocation was refused is an answer of its own, which is never right.
 #[derive(Clone, Copy, PartialEq)]
 pub(crate) enum Answer {
     Written(u64, Option<u64>),
@@ -65,8 +65,8 @@ fn written(ticket: Ticket) -> Answer {
     Answer::Written(ticket.record.get(), ticket.commit)
 }
 
-// The place of a change that was begun. One that found no memory for a later step is carried on, where an allocation was refused
-// since so many were.
+// The place of a change that was begun. One that found no memory for a later step is carried on, where an allocation
+// was refused since so many were.
 fn carried<B: Group, A: Memory, R: Wait>(
     rt: &R,
     shared: &Shared<B, A>,

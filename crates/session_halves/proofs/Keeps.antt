@@ -3,7 +3,8 @@ use Rattle.sessions.specs.Values.{SessionValue, empty_session}
 use Rattle.std.specs.Prelude.{slice_get, Some}
 use Rattle.atomic_table.specs.Seated.{TableId}
 use Rattle.session_halves.specs.Halves.{HalfValue, IsNew, IsBook}
-use Rattle.std.proofs.Common.{◌≡◌, ◌≢◌, ◌⊎◌, ℕ, zero, suc, ◌+◌, ◌≤◌, ◌<◌, Bool, true, false, true≢false, eqb, cond, List, [], ◌∷◌, ◌++◌, length, set, refl, sym, ap, ◌∙◌, subst, inl, inr, ⊎_elim, eq-eqb, ne_eqb, arith}
+use Rattle.std.proofs.Common.{◌≡◌, ◌≢◌, ◌⊎◌, ℕ, zero, suc, ◌+◌, ◌≤◌, ◌<◌, Bool, true, false, true≢false, eqb, cond, List, [], ◌∷◌, ◌++◌, length, set, refl, sym}
+use Rattle.std.proofs.Common.{ap, ◌∙◌, subst, inl, inr, ⊎_elim, eq-eqb, ne_eqb, arith}
 use mathlib.Core.Logic.{dite}
 use mathlib.Core.Option.{some, some-ne-none, some-injective}
 use native.Mathlib.Decide.{ℕ_discrete}
@@ -38,7 +39,8 @@ parts_here n v e = ap (λ (b : Bool). cond b v.parts 0) (eq-eqb v.number n e)
 parts_else : (n : ℕ) (v : Knowledge) → v.number ≢ n → parts_in n v ≡ 0
 parts_else n v ne = ap (λ (b : Bool). cond b v.parts 0) (ne_eqb v.number n ne)
 
-parts_set : (n : ℕ) (l : List Knowledge) (i : ℕ) (v w : Knowledge) → get_elem? l i ≡ some v → parts_of n (set l i w) + parts_in n v ≡ parts_of n l + parts_in n w
+parts_set : (n : ℕ) (l : List Knowledge) (i : ℕ) (v w : Knowledge) → get_elem? l i ≡ some v
+    → parts_of n (set l i w) + parts_in n v ≡ parts_of n l + parts_in n w
 parts_set n [] i v w e = absurd (some-ne-none v (sym e))
 parts_set n (x ∷ xs) zero v w e = let is : parts_in n x ≡ parts_in n v = ap (parts_in n) (some-injective x v e) in omega arith
 parts_set n (x ∷ xs) (suc i) v w e = let r = parts_set n xs i v w e in omega arith
@@ -57,7 +59,8 @@ parts_none n [] h = refl
 parts_none n (x ∷ xs) h = let a = h 0 x refl in let r = parts_none n xs (λ j u e. h (suc j) u e) in omega arith
 
 -- two seats together have no more parts than all
-parts_two : (n : ℕ) (l : List Knowledge) (i j : ℕ) (v u : Knowledge) → get_elem? l i ≡ some v → get_elem? l j ≡ some u → j ≢ i → parts_in n v + parts_in n u ≤ parts_of n l
+parts_two : (n : ℕ) (l : List Knowledge) (i j : ℕ) (v u : Knowledge) → get_elem? l i ≡ some v → get_elem? l j ≡ some u → j ≢ i
+    → parts_in n v + parts_in n u ≤ parts_of n l
 parts_two n l i j v u at there apart =
     let s = parts_set n l i v nobody at in
     let z : parts_in n nobody ≡ 0 = none_in n nobody refl in
@@ -84,18 +87,26 @@ abbrev FitsAll : (ℕ → SessionValue) → ℕ → ℕ → List Knowledge → T
 FitsAll session_of maker next views = (seat : ℕ) (v : Knowledge) → get_elem? views seat ≡ some v → Fits session_of maker next seat v
 
 fits_set : (f g : ℕ → SessionValue) (maker next next' : ℕ) (views : List Knowledge) (seat : ℕ) (w : Knowledge) → FitsAll f maker next views
-    → ((j : ℕ) (u : Knowledge) → j ≢ seat → get_elem? views j ≡ some u → Fits f maker next j u → Fits g maker next' j u) → Fits g maker next' seat w → FitsAll g maker next' (set views seat w)
+    → ((j : ℕ) (u : Knowledge) → j ≢ seat → get_elem? views j ≡ some u → Fits f maker next j u → Fits g maker next' j u) → Fits g maker next' seat w
+    → FitsAll g maker next' (set views seat w)
 fits_set f g maker next next' views seat w fits others mine j u e =
     ⊎_elim
     (λ (x : (j ≡ seat) × (w ≡ u)). subst (λ (y : ℕ × Knowledge). Fits g maker next' y.0 y.1) (λ i. (sym x.0 i, x.1 i)) mine)
     (λ (x : (j ≢ seat) × (get_elem? views j ≡ some u)). others j u x.0 x.1 (fits j u x.1))
     (at_set views seat j w u e)
 
-fits_more : (f : ℕ → SessionValue) (maker next : ℕ) (views : List Knowledge) (w : Knowledge) → FitsAll f maker next views → ((j : ℕ) → Fits f maker next j w) → FitsAll f maker next (views ++ w ∷ [])
-fits_more f maker next views w fits new j u e = ⊎_elim (fits j u) (λ (t : (j ≡ length views) × (w ≡ u)). subst (Fits f maker next j) t.1 (new j)) (at_end views w u j e)
+fits_more : (f : ℕ → SessionValue) (maker next : ℕ) (views : List Knowledge) (w : Knowledge) → FitsAll f maker next views → ((j : ℕ) → Fits f maker next j w)
+    → FitsAll f maker next (views ++ w ∷ [])
+fits_more f maker next views w fits new j u e = ⊎_elim (fits j u) (λ (t : (j ≡ length views) × (w ≡ u)). subst (Fits f maker next j) t.1 (new j))
+    (at_end views w u j e)
 
 no_parts : (f : ℕ → SessionValue) (maker next : ℕ) (j : ℕ) → Fits f maker next j nobody
-no_parts f maker next j = record { of_maker = λ on. off on; below = λ some_part. absurd (omega arith); shows = λ some_part. absurd (omega arith); brought = λ some_part. absurd (omega arith) }
+no_parts f maker next j = record {
+  of_maker = λ on. off on;
+  below = λ some_part. absurd (omega arith);
+  shows = λ some_part. absurd (omega arith);
+  brought = λ some_part. absurd (omega arith);
+}
 
 pub begins : AreHalvesKept (opening {S = SessionValue} (0 ∷ []) [] first_maker)
 begins = record { session_of = λ _. empty_session; maker = 0; next = 0; fits = one; two = λ n. let z = none_in n first_maker refl in omega arith }
@@ -103,7 +114,12 @@ begins = record { session_of = λ _. empty_session; maker = 0; next = 0; fits = 
     one : FitsAll (λ _. empty_session) 0 0 (first_maker ∷ [])
     one zero v e =
         subst (Fits (λ _. empty_session) 0 0 0) (some-injective first_maker v e)
-        record { of_maker = λ _. (refl, refl, refl); below = λ some_part. absurd (omega arith); shows = λ some_part. absurd (omega arith); brought = λ some_part. absurd (omega arith) }
+        record {
+          of_maker = λ _. (refl, refl, refl);
+          below = λ some_part. absurd (omega arith);
+          shows = λ some_part. absurd (omega arith);
+          brought = λ some_part. absurd (omega arith);
+        }
     one (suc j) v e = absurd (some-ne-none v (sym e))
 
 pub deals : (seat : ℕ) (v : Knowledge) → v.makes ≡ true → Splits AreHalvesKept seat v (next_maker v) (new_session v)
@@ -125,11 +141,16 @@ deals seat v makes s k at =
       shows = λ _. sym (session_here k.session_of v.number empty_session v.number refl);
       brought = λ _. sym (session_here k.session_of v.number empty_session v.number refl);
     } in
-    let others : (j : ℕ) (u : Knowledge) → j ≢ seat → get_elem? s.views j ≡ some u → Fits k.session_of k.maker k.next j u → Fits g k.maker up j u = λ j u apart _ f. record {
+    let others : (j : ℕ) (u : Knowledge) → j ≢ seat → get_elem? s.views j ≡ some u → Fits k.session_of k.maker k.next j u
+    → Fits g k.maker up j u = λ j u apart _ f. record {
       of_maker = λ is. absurd (apart ((f.of_maker is).0 ∙ sym old.0));
       below = λ (some_part : 0 < u.parts). (let low = f.below some_part in omega arith);
-      shows = λ (some_part : 0 < u.parts). f.shows some_part ∙ sym (session_else k.session_of v.number empty_session u.number (λ (e : u.number ≡ v.number). (let low = f.below some_part in absurd (omega arith))));
-      brought = λ (some_part : 0 < u.parts). f.brought some_part ∙ sym (session_else k.session_of v.number empty_session u.number (λ (e : u.number ≡ v.number). (let low = f.below some_part in absurd (omega arith))));
+      shows = λ (some_part : 0 < u.parts). f.shows some_part
+          ∙ sym (session_else k.session_of v.number empty_session u.number (λ (e : u.number ≡ v.number).
+          (let low = f.below some_part in absurd (omega arith))));
+      brought = λ (some_part : 0 < u.parts). f.brought some_part
+          ∙ sym (session_else k.session_of v.number empty_session u.number (λ (e : u.number ≡ v.number).
+          (let low = f.below some_part in absurd (omega arith))));
     } in
     record {
       session_of = g;
@@ -175,7 +196,8 @@ halves seat v whole s k at =
       session_of = k.session_of;
       maker = k.maker;
       next = k.next;
-      fits = fits_more k.session_of k.maker k.next (set s.views seat h) h (fits_set k.session_of k.session_of k.maker k.next k.next s.views seat h k.fits (λ j u _ _ f. f) (fit seat)) fit;
+      fits = fits_more k.session_of k.maker k.next (set s.views seat h) h
+          (fits_set k.session_of k.session_of k.maker k.next k.next s.views seat h k.fits (λ j u _ _ f. f) (fit seat)) fit;
       two = λ n.
           (let a = parts_snoc n (set s.views seat h) h in
           let b = parts_set n s.views seat v h at in
@@ -187,13 +209,15 @@ halves seat v whole s k at =
 pub hands_over : (seat : ℕ) (v : Knowledge) → v.parts ≡ 1 → Splits AreHalvesKept seat v nobody v
 hands_over seat v part s k at =
     let old = k.fits seat v at in
-    let fit : (j : ℕ) → Fits k.session_of k.maker k.next j v = λ j. record { of_maker = λ is. (let no = (old.of_maker is).2 in absurd (omega arith)); below = old.below; shows = old.shows; brought = old.brought } in
+    let fit : (j : ℕ) → Fits k.session_of k.maker k.next j v = λ j.
+    record { of_maker = λ is. (let no = (old.of_maker is).2 in absurd (omega arith)); below = old.below; shows = old.shows; brought = old.brought } in
     record {
       session_of = k.session_of;
       maker = k.maker;
       next = k.next;
       fits = fits_more k.session_of k.maker k.next (set s.views seat nobody) v
-          (fits_set k.session_of k.session_of k.maker k.next k.next s.views seat nobody k.fits (λ j u _ _ f. f) (no_parts k.session_of k.maker k.next seat)) fit;
+          (fits_set k.session_of k.session_of k.maker k.next k.next s.views seat nobody k.fits (λ j u _ _ f. f) (no_parts k.session_of k.maker k.next seat))
+          fit;
       two = λ n.
           (let a = parts_snoc n (set s.views seat nobody) v in
           let b = parts_set n s.views seat v nobody at in
@@ -206,7 +230,8 @@ cond_sum : (b : Bool) (p q : ℕ) → cond b (p + q) 0 ≡ cond b p 0 + cond b q
 cond_sum true p q = refl
 cond_sum false p q = refl
 
-pub glues : (seat : ℕ) (v : Knowledge) (other : ℕ) (w : Knowledge) → v.parts ≡ 1 → w.parts ≡ 1 → v.number ≡ w.number → Joins AreHalvesKept seat v other w (joined v w) nobody
+pub glues : (seat : ℕ) (v : Knowledge) (other : ℕ) (w : Knowledge) → v.parts ≡ 1 → w.parts ≡ 1 → v.number ≡ w.number
+    → Joins AreHalvesKept seat v other w (joined v w) nobody
 glues seat v other w one_part one_more same s k at apart there =
     let both = joined v w in
     let was : get_elem? s.views other ≡ some w = sym (set_else s.views seat other both apart) ∙ there in
@@ -218,12 +243,14 @@ glues seat v other w one_part one_more same s k at apart there =
       shows = λ _. mine.shows (omega arith);
       brought = λ _. theirs.shows (omega arith) ∙ ap k.session_of (sym same);
     } in
-    let first : FitsAll k.session_of k.maker k.next (set s.views seat both) = fits_set k.session_of k.session_of k.maker k.next k.next s.views seat both k.fits (λ j u _ _ f. f) joined in
+    let first : FitsAll k.session_of k.maker k.next (set s.views seat both) =
+    fits_set k.session_of k.session_of k.maker k.next k.next s.views seat both k.fits (λ j u _ _ f. f) joined in
     record {
       session_of = k.session_of;
       maker = k.maker;
       next = k.next;
-      fits = fits_set k.session_of k.session_of k.maker k.next k.next (set s.views seat both) other nobody first (λ j u _ _ f. f) (no_parts k.session_of k.maker k.next other);
+      fits = fits_set k.session_of k.session_of k.maker k.next k.next (set s.views seat both) other nobody first (λ j u _ _ f. f)
+          (no_parts k.session_of k.maker k.next other);
       two = λ n.
           (let a = parts_set n s.views seat v both at in
           let b = parts_set n (set s.views seat both) other w nobody there in
@@ -234,7 +261,8 @@ glues seat v other w one_part one_more same s k at apart there =
           omega arith);
     }
 
-pub writes : (slots seat : ℕ) (me : Seated) (p : SessionValue) → me.0.parts ≡ 2 → Allows AreHalvesKept slots seat me 0 (λ x. either (eqb x 0) 0 x) (Changes (step slots 0 0 0 (some p)) me)
+pub writes : (slots seat : ℕ) (me : Seated) (p : SessionValue) → me.0.parts ≡ 2
+    → Allows AreHalvesKept slots seat me 0 (λ x. either (eqb x 0) 0 x) (Changes (step slots 0 0 0 (some p)) me)
 writes slots seat me p whole s k _ at _ =
     let v : Knowledge = me.0 in
     let old = k.fits seat v at in
@@ -252,7 +280,8 @@ writes slots seat me p whole s k _ at _ =
     let c = parts_here v.number u same in
     let d = k.two v.number in
     absurd (omega arith)) in
-    let others : (j : ℕ) (u : Knowledge) → j ≢ seat → get_elem? s.views j ≡ some u → Fits k.session_of k.maker k.next j u → Fits g k.maker k.next j u = λ j u apart there f. record {
+    let others : (j : ℕ) (u : Knowledge) → j ≢ seat → get_elem? s.views j ≡ some u → Fits k.session_of k.maker k.next j u
+    → Fits g k.maker k.next j u = λ j u apart there f. record {
       of_maker = f.of_maker;
       below = f.below;
       shows = λ some_part. f.shows some_part ∙ sym (session_else k.session_of v.number p u.number (other_number j u apart there some_part));
@@ -280,9 +309,11 @@ get_snoc : {A : Type 0} (l : List A) (a b : A) (k : ℕ) → slice_get (l ++ a �
 get_snoc [] a b zero e = inr (refl, cc)
 get_snoc [] a b (suc k) e = absurd (cc)
 get_snoc (x ∷ xs) a b zero e = inl e
-get_snoc (x ∷ xs) a b (suc k) e = ⊎_elim (λ (t : slice_get xs k ≡ Some b). inl t) (λ (t : (k ≡ length xs) × (a ≡ b)). inr (ap suc t.0, t.1)) (get_snoc xs a b k e)
+get_snoc (x ∷ xs) a b (suc k) e = ⊎_elim (λ (t : slice_get xs k ≡ Some b). inl t) (λ (t : (k ≡ length xs) × (a ≡ b)). inr (ap suc t.0, t.1))
+    (get_snoc xs a b k e)
 
-pub IsNew-push : (z : TableId) (l : List HalfValue) (h : HalfValue) → IsNew z l → h ≡ record { table = z; number = length l; session = empty_session } → IsNew z (l ++ h ∷ [])
+pub IsNew-push : (z : TableId) (l : List HalfValue) (h : HalfValue) → IsNew z l → h ≡ record { table = z; number = length l; session = empty_session }
+    → IsNew z (l ++ h ∷ [])
 IsNew-push z l h new is k u e =
     ⊎_elim (λ (t : slice_get l k ≡ Some u). new k u t)
     (λ (t : (k ≡ length l) × (h ≡ u)). sym t.1 ∙ (is ∙ ap (λ (n : ℕ). record { table = z; number = n; session = empty_session }) (sym t.0)))

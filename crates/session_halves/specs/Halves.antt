@@ -24,4 +24,5 @@ shown h = h.session
 
 -- the halves of new sessions, each at its number
 abbrev pub IsNew : TableId → List HalfValue → Type 0
-IsNew z halves = (k : ℕ) (h : HalfValue) → slice_get halves k ≡ Some h → h ≡ record { table = z; number = k; session = empty_session }
+IsNew z halves = (k : ℕ) (h : HalfValue) → slice_get halves k ≡ Some h
+    → h ≡ record { table = z; number = k; session = empty_session }

@@ -15,7 +15,8 @@ abbrev pub parts_of : ℕ → List Knowledge → ℕ
 parts_of n [] = 0
 parts_of n (v ∷ vs) = parts_in n v + parts_of n vs
 
--- A part of a session shows the session of its number, also as the one that it took in; the number was given out. What makes halves is one, and has none.
+-- A part of a session shows the session of its number, also as the one that it took in; the number was given out. What
+-- makes halves is one, and has none.
 pub record Fits (session_of : ℕ → SessionValue) (maker next place : ℕ) (v : Knowledge) : Type 0 where
   pub of_maker : v.makes ≡ true → (place ≡ maker) × (v.number ≡ next) × (v.parts ≡ 0)
   pub below : 0 < v.parts → v.number < next
@@ -69,4 +70,5 @@ said_session (some p) = p
 
 -- the two parts showed one session, and show the one that the step announces
 abbrev pub Changes : Step SessionValue → Seated → ℕ → Seated → Type 0
-Changes st m n m' = (m.0.beside ≡ m.0.session) × (m' ≡ (record m.0 { session = said_session st.said; beside = said_session st.said }, m.1))
+Changes st m n m' = (m.0.beside ≡ m.0.session)
+    × (m' ≡ (record m.0 { session = said_session st.said; beside = said_session st.said }, m.1))

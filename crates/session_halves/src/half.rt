@@ -17,7 +17,11 @@ impl<A: Allocator> Model for Half<A> {
 
     ghost Value = { HalfValue };
 
-    ghost view = { λ h. record { table = h.seat.table_id; number = h.seat.me.0.number; session = h.seat.me.0.session } };
+    ghost view = { λ h. record {
+      table = h.seat.table_id;
+      number = h.seat.me.0.number;
+      session = h.seat.me.0.session;
+    } };
 
     ghost invariant = { λ h. (h.seat.me.1 ≡ []) × (h.seat.me.0.parts ≡ 1) };
 }

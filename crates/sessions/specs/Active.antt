@@ -1,5 +1,6 @@
 -- An active transaction as its session has it, and its place among the others.
-use Rattle.std.specs.Prelude.{◌≡◌, ℕ, ◌<◌, zero, suc, true, List, [], ◌∷◌, ◌==◌, if◌then◌else◌, vec_len, vec_capacity, slice_get, slice_index_or, map, is_some, Option, Some, None, ◌+◌}
+use Rattle.std.specs.Prelude.{◌≡◌, ℕ, ◌<◌, zero, suc, true, List, [], ◌∷◌, ◌==◌, if◌then◌else◌, vec_len, vec_capacity}
+use Rattle.std.specs.Prelude.{slice_get, slice_index_or, map, is_some, Option, Some, None, ◌+◌}
 use Rattle.sessions.specs.declared.active.ActiveTxn.{ActiveTxn}
 use Rattle.sessions.specs.Values.{ActiveValue, active_of, with_active}
 
@@ -28,7 +29,8 @@ changed_at f (suc i) (a ∷ rest) = a ∷ changed_at f i rest
 
 -- this is the place of the transaction with this number
 pub record IsPlace {A : Type 0} (txn : ℕ) (xs : List (ActiveTxn A)) (i : ℕ) : Type 0 where
-  pub changed : (f : ActiveValue → ActiveValue) → changed_at f i (map active_value xs) ≡ with_active f txn (map active_value xs)
+  pub changed : (f : ActiveValue → ActiveValue) → changed_at f i (map active_value xs)
+      ≡ with_active f txn (map active_value xs)
   pub found : (d : ActiveTxn A) → active_of txn (map active_value xs) ≡ Some (active_value (slice_index_or xs i d))
   pub there : is_some (active_of txn (map active_value xs)) ≡ true
   pub number : (a : ActiveTxn A) → slice_get xs i ≡ Some a → (txn == a.txn) ≡ true

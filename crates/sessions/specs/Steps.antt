@@ -22,7 +22,10 @@ unfinished_in core txn change = option_map (λ step. change) (option_and_then ow
 
 -- the first step of a change is made: its place is held, with the row that is there now
 abbrev pub change_seen : CoreValue → Write → ActiveValue → ActiveValue
-change_seen core change a = record a { rows = with_write (row_now core change.rid) a.rows; unfinished = unfinished_in core a.txn change }
+change_seen core change a = record a {
+  rows = with_write (row_now core change.rid) a.rows;
+  unfinished = unfinished_in core a.txn change;
+}
 
 -- the rows that are now at these places
 abbrev pub rows_now : CoreValue → List Write → List Write

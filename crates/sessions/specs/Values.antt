@@ -1,5 +1,6 @@
 -- What contracts see of a session.
-use Rattle.std.specs.Prelude.{ℕ, Bool, false, List, [], ◌∷◌, ◌++◌, Option, Some, None, filter, not, is_some, ◌==◌, ◌&&◌, if◌then◌else◌, unwrap_or}
+use Rattle.std.specs.Prelude.{ℕ, Bool, false, List, [], ◌∷◌, ◌++◌, Option, Some, None, filter, not, is_some, ◌==◌, ◌&&◌}
+use Rattle.std.specs.Prelude.{if◌then◌else◌, unwrap_or}
 use Rattle.std.specs.Option.{option_map}
 use Rattle.records.specs.Values.{Place}
 use Rattle.model.specs.declared.write.Write.{Write}
@@ -11,14 +12,16 @@ pub record CommitValue : Type 0 where
   pub ticket : Ticket
   pub writes : List Write
 
--- an active transaction: its number, the row that is now at each place that it holds, the place and the new row of a change that it has not finished, and whether it is rolling back
+-- an active transaction: its number, the row that is now at each place that it holds, the place and the new row of a
+-- change that it has not finished, and whether it is rolling back
 pub record ActiveValue : Type 0 where
   pub txn : ℕ
   pub rows : List Write
   pub unfinished : Option Write
   pub rolling : Bool
 
--- the commits, the creations and droppings of the index, and the active transactions, each in the order in which they came
+-- the commits, the creations and droppings of the index, and the active transactions, each in the order in which they
+-- came
 pub record SessionValue : Type 0 where
   pub commits : List CommitValue
   pub turns : List Turn

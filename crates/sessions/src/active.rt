@@ -1,10 +1,12 @@
 //! The active transactions of a session.
-ghost use Rattle.std.specs.Prelude.{◌≡◌, ◌<◌, ◌≤◌, None, Some, IfSome, IfErr, MatchOption, OnOk, vec_len, vec_capacity, length, map};
+ghost use Rattle.std.specs.Prelude.{◌≡◌, ◌<◌, ◌≤◌, None, Some, IfSome, IfErr, MatchOption, OnOk, vec_len, vec_capacity};
+ghost use Rattle.std.specs.Prelude.{length, map};
 ghost use Rattle.records.specs.declared.error.Error.TheVariants.{NoMemory};
 ghost use Rattle.nsf_core.specs.Value.{value_of};
 ghost use Rattle.sessions.specs.Values.{with_write, active_of, rows_of, without};
 ghost use Rattle.sessions.specs.Active.{active_value, place_from, IsPlace, HasRoomAt, changed_at};
-ghost use Rattle.sessions.specs.Steps.{row_now, rows_now, unfinished_in, still_unfinished, change_seen, step_seen, taken_back};
+ghost use Rattle.sessions.specs.Steps.{row_now, rows_now, unfinished_in, still_unfinished, change_seen, step_seen};
+ghost use Rattle.sessions.specs.Steps.{taken_back};
 
 use model::Write;
 use nsf_core::Core;
@@ -37,7 +39,8 @@ fn index_of<A: Allocator>(active: &[ActiveTxn<A>], txn: Txn) -> Option<usize>
 // The place of a transaction.
 pub(crate) fn place_of<A: Allocator>(active: &[ActiveTxn<A>], txn: Txn) -> Option<usize>
     ensures within { IfSome result (λ i. i < length active.now) }
-    ensures found { MatchOption result (active_of txn (map active_value active.now) ≡ None) (λ i. IsPlace txn active.now i) }
+    ensures found { MatchOption result (active_of txn (map active_value active.now) ≡ None) (λ i.
+        IsPlace txn active.now i) }
 {
     index_of(active, txn)
 }
@@ -112,7 +115,8 @@ pub(crate) fn note_change<A: Allocator + Copy>(
     change: Write,
 )
     requires { HasRoomAt i active.old.items }
-    ensures { map active_value active.new.items ≡ changed_at (change_seen (value_of core.now) change) i (map active_value active.old.items) }
+    ensures { map active_value active.new.items ≡ changed_at (change_seen (value_of core.now) change) i
+        (map active_value active.old.items) }
 {
     let write = row_now(core, change.rid);
     let one = &mut active[i];
@@ -127,7 +131,8 @@ pub(crate) fn note_step<A: Allocator + Copy>(
     core: &Core<A>,
 )
     requires { i < vec_len active.old }
-    ensures { map active_value active.new.items ≡ changed_at (step_seen (value_of core.now)) i (map active_value active.old.items) }
+    ensures { map active_value active.new.items ≡ changed_at (step_seen (value_of core.now)) i
+        (map active_value active.old.items) }
 {
     let one = &mut active[i];
     read_again(core, &mut one.rows);
@@ -141,7 +146,8 @@ pub(crate) fn note_undo<A: Allocator + Copy>(
     core: &Core<A>,
 )
     requires { i < vec_len active.old }
-    ensures { map active_value active.new.items ≡ changed_at (taken_back (value_of core.now)) i (map active_value active.old.items) }
+    ensures { map active_value active.new.items ≡ changed_at (taken_back (value_of core.now)) i
+        (map active_value active.old.items) }
 {
     let one = &mut active[i];
     read_again(core, &mut one.rows);

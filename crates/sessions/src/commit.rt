@@ -21,7 +21,10 @@ impl<A: Allocator> Model for Commit<A> {
 
     ghost Value = { CommitValue };
 
-    ghost view = { λ c. record { ticket = record { «record» = c.«record»; commit = c.number }; writes = c.writes.items } };
+    ghost view = { λ c. record {
+      ticket = record { «record» = c.«record»; commit = c.number };
+      writes = c.writes.items;
+    } };
 }
 
 impl<A: Allocator> Commit<A> {

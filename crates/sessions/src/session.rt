@@ -25,7 +25,11 @@ impl<A: Allocator> Model for Session<A> {
 
     ghost Value = { SessionValue };
 
-    ghost view = { λ s. record { commits = s.commits.items; turns = s.turns.items; active = map active_value s.active.items } };
+    ghost view = { λ s. record {
+      commits = s.commits.items;
+      turns = s.turns.items;
+      active = map active_value s.active.items;
+    } };
 }
 
 impl<A: Allocator + Copy> Session<A> {
@@ -68,8 +72,8 @@ impl<A: Allocator + Copy> Session<A> {
         place_of(&self.active, txn).is_some()
     }
 
-    /// Whether the transaction may begin a change or commit: it is one of the seat's, has no change to finish, and isn't
-    /// rolling back.
+    /// Whether the transaction may begin a change or commit: it is one of the seat's, has no change to finish, and
+    /// isn't rolling back.
     pub fn ready(&self, txn: Txn) -> bool
         ensures { result ≡ is_ready self.now txn }
     {

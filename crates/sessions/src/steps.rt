@@ -26,8 +26,8 @@ use std::alloc::Allocator;
 impl<A: Allocator + Copy> Session<A> {
     /// Begins a transaction of the seat.
     ///
-    /// The refusals are those of the core's `begin`, `NoMemory` the last of them; it comes also where there is none for the
-    /// session's part. After a refusal both are as before.
+    /// The refusals are those of the core's `begin`, `NoMemory` the last of them; it comes also where there is none for
+    /// the session's part. After a refusal both are as before.
     pub fn begin(&mut self, core: &mut Core<A>) -> Result<Txn, Error>
         ensures served { Serves (value_of core.old) Event.Begin (reply_by Reply.Txn result) (value_of core.new) }
         ensures ok { IfOk result (λ txn. self.new ≡ begun self.old txn) }
@@ -48,8 +48,8 @@ impl<A: Allocator + Copy> Session<A> {
     /// Inserts a row in a transaction of the seat: the first step, and all of the insertion where there is no index.
     ///
     /// `NoSuchTxn` where the transaction isn't one of the seat's, and else the refusals of the core's `start_insert`,
-    /// `NoMemory` the last of them; it comes also where there is none for the session's part. After a refusal both are as
-    /// before.
+    /// `NoMemory` the last of them; it comes also where there is none for the session's part. After a refusal both are
+    /// as before.
     pub fn insert(
         &mut self,
         core: &mut Core<A>,
@@ -58,9 +58,13 @@ impl<A: Allocator + Copy> Session<A> {
         body: Body,
     ) -> Result<Rid, Error>
         requires { is_active self.old txn ≡ true → IsReadyOrNone (txn_shown (value_of core.old) txn) }
-        ensures foreign { is_active self.old txn ≡ false → (result ≡ Err NoSuchTxn) × (value_of core.new ≡ value_of core.old) }
-        ensures served { is_active self.old txn ≡ true → Serves (value_of core.old) (Event.Insert txn (record { key = key; body = body })) (reply_by Reply.Rid result) (value_of core.new) }
-        ensures ok { IfOk result (λ rid. self.new ≡ changed self.old (value_of core.new) txn (record { rid = rid; row = Some (record { key = key; body = body }) })) }
+        ensures foreign { is_active self.old txn ≡ false → (result ≡ Err NoSuchTxn)
+            × (value_of core.new ≡ value_of core.old) }
+        ensures served { is_active self.old txn ≡ true
+            → Serves (value_of core.old) (Event.Insert txn (record { key = key; body = body }))
+            (reply_by Reply.Rid result) (value_of core.new) }
+        ensures ok { IfOk result (λ rid. self.new ≡ changed self.old (value_of core.new) txn
+            (record { rid = rid; row = Some (record { key = key; body = body }) })) }
         ensures unchanged { OnErr result (self.new ≡ self.old) }
     {
         let Some(i) = place_of(&self.active, txn) else {
@@ -79,9 +83,13 @@ impl<A: Allocator + Copy> Session<A> {
     /// The refusals are those of `insert`, with the core's `start_delete` in place of `start_insert`.
     pub fn delete(&mut self, core: &mut Core<A>, txn: Txn, rid: Rid) -> Result<(), Error>
         requires { is_active self.old txn ≡ true → IsReadyOrNone (txn_shown (value_of core.old) txn) }
-        ensures foreign { is_active self.old txn ≡ false → (result ≡ Err NoSuchTxn) × (value_of core.new ≡ value_of core.old) }
-        ensures served { is_active self.old txn ≡ true → Serves (value_of core.old) (Event.Delete txn rid) (reply_by (λ _. Reply.Stepped) result) (value_of core.new) }
-        ensures ok { OnOk result (self.new ≡ changed self.old (value_of core.new) txn (record { rid = rid; row = None })) }
+        ensures foreign { is_active self.old txn ≡ false → (result ≡ Err NoSuchTxn)
+            × (value_of core.new ≡ value_of core.old) }
+        ensures served { is_active self.old txn ≡ true
+            → Serves (value_of core.old) (Event.Delete txn rid) (reply_by (λ _. Reply.Stepped) result)
+            (value_of core.new) }
+        ensures ok { OnOk result (self.new ≡ changed self.old (value_of core.new) txn
+            (record { rid = rid; row = None })) }
         ensures unchanged { OnErr result (self.new ≡ self.old) }
     {
         let Some(i) = place_of(&self.active, txn) else {
@@ -94,8 +102,8 @@ impl<A: Allocator + Copy> Session<A> {
         Ok(())
     }
 
-    /// Puts another row in place of a row, in a transaction of the seat: the first step, and all of it where there is no
-    /// index, or the key stays.
+    /// Puts another row in place of a row, in a transaction of the seat: the first step, and all of it where there is
+    /// no index, or the key stays.
     ///
     /// The refusals are those of `delete`.
     pub fn update(
@@ -107,9 +115,13 @@ impl<A: Allocator + Copy> Session<A> {
         body: Body,
     ) -> Result<(), Error>
         requires { is_active self.old txn ≡ true → IsReadyOrNone (txn_shown (value_of core.old) txn) }
-        ensures foreign { is_active self.old txn ≡ false → (result ≡ Err NoSuchTxn) × (value_of core.new ≡ value_of core.old) }
-        ensures served { is_active self.old txn ≡ true → Serves (value_of core.old) (Event.Update txn rid (record { key = key; body = body })) (reply_by (λ _. Reply.Stepped) result) (value_of core.new) }
-        ensures ok { OnOk result (self.new ≡ changed self.old (value_of core.new) txn (record { rid = rid; row = Some (record { key = key; body = body }) })) }
+        ensures foreign { is_active self.old txn ≡ false → (result ≡ Err NoSuchTxn)
+            × (value_of core.new ≡ value_of core.old) }
+        ensures served { is_active self.old txn ≡ true
+            → Serves (value_of core.old) (Event.Update txn rid (record { key = key; body = body }))
+            (reply_by (λ _. Reply.Stepped) result) (value_of core.new) }
+        ensures ok { OnOk result (self.new ≡ changed self.old (value_of core.new) txn
+            (record { rid = rid; row = Some (record { key = key; body = body }) })) }
         ensures unchanged { OnErr result (self.new ≡ self.old) }
     {
         let Some(i) = place_of(&self.active, txn) else {
@@ -125,12 +137,14 @@ impl<A: Allocator + Copy> Session<A> {
 
     /// Makes the step that a transaction of the seat owes.
     ///
-    /// `NoSuchTxn` where the transaction isn't one of the seat's, and else the refusals of the core's `next_step`. After a
-    /// refusal both are as before.
+    /// `NoSuchTxn` where the transaction isn't one of the seat's, and else the refusals of the core's `next_step`.
+    /// After a refusal both are as before.
     pub fn next_step(&mut self, core: &mut Core<A>, txn: Txn) -> Result<(), Error>
         requires { is_active self.old txn ≡ true → OwesOrNone (txn_shown (value_of core.old) txn) }
-        ensures foreign { is_active self.old txn ≡ false → (result ≡ Err NoSuchTxn) × (value_of core.new ≡ value_of core.old) }
-        ensures served { is_active self.old txn ≡ true → Serves (value_of core.old) (Event.Step txn) (reply_by (λ _. Reply.Stepped) result) (value_of core.new) }
+        ensures foreign { is_active self.old txn ≡ false → (result ≡ Err NoSuchTxn)
+            × (value_of core.new ≡ value_of core.old) }
+        ensures served { is_active self.old txn ≡ true
+            → Serves (value_of core.old) (Event.Step txn) (reply_by (λ _. Reply.Stepped) result) (value_of core.new) }
         ensures ok { OnOk result (self.new ≡ stepped self.old (value_of core.new) txn) }
         ensures unchanged { OnErr result (self.new ≡ self.old) }
     {
@@ -142,14 +156,16 @@ impl<A: Allocator + Copy> Session<A> {
         Ok(())
     }
 
-    /// Makes the next step that takes a change of a transaction of the seat back, or answers that none is left. From the
-    /// first call on the transaction is rolling back.
+    /// Makes the next step that takes a change of a transaction of the seat back, or answers that none is left. From
+    /// the first call on the transaction is rolling back.
     ///
-    /// `NoSuchTxn` where the transaction isn't one of the seat's, and else the refusals of the core's `undo_step`. After a
-    /// refusal both are as before.
+    /// `NoSuchTxn` where the transaction isn't one of the seat's, and else the refusals of the core's `undo_step`.
+    /// After a refusal both are as before.
     pub fn undo_step(&mut self, core: &mut Core<A>, txn: Txn) -> Result<Undone, Error>
-        ensures foreign { is_active self.old txn ≡ false → (result ≡ Err NoSuchTxn) × (value_of core.new ≡ value_of core.old) }
-        ensures served { is_active self.old txn ≡ true → Serves (value_of core.old) (Event.Undo txn) (reply_by undone_reply result) (value_of core.new) }
+        ensures foreign { is_active self.old txn ≡ false → (result ≡ Err NoSuchTxn)
+            × (value_of core.new ≡ value_of core.old) }
+        ensures served { is_active self.old txn ≡ true
+            → Serves (value_of core.old) (Event.Undo txn) (reply_by undone_reply result) (value_of core.new) }
         ensures ok { OnOk result (self.new ≡ rolling_back self.old (value_of core.new) txn) }
         ensures unchanged { OnErr result (self.new ≡ self.old) }
     {
@@ -167,8 +183,10 @@ impl<A: Allocator + Copy> Session<A> {
     /// refusal both are as before.
     pub fn end(&mut self, core: &mut Core<A>, txn: Txn) -> Result<(), Error>
         requires { is_active self.old txn ≡ true → HasNoChange (txn_shown (value_of core.old) txn) }
-        ensures foreign { is_active self.old txn ≡ false → (result ≡ Err NoSuchTxn) × (value_of core.new ≡ value_of core.old) }
-        ensures served { is_active self.old txn ≡ true → Serves (value_of core.old) (Event.End txn) (reply_by (λ _. Reply.Ended) result) (value_of core.new) }
+        ensures foreign { is_active self.old txn ≡ false → (result ≡ Err NoSuchTxn)
+            × (value_of core.new ≡ value_of core.old) }
+        ensures served { is_active self.old txn ≡ true
+            → Serves (value_of core.old) (Event.End txn) (reply_by (λ _. Reply.Ended) result) (value_of core.new) }
         ensures ok { OnOk result (self.new ≡ ended self.old txn) }
         ensures unchanged { OnErr result (self.new ≡ self.old) }
     {
@@ -183,12 +201,15 @@ impl<A: Allocator + Copy> Session<A> {
     /// Commits a transaction of the seat: it is none of the active ones from then on, and a commit with its ticket and
     /// the rows at the places that it held is the last one.
     ///
-    /// `NoSuchTxn` where the transaction isn't one of the seat's, and else the refusals of the core's `commit`, `NoMemory`
-    /// the last of them; it comes also where there is none for the session's part. After a refusal both are as before.
+    /// `NoSuchTxn` where the transaction isn't one of the seat's, and else the refusals of the core's `commit`,
+    /// `NoMemory` the last of them; it comes also where there is none for the session's part. After a refusal both are
+    /// as before.
     pub fn commit(&mut self, core: &mut Core<A>, txn: Txn) -> Result<Ticket, Error>
         requires { is_active self.old txn ≡ true → IsReadyOrNone (txn_shown (value_of core.old) txn) }
-        ensures foreign { is_active self.old txn ≡ false → (result ≡ Err NoSuchTxn) × (value_of core.new ≡ value_of core.old) }
-        ensures served { is_active self.old txn ≡ true → Serves (value_of core.old) (Event.Commit txn) (reply_by reply_of_ticket result) (value_of core.new) }
+        ensures foreign { is_active self.old txn ≡ false → (result ≡ Err NoSuchTxn)
+            × (value_of core.new ≡ value_of core.old) }
+        ensures served { is_active self.old txn ≡ true
+            → Serves (value_of core.old) (Event.Commit txn) (reply_by reply_of_ticket result) (value_of core.new) }
         ensures ok { IfOk result (λ ticket. self.new ≡ committed self.old txn ticket) }
         ensures unchanged { OnErr result (self.new ≡ self.old) }
     {
@@ -209,8 +230,8 @@ impl<A: Allocator + Copy> Session<A> {
 
     /// Creates the index, and keeps the number of the record that tells of it.
     ///
-    /// The refusals are those of the core's `create_index`, `NoMemory` the last of them; it comes also where there is none
-    /// for the session's part. After a refusal both are as before.
+    /// The refusals are those of the core's `create_index`, `NoMemory` the last of them; it comes also where there is
+    /// none for the session's part. After a refusal both are as before.
     pub fn create_index(&mut self, core: &mut Core<A>) -> Result<Ticket, Error>
         ensures served { Serves (value_of core.old) Event.Create (reply_by reply_of_ticket result) (value_of core.new) }
         ensures ok { IfOk result (λ ticket. self.new ≡ with_turn self.old (Created ticket.«record»)) }
@@ -223,11 +244,11 @@ impl<A: Allocator + Copy> Session<A> {
         Ok(ticket)
     }
 
-    /// Drops the index, be it complete or not, and keeps the number of the record that tells of it. The entries that the index had
-    /// are answered, for the caller to let go.
+    /// Drops the index, be it complete or not, and keeps the number of the record that tells of it. The entries that
+    /// the index had are answered, for the caller to let go.
     ///
-    /// The refusals are those of the core's `drop_index`, `NoMemory` the last of them; it comes also where there is none
-    /// for the session's part. After a refusal both are as before.
+    /// The refusals are those of the core's `drop_index`, `NoMemory` the last of them; it comes also where there is
+    /// none for the session's part. After a refusal both are as before.
     pub fn drop_index(&mut self, core: &mut Core<A>) -> Result<Detached<A>, Error>
         ensures served { Serves (value_of core.old) Event.Drop (reply_by reply_of_detached result) (value_of core.new) }
         ensures taken { IfOk result (λ d. entries_of d ≡ (value_of core.old).index.entries) }

@@ -1,5 +1,6 @@
 -- What a step of a change makes of its seat's session.
-use Rattle.std.proofs.Common.{◌≡◌, ◌≢◌, ◌==◌, ℕ, Bool, true, false, cond, List, Option, Some, None, is_some, not, ◌&&◌, ◌⊎◌, inl, inr, ⊎_elim, refl, sym, ap, ◌∙◌, subst}
+use Rattle.std.proofs.Common.{◌≡◌, ◌≢◌, ◌==◌, ℕ, Bool, true, false, cond, List, Option, Some, None, is_some, not, ◌&&◌, ◌⊎◌, inl, inr, ⊎_elim, refl, sym, ap}
+use Rattle.std.proofs.Common.{◌∙◌, subst}
 use Rattle.std.specs.FinMap.{get}
 use Rattle.std.specs.Option.{option_map}
 use Rattle.std.specs.Prelude.{option_and_then, slice_get, slice_set}
@@ -16,7 +17,8 @@ use Rattle.core_model.specs.States.{Active, State}
 use Rattle.core_model.specs.Steps.{after, CanStart, MachineStep, Next, Start, txn_at}
 use Rattle.core_contracts.proofs.Laws.{is_move}
 use Rattle.core_contracts.specs.Events.{Event, Refused, Reply, Skipped, Standing, standing_after, Stepped}
-use Rattle.core_contracts.specs.Replies.{accepted, after_any, change_of, IsAllowed, IsStepDue, IsProper, no_memory, Owes, refused, refused_last, skipped, unknown}
+use Rattle.core_contracts.specs.Replies.{accepted, after_any, change_of, IsAllowed, IsStepDue, IsProper, no_memory, Owes, refused, refused_last, skipped}
+use Rattle.core_contracts.specs.Replies.{unknown}
 use Rattle.core_contracts.specs.Served.{IsEnabledAny}
 use Rattle.nsf_core.specs.View.{Answers, CoreValue, Serves, Shows}
 use Rattle.txn_table.specs.Table.{state_of}
@@ -35,7 +37,8 @@ IsAnswer Skipped = ⊥
 IsAnswer (Refused error) = ⊥
 IsAnswer _ = Unit {0}
 
-pub due : (s : State) (k : Standing) (e : Event) (reply : Reply) (step : Option MachineStep) → IsAllowed s k e reply step → IsAnswer reply → IsProper s e × IsStepDue s k e reply step
+pub due : (s : State) (k : Standing) (e : Event) (reply : Reply) (step : Option MachineStep) → IsAllowed s k e reply step → IsAnswer reply → IsProper s e
+    × IsStepDue s k e reply step
 due s k e reply step (unknown a) answer = absurd answer
 due s k e reply step (skipped a b) answer = absurd answer
 due s k e reply step (refused a b error f) answer = absurd answer
@@ -87,7 +90,8 @@ module _ (o : Opened) (can : CanOpen o) (pushed : List RecordValue) (core new : 
   module _ (f : ActiveValue → ActiveValue) (keeps : (a : ActiveValue) → (f a).txn ≡ a.txn) (rolls_on : (a : ActiveValue) → (f a).rolling ≡ a.rolling)
       (register : IsRegister o pushed new (slice_set book seat (record p { active = with_active f t p.active })))
       (w : Write) (s' : State) (k' : Standing) (shows : Shows new s' k') (step : IsStep s s' t w)
-      (a : ActiveValue) (at : active_of t p.active ≡ Some a) (going : a.rolling ≡ false) (left : (f a).unfinished ≡ cond (is_owed step.txn.phase step.txn.rolling) (Some w) None) where
+      (a : ActiveValue) (at : active_of t p.active ≡ Some a) (going : a.rolling ≡ false)
+      (left : (f a).unfinished ≡ cond (is_owed step.txn.phase step.txn.rolling) (Some w) None) where
     abbrev q : SessionValue
     q = record p { active = with_active f t p.active }
 
@@ -104,7 +108,8 @@ module _ (o : Opened) (can : CanOpen o) (pushed : List RecordValue) (core new : 
     row_before x = rows_left o can pushed core book r seat p there t own x ∙ (λ i. row_held t (sym (shown.holder x) i) (get (sym shown.rows i) x))
 
     row_after : (x : Place) → row_of q t x ≡ row_held t (s'.holder x) (get s'.rows x)
-    row_after x = rows_left o can pushed new (slice_set book seat q) register seat q here t own_now x ∙ (λ i. row_held t (sym (shows.holder x) i) (get (sym shows.rows i) x))
+    row_after x = rows_left o can pushed new (slice_set book seat q) register seat q here t own_now x
+        ∙ (λ i. row_held t (sym (shows.holder x) i) (get (sym shows.rows i) x))
 
     unfinished_now : unfinished_of q t ≡ cond (is_owed step.txn.phase step.txn.rolling) (Some w) None
     unfinished_now = ap (option_and_then (λ (y : ActiveValue). y.unfinished)) at_now ∙ left
@@ -129,7 +134,8 @@ module _ (o : Opened) (can : CanOpen o) (pushed : List RecordValue) (core new : 
 
         stay : (before : Option Row) → row_of p t w.rid ≡ Some before → (row_of q t w.rid ≡ Some before) ⊎ (row_of q t w.rid ≡ Some w.row)
         stay before is = ⊎_elim
-            (λ (same : get s'.rows w.rid ≡ get s.rows w.rid). inl (here_now ∙ ap Some (same ∙ (held_by t (s.holder w.rid) (get s.rows w.rid) before (sym (row_before w.rid) ∙ is)).1)))
+            (λ (same : get s'.rows w.rid ≡ get s.rows w.rid). inl (here_now
+            ∙ ap Some (same ∙ (held_by t (s.holder w.rid) (get s.rows w.rid) before (sym (row_before w.rid) ∙ is)).1)))
             (λ (new_row : get s'.rows w.rid ≡ w.row). inr (here_now ∙ ap Some new_row))
             step.kept
 
@@ -146,7 +152,8 @@ module _ (o : Opened) (can : CanOpen o) (pushed : List RecordValue) (core new : 
     shown_by step is = subst (λ x. Shows new (after_any s x) (standing_after k reply)) is answer.shown
 
     enabled_by : (step : Option MachineStep) → answer.step ≡ step → IsEnabledAny s step
-    enabled_by step is = subst (IsEnabledAny s) is (is_move s k e reply answer.step r.kept.replied.stands.fit r.kept.replied.stands.standing answer.allowed).enabled
+    enabled_by step is = subst (IsEnabledAny s) is
+        (is_move s k e reply answer.step r.kept.replied.stands.fit r.kept.replied.stands.standing answer.allowed).enabled
 
   module _ (ready : is_ready p t ≡ true) where
     start : (e : Event) (reply : Reply) (sv : Serves core e reply new) (c : ChangeValue) → (answer e reply sv).step ≡ Some (Start t c)
@@ -157,7 +164,8 @@ module _ (o : Opened) (can : CanOpen o) (pushed : List RecordValue) (core new : 
         let shows = shown_by e reply sv (Some (Start t c)) is in
         let step : IsStep s (after s (Start t c)) t w = first s t c can_start.ready.1 in
         let a = found (active_of t p.active) own in
-        under_way (change_seen new w) (λ x. refl) (λ x. refl) register w (after s (Start t c)) (standing_after k reply) shows step a.0 a.1 (goes_on a.0 (active_of t p.active) a.1 ready)
+        under_way (change_seen new w) (λ x. refl) (λ x. refl) register w (after s (Start t c)) (standing_after k reply) shows step a.0 a.1
+        (goes_on a.0 (active_of t p.active) a.1 ready)
         (ap (λ n. unfinished_in new n w) (number_is t p.active a.0 a.1) ∙ owed_one (state_of t new.txns.active) _ step.txn w (shows.txns t) step.active)
 
     pub inserted : (row : Row) (rid : Place) (sv : Serves core (Event.Insert t row) (Reply.Rid rid) new)
@@ -165,16 +173,19 @@ module _ (o : Opened) (can : CanOpen o) (pushed : List RecordValue) (core new : 
     inserted row rid sv =
         let d = (due s k (Event.Insert t row) (Reply.Rid rid) _ (answer (Event.Insert t row) (Reply.Rid rid) sv).allowed tt).1 in
         let same : rid ≡ d.0 = one_place rid d.0 d.2 in
-        start (Event.Insert t row) (Reply.Rid rid) sv (change_of s t rid (Inserted row)) (d.3 ∙ ap (λ x. Some (Start t (change_of s t x (Inserted row)))) (sym same))
+        start (Event.Insert t row) (Reply.Rid rid) sv (change_of s t rid (Inserted row)) (d.3
+        ∙ ap (λ x. Some (Start t (change_of s t x (Inserted row)))) (sym same))
         (insert_agreed o can pushed core book r seat p there t own row rid new sv)
 
-    pub deleted : (rid : Place) (sv : Serves core (Event.Delete t rid) Stepped new) → IsUnderWay p t (record { rid = rid; row = None }) (changed p new t (record { rid = rid; row = None }))
+    pub deleted : (rid : Place) (sv : Serves core (Event.Delete t rid) Stepped new)
+        → IsUnderWay p t (record { rid = rid; row = None }) (changed p new t (record { rid = rid; row = None }))
     deleted rid sv =
         let d = (due s k (Event.Delete t rid) Stepped _ (answer (Event.Delete t rid) Stepped sv).allowed tt).1 in
         start (Event.Delete t rid) Stepped sv (change_of s t rid (Deleted d.0)) d.3
         (delete_agreed o can pushed core book r seat p there t own rid new sv)
 
-    pub updated : (rid : Place) (row : Row) (sv : Serves core (Event.Update t rid row) Stepped new) → IsUnderWay p t (record { rid = rid; row = Some row }) (changed p new t (record { rid = rid; row = Some row }))
+    pub updated : (rid : Place) (row : Row) (sv : Serves core (Event.Update t rid row) Stepped new)
+        → IsUnderWay p t (record { rid = rid; row = Some row }) (changed p new t (record { rid = rid; row = Some row }))
     updated rid row sv =
         let d = (due s k (Event.Update t rid row) Stepped _ (answer (Event.Update t rid row) Stepped sv).allowed tt).1 in
         start (Event.Update t rid row) Stepped sv (change_of s t rid (Updated d.0 row)) d.3
@@ -183,10 +194,12 @@ module _ (o : Opened) (can : CanOpen o) (pushed : List RecordValue) (core new : 
   -- ---- the steps that follow
 
   owes_newest : (x : Active) → Owes x → owed_write x ≡ newest_write x.changes
-  owes_newest x owes = ap (λ b. cond b (newest_write x.changes) None) (⊎_elim (λ e. (λ i. is_owed (e i) (owes.1 i))) (λ e. (λ i. is_owed (e i) (owes.1 i))) owes.0)
+  owes_newest x owes = ap (λ b. cond b (newest_write x.changes) None)
+      (⊎_elim (λ e. (λ i. is_owed (e i) (owes.1 i))) (λ e. (λ i. is_owed (e i) (owes.1 i))) owes.0)
 
   seen_now : (a : ActiveValue) → active_of t p.active ≡ Some a → (x : Active) → s.txns t ≡ Some x → IsSeen s t a x
-  seen_now a at x active = by (seat == r.owner t) (subst (λ m. Agree s t m (cond (seat == r.owner t) (s.txns t) None)) shown_at (r.owned seat t (get_within book seat p there)))
+  seen_now a at x active = by (seat == r.owner t) (subst (λ m. Agree s t m (cond (seat == r.owner t) (s.txns t) None)) shown_at
+      (r.owned seat t (get_within book seat p there)))
     where
       shown_at : seen_at book seat t ≡ Some a
       shown_at = ap (λ m. option_and_then (λ (v : SessionValue). active_of t v.active) m) there ∙ at
@@ -207,6 +220,7 @@ module _ (o : Opened) (can : CanOpen o) (pushed : List RecordValue) (core new : 
       let this : a.0.unfinished ≡ Some w = sym (ap (option_and_then (λ (y : ActiveValue). y.unfinished)) a.1) ∙ asked in
       let newest : newest_write (txn_at s t).changes ≡ Some w = sym (owes_newest (txn_at s t) owes) ∙ (sym seen.unfinished ∙ this) in
       let step : IsStep s (after s (Next t)) t w = following s holds t active owes.0 w newest in
-      under_way (step_seen new) (λ x. refl) (λ x. refl) (next_agreed o can pushed core book r seat p there t own new sv) w (after s (Next t)) (standing_after k Stepped) shows step a.0 a.1 (seen.rolling ∙ owes.1)
+      under_way (step_seen new) (λ x. refl) (λ x. refl) (next_agreed o can pushed core book r seat p there t own new sv) w (after s (Next t))
+      (standing_after k Stepped) shows step a.0 a.1 (seen.rolling ∙ owes.1)
       (ap (option_and_then (unfinished_in new a.0.txn)) this
       ∙ (ap (λ n. unfinished_in new n w) (number_is t p.active a.0 a.1) ∙ owed_one (state_of t new.txns.active) _ step.txn w (shows.txns t) step.active))

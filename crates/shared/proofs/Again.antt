@@ -30,11 +30,13 @@ module _ (leaves : LeavesAll) (o : Opened) where
   pub nothing_changed_to : (seat : ℕ) (p : SessionValue) (e : Event) (error : Error) (was : WasServedTo o seat p e (Refused error)) → was.new ≡ was.core
   nothing_changed_to seat p e error was = leaves was.core was.new e error (safe was.core was.pushed was.book was.shared) was.serves
 
-pub changed_then : (t : ℕ) (w : Write) (error : Error) (refusal : Option Error) (p q r : SessionValue) → HasChanged p t w (Some error) q → HasChanged q t w refusal r → HasChanged p t w refusal r
+pub changed_then : (t : ℕ) (w : Write) (error : Error) (refusal : Option Error) (p q r : SessionValue) → HasChanged p t w (Some error) q
+    → HasChanged q t w refusal r → HasChanged p t w refusal r
 changed_then t w error None p q r a b = (more_made t w p q r a.0 b.0, b.1)
 changed_then t w error (Some e) p q r a b = (more_made t w p q r a.0 b.0, b.1)
 
-pub aborted_then : (o : Opened) (seat t : ℕ) (p q : SessionValue) → HasUndone o seat p t q → (q ≡ p) ⊎ IsGoingBack p t q → WasAborted o seat q t → WasAborted o seat p t
+pub aborted_then : (o : Opened) (seat t : ℕ) (p q : SessionValue) → HasUndone o seat p t q → (q ≡ p) ⊎ IsGoingBack p t q → WasAborted o seat q t
+    → WasAborted o seat p t
 aborted_then o seat t p q undone back then = record {
   last = then.last;
   back = back_joined t p q then.last back then.back;

@@ -16,7 +16,8 @@ same_places : (core : CoreValue) (q : Place) (rows : List Write) → is_some (ro
 same_places core q [] = refl
 same_places core q (w ∷ ws) = by (is_at q w) (same_places core q ws)
   where
-    by : (b : Bool) → is_some (row_at q (rows_now core ws)) ≡ is_some (row_at q ws) → is_some (cond b (Some (row_now core w.rid).row) (row_at q (rows_now core ws))) ≡ is_some (cond b (Some w.row) (row_at q ws))
+    by : (b : Bool) → is_some (row_at q (rows_now core ws)) ≡ is_some (row_at q ws)
+        → is_some (cond b (Some (row_now core w.rid).row) (row_at q (rows_now core ws))) ≡ is_some (cond b (Some w.row) (row_at q ws))
     by true rest = refl
     by false rest = rest
 
@@ -26,14 +27,17 @@ module _ (t : ℕ) where
     others = others_stay (taken_back core) (λ a. refl) t p;
     active = still_active (taken_back core) (λ a. refl) t p.active own;
     rolling = ap goes_back (with_own (taken_back core) (λ a. refl) t p.active) ∙ rolls (active_of t p.active) own;
-    places = λ q. ap (λ (o : Option ActiveValue). is_some (row_at q (unwrap_or (option_map (λ (a : ActiveValue). a.rows) o) []))) (with_own (taken_back core) (λ a. refl) t p.active) ∙ stay q (active_of t p.active);
+    places = λ q. ap (λ (o : Option ActiveValue). is_some (row_at q (unwrap_or (option_map (λ (a : ActiveValue). a.rows) o) [])))
+        (with_own (taken_back core) (λ a. refl) t p.active) ∙ stay q (active_of t p.active);
   }
     where
       rolls : (o : Option ActiveValue) → is_some o ≡ true → goes_back (option_map (taken_back core) o) ≡ true
       rolls None e = absurd cc
       rolls (Some a) e = refl
 
-      stay : (q : Place) (o : Option ActiveValue) → is_some (row_at q (unwrap_or (option_map (λ (a : ActiveValue). a.rows) (option_map (taken_back core) o)) [])) ≡ is_some (row_at q (unwrap_or (option_map (λ (a : ActiveValue). a.rows) o) []))
+      stay : (q : Place) (o : Option ActiveValue)
+          → is_some (row_at q (unwrap_or (option_map (λ (a : ActiveValue). a.rows) (option_map (taken_back core) o)) []))
+          ≡ is_some (row_at q (unwrap_or (option_map (λ (a : ActiveValue). a.rows) o) []))
       stay q None = refl
       stay q (Some a) = same_places core q a.rows
 

@@ -86,12 +86,14 @@ module _ (o : Opened) (core : CoreValue) (pushed : List RecordValue) (book : Lis
         ∙ (ap (λ (cs : Changes). latest (applied_of cs (is_applied held.txn.phase)) q (get st.committed q)) (unchanged held.txn held.active)
         ∙ ap (λ (m : Table). get m q) committed_is))
 
-    rows_back : (seat : ℕ) (p : SessionValue) → slice_get book seat ≡ Some p → is_active p t ≡ true → (q : Place) (row : Option Row) → row_of p t q ≡ Some row → row ≡ get (committed_rows core) q
+    rows_back : (seat : ℕ) (p : SessionValue) → slice_get book seat ≡ Some p → is_active p t ≡ true → (q : Place) (row : Option Row) → row_of p t q ≡ Some row
+        → row ≡ get (committed_rows core) q
     rows_back seat p there own q row is =
         let both = held_by t _ _ row (sym (rows_left o all.opens pushed core book all.register seat p there t own q) ∙ is) in
         sym both.1 ∙ committed_there q (shown.holder q ∙ both.0)
 
-pub was_taken : (o : Opened) (core new : CoreValue) (pushed : List RecordValue) (book : List SessionValue) → ∥ IsShared o core pushed book ∥₁ → (seat : ℕ) (p : SessionValue) → slice_get book seat ≡ Some p
+pub was_taken : (o : Opened) (core new : CoreValue) (pushed : List RecordValue) (book : List SessionValue) → ∥ IsShared o core pushed book ∥₁
+    → (seat : ℕ) (p : SessionValue) → slice_get book seat ≡ Some p
     → (t : ℕ) → is_active p t ≡ true → HasNoChange (txn_shown core t) → Serves core (Event.End t) Reply.Ended new → ∥ WasTakenBack o seat p t ∥₁
 was_taken o core new pushed book shared seat p there t own none_left serves = ∥∥₁_map shared (λ all. record {
   end = record { core = core; new = new; pushed = pushed; book = book; shared = all; here = there; serves = serves };

@@ -1,5 +1,6 @@
 -- Lookups in a session, in the sessions of all seats, and in what the core shows.
-use Rattle.std.proofs.Common.{◌≡◌, ◌==◌, ℕ, ◌<◌, Bool, true, false, cond, eqb, eq-eqb, List, [], ◌∷◌, length, Option, Some, None, is_some, not, refl, sym, ap, ◌∙◌, subst, arith, zero, suc}
+use Rattle.std.proofs.Common.{◌≡◌, ◌==◌, ℕ, ◌<◌, Bool, true, false, cond, eqb, eq-eqb, List, [], ◌∷◌, length, Option, Some, None, is_some, not, refl, sym, ap}
+use Rattle.std.proofs.Common.{◌∙◌, subst, arith, zero, suc}
 use Rattle.std.proofs.lemmas.Bool.{eqb-true}
 use Rattle.std.specs.Option.{option_map}
 use Rattle.std.specs.Prelude.{option_and_then, slice_get, slice_set}
@@ -49,7 +50,8 @@ module _ (f : ActiveValue → ActiveValue) (keeps : (a : ActiveValue) → (f a).
   with_own [] = refl
   with_own (x ∷ xs) = by (eqb t x.txn) refl (with_own xs)
     where
-      by : (b : Bool) → eqb t x.txn ≡ b → active_of t (with_active f t xs) ≡ option_map f (active_of t xs) → active_of t (cond b (f x ∷ xs) (x ∷ with_active f t xs)) ≡ option_map f (cond b (Some x) (active_of t xs))
+      by : (b : Bool) → eqb t x.txn ≡ b → active_of t (with_active f t xs) ≡ option_map f (active_of t xs)
+          → active_of t (cond b (f x ∷ xs) (x ∷ with_active f t xs)) ≡ option_map f (cond b (Some x) (active_of t xs))
       by true same rest = ap (λ n. cond (eqb t n) (Some (f x)) (active_of t xs)) (keeps x) ∙ ap (λ b. cond b (Some (f x)) (active_of t xs)) same
       by false same rest = ap (λ b. cond b (Some x) (active_of t (with_active f t xs))) same ∙ rest
 
@@ -58,8 +60,10 @@ module _ (f : ActiveValue → ActiveValue) (keeps : (a : ActiveValue) → (f a).
   without_with [] = refl
   without_with (x ∷ xs) = by (eqb t x.txn) refl (without_with xs)
     where
-      by : (b : Bool) → eqb t x.txn ≡ b → without t (with_active f t xs) ≡ without t xs → without t (cond b (f x ∷ xs) (x ∷ with_active f t xs)) ≡ cond (not b) (x ∷ without t xs) (without t xs)
-      by true same rest = ap (λ n. cond (not (eqb t n)) (f x ∷ without t xs) (without t xs)) (keeps x) ∙ ap (λ b. cond (not b) (f x ∷ without t xs) (without t xs)) same
+      by : (b : Bool) → eqb t x.txn ≡ b → without t (with_active f t xs) ≡ without t xs
+          → without t (cond b (f x ∷ xs) (x ∷ with_active f t xs)) ≡ cond (not b) (x ∷ without t xs) (without t xs)
+      by true same rest = ap (λ n. cond (not (eqb t n)) (f x ∷ without t xs) (without t xs)) (keeps x)
+          ∙ ap (λ b. cond (not b) (f x ∷ without t xs) (without t xs)) same
       by false same rest = ap (λ b. cond (not b) (x ∷ without t (with_active f t xs)) (without t (with_active f t xs))) same ∙ ap (λ l. x ∷ l) rest
 
   pub others_stay : (p : SessionValue) → ended (record p { active = with_active f t p.active }) t ≡ ended p t
@@ -95,7 +99,8 @@ held_by t (Some u) there row e = by (t == u) (eqb-true t u) e
 
 -- ---- whether a transaction owes a step
 
-owed_at : (p : Progress) (x : Active) (w : Write) → IsProgressOf p x.phase → x.rolling ≡ rolls p → option_map (λ (step : Owed). w) (owed p) ≡ cond (is_owed x.phase x.rolling) (Some w) None
+owed_at : (p : Progress) (x : Active) (w : Write) → IsProgressOf p x.phase → x.rolling ≡ rolls p
+    → option_map (λ (step : Owed). w) (owed p) ≡ cond (is_owed x.phase x.rolling) (Some w) None
 owed_at Ready x w phase rolling = λ i. cond (is_owed (sym phase i) (sym rolling i)) (Some w) None
 owed_at OwesRow x w phase rolling = λ i. cond (is_owed (sym phase i) (sym rolling i)) (Some w) None
 owed_at OwesEntry x w phase rolling = λ i. cond (is_owed (sym phase i) (sym rolling i)) (Some w) None
@@ -108,4 +113,5 @@ pub owed_one : (o : Option TxnState) (m : Option Active) (x : Active) (w : Write
 owed_one None m x w one is = absurd cc
 owed_one (Some y) m x w one is =
     let same : one.0 ≡ x = same_some one.1 is in
-    owed_at y.progress x w (subst (λ (z : Active). IsProgressOf y.progress z.phase) same one.2.phase) (ap (λ (z : Active). z.rolling) (sym same) ∙ one.2.rolling)
+    owed_at y.progress x w (subst (λ (z : Active). IsProgressOf y.progress z.phase) same one.2.phase) (ap (λ (z : Active). z.rolling) (sym same)
+    ∙ one.2.rolling)

@@ -6,7 +6,8 @@ use Rattle.locked_core.specs.Seats as part
 use Rattle.sessions.specs.Values.{SessionValue}
 use Rattle.shared.specs.Seats.{SeatValue}
 
-pub session_alone : {T : Type 0} (r : Result T Error) (old new : SeatValue) (session : T → SessionValue) → IfOk r (λ t. new ≡ record old { session = session t }) → OnErr r (new ≡ old) → new ≡ record old { session = new.session }
+pub session_alone : {T : Type 0} (r : Result T Error) (old new : SeatValue) (session : T → SessionValue)
+    → IfOk r (λ t. new ≡ record old { session = session t }) → OnErr r (new ≡ old) → new ≡ record old { session = new.session }
 session_alone (Ok t) old new session ok refused = cc
 session_alone (Err e) old new session ok refused = subst (λ (x : SeatValue). x ≡ record old { session = x.session }) (sym refused) refl
 
@@ -16,23 +17,28 @@ seat_with p sight = record { number = p.number; session = p.session; sight = sig
 
 module _ (p new : part.SeatValue) (sight : Sighting) (old : SeatValue) (is : seat_with p sight ≡ old) (number : new.number ≡ p.number) where
   -- the part has this session now
-  pub with_session : (session : SessionValue → SessionValue) → new.session ≡ session p.session → seat_with new sight ≡ record old { session = session old.session }
+  pub with_session : (session : SessionValue → SessionValue) → new.session ≡ session p.session
+      → seat_with new sight ≡ record old { session = session old.session }
   with_session session same =
-      subst (λ (s : SeatValue). seat_with new sight ≡ record s { session = session s.session }) is (λ i. record { number = number i; session = same i; sight = sight })
+      subst (λ (s : SeatValue). seat_with new sight ≡ record s { session = session s.session }) is (λ i.
+      record { number = number i; session = same i; sight = sight })
 
   -- the part's session alone may be another
   pub any_session : seat_with new sight ≡ record old { session = new.session }
-  any_session = subst (λ (s : SeatValue). seat_with new sight ≡ record s { session = new.session }) is (λ i. record { number = number i; session = new.session; sight = sight })
+  any_session = subst (λ (s : SeatValue). seat_with new sight ≡ record s { session = new.session }) is (λ i.
+      record { number = number i; session = new.session; sight = sight })
 
   -- the part's session is the same
   pub same_session : new.session ≡ p.session → seat_with new sight ≡ old
   same_session same = (λ i. record { number = number i; session = same i; sight = sight }) ∙ is
 
   module _ {T : Type 0} (r : Result T Error) where
-    pub session_on_ok : (session : SessionValue → T → SessionValue) → IfOk r (λ t. new.session ≡ session p.session t) → IfOk r (λ t. seat_with new sight ≡ record old { session = session old.session t })
+    pub session_on_ok : (session : SessionValue → T → SessionValue) → IfOk r (λ t. new.session ≡ session p.session t)
+        → IfOk r (λ t. seat_with new sight ≡ record old { session = session old.session t })
     session_on_ok session ok = by r ok
       where
-        by : (x : Result T Error) → IfOk x (λ t. new.session ≡ session p.session t) → IfOk x (λ t. seat_with new sight ≡ record old { session = session old.session t })
+        by : (x : Result T Error) → IfOk x (λ t. new.session ≡ session p.session t)
+            → IfOk x (λ t. seat_with new sight ≡ record old { session = session old.session t })
         by (Ok t) same = with_session (λ s. session s t) same
         by (Err e) same = same
 

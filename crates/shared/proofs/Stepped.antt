@@ -17,7 +17,8 @@ use Rattle.core_model.specs.States.{Active, Made, NewMarked, OldMarked, OldSet, 
 use Rattle.core_model.specs.Steps.{after, carried_on, is_applied, is_indexed, Next, row_made, Start, started, txn_at, with_change, with_phase}
 use Rattle.register.specs.Agreement.{is_owed, newest_write}
 
--- the rows at all other places stay, and so do all holders of them; the place is the transaction's, and has the row that it had or the change's; and where no step is owed, the latter
+-- the rows at all other places stay, and so do all holders of them; the place is the transaction's, and has the row that it had or the change's; and where no
+-- step is owed, the latter
 pub record IsStep (s new : State) (t : ℕ) (w : Write) : Type 0 where
   pub rows : (q : Place) → q ≢ w.rid → get new.rows q ≡ get s.rows q
   pub holder : (q : Place) → q ≢ w.rid → new.holder q ≡ s.holder q
@@ -77,7 +78,8 @@ module _ (s : State) (holds : Invariant s) (t : ℕ) (active : s.txns t ≡ Some
       ∙ (ap (λ (y : Active). latest (made_of y) c.rid (get s.committed c.rid)) same
       ∙ ((λ i. latest (applied_of (newest i) (is_applied (phase i))) c.rid (get s.committed c.rid)) ∙ latest_here c older (get s.committed c.rid)))
 
-  next_with : (cs : Changes) (phase : Phase) → x.changes ≡ cs → x.phase ≡ phase → IsHolderOf s.holder t cs → (phase ≡ OldMarked) ⊎ (phase ≡ RowSet) → (w : Write) → newest_write cs ≡ Some w
+  next_with : (cs : Changes) (phase : Phase) → x.changes ≡ cs → x.phase ≡ phase → IsHolderOf s.holder t cs → (phase ≡ OldMarked) ⊎ (phase ≡ RowSet)
+      → (w : Write) → newest_write cs ≡ Some w
       → IsStep s (carried_on s t x cs phase) t w
   next_with Unchanged phase changes at names owes w newest = absurd cc
   next_with (older ▹ c) OldMarked changes at names owes w newest = subst (IsStep s (carried_on s t x (older ▹ c) OldMarked) t) (same_some refl newest) (record {

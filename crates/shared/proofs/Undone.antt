@@ -56,14 +56,24 @@ module _ (o : Opened) (core new : CoreValue) (pushed : List RecordValue) (book :
           sym one.2.changes ∙ ap as_list (ap (λ (x : Active). x.changes) (sym here) ∙ none)
 
   -- where a change is left, a step takes something back
-  is_step : IsShared o core pushed book → (HasNoChange (txn_shown core t) → ⊥) → (u : Undone) → Serves core (Event.Undo t) (undone_reply u) new → undone_reply u ≡ Reply.Undone
+  is_step : IsShared o core pushed book → (HasNoChange (txn_shown core t) → ⊥) → (u : Undone) → Serves core (Event.Undo t) (undone_reply u) new
+      → undone_reply u ≡ Reply.Undone
   is_step all left Step serves = refl
   is_step all left Empty serves = absurd (left (nothing_left all serves))
 
-  pub was_undone : ∥ IsShared o core pushed book ∥₁ → (seat : ℕ) (p q : SessionValue) → slice_get book seat ≡ Some p → (HasNoChange (txn_shown core t) → ⊥) → (u : Undone) → Serves core (Event.Undo t) (undone_reply u) new
+  pub was_undone : ∥ IsShared o core pushed book ∥₁ → (seat : ℕ) (p q : SessionValue) → slice_get book seat ≡ Some p → (HasNoChange (txn_shown core t) → ⊥)
+      → (u : Undone) → Serves core (Event.Undo t) (undone_reply u) new
       → q ≡ rolling_back p new t → ∥ WasUndone o seat p t q ∥₁
   was_undone shared seat p q there left u serves is = ∥∥₁_map shared (λ all. record {
-    undo = record { core = core; new = new; pushed = pushed; book = book; shared = all; here = there; serves = subst (λ reply. Serves core (Event.Undo t) reply new) (is_step all left u serves) serves };
+    undo = record {
+      core = core;
+      new = new;
+      pushed = pushed;
+      book = book;
+      shared = all;
+      here = there;
+      serves = subst (λ reply. Serves core (Event.Undo t) reply new) (is_step all left u serves) serves;
+    };
     session = is;
   })
 
@@ -73,7 +83,8 @@ module _ (o : Opened) (seat t : ℕ) where
   pub none_undone : (p q : SessionValue) → q ≡ p → HasUndone o seat p t q
   none_undone p q same = record { sessions = []; undone = same }
 
-  joined : (p q r : SessionValue) (first next : List SessionValue) → AreUndone o seat p t first q → AreUndone o seat q t next r → AreUndone o seat p t (first ++ next) r
+  joined : (p q r : SessionValue) (first next : List SessionValue) → AreUndone o seat p t first q → AreUndone o seat q t next r
+      → AreUndone o seat p t (first ++ next) r
   joined p q r [] next a b = subst (λ v. AreUndone o seat v t next r) a b
   joined p q r (x ∷ xs) next a b = (a.0, joined x q r xs next a.1 b)
 

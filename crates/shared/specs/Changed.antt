@@ -16,14 +16,18 @@ row_of s txn q = row_at q (rows_of txn s.active)
 abbrev pub unfinished_of : SessionValue → (txn : ℕ) → Option Write
 unfinished_of s txn = option_and_then (λ a. a.unfinished) (active_of txn s.active)
 
--- Some steps of this change of a transaction are made. The rows at all other places, the other transactions, the commits and what was done to the index are as before. If a step is left, the change is the transaction's unfinished one; and else its row is there, and the transaction may begin another change. A row that the transaction had at the place stays there, or the change's row is.
+-- Some steps of this change of a transaction are made. The rows at all other places, the other transactions, the
+-- commits and what was done to the index are as before. If a step is left, the change is the transaction's unfinished
+-- one; and else its row is there, and the transaction may begin another change. A row that the transaction had at the
+-- place stays there, or the change's row is.
 pub record IsUnderWay (old : SessionValue) (txn : ℕ) (change : Write) (new : SessionValue) : Type 0 where
   pub others : ended new txn ≡ ended old txn
   pub rows : (q : Place) → q ≢ change.rid → row_of new txn q ≡ row_of old txn q
   pub unfinished : unfinished_of new txn ≢ None → unfinished_of new txn ≡ Some change
   pub row : unfinished_of new txn ≡ None → row_of new txn change.rid ≡ Some change.row
   pub ready : unfinished_of new txn ≡ None → is_ready new txn ≡ true
-  pub stays : (before : Option Row) → row_of old txn change.rid ≡ Some before → ∥ (row_of new txn change.rid ≡ Some before) ⊎ (row_of new txn change.rid ≡ Some change.row) ∥₁
+  pub stays : (before : Option Row) → row_of old txn change.rid ≡ Some before
+      → ∥ (row_of new txn change.rid ≡ Some before) ⊎ (row_of new txn change.rid ≡ Some change.row) ∥₁
 
 -- All its steps are made, or where one was refused some of them, and the change is left to finish.
 abbrev pub HasChanged : SessionValue → (txn : ℕ) → (change : Write) → (refusal : Option Error) → SessionValue → Type 0
@@ -39,7 +43,8 @@ goes_back (Some a) = a.rolling
 abbrev pub is_rolling : SessionValue → (txn : ℕ) → Bool
 is_rolling s txn = goes_back (active_of txn s.active)
 
--- The transaction is rolling back, and holds the places that it held. The other transactions, the commits and what was done to the index are as before.
+-- The transaction is rolling back, and holds the places that it held. The other transactions, the commits and what was
+-- done to the index are as before.
 pub record IsGoingBack (old : SessionValue) (txn : ℕ) (new : SessionValue) : Type 0 where
   pub others : ended new txn ≡ ended old txn
   pub active : is_active new txn ≡ true

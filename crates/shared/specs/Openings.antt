@@ -24,9 +24,16 @@ pub record IsJustOpened (v : CoreValue) : Type 0 where
 
 -- the names of what is made for the seats
 abbrev pub names_of : {A : Type 0} → Opening A → Names
-names_of o = record { queue = o.queue; table = o.registry; board = o.board; seats = length o.book.items; opened = opened_of (value_of o.core) }
+names_of o = record {
+  queue = o.queue;
+  table = o.registry;
+  board = o.board;
+  seats = length o.book.items;
+  opened = opened_of (value_of o.core);
+}
 
--- so many sessions, with nothing in them, the queue with nothing pushed or popped, and the views of the board with nothing seen
+-- so many sessions, with nothing in them, the queue with nothing pushed or popped, and the views of the board with
+-- nothing seen
 pub record IsOpening {A : Type 0} (count : ℕ) (o : Opening A) : Type 0 where
   pub pusher : o.pusher ≡ record { queue = o.queue; records = [] }
   pub popper : o.popper ≡ record { queue = o.queue; records = [] }

@@ -35,18 +35,22 @@ pub record WasServedTo (o : Opened) (seat : ℕ) (session : SessionValue) (e : E
   pub here : slice_get book seat ≡ Some session
   pub serves : Serves core e reply new
 
--- A change was begun so of a seat that had the one session, and now has the other: there its place has the row that the change asked for, or as long as the change is to be finished the row that the core had there.
-pub record WasChanged (o : Opened) (seat : ℕ) (old : SessionValue) (e : Event) (txn : ℕ) (change : Write) (new : SessionValue) : Type 0 where
+-- A change was begun so of a seat that had the one session, and now has the other: there its place has the row that the
+-- change asked for, or as long as the change is to be finished the row that the core had there.
+pub record WasChanged (o : Opened) (seat : ℕ) (old : SessionValue) (e : Event) (txn : ℕ) (change : Write)
+    (new : SessionValue) : Type 0 where
   pub begun : WasServedTo o seat old e Reply.Stepped
   pub row : ReadsBack (get begun.core.heap.rows change.rid) txn change new
 
--- The end of a transaction of the seat was served so, while the seat had this session of it: no change was left to take back, and each place that it held had its committed row.
+-- The end of a transaction of the seat was served so, while the seat had this session of it: no change was left to take
+-- back, and each place that it held had its committed row.
 pub record WasTakenBack (o : Opened) (seat : ℕ) (session : SessionValue) (txn : ℕ) : Type 0 where
   pub end : WasServedTo o seat session (Event.End txn) Reply.Ended
   pub none_left : HasNoChange (txn_shown end.core txn)
   pub rows : (q : Place) (row : Option Row) → row_of session txn q ≡ Some row → row ≡ get (committed_rows end.core) q
 
--- A step that takes a change of the transaction back was served so, while the seat had the first session. In the other one the transaction is rolling back, and has at each place that it holds the row that the step left there.
+-- A step that takes a change of the transaction back was served so, while the seat had the first session. In the other
+-- one the transaction is rolling back, and has at each place that it holds the row that the step left there.
 pub record WasUndone (o : Opened) (seat : ℕ) (old : SessionValue) (txn : ℕ) (new : SessionValue) : Type 0 where
   pub undo : WasServedTo o seat old (Event.Undo txn) Reply.Undone
   pub session : new ≡ rolling_back old undo.new txn

@@ -14,19 +14,23 @@ use records::{Error, Txn};
 use std::sync::Wait;
 
 impl<B: Group, A: Memory> Shared<B, A> {
-    /// Takes all changes of a transaction of the seat back, each step under the lock anew, and then ends it: it is none of the
-    /// seat's from then on. At its end each place that it held has its committed row.
+    /// Takes all changes of a transaction of the seat back, each step under the lock anew, and then ends it: it is none
+    /// of the seat's from then on. At its end each place that it held has its committed row.
     ///
-    /// `NoSuchTxn` where the transaction isn't one of the seat's, and else the refusals of the core's `undo_step` and `end`.
-    /// After one of them the transaction is as before or rolling back. The undo steps that were made stay made (`undone`), and `abort`,
-    /// called again, goes on from there (law `each_refusal`).
+    /// `NoSuchTxn` where the transaction isn't one of the seat's, and else the refusals of the core's `undo_step` and
+    /// `end`. After one of them the transaction is as before or rolling back. The undo steps that were made stay made
+    /// (`undone`), and `abort`, called again, goes on from there (law `each_refusal`).
     pub fn abort<R: Wait>(&self, rt: &R, seat: &mut Seat<B, A>, txn: Txn) -> Result<(), Error>
         ensures foreign { is_active seat.old.session txn ≡ false → (result ≡ Err NoSuchTxn) × (seat.new ≡ seat.old) }
         ensures ok { OnOk result (seat.new.session ≡ ended seat.old.session txn) }
         ensures aborted { OnOk result ∥ WasAborted B.site.opened seat.old.number seat.old.session txn ∥₁ }
-        ensures err { OnErr result ((seat.new.session ≡ seat.old.session) ⊎ IsGoingBack seat.old.session txn seat.new.session) }
-        ensures undone { OnErr result ∥ HasUndone B.site.opened seat.old.number seat.old.session txn seat.new.session ∥₁ }
-        ensures served { IfErr result (λ e. is_active seat.old.session txn ≡ true → ∥ WasServedTo B.site.opened seat.new.number seat.new.session (Event.End txn) (Refused e) ∥₁ ⊎ ∥ WasServedTo B.site.opened seat.new.number seat.new.session (Event.Undo txn) (Refused e) ∥₁) }
+        ensures err { OnErr result ((seat.new.session ≡ seat.old.session)
+            ⊎ IsGoingBack seat.old.session txn seat.new.session) }
+        ensures undone { OnErr result ∥ HasUndone B.site.opened seat.old.number seat.old.session txn seat.new.session
+            ∥₁ }
+        ensures served { IfErr result (λ e. is_active seat.old.session txn ≡ true
+            → ∥ WasServedTo B.site.opened seat.new.number seat.new.session (Event.End txn) (Refused e) ∥₁
+            ⊎ ∥ WasServedTo B.site.opened seat.new.number seat.new.session (Event.Undo txn) (Refused e) ∥₁) }
         ensures seat { seat.new ≡ record seat.old { session = seat.new.session } }
     {
         if !seat.part.is_active(txn) {
@@ -46,16 +50,20 @@ impl<B: Group, A: Memory> Shared<B, A> {
         unreachable!()
     }
 
-    // The end of a transaction that has no change left, or else a step that takes a change back; answers whether it was the
-    // end.
+    // The end of a transaction that has no change left, or else a step that takes a change back; answers whether it was
+    // the end.
     fn take_back<R: Wait>(&self, rt: &R, seat: &mut Seat<B, A>, txn: Txn) -> Result<bool, Error>
         requires { is_active seat.old.session txn ≡ true }
         ensures last { IfOk result (λ last. last ≡ true → seat.new.session ≡ ended seat.old.session txn) }
-        ensures taken { IfOk result (λ last. last ≡ true → ∥ WasTakenBack B.site.opened seat.old.number seat.old.session txn ∥₁) }
+        ensures taken { IfOk result (λ last. last ≡ true
+            → ∥ WasTakenBack B.site.opened seat.old.number seat.old.session txn ∥₁) }
         ensures back { IfOk result (λ last. last ≡ false → IsGoingBack seat.old.session txn seat.new.session) }
-        ensures undone { IfOk result (λ last. last ≡ false → ∥ WasUndone B.site.opened seat.old.number seat.old.session txn seat.new.session ∥₁) }
+        ensures undone { IfOk result (λ last. last ≡ false
+            → ∥ WasUndone B.site.opened seat.old.number seat.old.session txn seat.new.session ∥₁) }
         ensures refused { OnErr result (seat.new ≡ seat.old) }
-        ensures served { IfErr result (λ e. ∥ WasServedTo B.site.opened seat.old.number seat.old.session (Event.End txn) (Refused e) ∥₁ ⊎ ∥ WasServedTo B.site.opened seat.old.number seat.old.session (Event.Undo txn) (Refused e) ∥₁) }
+        ensures served { IfErr result (λ e. ∥ WasServedTo B.site.opened seat.old.number seat.old.session (Event.End txn)
+            (Refused e) ∥₁ ⊎ ∥ WasServedTo B.site.opened seat.old.number seat.old.session (Event.Undo txn)
+            (Refused e) ∥₁) }
         ensures seat { seat.new ≡ record seat.old { session = seat.new.session } }
     {
         let mut guard = self.hold(rt);

@@ -26,7 +26,12 @@ impl<B: Group, A: Memory> Shared<B, A> {
     /// waits for nothing.
     pub fn is_acked(&self, seat: &mut Seat<B, A>, ticket: Ticket) -> bool
         ensures reached { IsTrue result ↔ (ticket.«record» ≤ seat.new.sight.horizon) }
-        ensures seen { seat.new ≡ record seat.old { sight = record seat.old.sight { horizon = seat.new.sight.horizon; checked = false } } }
+        ensures seen { seat.new ≡ record seat.old {
+          sight = record seat.old.sight {
+            horizon = seat.new.sight.horizon;
+            checked = false;
+          };
+        } }
         ensures rises { seat.old.sight.horizon ≤ seat.new.sight.horizon }
     {
         self.board.horizon(&mut seat.view) >= ticket.record.get()
@@ -36,10 +41,20 @@ impl<B: Group, A: Memory> Shared<B, A> {
     fn try_ack(&self, seat: &mut Seat<B, A>, ticket: &Ticket) -> Option<Ack<B>>
         ensures ticket { IfSome result (λ ack. ack.ticket ≡ ticket.now) }
         ensures reached { IfSome result (λ ack. ticket.now.«record» ≤ ack.sight.horizon) }
-        ensures stays { IfSome result (λ ack. seat.new ≡ record seat.old { sight = record seat.old.sight { horizon = ack.sight.horizon; checked = false; name = stays_as seat.old.sight.name } }) }
-        ensures leaves { IfSome result (λ ack. ack.sight ≡ record seat.new.sight { name = leaves_as seat.old.sight.name; stops = false }) }
+        ensures stays { IfSome result (λ ack. seat.new ≡ record seat.old {
+          sight = record seat.old.sight {
+            horizon = ack.sight.horizon;
+            checked = false;
+            name = stays_as seat.old.sight.name;
+          };
+        }) }
+        ensures leaves { IfSome result (λ ack. ack.sight ≡ record seat.new.sight {
+          name = leaves_as seat.old.sight.name;
+          stops = false;
+        }) }
         ensures none { IfNone result (seat.new.sight.horizon < ticket.now.«record») }
-        ensures seen { IfNone result (seat.new ≡ record seat.old { sight = record seat.old.sight { horizon = seat.new.sight.horizon; checked = false } }) }
+        ensures seen { IfNone result (seat.new ≡ record seat.old
+            { sight = record seat.old.sight { horizon = seat.new.sight.horizon; checked = false } }) }
         ensures rises { seat.old.sight.horizon ≤ seat.new.sight.horizon }
     {
         if self.board.horizon(&mut seat.view) < ticket.record.get() {
@@ -69,12 +84,13 @@ impl<B: Group, A: Memory> Shared<B, A> {
         None
     }
 
-    /// Waits until the record of the ticket is safe on the device: it looks a few times, and then sleeps until the flusher has
-    /// published, or for a short while.
+    /// Waits until the record of the ticket is safe on the device: it looks a few times, and then sleeps until the
+    /// flusher has published, or for a short while.
     ///
-    /// `DeviceFailed` where the flusher says that its device failed, and else `Stopped` where the threads are asked to stop; neither
-    /// where the horizon that was read last reaches the record, and each by the failed flag as it was read behind that horizon. After
-    /// an error the seat has seen a horizon and the flag that says why, after `Ok` a horizon, and no more.
+    /// `DeviceFailed` where the flusher says that its device failed, and else `Stopped` where the threads are asked to
+    /// stop; neither where the horizon that was read last reaches the record, and each by the failed flag as it was
+    /// read behind that horizon. After an error the seat has seen a horizon and the flag that says why, after `Ok` a
+    /// horizon, and no more.
     pub fn await_ack<R: Wait>(
         &self,
         rt: &R,
@@ -83,9 +99,20 @@ impl<B: Group, A: Memory> Shared<B, A> {
     ) -> Result<Ack<B>, Error>
         ensures ticket { IfOk result (λ ack. ack.ticket ≡ ticket) }
         ensures reached { IfOk result (λ ack. ticket.«record» ≤ ack.sight.horizon) }
-        ensures stays { IfOk result (λ ack. seat.new ≡ record seat.old { sight = record seat.old.sight { horizon = ack.sight.horizon; checked = false; name = stays_as seat.old.sight.name } }) }
-        ensures leaves { IfOk result (λ ack. ack.sight ≡ record seat.new.sight { name = leaves_as seat.old.sight.name; stops = false }) }
-        ensures why { IfErr result (λ e. HasReadWhy e (record seat.old { sight = record seat.old.sight { horizon = seat.new.sight.horizon } }) seat.new) }
+        ensures stays { IfOk result (λ ack. seat.new ≡ record seat.old {
+          sight = record seat.old.sight {
+            horizon = ack.sight.horizon;
+            checked = false;
+            name = stays_as seat.old.sight.name;
+          };
+        }) }
+        ensures leaves { IfOk result (λ ack. ack.sight ≡ record seat.new.sight {
+          name = leaves_as seat.old.sight.name;
+          stops = false;
+        }) }
+        ensures why { IfErr result (λ e.
+            HasReadWhy e (record seat.old { sight = record seat.old.sight { horizon = seat.new.sight.horizon } })
+            seat.new) }
         ensures late { OnErr result (seat.new.sight.horizon < ticket.«record») }
         ensures seat { seat.new ≡ record seat.old { sight = seat.new.sight } }
         ensures rises { seat.old.sight.horizon ≤ seat.new.sight.horizon }
@@ -117,8 +144,8 @@ impl<B: Group, A: Memory> Shared<B, A> {
         }
     }
 
-    /// How many attempts the builder has made since the store was opened, as it has published. It takes no memory and waits for
-    /// nothing.
+    /// How many attempts the builder has made since the store was opened, as it has published. It takes no memory and
+    /// waits for nothing.
     pub fn progress(&self, seat: &mut Seat<B, A>) -> u64
         ensures seen { seat.new ≡ record seat.old { sight = record seat.old.sight { progress = result } } }
         ensures rises { seat.old.sight.progress ≤ result }
@@ -126,8 +153,8 @@ impl<B: Group, A: Memory> Shared<B, A> {
         self.board.progress(&mut seat.view)
     }
 
-    /// Sets the stop flag, by which all threads are asked to stop. It takes no memory and waits for nothing. (That those that sleep are
-    /// woken, no clause says.)
+    /// Sets the stop flag, by which all threads are asked to stop. It takes no memory and waits for nothing. (That
+    /// those that sleep are woken, no clause says.)
     pub fn stop(&self, seat: &mut Seat<B, A>)
         ensures { seat.new ≡ record seat.old { sight = record seat.old.sight { stopped = true; stops = true } } }
     {

@@ -7,7 +7,8 @@ use board::BuildView;
 use locked_core::{Group, Memory};
 use std::marker::{Model, PhantomData};
 
-/// What the builder publishes with on the group's board: how many attempts it has made. To a contract it is a `BuildValue`.
+/// What the builder publishes with on the group's board: how many attempts it has made. To a contract it is a
+/// `BuildValue`.
 #[derive(Drop)]
 pub struct BuildPart<B: Group> {
     pub(crate) view: BuildView,
@@ -33,8 +34,8 @@ impl<B: Group> BuildPart<B> {
         shared.board.raise_progress(&mut self.view, progress);
     }
 
-    /// Compares what a view has seen with what was published: no count of attempts that it has seen is above the builder's own.
-    /// Nothing changes but the view, which has now seen the count that was published.
+    /// Compares what a view has seen with what was published: no count of attempts that it has seen is above the
+    /// builder's own. Nothing changes but the view, which has now seen the count that was published.
     pub fn settle<A: Memory>(&mut self, shared: &Shared<B, A>, view: &mut GroupView<B>)
         ensures same { self.new ≡ self.old }
         ensures progress { view.old.progress ≤ self.old.progress }

@@ -23,7 +23,8 @@ impl<B: Group, A: Memory> Shared<B, A> {
     ///
     /// The refusals are those of the core's `begin`. After a refusal the seat is as before.
     pub fn begin<R: Wait>(&self, rt: &R, seat: &mut Seat<B, A>) -> Result<Txn, Error>
-        ensures served { ∥ WasServedTo B.site.opened seat.old.number seat.old.session Event.Begin (reply_by Reply.Txn result) ∥₁ }
+        ensures served { ∥ WasServedTo B.site.opened seat.old.number seat.old.session Event.Begin
+            (reply_by Reply.Txn result) ∥₁ }
         ensures ok { IfOk result (λ txn. seat.new ≡ record seat.old { session = begun seat.old.session txn }) }
         ensures refused { OnErr result (seat.new ≡ seat.old) }
     {
@@ -32,16 +33,19 @@ impl<B: Group, A: Memory> Shared<B, A> {
         locked.begin(&self.registry, &mut seat.part)
     }
 
-    /// Commits a transaction of the seat: it is none of the seat's active ones from then on, and the commit is the last one
-    /// of the seat's session.
+    /// Commits a transaction of the seat: it is none of the seat's active ones from then on, and the commit is the last
+    /// one of the seat's session.
     ///
     /// `NoSuchTxn` where the transaction isn't one of the seat's, and else the refusals of the core's `commit`. After a
     /// refusal the seat is as before.
     pub fn commit<R: Wait>(&self, rt: &R, seat: &mut Seat<B, A>, txn: Txn) -> Result<Ticket, Error>
         requires { is_active seat.old.session txn ≡ true → is_ready seat.old.session txn ≡ true }
         ensures foreign { is_active seat.old.session txn ≡ false → result ≡ Err NoSuchTxn }
-        ensures served { is_active seat.old.session txn ≡ true → ∥ WasServedTo B.site.opened seat.old.number seat.old.session (Event.Commit txn) (reply_by reply_of_ticket result) ∥₁ }
-        ensures ok { IfOk result (λ ticket. seat.new ≡ record seat.old { session = committed seat.old.session txn ticket }) }
+        ensures served { is_active seat.old.session txn ≡ true
+            → ∥ WasServedTo B.site.opened seat.old.number seat.old.session (Event.Commit txn)
+            (reply_by reply_of_ticket result) ∥₁ }
+        ensures ok { IfOk result (λ ticket. seat.new ≡ record seat.old
+            { session = committed seat.old.session txn ticket }) }
         ensures refused { OnErr result (seat.new ≡ seat.old) }
     {
         let mut locked = self.hold(rt);
@@ -57,8 +61,10 @@ impl<B: Group, A: Memory> Shared<B, A> {
     ///
     /// The refusals are those of the core's `create_index`. After a refusal the seat is as before.
     pub fn create_index<R: Wait>(&self, rt: &R, seat: &mut Seat<B, A>) -> Result<Ticket, Error>
-        ensures served { ∥ WasServedTo B.site.opened seat.old.number seat.old.session Event.Create (reply_by reply_of_ticket result) ∥₁ }
-        ensures ok { IfOk result (λ ticket. seat.new ≡ record seat.old { session = with_turn seat.old.session (Created ticket.«record») }) }
+        ensures served { ∥ WasServedTo B.site.opened seat.old.number seat.old.session Event.Create
+            (reply_by reply_of_ticket result) ∥₁ }
+        ensures ok { IfOk result (λ ticket. seat.new ≡ record seat.old
+            { session = with_turn seat.old.session (Created ticket.«record») }) }
         ensures refused { OnErr result (seat.new ≡ seat.old) }
     {
         let mut locked = self.hold(rt);
@@ -71,13 +77,15 @@ impl<B: Group, A: Memory> Shared<B, A> {
         created
     }
 
-    /// Drops the index, be it complete or not, and keeps the number of its record with the seat. Its entries are freed behind
-    /// the lock (no clause says so).
+    /// Drops the index, be it complete or not, and keeps the number of its record with the seat. Its entries are freed
+    /// behind the lock (no clause says so).
     ///
     /// The refusals are those of the core's `drop_index`. After a refusal the seat is as before.
     pub fn drop_index<R: Wait>(&self, rt: &R, seat: &mut Seat<B, A>) -> Result<Ticket, Error>
-        ensures served { ∥ WasServedTo B.site.opened seat.old.number seat.old.session Event.Drop (reply_by reply_of_ticket result) ∥₁ }
-        ensures ok { IfOk result (λ ticket. seat.new ≡ record seat.old { session = with_turn seat.old.session (Dropped ticket.«record») }) }
+        ensures served { ∥ WasServedTo B.site.opened seat.old.number seat.old.session Event.Drop
+            (reply_by reply_of_ticket result) ∥₁ }
+        ensures ok { IfOk result (λ ticket. seat.new ≡ record seat.old
+            { session = with_turn seat.old.session (Dropped ticket.«record») }) }
         ensures refused { OnErr result (seat.new ≡ seat.old) }
     {
         let mut locked = self.hold(rt);
@@ -90,10 +98,11 @@ impl<B: Group, A: Memory> Shared<B, A> {
         Ok(dropped?.ticket)
     }
 
-    /// The row at the place, also before its transaction's commit, as a core has it that may lie under the lock. If a transaction of the seat holds the place,
-    /// that is the row which the seat's session has for it.
+    /// The row at the place, also before its transaction's commit, as a core has it that may lie under the lock. If a
+    /// transaction of the seat holds the place, that is the row which the seat's session has for it.
     pub fn get<R: Wait>(&self, rt: &R, seat: &mut Seat<B, A>, rid: Rid) -> Option<Row>
-        ensures served { ∥ WasServedTo B.site.opened seat.old.number seat.old.session (Event.Get rid) (Reply.RowIs result) ∥₁ }
+        ensures served { ∥ WasServedTo B.site.opened seat.old.number seat.old.session (Event.Get rid)
+            (Reply.RowIs result) ∥₁ }
         ensures own { (txn : ℕ) (row : Option RowValue) → row_of seat.old.session txn rid ≡ Some row → result ≡ row }
         ensures seat { seat.new ≡ seat.old }
     {

@@ -14,8 +14,8 @@ use locked_core::{Group, Memory};
 use records::{Body, Error, Key, Rid, Txn};
 use std::sync::Wait;
 
-/// A change of a row that was begun: the place of the row, and where a later step was refused, why. The change is then to
-/// be finished, by `carry_on`, or its transaction to be taken back, by `abort`.
+/// A change of a row that was begun: the place of the row, and where a later step was refused, why. The change is then
+/// to be finished, by `carry_on`, or its transaction to be taken back, by `abort`.
 #[derive(Clone, Copy, Debug, Drop)]
 pub struct Change {
     pub rid: Rid,
@@ -25,9 +25,9 @@ pub struct Change {
 impl<B: Group, A: Memory> Shared<B, A> {
     /// Inserts a row in a transaction of the seat.
     ///
-    /// `NoSuchTxn` where the transaction isn't one of the seat's, and else the refusals of the core's `start_insert`. After
-    /// one of them the seat is as before. With a change comes the refusal of a later step, if one was refused. The seat has the row
-    /// then, and holds its place.
+    /// `NoSuchTxn` where the transaction isn't one of the seat's, and else the refusals of the core's `start_insert`.
+    /// After one of them the seat is as before. With a change comes the refusal of a later step, if one was refused.
+    /// The seat has the row then, and holds its place.
     pub fn insert<R: Wait>(
         &self,
         rt: &R,
@@ -38,10 +38,17 @@ impl<B: Group, A: Memory> Shared<B, A> {
     ) -> Result<Change, Error>
         requires { is_active seat.old.session txn ≡ true → is_ready seat.old.session txn ≡ true }
         ensures foreign { is_active seat.old.session txn ≡ false → result ≡ Err NoSuchTxn }
-        ensures served { is_active seat.old.session txn ≡ true → ∥ WasServedTo B.site.opened seat.old.number seat.old.session (Event.Insert txn (record { key = key; body = body })) (reply_by (λ change. Reply.Rid change.rid) result) ∥₁ }
-        ensures changed { IfOk result (λ change. HasChanged seat.old.session txn (record { rid = change.rid; row = Some (record { key = key; body = body }) }) change.rest seat.new.session) }
-        ensures row { IfOk result (λ change. row_of seat.new.session txn change.rid ≡ Some (Some (record { key = key; body = body }))) }
-        ensures rest { IfOk result (λ change. IfSome change.rest (λ e. ∥ WasServedTo B.site.opened seat.new.number seat.new.session (Event.Step txn) (Refused e) ∥₁)) }
+        ensures served { is_active seat.old.session txn ≡ true
+            → ∥ WasServedTo B.site.opened seat.old.number seat.old.session
+            (Event.Insert txn (record { key = key; body = body }))
+            (reply_by (λ change. Reply.Rid change.rid) result) ∥₁ }
+        ensures changed { IfOk result (λ change. HasChanged seat.old.session txn
+            (record { rid = change.rid; row = Some (record { key = key; body = body }) }) change.rest
+            seat.new.session) }
+        ensures row { IfOk result (λ change. row_of seat.new.session txn change.rid
+            ≡ Some (Some (record { key = key; body = body }))) }
+        ensures rest { IfOk result (λ change. IfSome change.rest (λ e.
+            ∥ WasServedTo B.site.opened seat.new.number seat.new.session (Event.Step txn) (Refused e) ∥₁)) }
         ensures refused { OnErr result (seat.new ≡ seat.old) }
         ensures seat { seat.new ≡ record seat.old { session = seat.new.session } }
     {
@@ -52,8 +59,8 @@ impl<B: Group, A: Memory> Shared<B, A> {
 
     /// Deletes a row in a transaction of the seat.
     ///
-    /// The refusals are those of `insert`, with the core's `start_delete` in place of `start_insert`. Where a later step was refused, the
-    /// seat holds the place with no row, or with the one that was there (`row`).
+    /// The refusals are those of `insert`, with the core's `start_delete` in place of `start_insert`. Where a later
+    /// step was refused, the seat holds the place with no row, or with the one that was there (`row`).
     pub fn delete<R: Wait>(
         &self,
         rt: &R,
@@ -63,11 +70,16 @@ impl<B: Group, A: Memory> Shared<B, A> {
     ) -> Result<Change, Error>
         requires { is_active seat.old.session txn ≡ true → is_ready seat.old.session txn ≡ true }
         ensures foreign { is_active seat.old.session txn ≡ false → result ≡ Err NoSuchTxn }
-        ensures served { is_active seat.old.session txn ≡ true → ∥ WasServedTo B.site.opened seat.old.number seat.old.session (Event.Delete txn rid) (reply_by (λ _. Reply.Stepped) result) ∥₁ }
+        ensures served { is_active seat.old.session txn ≡ true
+            → ∥ WasServedTo B.site.opened seat.old.number seat.old.session (Event.Delete txn rid)
+            (reply_by (λ _. Reply.Stepped) result) ∥₁ }
         ensures place { IfOk result (λ change. change.rid ≡ rid) }
-        ensures changed { IfOk result (λ change. HasChanged seat.old.session txn (record { rid = rid; row = None }) change.rest seat.new.session) }
-        ensures row { OnOk result ∥ WasChanged B.site.opened seat.old.number seat.old.session (Event.Delete txn rid) txn (record { rid = rid; row = None }) seat.new.session ∥₁ }
-        ensures rest { IfOk result (λ change. IfSome change.rest (λ e. ∥ WasServedTo B.site.opened seat.new.number seat.new.session (Event.Step txn) (Refused e) ∥₁)) }
+        ensures changed { IfOk result (λ change. HasChanged seat.old.session txn
+            (record { rid = rid; row = None }) change.rest seat.new.session) }
+        ensures row { OnOk result ∥ WasChanged B.site.opened seat.old.number seat.old.session (Event.Delete txn rid) txn
+            (record { rid = rid; row = None }) seat.new.session ∥₁ }
+        ensures rest { IfOk result (λ change. IfSome change.rest (λ e.
+            ∥ WasServedTo B.site.opened seat.new.number seat.new.session (Event.Step txn) (Refused e) ∥₁)) }
         ensures refused { OnErr result (seat.new ≡ seat.old) }
         ensures seat { seat.new ≡ record seat.old { session = seat.new.session } }
     {
@@ -78,8 +90,8 @@ impl<B: Group, A: Memory> Shared<B, A> {
 
     /// Puts another row in place of a row, in a transaction of the seat.
     ///
-    /// The refusals are those of `insert`, with the core's `start_update` in place of `start_insert`. Where a later step was refused, the
-    /// seat holds the place with the new row, or with the one that was there (`row`).
+    /// The refusals are those of `insert`, with the core's `start_update` in place of `start_insert`. Where a later
+    /// step was refused, the seat holds the place with the new row, or with the one that was there (`row`).
     pub fn update<R: Wait>(
         &self,
         rt: &R,
@@ -91,11 +103,17 @@ impl<B: Group, A: Memory> Shared<B, A> {
     ) -> Result<Change, Error>
         requires { is_active seat.old.session txn ≡ true → is_ready seat.old.session txn ≡ true }
         ensures foreign { is_active seat.old.session txn ≡ false → result ≡ Err NoSuchTxn }
-        ensures served { is_active seat.old.session txn ≡ true → ∥ WasServedTo B.site.opened seat.old.number seat.old.session (Event.Update txn rid (record { key = key; body = body })) (reply_by (λ _. Reply.Stepped) result) ∥₁ }
+        ensures served { is_active seat.old.session txn ≡ true
+            → ∥ WasServedTo B.site.opened seat.old.number seat.old.session
+            (Event.Update txn rid (record { key = key; body = body })) (reply_by (λ _. Reply.Stepped) result) ∥₁ }
         ensures place { IfOk result (λ change. change.rid ≡ rid) }
-        ensures changed { IfOk result (λ change. HasChanged seat.old.session txn (record { rid = rid; row = Some (record { key = key; body = body }) }) change.rest seat.new.session) }
-        ensures row { OnOk result ∥ WasChanged B.site.opened seat.old.number seat.old.session (Event.Update txn rid (record { key = key; body = body })) txn (record { rid = rid; row = Some (record { key = key; body = body }) }) seat.new.session ∥₁ }
-        ensures rest { IfOk result (λ change. IfSome change.rest (λ e. ∥ WasServedTo B.site.opened seat.new.number seat.new.session (Event.Step txn) (Refused e) ∥₁)) }
+        ensures changed { IfOk result (λ change. HasChanged seat.old.session txn
+            (record { rid = rid; row = Some (record { key = key; body = body }) }) change.rest seat.new.session) }
+        ensures row { OnOk result ∥ WasChanged B.site.opened seat.old.number seat.old.session
+            (Event.Update txn rid (record { key = key; body = body })) txn
+            (record { rid = rid; row = Some (record { key = key; body = body }) }) seat.new.session ∥₁ }
+        ensures rest { IfOk result (λ change. IfSome change.rest (λ e.
+            ∥ WasServedTo B.site.opened seat.new.number seat.new.session (Event.Step txn) (Refused e) ∥₁)) }
         ensures refused { OnErr result (seat.new ≡ seat.old) }
         ensures seat { seat.new ≡ record seat.old { session = seat.new.session } }
     {
@@ -104,17 +122,21 @@ impl<B: Group, A: Memory> Shared<B, A> {
         Ok(Change { rid, rest })
     }
 
-    /// Makes the steps that are left of the change that a transaction of the seat has not finished. Where there is none, as
-    /// in one that is rolling back, nothing is done.
+    /// Makes the steps that are left of the change that a transaction of the seat has not finished. Where there is
+    /// none, as in one that is rolling back, nothing is done.
     ///
-    /// `NoSuchTxn` where the transaction isn't one of the seat's, and else the refusals of the core's `next_step`. After one
-    /// of them the change is still to be finished.
+    /// `NoSuchTxn` where the transaction isn't one of the seat's, and else the refusals of the core's `next_step`.
+    /// After one of them the change is still to be finished.
     pub fn carry_on<R: Wait>(&self, rt: &R, seat: &mut Seat<B, A>, txn: Txn) -> Result<(), Error>
         ensures foreign { is_active seat.old.session txn ≡ false → (result ≡ Err NoSuchTxn) × (seat.new ≡ seat.old) }
-        ensures none { is_active seat.old.session txn ≡ true → unfinished_of seat.old.session txn ≡ None → (OnErr result ⊥) × (seat.new ≡ seat.old) }
-        ensures ok { OnOk result ((change : Write) → unfinished_of seat.old.session txn ≡ Some change → HasChanged seat.old.session txn change None seat.new.session) }
-        ensures err { IfErr result (λ e. (change : Write) → unfinished_of seat.old.session txn ≡ Some change → HasChanged seat.old.session txn change (Some e) seat.new.session) }
-        ensures served { IfErr result (λ e. is_active seat.old.session txn ≡ true → ∥ WasServedTo B.site.opened seat.new.number seat.new.session (Event.Step txn) (Refused e) ∥₁) }
+        ensures none { is_active seat.old.session txn ≡ true → unfinished_of seat.old.session txn ≡ None
+            → (OnErr result ⊥) × (seat.new ≡ seat.old) }
+        ensures ok { OnOk result ((change : Write) → unfinished_of seat.old.session txn ≡ Some change
+            → HasChanged seat.old.session txn change None seat.new.session) }
+        ensures err { IfErr result (λ e. (change : Write) → unfinished_of seat.old.session txn ≡ Some change
+            → HasChanged seat.old.session txn change (Some e) seat.new.session) }
+        ensures served { IfErr result (λ e. is_active seat.old.session txn ≡ true
+            → ∥ WasServedTo B.site.opened seat.new.number seat.new.session (Event.Step txn) (Refused e) ∥₁) }
         ensures seat { seat.new ≡ record seat.old { session = seat.new.session } }
     {
         if !seat.part.is_active(txn) {
@@ -138,9 +160,13 @@ impl<B: Group, A: Memory> Shared<B, A> {
     ) -> Result<Rid, Error>
         requires { is_active seat.old.session txn ≡ true → is_ready seat.old.session txn ≡ true }
         ensures foreign { is_active seat.old.session txn ≡ false → result ≡ Err NoSuchTxn }
-        ensures served { is_active seat.old.session txn ≡ true → ∥ WasServedTo B.site.opened seat.old.number seat.old.session (Event.Insert txn (record { key = key; body = body })) (reply_by Reply.Rid result) ∥₁ }
-        ensures ok { IfOk result (λ rid. IsUnderWay seat.old.session txn (record { rid = rid; row = Some (record { key = key; body = body }) }) seat.new.session) }
-        ensures row { IfOk result (λ rid. row_of seat.new.session txn rid ≡ Some (Some (record { key = key; body = body }))) }
+        ensures served { is_active seat.old.session txn ≡ true
+            → ∥ WasServedTo B.site.opened seat.old.number seat.old.session
+            (Event.Insert txn (record { key = key; body = body })) (reply_by Reply.Rid result) ∥₁ }
+        ensures ok { IfOk result (λ rid. IsUnderWay seat.old.session txn
+            (record { rid = rid; row = Some (record { key = key; body = body }) }) seat.new.session) }
+        ensures row { IfOk result (λ rid. row_of seat.new.session txn rid
+            ≡ Some (Some (record { key = key; body = body }))) }
         ensures refused { OnErr result (seat.new ≡ seat.old) }
         ensures seat { seat.new ≡ record seat.old { session = seat.new.session } }
     {
@@ -161,9 +187,12 @@ impl<B: Group, A: Memory> Shared<B, A> {
     ) -> Result<(), Error>
         requires { is_active seat.old.session txn ≡ true → is_ready seat.old.session txn ≡ true }
         ensures foreign { is_active seat.old.session txn ≡ false → result ≡ Err NoSuchTxn }
-        ensures served { is_active seat.old.session txn ≡ true → ∥ WasServedTo B.site.opened seat.old.number seat.old.session (Event.Delete txn rid) (reply_by (λ _. Reply.Stepped) result) ∥₁ }
+        ensures served { is_active seat.old.session txn ≡ true
+            → ∥ WasServedTo B.site.opened seat.old.number seat.old.session (Event.Delete txn rid)
+            (reply_by (λ _. Reply.Stepped) result) ∥₁ }
         ensures ok { OnOk result (IsUnderWay seat.old.session txn (record { rid = rid; row = None }) seat.new.session) }
-        ensures row { OnOk result ∥ WasChanged B.site.opened seat.old.number seat.old.session (Event.Delete txn rid) txn (record { rid = rid; row = None }) seat.new.session ∥₁ }
+        ensures row { OnOk result ∥ WasChanged B.site.opened seat.old.number seat.old.session (Event.Delete txn rid) txn
+            (record { rid = rid; row = None }) seat.new.session ∥₁ }
         ensures refused { OnErr result (seat.new ≡ seat.old) }
         ensures seat { seat.new ≡ record seat.old { session = seat.new.session } }
     {
@@ -186,9 +215,14 @@ impl<B: Group, A: Memory> Shared<B, A> {
     ) -> Result<(), Error>
         requires { is_active seat.old.session txn ≡ true → is_ready seat.old.session txn ≡ true }
         ensures foreign { is_active seat.old.session txn ≡ false → result ≡ Err NoSuchTxn }
-        ensures served { is_active seat.old.session txn ≡ true → ∥ WasServedTo B.site.opened seat.old.number seat.old.session (Event.Update txn rid (record { key = key; body = body })) (reply_by (λ _. Reply.Stepped) result) ∥₁ }
-        ensures ok { OnOk result (IsUnderWay seat.old.session txn (record { rid = rid; row = Some (record { key = key; body = body }) }) seat.new.session) }
-        ensures row { OnOk result ∥ WasChanged B.site.opened seat.old.number seat.old.session (Event.Update txn rid (record { key = key; body = body })) txn (record { rid = rid; row = Some (record { key = key; body = body }) }) seat.new.session ∥₁ }
+        ensures served { is_active seat.old.session txn ≡ true
+            → ∥ WasServedTo B.site.opened seat.old.number seat.old.session
+            (Event.Update txn rid (record { key = key; body = body })) (reply_by (λ _. Reply.Stepped) result) ∥₁ }
+        ensures ok { OnOk result (IsUnderWay seat.old.session txn
+            (record { rid = rid; row = Some (record { key = key; body = body }) }) seat.new.session) }
+        ensures row { OnOk result ∥ WasChanged B.site.opened seat.old.number seat.old.session
+            (Event.Update txn rid (record { key = key; body = body })) txn
+            (record { rid = rid; row = Some (record { key = key; body = body }) }) seat.new.session ∥₁ }
         ensures refused { OnErr result (seat.new ≡ seat.old) }
         ensures seat { seat.new ≡ record seat.old { session = seat.new.session } }
     {
@@ -202,8 +236,10 @@ impl<B: Group, A: Memory> Shared<B, A> {
     // One step more of a change that is to be finished.
     fn step_change<R: Wait>(&self, rt: &R, seat: &mut Seat<B, A>, txn: Txn) -> Result<(), Error>
         requires { is_unfinished seat.old.session txn ≡ true }
-        ensures served { ∥ WasServedTo B.site.opened seat.old.number seat.old.session (Event.Step txn) (reply_by (λ _. Reply.Stepped) result) ∥₁ }
-        ensures ok { OnOk result ((change : Write) → unfinished_of seat.old.session txn ≡ Some change → IsUnderWay seat.old.session txn change seat.new.session) }
+        ensures served { ∥ WasServedTo B.site.opened seat.old.number seat.old.session (Event.Step txn)
+            (reply_by (λ _. Reply.Stepped) result) ∥₁ }
+        ensures ok { OnOk result ((change : Write) → unfinished_of seat.old.session txn ≡ Some change
+            → IsUnderWay seat.old.session txn change seat.new.session) }
         ensures refused { OnErr result (seat.new ≡ seat.old) }
         ensures seat { seat.new ≡ record seat.old { session = seat.new.session } }
     {
@@ -216,9 +252,12 @@ impl<B: Group, A: Memory> Shared<B, A> {
 
     // The steps that are left of a change, each under the lock anew, and the refusal of one, if it was refused.
     fn finish_change<R: Wait>(&self, rt: &R, seat: &mut Seat<B, A>, txn: Txn) -> Option<Error>
-        ensures none { unfinished_of seat.old.session txn ≡ None → (result ≡ None) × (seat.new.session ≡ seat.old.session) }
-        ensures changed { (change : Write) → unfinished_of seat.old.session txn ≡ Some change → HasChanged seat.old.session txn change result seat.new.session }
-        ensures served { IfSome result (λ e. ∥ WasServedTo B.site.opened seat.new.number seat.new.session (Event.Step txn) (Refused e) ∥₁) }
+        ensures none { unfinished_of seat.old.session txn ≡ None → (result ≡ None)
+            × (seat.new.session ≡ seat.old.session) }
+        ensures changed { (change : Write) → unfinished_of seat.old.session txn ≡ Some change
+            → HasChanged seat.old.session txn change result seat.new.session }
+        ensures served { IfSome result (λ e. ∥ WasServedTo B.site.opened seat.new.number seat.new.session
+            (Event.Step txn) (Refused e) ∥₁) }
         ensures seat { seat.new ≡ record seat.old { session = seat.new.session } }
     {
         for _ in rt.forever() {

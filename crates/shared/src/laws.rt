@@ -10,16 +10,21 @@ ghost use Rattle.shared.specs.Served.{HasUndone, WasAborted, WasServed, WasServe
 
 use nsf_core::refused_calls;
 
-/// A law: a call that was refused, for want of memory or for anything else, is made again, and goes on from where it was. The core is
-/// as before, be it a step of a seat (`seat`) or of the builder (`core`): so the same step comes next. A change of which a later step
-/// was refused, and that is carried on, is made as one that was not (`changed`). A transaction that is taken back in several calls of
-/// `abort` is taken back as in one (`undone`, `aborted`).
+/// A law: a call that was refused, for want of memory or for anything else, is made again, and goes on from where it
+/// was. The core is as before, be it a step of a seat (`seat`) or of the builder (`core`): so the same step comes next.
+/// A change of which a later step was refused, and that is carried on, is made as one that was not (`changed`). A
+/// transaction that is taken back in several calls of `abort` is taken back as in one (`undone`, `aborted`).
 pub fn each_refusal()
     ensures core { (o : Opened) (e : Event) (error : Error) (was : WasServed o e (Refused error)) → was.new ≡ was.core }
-    ensures seat { (o : Opened) (seat : ℕ) (session : SessionValue) (e : Event) (error : Error) (was : WasServedTo o seat session e (Refused error)) → was.new ≡ was.core }
-    ensures changed { (txn : ℕ) (change : Write) (error : Error) (refusal : Option Error) (old between new : SessionValue) → HasChanged old txn change (Some error) between → HasChanged between txn change refusal new → HasChanged old txn change refusal new }
-    ensures undone { (o : Opened) (seat txn : ℕ) (old between new : SessionValue) → HasUndone o seat old txn between → HasUndone o seat between txn new → HasUndone o seat old txn new }
-    ensures aborted { (o : Opened) (seat txn : ℕ) (old between : SessionValue) → HasUndone o seat old txn between → (between ≡ old) ⊎ IsGoingBack old txn between → WasAborted o seat between txn → WasAborted o seat old txn }
+    ensures seat { (o : Opened) (seat : ℕ) (session : SessionValue) (e : Event) (error : Error)
+        (was : WasServedTo o seat session e (Refused error)) → was.new ≡ was.core }
+    ensures changed { (txn : ℕ) (change : Write) (error : Error) (refusal : Option Error)
+        (old between new : SessionValue) → HasChanged old txn change (Some error) between
+        → HasChanged between txn change refusal new → HasChanged old txn change refusal new }
+    ensures undone { (o : Opened) (seat txn : ℕ) (old between new : SessionValue) → HasUndone o seat old txn between
+        → HasUndone o seat between txn new → HasUndone o seat old txn new }
+    ensures aborted { (o : Opened) (seat txn : ℕ) (old between : SessionValue) → HasUndone o seat old txn between
+        → (between ≡ old) ⊎ IsGoingBack old txn between → WasAborted o seat between txn → WasAborted o seat old txn }
 {
     refused_calls();
 }

@@ -1,13 +1,14 @@
 //! A core that many threads share, one seat each.
 //!
-//! Each call of a seat makes its steps of the core one at a time, each under the lock anew, and hands the records that they
-//! make to the queue of the flusher. What a seat knows of its own transactions is in its session, which the calls keep in
-//! step with the core. A seat learns from the board, without the lock, which of the records are safe on the device.
+//! Each call of a seat makes its steps of the core one at a time, each under the lock anew, and hands the records that
+//! they make to the queue of the flusher. What a seat knows of its own transactions is in its session, which the calls
+//! keep in step with the core. A seat learns from the board, without the lock, which of the records are safe on the
+//! device.
 //!
-//! Proved: what an `Ok` makes of the seat's session (`ok`, `changed`). Each reply is one that some core which may lie under the
-//! lock gives (`served`). `get` of a place that the seat holds answers its own row (`own`). An acknowledgement is of a ticket that
-//! a horizon reached (`reached`), and no horizon falls (`rises`).
-//! Neither: that a call which takes the lock or waits returns; fairness; that `find` or `get` of another's place is of now; that a
+//! Proved: what an `Ok` makes of the seat's session (`ok`, `changed`). Each reply is one that some core which may lie
+//! under the lock gives (`served`). `get` of a place that the seat holds answers its own row (`own`). An
+//! acknowledgement is of a ticket that a horizon reached (`reached`), and no horizon falls (`rises`). Neither: that a
+//! call which takes the lock or waits returns; fairness; that `find` or `get` of another's place is of now; that a
 //! dropped seat gives its transactions back (they stay active until the store is opened again).
 #![tactic(auto)]
 

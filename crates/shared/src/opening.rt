@@ -83,7 +83,8 @@ impl<A: Memory> Opening<A> {
         requires opened { IsJustOpened (value_of self.core) }
         ensures seats { IfOk result (λ r. AreNewSeats B.site.board B.site.seats r.1.seats.items) }
         ensures popper { IfOk result (λ r. r.1.ends.popper ≡ record { queue = B.site.queue; records = [] }) }
-        ensures flush { IfOk result (λ r. r.1.ends.published ≡ record { board = B.site.board; horizon = 0; failed = false }) }
+        ensures flush { IfOk result (λ r. r.1.ends.published
+            ≡ record { board = B.site.board; horizon = 0; failed = false }) }
         ensures build { IfOk result (λ r. r.1.build ≡ record { progress = 0 }) }
         ensures no_memory { IfErr result (λ e. e ≡ NoMemory) }
     {

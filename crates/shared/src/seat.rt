@@ -55,8 +55,8 @@ impl<B: Group, A: Memory> Seat<B, A> {
         self.part.is_active(txn)
     }
 
-    /// Whether the transaction may begin a change or commit: it is one of the seat's, has no change to finish, and isn't
-    /// rolling back.
+    /// Whether the transaction may begin a change or commit: it is one of the seat's, has no change to finish, and
+    /// isn't rolling back.
     pub fn ready(&self, txn: Txn) -> bool
         ensures { result ≡ is_ready self.now.session txn }
     {

@@ -11,7 +11,8 @@ use std::sync::{Mutex, MutexGuard, Wait};
 use std::{hint, thread};
 use tail::RecordQueue;
 
-// So often it is looked whether the lock is free before a sleep, and so often between two times that the processor is left to others.
+// So often it is looked whether the lock is free before a sleep, and so often between two times that the processor is
+// left to others.
 const LOCK_LOOKS: u32 = 4_000;
 
 const LOOKS_A_YIELD: u32 = 200;
@@ -47,8 +48,8 @@ impl<B: Group, A: Memory> Shared<B, A> {
         &self.board
     }
 
-    /// Sets after how many attempts the builder leaves room for the seats by a short pause; with 0 it never does. It may be set at any
-    /// time.
+    /// Sets after how many attempts the builder leaves room for the seats by a short pause; with 0 it never does. It
+    /// may be set at any time.
     pub fn pause_builder_every(&self, attempts: u64) {
         self.board.waits().set_pause_every(attempts);
     }
@@ -74,8 +75,8 @@ impl<B: Group, A: Memory> Shared<B, A> {
         self.seize(rt)
     }
 
-    // The lock, without a sleep where it is free soon: one that is left to a thread that sleeps keeps all others waiting until that
-    // one is awake.
+    // The lock, without a sleep where it is free soon: one that is left to a thread that sleeps keeps all others
+    // waiting until that one is awake.
     fn seize<R: Wait>(&self, rt: &R) -> MutexGuard<'_, Locked<B, A>> {
         for look in 0..LOCK_LOOKS {
             if let Some(guard) = self.locked.try_lock() {

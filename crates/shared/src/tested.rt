@@ -20,8 +20,8 @@ use std::sync::Wait;
 impl<B: Group, A: Memory> Shared<B, A> {
     /// Inserts a row in a transaction of the seat, as `insert` does, if the transaction is ready.
     ///
-    /// `NoSuchTxn` where it isn't: where it is none of the seat's, has a change to finish, or is rolling back. Nothing is done then. Else
-    /// the refusals of the core's `start_insert`.
+    /// `NoSuchTxn` where it isn't: where it is none of the seat's, has a change to finish, or is rolling back. Nothing
+    /// is done then. Else the refusals of the core's `start_insert`.
     pub fn insert_if_ready<R: Wait>(
         &self,
         rt: &R,
@@ -31,10 +31,17 @@ impl<B: Group, A: Memory> Shared<B, A> {
         body: Body,
     ) -> Result<Change, Error>
         ensures unready { is_ready seat.old.session txn ≡ false → result ≡ Err NoSuchTxn }
-        ensures served { is_ready seat.old.session txn ≡ true → ∥ WasServedTo B.site.opened seat.old.number seat.old.session (Event.Insert txn (record { key = key; body = body })) (reply_by (λ change. Reply.Rid change.rid) result) ∥₁ }
-        ensures changed { IfOk result (λ change. HasChanged seat.old.session txn (record { rid = change.rid; row = Some (record { key = key; body = body }) }) change.rest seat.new.session) }
-        ensures row { IfOk result (λ change. row_of seat.new.session txn change.rid ≡ Some (Some (record { key = key; body = body }))) }
-        ensures rest { IfOk result (λ change. IfSome change.rest (λ e. ∥ WasServedTo B.site.opened seat.new.number seat.new.session (Event.Step txn) (Refused e) ∥₁)) }
+        ensures served { is_ready seat.old.session txn ≡ true
+            → ∥ WasServedTo B.site.opened seat.old.number seat.old.session
+            (Event.Insert txn (record { key = key; body = body }))
+            (reply_by (λ change. Reply.Rid change.rid) result) ∥₁ }
+        ensures changed { IfOk result (λ change. HasChanged seat.old.session txn
+            (record { rid = change.rid; row = Some (record { key = key; body = body }) }) change.rest
+            seat.new.session) }
+        ensures row { IfOk result (λ change. row_of seat.new.session txn change.rid
+            ≡ Some (Some (record { key = key; body = body }))) }
+        ensures rest { IfOk result (λ change. IfSome change.rest (λ e.
+            ∥ WasServedTo B.site.opened seat.new.number seat.new.session (Event.Step txn) (Refused e) ∥₁)) }
         ensures refused { OnErr result (seat.new ≡ seat.old) }
         ensures seat { seat.new ≡ record seat.old { session = seat.new.session } }
     {
@@ -55,11 +62,16 @@ impl<B: Group, A: Memory> Shared<B, A> {
         rid: Rid,
     ) -> Result<Change, Error>
         ensures unready { is_ready seat.old.session txn ≡ false → result ≡ Err NoSuchTxn }
-        ensures served { is_ready seat.old.session txn ≡ true → ∥ WasServedTo B.site.opened seat.old.number seat.old.session (Event.Delete txn rid) (reply_by (λ _. Reply.Stepped) result) ∥₁ }
+        ensures served { is_ready seat.old.session txn ≡ true
+            → ∥ WasServedTo B.site.opened seat.old.number seat.old.session (Event.Delete txn rid)
+            (reply_by (λ _. Reply.Stepped) result) ∥₁ }
         ensures place { IfOk result (λ change. change.rid ≡ rid) }
-        ensures changed { IfOk result (λ change. HasChanged seat.old.session txn (record { rid = rid; row = None }) change.rest seat.new.session) }
-        ensures row { OnOk result ∥ WasChanged B.site.opened seat.old.number seat.old.session (Event.Delete txn rid) txn (record { rid = rid; row = None }) seat.new.session ∥₁ }
-        ensures rest { IfOk result (λ change. IfSome change.rest (λ e. ∥ WasServedTo B.site.opened seat.new.number seat.new.session (Event.Step txn) (Refused e) ∥₁)) }
+        ensures changed { IfOk result (λ change. HasChanged seat.old.session txn
+            (record { rid = rid; row = None }) change.rest seat.new.session) }
+        ensures row { OnOk result ∥ WasChanged B.site.opened seat.old.number seat.old.session (Event.Delete txn rid) txn
+            (record { rid = rid; row = None }) seat.new.session ∥₁ }
+        ensures rest { IfOk result (λ change. IfSome change.rest (λ e.
+            ∥ WasServedTo B.site.opened seat.new.number seat.new.session (Event.Step txn) (Refused e) ∥₁)) }
         ensures refused { OnErr result (seat.new ≡ seat.old) }
         ensures seat { seat.new ≡ record seat.old { session = seat.new.session } }
     {
@@ -82,11 +94,17 @@ impl<B: Group, A: Memory> Shared<B, A> {
         body: Body,
     ) -> Result<Change, Error>
         ensures unready { is_ready seat.old.session txn ≡ false → result ≡ Err NoSuchTxn }
-        ensures served { is_ready seat.old.session txn ≡ true → ∥ WasServedTo B.site.opened seat.old.number seat.old.session (Event.Update txn rid (record { key = key; body = body })) (reply_by (λ _. Reply.Stepped) result) ∥₁ }
+        ensures served { is_ready seat.old.session txn ≡ true
+            → ∥ WasServedTo B.site.opened seat.old.number seat.old.session
+            (Event.Update txn rid (record { key = key; body = body })) (reply_by (λ _. Reply.Stepped) result) ∥₁ }
         ensures place { IfOk result (λ change. change.rid ≡ rid) }
-        ensures changed { IfOk result (λ change. HasChanged seat.old.session txn (record { rid = rid; row = Some (record { key = key; body = body }) }) change.rest seat.new.session) }
-        ensures row { OnOk result ∥ WasChanged B.site.opened seat.old.number seat.old.session (Event.Update txn rid (record { key = key; body = body })) txn (record { rid = rid; row = Some (record { key = key; body = body }) }) seat.new.session ∥₁ }
-        ensures rest { IfOk result (λ change. IfSome change.rest (λ e. ∥ WasServedTo B.site.opened seat.new.number seat.new.session (Event.Step txn) (Refused e) ∥₁)) }
+        ensures changed { IfOk result (λ change. HasChanged seat.old.session txn
+            (record { rid = rid; row = Some (record { key = key; body = body }) }) change.rest seat.new.session) }
+        ensures row { OnOk result ∥ WasChanged B.site.opened seat.old.number seat.old.session
+            (Event.Update txn rid (record { key = key; body = body })) txn
+            (record { rid = rid; row = Some (record { key = key; body = body }) }) seat.new.session ∥₁ }
+        ensures rest { IfOk result (λ change. IfSome change.rest (λ e.
+            ∥ WasServedTo B.site.opened seat.new.number seat.new.session (Event.Step txn) (Refused e) ∥₁)) }
         ensures refused { OnErr result (seat.new ≡ seat.old) }
         ensures seat { seat.new ≡ record seat.old { session = seat.new.session } }
     {
@@ -98,8 +116,8 @@ impl<B: Group, A: Memory> Shared<B, A> {
 
     /// Commits a transaction of the seat, as `commit` does, if the transaction is ready.
     ///
-    /// `NoSuchTxn` where it isn't, as in `insert_if_ready`, and else the refusals of the core's `commit`. After a refusal the seat is as
-    /// before.
+    /// `NoSuchTxn` where it isn't, as in `insert_if_ready`, and else the refusals of the core's `commit`. After a
+    /// refusal the seat is as before.
     pub fn commit_if_ready<R: Wait>(
         &self,
         rt: &R,
@@ -107,8 +125,11 @@ impl<B: Group, A: Memory> Shared<B, A> {
         txn: Txn,
     ) -> Result<Ticket, Error>
         ensures unready { is_ready seat.old.session txn ≡ false → result ≡ Err NoSuchTxn }
-        ensures served { is_ready seat.old.session txn ≡ true → ∥ WasServedTo B.site.opened seat.old.number seat.old.session (Event.Commit txn) (reply_by reply_of_ticket result) ∥₁ }
-        ensures ok { IfOk result (λ ticket. seat.new ≡ record seat.old { session = committed seat.old.session txn ticket }) }
+        ensures served { is_ready seat.old.session txn ≡ true
+            → ∥ WasServedTo B.site.opened seat.old.number seat.old.session (Event.Commit txn)
+            (reply_by reply_of_ticket result) ∥₁ }
+        ensures ok { IfOk result (λ ticket. seat.new ≡ record seat.old
+            { session = committed seat.old.session txn ticket }) }
         ensures refused { OnErr result (seat.new ≡ seat.old) }
         ensures seat { seat.new ≡ record seat.old { session = seat.new.session } }
     {

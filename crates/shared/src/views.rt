@@ -33,7 +33,10 @@ impl<B: Group, A: Memory> Shared<B, A> {
     /// Makes a view of the board for a thread that has no seat. It has seen what the seat has.
     pub fn another_view(&self, seat: &mut Seat<B, A>) -> GroupView<B>
         ensures view { result ≡ record seat.old.sight { name = leaves_as seat.old.sight.name; stops = false } }
-        ensures seat { seat.new ≡ record seat.old { sight = record seat.old.sight { name = stays_as seat.old.sight.name } } }
+        ensures seat { seat.new ≡ record seat.old {
+          sight = record seat.old.sight
+              { name = stays_as seat.old.sight.name };
+        } }
     {
         GroupView {
             view: self.board.another(&mut seat.view),
@@ -70,9 +73,9 @@ impl<B: Group> GroupView<B> {
         shared.board.failed(&mut self.view)
     }
 
-    /// Compares what this view has seen with what the flusher has published: no horizon that it has seen is above the last synced
-    /// record, and a failed flag that it has seen is true. Nothing changes but the view, which has now seen the horizon and the failed
-    /// flag that were published.
+    /// Compares what this view has seen with what the flusher has published: no horizon that it has seen is above the
+    /// last synced record, and a failed flag that it has seen is true. Nothing changes but the view, which has now seen
+    /// the horizon and the failed flag that were published.
     pub fn settle<D: Device, A: Memory>(
         &mut self,
         shared: &Shared<B, A>,
@@ -82,13 +85,16 @@ impl<B: Group> GroupView<B> {
         ensures horizon { self.old.horizon ≤ flush.old.published.horizon }
         ensures synced { self.old.horizon ≤ synced_of flush.old.writer }
         ensures failed { IsTrue self.old.failed → has_failed flush.old.writer ≡ true }
-        ensures informed { self.new ≡ record self.old { horizon = flush.old.published.horizon; failed = flush.old.published.failed } }
+        ensures informed { self.new ≡ record self.old {
+          horizon = flush.old.published.horizon;
+          failed = flush.old.published.failed;
+        } }
     {
         flush.settle(&shared.board, &mut self.view);
     }
 
-    /// Sets the stop flag, by which all threads are asked to stop. It takes no memory and waits for nothing. (That those that sleep are
-    /// woken, no clause says.)
+    /// Sets the stop flag, by which all threads are asked to stop. It takes no memory and waits for nothing. (That
+    /// those that sleep are woken, no clause says.)
     pub fn stop<A: Memory>(&mut self, shared: &Shared<B, A>)
         ensures { self.new ≡ record self.old { stopped = true; stops = true } }
     {

@@ -1,9 +1,9 @@
-//! Tests of the parts of the core: the rows in their pages (`heap_pages`), the active transactions (`txn_table`), the builder's
-//! scan (`sorted_scan`), the tree of the entries (`btree_node`), the entries with their marks (`marked_index`), and the core
-//! (`nsf_core`) where it takes no memory.
+//! Tests of the parts of the core: the rows in their pages (`heap_pages`), the active transactions (`txn_table`), the
+//! builder's scan (`sorted_scan`), the tree of the entries (`btree_node`), the entries with their marks
+//! (`marked_index`), and the core (`nsf_core`) where it takes no memory.
 //!
-//! Proved of them is safety. Each allocation is refused in turn. The calls that take no memory are made where the next allocation
-//! would be refused, and counted.
+//! Proved of them is safety. Each allocation is refused in turn. The calls that take no memory are made where the next
+//! allocation would be refused, and counted.
 #![tactic(auto)]
 
 #[cfg(test)]

@@ -122,8 +122,8 @@ fn walks<A: Allocator + Copy>(tree: &BTree<A>, numbers: &[u32]) -> Result<bool, 
     Ok(tree.above(last.as_ref()).is_none())
 }
 
-// Plans an insertion with each of its allocations refused in turn, and at last none. How many there were. The tree stays as it
-// was.
+// Plans an insertion with each of its allocations refused in turn, and at last none. How many there were. The tree
+// stays as it was.
 fn refuse_each<A: Allocator + Copy>(
     rt: &impl Abort,
     memory: &Memory,

@@ -1,5 +1,6 @@
 -- Each step keeps the rule of the queue.
-use Rattle.std.proofs.Common.{◌≡◌, ◌≢◌, ℕ, zero, suc, true, false, true≢false, Option, None, Some, List, [], ◌∷◌, ◌++◌, drop, take, length, set, slice_get, sym, refl, ap, ◌∙◌, subst, ⊎_elim, append_assoc, append-nil}
+use Rattle.std.proofs.Common.{◌≡◌, ◌≢◌, ℕ, zero, suc, true, false, true≢false, Option, None, Some, List, [], ◌∷◌, ◌++◌, drop, take, length, set, slice_get, sym}
+use Rattle.std.proofs.Common.{refl, ap, ◌∙◌, subst, ⊎_elim, append_assoc, append-nil}
 use Rattle.std.specs.Prelude.{MatchOption}
 use Rattle.std.proofs.Math.Seq.{drop-append_seam, take-append_seam}
 use mathlib.Core.Option.{some, some-ne-none}
@@ -24,9 +25,11 @@ at_end (x ∷ xs) a b (suc j) n e = ap suc (at_end xs a b j n e)
 abbrev Each : (ℕ → Knowledge → Type 0) → List Knowledge → Type 0
 Each F ends = (place : ℕ) (v : Knowledge) → get_elem? ends place ≡ some v → F place v
 
-each_set : (F : ℕ → Knowledge → Type 0) (ends : List Knowledge) (place : ℕ) (w : Knowledge) → F place w → ((j : ℕ) (u : Knowledge) → j ≢ place → get_elem? ends j ≡ some u → F j u) → Each F (set ends place w)
+each_set : (F : ℕ → Knowledge → Type 0) (ends : List Knowledge) (place : ℕ) (w : Knowledge) → F place w
+    → ((j : ℕ) (u : Knowledge) → j ≢ place → get_elem? ends j ≡ some u → F j u) → Each F (set ends place w)
 each_set F ends place w mine others j u e =
-    ⊎_elim (λ (x : (j ≡ place) × (w ≡ u)). subst (λ (y : ℕ × Knowledge). F y.0 y.1) (λ i. (sym x.0 i, x.1 i)) mine) (λ (x : (j ≢ place) × (get_elem? ends j ≡ some u)). others j u x.0 x.1) (at_set ends place j w u e)
+    ⊎_elim (λ (x : (j ≡ place) × (w ≡ u)). subst (λ (y : ℕ × Knowledge). F y.0 y.1) (λ i. (sym x.0 i, x.1 i)) mine)
+    (λ (x : (j ≢ place) × (get_elem? ends j ≡ some u)). others j u x.0 x.1) (at_set ends place j w u e)
 
 pub begins : IsQueueKept [] (both_ends [] [] ∷ [])
 begins = record {
@@ -35,7 +38,8 @@ begins = record {
   pushed = [];
   popped = [];
   in_order = refl;
-  fits = each_set (Fits 0 0 [] []) (both_ends [] [] ∷ []) 0 (both_ends [] []) (record { of_pusher = λ _. (refl, refl); of_popper = λ _. (refl, refl) }) (λ j u other e. absurd (other (at_end [] _ u j (λ x. some-ne-none u (sym x)) e)));
+  fits = each_set (Fits 0 0 [] []) (both_ends [] [] ∷ []) 0 (both_ends [] []) (record { of_pusher = λ _. (refl, refl); of_popper = λ _. (refl, refl) })
+      (λ j u other e. absurd (other (at_end [] _ u j (λ x. some-ne-none u (sym x)) e)));
 }
 
 pub pushes : (n place : ℕ) (v : Knowledge) (x : RecordValue) → v.pushes ≡ true → fifo.Pushes IsQueueKept n place v x (Pushes v x)
@@ -52,7 +56,10 @@ pushes n place v x may items ends _ h at =
         in_order = ap (λ l. l ++ x ∷ []) h.in_order ∙ append_assoc h.popped items (x ∷ []);
         fits = each_set (Fits h.pusher h.popper pushed h.popped) ends place w
             (record { of_pusher = λ _. ((mine.of_pusher may).0, ap (λ l. l ++ x ∷ []) (mine.of_pusher may).1); of_popper = mine.of_popper })
-            (λ j u other e. record { of_pusher = λ p. absurd (other (((h.fits j u e).of_pusher p).0 ∙ sym (mine.of_pusher may).0)); of_popper = (h.fits j u e).of_popper });
+            (λ j u other e. record {
+              of_pusher = λ p. absurd (other (((h.fits j u e).of_pusher p).0 ∙ sym (mine.of_pusher may).0));
+              of_popper = (h.fits j u e).of_popper;
+            });
       },
       refl,
     )
@@ -71,7 +78,11 @@ pops place v may x items ends h at =
         in_order = h.in_order ∙ sym (append_assoc h.popped (x ∷ []) items);
         fits = each_set (Fits h.pusher h.popper h.pushed popped) ends place w
             (record { of_pusher = mine.of_pusher; of_popper = λ _. ((mine.of_popper may).0, ap (λ l. l ++ x ∷ []) (mine.of_popper may).1) })
-            (λ j u other e. record { of_pusher = (h.fits j u e).of_pusher; of_popper = λ p. absurd (other (((h.fits j u e).of_popper p).0 ∙ sym (mine.of_popper may).0)) });
+            (λ j u other e. record {
+              of_pusher = (h.fits j u e).of_pusher;
+              of_popper = λ p.
+                  absurd (other (((h.fits j u e).of_popper p).0 ∙ sym (mine.of_popper may).0));
+            });
       },
       record {
         known = refl;
@@ -87,7 +98,8 @@ forks place v a b items ends h at =
     let mine = h.fits place v at in
     let all : List Knowledge = set ends place l in
     let Old : ℕ → Knowledge → Type 0 = λ j u. (u.pushes ≡ true → (j ≡ h.pusher) × (u.pushed ≡ h.pushed)) × (u.pops ≢ true) in
-    let old : Each Old all = each_set Old ends place l ((λ _. mine.of_pusher a), λ p. off p) (λ j u other e. ((h.fits j u e).of_pusher, λ p. other (((h.fits j u e).of_popper p).0 ∙ sym (mine.of_popper b).0))) in
+    let old : Each Old all = each_set Old ends place l ((λ _. mine.of_pusher a), λ p. off p) (λ j u other e.
+    ((h.fits j u e).of_pusher, λ p. other (((h.fits j u e).of_popper p).0 ∙ sym (mine.of_popper b).0))) in
     record {
       pusher = h.pusher;
       popper = length all;
@@ -96,7 +108,11 @@ forks place v a b items ends h at =
       in_order = h.in_order;
       fits = λ j u e.
           ⊎_elim (λ x. record { of_pusher = (old j u x).0; of_popper = λ p. absurd ((old j u x).1 p) })
-          (λ (is : r ≡ u). record { of_pusher = λ p. off (ap (λ (y : Knowledge). y.pushes) is ∙ p); of_popper = λ p. (at_end all r u j (λ x. (old j u x).1 p) e, ap (λ (y : Knowledge). y.popped) (sym is) ∙ (mine.of_popper b).1) })
+          (λ (is : r ≡ u). record {
+            of_pusher = λ p. off (ap (λ (y : Knowledge). y.pushes) is ∙ p);
+            of_popper = λ p.
+                (at_end all r u j (λ x. (old j u x).1 p) e, ap (λ (y : Knowledge). y.popped) (sym is) ∙ (mine.of_popper b).1);
+          })
           (at_snoc all r u j e);
     }
 
@@ -107,7 +123,8 @@ lends place v b items ends h at =
     let mine = h.fits place v at in
     let all : List Knowledge = set ends place no_end in
     let Old : ℕ → Knowledge → Type 0 = λ j u. (u.pushes ≡ true → (j ≡ h.pusher) × (u.pushed ≡ h.pushed)) × (u.pops ≢ true) in
-    let old : Each Old all = each_set Old ends place no_end ((λ p. off p), λ p. off p) (λ j u other e. ((h.fits j u e).of_pusher, λ p. other (((h.fits j u e).of_popper p).0 ∙ sym (mine.of_popper b).0))) in
+    let old : Each Old all = each_set Old ends place no_end ((λ p. off p), λ p. off p) (λ j u other e.
+    ((h.fits j u e).of_pusher, λ p. other (((h.fits j u e).of_popper p).0 ∙ sym (mine.of_popper b).0))) in
     record {
       pusher = h.pusher;
       popper = length all;
@@ -116,7 +133,11 @@ lends place v b items ends h at =
       in_order = h.in_order;
       fits = λ j u e.
           ⊎_elim (λ x. record { of_pusher = (old j u x).0; of_popper = λ p. absurd ((old j u x).1 p) })
-          (λ (is : r ≡ u). record { of_pusher = λ p. off (ap (λ (y : Knowledge). y.pushes) is ∙ p); of_popper = λ p. (at_end all r u j (λ x. (old j u x).1 p) e, ap (λ (y : Knowledge). y.popped) (sym is) ∙ (mine.of_popper b).1) })
+          (λ (is : r ≡ u). record {
+            of_pusher = λ p. off (ap (λ (y : Knowledge). y.pushes) is ∙ p);
+            of_popper = λ p.
+                (at_end all r u j (λ x. (old j u x).1 p) e, ap (λ (y : Knowledge). y.popped) (sym is) ∙ (mine.of_popper b).1);
+          })
           (at_snoc all r u j e);
     }
 
@@ -136,10 +157,12 @@ comes_back place v other u b items ends h at two at' =
       pushed = h.pushed;
       popped = h.popped;
       in_order = h.in_order;
-      fits = each_set (Fits h.pusher place h.pushed h.popped) all other no_end (record { of_pusher = λ p. off p; of_popper = λ p. off p }) (λ j y apart e. now j y e apart);
+      fits = each_set (Fits h.pusher place h.pushed h.popped) all other no_end (record { of_pusher = λ p. off p; of_popper = λ p. off p }) (λ j y apart e.
+          now j y e apart);
     }
 
-pub merges : (place : ℕ) (v : Knowledge) (other : ℕ) (u : Knowledge) → v.pushes ≡ true → u.pops ≡ true → Merges IsQueueKept place v other u (both_ends v.pushed u.popped) no_end
+pub merges : (place : ℕ) (v : Knowledge) (other : ℕ) (u : Knowledge) → v.pushes ≡ true → u.pops ≡ true
+    → Merges IsQueueKept place v other u (both_ends v.pushed u.popped) no_end
 merges place v other u a b items ends h at two at' =
     let both : Knowledge = both_ends v.pushed u.popped in
     let mine = h.fits place v at in
@@ -155,7 +178,8 @@ merges place v other u a b items ends h at two at' =
       pushed = h.pushed;
       popped = h.popped;
       in_order = h.in_order;
-      fits = each_set (Fits h.pusher place h.pushed h.popped) all other no_end (record { of_pusher = λ p. off p; of_popper = λ p. off p }) (λ j y apart e. now j y e apart);
+      fits = each_set (Fits h.pusher place h.pushed h.popped) all other no_end (record { of_pusher = λ p. off p; of_popper = λ p. off p }) (λ j y apart e.
+          now j y e apart);
     }
 
 pub learns : (place : ℕ) (v : Knowledge) → Learns IsQueueKept place v (Waits v)
@@ -185,22 +209,34 @@ pops_none v w whole same none =
     }
 
 -- the oldest was popped
-pops_one : (v w : Knowledge) (x : RecordValue) (rest : List RecordValue) → KnowsWholeQueue v → w ≡ record v { popped = v.popped ++ x ∷ [] } → v.pushed ≡ v.popped ++ x ∷ rest → Popped v (Some x) w
+pops_one : (v w : Knowledge) (x : RecordValue) (rest : List RecordValue) → KnowsWholeQueue v → w ≡ record v { popped = v.popped ++ x ∷ [] }
+    → v.pushed ≡ v.popped ++ x ∷ rest → Popped v (Some x) w
 pops_one v w x rest whole is before =
     let were : waiting_of v ≡ x ∷ rest = waiting_is v.pushed v.popped (x ∷ rest) before in
     let popped : w.popped ≡ v.popped ++ x ∷ [] = ap (λ (y : Knowledge). y.popped) is in
     let pushed : w.pushed ≡ v.pushed = ap (λ (y : Knowledge). y.pushed) is in
     let now : w.pushed ≡ w.popped ++ rest = pushed ∙ before ∙ sym (append_assoc v.popped (x ∷ []) rest) ∙ ap (λ l. l ++ rest) (sym popped) in
     let are : waiting_of w ≡ rest = waiting_is w.pushed w.popped rest now in record {
-      whole = record { ends = is ∙ (λ i. record { pushes = (ap (λ (y : Knowledge). y.pushes) whole.ends) i; pops = (ap (λ (y : Knowledge). y.pops) whole.ends) i; pushed = (sym pushed) i; popped = (sym popped) i }); in_order = now ∙ ap (λ l. w.popped ++ l) (sym are) };
+      whole = record {
+        ends = is ∙ (λ i. record {
+          pushes = (ap (λ (y : Knowledge). y.pushes) whole.ends) i;
+          pops = (ap (λ (y : Knowledge). y.pops) whole.ends) i;
+          pushed = (sym pushed) i;
+          popped = (sym popped) i;
+        });
+        in_order = now
+            ∙ ap (λ l. w.popped ++ l) (sym are);
+      };
       oldest = ap (λ l. slice_get l 0) (sym were);
       popped = popped ∙ ap (λ l. v.popped ++ take 1 l) (sym were);
       waiting = are ∙ ap (drop 1) (sym were);
     }
 
-pub pops_oldest : (R : Type 0) (v w : Knowledge) (result : Option RecordValue) → KnowsWholeQueue v → MatchOption result ((w ≡ v) × Waits v []) (λ x. Pops v x w × R) → Popped v result w
+pub pops_oldest : (R : Type 0) (v w : Knowledge) (result : Option RecordValue) → KnowsWholeQueue v
+    → MatchOption result ((w ≡ v) × Waits v []) (λ x. Pops v x w × R) → Popped v result w
 pops_oldest R v w None whole m = pops_none v w whole m.0 (m.1 (ap (λ (y : Knowledge). y.pushes) whole.ends) (ap (λ (y : Knowledge). y.pops) whole.ends))
-pops_oldest R v w (Some x) whole m = pops_one v w x m.0.rest whole m.0.known (m.0.oldest (ap (λ (y : Knowledge). y.pushes) whole.ends) (ap (λ (y : Knowledge). y.pops) whole.ends))
+pops_oldest R v w (Some x) whole m = pops_one v w x m.0.rest whole m.0.known
+    (m.0.oldest (ap (λ (y : Knowledge). y.pushes) whole.ends) (ap (λ (y : Knowledge). y.pops) whole.ends))
 
 joined : (v : Knowledge) (n : ℕ) → v ≡ both_ends v.pushed v.popped → Held n (Waits v) → KnowsWholeQueue v
 joined v n is held =
@@ -209,7 +245,8 @@ joined v n is held =
 
 -- joined ends know what waits
 pub joins : (v w : Knowledge) (pushed popped : List RecordValue) (n : ℕ) → v ≡ both_ends pushed popped → Held n (Waits v) → w ≡ v → KnowsWholeQueue w
-joins v w pushed popped n is held same = subst KnowsWholeQueue (sym same) (joined v n (is ∙ λ i. both_ends (ap (λ (y : Knowledge). y.pushed) (sym is) i) (ap (λ (y : Knowledge). y.popped) (sym is) i)) held)
+joins v w pushed popped n is held same = subst KnowsWholeQueue (sym same)
+    (joined v n (is ∙ λ i. both_ends (ap (λ (y : Knowledge). y.pushed) (sym is) i) (ap (λ (y : Knowledge). y.popped) (sym is) i)) held)
 
 -- ---- two ends that are compared
 

@@ -20,7 +20,8 @@ abbrev pub coded_stored : Coded Gv
 coded_stored = record { code = λ v. v; inj = λ x y p. p }
 
 abbrev coded_name : Coded QueueName
-coded_name = coded_via (coded× (coded× coded_ℕ coded_ℕ) coded_stored) (λ (q : QueueName). (q.web, q.heap)) (λ x y e i. record { web = (e i).0; heap = (e i).1 })
+coded_name = coded_via (coded× (coded× coded_ℕ coded_ℕ) coded_stored) (λ (q : QueueName). (q.web, q.heap)) (λ x y e i.
+    record { web = (e i).0; heap = (e i).1 })
 
 -- that two names are the same holds in one way
 pub name_prop : (q r : QueueName) → IsProp (q ≡ r)

@@ -5,7 +5,8 @@ use lib.ListN.{get_elem?}
 use Rattle.records.specs.RecordValue.{RecordValue}
 use Rattle.tail.specs.declared.knowledge.Knowledge.{Knowledge}
 
--- An end that may push is the one that pushes, and knows what was pushed. One that may pop is the one that pops, and knows what was popped.
+-- An end that may push is the one that pushes, and knows what was pushed. One that may pop is the one that pops, and
+-- knows what was popped.
 pub record Fits (pusher popper : ℕ) (pushed popped : List RecordValue) (place : ℕ) (v : Knowledge) : Type 0 where
   pub of_pusher : v.pushes ≡ true → (place ≡ pusher) × (v.pushed ≡ pushed)
   pub of_popper : v.pops ≡ true → (place ≡ popper) × (v.popped ≡ popped)

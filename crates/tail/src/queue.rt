@@ -51,7 +51,8 @@ impl<A: Memory> Model for Pusher<A> {
 
     ghost view = { λ s. record { queue = name_of A.stored (queue_of s.pass); records = s.pass.me.view.client.pushed } };
 
-    ghost invariant = { λ s. IsSegPassOf (queue_of s.pass) s.pass × (s.pass.me.view.client ≡ push_end s.pass.me.view.client.pushed) };
+    ghost invariant = { λ s. IsSegPassOf (queue_of s.pass) s.pass
+        × (s.pass.me.view.client ≡ push_end s.pass.me.view.client.pushed) };
 }
 
 /// The end that pops. To a contract it is its queue, and all that was popped.
@@ -73,7 +74,8 @@ impl<A: Memory> Model for Popper<A> {
 
     ghost view = { λ s. record { queue = name_of A.stored (queue_of s.pass); records = s.pass.me.view.client.popped } };
 
-    ghost invariant = { λ s. IsSegPassOf (queue_of s.pass) s.pass × (s.pass.me.view.client ≡ pop_end s.pass.me.view.client.popped) };
+    ghost invariant = { λ s. IsSegPassOf (queue_of s.pass) s.pass
+        × (s.pass.me.view.client ≡ pop_end s.pass.me.view.client.popped) };
 }
 
 impl<A: Memory> RecordQueue<A> {
@@ -93,8 +95,8 @@ impl<A: Memory> RecordQueue<A> {
         ))
     }
 
-    /// Compares the two ends, where one thread holds both, as under a lock: what was popped is the first of what was pushed, in
-    /// order. Neither end changes.
+    /// Compares the two ends, where one thread holds both, as under a lock: what was popped is the first of what was
+    /// pushed, in order. Neither end changes.
     pub fn compare<R: Wait>(&self, rt: &R, pusher: &mut Pusher<A>, popper: &mut Popper<A>)
         requires pusher { pusher.old.queue ≡ self.now }
         requires popper { popper.old.queue ≡ self.now }
@@ -118,8 +120,8 @@ impl<A: Memory> RecordQueue<A> {
 }
 
 impl<A: Memory> Pusher<A> {
-    /// Pushes a record behind those that were pushed before. Where there is no memory for it, or nearly 2^62 were pushed, it
-    /// comes back, and nothing was pushed.
+    /// Pushes a record behind those that were pushed before. Where there is no memory for it, or nearly 2^62 were
+    /// pushed, it comes back, and nothing was pushed.
     pub fn push<R: Wait>(
         &mut self,
         rt: &R,
@@ -139,7 +141,8 @@ impl<A: Memory> Popper<A> {
     /// Pops the oldest record that waits, or finds none.
     pub fn pop<R: Wait>(&mut self, rt: &R, queue: &RecordQueue<A>) -> Option<Record>
         requires { self.old.queue ≡ queue.now }
-        ensures { MatchOption result (self.new ≡ self.old) (λ item. self.new ≡ record self.old { records = self.old.records ++ item ∷ [] }) }
+        ensures { MatchOption result (self.new ≡ self.old) (λ item.
+            self.new ≡ record self.old { records = self.old.records ++ item ∷ [] }) }
     {
         queue.queue.pop_as::<Popped, R>(rt, &mut self.pass)
     }

@@ -1,4 +1,5 @@
-//! The calls of a seat that have long contracts, each with the test before it. That the seat keeps its number is all that is promised here.
+//! The calls of a seat that have long contracts, each with the test before it. That the seat keeps its number is all
+//! that is promised here.
 ghost use Rattle.std.specs.Prelude.{◌≡◌};
 
 use demonstration::key_of;

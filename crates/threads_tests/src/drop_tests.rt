@@ -1,5 +1,5 @@
-//! The loop that builds an index ends where the index is dropped. What a thread without a seat reads of the board, and that it may ask
-//! all to stop.
+//! The loop that builds an index ends where the index is dropped. What a thread without a seat reads of the board, and
+//! that it may ask all to stop.
 ghost use Rattle.std.specs.Prelude.{◌≡◌};
 
 use crate::example::formatted;

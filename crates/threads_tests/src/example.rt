@@ -1,5 +1,6 @@
-//! README's example: a row is put while other threads build the index, clean it and write to the device, and then another one; the
-//! power fails, and the rows are there, with their entries. So it is of a store that an engine served before.
+//! README's example: a row is put while other threads build the index, clean it and write to the device, and then
+//! another one; the power fails, and the rows are there, with their entries. So it is of a store that an engine served
+//! before.
 ghost use Rattle.std.specs.Prelude.{◌≡◌};
 
 use demonstration::{Found, look};

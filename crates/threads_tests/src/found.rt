@@ -14,8 +14,8 @@ pub type Disk = FaultDisk<MemDisk<Global>>;
 // So many writes and syncs are made where a new store of eight pages and 16 slots is opened.
 const OPENING: u64 = 151;
 
-/// A disk with a new store of eight pages, whose write or sync of this number behind the opening fails, if there is a number. The number
-/// of the last one within the opening is 0.
+/// A disk with a new store of eight pages, whose write or sync of this number behind the opening fails, if there is a
+/// number. The number of the last one within the opening is 0.
 pub fn failing(alloc: Global, behind: Option<u64>) -> Result<Disk, Error> {
     let disk = formatted(alloc, Geometry::new(8, 1_024, 16)?, 16_384)?;
     let fails_at = match behind {
@@ -57,8 +57,8 @@ fn count_there(core: &Core<Global>, rows: &[Put]) -> Result<u32, Error> {
     Ok(there)
 }
 
-/// What a restart finds: how many rows are lost that were told to be safe, how many are there that were told to be gone, and how many
-/// marked entries there are.
+/// What a restart finds: how many rows are lost that were told to be safe, how many are there that were told to be
+/// gone, and how many marked entries there are.
 #[derive(Debug, Drop, PartialEq)]
 pub struct Behind {
     pub lost: u32,

@@ -1,7 +1,7 @@
 //! Tests of a store under many threads, and of the program `nsf-threads`.
 //!
-//! Writers, flusher, builder and cleaner share a store, are held at gates, meet devices that fail, and a dropping while the index
-//! is built. Proved of them is safety.
+//! Writers, flusher, builder and cleaner share a store, are held at gates, meet devices that fail, and a dropping while
+//! the index is built. Proved of them is safety.
 #![tactic(auto)]
 
 #[cfg(test)]

@@ -24,9 +24,9 @@ use std::thread::Threads;
 // Of the writers, of one that looks at the index behind them, and of the loops.
 const SEATS: usize = WRITERS as usize + 2;
 
-/// What was seen: how many tickets of the writers were acknowledged, and how many refused for the device's failure; what else was refused
-/// to them; how the flusher ended, and all threads; whether the index found a row, and the builder told attempts, where loops were
-/// held; and what a crash left.
+/// What was seen: how many tickets of the writers were acknowledged, and how many refused for the device's failure;
+/// what else was refused to them; how the flusher ended, and all threads; whether the index found a row, and the
+/// builder told attempts, where loops were held; and what a crash left.
 #[derive(Debug, Drop, PartialEq)]
 pub struct Seen {
     pub acknowledged: u32,
@@ -59,15 +59,16 @@ fn run_loops<B: Group + Send + Sync, D: Device + Send + Drop, R: Threads + Wait 
     stage: &Stage<'_, R>,
 ) -> Ended<B, D, Vec<Writer<B>>>
     ensures len { vec_len result.clients ≡ vec_len writers }
-    ensures numbers { (k : ℕ) (w : _) → k < vec_len writers → (slice_index_or result.clients.items k w).seat.number ≡ (slice_index_or writers.items k w).seat.number }
+    ensures numbers { (k : ℕ) (w : _) → k < vec_len writers
+        → (slice_index_or result.clients.items k w).seat.number ≡ (slice_index_or writers.items k w).seat.number }
     ensures last { result.seat.number ≡ last.number }
 {
     let client = move || write_all(rt, shared, writers, stage);
     run_beside(rt, shared, last, flush, build, stage, client)
 }
 
-// The device, and what was refused at the end. What else is left is not let go: to prove its destructors here would cost more than the
-// test.
+// The device, and what was refused at the end. What else is left is not let go: to prove its destructors here would
+// cost more than the test.
 fn close<B: Group, D: Device, R: Wait>(
     rt: &R,
     alloc: Global,

@@ -1,4 +1,5 @@
-//! Seats wait for no loop, and go on where the device fails; the cleaner takes marked entries out, and the builder tells its progress.
+//! Seats wait for no loop, and go on where the device fails; the cleaner takes marked entries out, and the builder
+//! tells its progress.
 use crate::found::Behind;
 use crate::scene::{Seen, play};
 use crate::stage::{Place, Stage};
@@ -15,9 +16,10 @@ const AT_FIRST: (Place, Place) = (Place::Sync, Place::At(Point::BuildScanned));
 // The first time that the flusher is to copy a chunk, and that the builder has tried a pair.
 const AT_COPIES: (Place, Place) = (Place::At(Point::CopyStep), Place::At(Point::BuildAttempt));
 
-// While flusher and builder are held at once, a seat inserts and reads; and while the builder stays there, it deletes what was scanned,
-// its commit is acknowledged, and the cleaner goes on. All commits of the writers are acknowledged, all is written out, and behind a crash
-// each row is as the commits left it. Once the index is complete it finds a row, no entry that was marked is left, and attempts were told.
+// While flusher and builder are held at once, a seat inserts and reads; and while the builder stays there, it deletes
+// what was scanned, its commit is acknowledged, and the cleaner goes on. All commits of the writers are acknowledged,
+// all is written out, and behind a crash each row is as the commits left it. Once the index is complete it finds a row,
+// no entry that was marked is left, and attempts were told.
 #[test]
 fn loops_that_are_held_hold_no_seat(rt: HostRuntime) -> Result<(), Fail> {
     let wanted = Seen {
@@ -44,9 +46,10 @@ fn loops_that_are_held_hold_no_seat(rt: HostRuntime) -> Result<(), Fail> {
     Ok(())
 }
 
-// Where the last write or sync of the opening fails, no store is opened. Where one fails, this far behind it, while both loops are held, the
-// flusher is told so, each ticket that is not reached, and the end, which gives the device back. The writers make all their steps, and
-// behind a crash and a restart each row is as the acknowledged commits left it.
+// Where the last write or sync of the opening fails, no store is opened. Where one fails, this far behind it, while
+// both loops are held, the flusher is told so, each ticket that is not reached, and the end, which gives the device
+// back. The writers make all their steps, and behind a crash and a restart each row is as the acknowledged commits left
+// it.
 #[test]
 fn what_is_acknowledged_is_kept(rt: HostRuntime) -> Result<(), Fail> {
     let (flusher, builder) = AT_FIRST;

@@ -35,7 +35,8 @@ const LEADING: u16 = 102;
 
 const ENDING: u16 = 103;
 
-// The place of the first row of the store, which the builder scans first, and of the second one, with the first half of their keys.
+// The place of the first row of the store, which the builder scans first, and of the second one, with the first half of
+// their keys.
 const FIRST_ROW: Rid = Rid { page: 0, slot: 0 };
 
 const SECOND_ROW: Rid = Rid { page: 0, slot: 1 };
@@ -50,9 +51,9 @@ pub struct Put {
     pub second: u16,
 }
 
-/// A writer: its seat and number; the rows that it was told to be safe, and those that it was told to be gone, or took back itself; how
-/// many tickets were acknowledged, and how many were refused for the device's failure; what else was refused; and what it saw of the
-/// index.
+/// A writer: its seat and number; the rows that it was told to be safe, and those that it was told to be gone, or took
+/// back itself; how many tickets were acknowledged, and how many were refused for the device's failure; what else was
+/// refused; and what it saw of the index.
 #[derive(Drop)]
 pub struct Writer<B: Group> {
     pub seat: Seat<B>,
@@ -76,7 +77,8 @@ pub struct Told {
     pub built: Built,
 }
 
-/// What is seen of the index once it is complete: whether it finds a row at its place alone, and whether the builder has told attempts.
+/// What is seen of the index once it is complete: whether it finds a row at its place alone, and whether the builder
+/// has told attempts.
 #[derive(Clone, Copy)]
 pub struct Built {
     pub found: bool,
@@ -169,9 +171,9 @@ fn fill<B: Group, R: Wait + Clock>(
     Ok(())
 }
 
-// While both loops are held, a row is inserted and read back. Then the flusher is let go, and while the builder is held a row that it has
-// scanned is deleted, the commit is acknowledged, and the cleaner goes on twice. Whether it was acknowledged, and not refused for the
-// device's failure.
+// While both loops are held, a row is inserted and read back. Then the flusher is let go, and while the builder is held
+// a row that it has scanned is deleted, the commit is acknowledged, and the cleaner goes on twice. Whether it was
+// acknowledged, and not refused for the device's failure.
 fn lead<B: Group, R: Wait + Clock>(
     rt: &R,
     shared: &Shared<B>,
@@ -200,7 +202,8 @@ fn lead<B: Group, R: Wait + Clock>(
 
 // ---- the writers
 
-// Notes what a writer was told of a row, and of the one that its transaction deleted. Nothing is acknowledged behind a failure.
+// Notes what a writer was told of a row, and of the one that its transaction deleted. Nothing is acknowledged behind a
+// failure.
 fn note<B: Group>(
     writer: &mut Writer<B>,
     put: Put,
@@ -229,7 +232,8 @@ fn note<B: Group>(
     }
 }
 
-// A transaction that is kept: a row is put, and the one before, if it is to be deleted, is no longer among those that are there.
+// A transaction that is kept: a row is put, and the one before, if it is to be deleted, is no longer among those that
+// are there.
 fn keep_row<B: Group, R: Wait>(
     rt: &R,
     shared: &Shared<B>,
@@ -254,8 +258,8 @@ fn keep_row<B: Group, R: Wait>(
     Ok(put)
 }
 
-// A writer puts a row in each transaction. In each third of four it deletes the row before, and each fourth it takes back. It waits for
-// each commit, and goes on where the device has failed.
+// A writer puts a row in each transaction. In each third of four it deletes the row before, and each fourth it takes
+// back. It waits for each commit, and goes on where the device has failed.
 fn write_rows<B: Group, R: Wait>(
     rt: &R,
     shared: &Shared<B>,
@@ -380,7 +384,8 @@ pub fn write_all<B: Group + Send + Sync, R: Threads + Wait + Clock + Sync>(
     stage: &Stage<'_, R>,
 ) -> Vec<Writer<B>>
     ensures len { vec_len result ≡ vec_len writers }
-    ensures numbers { (k : ℕ) (w : _) → k < vec_len writers → (slice_index_or result.items k w).seat.number ≡ (slice_index_or writers.items k w).seat.number }
+    ensures numbers { (k : ℕ) (w : _) → k < vec_len writers
+        → (slice_index_or result.items k w).seat.number ≡ (slice_index_or writers.items k w).seat.number }
 {
     for_each_mut(
         rt,
@@ -463,8 +468,8 @@ fn finds_row<B: Group, R: Wait>(rt: &R, shared: &Shared<B>) -> Result<bool, Erro
     Ok(found.as_slice() == [SECOND_ROW].as_slice())
 }
 
-// Waits until the index is complete, and until one that is made in its place is; a row is deleted, and the cleaner takes its entry
-// away.
+// Waits until the index is complete, and until one that is made in its place is; a row is deleted, and the cleaner
+// takes its entry away.
 fn end<B: Group, R: Wait + Clock>(
     rt: &R,
     shared: &Shared<B>,

@@ -50,7 +50,8 @@ impl Hold {
     }
 }
 
-/// Where flusher and builder are held, once they are to be; how many steps the cleaner has begun, and how many writers have ended.
+/// Where flusher and builder are held, once they are to be; how many steps the cleaner has begun, and how many writers
+/// have ended.
 #[derive(Drop)]
 pub struct Stage<'a, R> {
     rt: &'a R,

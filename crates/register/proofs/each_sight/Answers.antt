@@ -5,7 +5,8 @@ pub returns-clause-ready : goal.returns-clause-ready
 returns-clause-ready c = ready
 
 pub returns-clause-unfinished : goal.returns-clause-unfinished
-returns-clause-unfinished c = λ o can pushed core book r seat p there t a change found is. unfinished_here o can pushed core book r seat p there t a found change is
+returns-clause-unfinished c = λ o can pushed core book r seat p there t a change found is.
+    unfinished_here o can pushed core book r seat p there t a found change is
 
 pub returns-clause-rows : goal.returns-clause-rows
 returns-clause-rows c = λ o can pushed core book r seat p there t a rid row found is. rows_here o can pushed core book r seat p there t a found rid row is

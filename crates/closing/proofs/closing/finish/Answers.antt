@@ -24,12 +24,16 @@ returns-in-Ok-clause-commits g c =
     let first = (locked_of c.into_parts-locked.result.0).book in
     let same = c.close.ensures.book ∙ ap (λ (x : LockedValue). x.book) c.compare_all.ensures.same in
     let book = book_is z.seats first l.book under.book.items seats under.seats refl same c.requires.seats c.compare_all.ensures.seen in
-    let popped : popped_by old ≡ take (length (popped_by old)) l.pushed = subst (λ (x : FlushValue _ _). popped_by x ≡ take (length (popped_by x)) l.pushed) c.settle_all.ensures.same c.close.ensures.popped in
-    let writes : WritesOn history failures z.opened old f = subst (λ (x : FlushValue _ _). WritesOn history failures z.opened x f) c.settle_all.ensures.same c.close.ensures.writes in
+    let popped : popped_by old ≡ take (length (popped_by old)) l.pushed =
+    subst (λ (x : FlushValue _ _). popped_by x ≡ take (length (popped_by x)) l.pushed) c.settle_all.ensures.same c.close.ensures.popped in
+    let writes : WritesOn history failures z.opened old f =
+    subst (λ (x : FlushValue _ _). WritesOn history failures z.opened x f) c.settle_all.ensures.same c.close.ensures.writes in
     let core = c.into_parts-core.ensures.core in
     let commits = c.in-Ok.commits.items in
-    let from = subst (λ (ss : List SeatValue). (count : ℕ) (all : AreAllCommits (sessions_of ss) count) → commits ≡ map (λ (e : ℕ × CommitValue). e.1) all.commits) c.compare_all.ensures.seats c.in-Ok.ensures.gathered in
-    commits_closed history z.opened seats l book under.shared (popped_by old) popped (value_of c.into_parts-core.result.0) core c.in-Ok.ensures.none_waits commits from
+    let from = subst (λ (ss : List SeatValue). (count : ℕ) (all : AreAllCommits (sessions_of ss) count)
+    → commits ≡ map (λ (e : ℕ × CommitValue). e.1) all.commits) c.compare_all.ensures.seats c.in-Ok.ensures.gathered in
+    commits_closed history z.opened seats l book under.shared (popped_by old) popped
+    (value_of c.into_parts-core.result.0) core c.in-Ok.ensures.none_waits commits from
 
 pub returns-in-Ok-clause-core : goal.returns-in-Ok-clause-core
 returns-in-Ok-clause-core g c =
@@ -44,12 +48,16 @@ returns-in-Ok-clause-core g c =
     let first = (locked_of c.into_parts-locked.result.0).book in
     let same = c.close.ensures.book ∙ ap (λ (x : LockedValue). x.book) c.compare_all.ensures.same in
     let book = book_is z.seats first l.book under.book.items seats under.seats refl same c.requires.seats c.compare_all.ensures.seen in
-    let popped : popped_by old ≡ take (length (popped_by old)) l.pushed = subst (λ (x : FlushValue _ _). popped_by x ≡ take (length (popped_by x)) l.pushed) c.settle_all.ensures.same c.close.ensures.popped in
-    let writes : WritesOn history failures z.opened old f = subst (λ (x : FlushValue _ _). WritesOn history failures z.opened x f) c.settle_all.ensures.same c.close.ensures.writes in
+    let popped : popped_by old ≡ take (length (popped_by old)) l.pushed =
+    subst (λ (x : FlushValue _ _). popped_by x ≡ take (length (popped_by x)) l.pushed) c.settle_all.ensures.same c.close.ensures.popped in
+    let writes : WritesOn history failures z.opened old f =
+    subst (λ (x : FlushValue _ _). WritesOn history failures z.opened x f) c.settle_all.ensures.same c.close.ensures.writes in
     let core = c.into_parts-core.ensures.core in
     let commits = c.in-Ok.commits.items in
-    let from = subst (λ (ss : List SeatValue). (count : ℕ) (all : AreAllCommits (sessions_of ss) count) → commits ≡ map (λ (e : ℕ × CommitValue). e.1) all.commits) c.compare_all.ensures.seats c.in-Ok.ensures.gathered in
-    core_closed history z.opened seats l book under.shared (popped_by old) popped (value_of c.into_parts-core.result.0) core c.in-Ok.ensures.none_waits commits from
+    let from = subst (λ (ss : List SeatValue). (count : ℕ) (all : AreAllCommits (sessions_of ss) count)
+    → commits ≡ map (λ (e : ℕ × CommitValue). e.1) all.commits) c.compare_all.ensures.seats c.in-Ok.ensures.gathered in
+    core_closed history z.opened seats l book under.shared (popped_by old) popped
+    (value_of c.into_parts-core.result.0) core c.in-Ok.ensures.none_waits commits from
 
 pub returns-in-Ok-clause-device : goal.returns-in-Ok-clause-device
 returns-in-Ok-clause-device g c =
@@ -64,12 +72,17 @@ returns-in-Ok-clause-device g c =
     let first = (locked_of c.into_parts-locked.result.0).book in
     let same = c.close.ensures.book ∙ ap (λ (x : LockedValue). x.book) c.compare_all.ensures.same in
     let book = book_is z.seats first l.book under.book.items seats under.seats refl same c.requires.seats c.compare_all.ensures.seen in
-    let popped : popped_by old ≡ take (length (popped_by old)) l.pushed = subst (λ (x : FlushValue _ _). popped_by x ≡ take (length (popped_by x)) l.pushed) c.settle_all.ensures.same c.close.ensures.popped in
-    let writes : WritesOn history failures z.opened old f = subst (λ (x : FlushValue _ _). WritesOn history failures z.opened x f) c.settle_all.ensures.same c.close.ensures.writes in
+    let popped : popped_by old ≡ take (length (popped_by old)) l.pushed =
+    subst (λ (x : FlushValue _ _). popped_by x ≡ take (length (popped_by x)) l.pushed) c.settle_all.ensures.same c.close.ensures.popped in
+    let writes : WritesOn history failures z.opened old f =
+    subst (λ (x : FlushValue _ _). WritesOn history failures z.opened x f) c.settle_all.ensures.same c.close.ensures.writes in
     let core = c.into_parts-core.ensures.core in
     let commits = c.in-Ok.commits.items in
-    let from = subst (λ (ss : List SeatValue). (count : ℕ) (all : AreAllCommits (sessions_of ss) count) → commits ≡ map (λ (e : ℕ × CommitValue). e.1) all.commits) c.compare_all.ensures.seats c.in-Ok.ensures.gathered in
-    all_at_end history failures z.opened seats l book under.shared (popped_by old) popped old f writes c.into_parts-device.result.0 c.into_parts-device.ensures.device (value_of c.into_parts-core.result.0) core c.in-Ok.ensures.none_waits commits from
+    let from = subst (λ (ss : List SeatValue). (count : ℕ) (all : AreAllCommits (sessions_of ss) count)
+    → commits ≡ map (λ (e : ℕ × CommitValue). e.1) all.commits) c.compare_all.ensures.seats c.in-Ok.ensures.gathered in
+    all_at_end history failures z.opened seats l book under.shared
+    (popped_by old) popped old f writes c.into_parts-device.result.0 c.into_parts-device.ensures.device
+    (value_of c.into_parts-core.result.0) core c.in-Ok.ensures.none_waits commits from
     c.each_hold.ensures.last c.each_hold.ensures.cells c.in-Ok.ensures.all c.in-Ok.ensures.synced c.into_parts-device.ensures.images
 
 pub returns-in-Ok-clause-horizon : goal.returns-in-Ok-clause-horizon
@@ -85,18 +98,24 @@ returns-in-Ok-clause-horizon g c =
     let first = (locked_of c.into_parts-locked.result.0).book in
     let same = c.close.ensures.book ∙ ap (λ (x : LockedValue). x.book) c.compare_all.ensures.same in
     let book = book_is z.seats first l.book under.book.items seats under.seats refl same c.requires.seats c.compare_all.ensures.seen in
-    let popped : popped_by old ≡ take (length (popped_by old)) l.pushed = subst (λ (x : FlushValue _ _). popped_by x ≡ take (length (popped_by x)) l.pushed) c.settle_all.ensures.same c.close.ensures.popped in
-    let writes : WritesOn history failures z.opened old f = subst (λ (x : FlushValue _ _). WritesOn history failures z.opened x f) c.settle_all.ensures.same c.close.ensures.writes in
+    let popped : popped_by old ≡ take (length (popped_by old)) l.pushed =
+    subst (λ (x : FlushValue _ _). popped_by x ≡ take (length (popped_by x)) l.pushed) c.settle_all.ensures.same c.close.ensures.popped in
+    let writes : WritesOn history failures z.opened old f =
+    subst (λ (x : FlushValue _ _). WritesOn history failures z.opened x f) c.settle_all.ensures.same c.close.ensures.writes in
     let core = c.into_parts-core.ensures.core in
     let commits = c.in-Ok.commits.items in
-    let from = subst (λ (ss : List SeatValue). (count : ℕ) (all : AreAllCommits (sessions_of ss) count) → commits ≡ map (λ (e : ℕ × CommitValue). e.1) all.commits) c.compare_all.ensures.seats c.in-Ok.ensures.gathered in
-    c.synced-horizon.ensures ∙ horizon_closed history z.opened seats l book under.shared (popped_by old) popped (value_of c.into_parts-core.result.0) core c.in-Ok.ensures.none_waits commits from c.each_hold.ensures.last (halves_of f.writer).geometry f.handed (synced_of f.writer) c.in-Ok.ensures.all c.in-Ok.ensures.synced
+    let from = subst (λ (ss : List SeatValue). (count : ℕ) (all : AreAllCommits (sessions_of ss) count)
+    → commits ≡ map (λ (e : ℕ × CommitValue). e.1) all.commits) c.compare_all.ensures.seats c.in-Ok.ensures.gathered in
+    c.synced-horizon.ensures ∙ horizon_closed history z.opened seats l book under.shared (popped_by old) popped
+    (value_of c.into_parts-core.result.0) core c.in-Ok.ensures.none_waits commits from c.each_hold.ensures.last (halves_of f.writer).geometry f.handed
+    (synced_of f.writer) c.in-Ok.ensures.all c.in-Ok.ensures.synced
 
 pub returns-in-Ok-clause-sound : goal.returns-in-Ok-clause-sound
 returns-in-Ok-clause-sound g c =
     let z = g.B.Group.site in
     let writes : WritesOn g.D.Device.history g.D.Device.failures z.opened c.args.flush c.close.new.flush =
-    subst (λ (x : FlushValue _ _). WritesOn g.D.Device.history g.D.Device.failures z.opened x c.close.new.flush) c.settle_all.ensures.same c.close.ensures.writes in
+    subst (λ (x : FlushValue _ _). WritesOn g.D.Device.history g.D.Device.failures z.opened x c.close.new.flush) c.settle_all.ensures.same
+    c.close.ensures.writes in
     writes.stays c.in-Ok.ensures.sound
 
 pub returns-in-Ok-clause-images : goal.returns-in-Ok-clause-images
@@ -112,9 +131,12 @@ returns-in-Ok-clause-images g c =
     let first = (locked_of c.into_parts-locked.result.0).book in
     let same = c.close.ensures.book ∙ ap (λ (x : LockedValue). x.book) c.compare_all.ensures.same in
     let book = book_is z.seats first l.book under.book.items seats under.seats refl same c.requires.seats c.compare_all.ensures.seen in
-    let popped : popped_by old ≡ take (length (popped_by old)) l.pushed = subst (λ (x : FlushValue _ _). popped_by x ≡ take (length (popped_by x)) l.pushed) c.settle_all.ensures.same c.close.ensures.popped in
-    let writes : WritesOn history failures z.opened old f = subst (λ (x : FlushValue _ _). WritesOn history failures z.opened x f) c.settle_all.ensures.same c.close.ensures.writes in
-    left_at_end history failures z.opened seats l book under.shared (popped_by old) popped old f writes c.into_parts-device.result.0 c.into_parts-device.ensures.device c.close.ensures.beginning
+    let popped : popped_by old ≡ take (length (popped_by old)) l.pushed =
+    subst (λ (x : FlushValue _ _). popped_by x ≡ take (length (popped_by x)) l.pushed) c.settle_all.ensures.same c.close.ensures.popped in
+    let writes : WritesOn history failures z.opened old f =
+    subst (λ (x : FlushValue _ _). WritesOn history failures z.opened x f) c.settle_all.ensures.same c.close.ensures.writes in
+    left_at_end history failures z.opened seats l book under.shared
+    (popped_by old) popped old f writes c.into_parts-device.result.0 c.into_parts-device.ensures.device c.close.ensures.beginning
 
 pub returns-in-Err-clause-left : goal.returns-in-Err-clause-left
 returns-in-Err-clause-left g c =
@@ -129,9 +151,12 @@ returns-in-Err-clause-left g c =
     let first = (locked_of c.into_parts-locked.result.0).book in
     let same = c.close.ensures.book ∙ ap (λ (x : LockedValue). x.book) c.compare_all.ensures.same in
     let book = book_is z.seats first l.book under.book.items seats under.seats refl same c.requires.seats c.compare_all.ensures.seen in
-    let popped : popped_by old ≡ take (length (popped_by old)) l.pushed = subst (λ (x : FlushValue _ _). popped_by x ≡ take (length (popped_by x)) l.pushed) c.settle_all.ensures.same c.close.ensures.popped in
-    let writes : WritesOn history failures z.opened old f = subst (λ (x : FlushValue _ _). WritesOn history failures z.opened x f) c.settle_all.ensures.same c.close.ensures.writes in
-    left_at_end history failures z.opened seats l book under.shared (popped_by old) popped old f writes c.into_parts-rest.result.0 c.into_parts-rest.ensures.device c.close.ensures.beginning
+    let popped : popped_by old ≡ take (length (popped_by old)) l.pushed =
+    subst (λ (x : FlushValue _ _). popped_by x ≡ take (length (popped_by x)) l.pushed) c.settle_all.ensures.same c.close.ensures.popped in
+    let writes : WritesOn history failures z.opened old f =
+    subst (λ (x : FlushValue _ _). WritesOn history failures z.opened x f) c.settle_all.ensures.same c.close.ensures.writes in
+    left_at_end history failures z.opened seats l book under.shared
+    (popped_by old) popped old f writes c.into_parts-rest.result.0 c.into_parts-rest.ensures.device c.close.ensures.beginning
 
 pub returns-in-Err-clause-err : goal.returns-in-Err-clause-err
 returns-in-Err-clause-err g c =
@@ -146,19 +171,25 @@ returns-in-Err-clause-err g c =
     let first = (locked_of c.into_parts-locked.result.0).book in
     let same = c.close.ensures.book ∙ ap (λ (x : LockedValue). x.book) c.compare_all.ensures.same in
     let book = book_is z.seats first l.book under.book.items seats under.seats refl same c.requires.seats c.compare_all.ensures.seen in
-    let popped : popped_by old ≡ take (length (popped_by old)) l.pushed = subst (λ (x : FlushValue _ _). popped_by x ≡ take (length (popped_by x)) l.pushed) c.settle_all.ensures.same c.close.ensures.popped in
-    let writes : WritesOn history failures z.opened old f = subst (λ (x : FlushValue _ _). WritesOn history failures z.opened x f) c.settle_all.ensures.same c.close.ensures.writes in
-    failed_at_end history failures z.opened seats l book under.shared (popped_by old) popped old f writes c.into_parts-rest.result.0 c.into_parts-rest.ensures.device c.in-Err.error c.told-why.result c.in-Err.ensures.err c.told-why.ensures.failed c.told-why.ensures.sound
+    let popped : popped_by old ≡ take (length (popped_by old)) l.pushed =
+    subst (λ (x : FlushValue _ _). popped_by x ≡ take (length (popped_by x)) l.pushed) c.settle_all.ensures.same c.close.ensures.popped in
+    let writes : WritesOn history failures z.opened old f =
+    subst (λ (x : FlushValue _ _). WritesOn history failures z.opened x f) c.settle_all.ensures.same c.close.ensures.writes in
+    failed_at_end history failures z.opened seats l book under.shared
+    (popped_by old) popped old f writes c.into_parts-rest.result.0 c.into_parts-rest.ensures.device c.in-Err.error c.told-why.result c.in-Err.ensures.err
+    c.told-why.ensures.failed c.told-why.ensures.sound
 
 pub returns-in-Err-clause-later : goal.returns-in-Err-clause-later
 returns-in-Err-clause-later g c =
     let z = g.B.Group.site in
     let writes : WritesOn g.D.Device.history g.D.Device.failures z.opened c.args.flush c.close.new.flush =
-    subst (λ (x : FlushValue _ _). WritesOn g.D.Device.history g.D.Device.failures z.opened x c.close.new.flush) c.settle_all.ensures.same c.close.ensures.writes in
+    subst (λ (x : FlushValue _ _). WritesOn g.D.Device.history g.D.Device.failures z.opened x c.close.new.flush) c.settle_all.ensures.same
+    c.close.ensures.writes in
     subst (λ d. g.D.Device.failures (device_of c.args.flush.writer) ≤ g.D.Device.failures d) (sym c.into_parts-rest.ensures.device) writes.later
 
 pub returns-in-Ok-clause-acks : goal.returns-in-Ok-clause-acks
 returns-in-Ok-clause-acks g c = λ k ack within.
     let writes : WritesOn g.D.Device.history g.D.Device.failures g.B.Group.site.opened c.args.flush c.close.new.flush =
-    subst (λ (x : FlushValue _ _). WritesOn g.D.Device.history g.D.Device.failures g.B.Group.site.opened x c.close.new.flush) c.settle_all.ensures.same c.close.ensures.writes in
+    subst (λ (x : FlushValue _ _). WritesOn g.D.Device.history g.D.Device.failures g.B.Group.site.opened x c.close.new.flush) c.settle_all.ensures.same
+    c.close.ensures.writes in
     omega (arith, c.settle_all.ensures.reached k ack within, writes.rises, c.synced-horizon.ensures)

@@ -13,7 +13,8 @@ loop-k-preserved g c =
     let seat = c.index_mut-seat.result.now in
     let at : slice_get items k ≡ Some seat = get_read items k seat (omega (arith, ap length was.seats)) c.index_mut-seat.ensures.value in
     record {
-      seen = seen_more (locked_of c.args.locked.now).book c.args.seats.now.items k seat (ap (λ l. slice_get l k) (sym was.seats) ∙ at) was.seen (ap (λ (l : LockedValue). slice_get l.book seat.number) (sym was.same) ∙ c.compare.ensures.before);
+      seen = seen_more (locked_of c.args.locked.now).book c.args.seats.now.items k seat (ap (λ l. slice_get l k) (sym was.seats)
+          ∙ at) was.seen (ap (λ (l : LockedValue). slice_get l.book seat.number) (sym was.same) ∙ c.compare.ensures.before);
       seats = seats_kept items k seat c.compare.new.self at c.compare.ensures.seat ∙ was.seats;
       same = c.compare.ensures.same ∙ was.same;
     }

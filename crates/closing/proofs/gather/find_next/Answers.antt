@@ -8,7 +8,8 @@ use Rattle.closing.proofs.gather.find_next.Goals as goal
 pub loop-k-preserved : goal.loop-k-preserved
 loop-k-preserved g c = λ j list lt at. elim (cases_eq j c.loop-k.k) [
   | inl is ↦
-      let same = list_at c.args.lists.now c.loop-k.k c.index-lists-k.result list c.index-lists-k.is (ap (slice_get (lists_of c.args.lists.now)) (sym is) ∙ at) in
+      let same = list_at c.args.lists.now c.loop-k.k c.index-lists-k.result list c.index-lists-k.is (ap (slice_get (lists_of c.args.lists.now)) (sym is)
+      ∙ at) in
       ap (heads_with c.args.number) (same ∙ ap reverse (sym c.deref.ensures.value)) ∙ (sym c.heads.ensures ∙ c.if-heads.false)
   | inr not ↦ c.loop-k.invariant j list (omega arith) at
 ]

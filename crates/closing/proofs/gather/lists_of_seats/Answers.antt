@@ -19,5 +19,6 @@ loop-seat-preserved g c =
           ap lists_of c.in_ok-push.ensures.items
           ∙ (map_more (λ (v : Vec CommitValue _). reverse v.items) c.loop-seat.lists.items c.reverse.new.self
           ∙ ((λ i. was.lists i ++ commits i ∷ [])
-          ∙ sym (ap commits_of (map_more (λ (s : SeatValue). s.session) c.loop-seat.yielded c.in-Some.seat) ∙ map_more (λ (s : SessionValue). s.commits) (sessions_of c.loop-seat.yielded) c.in-Some.seat.session)));
+          ∙ sym (ap commits_of (map_more (λ (s : SeatValue). s.session) c.loop-seat.yielded c.in-Some.seat)
+          ∙ map_more (λ (s : SessionValue). s.commits) (sessions_of c.loop-seat.yielded) c.in-Some.seat.session)));
     }

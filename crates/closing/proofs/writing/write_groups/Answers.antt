@@ -6,7 +6,10 @@ use Rattle.closing.proofs.Going.{quiet_flush, writes_by_call, writes_nothing, wr
 use Rattle.closing.proofs.writing.write_groups.Goals as goal
 
 pub loop-flush-init : goal.loop-flush-init
-loop-flush-init g c = record { writes = writes_nothing g.D.Device.history g.D.Device.failures g.B.Group.site.opened c.args.flush.now c.stands.ensures; handed = refl }
+loop-flush-init g c = record {
+  writes = writes_nothing g.D.Device.history g.D.Device.failures g.B.Group.site.opened c.args.flush.now c.stands.ensures;
+  handed = refl;
+}
 
 pub returns-in_err-flush-clause-writes : goal.returns-in_err-flush-clause-writes
 returns-in_err-flush-clause-writes g c =
@@ -17,8 +20,10 @@ returns-in_err-flush-clause-writes g c =
     let new = c.flush.new.self in
     let is = c.flush.ensures in
     writes_then history failures o c.args.flush.now old new c.loop-flush.invariant.writes
-    (writes_by_call history failures o old new is.publishes (ap (λ (h : HalvesValue). h.geometry) is.around.halves-are) (flush_rises failures old.writer new.writer c.flush.result is.flushed is.kept) is.images is.later
-    (counted_by_flush failures old.writer new.writer c.flush.result is.sound is.err) (flush_sound failures old.writer new.writer c.flush.result is.sound is.err) (quiet_flush failures old.writer new.writer c.flush.result is.quiet is.err))
+    (writes_by_call history failures o old new is.publishes (ap (λ (h : HalvesValue). h.geometry) is.around.halves-are)
+    (flush_rises failures old.writer new.writer c.flush.result is.flushed is.kept) is.images is.later
+    (counted_by_flush failures old.writer new.writer c.flush.result is.sound is.err) (flush_sound failures old.writer new.writer c.flush.result is.sound is.err)
+    (quiet_flush failures old.writer new.writer c.flush.result is.quiet is.err))
 
 pub loop-flush-preserved : goal.loop-flush-preserved
 loop-flush-preserved g c =
@@ -30,8 +35,11 @@ loop-flush-preserved g c =
     let is = c.flush.ensures in record {
       writes =
           writes_then history failures o c.args.flush.now old new c.loop-flush.invariant.writes
-          (writes_by_call history failures o old new is.publishes (ap (λ (h : HalvesValue). h.geometry) is.around.halves-are) (flush_rises failures old.writer new.writer c.flush.result is.flushed is.kept) is.images is.later
-          (counted_by_flush failures old.writer new.writer c.flush.result is.sound is.err) (flush_sound failures old.writer new.writer c.flush.result is.sound is.err) (quiet_flush failures old.writer new.writer c.flush.result is.quiet is.err));
+          (writes_by_call history failures o old new is.publishes (ap (λ (h : HalvesValue). h.geometry) is.around.halves-are)
+          (flush_rises failures old.writer new.writer c.flush.result is.flushed is.kept) is.images is.later
+          (counted_by_flush failures old.writer new.writer c.flush.result is.sound is.err)
+          (flush_sound failures old.writer new.writer c.flush.result is.sound is.err)
+          (quiet_flush failures old.writer new.writer c.flush.result is.quiet is.err));
       handed = is.publishes.handed ∙ c.loop-flush.invariant.handed;
     }
 
@@ -45,6 +53,8 @@ returns-in-LogFull-clause-writes g c =
     let is = c.flush.ensures in
     writes_then history failures o c.args.flush.now new c.write_image.new.flush
     (writes_then history failures o c.args.flush.now old new c.loop-flush.invariant.writes
-    (writes_by_call history failures o old new is.publishes (ap (λ (h : HalvesValue). h.geometry) is.around.halves-are) (flush_rises failures old.writer new.writer c.flush.result is.flushed is.kept) is.images is.later
-    (counted_by_flush failures old.writer new.writer c.flush.result is.sound is.err) (flush_sound failures old.writer new.writer c.flush.result is.sound is.err) (quiet_flush failures old.writer new.writer c.flush.result is.quiet is.err)))
+    (writes_by_call history failures o old new is.publishes (ap (λ (h : HalvesValue). h.geometry) is.around.halves-are)
+    (flush_rises failures old.writer new.writer c.flush.result is.flushed is.kept) is.images is.later
+    (counted_by_flush failures old.writer new.writer c.flush.result is.sound is.err) (flush_sound failures old.writer new.writer c.flush.result is.sound is.err)
+    (quiet_flush failures old.writer new.writer c.flush.result is.quiet is.err)))
     c.write_image.ensures.writes

@@ -10,10 +10,12 @@ pub returns-then-has_failed-clause-through : goal.returns-then-has_failed-clause
 returns-then-has_failed-clause-through g c = through_none g.D.Device.history g.D.Device.failures g.B.Group.site.opened c.args.part.now
 
 pub returns-clause-goes_on : goal.returns-clause-goes_on
-returns-clause-goes_on g c = goes_by_taking g.D.Device.history g.D.Device.failures g.B.Group.site.opened c.args.part.now c.copy_step-copied.new.self c.stands-2.ensures c.copy_step-copied.ensures.takes
+returns-clause-goes_on g c = goes_by_taking g.D.Device.history g.D.Device.failures g.B.Group.site.opened c.args.part.now c.copy_step-copied.new.self
+    c.stands-2.ensures c.copy_step-copied.ensures.takes
 
 pub returns-clause-through : goal.returns-clause-through
-returns-clause-through g c = through_taking g.D.Device.history g.D.Device.failures g.B.Group.site.opened c.args.part.now c.copy_step-copied.new.self c.copy_step-copied.ensures.takes
+returns-clause-through g c = through_taking g.D.Device.history g.D.Device.failures g.B.Group.site.opened c.args.part.now c.copy_step-copied.new.self
+    c.copy_step-copied.ensures.takes
 
 pub returns-clause-copying : goal.returns-clause-copying
 returns-clause-copying g c = λ copying was. stands_by_taking copying c.args.part.now c.copy_step-copied.new.self was c.copy_step-copied.ensures.takes

@@ -9,7 +9,9 @@ pub returns-in_err-chunk-clause-copying : goal.returns-in_err-chunk-clause-copyi
 returns-in_err-chunk-clause-copying g c = c.copied_piece.ensures.copying c.args.copying.now c.requires.copying
 
 pub returns-clause-goes_on : goal.returns-clause-goes_on
-returns-clause-goes_on g c = goes_then g.D.Device.history g.D.Device.failures g.B.Group.site.opened _ _ _ c.copied_piece.ensures.goes_on c.take_chunk.ensures.goes_on
+returns-clause-goes_on g c = goes_then g.D.Device.history g.D.Device.failures g.B.Group.site.opened _ _ _ c.copied_piece.ensures.goes_on
+    c.take_chunk.ensures.goes_on
 
 pub returns-clause-through : goal.returns-clause-through
-returns-clause-through g c = through_then g.D.Device.history g.D.Device.failures g.B.Group.site.opened _ _ _ c.copied_piece.ensures.through c.take_chunk.ensures.through
+returns-clause-through g c = through_then g.D.Device.history g.D.Device.failures g.B.Group.site.opened _ _ _ c.copied_piece.ensures.through
+    c.take_chunk.ensures.through

@@ -12,7 +12,8 @@ returns-in_err-flip-clause-goes_on g c =
     let old = c.args.part.now in
     let new = c.flip.new.self in
     let is = c.flip.ensures in
-    goes_by history failures o old new c.stands.ensures.horizon (by_flip history failures o old new is.publishes is.images is.later c.flip.result is.flipped is.sound is.err is.kept is.left)
+    goes_by history failures o old new c.stands.ensures.horizon
+    (by_flip history failures o old new is.publishes is.images is.later c.flip.result is.flipped is.sound is.err is.kept is.left)
 
 pub returns-in_err-flip-clause-through : goal.returns-in_err-flip-clause-through
 returns-in_err-flip-clause-through g c =
@@ -22,7 +23,8 @@ returns-in_err-flip-clause-through g c =
     let old = c.args.part.now in
     let new = c.flip.new.self in
     let is = c.flip.ensures in
-    through_call history failures o old new (by_flip history failures o old new is.publishes is.images is.later c.flip.result is.flipped is.sound is.err is.kept is.left)
+    through_call history failures o old new
+    (by_flip history failures o old new is.publishes is.images is.later c.flip.result is.flipped is.sound is.err is.kept is.left)
 
 pub returns-in-Flipped-clause-goes_on : goal.returns-in-Flipped-clause-goes_on
 returns-in-Flipped-clause-goes_on g c =
@@ -32,7 +34,8 @@ returns-in-Flipped-clause-goes_on g c =
     let old = c.args.part.now in
     let new = c.flip.new.self in
     let is = c.flip.ensures in
-    goes_by history failures o old new c.stands.ensures.horizon (by_flip history failures o old new is.publishes is.images is.later c.flip.result is.flipped is.sound is.err is.kept is.left)
+    goes_by history failures o old new c.stands.ensures.horizon
+    (by_flip history failures o old new is.publishes is.images is.later c.flip.result is.flipped is.sound is.err is.kept is.left)
 
 pub returns-in-Flipped-clause-through : goal.returns-in-Flipped-clause-through
 returns-in-Flipped-clause-through g c =
@@ -42,7 +45,8 @@ returns-in-Flipped-clause-through g c =
     let old = c.args.part.now in
     let new = c.flip.new.self in
     let is = c.flip.ensures in
-    through_call history failures o old new (by_flip history failures o old new is.publishes is.images is.later c.flip.result is.flipped is.sound is.err is.kept is.left)
+    through_call history failures o old new
+    (by_flip history failures o old new is.publishes is.images is.later c.flip.result is.flipped is.sound is.err is.kept is.left)
 
 pub returns-then-may_wait-clause-goes_on : goal.returns-then-may_wait-clause-goes_on
 returns-then-may_wait-clause-goes_on g c =
@@ -52,7 +56,8 @@ returns-then-may_wait-clause-goes_on g c =
     let old = c.args.part.now in
     let new = c.flip.new.self in
     let is = c.flip.ensures in
-    goes_by history failures o old new c.stands.ensures.horizon (by_flip history failures o old new is.publishes is.images is.later c.flip.result is.flipped is.sound is.err is.kept is.left)
+    goes_by history failures o old new c.stands.ensures.horizon
+    (by_flip history failures o old new is.publishes is.images is.later c.flip.result is.flipped is.sound is.err is.kept is.left)
 
 pub returns-then-may_wait-clause-through : goal.returns-then-may_wait-clause-through
 returns-then-may_wait-clause-through g c =
@@ -62,7 +67,8 @@ returns-then-may_wait-clause-through g c =
     let old = c.args.part.now in
     let new = c.flip.new.self in
     let is = c.flip.ensures in
-    through_call history failures o old new (by_flip history failures o old new is.publishes is.images is.later c.flip.result is.flipped is.sound is.err is.kept is.left)
+    through_call history failures o old new
+    (by_flip history failures o old new is.publishes is.images is.later c.flip.result is.flipped is.sound is.err is.kept is.left)
 
 pub returns-else-may_wait-clause-goes_on : goal.returns-else-may_wait-clause-goes_on
 returns-else-may_wait-clause-goes_on g c =
@@ -72,7 +78,8 @@ returns-else-may_wait-clause-goes_on g c =
     let old = c.args.part.now in
     let new = c.flip.new.self in
     let is = c.flip.ensures in
-    goes_by history failures o old new c.stands.ensures.horizon (by_flip history failures o old new is.publishes is.images is.later c.flip.result is.flipped is.sound is.err is.kept is.left)
+    goes_by history failures o old new c.stands.ensures.horizon
+    (by_flip history failures o old new is.publishes is.images is.later c.flip.result is.flipped is.sound is.err is.kept is.left)
 
 pub returns-else-may_wait-clause-through : goal.returns-else-may_wait-clause-through
 returns-else-may_wait-clause-through g c =
@@ -82,7 +89,8 @@ returns-else-may_wait-clause-through g c =
     let old = c.args.part.now in
     let new = c.flip.new.self in
     let is = c.flip.ensures in
-    through_call history failures o old new (by_flip history failures o old new is.publishes is.images is.later c.flip.result is.flipped is.sound is.err is.kept is.left)
+    through_call history failures o old new
+    (by_flip history failures o old new is.publishes is.images is.later c.flip.result is.flipped is.sound is.err is.kept is.left)
 
 pub returns-in_err-flip-clause-copying : goal.returns-in_err-flip-clause-copying
 returns-in_err-flip-clause-copying g c = stands_failed c.args.copying.now c.args.part.now c.flip.new.self c.requires.copying c.in_err-flip.ensures.err.1
@@ -90,4 +98,5 @@ returns-in_err-flip-clause-copying g c = stands_failed c.args.copying.now c.args
 pub returns-then-may_wait-clause-copying : goal.returns-then-may_wait-clause-copying
 returns-then-may_wait-clause-copying g c =
     let o = g.B.Group.site.opened in
-    stands_behind c.args.part.now c.flip.new.self c.args.copying.now (last_handed o c.args.part.now) c.flip.result (c.in_ok-flip.was ∙ ap Ok c.in-Behind.is) c.flip.ensures.flipped c.requires.copying
+    stands_behind c.args.part.now c.flip.new.self c.args.copying.now (last_handed o c.args.part.now) c.flip.result (c.in_ok-flip.was
+    ∙ ap Ok c.in-Behind.is) c.flip.ensures.flipped c.requires.copying

@@ -7,7 +7,12 @@ pub returns-then-has_failed-clause-stopped : goal.returns-then-has_failed-clause
 returns-then-has_failed-clause-stopped g c = tt
 
 pub loop-init : goal.loop-init
-loop-init g c = record { goes_on = goes_nowhere g.D.Device.history g.D.Device.failures g.B.Group.site.opened c.args.part.now c.stands.ensures; through = through_none g.D.Device.history g.D.Device.failures g.B.Group.site.opened c.args.part.now; copying = λ sound. tt; view = refl }
+loop-init g c = record {
+  goes_on = goes_nowhere g.D.Device.history g.D.Device.failures g.B.Group.site.opened c.args.part.now c.stands.ensures;
+  through = through_none g.D.Device.history g.D.Device.failures g.B.Group.site.opened c.args.part.now;
+  copying = λ sound. tt;
+  view = refl;
+}
 
 pub loop-preserved : goal.loop-preserved
 loop-preserved g c = record {

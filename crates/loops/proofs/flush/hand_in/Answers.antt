@@ -4,7 +4,8 @@ use Rattle.loops.proofs.Through.{through_taking}
 use Rattle.loops.proofs.flush.hand_in.Goals as goal
 
 pub returns-clause-goes_on : goal.returns-clause-goes_on
-returns-clause-goes_on g c = goes_by_taking g.D.Device.history g.D.Device.failures g.B.Group.site.opened c.args.part.now c.take_in.new.part c.stands.ensures c.take_in.ensures
+returns-clause-goes_on g c = goes_by_taking g.D.Device.history g.D.Device.failures g.B.Group.site.opened c.args.part.now c.take_in.new.part c.stands.ensures
+    c.take_in.ensures
 
 pub returns-clause-through : goal.returns-clause-through
 returns-clause-through g c = through_taking g.D.Device.history g.D.Device.failures g.B.Group.site.opened c.args.part.now c.take_in.new.part c.take_in.ensures

@@ -3,10 +3,12 @@ use Rattle.loops.proofs.Through.{through_then}
 use Rattle.loops.proofs.flush.round.Goals as goal
 
 pub returns-in_err-is_full-clause-goes_on : goal.returns-in_err-is_full-clause-goes_on
-returns-in_err-is_full-clause-goes_on g c = goes_then g.D.Device.history g.D.Device.failures g.B.Group.site.opened _ _ _ c.hand_in.ensures.goes_on c.write.ensures.goes_on
+returns-in_err-is_full-clause-goes_on g c =
+    goes_then g.D.Device.history g.D.Device.failures g.B.Group.site.opened _ _ _ c.hand_in.ensures.goes_on c.write.ensures.goes_on
 
 pub returns-in_err-is_full-clause-through : goal.returns-in_err-is_full-clause-through
-returns-in_err-is_full-clause-through g c = through_then g.D.Device.history g.D.Device.failures g.B.Group.site.opened _ _ _ c.hand_in.ensures.through c.write.ensures.through
+returns-in_err-is_full-clause-through g c =
+    through_then g.D.Device.history g.D.Device.failures g.B.Group.site.opened _ _ _ c.hand_in.ensures.through c.write.ensures.through
 
 pub returns-clause-goes_on : goal.returns-clause-goes_on
 returns-clause-goes_on g c =

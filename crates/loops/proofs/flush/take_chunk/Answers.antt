@@ -12,7 +12,9 @@ returns-in_err-take_piece-clause-goes_on g c =
     let old = c.args.part.now in
     let new = c.take_piece.new.self in
     let is = c.take_piece.ensures in
-    goes_by history failures o old new c.stands.ensures.horizon (by_step history failures o old new is.publishes is.images is.later c.args.chunk.number c.args.chunk.piece c.take_piece.result c.requires.chunk is.stepped is.sound is.err is.kept is.left)
+    goes_by history failures o old new c.stands.ensures.horizon
+    (by_step history failures o old new is.publishes is.images is.later c.args.chunk.number c.args.chunk.piece c.take_piece.result c.requires.chunk
+    is.stepped is.sound is.err is.kept is.left)
 
 pub returns-in_err-take_piece-clause-through : goal.returns-in_err-take_piece-clause-through
 returns-in_err-take_piece-clause-through g c =
@@ -22,7 +24,9 @@ returns-in_err-take_piece-clause-through g c =
     let old = c.args.part.now in
     let new = c.take_piece.new.self in
     let is = c.take_piece.ensures in
-    through_call history failures o old new (by_step history failures o old new is.publishes is.images is.later c.args.chunk.number c.args.chunk.piece c.take_piece.result c.requires.chunk is.stepped is.sound is.err is.kept is.left)
+    through_call history failures o old new
+    (by_step history failures o old new is.publishes is.images is.later c.args.chunk.number c.args.chunk.piece c.take_piece.result c.requires.chunk
+    is.stepped is.sound is.err is.kept is.left)
 
 pub returns-in-Taken-clause-goes_on : goal.returns-in-Taken-clause-goes_on
 returns-in-Taken-clause-goes_on g c =
@@ -32,7 +36,9 @@ returns-in-Taken-clause-goes_on g c =
     let old = c.args.part.now in
     let new = c.take_piece.new.self in
     let is = c.take_piece.ensures in
-    goes_by history failures o old new c.stands.ensures.horizon (by_step history failures o old new is.publishes is.images is.later c.args.chunk.number c.args.chunk.piece c.take_piece.result c.requires.chunk is.stepped is.sound is.err is.kept is.left)
+    goes_by history failures o old new c.stands.ensures.horizon
+    (by_step history failures o old new is.publishes is.images is.later c.args.chunk.number c.args.chunk.piece c.take_piece.result c.requires.chunk
+    is.stepped is.sound is.err is.kept is.left)
 
 pub returns-in-Taken-clause-through : goal.returns-in-Taken-clause-through
 returns-in-Taken-clause-through g c =
@@ -42,7 +48,9 @@ returns-in-Taken-clause-through g c =
     let old = c.args.part.now in
     let new = c.take_piece.new.self in
     let is = c.take_piece.ensures in
-    through_call history failures o old new (by_step history failures o old new is.publishes is.images is.later c.args.chunk.number c.args.chunk.piece c.take_piece.result c.requires.chunk is.stepped is.sound is.err is.kept is.left)
+    through_call history failures o old new
+    (by_step history failures o old new is.publishes is.images is.later c.args.chunk.number c.args.chunk.piece c.take_piece.result c.requires.chunk
+    is.stepped is.sound is.err is.kept is.left)
 
 pub returns-in-StartAgain-clause-goes_on : goal.returns-in-StartAgain-clause-goes_on
 returns-in-StartAgain-clause-goes_on g c =
@@ -52,7 +60,9 @@ returns-in-StartAgain-clause-goes_on g c =
     let old = c.args.part.now in
     let new = c.take_piece.new.self in
     let is = c.take_piece.ensures in
-    goes_by history failures o old new c.stands.ensures.horizon (by_step history failures o old new is.publishes is.images is.later c.args.chunk.number c.args.chunk.piece c.take_piece.result c.requires.chunk is.stepped is.sound is.err is.kept is.left)
+    goes_by history failures o old new c.stands.ensures.horizon
+    (by_step history failures o old new is.publishes is.images is.later c.args.chunk.number c.args.chunk.piece c.take_piece.result c.requires.chunk
+    is.stepped is.sound is.err is.kept is.left)
 
 pub returns-in-StartAgain-clause-through : goal.returns-in-StartAgain-clause-through
 returns-in-StartAgain-clause-through g c =
@@ -62,13 +72,18 @@ returns-in-StartAgain-clause-through g c =
     let old = c.args.part.now in
     let new = c.take_piece.new.self in
     let is = c.take_piece.ensures in
-    through_call history failures o old new (by_step history failures o old new is.publishes is.images is.later c.args.chunk.number c.args.chunk.piece c.take_piece.result c.requires.chunk is.stepped is.sound is.err is.kept is.left)
+    through_call history failures o old new
+    (by_step history failures o old new is.publishes is.images is.later c.args.chunk.number c.args.chunk.piece c.take_piece.result c.requires.chunk
+    is.stepped is.sound is.err is.kept is.left)
 
 pub returns-in_err-take_piece-clause-copying : goal.returns-in_err-take_piece-clause-copying
-returns-in_err-take_piece-clause-copying g c = stands_failed c.args.copying.now c.args.part.now c.take_piece.new.self c.requires.copying c.in_err-take_piece.ensures.err.1
+returns-in_err-take_piece-clause-copying g c =
+    stands_failed c.args.copying.now c.args.part.now c.take_piece.new.self c.requires.copying c.in_err-take_piece.ensures.err.1
 
 pub returns-in-Taken-clause-copying : goal.returns-in-Taken-clause-copying
 returns-in-Taken-clause-copying g c =
     let is = c.take_piece.ensures in
-    stands_by_piece c.args.part.now c.take_piece.new.self c.args.chunk.number c.args.chunk.piece c.place_behind-behind.result c.take_piece.result (c.in_ok-take_piece.was ∙ ap Ok c.in-Taken.is) is.stepped c.requires.at is.place
-    (behind_is c.args.chunk.piece c.geometry.result (halves_of c.args.part.now.writer).geometry c.place_behind-behind.result c.place_behind-behind.ensures c.geometry.ensures)
+    stands_by_piece c.args.part.now c.take_piece.new.self c.args.chunk.number c.args.chunk.piece c.place_behind-behind.result c.take_piece.result
+    (c.in_ok-take_piece.was ∙ ap Ok c.in-Taken.is) is.stepped c.requires.at is.place
+    (behind_is c.args.chunk.piece c.geometry.result (halves_of c.args.part.now.writer).geometry c.place_behind-behind.result c.place_behind-behind.ensures
+    c.geometry.ensures)

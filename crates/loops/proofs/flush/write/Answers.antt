@@ -17,7 +17,9 @@ returns-in_err-reply-clause-goes_on g c =
     let old = c.args.part.now in
     let new = c.flush-flushed.new.self in
     let is = c.flush-flushed.ensures in
-    goes_by history failures o old new c.stands.ensures.horizon (by_flush history failures o old new is.publishes is.images is.later c.flush-flushed.result is.around.halves-are is.flushed is.sound is.err is.kept is.left)
+    goes_by history failures o old new c.stands.ensures.horizon
+    (by_flush history failures o old new is.publishes is.images is.later c.flush-flushed.result is.around.halves-are is.flushed is.sound is.err is.kept
+    is.left)
 
 pub returns-in_err-reply-clause-through : goal.returns-in_err-reply-clause-through
 returns-in_err-reply-clause-through g c =
@@ -27,7 +29,9 @@ returns-in_err-reply-clause-through g c =
     let old = c.args.part.now in
     let new = c.flush-flushed.new.self in
     let is = c.flush-flushed.ensures in
-    through_call history failures o old new (by_flush history failures o old new is.publishes is.images is.later c.flush-flushed.result is.around.halves-are is.flushed is.sound is.err is.kept is.left)
+    through_call history failures o old new
+    (by_flush history failures o old new is.publishes is.images is.later c.flush-flushed.result is.around.halves-are is.flushed is.sound is.err is.kept
+    is.left)
 
 pub returns-clause-goes_on : goal.returns-clause-goes_on
 returns-clause-goes_on g c =
@@ -37,7 +41,9 @@ returns-clause-goes_on g c =
     let old = c.args.part.now in
     let new = c.flush-flushed.new.self in
     let is = c.flush-flushed.ensures in
-    goes_by history failures o old new c.stands.ensures.horizon (by_flush history failures o old new is.publishes is.images is.later c.flush-flushed.result is.around.halves-are is.flushed is.sound is.err is.kept is.left)
+    goes_by history failures o old new c.stands.ensures.horizon
+    (by_flush history failures o old new is.publishes is.images is.later c.flush-flushed.result is.around.halves-are is.flushed is.sound is.err is.kept
+    is.left)
 
 pub returns-clause-through : goal.returns-clause-through
 returns-clause-through g c =
@@ -47,14 +53,18 @@ returns-clause-through g c =
     let old = c.args.part.now in
     let new = c.flush-flushed.new.self in
     let is = c.flush-flushed.ensures in
-    through_call history failures o old new (by_flush history failures o old new is.publishes is.images is.later c.flush-flushed.result is.around.halves-are is.flushed is.sound is.err is.kept is.left)
+    through_call history failures o old new
+    (by_flush history failures o old new is.publishes is.images is.later c.flush-flushed.result is.around.halves-are is.flushed is.sound is.err is.kept
+    is.left)
 
 pub returns-in_err-reply-clause-copying : goal.returns-in_err-reply-clause-copying
 returns-in_err-reply-clause-copying g c = λ copying was.
     let is = c.flush-flushed.ensures in
-    stands_by_flush g.D.Device.failures c.kept_place.ensures copying c.args.part.now c.flush-flushed.new.self is.around.halves-are c.flush-flushed.result is.flushed (flush_before c.args.part.now.writer c.flush-flushed.new.self.writer c.flush-flushed.result is.sound) is.image is.err was
+    stands_by_flush g.D.Device.failures c.kept_place.ensures copying c.args.part.now c.flush-flushed.new.self is.around.halves-are c.flush-flushed.result
+    is.flushed (flush_before c.args.part.now.writer c.flush-flushed.new.self.writer c.flush-flushed.result is.sound) is.image is.err was
 
 pub returns-clause-copying : goal.returns-clause-copying
 returns-clause-copying g c = λ copying was.
     let is = c.flush-flushed.ensures in
-    stands_by_flush g.D.Device.failures c.kept_place.ensures copying c.args.part.now c.flush-flushed.new.self is.around.halves-are c.flush-flushed.result is.flushed (flush_before c.args.part.now.writer c.flush-flushed.new.self.writer c.flush-flushed.result is.sound) is.image is.err was
+    stands_by_flush g.D.Device.failures c.kept_place.ensures copying c.args.part.now c.flush-flushed.new.self is.around.halves-are c.flush-flushed.result
+    is.flushed (flush_before c.args.part.now.writer c.flush-flushed.new.self.writer c.flush-flushed.result is.sound) is.image is.err was

@@ -27,9 +27,12 @@ returns-in-Err g c =
     let before = c.loop.invariant in
     let told = c.end_of-ended.ensures in
     record {
-      done = last_told (λ ticket. ∥ WasServed o Event.Build (built (reply.Done ticket)) ∥₁) c.loop.completed c.in-Err.error c.end_of-ended.result told.ok before.done;
-      published = last_told (λ ticket. ∥ HasPublished o ticket c.build_until.new.build.progress ∥₁) c.loop.completed c.in-Err.error c.end_of-ended.result told.ok (still_last o c.loop.completed _ _ now.rises before.published);
-      why = why_told (λ e. (e ≡ Stopped) ⊎ ((e ≢ NoMemory) × (e ≢ NoIndex) × ∥ WasServed o Event.Build (Refused e) ∥₁)) c.loop.completed c.in-Err.error c.end_of-ended.result told.err (ended_why {T = Ticket} o _ (Err c.in-Err.error) c.in-Err.ensures.why);
+      done = last_told (λ ticket. ∥ WasServed o Event.Build (built (reply.Done ticket)) ∥₁) c.loop.completed c.in-Err.error c.end_of-ended.result told.ok
+          before.done;
+      published = last_told (λ ticket. ∥ HasPublished o ticket c.build_until.new.build.progress ∥₁) c.loop.completed c.in-Err.error c.end_of-ended.result
+          told.ok (still_last o c.loop.completed _ _ now.rises before.published);
+      why = why_told (λ e. (e ≡ Stopped) ⊎ ((e ≢ NoMemory) × (e ≢ NoIndex) × ∥ WasServed o Event.Build (Refused e) ∥₁)) c.loop.completed c.in-Err.error
+          c.end_of-ended.result told.err (ended_why {T = Ticket} o _ (Err c.in-Err.error) c.in-Err.ensures.why);
       rises = omega (arith, before.rises, now.rises);
       attempted = attempted_on o _ _ _ now.rises before.attempted now.attempted;
     }

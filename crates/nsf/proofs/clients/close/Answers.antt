@@ -14,7 +14,12 @@ returns-in-Ok g c = record {
   floor = synced_of c.args.flush.writer;
   some = λ image crash.
       at_end (g.D.Device.history (device_of c.args.flush.writer)) (g.D.Device.history c.in-Ok.closed.device) _ c.in-Ok.ensures.images image crash;
-  all = record { commits = c.in-Ok.closed.commits.items; of_seats = c.in-Ok.ensures.commits; core = value_of c.in-Ok.closed.core; gives = c.in-Ok.ensures.device };
+  all = record {
+    commits = c.in-Ok.closed.commits.items;
+    of_seats = c.in-Ok.ensures.commits;
+    core = value_of c.in-Ok.closed.core;
+    gives = c.in-Ok.ensures.device;
+  };
 }
 
 pub returns-in-Err : goal.returns-in-Err

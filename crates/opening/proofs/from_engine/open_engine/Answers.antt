@@ -21,7 +21,8 @@ invariant_of-result g c =
     let same = c.in-Ok-open.ensures.core in (
       subst (λ (n : ℕ). IsOpening n c.in-Ok-open.opening) (sym made.counted.0) made,
       subst IsJustOpened (sym same) (fresh_begins (core_of c.args.engine) _ fresh (c.can_open.ensures.0 c.if-not-can_open.false)),
-      subst (λ (o : Opened). IsNewWriter h o c.in-Ok-into_writer.writer) (sym (ap opened_of same ∙ fresh.same)) (new_settled h _ c.in-Ok-into_writer.writer c.in-Ok-into_writer.ensures.written.settled),
+      subst (λ (o : Opened). IsNewWriter h o c.in-Ok-into_writer.writer) (sym (ap opened_of same ∙ fresh.same))
+          (new_settled h _ c.in-Ok-into_writer.writer c.in-Ok-into_writer.ensures.written.settled),
     )
 
 pub returns-in-Ok-into_writer-clause-opened : goal.returns-in-Ok-into_writer-clause-opened
@@ -52,12 +53,24 @@ returns-then-not-can_open-clause-refused g c = (
 
 pub returns-in-Err-clause-refused : goal.returns-in-Err-clause-refused
 returns-in-Err-clause-refused g c =
-    inr (none_active _ _ c.core.ensures _ c.active_txns.ensures.number c.if-active_txns-gt0.false, c.can_open.ensures.0 c.if-not-can_open.false, inl (c.in-Err.ensures.no_memory, refl))
+    inr (
+      none_active _ _ c.core.ensures _ c.active_txns.ensures.number c.if-active_txns-gt0.false,
+      c.can_open.ensures.0 c.if-not-can_open.false,
+      inl (c.in-Err.ensures.no_memory, refl),
+    )
 
 pub returns-in-Err-open-clause-refused : goal.returns-in-Err-open-clause-refused
 returns-in-Err-open-clause-refused g c =
-    inr (none_active _ _ c.core.ensures _ c.active_txns.ensures.number c.if-active_txns-gt0.false, c.can_open.ensures.0 c.if-not-can_open.false, inl (c.in-Err-open.ensures.no_memory, refl))
+    inr (
+      none_active _ _ c.core.ensures _ c.active_txns.ensures.number c.if-active_txns-gt0.false,
+      c.can_open.ensures.0 c.if-not-can_open.false,
+      inl (c.in-Err-open.ensures.no_memory, refl),
+    )
 
 pub returns-in-Err-into_writer-clause-refused : goal.returns-in-Err-into_writer-clause-refused
 returns-in-Err-into_writer-clause-refused g c =
-    inr (none_active _ _ c.core.ensures _ c.active_txns.ensures.number c.if-active_txns-gt0.false, c.can_open.ensures.0 c.if-not-can_open.false, inr c.in-Err-into_writer.ensures.refused)
+    inr (
+      none_active _ _ c.core.ensures _ c.active_txns.ensures.number c.if-active_txns-gt0.false,
+      c.can_open.ensures.0 c.if-not-can_open.false,
+      inr c.in-Err-into_writer.ensures.refused,
+    )

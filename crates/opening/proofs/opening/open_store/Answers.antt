@@ -17,7 +17,8 @@ invariant_of-result g c =
     let parted = c.in-Ok-into_parts.ensures in
     let made = c.in-Ok-open.ensures.made in
     let same = c.in-Ok-open.ensures.core in
-    let can : CanOpen (over is.geometry is.given) = sound_opened g.D.Device.history c.args.device c.in-Ok.engine is _ c.core.ensures (c.can_open.ensures.0 c.if-not-can_open.false) in (
+    let can : CanOpen (over is.geometry is.given) = sound_opened g.D.Device.history c.args.device c.in-Ok.engine is _ c.core.ensures
+    (c.can_open.ensures.0 c.if-not-can_open.false) in (
       subst (λ (n : ℕ). IsOpening n c.in-Ok-open.opening) (sym made.counted.0) made,
       subst IsJustOpened (sym same) (just_opened g.D.Device.history c.args.device c.in-Ok.engine is emptied can _ _ parted.parts parted.left),
       subst (λ (v : CoreValue). IsNewWriter g.D.Device.history (opened_of v) c.in-Ok-into_parts.parts.1) (sym same)
@@ -29,7 +30,8 @@ returns-in-Ok-open-clause-opened g c =
     let is = c.in-Ok.ensures.opened in
     let emptied = c.in-Ok.ensures.emptied in
     let parted = c.in-Ok-into_parts.ensures in
-    let can : CanOpen (over is.geometry is.given) = sound_opened g.D.Device.history c.args.device c.in-Ok.engine is _ c.core.ensures (c.can_open.ensures.0 c.if-not-can_open.false) in
+    let can : CanOpen (over is.geometry is.given) = sound_opened g.D.Device.history c.args.device c.in-Ok.engine is _ c.core.ensures
+    (c.can_open.ensures.0 c.if-not-can_open.false) in
     let over_engine = opened_is g.D.Device.history c.args.device c.in-Ok.engine is emptied can _ _ parted.parts parted.left in
     let now = ap opened_of c.in-Ok-open.ensures.core ∙ over_engine in
     record {

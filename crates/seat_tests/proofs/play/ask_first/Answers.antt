@@ -8,4 +8,5 @@ pub returns : goal.returns
 returns g c =
     let z = g.B.Group.site in
     let seats = c.args.seats.now.items in
-    first_set z.seats seats c.index_mut.result.now c.answer_all.new.seat (all_new z.board z.seats seats c.requires) c.index_mut.ensures.value c.answer_all.ensures
+    first_set z.seats seats c.index_mut.result.now c.answer_all.new.seat
+    (all_new z.board z.seats seats c.requires) c.index_mut.ensures.value c.answer_all.ensures

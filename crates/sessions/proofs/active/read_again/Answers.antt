@@ -9,6 +9,7 @@ pub loop-i-preserved : goal.loop-i-preserved
 loop-i-preserved g c =
     let core = value_of c.args.core.now in
     let place = ap (λ (w : Write). w.rid) c.row_now.ensures in record {
-      same = row_read core c.loop-i.rows.items c.loop-i.i c.row_now.result c.index.result.now (ap (row_now core) place ∙ ap (λ (w : Write). row_now core w.rid) c.index.ensures) ∙ c.loop-i.invariant.same;
+      same = row_read core c.loop-i.rows.items c.loop-i.i c.row_now.result c.index.result.now (ap (row_now core) place
+          ∙ ap (λ (w : Write). row_now core w.rid) c.index.ensures) ∙ c.loop-i.invariant.same;
       read = rows_read core c.loop-i.rows.items c.loop-i.i _ c.row_now.result refl (c.row_now.ensures ∙ ap (row_now core) (sym place)) c.loop-i.invariant.read;
     }

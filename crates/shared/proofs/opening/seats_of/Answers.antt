@@ -13,8 +13,11 @@ loop-half-preserved g c =
     let was = c.loop-half.invariant in
     let is = c.new-part.ensures in
     record {
-      seats = more_seats g.B.Group.site.board c.loop-half.number c.loop-half.seats.items c.push.new.self.items _ was.seats
-          (ap (λ (s : SeatValue). s.number) is, ap (λ (s : SeatValue). s.session) is, sees_nothing g.B.Group.site.board c.loop-half.view _ _ was.nothing c.another-view.ensures.leaves) c.in_ok-push.ensures.items;
+      seats = more_seats g.B.Group.site.board c.loop-half.number c.loop-half.seats.items c.push.new.self.items _ was.seats (
+        ap (λ (s : SeatValue). s.number) is,
+        ap (λ (s : SeatValue). s.session) is,
+        sees_nothing g.B.Group.site.board c.loop-half.view _ _ was.nothing c.another-view.ensures.leaves,
+      ) c.in_ok-push.ensures.items;
       board = ap (λ (v : Sighting). v.board) c.another-view.ensures.stays ∙ was.board;
       nothing = stays_blind g.B.Group.site.board c.loop-half.view _ _ was.nothing c.another-view.ensures.stays;
       left = omega (arith, was.left, ap length c.in-Some.ensures.steps.0);

@@ -12,7 +12,9 @@ returns-clause-number g c =
     let f = c.take_in.new.self in
     let told = c.in_ok-chunk.ensures.number in
     let last = c.each_hold.ensures.last in
-    let all : now.pushed ++ now.core.outbox ≡ f.handed = all_made f.handed now.pushed now.core.outbox c.in_ok-take_in.ensures.beginning (omega (arith, told, last (halves_of f.writer).geometry, c.if-last_handed-chunk.false, c.last_handed.ensures)) in
+    let all : now.pushed ++ now.core.outbox ≡ f.handed =
+    all_made f.handed now.pushed now.core.outbox c.in_ok-take_in.ensures.beginning
+    (omega (arith, told, last (halves_of f.writer).geometry, c.if-last_handed-chunk.false, c.last_handed.ensures)) in
     number_is g.D.Device.history g.B.Group.site.opened f c.stands.ensures now all last c.each_hold.ensures.store c.in_ok-chunk.chunk.number told
 
 pub returns-clause-chunk : goal.returns-clause-chunk
@@ -22,16 +24,22 @@ returns-clause-chunk g c =
     let got = c.take_in.ensures.takes.got in
     let told = c.in_ok-chunk.ensures.number in
     let last = c.each_hold.ensures.last in
-    let all : now.pushed ++ now.core.outbox ≡ f.handed = all_made f.handed now.pushed now.core.outbox c.in_ok-take_in.ensures.beginning (omega (arith, told, last (halves_of f.writer).geometry, c.if-last_handed-chunk.false, c.last_handed.ensures)) in
+    let all : now.pushed ++ now.core.outbox ≡ f.handed =
+    all_made f.handed now.pushed now.core.outbox c.in_ok-take_in.ensures.beginning
+    (omega (arith, told, last (halves_of f.writer).geometry, c.if-last_handed-chunk.false, c.last_handed.ensures)) in
     let sound : has_failed f.writer ≡ false = got.failed ∙ c.requires.sound in
     let due : IsPieceDue (halves_of f.writer).geometry.pages c.args.place (image_of f.writer) =
-    subst (λ i. IsPieceDue (halves_of f.writer).geometry.pages c.args.place i) (sym got.image) (subst (λ (h : HalvesValue). IsPieceDue h.geometry.pages c.args.place (image_of c.args.self.now.writer)) (sym got.halves) c.requires.due) in
-    piece_chunk g.D.Device.history g.B.Group.site.opened f c.stands.ensures now all last c.each_hold.ensures.store c.in_ok-chunk.chunk.number told sound c.next_pieces.ensures c.args.place c.in_ok-chunk.chunk.piece due (c.in_ok-chunk.ensures.piece (halves_of f.writer).geometry)
+    subst (λ i. IsPieceDue (halves_of f.writer).geometry.pages c.args.place i) (sym got.image)
+    (subst (λ (h : HalvesValue). IsPieceDue h.geometry.pages c.args.place (image_of c.args.self.now.writer)) (sym got.halves) c.requires.due) in
+    piece_chunk g.D.Device.history g.B.Group.site.opened f c.stands.ensures now all last c.each_hold.ensures.store c.in_ok-chunk.chunk.number told sound
+    c.next_pieces.ensures c.args.place c.in_ok-chunk.chunk.piece due (c.in_ok-chunk.ensures.piece (halves_of f.writer).geometry)
 
 pub returns-clause-at : goal.returns-clause-at
 returns-clause-at g c =
     let f = c.take_in.new.self in
     let got = c.take_in.ensures.takes.got in
     let due : IsPieceDue (halves_of f.writer).geometry.pages c.args.place (image_of f.writer) =
-    subst (λ i. IsPieceDue (halves_of f.writer).geometry.pages c.args.place i) (sym got.image) (subst (λ (h : HalvesValue). IsPieceDue h.geometry.pages c.args.place (image_of c.args.self.now.writer)) (sym got.halves) c.requires.due) in
-    λ may. at_piece _ _ f (halves_of f.writer).geometry.pages c.args.place c.in_ok-chunk.chunk.piece (c.in_ok-chunk.ensures.piece (halves_of f.writer).geometry) due may
+    subst (λ i. IsPieceDue (halves_of f.writer).geometry.pages c.args.place i) (sym got.image)
+    (subst (λ (h : HalvesValue). IsPieceDue h.geometry.pages c.args.place (image_of c.args.self.now.writer)) (sym got.halves) c.requires.due) in
+    λ may. at_piece _ _ f (halves_of f.writer).geometry.pages c.args.place c.in_ok-chunk.chunk.piece
+    (c.in_ok-chunk.ensures.piece (halves_of f.writer).geometry) due may

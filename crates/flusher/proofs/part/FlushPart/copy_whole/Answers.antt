@@ -10,7 +10,9 @@ returns-clause-number g c =
     let f = c.take_in.new.self in
     let told = c.in_ok-chunk.ensures.number in
     let last = c.each_hold.ensures.last in
-    let all : now.pushed ++ now.core.outbox ≡ f.handed = all_made f.handed now.pushed now.core.outbox c.in_ok-take_in.ensures.beginning (omega (arith, told, last (halves_of f.writer).geometry, c.if-last_handed-chunk.false, c.last_handed.ensures)) in
+    let all : now.pushed ++ now.core.outbox ≡ f.handed =
+    all_made f.handed now.pushed now.core.outbox c.in_ok-take_in.ensures.beginning
+    (omega (arith, told, last (halves_of f.writer).geometry, c.if-last_handed-chunk.false, c.last_handed.ensures)) in
     number_is g.D.Device.history g.B.Group.site.opened f c.stands.ensures now all last c.each_hold.ensures.store c.in_ok-chunk.chunk.number told
 
 pub returns-clause-chunk : goal.returns-clause-chunk
@@ -19,8 +21,11 @@ returns-clause-chunk g c =
     let f = c.take_in.new.self in
     let told = c.in_ok-chunk.ensures.number in
     let last = c.each_hold.ensures.last in
-    let all : now.pushed ++ now.core.outbox ≡ f.handed = all_made f.handed now.pushed now.core.outbox c.in_ok-take_in.ensures.beginning (omega (arith, told, last (halves_of f.writer).geometry, c.if-last_handed-chunk.false, c.last_handed.ensures)) in
-    whole_chunk g.D.Device.history g.B.Group.site.opened f c.stands.ensures now all last c.each_hold.ensures.store c.in_ok-chunk.chunk.number told c.in_ok-chunk.chunk.piece (c.in_ok-chunk.ensures.whole (halves_of f.writer).geometry)
+    let all : now.pushed ++ now.core.outbox ≡ f.handed =
+    all_made f.handed now.pushed now.core.outbox c.in_ok-take_in.ensures.beginning
+    (omega (arith, told, last (halves_of f.writer).geometry, c.if-last_handed-chunk.false, c.last_handed.ensures)) in
+    whole_chunk g.D.Device.history g.B.Group.site.opened f c.stands.ensures now all last c.each_hold.ensures.store c.in_ok-chunk.chunk.number told
+    c.in_ok-chunk.chunk.piece (c.in_ok-chunk.ensures.whole (halves_of f.writer).geometry)
 
 pub returns-clause-at : goal.returns-clause-at
 returns-clause-at g c =
@@ -28,5 +33,8 @@ returns-clause-at g c =
     let f = c.take_in.new.self in
     let told = c.in_ok-chunk.ensures.number in
     let last = c.each_hold.ensures.last in
-    let all : now.pushed ++ now.core.outbox ≡ f.handed = all_made f.handed now.pushed now.core.outbox c.in_ok-take_in.ensures.beginning (omega (arith, told, last (halves_of f.writer).geometry, c.if-last_handed-chunk.false, c.last_handed.ensures)) in
-    whole_at g.D.Device.history g.B.Group.site.opened f c.stands.ensures now all last c.each_hold.ensures.store c.in_ok-chunk.chunk.number told _ _ c.in_ok-chunk.chunk.piece (c.in_ok-chunk.ensures.whole (halves_of f.writer).geometry)
+    let all : now.pushed ++ now.core.outbox ≡ f.handed =
+    all_made f.handed now.pushed now.core.outbox c.in_ok-take_in.ensures.beginning
+    (omega (arith, told, last (halves_of f.writer).geometry, c.if-last_handed-chunk.false, c.last_handed.ensures)) in
+    whole_at g.D.Device.history g.B.Group.site.opened f c.stands.ensures now all last c.each_hold.ensures.store c.in_ok-chunk.chunk.number told _ _
+    c.in_ok-chunk.chunk.piece (c.in_ok-chunk.ensures.whole (halves_of f.writer).geometry)

@@ -5,11 +5,17 @@ use Rattle.flusher.proofs.part.FlushPart.flush.Goals as goal
 
 pub invariant_of-self : goal.invariant_of-self
 invariant_of-self g c =
-    let kept = kept_by_call g.D.Device.history g.B.Group.site.opened _ _ _ _ (c.self.invariant.1, c.self.invariant.2) c.flush_group-flushed.new.self _ c.publish.new.view (c.flush_group-flushed.ensures.writer _ _ c.self.invariant.2.writer) c.publish.ensures in
+    let kept = kept_by_call g.D.Device.history g.B.Group.site.opened _ _ _ _ (
+      c.self.invariant.1,
+      c.self.invariant.2,
+    ) c.flush_group-flushed.new.self _ c.publish.new.view
+    (c.flush_group-flushed.ensures.writer _ _ c.self.invariant.2.writer) c.publish.ensures in
     (c.self.invariant.0, kept.0, kept.1, c.self.invariant.3, ap (λ (n : FlusherCount). n.board) c.publish.ensures ∙ c.requires)
 
 pub returns-clause-images : goal.returns-clause-images
-returns-clause-images g c = images_of g.D.Device.history g.B.Group.site.opened _ _ c.self.view_is c.flush_group-flushed.new.self c.self.invariant.2 c.flush_group-flushed.ensures.images
+returns-clause-images g c = images_of g.D.Device.history g.B.Group.site.opened _ _ c.self.view_is c.flush_group-flushed.new.self c.self.invariant.2
+    c.flush_group-flushed.ensures.images
 
 pub returns-clause-nothing : goal.returns-clause-nothing
-returns-clause-nothing g c = nothing_of g.D.Device.history g.B.Group.site.opened _ _ c.self.view_is c.flush_group-flushed.new.self c.flush_group-flushed.result c.self.invariant.2 c.flush_group-flushed.ensures.nothing
+returns-clause-nothing g c = nothing_of g.D.Device.history g.B.Group.site.opened _ _ c.self.view_is c.flush_group-flushed.new.self c.flush_group-flushed.result
+    c.self.invariant.2 c.flush_group-flushed.ensures.nothing

@@ -10,7 +10,10 @@ use Rattle.flusher.proofs.part.FlushPart.hand_in.Goals as goal
 pub hand_in-requires : goal.hand_in-requires
 hand_in-requires g c =
     let same : c.replace-held.result.items ≡ c.self.inside.held.items = ap (λ v. v.items) c.replace-held.ensures.value in
-    can_hand_in g.D.Device.history g.B.Group.site.opened _ _ _ _ (c.self.invariant.1, c.self.invariant.2) c.compare.ensures.following c.compare.ensures.fits c.goes_on.ensures c.longer_run.ensures.next _ same
+    can_hand_in g.D.Device.history g.B.Group.site.opened _ _ _ _ (
+      c.self.invariant.1,
+      c.self.invariant.2,
+    ) c.compare.ensures.following c.compare.ensures.fits c.goes_on.ensures c.longer_run.ensures.next _ same
 
 pub invariant_of-self : goal.invariant_of-self
 invariant_of-self g c =
@@ -19,12 +22,22 @@ invariant_of-self g c =
     let none : c.replace-held.new.dest.items ≡ [] = ap (λ v. v.items) c.replace-held.ensures.after ∙ c.new.ensures.items in
     let size : c.len-more.result ≡ length c.replace-held.result.items = c.len-more.ensures ∙ c.replace-held.result.ok.0 in
     let l = c.args.locked.now in
-    let opens : MayOpenAgain g.B.Group.site.opened c.self.inside.popper.records = popped_open g.B.Group.site.opened (value_of l.core) l.pusher.records (map shown l.book.items) c.self.inside.popper.records c.compare.ensures.beginning l.shared in
-    let kept = kept_by_taking g.D.Device.history g.B.Group.site.opened _ _ _ _ (c.self.invariant.1, c.self.invariant.2) c.compare.ensures.following c.compare.ensures.fits c.goes_on.ensures c.longer_run.ensures.next _ same opens c.compare.new.popper.records c.replace-held.new.dest.items
+    let opens : MayOpenAgain g.B.Group.site.opened c.self.inside.popper.records =
+    popped_open g.B.Group.site.opened (value_of l.core) l.pusher.records
+    (map shown l.book.items) c.self.inside.popper.records c.compare.ensures.beginning l.shared in
+    let kept = kept_by_taking g.D.Device.history g.B.Group.site.opened _ _ _ _ (
+      c.self.invariant.1,
+      c.self.invariant.2,
+    ) c.compare.ensures.following c.compare.ensures.fits c.goes_on.ensures c.longer_run.ensures.next _ same opens
+    c.compare.new.popper.records c.replace-held.new.dest.items
     c.hand_in.new.self all none c.in-Ok.ensures.writer c.hand_in.ensures.synced c.hand_in.ensures.failed in (
       ap (λ (p : Handed). p.queue) c.compare.ensures.popper ∙ c.self.invariant.0,
       kept.0,
       kept.1,
-      last_then g.D.Device.history g.B.Group.site.opened _ _ _ _ (c.self.invariant.1, c.self.invariant.2) _ c.self.invariant.3 _ same c.len-more.result c.compare.new.popper.records c.replace-held.new.dest.items c.hand_in.new.self c.self.inside.view size all none,
+      last_then g.D.Device.history g.B.Group.site.opened _ _ _ _ (
+        c.self.invariant.1,
+        c.self.invariant.2,
+      ) _ c.self.invariant.3 _ same c.len-more.result c.compare.new.popper.records c.replace-held.new.dest.items c.hand_in.new.self
+          c.self.inside.view size all none,
       c.self.invariant.4,
     )

@@ -13,7 +13,8 @@ invariant_of-result g c =
     let queue = ap (λ (e : EndsValue). e.popper.queue) same ∙ ap (λ (p : Handed). p.queue) is.popper in
     let records = ap (λ (e : EndsValue). e.popper.records) same ∙ ap (λ (p : Handed). p.records) is.popper in
     let kept =
-    kept_at_first g.D.Device.history g.B.Group.site.opened _ _ c.args.writer c.publish.new.view c.synced-last.result records c.new.ensures.items is.writer is.pages is.places is.fits (omega (arith, ap (λ (n : FlusherCount). n.horizon) told)) (ap (λ (n : FlusherCount). n.failed) told)
+    kept_at_first g.D.Device.history g.B.Group.site.opened _ _ c.args.writer c.publish.new.view c.synced-last.result records c.new.ensures.items is.writer
+    is.pages is.places is.fits (omega (arith, ap (λ (n : FlusherCount). n.horizon) told)) (ap (λ (n : FlusherCount). n.failed) told)
     c.synced-last.ensures in
     let board = ap (λ (n : FlusherCount). n.board) told ∙ is.site in
     (queue, kept.0.0, kept.0.1, kept.1, board)

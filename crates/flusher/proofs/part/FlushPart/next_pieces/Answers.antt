@@ -11,6 +11,8 @@ returns g c =
     let f = flush_value inside.popper.records inside.held.items inside.writer inside.view in
     subst (TakesNext o) c.self.view_is
     (record {
-      page = λ page rows sound at now i there. c.next_pieces.ensures.page (run_of o f) (last_handed o f) page rows is.writer sound is.writer.small at now i there;
-      entries = λ above entries sound at now i there. c.next_pieces.ensures.entries (run_of o f) (last_handed o f) above entries is.writer sound is.writer.small at now i there;
+      page = λ page rows sound at now i there. c.next_pieces.ensures.page (run_of o f)
+          (last_handed o f) page rows is.writer sound is.writer.small at now i there;
+      entries = λ above entries sound at now i there. c.next_pieces.ensures.entries (run_of o f)
+          (last_handed o f) above entries is.writer sound is.writer.small at now i there;
     })

@@ -11,4 +11,5 @@ invariant-loop g l =
     × (l.self-inside.view ≡ l.fn.self.published)
     × IsFlusher g.D.Device.history g.B.Group.site.opened l.fn.self
     × (l.self-inside.last ≡ last_handed g.B.Group.site.opened l.fn.self)
-    × ((more : List RecordValue) × (l.self-inside.popper.records ≡ l.fn.self.handed ++ (l.fn.self.held ++ more)) × (l.self-inside.held.items ≡ l.fn.self.held ++ more))
+    × ((more : List RecordValue) × (l.self-inside.popper.records ≡ l.fn.self.handed ++ (l.fn.self.held ++ more))
+    × (l.self-inside.held.items ≡ l.fn.self.held ++ more))

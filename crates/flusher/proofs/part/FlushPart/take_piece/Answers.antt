@@ -4,13 +4,19 @@ use Rattle.flusher.proofs.Keeping.{can_step, chunk_of, images_of, kept_by_call}
 use Rattle.flusher.proofs.part.FlushPart.take_piece.Goals as goal
 
 pub checkpoint_step-stepped-requires : goal.checkpoint_step-stepped-requires
-checkpoint_step-stepped-requires g c = can_step g.D.Device.history g.B.Group.site.opened _ _ c.self.view_is c.self.invariant.2 c.args.chunk.number c.args.chunk.piece c.requires.chunk
+checkpoint_step-stepped-requires g c =
+    can_step g.D.Device.history g.B.Group.site.opened _ _ c.self.view_is c.self.invariant.2 c.args.chunk.number c.args.chunk.piece c.requires.chunk
 
 pub invariant_of-self : goal.invariant_of-self
 invariant_of-self g c =
     let chunk = chunk_of g.D.Device.history g.B.Group.site.opened _ _ c.self.view_is c.args.chunk.number c.args.chunk.piece c.requires.chunk in
-    let kept = kept_by_call g.D.Device.history g.B.Group.site.opened _ _ _ _ (c.self.invariant.1, c.self.invariant.2) c.checkpoint_step-stepped.new.self _ c.publish.new.view (c.checkpoint_step-stepped.ensures.writer _ _ c.self.invariant.2.writer chunk) c.publish.ensures in
+    let kept = kept_by_call g.D.Device.history g.B.Group.site.opened _ _ _ _ (
+      c.self.invariant.1,
+      c.self.invariant.2,
+    ) c.checkpoint_step-stepped.new.self _ c.publish.new.view
+    (c.checkpoint_step-stepped.ensures.writer _ _ c.self.invariant.2.writer chunk) c.publish.ensures in
     (c.self.invariant.0, kept.0, kept.1, c.self.invariant.3, ap (λ (n : FlusherCount). n.board) c.publish.ensures ∙ c.requires.board)
 
 pub returns-clause-images : goal.returns-clause-images
-returns-clause-images g c = images_of g.D.Device.history g.B.Group.site.opened _ _ c.self.view_is c.checkpoint_step-stepped.new.self c.self.invariant.2 c.checkpoint_step-stepped.ensures.images
+returns-clause-images g c = images_of g.D.Device.history g.B.Group.site.opened _ _ c.self.view_is c.checkpoint_step-stepped.new.self c.self.invariant.2
+    c.checkpoint_step-stepped.ensures.images

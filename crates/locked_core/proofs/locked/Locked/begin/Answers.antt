@@ -22,13 +22,18 @@ invariant_of-self g c =
     let new = c.change.new.theirs in
     let after = c.begin-begun.new.self in
     let is = c.change.ensures.theirs in
-    let there = shown_at z.table z.seats items n old count within at ∙ (ap Some c.change.ensures.agree ∙ ap (λ (h : HalfValue). Some h.session) c.seat.invariant.0) in
+    let there = shown_at z.table z.seats items n old count within at
+    ∙ (ap Some c.change.ensures.agree ∙ ap (λ (h : HalfValue). Some h.session) c.seat.invariant.0) in
     record {
       queue = c.args.self.now.queue;
       seats = count_set z.table z.seats items n old count within at halves new after is;
       halves = book_set z.table z.seats items n old count within at halves new after is;
-      shared = ∥∥₁_map c.args.self.now.shared (λ shared. subst (IsShared z.opened (value_of c.begin-begun.new.core) c.args.self.now.pusher.records) (sym (shown_set z.table z.seats items n old count within at halves new after is))
-          (begin_kept z.opened (value_of c.args.self.now.core) (value_of c.begin-begun.new.core) c.args.self.now.pusher.records (map shown items) n c.seat.inside.session after there shared c.begin-begun.result c.begin-begun.ensures.served c.begin-begun.ensures.ok c.begin-begun.ensures.unchanged));
+      shared = ∥∥₁_map c.args.self.now.shared (λ shared.
+          subst (IsShared z.opened (value_of c.begin-begun.new.core) c.args.self.now.pusher.records)
+          (sym (shown_set z.table z.seats items n old count within at halves new after is))
+          (begin_kept z.opened (value_of c.args.self.now.core) (value_of c.begin-begun.new.core) c.args.self.now.pusher.records
+          (map shown items) n c.seat.inside.session after there shared c.begin-begun.result c.begin-begun.ensures.served c.begin-begun.ensures.ok
+          c.begin-begun.ensures.unchanged));
     }
 
 pub returns-clause-before : goal.returns-clause-before
@@ -43,5 +48,6 @@ pub returns-clause-book : goal.returns-clause-book
 returns-clause-book g c =
     let z = g.B.Group.site in
     let items = c.args.self.now.book.items in
-    shown_set z.table z.seats items c.seat.inside.number c.index_mut.result.now c.args.self.now.seats c.seat.invariant.1 c.index_mut.ensures.value c.args.self.now.halves c.change.new.theirs c.begin-begun.new.self c.change.ensures.theirs
+    shown_set z.table z.seats items c.seat.inside.number c.index_mut.result.now c.args.self.now.seats c.seat.invariant.1 c.index_mut.ensures.value
+    c.args.self.now.halves c.change.new.theirs c.begin-begun.new.self c.change.ensures.theirs
     ∙ ap (λ (s : SeatValue). slice_set (map shown items) s.number c.begin-begun.new.self) c.seat.view_is

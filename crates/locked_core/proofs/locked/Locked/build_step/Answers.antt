@@ -11,5 +11,7 @@ invariant_of-self g c = record {
   queue = c.args.self.now.queue;
   seats = c.args.self.now.seats;
   halves = c.args.self.now.halves;
-  shared = ∥∥₁_map c.args.self.now.shared (λ shared. others_kept g.B.Group.site.opened (value_of c.args.self.now.core) (value_of c.build_step.new.self) c.args.self.now.pusher.records (map shown c.args.self.now.book.items) shared Event.Build _ tt c.build_step.ensures);
+  shared = ∥∥₁_map c.args.self.now.shared (λ shared.
+      others_kept g.B.Group.site.opened (value_of c.args.self.now.core) (value_of c.build_step.new.self) c.args.self.now.pusher.records
+      (map shown c.args.self.now.book.items) shared Event.Build _ tt c.build_step.ensures);
 }

@@ -17,9 +17,13 @@ use Rattle.locked_core.proofs.locked.Locked.commit.Goals as goal
 pub commit-committed-requires : goal.commit-committed-requires
 commit-committed-requires g c =
     let z = g.B.Group.site in
-    let is = there z.table z.seats c.args.self.now.book.items c.seat.inside.number c.index_mut.result.now c.args.self.now.seats c.seat.invariant.1 c.index_mut.ensures.value c.args.self.now.halves c.change.new.theirs c.seat.inside.session (c.change.ensures.agree ∙ ap (λ (h : HalfValue). h.session) c.seat.invariant.0) c.change.ensures.theirs in
-    λ own. ready_now z.opened (value_of c.args.self.now.core) c.args.self.now.pusher.records (map shown c.args.self.now.book.items) c.seat.inside.number c.seat.inside.session is c.args.self.now.shared c.args.txn
-    (ap (λ (s : SeatValue). is_ready s.session c.args.txn) c.seat.view_is ∙ c.requires.ready (ap (λ (s : SeatValue). is_active s.session c.args.txn) (sym c.seat.view_is) ∙ own))
+    let is = there z.table z.seats c.args.self.now.book.items c.seat.inside.number c.index_mut.result.now c.args.self.now.seats c.seat.invariant.1
+    c.index_mut.ensures.value c.args.self.now.halves c.change.new.theirs c.seat.inside.session (c.change.ensures.agree
+    ∙ ap (λ (h : HalfValue). h.session) c.seat.invariant.0) c.change.ensures.theirs in
+    λ own. ready_now z.opened (value_of c.args.self.now.core) c.args.self.now.pusher.records
+    (map shown c.args.self.now.book.items) c.seat.inside.number c.seat.inside.session is c.args.self.now.shared c.args.txn
+    (ap (λ (s : SeatValue). is_ready s.session c.args.txn) c.seat.view_is
+    ∙ c.requires.ready (ap (λ (s : SeatValue). is_active s.session c.args.txn) (sym c.seat.view_is) ∙ own))
 
 pub change-requires-2-clause-theirs : goal.change-requires-2-clause-theirs
 change-requires-2-clause-theirs g c =
@@ -33,7 +37,9 @@ change-requires-2-clause-theirs g c =
     let halves = c.args.self.now.halves in
     let new = c.change.new.theirs in
     let is = c.change.ensures.theirs in
-    (half_at z.table z.seats (slice_set items n new) n c.index_mut-2.result.now (count_set z.table z.seats items n old count within at halves new c.seat.inside.session is) within c.index_mut-2.ensures.value (book_set z.table z.seats items n old count within at halves new c.seat.inside.session is)).0 ∙ sym c.requires.registry
+    (half_at z.table z.seats (slice_set items n new) n c.index_mut-2.result.now
+    (count_set z.table z.seats items n old count within at halves new c.seat.inside.session is) within c.index_mut-2.ensures.value
+    (book_set z.table z.seats items n old count within at halves new c.seat.inside.session is)).0 ∙ sym c.requires.registry
 
 pub change-requires-2-clause-number : goal.change-requires-2-clause-number
 change-requires-2-clause-number g c =
@@ -47,7 +53,9 @@ change-requires-2-clause-number g c =
     let halves = c.args.self.now.halves in
     let new = c.change.new.theirs in
     let is = c.change.ensures.theirs in
-    (half_at z.table z.seats (slice_set items n new) n c.index_mut-2.result.now (count_set z.table z.seats items n old count within at halves new c.seat.inside.session is) within c.index_mut-2.ensures.value (book_set z.table z.seats items n old count within at halves new c.seat.inside.session is)).1
+    (half_at z.table z.seats (slice_set items n new) n c.index_mut-2.result.now
+    (count_set z.table z.seats items n old count within at halves new c.seat.inside.session is) within c.index_mut-2.ensures.value
+    (book_set z.table z.seats items n old count within at halves new c.seat.inside.session is)).1
     ∙ sym (ap (λ (h : HalfValue). h.number) c.change.ensures.mine ∙ ap (λ (h : HalfValue). h.number) c.seat.invariant.0)
 
 pub invariant_of-self : goal.invariant_of-self
@@ -73,8 +81,12 @@ invariant_of-self g c =
       queue = c.args.self.now.queue;
       seats = count_twice z.table z.seats items n old count within at halves new p agree is next later last q ends;
       halves = book_twice z.table z.seats items n old count within at halves new p agree is next later last q ends;
-      shared = ∥∥₁_map c.args.self.now.shared (λ shared. subst (IsShared z.opened (value_of c.commit-committed.new.core) c.args.self.now.pusher.records) (sym (shown_twice z.table z.seats items n old count within at halves new p agree is next later last q ends))
-          (commit_kept z.opened (value_of c.args.self.now.core) (value_of c.commit-committed.new.core) c.args.self.now.pusher.records (map shown items) n p q (there z.table z.seats items n old count within at halves new p agree is) shared c.args.txn c.commit-committed.result c.commit-committed.ensures.foreign c.commit-committed.ensures.served c.commit-committed.ensures.ok c.commit-committed.ensures.unchanged));
+      shared = ∥∥₁_map c.args.self.now.shared (λ shared.
+          subst (IsShared z.opened (value_of c.commit-committed.new.core) c.args.self.now.pusher.records)
+          (sym (shown_twice z.table z.seats items n old count within at halves new p agree is next later last q ends))
+          (commit_kept z.opened (value_of c.args.self.now.core) (value_of c.commit-committed.new.core) c.args.self.now.pusher.records (map shown items) n p q
+          (there z.table z.seats items n old count within at halves new p agree is) shared c.args.txn c.commit-committed.result
+          c.commit-committed.ensures.foreign c.commit-committed.ensures.served c.commit-committed.ensures.ok c.commit-committed.ensures.unchanged));
     }
 
 pub returns-clause-before : goal.returns-clause-before
@@ -82,14 +94,19 @@ returns-clause-before g c =
     let z = g.B.Group.site in
     let items = c.args.self.now.book.items in
     ap (λ (s : SeatValue). slice_get (map shown items) s.number) (sym c.seat.view_is)
-    ∙ (there z.table z.seats items c.seat.inside.number c.index_mut.result.now c.args.self.now.seats c.seat.invariant.1 c.index_mut.ensures.value c.args.self.now.halves c.change.new.theirs c.seat.inside.session (c.change.ensures.agree ∙ ap (λ (h : HalfValue). h.session) c.seat.invariant.0) c.change.ensures.theirs
+    ∙ (there z.table z.seats items c.seat.inside.number c.index_mut.result.now c.args.self.now.seats c.seat.invariant.1 c.index_mut.ensures.value
+    c.args.self.now.halves c.change.new.theirs c.seat.inside.session (c.change.ensures.agree
+    ∙ ap (λ (h : HalfValue). h.session) c.seat.invariant.0) c.change.ensures.theirs
     ∙ ap (λ (s : SeatValue). Some s.session) c.seat.view_is)
 
 pub returns-clause-book : goal.returns-clause-book
 returns-clause-book g c =
     let z = g.B.Group.site in
     let items = c.args.self.now.book.items in
-    shown_twice z.table z.seats items c.seat.inside.number c.index_mut.result.now c.args.self.now.seats c.seat.invariant.1 c.index_mut.ensures.value c.args.self.now.halves c.change.new.theirs c.seat.inside.session (c.change.ensures.agree ∙ ap (λ (h : HalfValue). h.session) c.seat.invariant.0) c.change.ensures.theirs c.index_mut-2.result.now c.index_mut-2.ensures.value c.change-2.new.theirs c.commit-committed.new.self c.change-2.ensures.theirs
+    shown_twice z.table z.seats items c.seat.inside.number c.index_mut.result.now c.args.self.now.seats c.seat.invariant.1 c.index_mut.ensures.value
+    c.args.self.now.halves c.change.new.theirs c.seat.inside.session (c.change.ensures.agree
+    ∙ ap (λ (h : HalfValue). h.session) c.seat.invariant.0) c.change.ensures.theirs c.index_mut-2.result.now c.index_mut-2.ensures.value
+    c.change-2.new.theirs c.commit-committed.new.self c.change-2.ensures.theirs
     ∙ ap (λ (s : SeatValue). slice_set (map shown items) s.number c.commit-committed.new.self) c.seat.view_is
 
 pub returns-clause-recorded : goal.returns-clause-recorded
@@ -97,6 +114,7 @@ returns-clause-recorded g c =
     let o = g.B.Group.site.opened in
     let was = c.args.self.now in
     let new = value_of c.commit-committed.new.core in
-    recorded_own o (value_of was.core) new was.pusher.records (map shown was.book.items) was.shared (Event.Commit c.args.txn) (OfTxn c.args.txn TxnAction.Commit)
+    recorded_own o (value_of was.core) new was.pusher.records (map shown was.book.items) was.shared (Event.Commit c.args.txn)
+    (OfTxn c.args.txn TxnAction.Commit)
     (λ kept ticket serves. c.each_number.ensures.commit_record o was.pusher.records (value_of was.core) kept c.args.txn ticket new serves)
     (is_active c.seat.inside.session c.args.txn) c.commit-committed.result c.commit-committed.ensures.foreign c.commit-committed.ensures.served

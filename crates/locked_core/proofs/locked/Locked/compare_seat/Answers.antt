@@ -28,7 +28,8 @@ invariant_of-self g c =
       queue = c.args.self.now.queue;
       seats = count_set z.table z.seats items n old count within at halves new p is;
       halves = book_set z.table z.seats items n old count within at halves new p is;
-      shared = ∥∥₁_map c.args.self.now.shared (subst (IsShared z.opened (value_of c.args.self.now.core) c.args.self.now.pusher.records) (sym (once z.table z.seats items n old count within at halves new p agree is)));
+      shared = ∥∥₁_map c.args.self.now.shared (subst (IsShared z.opened (value_of c.args.self.now.core) c.args.self.now.pusher.records)
+          (sym (once z.table z.seats items n old count within at halves new p agree is)));
     }
 
 pub returns-clause-before : goal.returns-clause-before
@@ -36,12 +37,17 @@ returns-clause-before g c =
     let z = g.B.Group.site in
     let items = c.args.self.now.book.items in
     ap (λ (s : SeatValue). slice_get (map shown items) s.number) (sym c.seat.view_is)
-    ∙ (there z.table z.seats items c.seat.inside.number c.index_mut.result.now c.args.self.now.seats c.seat.invariant.1 c.index_mut.ensures.value c.args.self.now.halves c.change.new.theirs c.seat.inside.session (c.change.ensures.agree ∙ ap (λ (h : HalfValue). h.session) c.seat.invariant.0) c.change.ensures.theirs
+    ∙ (there z.table z.seats items c.seat.inside.number c.index_mut.result.now c.args.self.now.seats c.seat.invariant.1 c.index_mut.ensures.value
+    c.args.self.now.halves c.change.new.theirs c.seat.inside.session (c.change.ensures.agree
+    ∙ ap (λ (h : HalfValue). h.session) c.seat.invariant.0) c.change.ensures.theirs
     ∙ ap (λ (s : SeatValue). Some s.session) c.seat.view_is)
 
 pub returns-clause-same : goal.returns-clause-same
 returns-clause-same g c =
     let z = g.B.Group.site in
     let items = c.args.self.now.book.items in
-    ap (λ (book : List SessionValue). (λ (l : LockedValue). l) (record { core = value_of c.args.self.now.core; pushed = c.args.self.now.pusher.records; book = book }))
-    (once z.table z.seats items c.seat.inside.number c.index_mut.result.now c.args.self.now.seats c.seat.invariant.1 c.index_mut.ensures.value c.args.self.now.halves c.change.new.theirs c.seat.inside.session (c.change.ensures.agree ∙ ap (λ (h : HalfValue). h.session) c.seat.invariant.0) c.change.ensures.theirs)
+    ap (λ (book : List SessionValue). (λ (l : LockedValue). l)
+    (record { core = value_of c.args.self.now.core; pushed = c.args.self.now.pusher.records; book = book }))
+    (once z.table z.seats items c.seat.inside.number c.index_mut.result.now c.args.self.now.seats c.seat.invariant.1 c.index_mut.ensures.value
+    c.args.self.now.halves c.change.new.theirs c.seat.inside.session (c.change.ensures.agree
+    ∙ ap (λ (h : HalfValue). h.session) c.seat.invariant.0) c.change.ensures.theirs)

@@ -14,9 +14,13 @@ use Rattle.locked_core.proofs.locked.Locked.delete.Goals as goal
 pub delete-deleted-requires : goal.delete-deleted-requires
 delete-deleted-requires g c =
     let z = g.B.Group.site in
-    let is = there z.table z.seats c.args.self.now.book.items c.seat.inside.number c.index_mut.result.now c.args.self.now.seats c.seat.invariant.1 c.index_mut.ensures.value c.args.self.now.halves c.change.new.theirs c.seat.inside.session (c.change.ensures.agree ∙ ap (λ (h : HalfValue). h.session) c.seat.invariant.0) c.change.ensures.theirs in
-    λ own. ready_now z.opened (value_of c.args.self.now.core) c.args.self.now.pusher.records (map shown c.args.self.now.book.items) c.seat.inside.number c.seat.inside.session is c.args.self.now.shared c.args.txn
-    (ap (λ (s : SeatValue). is_ready s.session c.args.txn) c.seat.view_is ∙ c.requires.ready (ap (λ (s : SeatValue). is_active s.session c.args.txn) (sym c.seat.view_is) ∙ own))
+    let is = there z.table z.seats c.args.self.now.book.items c.seat.inside.number c.index_mut.result.now c.args.self.now.seats c.seat.invariant.1
+    c.index_mut.ensures.value c.args.self.now.halves c.change.new.theirs c.seat.inside.session (c.change.ensures.agree
+    ∙ ap (λ (h : HalfValue). h.session) c.seat.invariant.0) c.change.ensures.theirs in
+    λ own. ready_now z.opened (value_of c.args.self.now.core) c.args.self.now.pusher.records
+    (map shown c.args.self.now.book.items) c.seat.inside.number c.seat.inside.session is c.args.self.now.shared c.args.txn
+    (ap (λ (s : SeatValue). is_ready s.session c.args.txn) c.seat.view_is
+    ∙ c.requires.ready (ap (λ (s : SeatValue). is_active s.session c.args.txn) (sym c.seat.view_is) ∙ own))
 
 pub change-requires-2-clause-theirs : goal.change-requires-2-clause-theirs
 change-requires-2-clause-theirs g c =
@@ -30,7 +34,9 @@ change-requires-2-clause-theirs g c =
     let halves = c.args.self.now.halves in
     let new = c.change.new.theirs in
     let is = c.change.ensures.theirs in
-    (half_at z.table z.seats (slice_set items n new) n c.index_mut-2.result.now (count_set z.table z.seats items n old count within at halves new c.seat.inside.session is) within c.index_mut-2.ensures.value (book_set z.table z.seats items n old count within at halves new c.seat.inside.session is)).0 ∙ sym c.requires.registry
+    (half_at z.table z.seats (slice_set items n new) n c.index_mut-2.result.now
+    (count_set z.table z.seats items n old count within at halves new c.seat.inside.session is) within c.index_mut-2.ensures.value
+    (book_set z.table z.seats items n old count within at halves new c.seat.inside.session is)).0 ∙ sym c.requires.registry
 
 pub change-requires-2-clause-number : goal.change-requires-2-clause-number
 change-requires-2-clause-number g c =
@@ -44,7 +50,9 @@ change-requires-2-clause-number g c =
     let halves = c.args.self.now.halves in
     let new = c.change.new.theirs in
     let is = c.change.ensures.theirs in
-    (half_at z.table z.seats (slice_set items n new) n c.index_mut-2.result.now (count_set z.table z.seats items n old count within at halves new c.seat.inside.session is) within c.index_mut-2.ensures.value (book_set z.table z.seats items n old count within at halves new c.seat.inside.session is)).1
+    (half_at z.table z.seats (slice_set items n new) n c.index_mut-2.result.now
+    (count_set z.table z.seats items n old count within at halves new c.seat.inside.session is) within c.index_mut-2.ensures.value
+    (book_set z.table z.seats items n old count within at halves new c.seat.inside.session is)).1
     ∙ sym (ap (λ (h : HalfValue). h.number) c.change.ensures.mine ∙ ap (λ (h : HalfValue). h.number) c.seat.invariant.0)
 
 pub invariant_of-self : goal.invariant_of-self
@@ -70,8 +78,12 @@ invariant_of-self g c =
       queue = c.args.self.now.queue;
       seats = count_twice z.table z.seats items n old count within at halves new p agree is next later last q ends;
       halves = book_twice z.table z.seats items n old count within at halves new p agree is next later last q ends;
-      shared = ∥∥₁_map c.args.self.now.shared (λ shared. subst (IsShared z.opened (value_of c.delete-deleted.new.core) c.args.self.now.pusher.records) (sym (shown_twice z.table z.seats items n old count within at halves new p agree is next later last q ends))
-          (delete_kept z.opened (value_of c.args.self.now.core) (value_of c.delete-deleted.new.core) c.args.self.now.pusher.records (map shown items) n p q (there z.table z.seats items n old count within at halves new p agree is) shared c.args.txn c.args.rid c.delete-deleted.result c.delete-deleted.ensures.foreign c.delete-deleted.ensures.served c.delete-deleted.ensures.ok c.delete-deleted.ensures.unchanged));
+      shared = ∥∥₁_map c.args.self.now.shared (λ shared.
+          subst (IsShared z.opened (value_of c.delete-deleted.new.core) c.args.self.now.pusher.records)
+          (sym (shown_twice z.table z.seats items n old count within at halves new p agree is next later last q ends))
+          (delete_kept z.opened (value_of c.args.self.now.core) (value_of c.delete-deleted.new.core) c.args.self.now.pusher.records (map shown items) n p q
+          (there z.table z.seats items n old count within at halves new p agree is) shared c.args.txn c.args.rid c.delete-deleted.result
+          c.delete-deleted.ensures.foreign c.delete-deleted.ensures.served c.delete-deleted.ensures.ok c.delete-deleted.ensures.unchanged));
     }
 
 pub returns-clause-before : goal.returns-clause-before
@@ -79,18 +91,27 @@ returns-clause-before g c =
     let z = g.B.Group.site in
     let items = c.args.self.now.book.items in
     ap (λ (s : SeatValue). slice_get (map shown items) s.number) (sym c.seat.view_is)
-    ∙ (there z.table z.seats items c.seat.inside.number c.index_mut.result.now c.args.self.now.seats c.seat.invariant.1 c.index_mut.ensures.value c.args.self.now.halves c.change.new.theirs c.seat.inside.session (c.change.ensures.agree ∙ ap (λ (h : HalfValue). h.session) c.seat.invariant.0) c.change.ensures.theirs
+    ∙ (there z.table z.seats items c.seat.inside.number c.index_mut.result.now c.args.self.now.seats c.seat.invariant.1 c.index_mut.ensures.value
+    c.args.self.now.halves c.change.new.theirs c.seat.inside.session (c.change.ensures.agree
+    ∙ ap (λ (h : HalfValue). h.session) c.seat.invariant.0) c.change.ensures.theirs
     ∙ ap (λ (s : SeatValue). Some s.session) c.seat.view_is)
 
 pub returns-clause-book : goal.returns-clause-book
 returns-clause-book g c =
     let z = g.B.Group.site in
     let items = c.args.self.now.book.items in
-    shown_twice z.table z.seats items c.seat.inside.number c.index_mut.result.now c.args.self.now.seats c.seat.invariant.1 c.index_mut.ensures.value c.args.self.now.halves c.change.new.theirs c.seat.inside.session (c.change.ensures.agree ∙ ap (λ (h : HalfValue). h.session) c.seat.invariant.0) c.change.ensures.theirs c.index_mut-2.result.now c.index_mut-2.ensures.value c.change-2.new.theirs c.delete-deleted.new.self c.change-2.ensures.theirs
+    shown_twice z.table z.seats items c.seat.inside.number c.index_mut.result.now c.args.self.now.seats c.seat.invariant.1 c.index_mut.ensures.value
+    c.args.self.now.halves c.change.new.theirs c.seat.inside.session (c.change.ensures.agree
+    ∙ ap (λ (h : HalfValue). h.session) c.seat.invariant.0) c.change.ensures.theirs c.index_mut-2.result.now c.index_mut-2.ensures.value
+    c.change-2.new.theirs c.delete-deleted.new.self c.change-2.ensures.theirs
     ∙ ap (λ (s : SeatValue). slice_set (map shown items) s.number c.delete-deleted.new.self) c.seat.view_is
 
 pub returns-clause-row : goal.returns-clause-row
 returns-clause-row g c =
     let z = g.B.Group.site in
-    let is = there z.table z.seats c.args.self.now.book.items c.seat.inside.number c.index_mut.result.now c.args.self.now.seats c.seat.invariant.1 c.index_mut.ensures.value c.args.self.now.halves c.change.new.theirs c.seat.inside.session (c.change.ensures.agree ∙ ap (λ (h : HalfValue). h.session) c.seat.invariant.0) c.change.ensures.theirs in
-    delete_row z.opened (value_of c.args.self.now.core) (value_of c.delete-deleted.new.core) c.args.self.now.pusher.records (map shown c.args.self.now.book.items) c.seat.inside.number c.seat.inside.session c.delete-deleted.new.self is c.args.self.now.shared c.args.txn c.args.rid c.delete-deleted.result c.delete-deleted.ensures.foreign c.delete-deleted.ensures.served c.delete-deleted.ensures.ok
+    let is = there z.table z.seats c.args.self.now.book.items c.seat.inside.number c.index_mut.result.now c.args.self.now.seats c.seat.invariant.1
+    c.index_mut.ensures.value c.args.self.now.halves c.change.new.theirs c.seat.inside.session (c.change.ensures.agree
+    ∙ ap (λ (h : HalfValue). h.session) c.seat.invariant.0) c.change.ensures.theirs in
+    delete_row z.opened (value_of c.args.self.now.core) (value_of c.delete-deleted.new.core) c.args.self.now.pusher.records
+    (map shown c.args.self.now.book.items) c.seat.inside.number c.seat.inside.session c.delete-deleted.new.self is c.args.self.now.shared c.args.txn
+    c.args.rid c.delete-deleted.result c.delete-deleted.ensures.foreign c.delete-deleted.ensures.served c.delete-deleted.ensures.ok

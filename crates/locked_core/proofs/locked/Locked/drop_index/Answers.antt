@@ -26,13 +26,18 @@ invariant_of-self g c =
     let new = c.change.new.theirs in
     let after = c.drop_index-dropped.new.self in
     let is = c.change.ensures.theirs in
-    let there = shown_at z.table z.seats items n old count within at ∙ (ap Some c.change.ensures.agree ∙ ap (λ (h : HalfValue). Some h.session) c.seat.invariant.0) in
+    let there = shown_at z.table z.seats items n old count within at
+    ∙ (ap Some c.change.ensures.agree ∙ ap (λ (h : HalfValue). Some h.session) c.seat.invariant.0) in
     record {
       queue = c.args.self.now.queue;
       seats = count_set z.table z.seats items n old count within at halves new after is;
       halves = book_set z.table z.seats items n old count within at halves new after is;
-      shared = ∥∥₁_map c.args.self.now.shared (λ shared. subst (IsShared z.opened (value_of c.drop_index-dropped.new.core) c.args.self.now.pusher.records) (sym (shown_set z.table z.seats items n old count within at halves new after is))
-          (drop_kept z.opened (value_of c.args.self.now.core) (value_of c.drop_index-dropped.new.core) c.args.self.now.pusher.records (map shown items) n c.seat.inside.session after there shared c.drop_index-dropped.result c.drop_index-dropped.ensures.served c.drop_index-dropped.ensures.ok c.drop_index-dropped.ensures.unchanged));
+      shared = ∥∥₁_map c.args.self.now.shared (λ shared.
+          subst (IsShared z.opened (value_of c.drop_index-dropped.new.core) c.args.self.now.pusher.records)
+          (sym (shown_set z.table z.seats items n old count within at halves new after is))
+          (drop_kept z.opened (value_of c.args.self.now.core) (value_of c.drop_index-dropped.new.core) c.args.self.now.pusher.records
+          (map shown items) n c.seat.inside.session after there shared c.drop_index-dropped.result c.drop_index-dropped.ensures.served
+          c.drop_index-dropped.ensures.ok c.drop_index-dropped.ensures.unchanged));
     }
 
 pub returns-clause-before : goal.returns-clause-before
@@ -47,7 +52,8 @@ pub returns-clause-book : goal.returns-clause-book
 returns-clause-book g c =
     let z = g.B.Group.site in
     let items = c.args.self.now.book.items in
-    shown_set z.table z.seats items c.seat.inside.number c.index_mut.result.now c.args.self.now.seats c.seat.invariant.1 c.index_mut.ensures.value c.args.self.now.halves c.change.new.theirs c.drop_index-dropped.new.self c.change.ensures.theirs
+    shown_set z.table z.seats items c.seat.inside.number c.index_mut.result.now c.args.self.now.seats c.seat.invariant.1 c.index_mut.ensures.value
+    c.args.self.now.halves c.change.new.theirs c.drop_index-dropped.new.self c.change.ensures.theirs
     ∙ ap (λ (s : SeatValue). slice_set (map shown items) s.number c.drop_index-dropped.new.self) c.seat.view_is
 
 pub returns-clause-ok : goal.returns-clause-ok

@@ -12,4 +12,5 @@ returns-clause-served g c = search rules
 
 pub returns-clause-held : goal.returns-clause-held
 returns-clause-held g c = λ seat session there txn row shows.
-    c.get.ensures.row ∙ held_row g.B.Group.site.opened (value_of c.args.self.now.core) c.args.self.now.pusher.records (map shown c.args.self.now.book.items) c.args.self.now.shared seat session there txn c.args.rid row shows
+    c.get.ensures.row ∙ held_row g.B.Group.site.opened (value_of c.args.self.now.core) c.args.self.now.pusher.records
+    (map shown c.args.self.now.book.items) c.args.self.now.shared seat session there txn c.args.rid row shows

@@ -11,7 +11,8 @@ invariant_of-result g c =
       queue = ap (λ (h : Handed). h.queue) c.requires.pusher;
       seats = c.requires.seats;
       halves = new_book z.table c.args.book.items c.requires.book;
-      shared = ∣ new_shared z.opened (value_of c.args.core) c.args.pusher.records z.table c.args.book.items c.requires.opens c.requires.core (ap (λ (h : Handed). h.records) c.requires.pusher) c.requires.book ∣₁;
+      shared = ∣ new_shared z.opened (value_of c.args.core) c.args.pusher.records z.table c.args.book.items c.requires.opens c.requires.core
+          (ap (λ (h : Handed). h.records) c.requires.pusher) c.requires.book ∣₁;
     }
 
 pub returns-clause-book : goal.returns-clause-book

@@ -11,7 +11,9 @@ invariant_of-self g c = record {
   queue = c.take_outbox.new.sink.pusher_is;
   seats = c.args.self.now.seats;
   halves = c.args.self.now.halves;
-  shared = ∥∥₁_map c.args.self.now.shared (λ shared. pushed_kept g.B.Group.site.opened (value_of c.args.self.now.core) (value_of c.take_outbox.new.self) c.args.self.now.pusher.records (map shown c.args.self.now.book.items) shared _ c.take_outbox.ensures.handed);
+  shared = ∥∥₁_map c.args.self.now.shared (λ shared.
+      pushed_kept g.B.Group.site.opened (value_of c.args.self.now.core) (value_of c.take_outbox.new.self) c.args.self.now.pusher.records
+      (map shown c.args.self.now.book.items) shared _ c.take_outbox.ensures.handed);
 }
 
 pub returns-clause-none_waits : goal.returns-clause-none_waits

@@ -23,8 +23,10 @@ loop-number-preserved g c =
     let number : c.loop-number.maker.next ≡ c.loop-number.number = ap (λ (m : MakerValue). m.next) before.next in
     let half : ℕ → HalfValue = λ n. record { table = z; number = n; session = empty_session } in
     let at : TableId → HalfValue = λ w. record { table = w; number = c.loop-number.maker.next; session = empty_session } in
-    let one : c.make-one.result.0 ≡ half (length c.loop-number.book.items) = c.make-one.ensures.one ∙ (ap at (sym c.registry.view_is) ∙ ap half (number ∙ sym before.books)) in
-    let other : c.make-one.result.1 ≡ half (length c.loop-number.seats.items) = c.make-one.ensures.other ∙ (c.make-one.ensures.one ∙ (ap at (sym c.registry.view_is) ∙ ap half (number ∙ sym before.seated))) in record {
+    let one : c.make-one.result.0 ≡ half (length c.loop-number.book.items) = c.make-one.ensures.one
+    ∙ (ap at (sym c.registry.view_is) ∙ ap half (number ∙ sym before.books)) in
+    let other : c.make-one.result.1 ≡ half (length c.loop-number.seats.items) = c.make-one.ensures.other
+    ∙ (c.make-one.ensures.one ∙ (ap at (sym c.registry.view_is) ∙ ap half (number ∙ sym before.seated))) in record {
       next = search rules;
       books = grind (arith, common_steps);
       book = subst (IsNew z) (sym c.in_ok-push.ensures.items) (IsNew-push z c.loop-number.book.items c.make-one.result.0 before.book one);

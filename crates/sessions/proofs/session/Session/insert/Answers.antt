@@ -14,4 +14,5 @@ returns-in_err-check_insert-clause-served g c = λ mine.
     let p = err_from_is_err_and c.from_residual.result c.from_residual.ensures.1 in
     let v = value_of c.args.core.now in
     let row : Row = record { key = c.args.key; body = c.args.body } in
-    subst (λ (r : Result Place Error). Serves v (Insert c.args.txn row) (reply_by Rid r) v) (sym (p.1 ∙ ap (λ e. Err e) p.2)) (c.in_err-check_insert.ensures.refused row).1
+    subst (λ (r : Result Place Error). Serves v (Insert c.args.txn row) (reply_by Rid r) v) (sym (p.1 ∙ ap (λ e. Err e) p.2))
+    (c.in_err-check_insert.ensures.refused row).1

@@ -13,4 +13,5 @@ returns-in_err-check_change-clause-served g c = λ mine.
     let p = err_from_is_err_and c.from_residual.result c.from_residual.ensures.1 in
     let v = value_of c.args.core.now in
     let row : Row = record { key = c.args.key; body = c.args.body } in
-    subst (λ (r : Result Unit Error). Serves v (Update c.args.txn c.args.rid row) (reply_by (λ x. Stepped) r) v) (sym (p.1 ∙ ap (λ e. Err e) p.2)) (c.in_err-check_change.ensures.refused_update row).1
+    subst (λ (r : Result Unit Error). Serves v (Update c.args.txn c.args.rid row) (reply_by (λ x. Stepped) r) v) (sym (p.1 ∙ ap (λ e. Err e) p.2))
+    (c.in_err-check_change.ensures.refused_update row).1

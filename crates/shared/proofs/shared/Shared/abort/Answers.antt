@@ -8,25 +8,31 @@ use Rattle.shared.proofs.Undone.{stays_undone, step_undone}
 use Rattle.shared.proofs.shared.Shared.abort.Goals as goal
 
 pub returns-then-last-clause-ok : goal.returns-then-last-clause-ok
-returns-then-last-clause-ok g c = back_ended c.args.txn c.args.seat.now.session c.loop.seat.session c.take_back.new.seat.session c.loop.invariant.back (c.in-Ok.ensures.last c.if-last.true)
+returns-then-last-clause-ok g c = back_ended c.args.txn c.args.seat.now.session c.loop.seat.session c.take_back.new.seat.session c.loop.invariant.back
+    (c.in-Ok.ensures.last c.if-last.true)
 
 pub returns-then-last-clause-aborted : goal.returns-then-last-clause-aborted
 returns-then-last-clause-aborted g c =
-    let taken = subst (λ n. ∥ WasTakenBack g.B.Group.site.opened n c.loop.seat.session c.args.txn ∥₁) (ap (λ (s : SeatValue). s.number) c.loop.invariant.seat) (c.in-Ok.ensures.taken c.if-last.true) in
+    let taken = subst (λ n. ∥ WasTakenBack g.B.Group.site.opened n c.loop.seat.session c.args.txn ∥₁) (ap (λ (s : SeatValue). s.number) c.loop.invariant.seat)
+    (c.in-Ok.ensures.taken c.if-last.true) in
     ∥∥₁_map₂ c.loop.invariant.undone taken (λ undone t. record { last = c.loop.seat.session; back = c.loop.invariant.back; undone = undone; taken = t })
 
 pub returns-in-Err-clause-err : goal.returns-in-Err-clause-err
-returns-in-Err-clause-err g c = back_stays c.args.txn c.args.seat.now.session c.loop.seat.session c.take_back.new.seat.session c.loop.invariant.back (ap (λ (s : SeatValue). s.session) c.in-Err.ensures.refused)
+returns-in-Err-clause-err g c = back_stays c.args.txn c.args.seat.now.session c.loop.seat.session c.take_back.new.seat.session c.loop.invariant.back
+    (ap (λ (s : SeatValue). s.session) c.in-Err.ensures.refused)
 
 pub returns-in-Err-clause-undone : goal.returns-in-Err-clause-undone
-returns-in-Err-clause-undone g c = stays_undone g.B.Group.site.opened c.args.seat.now.number c.args.txn c.args.seat.now.session c.loop.seat.session c.take_back.new.seat.session c.loop.invariant.undone (ap (λ (s : SeatValue). s.session) c.in-Err.ensures.refused)
+returns-in-Err-clause-undone g c =
+    stays_undone g.B.Group.site.opened c.args.seat.now.number c.args.txn c.args.seat.now.session c.loop.seat.session c.take_back.new.seat.session
+    c.loop.invariant.undone (ap (λ (s : SeatValue). s.session) c.in-Err.ensures.refused)
 
 pub returns-in-Err-clause-served : goal.returns-in-Err-clause-served
 returns-in-Err-clause-served g c = λ own.
     let o = g.B.Group.site.opened in
     let t = c.args.txn in
     let e = c.in-Err.error in
-    subst (λ (s : SeatValue). ∥ WasServedTo o s.number s.session (Event.End t) (Refused e) ∥₁ ⊎ ∥ WasServedTo o s.number s.session (Event.Undo t) (Refused e) ∥₁) (sym c.in-Err.ensures.refused) c.in-Err.ensures.served
+    subst (λ (s : SeatValue). ∥ WasServedTo o s.number s.session (Event.End t) (Refused e) ∥₁
+    ⊎ ∥ WasServedTo o s.number s.session (Event.Undo t) (Refused e) ∥₁) (sym c.in-Err.ensures.refused) c.in-Err.ensures.served
 
 pub loop-preserved : goal.loop-preserved
 loop-preserved g c =
@@ -34,7 +40,8 @@ loop-preserved g c =
     let step = c.in-Ok.ensures.back c.if-last.false in
     let o = g.B.Group.site.opened in
     let n = c.args.seat.now.number in
-    let undone = subst (λ m. ∥ WasUndone o m c.loop.seat.session c.args.txn c.take_back.new.seat.session ∥₁) (ap (λ (s : SeatValue). s.number) was.seat) (c.in-Ok.ensures.undone c.if-last.false) in
+    let undone = subst (λ m. ∥ WasUndone o m c.loop.seat.session c.args.txn c.take_back.new.seat.session ∥₁) (ap (λ (s : SeatValue). s.number) was.seat)
+    (c.in-Ok.ensures.undone c.if-last.false) in
     record {
       seat = c.in-Ok.ensures.seat ∙ ap (λ (s : SeatValue). record s { session = c.take_back.new.seat.session }) was.seat;
       own = step.active;

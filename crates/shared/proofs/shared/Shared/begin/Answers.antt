@@ -16,10 +16,13 @@ returns-clause-served g c =
     let was = c.deref_mut-2.result.now in
     let reply = reply_by Reply.Txn c.begin.result in
     subst (λ (s : SeatValue). ∥ WasServedTo o s.number s.session Event.Begin reply ∥₁) c.seat.view_is
-    (served_to o (value_of was.core) (value_of c.begin.new.self.core) was.pusher.records (map shown was.book.items) was.shared Event.Begin reply c.begin.ensures.served _ _ c.begin.ensures.before)
+    (served_to o (value_of was.core) (value_of c.begin.new.self.core) was.pusher.records
+    (map shown was.book.items) was.shared Event.Begin reply c.begin.ensures.served _ _ c.begin.ensures.before)
 
 pub returns-clause-ok : goal.returns-clause-ok
-returns-clause-ok g c = let new = c.begin in session_on_ok c.seat.inside.part new.new.seat c.seat.inside.view _ c.seat.view_is new.ensures.number new.result begun new.ensures.ok
+returns-clause-ok g c = let new = c.begin in
+    session_on_ok c.seat.inside.part new.new.seat c.seat.inside.view _ c.seat.view_is new.ensures.number new.result begun new.ensures.ok
 
 pub returns-clause-refused : goal.returns-clause-refused
-returns-clause-refused g c = let new = c.begin in same_on_err c.seat.inside.part new.new.seat c.seat.inside.view _ c.seat.view_is new.ensures.number new.result new.ensures.refused
+returns-clause-refused g c = let new = c.begin in
+    same_on_err c.seat.inside.part new.new.seat c.seat.inside.view _ c.seat.view_is new.ensures.number new.result new.ensures.refused

@@ -17,7 +17,9 @@ returns-clause-served g c = λ own.
     let was = c.deref_mut-2.result.now in
     let reply = reply_by reply_of_ticket c.commit-committed.result in
     subst (λ (s : SeatValue). ∥ WasServedTo o s.number s.session (Event.Commit c.args.txn) reply ∥₁) c.seat.view_is
-    (served_to o (value_of was.core) (value_of c.commit-committed.new.self.core) was.pusher.records (map shown was.book.items) was.shared (Event.Commit c.args.txn) reply (c.commit-committed.ensures.served (ap (λ (s : SeatValue). is_active s.session c.args.txn) c.seat.view_is ∙ own)) _ _ c.commit-committed.ensures.before)
+    (served_to o (value_of was.core) (value_of c.commit-committed.new.self.core) was.pusher.records (map shown was.book.items) was.shared
+    (Event.Commit c.args.txn) reply (c.commit-committed.ensures.served (ap (λ (s : SeatValue). is_active s.session c.args.txn) c.seat.view_is ∙ own)) _ _
+    c.commit-committed.ensures.before)
 
 pub returns-clause-foreign : goal.returns-clause-foreign
 returns-clause-foreign g c = λ none. (c.commit-committed.ensures.foreign (ap (λ (s : SeatValue). is_active s.session c.args.txn) c.seat.view_is ∙ none)).0
@@ -25,7 +27,9 @@ returns-clause-foreign g c = λ none. (c.commit-committed.ensures.foreign (ap (�
 pub returns-clause-ok : goal.returns-clause-ok
 returns-clause-ok g c =
     let new = c.commit-committed in
-    session_on_ok c.seat.inside.part new.new.seat c.seat.inside.view _ c.seat.view_is new.ensures.number new.result (λ s ticket. committed s c.args.txn ticket) new.ensures.ok
+    session_on_ok c.seat.inside.part new.new.seat c.seat.inside.view _ c.seat.view_is new.ensures.number new.result (λ s ticket.
+    committed s c.args.txn ticket) new.ensures.ok
 
 pub returns-clause-refused : goal.returns-clause-refused
-returns-clause-refused g c = let new = c.commit-committed in same_on_err c.seat.inside.part new.new.seat c.seat.inside.view _ c.seat.view_is new.ensures.number new.result new.ensures.refused
+returns-clause-refused g c = let new = c.commit-committed in
+    same_on_err c.seat.inside.part new.new.seat c.seat.inside.view _ c.seat.view_is new.ensures.number new.result new.ensures.refused

@@ -19,12 +19,15 @@ returns-clause-served g c =
     let was = c.deref_mut-2.result.now in
     let reply = reply_by reply_of_ticket c.create_index-created.result in
     subst (λ (s : SeatValue). ∥ WasServedTo o s.number s.session Event.Create reply ∥₁) c.seat.view_is
-    (served_to o (value_of was.core) (value_of c.create_index-created.new.self.core) was.pusher.records (map shown was.book.items) was.shared Event.Create reply c.create_index-created.ensures.served _ _ c.create_index-created.ensures.before)
+    (served_to o (value_of was.core) (value_of c.create_index-created.new.self.core) was.pusher.records
+    (map shown was.book.items) was.shared Event.Create reply c.create_index-created.ensures.served _ _ c.create_index-created.ensures.before)
 
 pub returns-clause-ok : goal.returns-clause-ok
 returns-clause-ok g c =
     let new = c.create_index-created in
-    session_on_ok c.seat.inside.part new.new.seat c.seat.inside.view _ c.seat.view_is new.ensures.number new.result (λ (s : SessionValue) (ticket : Ticket). with_turn s (Created ticket.«record»)) new.ensures.ok
+    session_on_ok c.seat.inside.part new.new.seat c.seat.inside.view _ c.seat.view_is new.ensures.number new.result (λ (s : SessionValue) (ticket : Ticket).
+    with_turn s (Created ticket.«record»)) new.ensures.ok
 
 pub returns-clause-refused : goal.returns-clause-refused
-returns-clause-refused g c = let new = c.create_index-created in same_on_err c.seat.inside.part new.new.seat c.seat.inside.view _ c.seat.view_is new.ensures.number new.result new.ensures.refused
+returns-clause-refused g c = let new = c.create_index-created in
+    same_on_err c.seat.inside.part new.new.seat c.seat.inside.view _ c.seat.view_is new.ensures.number new.result new.ensures.refused

@@ -19,7 +19,8 @@ returns-in_err-dropped-clause-served g c =
     let reply = Refused c.in_err-dropped.field-0.0 in
     let served =
     subst (λ (s : SeatValue). ∥ WasServedTo o s.number s.session Event.Drop reply ∥₁) c.seat.view_is
-    (served_to o (value_of was.core) (value_of c.drop_index-dropped.new.self.core) was.pusher.records (map shown was.book.items) was.shared Event.Drop reply c.in_err-dropped.ensures.served _ _ c.drop_index-dropped.ensures.before) in
+    (served_to o (value_of was.core) (value_of c.drop_index-dropped.new.self.core) was.pusher.records
+    (map shown was.book.items) was.shared Event.Drop reply c.in_err-dropped.ensures.served _ _ c.drop_index-dropped.ensures.before) in
     search rules
 
 pub returns-clause-served : goal.returns-clause-served
@@ -28,7 +29,8 @@ returns-clause-served g c =
     let was = c.deref_mut-2.result.now in
     let reply = reply_of_ticket c.in_ok-dropped.field-0.ticket in
     subst (λ (s : SeatValue). ∥ WasServedTo o s.number s.session Event.Drop reply ∥₁) c.seat.view_is
-    (served_to o (value_of was.core) (value_of c.drop_index-dropped.new.self.core) was.pusher.records (map shown was.book.items) was.shared Event.Drop reply c.in_ok-dropped.ensures.served _ _ c.drop_index-dropped.ensures.before)
+    (served_to o (value_of was.core) (value_of c.drop_index-dropped.new.self.core) was.pusher.records
+    (map shown was.book.items) was.shared Event.Drop reply c.in_ok-dropped.ensures.served _ _ c.drop_index-dropped.ensures.before)
 
 pub returns-in_err-dropped-clause-refused : goal.returns-in_err-dropped-clause-refused
 returns-in_err-dropped-clause-refused g c =
@@ -38,4 +40,5 @@ returns-in_err-dropped-clause-refused g c =
 pub returns-clause-ok : goal.returns-clause-ok
 returns-clause-ok g c =
     let new = c.drop_index-dropped in
-    with_session c.seat.inside.part new.new.seat c.seat.inside.view _ c.seat.view_is new.ensures.number (λ (s : SessionValue). with_turn s (Dropped c.in_ok-dropped.field-0.ticket.«record»)) c.in_ok-dropped.ensures.ok
+    with_session c.seat.inside.part new.new.seat c.seat.inside.view _ c.seat.view_is new.ensures.number (λ (s : SessionValue).
+    with_turn s (Dropped c.in_ok-dropped.field-0.ticket.«record»)) c.in_ok-dropped.ensures.ok

@@ -9,4 +9,5 @@ use Rattle.shared.proofs.shared.Shared.find.Goals as goal
 pub returns : goal.returns
 returns g c =
     let is = c.deref.result.now in
-    served g.B.Group.site.opened (value_of is.core) (value_of is.core) is.pusher.records (map shown is.book.items) is.shared (Event.Find c.args.key) (reply_by (λ rids. Reply.Found rids.items) c.find.result) c.find.ensures
+    served g.B.Group.site.opened (value_of is.core) (value_of is.core) is.pusher.records (map shown is.book.items) is.shared (Event.Find c.args.key)
+    (reply_by (λ rids. Reply.Found rids.items) c.find.result) c.find.ensures

@@ -15,9 +15,11 @@ returns-clause-served g c =
     let o = g.B.Group.site.opened in
     let is = c.compare_seat.new.self in
     let part = c.seat.inside.part in
-    let here : slice_get (map shown is.book.items) part.number ≡ Some part.session = ap (λ (l : LockedValue). slice_get l.book part.number) c.compare_seat.ensures.same ∙ c.compare_seat.ensures.before in
+    let here : slice_get (map shown is.book.items) part.number ≡ Some part.session =
+    ap (λ (l : LockedValue). slice_get l.book part.number) c.compare_seat.ensures.same ∙ c.compare_seat.ensures.before in
     subst (λ (s : SeatValue). ∥ WasServedTo o s.number s.session (Event.Get c.args.rid) (Reply.RowIs c.get.result) ∥₁) c.seat.view_is
-    (served_to o (value_of is.core) (value_of is.core) is.pusher.records (map shown is.book.items) is.shared (Event.Get c.args.rid) (Reply.RowIs c.get.result) c.get.ensures.served part.number part.session here)
+    (served_to o (value_of is.core) (value_of is.core) is.pusher.records (map shown is.book.items) is.shared (Event.Get c.args.rid)
+    (Reply.RowIs c.get.result) c.get.ensures.served part.number part.session here)
 
 pub returns-clause-own : goal.returns-clause-own
 returns-clause-own g c = λ txn row shows.

@@ -22,7 +22,8 @@ returns-in-Ok-clause-taken g c = λ is.
     let part = c.seat.inside.part in
     let own : is_active part.session t ≡ true = ap (λ (s : SeatValue). is_active s.session t) c.seat.view_is ∙ c.requires in
     subst (λ (s : SeatValue). ∥ WasTakenBack o s.number s.session t ∥₁) c.seat.view_is
-    (was_taken o (value_of was.core) (value_of c.end.new.self.core) was.pusher.records (map shown was.book.items) was.shared part.number part.session c.end.ensures.before t own (c.if-may_end.ensures.0 refl) (c.in-Ok.ensures.served own))
+    (was_taken o (value_of was.core) (value_of c.end.new.self.core) was.pusher.records
+    (map shown was.book.items) was.shared part.number part.session c.end.ensures.before t own (c.if-may_end.ensures.0 refl) (c.in-Ok.ensures.served own))
 
 pub returns-then-may_end-clause-served : goal.returns-then-may_end-clause-served
 returns-then-may_end-clause-served g c =
@@ -32,7 +33,8 @@ returns-then-may_end-clause-served g c =
     let reply = Refused c.in-Err.error in
     let own : is_active c.seat.inside.part.session c.args.txn ≡ true = ap (λ (s : SeatValue). is_active s.session c.args.txn) c.seat.view_is ∙ c.requires in
     inl (subst (λ (s : SeatValue). ∥ WasServedTo o s.number s.session event reply ∥₁) c.seat.view_is
-    (served_to o (value_of was.core) (value_of c.end.new.self.core) was.pusher.records (map shown was.book.items) was.shared event reply (c.in-Err.ensures.served own) _ _ c.end.ensures.before))
+    (served_to o (value_of was.core) (value_of c.end.new.self.core) was.pusher.records (map shown was.book.items) was.shared event reply
+    (c.in-Err.ensures.served own) _ _ c.end.ensures.before))
 
 pub returns-in-Ok-clause-undone : goal.returns-in-Ok-clause-undone
 returns-in-Ok-clause-undone g c = λ not_last. absurd (false≢true (sym not_last))
@@ -61,7 +63,9 @@ returns-in-Ok-undo_step-clause-undone g c = λ undone.
     let own : is_active part.session t ≡ true = ap (λ (s : SeatValue). is_active s.session t) c.seat.view_is ∙ c.requires in
     let left : HasNoChange (txn_shown (value_of was.core) t) → ⊥ = λ none. absurd (false≢true (c.if-may_end.ensures.1 none)) in
     subst (λ (s : SeatValue). ∥ WasUndone o s.number s.session t q ∥₁) c.seat.view_is
-    (was_undone o (value_of was.core) (value_of c.undo_step.new.self.core) was.pusher.records (map shown was.book.items) t was.shared part.number part.session q c.undo_step.ensures.before left _ (c.in-Ok-undo_step.ensures.served own) c.in-Ok-undo_step.ensures.ok)
+    (was_undone o (value_of was.core) (value_of c.undo_step.new.self.core) was.pusher.records
+    (map shown was.book.items) t was.shared part.number part.session q c.undo_step.ensures.before left _
+    (c.in-Ok-undo_step.ensures.served own) c.in-Ok-undo_step.ensures.ok)
 
 pub returns-clause-served : goal.returns-clause-served
 returns-clause-served g c =
@@ -71,4 +75,5 @@ returns-clause-served g c =
     let reply = Refused c.in-Err-undo_step.error in
     let own : is_active c.seat.inside.part.session c.args.txn ≡ true = ap (λ (s : SeatValue). is_active s.session c.args.txn) c.seat.view_is ∙ c.requires in
     inr (subst (λ (s : SeatValue). ∥ WasServedTo o s.number s.session event reply ∥₁) c.seat.view_is
-    (served_to o (value_of was.core) (value_of c.undo_step.new.self.core) was.pusher.records (map shown was.book.items) was.shared event reply (c.in-Err-undo_step.ensures.served own) _ _ c.undo_step.ensures.before))
+    (served_to o (value_of was.core) (value_of c.undo_step.new.self.core) was.pusher.records (map shown was.book.items) was.shared event reply
+    (c.in-Err-undo_step.ensures.served own) _ _ c.undo_step.ensures.before))

@@ -14,7 +14,8 @@ pub returns-clause-oldest : goal.returns-clause-oldest
 returns-clause-oldest g c = (pops_oldest _ _ _ _ c.self.invariant.1 c.pop_as.ensures.rule).oldest ∙ ap (λ (d : Drained). slice_get d.waiting 0) c.self.view_is
 
 pub returns-clause-popped : goal.returns-clause-popped
-returns-clause-popped g c = (pops_oldest _ _ _ _ c.self.invariant.1 c.pop_as.ensures.rule).popped ∙ ap (λ (d : Drained). d.popped ++ take 1 d.waiting) c.self.view_is
+returns-clause-popped g c = (pops_oldest _ _ _ _ c.self.invariant.1 c.pop_as.ensures.rule).popped
+    ∙ ap (λ (d : Drained). d.popped ++ take 1 d.waiting) c.self.view_is
 
 pub returns-clause-waiting : goal.returns-clause-waiting
 returns-clause-waiting g c = (pops_oldest _ _ _ _ c.self.invariant.1 c.pop_as.ensures.rule).waiting ∙ ap (λ (d : Drained). drop 1 d.waiting) c.self.view_is

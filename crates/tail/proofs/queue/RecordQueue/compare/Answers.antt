@@ -7,7 +7,8 @@ pub another-lent-requires-clause-rule : goal.another-lent-requires-clause-rule
 another-lent-requires-clause-rule g c = lends _ _ (ap (λ (v : Knowledge). v.pops) c.popper.invariant.1)
 
 pub absorb-requires-clause-rule : goal.absorb-requires-clause-rule
-absorb-requires-clause-rule g c = merges _ _ _ _ (ap (λ (v : Knowledge). v.pushes) c.pusher.invariant.1) (ap (λ (v : Knowledge). v.pops) c.another-lent.ensures.rule.1)
+absorb-requires-clause-rule g c = merges _ _ _ _ (ap (λ (v : Knowledge). v.pushes) c.pusher.invariant.1)
+    (ap (λ (v : Knowledge). v.pops) c.another-lent.ensures.rule.1)
 
 pub len_as-requires-clause-rule : goal.len_as-requires-clause-rule
 len_as-requires-clause-rule g c = learns _ _
