@@ -6,12 +6,14 @@ mod answer;
 mod bytes;
 mod contents;
 mod disk;
+mod opened;
 mod scripts;
 mod store;
 
 pub use answer::Answer;
-pub use bytes::{Edit, GROUP, edit, write_at};
+pub use bytes::{BUILDING_1, Edit, GROUP, SUPERBLOCK_1, edit, write_at};
 pub use contents::{Contents, Entry};
 pub use disk::Disk;
+pub use opened::{ample, open};
 pub use scripts::requests;
 pub use store::{OpenStore, Store, StoreMemory};

@@ -1,11 +1,10 @@
 // An index is built over as many rows as a store holds.
-use crate::opened::{ample, open};
 use nsf_core::BuildReply;
 use records::{Body, Key, Pair, Txn, compare_pairs};
 use restart::Event;
 use std::process::Abort;
 use std::test::Fail;
-use store_for_tests::{Answer, Disk, OpenStore, StoreMemory};
+use store_for_tests::{Answer, Disk, OpenStore, StoreMemory, ample, open};
 
 const PAGES: u32 = 256;
 

@@ -1,11 +1,11 @@
 // A store is stopped at each call of its device in turn, and crashes; and so are the restarts behind it.
-use crate::opened::{ample, open};
+use records::Error;
 use restart::Event;
 use sector_device::{Fate, Which};
 use std::alloc::Global;
 use std::process::Abort;
 use std::test::Fail;
-use store_for_tests::{Answer, Contents, Disk, OpenStore, StoreMemory, requests};
+use store_for_tests::{Answer, Contents, Disk, OpenStore, StoreMemory, ample, open, requests};
 
 // More than the calls that a run makes.
 const CALLS: u64 = 1_000;
@@ -17,58 +17,118 @@ const SCRIPT: &str = "begin\ninsert 1 =a =\ninsert 1 =b =\ncommit 1\ncreate\nflu
 // The calls of a device that may fail, and what becomes then of the sectors that are not synced.
 type Case = (Which, Fate);
 
+// The requests of a script, what they are answered while nothing fails, and what the store holds at first and whenever all is told to be
+// safe.
+#[derive(Drop)]
+struct Whole<'a> {
+    events: &'a [Event],
+    answers: Vec<Answer>,
+    given: Vec<Contents>,
+}
+
 // The number up to which all is told to be safe, if an answer tells that.
-fn told_safe(answer: Answer) -> Option<u64> {
+fn told_safe(answer: &Answer) -> Option<u64> {
     match answer {
-        Answer::Horizon(number) | Answer::Flipped(number) => Some(number),
+        Answer::Horizon(number) | Answer::Flipped(number) => Some(*number),
         _ => None,
     }
 }
 
-// What the store holds at first, and whenever all is told to be safe.
-fn given_by(
+// Runs the requests while nothing fails.
+fn whole_by<'a>(
     alloc: Global,
     store: &mut impl OpenStore,
-    events: &[Event],
-) -> Result<Vec<Contents>, Fail> {
+    events: &'a [Event],
+) -> Result<Whole<'a>, Fail> {
+    let mut answers = Vec::new(alloc);
     let mut given = vec![in alloc; store.contents()]?;
     for event in events {
-        if told_safe(store.ask(event)).is_some() {
+        let answer = store.ask(event);
+        if told_safe(&answer).is_some() {
             given.push(store.contents())?;
         }
+        answers.push(answer)?;
     }
-    Ok(given)
+    Ok(Whole {
+        events,
+        answers,
+        given,
+    })
 }
 
 // The same of a new store.
-fn given_by_new<M: StoreMemory>(
+fn whole_by_new<'a, M: StoreMemory>(
     memory: M,
     alloc: Global,
-    events: &[Event],
-) -> Result<Vec<Contents>, Fail> {
+    events: &'a [Event],
+) -> Result<Whole<'a>, Fail> {
     let mut store = open(memory, Disk::formatted(alloc, 1, 4)?)?;
-    let given = given_by(alloc, &mut store, events);
+    let whole = whole_by(alloc, &mut store, events);
     store.close();
-    given
+    whole
 }
 
-// The number up to which all was told to be safe.
-fn run_all(store: &mut impl OpenStore, events: &[Event]) -> u64 {
-    let mut safe: u64 = 0;
-    for event in events {
-        safe = told_safe(store.ask(event)).unwrap_or(safe);
+const FAILED: Answer = Answer::Refused(Error::DeviceFailed);
+
+// What a run has told: up to which number all is safe, and whether the device has failed.
+#[derive(Clone, Copy)]
+struct Told {
+    safe: u64,
+    failed: bool,
+}
+
+// Whether the request is for the device.
+fn is_for_device(event: &Event) -> bool {
+    matches!(event, Event::Flush | Event::Copy)
+}
+
+// Takes the answer to a request: whether it may be this, where that is answered while nothing fails. A failure of the device is told,
+// and from then on whenever the device is asked; all other answers stay.
+fn take_answer(told: &mut Told, event: &Event, answer: &Answer, wanted: &Answer) -> bool {
+    if is_for_device(event) && (told.failed || *answer == FAILED) {
+        told.failed = true;
+        return *answer == FAILED;
     }
-    safe
+    told.safe = told_safe(answer).unwrap_or(told.safe);
+    answer == wanted
 }
 
-// That number, and the disk, of a store that is opened there for these requests, if it can be.
-fn run_over<M: StoreMemory>(memory: M, disk: Disk, events: &[Event]) -> (u64, Disk) {
+// What the run tells.
+fn run_all(rt: &impl Abort, store: &mut impl OpenStore, whole: &Whole<'_>) -> Told {
+    let mut told = Told {
+        safe: 0,
+        failed: false,
+    };
+    for (event, wanted) in whole.events.iter().zip(&whole.answers) {
+        let answer = store.ask(event);
+        assert!(rt;
+            take_answer(&mut told, event, &answer, wanted),
+            "{event:?}: {answer:?}"
+        );
+    }
+    told
+}
+
+// That, and the disk, of a store that is opened there for these requests. It isn't opened only where the device fails.
+fn run_over<M: StoreMemory>(
+    rt: &impl Abort,
+    memory: M,
+    disk: Disk,
+    whole: &Whole<'_>,
+) -> (Told, Disk) {
     match memory.open(disk) {
         Ok(mut store) => {
-            let safe = run_all(&mut store, events);
-            (safe, store.close())
+            let told = run_all(rt, &mut store, whole);
+            (told, store.close())
         }
-        Err((_, disk)) => (0, disk),
+        Err((error, disk)) => {
+            assert!(rt; error == Error::DeviceFailed, "{error:?}");
+            let told = Told {
+                safe: 0,
+                failed: true,
+            };
+            (told, disk)
+        }
     }
 }
 
@@ -85,6 +145,7 @@ struct Stopped {
 // Opens the store that is left on the disk, once a restart was stopped at this of its calls, and another one. What is held then, and
 // whether a restart was stopped.
 fn held_at_last<M: StoreMemory>(
+    rt: &impl Abort,
     memory: M,
     mut disk: Disk,
     (which, fate): Case,
@@ -98,28 +159,32 @@ fn held_at_last<M: StoreMemory>(
                 store.close();
                 return Ok((held, again));
             }
-            Err((_, stopped)) => disk = stopped,
+            Err((error, stopped)) => {
+                assert!(rt; error == Error::DeviceFailed, "{error:?}");
+                disk = stopped;
+            }
         }
         again = true;
     }
     Err("a restart that is not stopped")?
 }
 
-// The device fails at this of those calls, and then the restarts behind it at that of theirs.
+// The device fails at this of those calls, and then the restarts behind it at that of theirs. Just where it fails, that is told.
 fn stop_at(
+    rt: &impl Abort,
     alloc: Global,
-    events: &[Event],
+    whole: &Whole<'_>,
     case: Case,
-    call: u64,
-    restart_call: u64,
+    (call, restart_call): (u64, u64),
 ) -> Result<Stopped, Fail> {
     let memory = ample(alloc);
     let disk = Disk::formatted(alloc, 1, 4)?.failing(case.0, call);
-    let (safe, disk) = run_over(&memory, disk, events);
+    let (told, disk) = run_over(rt, &memory, disk, whole);
     let failed = call <= disk.made();
-    let (left, again) = held_at_last(&memory, disk, case, restart_call)?;
+    assert!(rt; told.failed == failed, "call {call}, {case:?}");
+    let (left, again) = held_at_last(rt, &memory, disk, case, restart_call)?;
     Ok(Stopped {
-        safe,
+        safe: told.safe,
         left,
         failed,
         again,
@@ -130,21 +195,21 @@ fn stop_at(
 fn stop_restarts(
     rt: &impl Abort,
     alloc: Global,
-    events: &[Event],
+    whole: &Whole<'_>,
     (case, every): (Case, u64),
     call: u64,
 ) -> Result<Stopped, Fail> {
-    let whole = stop_at(alloc, events, case, call, 0)?;
+    let once = stop_at(rt, alloc, whole, case, (call, 0))?;
     let first = call.checked_rem(every).unwrap_or(0).saturating_add(1);
     for more in 0..CALLS {
         let restart_call = first.saturating_add(more.saturating_mul(every));
-        let stopped = stop_at(alloc, events, case, call, restart_call)?;
+        let stopped = stop_at(rt, alloc, whole, case, (call, restart_call))?;
         assert!(rt;
-            stopped.left == whole.left,
+            stopped.left == once.left,
             "calls {call} and {restart_call}, {case:?}"
         );
         if !stopped.again {
-            return Ok(whole);
+            return Ok(once);
         }
     }
     Err("fewer calls of a restart")?
@@ -155,13 +220,13 @@ fn stop_restarts(
 fn stop_at_each(
     rt: &impl Abort,
     alloc: Global,
-    events: &[Event],
-    given: &[Contents],
+    whole: &Whole<'_>,
     case: (Case, u64),
 ) -> Result<(), Fail> {
+    let given = &whole.given;
     let mut last: u64 = 0;
     for call in 1..CALLS {
-        let stopped = stop_restarts(rt, alloc, events, case, call)?;
+        let stopped = stop_restarts(rt, alloc, whole, case, call)?;
         let left = stopped.left;
         assert!(rt; given.contains(&left), "call {call}, {case:?}: {left:?}");
         assert!(rt;
@@ -180,10 +245,11 @@ fn stop_at_each(
 // Stops a run of the script so.
 fn stop(rt: &impl Abort, alloc: Global, cases: &[(Case, u64)]) -> Result<(), Fail> {
     let events = requests(alloc, SCRIPT)?;
-    let given = given_by_new(&ample(alloc), alloc, &events)?;
-    assert!(rt; given.len() == 5);
+    let memory = ample(alloc);
+    let whole = whole_by_new(&memory, alloc, &events)?;
+    assert!(rt; whole.given.len() == 5);
     for case in cases {
-        stop_at_each(rt, alloc, &events, &given, *case)?;
+        stop_at_each(rt, alloc, &whole, *case)?;
     }
     Ok(())
 }

@@ -1,9 +1,8 @@
 // Stores that were harmed.
-use crate::opened::ample;
 use records::Error;
 use std::alloc::Global;
 use std::test::Fail;
-use store_for_tests::{Disk, Edit, GROUP, OpenStore, StoreMemory, edit};
+use store_for_tests::{Disk, Edit, GROUP, OpenStore, StoreMemory, ample, edit, open};
 
 // Why the store on the disk isn't opened.
 fn why_not_open<M: StoreMemory>(memory: M, disk: Disk) -> Option<Error> {
@@ -100,5 +99,22 @@ fn stores_that_were_harmed(rt: HostRuntime) -> Result<(), Fail> {
     for (name, edits, wanted) in cases {
         assert_eq!(rt; refusal(rt.alloc(), edits)?, wanted, "{name}");
     }
+    Ok(())
+}
+
+// The number of the record that ended the build of the index on the disk.
+fn completed_by<M: StoreMemory>(memory: M, disk: Disk) -> Result<u64, Error> {
+    let mut store = open(memory, disk)?;
+    let completed = store.build_to_end();
+    store.close();
+    completed
+}
+
+// A store may begin with an index that is complete and has no record.
+#[test]
+fn an_index_that_no_record_completed(rt: HostRuntime) -> Result<(), Fail> {
+    let mut disk = Disk::formatted(rt.alloc(), 1, 4)?;
+    edit(&mut disk, &[(2, 0, b"\x02")])?;
+    assert_eq!(rt; completed_by(&ample(rt.alloc()), disk), Ok(0));
     Ok(())
 }

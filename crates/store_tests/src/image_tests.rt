@@ -1,22 +1,32 @@
 // Images that are copied piece by piece.
-use crate::opened::{ample, open};
 use model::Life;
+use records::Error;
 use restart::Event;
 use sector_device::Fate;
 use std::alloc::Global;
 use std::process::Abort;
 use std::test::Fail;
-use store_for_tests::{Answer, Contents, Disk, OpenStore, StoreMemory, requests};
+use store_for_tests::{Answer, Contents, Disk, OpenStore, StoreMemory, ample, open, requests};
 
-// How many pieces were copied, and the last answer.
-fn copies_of(answers: &[Answer]) -> (usize, Option<Answer>) {
-    let mut copies: usize = 0;
+// The number of a record that an answer tells of: one to wait for, or the last that is safe. Of a piece that is copied, 0.
+fn number_of(answer: &Answer) -> Option<u64> {
+    match answer {
+        Answer::Copied => Some(0),
+        Answer::Ticket(ticket) => Some(ticket.record.get()),
+        Answer::Horizon(number) | Answer::Flipped(number) => Some(*number),
+        _ => None,
+    }
+}
+
+// All of them, in order.
+fn numbers_of(alloc: Global, answers: &[Answer]) -> Result<Vec<u64>, Fail> {
+    let mut numbers = Vec::new(alloc);
     for answer in answers {
-        if *answer == Answer::Copied {
-            copies = copies.saturating_add(1);
+        if let Some(number) = number_of(answer) {
+            numbers.push(number)?;
         }
     }
-    (copies, answers.last().copied())
+    Ok(numbers)
 }
 
 // What these requests to the store on the disk are answered, and what they leave.
@@ -40,21 +50,22 @@ fn held_on<M: StoreMemory>(memory: M, disk: Disk) -> Result<(Contents, usize), F
     Ok(held)
 }
 
-// So many pieces are copied in one run of the script, which ends with the flip up to this record. What a crash leaves then, and how
-// many entries.
+// One run of the script over so many pages and slots tells these numbers, and ends with a flip. What a crash leaves then, and how many
+// entries.
 fn flip(
     rt: &impl Abort,
     alloc: Global,
     script: &str,
-    pages: u32,
-    (copies, number): (usize, u64),
+    (pages, slots): (u32, u32),
+    wanted: &[u64],
 ) -> Result<(Contents, usize), Fail> {
     let memory = ample(alloc);
-    let disk = Disk::formatted(alloc, pages, 16)?;
+    let disk = Disk::formatted(alloc, pages, slots)?;
     let (answers, disk) = run_over(&memory, alloc, disk, &requests(alloc, script)?)?;
-    assert_eq!(rt;
-        copies_of(&answers),
-        (copies, Some(Answer::Flipped(number)))
+    assert!(rt; matches!(answers.last(), Some(Answer::Flipped(_))));
+    assert!(rt;
+        numbers_of(alloc, &answers)?.ends_with(wanted),
+        "{answers:?}"
     );
     held_on(&memory, disk.crash(Fate::Junk))
 }
@@ -91,9 +102,10 @@ const MADE_ANEW: &str = "create\nbuild 208\nimage\nimage\nimage\nimage\nimage\ni
 
 #[test]
 fn images_between_requests(rt: HostRuntime) -> Result<(), Fail> {
-    let (left, _) = flip(&rt, rt.alloc(), BETWEEN_REQUESTS, 2, (4, 4))?;
+    let between = [2, 0, 0, 4, 0, 0, 4];
+    let (left, _) = flip(&rt, rt.alloc(), BETWEEN_REQUESTS, (2, 4), &between)?;
     assert!(rt; left.last == 4 && left.rows.0.is_some() && left.rows.1.is_some());
-    let (left, _) = flip(&rt, rt.alloc(), DROPPED, 1, (3, 8))?;
+    let (left, _) = flip(&rt, rt.alloc(), DROPPED, (1, 4), &[3, 4, 0, 0, 0, 8, 8, 8])?;
     assert!(rt; left.rows.0.is_some() && left.rows.1.is_some());
     assert!(rt; left.life == Life::Absent && left.entries.0.is_none());
     Ok(())
@@ -104,18 +116,51 @@ fn entries_behind(
     rt: &impl Abort,
     alloc: Global,
     script: &str,
-    flipped: (usize, u64),
+    wanted: &[u64],
 ) -> Result<usize, Fail> {
     let text = behind_200_rows(alloc, script)?;
-    let (_, entries) = flip(rt, alloc, &text, 4, flipped)?;
+    let (_, entries) = flip(rt, alloc, &text, (4, 16), wanted)?;
     Ok(entries)
 }
 
 #[test]
 fn images_of_builds(rt: HostRuntime) -> Result<(), Fail> {
-    let built = entries_behind(&rt, rt.alloc(), OF_A_BUILD, (7, 409))?;
+    let of_a_build = [205, 0, 0, 0, 0, 0, 0, 0, 409];
+    let built = entries_behind(&rt, rt.alloc(), OF_A_BUILD, &of_a_build)?;
     assert_eq!(rt; built, 200);
-    let anew = entries_behind(&rt, rt.alloc(), MADE_ANEW, (7, 475))?;
+    let made_anew = [205, 0, 0, 0, 0, 0, 0, 410, 411, 0, 475];
+    let anew = entries_behind(&rt, rt.alloc(), MADE_ANEW, &made_anew)?;
     assert_eq!(rt; anew, 64);
+    Ok(())
+}
+
+// What taking the store apart gives behind this script, but for the disk.
+fn parted<M: StoreMemory>(
+    memory: M,
+    alloc: Global,
+    script: &str,
+) -> Result<Result<(u64, u64), Error>, Fail> {
+    let events = requests(alloc, script)?;
+    let mut store = open(memory, Disk::formatted(alloc, 1, 4)?)?;
+    let run = store.run(alloc, &events);
+    let parts = store.into_parts();
+    run?;
+    match parts {
+        Ok((last, synced, _)) => Ok(Ok((last, synced))),
+        Err((error, _)) => Ok(Err(error)),
+    }
+}
+
+// A store with an image under way is taken apart: all is safe then. One with an active transaction isn't.
+#[test]
+fn a_store_is_taken_apart(rt: HostRuntime) -> Result<(), Fail> {
+    let memory = ample(rt.alloc());
+    let cases = [
+        ("begin\ninsert 1 =a =\nimage\ncommit 1\nimage\n", Ok((2, 2))),
+        ("begin\n", Err(Error::TxnsActive)),
+    ];
+    for (script, wanted) in cases {
+        assert_eq!(rt; parted(&memory, rt.alloc(), script)?, wanted);
+    }
     Ok(())
 }

@@ -16,5 +16,3 @@ mod damage_tests;
 mod image_tests;
 #[cfg(test)]
 mod memory_tests;
-#[cfg(test)]
-mod opened;

@@ -1,6 +1,6 @@
 // Memory is refused to a store, each allocation in turn. What was refused for want of memory is asked again, and every other
 // reply is that of a store to which nothing was refused.
-use crate::opened::open;
+use nsf_core::BuildReply;
 use records::Error;
 use refused_memory::Refusing;
 use restart::Event;
@@ -8,7 +8,7 @@ use sector_device::Fate;
 use std::alloc::Global;
 use std::process::Abort;
 use std::test::Fail;
-use store_for_tests::{Answer, Contents, Disk, OpenStore, StoreMemory, requests};
+use store_for_tests::{Answer, Contents, Disk, OpenStore, StoreMemory, open, requests};
 
 // How often a run is played at most.
 const PLAYS: u64 = 2_000;
@@ -20,41 +20,56 @@ fn open_again<M: StoreMemory>(rt: &impl Abort, memory: M, disk: Disk) -> Result<
         Ok(store) => Ok(store),
         Err((error, disk)) => {
             assert!(rt; error == Error::NoMemory && before < memory.refused());
-            open(memory, disk)
+            Ok(open(memory, disk)?)
         }
     }
 }
 
-// The answer, if need be to a second request.
+// The answer, and whether it was to a second request, since memory was refused to the first.
 fn ask_again<M: StoreMemory>(
     rt: &impl Abort,
     memory: M,
     store: &mut M::Store,
     event: &Event,
-) -> Answer {
+) -> (Answer, bool) {
     let before = memory.refused();
     match store.ask(event) {
         Answer::Refused(Error::NoMemory) => {
             assert!(rt; before < memory.refused(), "{event:?}");
-            store.ask(event)
+            (store.ask(event), true)
         }
-        answer => answer,
+        answer => (answer, false),
     }
 }
 
-// The answers to the requests.
+// What a play of requests gave: the answers, the place of the request that was made again, what a crash leaves then, and how many
+// allocations were refused.
+#[derive(Drop)]
+struct Played {
+    answers: Vec<Answer>,
+    again: Option<usize>,
+    left: Contents,
+    refused: u64,
+}
+
+// The answers to the requests, and the place of the one that was made again.
 fn answers_of<M: StoreMemory>(
     rt: &impl Abort,
     memory: M,
     alloc: Global,
     store: &mut M::Store,
     events: &[Event],
-) -> Result<Vec<Answer>, Fail> {
+) -> Result<(Vec<Answer>, Option<usize>), Fail> {
     let mut answers = Vec::new(alloc);
-    for event in events {
-        answers.push(ask_again(rt, memory, store, event))?;
+    let mut again = None;
+    for (place, event) in events.iter().enumerate() {
+        let (answer, is_again) = ask_again(rt, memory, store, event);
+        answers.push(answer)?;
+        if is_again {
+            again = Some(place);
+        }
     }
-    Ok(answers)
+    Ok((answers, again))
 }
 
 // What the store on the disk holds.
@@ -65,40 +80,58 @@ fn held_on<M: StoreMemory>(rt: &impl Abort, memory: M, disk: Disk) -> Result<Con
     Ok(held)
 }
 
-// The answers to the requests, of a new store, what a crash leaves then, and how many allocations were refused.
+// Plays the requests over a new store of so many pages.
 fn play_in<M: StoreMemory>(
     rt: &impl Abort,
     memory: M,
     alloc: Global,
-    events: &[Event],
-) -> Result<(Vec<Answer>, Contents, u64), Fail> {
-    let mut store = open_again(rt, memory, Disk::formatted(alloc, 2, 12)?)?;
+    (events, pages): (&[Event], u32),
+) -> Result<Played, Fail> {
+    let mut store = open_again(rt, memory, Disk::formatted(alloc, pages, 12)?)?;
     let answers = answers_of(rt, memory, alloc, &mut store, events);
     let disk = store.close().crash(Fate::Junk);
-    let answers = answers?;
+    let (answers, again) = answers?;
     let left = held_on(rt, memory, disk)?;
-    Ok((answers, left, memory.refused()))
+    Ok(Played {
+        answers,
+        again,
+        left,
+        refused: memory.refused(),
+    })
 }
 
 // The same, where the allocation is refused that so many come before.
 fn play(
     rt: &impl Abort,
     alloc: Global,
-    events: &[Event],
+    requests: (&[Event], u32),
     before: u64,
-) -> Result<(Vec<Answer>, Contents, u64), Fail> {
-    play_in(rt, &Refusing::new(alloc, before), alloc, events)
+) -> Result<Played, Fail> {
+    play_in(rt, &Refusing::new(alloc, before), alloc, requests)
 }
 
-// Refuses each allocation in turn, and at last none. How many were refused.
-fn refuse_each(rt: &impl Abort, alloc: Global, script: &str) -> Result<u64, Fail> {
+// Refuses each allocation in turn, and at last none. What was answered, and which of these answers were to a second request.
+fn refuse_each(
+    rt: &impl Abort,
+    alloc: Global,
+    (script, pages): (&str, u32),
+) -> Result<Vec<Answer>, Fail> {
     let events = requests(alloc, script)?;
-    let (wanted, whole, _) = play(rt, alloc, &events, u64::MAX)?;
+    let wanted = play(rt, alloc, (&events, pages), u64::MAX)?;
+    let mut again = Vec::new(alloc);
     for before in 0..PLAYS {
-        let (answers, left, refused) = play(rt, alloc, &events, before)?;
-        assert!(rt; answers == wanted && left == whole, "allocation {before}");
-        if refused == 0 {
-            return Ok(before);
+        let played = play(rt, alloc, (&events, pages), before)?;
+        assert!(rt;
+            played.answers == wanted.answers && played.left == wanted.left,
+            "allocation {before}"
+        );
+        if played.refused == 0 {
+            return Ok(again);
+        }
+        if let Some(place) = played.again {
+            if let Some(answer) = wanted.answers.get(place) {
+                again.push(*answer)?;
+            }
         }
     }
     Err("fewer allocations")?
@@ -133,18 +166,30 @@ fn behind_rows(alloc: Global, rows: u8, script: &str) -> Result<String, Fail> {
     Ok(text)
 }
 
+// Whether it is answered at the end of a build, or of a complete index.
+fn is_of_complete(answer: &Answer) -> bool {
+    matches!(
+        answer,
+        Answer::Built(BuildReply::Done(_)) | Answer::Found(..)
+    )
+}
+
+// Each case is a script, over so many pages, of which at least so many requests are made again, and so many at the end of a build or of
+// a complete index.
 #[test]
 fn each_allocation_is_refused(rt: HostRuntime) -> Result<(), Fail> {
     let large = behind_rows(rt.alloc(), 64, OVER_TWO_PAGES)?;
     let cases = [
-        (DELETED, 25),
-        (TAKEN_BACK, 15),
-        (UPDATED, 15),
-        (large.as_str(), 30),
+        ((DELETED, 1), 40, 3),
+        ((TAKEN_BACK, 1), 25, 1),
+        ((UPDATED, 1), 30, 0),
+        ((large.as_str(), 2), 30, 0),
     ];
-    for (script, least) in cases {
-        let refusals = refuse_each(&rt, rt.alloc(), script)?;
-        assert!(rt; least < refusals, "{refusals} refusals");
+    for (case, least, complete) in cases {
+        let again = refuse_each(&rt, rt.alloc(), case)?;
+        let of_complete = again.iter().filter(|answer| is_of_complete(answer));
+        assert_eq!(rt; of_complete.count(), complete);
+        assert!(rt; least <= again.len(), "{again:?}");
     }
     Ok(())
 }
