@@ -1,7 +1,9 @@
 //! Why a verb was refused.
 use file_disk::OpenError;
 use records::Error;
-use std::alloc::AllocError;
+use restart::Reply;
+use std::alloc::{AllocError, Global};
+use std::io::{ErrorKind, Write};
 use std::{fmt, io};
 
 /// Why a verb was refused.
@@ -13,6 +15,10 @@ pub enum Refused {
     Store(Error),
     /// There is no index to build.
     NoIndex,
+    /// No place of the index is free, so that it can't be built on.
+    FullIndex,
+    /// The index that was made anew has fewer places than the table has rows.
+    SmallIndex,
     /// The store opens, but its index doesn't fit its rows.
     Unsound,
     /// The store that is to be moved is of version 2 already.
@@ -45,6 +51,23 @@ impl From<AllocError> for Refused {
     }
 }
 
+/// The refusal that a reply tells, if it is one.
+pub fn granted(reply: Reply<Global>) -> Result<(), Refused> {
+    match reply {
+        Reply::Refused(error) => Err(Refused::Store(error)),
+        _ => Ok(()),
+    }
+}
+
+/// Tells why the words of a program can't be read, and answers the exit status for that.
+pub fn refuse_words<E: Write>(program: &str, error: &io::Error, errors: &mut E) -> u8 {
+    let _ = match error.kind() {
+        ErrorKind::InvalidData => writeln!(errors, "{program}: a word that isn't text"),
+        _ => writeln!(errors, "{program}: the words can't be read: {error}"),
+    };
+    2
+}
+
 // What a store's refusal says of its file.
 fn write_error<W: fmt::Write>(error: Error, f: &mut fmt::Formatter<W>) -> fmt::Result {
     match error {
@@ -67,6 +90,12 @@ impl fmt::Display for Refused {
             Refused::Store(error) => write_error(*error, f),
             Refused::Unsound => f.write_str("it opens, but its index isn't that of its rows"),
             Refused::Newer => f.write_str("it holds a store of version 2, which needs no move"),
+            Refused::FullIndex => f.write_str(
+                "its index is full: `nsf-store build --again` drops it, creates it anew and builds it",
+            ),
+            Refused::SmallIndex => f.write_str(
+                "its index has fewer places than the table has rows",
+            ),
             Refused::NoIndex => f.write_str("it has no index; `create` in `run` begins one"),
             Refused::Stream(error) => write!(f, "input or output failed: {error}"),
         }

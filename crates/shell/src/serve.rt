@@ -1,12 +1,16 @@
 //! The commands of the input, served line by line.
+use crate::refused::{Refused, granted};
 use records::Error;
 use replay_values::Answer;
 use script::Command;
 use sector_device::Device;
-use serving::{Request, Store};
+use serving::{GuardedStore, Outcome, Request, Store};
 use std::alloc::Global;
 use std::io;
 use std::io::{BufRead, Write};
+
+const FULL_INDEX: &str =
+    "the index is full. What open transactions reserve comes free at their end, and `clean` takes marked entries out. Where neither helps, `drop` and then `create` make the index anew";
 
 // The refusal of a text of one line, as that of this line.
 fn at_line(error: Error, line: u64) -> Error {
@@ -16,61 +20,107 @@ fn at_line(error: Error, line: u64) -> Error {
     }
 }
 
-// Serves a command, and prints its answers.
-fn serve_command<D: Device, W: Write>(
-    store: &mut Store<D>,
-    command: &Command,
-    output: &mut W,
-) -> io::Result<()> {
-    match Request::of(command) {
-        Ok(request) => store.answer(request, output),
-        Err(error) => {
-            let answer = Answer::Refused(error);
-            writeln!(output, "{answer}")
-        }
-    }
+/// A store that serves an input, and what it has met.
+#[derive(Drop)]
+pub struct Service<D: Device> {
+    guarded: GuardedStore<D>,
+    /// Whether each commit is flushed before the next command.
+    is_durable: bool,
+    /// Whether a command was refused since the index is full.
+    is_full: bool,
 }
 
-// Serves the command of a line, if there is one, and tells whether the line is one of a script.
-fn serve_line<D: Device, W: Write>(
-    alloc: Global,
-    store: &mut Store<D>,
-    line: &[u8],
-    number: u64,
-    output: &mut W,
-) -> io::Result<bool> {
-    match script::read(alloc, line) {
-        Ok(commands) => {
-            for command in &commands {
-                serve_command(store, command, output)?;
+impl<D: Device> Service<D> {
+    pub fn new(store: Store<D>, is_durable: bool) -> Self {
+        Service {
+            guarded: GuardedStore::new(store),
+            is_durable,
+            is_full: false,
+        }
+    }
+
+    // Notes what came of a request.
+    fn note(&mut self, outcome: Outcome) {
+        self.is_full |= matches!(outcome, Outcome::Refused(Error::IndexFull));
+    }
+
+    // Serves a request, and prints its answers.
+    fn answer<W: Write>(&mut self, request: Request, output: &mut W) -> io::Result<Outcome> {
+        let outcome = self.guarded.answer(request, output)?;
+        self.note(outcome);
+        Ok(outcome)
+    }
+
+    // Serves a command, and prints its answers.
+    fn serve_command<W: Write>(&mut self, command: &Command, output: &mut W) -> io::Result<()> {
+        let request = match Request::of(command) {
+            Ok(request) => request,
+            Err(error) => {
+                let answer = Answer::Refused(error);
+                return writeln!(output, "{answer}");
             }
-            Ok(true)
+        };
+        let outcome = self.answer(request, output)?;
+        let is_commit = matches!(command, Command::Commit { .. });
+        if self.is_durable && is_commit && outcome == Outcome::Ticket {
+            self.answer(Request::Flush, output)?;
         }
-        Err(error) => {
-            let answer = Answer::Refused(at_line(error, number));
-            writeln!(output, "{answer}")?;
-            Ok(false)
-        }
+        Ok(())
     }
-}
 
-/// Serves the commands of the input until its end, each of which is answered before the next line is read, and tells whether each
-/// line was one of a script; a line that is none is answered with its number, and passed over.
-pub fn serve_lines<D: Device, I: BufRead, W: Write>(
-    alloc: Global,
-    store: &mut Store<D>,
-    input: &mut I,
-    output: &mut W,
-) -> io::Result<bool> {
-    let mut is_script = true;
-    let mut line = Vec::new(alloc);
-    for number in 1..u64::MAX {
-        line.clear();
-        if input.read_until(b'\n', &mut line)? == 0 {
-            break;
+    // Serves the command of a line, if there is one, and tells whether the line is one of a script.
+    fn serve_line<W: Write>(
+        &mut self,
+        alloc: Global,
+        line: &[u8],
+        number: u64,
+        output: &mut W,
+    ) -> io::Result<bool> {
+        match script::read(alloc, line) {
+            Ok(commands) => {
+                for command in &commands {
+                    self.serve_command(command, output)?;
+                }
+                Ok(true)
+            }
+            Err(error) => {
+                let answer = Answer::Refused(at_line(error, number));
+                writeln!(output, "{answer}")?;
+                Ok(false)
+            }
         }
-        is_script &= serve_line(alloc, store, line.as_slice(), number, output)?;
-        output.flush()?;
     }
-    Ok(is_script)
+
+    /// Serves the commands of the input until its end, each of which is answered before the next line is read, and tells whether
+    /// each line was one of a script; a line that is none is answered with its number, and passed over. Where the index is full,
+    /// the error stream tells once what helps.
+    pub fn serve_lines<I: BufRead, W: Write, E: Write>(
+        &mut self,
+        alloc: Global,
+        input: &mut I,
+        output: &mut W,
+        errors: &mut E,
+    ) -> io::Result<bool> {
+        let mut is_script = true;
+        let mut was_full = false;
+        let mut line = Vec::new(alloc);
+        for number in 1..u64::MAX {
+            line.clear();
+            if input.read_until(b'\n', &mut line)? == 0 {
+                break;
+            }
+            is_script &= self.serve_line(alloc, line.as_slice(), number, output)?;
+            output.flush()?;
+            if self.is_full && !was_full {
+                let _ = writeln!(errors, "nsf-store: {FULL_INDEX}");
+                was_full = true;
+            }
+        }
+        Ok(is_script)
+    }
+
+    /// Flushes what is not flushed yet.
+    pub fn flush(&mut self) -> Result<(), Refused> {
+        granted(self.guarded.flush())
+    }
 }
