@@ -107,8 +107,9 @@ fn print<W: Write>(output: &mut W, found: Found) -> io::Result<u8> {
     Ok(if same { 0 } else { 1 })
 }
 
-// Prints what was found, or why it wasn't, and answers the program's status.
-fn told<W: Write>(output: &mut W, found: Result<Found, OpenError>) -> io::Result<u8> {
+/// Prints what was found, or why it wasn't, and answers the program's status: 1 where a row is without its entry, an entry without its
+/// row, or something was refused.
+pub fn told<W: Write>(output: &mut W, found: Result<Found, OpenError>) -> io::Result<u8> {
     match found {
         Ok(found) => print(output, found),
         Err(error) => {
