@@ -1,8 +1,7 @@
 //! What is below a disk: it takes writes and syncs, of which no clause can say anything.
+use crate::trouble::Trouble;
 use sector_device::SECTOR_SIZE;
-use std::io::ErrorKind;
-use std::os::unix::fs::FileExt;
-use std::{fs, io};
+use std::io;
 
 /// Takes what is written to a disk.
 pub trait Backing {
@@ -11,25 +10,20 @@ pub trait Backing {
 
     /// It is to return once all that was put before is safe. (That it does is trusted.)
     fn sync(&mut self) -> io::Result<()>;
+
+    /// Why a put or a sync failed, where that is known.
+    fn trouble(&self) -> Option<Trouble> {
+        None
+    }
 }
 
-/// A file of the operating system, whose sector n stands at the byte 512 * n. Its lock is held until it is dropped.
-#[derive(Drop)]
-pub struct HostFile {
-    pub(crate) file: fs::File,
-}
+/// A backing that holds sectors of an earlier time, over which a disk is opened.
+pub trait Stored: Backing {
+    /// Reads as many sectors as there is room for, from the first one's number on.
+    fn get_run(&mut self, first: u64, run: &mut [[u8; SECTOR_SIZE]]) -> io::Result<()>;
 
-impl Backing for HostFile {
-    fn put(&mut self, n: u64, bytes: &[u8; SECTOR_SIZE]) -> io::Result<()> {
-        match n.checked_mul(SECTOR_SIZE as u64) {
-            Some(at) => self.file.write_all_at(bytes, at),
-            None => Err(io::Error::from(ErrorKind::InvalidInput)),
-        }
-    }
-
-    fn sync(&mut self) -> io::Result<()> {
-        self.file.sync_data()
-    }
+    /// Writes these sectors, from the first one's number on.
+    fn put_run(&mut self, first: u64, run: &[[u8; SECTOR_SIZE]]) -> io::Result<()>;
 }
 
 /// Nothing is below: what is written stays in memory.

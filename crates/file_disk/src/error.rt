@@ -1,4 +1,5 @@
 //! Why there is no disk over a file.
+use crate::trouble::Trouble;
 use std::alloc::AllocError;
 use std::fs::TryLockError;
 use std::{fmt, io};
@@ -7,15 +8,19 @@ use std::{fmt, io};
 #[derive(Debug, Drop)]
 pub enum OpenError {
     /// The system refused a call.
-    Io(io::Error),
+    Io(Trouble),
     /// There is no memory for the mirror.
     NoMemory,
     /// Another process, or another disk of this one, has it open.
     Busy,
     /// It is there already.
     Exists,
-    /// The file under which it would be made, `PATH.new`, is there already.
+    /// The file under which it would be made, `PATH.new`, is there already, and nobody has it open.
     DraftExists,
+    /// Another process, or another disk of this one, has `PATH.new` open, as one that makes it now.
+    DraftInUse,
+    /// The file system gives a file no second name, as a new one needs to get its own.
+    NoSecondName,
     /// It is no regular file.
     NotAFile,
     /// It is a link, or has more than one name.
@@ -26,7 +31,7 @@ pub enum OpenError {
 
 impl From<io::Error> for OpenError {
     fn from(error: io::Error) -> OpenError {
-        OpenError::Io(error)
+        OpenError::Io(Trouble::of(error))
     }
 }
 
@@ -40,7 +45,7 @@ impl From<TryLockError> for OpenError {
     fn from(error: TryLockError) -> OpenError {
         match error {
             TryLockError::WouldBlock => OpenError::Busy,
-            TryLockError::Error(error) => OpenError::Io(error),
+            TryLockError::Error(error) => OpenError::from(error),
         }
     }
 }
@@ -48,12 +53,18 @@ impl From<TryLockError> for OpenError {
 impl fmt::Display for OpenError {
     fn fmt<W: fmt::Write>(&self, f: &mut fmt::Formatter<W>) -> fmt::Result {
         match self {
-            OpenError::Io(error) => write!(f, "{error}"),
+            OpenError::Io(trouble) => write!(f, "{trouble}"),
             OpenError::NoMemory => f.write_str("out of memory"),
             OpenError::Busy => f.write_str("another process has it open"),
             OpenError::Exists => f.write_str("it is there already"),
             OpenError::DraftExists => f.write_str(
-                "the file of this name with .new behind it, under which it would be made, is there already",
+                "the file of this name with .new behind it, under which it would be made, is left over: remove it",
+            ),
+            OpenError::DraftInUse => {
+                f.write_str("another process makes it now, under this name with .new behind it")
+            }
+            OpenError::NoSecondName => f.write_str(
+                "the file system gives a file no second name, as a new one needs to get its own",
             ),
             OpenError::NotAFile => f.write_str("it is no regular file"),
             OpenError::Linked => f.write_str("it is a link, or has more than one name"),

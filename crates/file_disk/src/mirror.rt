@@ -5,10 +5,16 @@ ghost use Rattle.sector_device.specs.History.{Elapses, CountsFailure, Rises};
 ghost use Rattle.sector_device.specs.Values.{zero_sector};
 ghost use Rattle.file_disk.specs.Mirror.{IsMirror};
 
-use crate::backing::Backing;
+use crate::backing::{Backing, Stored};
+use crate::error::OpenError;
 use crate::past::Past;
+use crate::trouble::{Trouble, Troubled};
 use sector_device::{Device, Failed, SECTOR_SIZE, zero_sector};
 use std::alloc::{AllocError, Allocator};
+use std::io;
+
+// How many sectors are read and written in one call where a disk is opened.
+const RUN: usize = 128;
 
 /// A disk over what is below. Once a write or sync of that failed, nothing is written any more and each write and sync fails: what
 /// is below is not known then, until it is read again. (That nothing reaches it then is only tested.)
@@ -79,6 +85,20 @@ impl<F: Drop, A: Allocator> FileDisk<F, A> {
         self.below
     }
 
+    /// The same disk over this in place of what is below.
+    pub(crate) fn with_below<G: Drop>(self, below: G) -> FileDisk<G, A>
+        ensures disk { (history_of result).disk ≡ (history_of self).disk }
+        ensures failures { failures_of result ≡ failures_of self }
+    {
+        FileDisk {
+            below,
+            content: self.content,
+            past: self.past,
+            failures: self.failures,
+            has_failed: self.has_failed,
+        }
+    }
+
     /// Takes a sector over as what is below is to hold it.
     pub(crate) fn put(&mut self, n: u64, bytes: &[u8; SECTOR_SIZE])
         requires { n < length (history_of self.old).disk.content }
@@ -122,6 +142,75 @@ impl<F: Drop, A: Allocator> FileDisk<F, A> {
         self.failures = self.failures.saturating_add(1);
         let bytes = self.content[n as usize];
         self.put(n, &bytes);
+    }
+}
+
+// Reads sectors of what is below, from the first one's number on, and writes them back.
+fn renew<F: Stored>(below: &mut F, first: usize, run: &mut [[u8; SECTOR_SIZE]]) -> io::Result<()>
+    ensures { length run.new ≡ length run.old }
+{
+    below.get_run(first as u64, run)?;
+    below.put_run(first as u64, run)
+}
+
+impl<F: Stored + Drop, A: Allocator> FileDisk<F, A> {
+    ghost use Rattle.file_disk.specs.FileDisk.{history_of, failures_of};
+
+    // Takes over sectors as what is below holds them, from the first one's number on.
+    fn put_run(&mut self, first: usize, run: &[[u8; SECTOR_SIZE]])
+        requires { first + length run.now ≤ length (history_of self.old).disk.content }
+        ensures size { length (history_of self.new).disk.content ≡ length (history_of self.old).disk.content }
+        ensures failures { failures_of self.new ≡ failures_of self.old }
+    {
+        for n in 0..run.len() {
+            self.put((first + n) as u64, &run[n]);
+        }
+    }
+
+    // Why what is below refused a call.
+    fn refused_by(&self, error: io::Error) -> OpenError {
+        match self.below.trouble() {
+            Some(trouble) => OpenError::Io(trouble),
+            None => OpenError::from(error),
+        }
+    }
+
+    // Reads all that is below, and writes it back.
+    fn load(&mut self) -> io::Result<()>
+        ensures failures { failures_of self.new ≡ failures_of self.old }
+    {
+        let sectors = self.content.len();
+        let mut buffer = [[0; SECTOR_SIZE]; RUN];
+        for k in 0..sectors {
+            let first = k.saturating_mul(RUN);
+            if first >= sectors {
+                break;
+            }
+            let run = &mut buffer[..RUN.min(sectors - first)];
+            renew(&mut self.below, first, run)?;
+            self.put_run(first, run);
+        }
+        self.below.sync()
+    }
+
+    /// A disk over what is below, which holds the sectors that that does. Each that was read is written back, and all are synced,
+    /// before one counts as safe: after a sync that failed, what is read may be on no device.
+    pub fn over(alloc: A, below: F, sectors: usize) -> Result<Self, OpenError>
+        ensures synced { IfOk result (λ d. IsSynced (history_of d).disk) }
+        ensures failures { IfOk result (λ d. failures_of d ≡ 0) }
+    {
+        let mut disk = FileDisk::new(alloc, below, sectors)?;
+        if let Err(error) = disk.load() {
+            return Err(disk.refused_by(error));
+        }
+        disk.settle();
+        Ok(disk)
+    }
+}
+
+impl<F: Backing + Drop, A: Allocator> Troubled for FileDisk<F, A> {
+    fn trouble(&self) -> Option<Trouble> {
+        self.below.trouble()
     }
 }
 

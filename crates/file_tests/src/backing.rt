@@ -1,11 +1,11 @@
-// A backing in memory, whose power can fail.
-use file_disk::Backing;
+// A backing in memory with a cache of pages, whose power can fail.
+use file_disk::{Backing, Stored};
 use sector_device::SECTOR_SIZE;
 use std::alloc::{AllocError, Global};
 use std::io;
 use std::io::ErrorKind;
 
-/// What becomes of the sectors that were put and not synced, once the power is lost.
+/// What becomes of the sectors that are in the cache alone, once the power is lost.
 #[derive(Clone, Copy, Debug, PartialEq, Eq)]
 pub enum Loss {
     Dropped,
@@ -17,14 +17,25 @@ pub enum Loss {
 /// A sector.
 pub type Sector = [u8; SECTOR_SIZE];
 
-/// What is below a disk: sectors that are safe, and those that were put since.
+// A sector of the device, and as the cache shows it.
+#[derive(Clone, Copy)]
+struct Page {
+    safe: Sector,
+    shown: Sector,
+    // whether the next sync writes it
+    is_dirty: bool,
+}
+
+/// What is below a disk: a device, and a cache of it. As with Linux, a sync that fails leaves what it didn't write in the cache,
+/// and no later sync writes it.
 #[derive(Drop)]
 pub struct Host {
-    safe: Vec<Sector>,
-    waiting: Vec<(u64, Sector)>,
+    pages: Vec<Page>,
     calls: u64,
-    // The number of the put or sync that fails, from 1, or 0.
+    // The number of the call that fails, from 1, or 0.
     fails_at: u64,
+    // whether writes count as calls too
+    counts_writes: bool,
 }
 
 fn torn(old: &Sector, new: &Sector) -> Sector {
@@ -35,68 +46,140 @@ fn torn(old: &Sector, new: &Sector) -> Sector {
     sector
 }
 
+// What is there of the sector once the power was lost.
+fn left(page: &Page, loss: Loss) -> Sector {
+    match loss {
+        Loss::Dropped => page.safe,
+        Loss::Kept => page.shown,
+        Loss::Torn => torn(&page.safe, &page.shown),
+    }
+}
+
 impl Host {
-    /// Zeros that are safe; the put or sync of this number fails, from 1, or none at 0.
-    pub fn new(alloc: Global, sectors: usize, fails_at: u64) -> Result<Host, AllocError> {
-        let mut safe = Vec::with_capacity(alloc, sectors)?;
+    /// A device of zeros.
+    pub fn new(alloc: Global, sectors: usize) -> Result<Host, AllocError> {
+        let mut pages = Vec::with_capacity(alloc, sectors)?;
         for _ in 0..sectors {
-            safe.push([0; SECTOR_SIZE])?;
+            pages.push(Page {
+                safe: [0; SECTOR_SIZE],
+                shown: [0; SECTOR_SIZE],
+                is_dirty: false,
+            })?;
         }
         Ok(Host {
-            safe,
-            waiting: Vec::new(alloc),
+            pages,
             calls: 0,
-            fails_at,
+            fails_at: 0,
+            counts_writes: true,
         })
     }
 
-    /// How many puts and syncs were asked for.
+    /// How many calls were counted since it was said which fails.
     pub fn calls(&self) -> u64 {
         self.calls
     }
 
-    /// What is there once the power was lost.
-    pub fn lose_power(self, loss: Loss) -> Vec<Sector> {
-        let Host {
-            mut safe,
-            waiting,
-            ..
-        } = self;
-        for (n, bytes) in &waiting {
-            if let Some(sector) = safe.get_mut(*n as usize) {
-                match loss {
-                    Loss::Dropped => {}
-                    Loss::Kept => *sector = *bytes,
-                    Loss::Torn => *sector = torn(sector, bytes),
-                }
-            }
-        }
-        safe
+    /// The write or sync of this number from now on fails, from 1, or none at 0.
+    pub fn fail_at(&mut self, number: u64) {
+        self.calls = 0;
+        self.fails_at = number;
+        self.counts_writes = true;
     }
 
-    fn count(&mut self) -> io::Result<()> {
+    /// The sync of this number from now on fails, from 1.
+    pub fn fail_at_sync(&mut self, number: u64) {
+        self.fail_at(number);
+        self.counts_writes = false;
+    }
+
+    /// The cache is gone with the power. No later call fails.
+    pub fn lose_power(&mut self, loss: Loss) {
+        self.fails_at = 0;
+        for page in &mut self.pages {
+            let sector = left(page, loss);
+            page.safe = sector;
+            page.shown = sector;
+            page.is_dirty = false;
+        }
+    }
+
+    /// The same device and cache.
+    pub fn copied(&self) -> Result<Host, AllocError> {
+        Ok(Host {
+            pages: self.pages.clone()?,
+            calls: 0,
+            fails_at: 0,
+            counts_writes: true,
+        })
+    }
+
+    // Counts a call, and answers it.
+    fn answer(&mut self) -> io::Result<()> {
         self.calls = self.calls.saturating_add(1);
         if self.calls == self.fails_at {
             return Err(io::Error::from(ErrorKind::Other));
         }
         Ok(())
     }
-}
 
-impl Backing for Host {
-    fn put(&mut self, n: u64, bytes: &Sector) -> io::Result<()> {
-        self.waiting.push((n, *bytes))?;
-        self.count()
+    fn answer_write(&mut self) -> io::Result<()> {
+        if self.counts_writes {
+            return self.answer();
+        }
+        Ok(())
     }
 
     fn sync(&mut self) -> io::Result<()> {
-        self.count()?;
-        for (n, bytes) in &self.waiting {
-            if let Some(sector) = self.safe.get_mut(*n as usize) {
-                *sector = *bytes;
+        let answer = self.answer();
+        for page in &mut self.pages {
+            if page.is_dirty && answer.is_ok() {
+                page.safe = page.shown;
+            }
+            page.is_dirty = false;
+        }
+        answer
+    }
+
+    fn show(&mut self, n: u64, bytes: &Sector) {
+        if let Some(page) = self.pages.get_mut(n as usize) {
+            page.shown = *bytes;
+            page.is_dirty = true;
+        }
+    }
+}
+
+/// What a process has of it.
+#[derive(Drop)]
+pub struct Used<'a> {
+    pub host: &'a mut Host,
+}
+
+impl Backing for Used<'_> {
+    fn put(&mut self, n: u64, bytes: &Sector) -> io::Result<()> {
+        self.host.show(n, bytes);
+        self.host.answer_write()
+    }
+
+    fn sync(&mut self) -> io::Result<()> {
+        self.host.sync()
+    }
+}
+
+impl Stored for Used<'_> {
+    fn get_run(&mut self, first: u64, run: &mut [Sector]) -> io::Result<()> {
+        for (n, sector) in run.iter_mut().enumerate() {
+            let number = first.saturating_add(n as u64);
+            if let Some(page) = self.host.pages.get(number as usize) {
+                *sector = page.shown;
             }
         }
-        self.waiting.clear();
         Ok(())
+    }
+
+    fn put_run(&mut self, first: u64, run: &[Sector]) -> io::Result<()> {
+        for (n, sector) in run.iter().enumerate() {
+            self.host.show(first.saturating_add(n as u64), sector);
+        }
+        self.host.answer_write()
     }
 }

@@ -1,59 +1,43 @@
-// Each put and sync of a script fails in turn, the power is lost, and the store is opened again.
-use crate::backing::{Host, Loss, Sector};
+// Each write and sync of a script fails in turn, the power is lost, at once or in the next process, and the store is opened again.
+use crate::backing::{Host, Loss, Used};
 use file_disk::FileDisk;
 use flip_image::Halves;
 use nsf_core::BuildReply;
 use records::{Body, Error, Geometry, Key, Mark, Pair, Rid, Row, SLOTS_PER_PAGE};
 use restart::{Event, Reply};
-use sector_device::{Device, Failed};
+use sector_device::Device;
 use serving::Store;
 use std::alloc::Global;
 use std::process::Abort;
 use std::test::Fail;
 
-type Disk = FileDisk<Host, Global>;
-
 const ROWS: u8 = 5;
+
+const LOSSES: [Loss; 3] = [Loss::Dropped, Loss::Kept, Loss::Torn];
 
 fn geometry() -> Result<Geometry, Error> {
     Geometry::new(1, 64, 4)
 }
 
-// Writes a sector, where there is one of this number.
-fn write(disk: &mut Disk, n: u64, bytes: &Sector) -> Result<(), Failed> {
-    if n < disk.sectors() {
-        disk.write(n, bytes)?;
+fn sectors() -> usize {
+    match geometry() {
+        Ok(geometry) => geometry.sectors() as usize,
+        Err(_) => 0,
     }
-    Ok(())
 }
 
-// A disk that holds this image, all of it safe. The put or sync of this number behind that fails.
-fn disk_with(alloc: Global, image: &[Sector], fails_at: u64) -> Result<Disk, Fail> {
-    let loads = (image.len() as u64).saturating_add(1);
-    let number = if fails_at == 0 {
-        0
-    } else {
-        loads.saturating_add(fails_at)
-    };
-    let host = Host::new(alloc, image.len(), number)?;
-    let mut disk = FileDisk::new(alloc, host, image.len())?;
-    for (n, bytes) in image.iter().enumerate() {
-        write(&mut disk, n as u64, bytes)?;
-    }
-    disk.sync()?;
-    Ok(disk)
-}
-
-// The image of a new store.
-fn formatted(alloc: Global) -> Result<Vec<Sector>, Fail> {
+// A new store.
+fn formatted(alloc: Global) -> Result<Host, Fail> {
     let geometry = geometry()?;
     let sectors = geometry.sectors() as usize;
-    let mut disk = FileDisk::new(alloc, Host::new(alloc, sectors, 0)?, sectors)?;
+    let mut host = Host::new(alloc, sectors)?;
+    let mut disk = FileDisk::new(alloc, Used { host: &mut host }, sectors)?;
     Halves::format(&mut disk, geometry)?;
-    Ok(disk.into_below().lose_power(Loss::Dropped))
+    drop(disk);
+    Ok(host)
 }
 
-// What a script has done: the commits that were answered, and those that a flush told to be safe.
+// How many rows were committed, and how many a flush told to be safe.
 #[derive(Clone, Copy, Debug, Default, PartialEq, Eq)]
 struct Told {
     committed: u8,
@@ -82,31 +66,6 @@ fn put<D: Device>(store: &mut Store<D>, number: u8) -> Result<bool, Error> {
     match serve(store, Event::Commit { txn }) {
         Reply::Ticket(_) => Ok(true),
         _ => Ok(false),
-    }
-}
-
-// Puts rows, each flushed, while the index is built, until a flush is refused.
-fn play<D: Device>(store: &mut Store<D>) -> Result<Told, Error> {
-    let mut told = Told::default();
-    serve(store, Event::Create);
-    for number in 0..ROWS {
-        if put(store, number)? {
-            told.committed = told.committed.saturating_add(1);
-        }
-        serve(store, Event::Build);
-        if !flush(store) {
-            return Ok(told);
-        }
-        told.acknowledged = told.committed;
-    }
-    Ok(told)
-}
-
-// Opens the store on the disk, and runs the script. The disk is given back, also where it couldn't be opened.
-fn play_on<D: Device + Drop>(alloc: Global, disk: D) -> Result<(Told, D), Error> {
-    match Store::open(alloc, disk) {
-        Ok(mut store) => Ok((play(&mut store)?, store.into_device())),
-        Err((_, disk)) => Ok((Told::default(), disk)),
     }
 }
 
@@ -160,58 +119,118 @@ fn entries_in<D: Device>(store: &Store<D>) -> Option<u8> {
     Some(entries)
 }
 
-// How many rows there are in the store on the disk; and how many entries, if its index can be built to its end.
-fn found_on<D: Device + Drop>(alloc: Global, disk: D) -> Option<(Option<u8>, Option<Option<u8>>)> {
-    let Ok(mut store) = Store::open(alloc, disk) else {
-        return None;
-    };
-    let rows = rows_in(&store);
-    let entries = if build(&mut store) {
-        Some(entries_in(&store))
-    } else {
-        None
-    };
-    Some((rows, entries))
+// Puts so many rows more, each flushed, while the index is built, until a flush is refused.
+fn play<D: Device>(store: &mut Store<D>, told: Told, more: u8) -> Result<Told, Error> {
+    let mut told = told;
+    serve(store, Event::Create);
+    for _ in 0..more {
+        let Some(number) = rows_in(store) else {
+            return Ok(told);
+        };
+        if put(store, number)? {
+            told.committed = told.committed.max(number.saturating_add(1));
+        }
+        serve(store, Event::Build);
+        if !flush(store) {
+            return Ok(told);
+        }
+        told.acknowledged = told.committed;
+    }
+    Ok(told)
 }
 
-// Runs the script with this put or sync failing, loses the power, and looks at what is there. Answers how many puts and syncs were
-// made.
-fn run(
+// The store on the device, opened, where no call fails.
+fn opened(alloc: Global, host: &mut Host) -> Option<Store<FileDisk<Used<'_>, Global>>> {
+    let Ok(disk) = FileDisk::over(alloc, Used { host }, sectors()) else {
+        return None;
+    };
+    match Store::open(alloc, disk) {
+        Ok(store) => Some(store),
+        Err(_) => None,
+    }
+}
+
+// A process opens the store, and puts rows, until a call fails.
+fn live(alloc: Global, host: &mut Host, told: Told, more: u8) -> Result<Told, Error> {
+    match opened(alloc, host) {
+        Some(mut store) => play(&mut store, told, more),
+        None => Ok(told),
+    }
+}
+
+// The store of which the power was lost holds what was acknowledged; and its index all of it, where that is to be built.
+fn look(
     rt: &impl Abort,
     alloc: Global,
-    image: &[Sector],
-    fails_at: u64,
-    loss: Loss,
-) -> Result<u64, Fail> {
-    let (told, disk) = play_on(alloc, disk_with(alloc, image, fails_at)?)?;
-    let host = disk.into_below();
-    let calls = host.calls();
-    let left = host.lose_power(loss);
-    let Some((rows, entries)) = found_on(alloc, disk_with(alloc, left.as_slice(), 0)?) else {
+    left: &mut Host,
+    told: Told,
+    is_built: bool,
+) -> Result<(), Fail> {
+    let Some(mut store) = opened(alloc, left) else {
         return Err(Fail::new("the store can't be opened again"));
     };
-    let Some(rows) = rows else {
+    let Some(rows) = rows_in(&store) else {
         return Err(Fail::new("rows that weren't put"));
     };
-    assert!(rt; told.acknowledged <= rows && rows <= ROWS);
+    assert!(rt; told.acknowledged <= rows);
     assert!(rt; rows <= told.committed.saturating_add(1));
-    if let Some(entries) = entries {
-        assert_eq!(rt; entries, Some(rows));
+    if is_built && build(&mut store) {
+        assert_eq!(rt; entries_in(&store), Some(rows));
     }
-    Ok(calls)
+    Ok(())
+}
+
+// A process goes on over the cache, and the power is lost before each of its syncs is done: what is on the device changes by these.
+fn cut_next(rt: &impl Abort, alloc: Global, host: &Host, told: Told) -> Result<(), Fail> {
+    for cut_at in 1..100 {
+        let mut next = host.copied()?;
+        next.fail_at_sync(cut_at);
+        let told = live(alloc, &mut next, told, 1)?;
+        if next.calls() < cut_at {
+            return Ok(());
+        }
+        next.lose_power(Loss::Dropped);
+        look(rt, alloc, &mut next, told, false)?;
+    }
+    Err(Fail::new("more syncs than there are"))
 }
 
 #[test]
 fn nothing_acknowledged_is_lost_whichever_call_fails(rt: HostRuntime) -> Result<(), Fail> {
     let alloc = rt.alloc();
-    let image = formatted(alloc)?;
-    let loads = (image.len() as u64).saturating_add(1);
-    let calls = run(&rt, alloc, image.as_slice(), 0, Loss::Dropped)?.saturating_sub(loads);
-    assert!(rt; calls > 20);
-    for fails_at in 1..=calls {
-        for loss in [Loss::Dropped, Loss::Kept, Loss::Torn] {
-            run(&rt, alloc, image.as_slice(), fails_at, loss)?;
+    let formatted = formatted(alloc)?;
+    for fails_at in 0..200 {
+        let mut host = formatted.copied()?;
+        host.fail_at(fails_at);
+        let told = live(alloc, &mut host, Told::default(), ROWS)?;
+        if host.calls() < fails_at {
+            assert!(&rt; fails_at > 30 && told.acknowledged == ROWS);
+            return Ok(());
+        }
+        for loss in LOSSES {
+            let mut left = host.copied()?;
+            left.lose_power(loss);
+            look(&rt, alloc, &mut left, told, true)?;
         }
     }
-    Ok(())
+    Err(Fail::new("more calls than there are"))
+}
+
+// What a sync that failed didn't write is in the cache, and no later sync writes it. Each sync of a process fails in turn, and the
+// power is lost in the next one.
+#[test]
+fn nothing_acknowledged_is_lost_in_the_next_process(rt: HostRuntime) -> Result<(), Fail> {
+    let alloc = rt.alloc();
+    let formatted = formatted(alloc)?;
+    for fails_at in 1..100 {
+        let mut host = formatted.copied()?;
+        host.fail_at_sync(fails_at);
+        let told = live(alloc, &mut host, Told::default(), ROWS)?;
+        if host.calls() < fails_at {
+            assert!(&rt; fails_at > 10);
+            return Ok(());
+        }
+        cut_next(&rt, alloc, &host, told)?;
+    }
+    Err(Fail::new("more syncs than there are"))
 }

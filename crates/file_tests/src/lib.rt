@@ -20,3 +20,5 @@ mod program;
 mod service_tests;
 #[cfg(test)]
 mod shell_tests;
+#[cfg(test)]
+mod watched;

@@ -1,0 +1,177 @@
+//! Files of the operating system below a disk.
+ghost use Rattle.std.specs.Prelude.{◌≡◌, ◌+◌, ◌^◌, ◌<◌};
+
+use crate::backing::{Backing, Stored};
+use crate::trouble::Trouble;
+use sector_device::SECTOR_SIZE;
+use std::fs::{File, Files, Metadata, OpenFile, TryLockError};
+use std::io::ErrorKind;
+use std::os::fd::AsRawFd;
+use std::os::unix::fs::{FileExt, MetadataExt};
+use std::{fs, io};
+
+/// A file that can hold a disk: it is read and written at a place, synced and locked.
+pub trait StoreFile: FileExt + OpenFile + Drop {
+    /// Locks it for this opening alone.
+    fn try_lock(&self) -> Result<(), TryLockError>;
+
+    /// Locks it against those that would lock it alone.
+    fn try_lock_shared(&self) -> Result<(), TryLockError>;
+
+    /// The same file, under a number that no standard stream has: what is meant for one that was closed must not land in the file.
+    fn apart(self) -> io::Result<Self>
+    where
+        Self: Sized;
+}
+
+impl StoreFile for File {
+    fn try_lock(&self) -> Result<(), TryLockError> {
+        File::try_lock(self)
+    }
+
+    fn try_lock_shared(&self) -> Result<(), TryLockError> {
+        File::try_lock_shared(self)
+    }
+
+    fn apart(self) -> io::Result<File> {
+        if self.as_raw_fd() <= 2 {
+            return File::try_clone(&self);
+        }
+        Ok(self)
+    }
+}
+
+// Whether both are of the same file.
+pub(crate) fn is_same(one: &Metadata, other: &Metadata) -> bool {
+    one.dev() == other.dev() && one.ino() == other.ino()
+}
+
+// The place of the sector's first byte.
+fn place_of(n: u64) -> io::Result<u64> {
+    match n.checked_mul(SECTOR_SIZE as u64) {
+        Some(place) => Ok(place),
+        None => Err(io::Error::from(ErrorKind::InvalidInput)),
+    }
+}
+
+// A name that a file is to keep.
+#[derive(Drop)]
+pub(crate) struct Name<'a, R> {
+    pub(crate) files: &'a R,
+    pub(crate) path: &'a str,
+}
+
+/// A file of the operating system, whose sector n stands at the byte 512 * n. Its lock is held until it is dropped.
+#[derive(Drop)]
+pub struct HostFile<'a, R, H> {
+    pub(crate) file: H,
+    // how many bytes it has
+    pub(crate) length: u64,
+    // the name that it has, or none where it is made
+    pub(crate) name: Option<Name<'a, R>>,
+    pub(crate) trouble: Option<Trouble>,
+}
+
+impl<R: Files, H: StoreFile> HostFile<'_, R, H> {
+    // What the file is, which has its length.
+    fn look(&self) -> Result<Metadata, Trouble> {
+        let found = self.file.metadata()?;
+        if found.len() != self.length {
+            return Err(Trouble::Resized);
+        }
+        Ok(found)
+    }
+
+    // The file has the name under which it was opened, or while it is made, any.
+    fn look_at_name(&self, found: &Metadata) -> Result<(), Trouble> {
+        let Some(name) = &self.name else {
+            if found.nlink() == 0 {
+                return Err(Trouble::Gone);
+            }
+            return Ok(());
+        };
+        match fs::symlink_metadata(name.files, name.path) {
+            Ok(named) if !is_same(found, &named) => Err(Trouble::Gone),
+            Err(error) if error.kind() == ErrorKind::NotFound => Err(Trouble::Gone),
+            // What can't be asked for is no sign that the file is gone.
+            _ => Ok(()),
+        }
+    }
+
+    fn write(&self, n: u64, bytes: &[u8]) -> Result<(), Trouble> {
+        self.look()?;
+        Ok(self.file.write_all_at(bytes, place_of(n)?)?)
+    }
+
+    fn sync_all(&self) -> Result<(), Trouble> {
+        self.file.sync_data()?;
+        let found = self.look()?;
+        self.look_at_name(&found)
+    }
+
+    // Keeps what was the trouble.
+    fn keep(&mut self, done: Result<(), Trouble>) -> io::Result<()> {
+        match done {
+            Ok(()) => Ok(()),
+            Err(trouble) => {
+                self.trouble = Some(trouble);
+                Err(io::Error::from(ErrorKind::Other))
+            }
+        }
+    }
+}
+
+impl<R: Files, H: StoreFile> Backing for HostFile<'_, R, H> {
+    fn put(&mut self, n: u64, bytes: &[u8; SECTOR_SIZE]) -> io::Result<()> {
+        let done = self.write(n, bytes);
+        self.keep(done)
+    }
+
+    fn sync(&mut self) -> io::Result<()> {
+        let done = self.sync_all();
+        self.keep(done)
+    }
+
+    fn trouble(&self) -> Option<Trouble> {
+        self.trouble
+    }
+}
+
+impl<R: Files, H: StoreFile> Stored for HostFile<'_, R, H> {
+    fn get_run(&mut self, first: u64, run: &mut [[u8; SECTOR_SIZE]]) -> io::Result<()> {
+        self.file
+            .read_exact_at(run.as_flattened_mut(), place_of(first)?)
+    }
+
+    fn put_run(&mut self, first: u64, run: &[[u8; SECTOR_SIZE]]) -> io::Result<()> {
+        let done = self.write(first, run.as_flattened());
+        self.keep(done)
+    }
+}
+
+/// A file that a disk is read from. Nothing is written to it, and its lock is held until it is dropped.
+#[derive(Drop)]
+pub struct Held<H> {
+    pub(crate) file: H,
+}
+
+impl<H: StoreFile> Backing for Held<H> {
+    fn put(&mut self, _n: u64, _bytes: &[u8; SECTOR_SIZE]) -> io::Result<()> {
+        Ok(())
+    }
+
+    fn sync(&mut self) -> io::Result<()> {
+        Ok(())
+    }
+}
+
+impl<H: StoreFile> Stored for Held<H> {
+    fn get_run(&mut self, first: u64, run: &mut [[u8; SECTOR_SIZE]]) -> io::Result<()> {
+        self.file
+            .read_exact_at(run.as_flattened_mut(), place_of(first)?)
+    }
+
+    fn put_run(&mut self, _first: u64, _run: &[[u8; SECTOR_SIZE]]) -> io::Result<()> {
+        Ok(())
+    }
+}
