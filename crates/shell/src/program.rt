@@ -5,6 +5,7 @@ use crate::migration::{NotMoved, migrate_file};
 use crate::refused::Refused;
 use crate::serve::Service;
 use crate::show::{Stored, write_stat};
+use file_disk::Troubled;
 use flip_image::Halves;
 use records::Geometry;
 use sector_device::Device;
@@ -18,10 +19,10 @@ use std::rt::Files;
 use store_reader::read_store;
 
 // A store on the disk, opened.
-fn open<D: Device + Drop>(alloc: Global, disk: D) -> Result<Store<D>, Refused> {
+fn open<D: Device + Troubled + Drop>(alloc: Global, disk: D) -> Result<Store<D>, Refused> {
     match Store::open(alloc, disk) {
         Ok(store) => Ok(store),
-        Err((error, _)) => Err(Refused::Store(error)),
+        Err((error, disk)) => Err(Refused::Store(error).because(&disk)),
     }
 }
 
@@ -38,7 +39,7 @@ fn read_disk<D: Device>(alloc: Global, disk: &mut D) -> Result<Stored, Refused> 
 }
 
 // What the disk itself says, and its store.
-fn read_and_open<D: Device + Drop>(
+fn read_and_open<D: Device + Troubled + Drop>(
     alloc: Global,
     mut disk: D,
 ) -> Result<(Stored, Store<D>), Refused> {
@@ -47,13 +48,15 @@ fn read_and_open<D: Device + Drop>(
 }
 
 // Makes the disk a store, and gives its file its name.
-fn finish<R: Files<File = File> + AllocGlobal, D: Device + Drop>(
+fn finish<R: Files<File = File> + AllocGlobal, D: Device + Troubled + Drop>(
     rt: &R,
     path: &str,
     geometry: Geometry,
     mut disk: D,
 ) -> Result<(), Refused> {
-    Halves::format(&mut disk, geometry)?;
+    if let Err(error) = Halves::format(&mut disk, geometry) {
+        return Err(Refused::Store(error).because(&disk));
+    }
     file_disk::publish(rt, path)?;
     Ok(())
 }
@@ -76,7 +79,7 @@ fn make<R: Files<File = File> + AllocGlobal>(
 // What follows does one verb on a disk, and then on that of a file: what a file is, is behind none of the store's own calls.
 
 // Builds the index on the disk to its end.
-fn build_disk<D: Device + Drop, W: Write, E: Write>(
+fn build_disk<D: Device + Troubled + Drop, W: Write, E: Write>(
     alloc: Global,
     disk: D,
     build: Build,
@@ -84,7 +87,10 @@ fn build_disk<D: Device + Drop, W: Write, E: Write>(
     errors: &mut E,
 ) -> Result<(), Refused> {
     let mut store = open(alloc, disk)?;
-    let attempts = build.run(&mut store, errors)?;
+    let attempts = match build.run(&mut store, errors) {
+        Ok(attempts) => attempts,
+        Err(refused) => return Err(refused.because(store.device())),
+    };
     writeln!(output, "complete, {attempts} pairs attempted")?;
     Ok(())
 }
@@ -102,7 +108,7 @@ fn build_file<R: Files<File = File>, W: Write, E: Write>(
 }
 
 // Says whether the disk holds a store, whose index fits its rows.
-fn check_disk<D: Device + Drop, W: Write>(
+fn check_disk<D: Device + Troubled + Drop, W: Write>(
     alloc: Global,
     disk: D,
     output: &mut W,
@@ -125,7 +131,7 @@ fn check_file<R: Files<File = File>, W: Write>(
 }
 
 // Prints what the store on the disk holds.
-fn dump_disk<D: Device + Drop, W: Write>(
+fn dump_disk<D: Device + Troubled + Drop, W: Write>(
     alloc: Global,
     disk: D,
     output: &mut W,
@@ -144,7 +150,7 @@ fn dump_file<R: Files<File = File>, W: Write>(
 }
 
 // Prints what the store on the disk is, and how far it has come.
-fn stat_disk<D: Device + Drop, W: Write>(
+fn stat_disk<D: Device + Troubled + Drop, W: Write>(
     alloc: Global,
     disk: D,
     output: &mut W,
@@ -164,7 +170,7 @@ fn stat_file<R: Files<File = File>, W: Write>(
 
 // Serves the input over the store on the disk, and tells whether each line was one of a script. Behind the last line what is not
 // flushed yet is flushed.
-fn run_disk<D: Device + Drop, I: BufRead, W: Write, E: Write>(
+fn run_disk<D: Device + Troubled + Drop, I: BufRead, W: Write, E: Write>(
     alloc: Global,
     disk: D,
     is_durable: bool,

@@ -1,9 +1,9 @@
 //! Why a verb was refused.
-use file_disk::OpenError;
+use file_disk::{OpenError, Trouble, Troubled};
 use records::Error;
 use restart::Reply;
 use std::alloc::{AllocError, Global};
-use std::io::{ErrorKind, Write};
+use std::io::Write;
 use std::{fmt, io};
 
 /// Why a verb was refused.
@@ -13,6 +13,8 @@ pub enum Refused {
     File(OpenError),
     /// What the file holds can't be opened as a store, or the store refused.
     Store(Error),
+    /// The device failed, and this is why.
+    Device(Trouble),
     /// There is no index to build.
     NoIndex,
     /// No place of the index is free, so that it can't be built on.
@@ -25,6 +27,16 @@ pub enum Refused {
     Newer,
     /// The input can't be read, or the output can't be written.
     Stream(io::Error),
+}
+
+impl Refused {
+    /// The same; where the device failed, with the reason that it tells.
+    pub fn because<D: Troubled>(self, device: &D) -> Refused {
+        match (&self, device.trouble()) {
+            (Refused::Store(Error::DeviceFailed), Some(trouble)) => Refused::Device(trouble),
+            _ => self,
+        }
+    }
 }
 
 impl From<OpenError> for Refused {
@@ -60,11 +72,9 @@ pub fn granted(reply: Reply<Global>) -> Result<(), Refused> {
 }
 
 /// Tells why the words of a program can't be read, and answers the exit status for that.
-pub fn refuse_words<E: Write>(program: &str, error: &io::Error, errors: &mut E) -> u8 {
-    let _ = match error.kind() {
-        ErrorKind::InvalidData => writeln!(errors, "{program}: a word that isn't text"),
-        _ => writeln!(errors, "{program}: the words can't be read: {error}"),
-    };
+pub fn refuse_words<E: Write>(program: &str, error: io::Error, errors: &mut E) -> u8 {
+    let trouble = Trouble::of(error);
+    let _ = writeln!(errors, "{program}: {trouble}");
     2
 }
 
@@ -77,7 +87,7 @@ fn write_error<W: fmt::Write>(error: Error, f: &mut fmt::Formatter<W>) -> fmt::R
             "it holds a store of version 1, which `nsf-store migrate` moves to a new file",
         ),
         Error::Damaged { sector } => write!(f, "it is damaged at sector {sector}"),
-        Error::DeviceFailed => f.write_str("it can't be written"),
+        Error::DeviceFailed => f.write_str("its device failed"),
         Error::NoMemory => f.write_str("out of memory"),
         error => write!(f, "refused {error}"),
     }
@@ -88,6 +98,7 @@ impl fmt::Display for Refused {
         match self {
             Refused::File(error) => write!(f, "{error}"),
             Refused::Store(error) => write_error(*error, f),
+            Refused::Device(trouble) => write!(f, "{trouble}"),
             Refused::Unsound => f.write_str("it opens, but its index isn't that of its rows"),
             Refused::Newer => f.write_str("it holds a store of version 2, which needs no move"),
             Refused::FullIndex => f.write_str(

@@ -1,5 +1,6 @@
 //! The commands of the input, served line by line.
 use crate::refused::{Refused, granted};
+use file_disk::Troubled;
 use records::Error;
 use replay_values::Answer;
 use script::Command;
@@ -26,22 +27,65 @@ pub struct Service<D: Device> {
     guarded: GuardedStore<D>,
     /// Whether each commit is flushed before the next command.
     is_durable: bool,
-    /// Whether a command was refused since the index is full.
-    is_full: bool,
+    /// That the index is full.
+    full: Notice,
+    /// That the device failed.
+    failure: Notice,
 }
 
-impl<D: Device> Service<D> {
+/// What is told once, as soon as a command meets it.
+#[derive(Clone, Copy, Debug, PartialEq, Eq)]
+enum Notice {
+    Unmet,
+    Due,
+    Told,
+}
+
+impl Notice {
+    fn meet(&mut self) {
+        if *self == Notice::Unmet {
+            *self = Notice::Due;
+        }
+    }
+
+    // Whether it is to be told now, and then it is told.
+    fn take(&mut self) -> bool {
+        let is_due = *self == Notice::Due;
+        if is_due {
+            *self = Notice::Told;
+        }
+        is_due
+    }
+}
+
+impl<D: Device + Troubled> Service<D> {
     pub fn new(store: Store<D>, is_durable: bool) -> Self {
         Service {
             guarded: GuardedStore::new(store),
             is_durable,
-            is_full: false,
+            full: Notice::Unmet,
+            failure: Notice::Unmet,
         }
     }
 
     // Notes what came of a request.
     fn note(&mut self, outcome: Outcome) {
-        self.is_full |= matches!(outcome, Outcome::Refused(Error::IndexFull));
+        match outcome {
+            Outcome::Refused(Error::IndexFull) => self.full.meet(),
+            Outcome::Refused(Error::DeviceFailed) => self.failure.meet(),
+            _ => {}
+        }
+    }
+
+    // Tells what helps where the index is full, and why the device failed.
+    fn tell<E: Write>(&mut self, errors: &mut E) {
+        if self.full.take() {
+            let _ = writeln!(errors, "nsf-store: {FULL_INDEX}");
+        }
+        if self.failure.take() {
+            let refused = Refused::Store(Error::DeviceFailed).because(self.guarded.store.device());
+            let _ = writeln!(errors, "nsf-store: {refused}");
+        }
     }
 
     // Serves a request, and prints its answers.
@@ -93,7 +137,7 @@ impl<D: Device> Service<D> {
 
     /// Serves the commands of the input until its end, each of which is answered before the next line is read, and tells whether
     /// each line was one of a script; a line that is none is answered with its number, and passed over. Where the index is full,
-    /// the error stream tells once what helps.
+    /// the error stream tells once what helps, and where the device failed, why.
     pub fn serve_lines<I: BufRead, W: Write, E: Write>(
         &mut self,
         alloc: Global,
@@ -102,7 +146,6 @@ impl<D: Device> Service<D> {
         errors: &mut E,
     ) -> io::Result<bool> {
         let mut is_script = true;
-        let mut was_full = false;
         let mut line = Vec::new(alloc);
         for number in 1..u64::MAX {
             line.clear();
@@ -111,16 +154,16 @@ impl<D: Device> Service<D> {
             }
             is_script &= self.serve_line(alloc, line.as_slice(), number, output)?;
             output.flush()?;
-            if self.is_full && !was_full {
-                let _ = writeln!(errors, "nsf-store: {FULL_INDEX}");
-                was_full = true;
-            }
+            self.tell(errors);
         }
         Ok(is_script)
     }
 
     /// Flushes what is not flushed yet.
     pub fn flush(&mut self) -> Result<(), Refused> {
-        granted(self.guarded.flush())
+        match granted(self.guarded.flush()) {
+            Ok(()) => Ok(()),
+            Err(refused) => Err(refused.because(self.guarded.store.device())),
+        }
     }
 }
