@@ -79,13 +79,13 @@ fn clear<H: StoreFile>(file: &H, sectors: u64) -> io::Result<()>
 }
 
 // A disk over the new file, which is locked, filled with zeros, and safe as its name is.
-fn fill<'a, R: Files, A: Allocator>(
-    rt: &'a R,
+fn fill<R: Files, A: Allocator>(
+    rt: &R,
     alloc: A,
     file: R::File,
     path: &str,
     sectors: u64,
-) -> Result<FileDisk<HostFile<'a, R, R::File>, A>, OpenError>
+) -> Result<FileDisk<HostFile<R::File>, A>, OpenError>
 where
     R::File: StoreFile,
     requires { sectors < 2 ^ 20 + 1 }
@@ -100,7 +100,6 @@ where
     let below = HostFile {
         file,
         length: sectors * SECTOR_SIZE as u64,
-        name: None,
         trouble: None,
     };
     Ok(FileDisk::new(alloc, below, sectors as usize)?)
@@ -120,12 +119,12 @@ where
 ///
 /// `Exists` where something has the name `PATH`. Where something has the name `PATH.new`, `DraftInUse` if another process makes it
 /// now, and `DraftExists` if one was cut off as it did. `BadLength` for no sector or more than 2^20.
-pub fn create<'a, R: Files + AllocGlobal, A: Allocator>(
-    rt: &'a R,
+pub fn create<R: Files + AllocGlobal, A: Allocator>(
+    rt: &R,
     alloc: A,
     path: &str,
     sectors: u64,
-) -> Result<FileDisk<HostFile<'a, R, R::File>, A>, OpenError>
+) -> Result<FileDisk<HostFile<R::File>, A>, OpenError>
 where
     R::File: StoreFile,
     ensures zeros { IfOk result (λ d. (history_of d).disk.content ≡ replicate sectors zero_sector) }

@@ -4,11 +4,11 @@ ghost use Rattle.std.specs.Prelude.{◌≡◌, ◌+◌, ◌^◌, ◌<◌};
 use crate::backing::{Backing, Stored};
 use crate::trouble::Trouble;
 use sector_device::SECTOR_SIZE;
-use std::fs::{File, Files, Metadata, OpenFile, TryLockError};
+use std::fs::{File, Metadata, OpenFile, TryLockError};
+use std::io;
 use std::io::ErrorKind;
 use std::os::fd::AsRawFd;
 use std::os::unix::fs::{FileExt, MetadataExt};
-use std::{fs, io};
 
 /// A file that can hold a disk: it is read and written at a place, synced and locked.
 pub trait StoreFile: FileExt + OpenFile + Drop {
@@ -54,48 +54,26 @@ fn place_of(n: u64) -> io::Result<u64> {
     }
 }
 
-// A name that a file is to keep.
-#[derive(Drop)]
-pub(crate) struct Name<'a, R> {
-    pub(crate) files: &'a R,
-    pub(crate) path: &'a str,
-}
-
 /// A file of the operating system, whose sector n stands at the byte 512 * n. Its lock is held until it is dropped.
 #[derive(Drop)]
-pub struct HostFile<'a, R, H> {
+pub struct HostFile<H = File> {
     pub(crate) file: H,
     // how many bytes it has
     pub(crate) length: u64,
-    // the name that it has, or none where it is made
-    pub(crate) name: Option<Name<'a, R>>,
     pub(crate) trouble: Option<Trouble>,
 }
 
-impl<R: Files, H: StoreFile> HostFile<'_, R, H> {
-    // What the file is, which has its length.
-    fn look(&self) -> Result<Metadata, Trouble> {
+impl<H: StoreFile> HostFile<H> {
+    // The file has a name, and its length.
+    fn look(&self) -> Result<(), Trouble> {
         let found = self.file.metadata()?;
+        if found.nlink() == 0 {
+            return Err(Trouble::Gone);
+        }
         if found.len() != self.length {
             return Err(Trouble::Resized);
         }
-        Ok(found)
-    }
-
-    // The file has the name under which it was opened, or while it is made, any.
-    fn look_at_name(&self, found: &Metadata) -> Result<(), Trouble> {
-        let Some(name) = &self.name else {
-            if found.nlink() == 0 {
-                return Err(Trouble::Gone);
-            }
-            return Ok(());
-        };
-        match fs::symlink_metadata(name.files, name.path) {
-            Ok(named) if !is_same(found, &named) => Err(Trouble::Gone),
-            Err(error) if error.kind() == ErrorKind::NotFound => Err(Trouble::Gone),
-            // What can't be asked for is no sign that the file is gone.
-            _ => Ok(()),
-        }
+        Ok(())
     }
 
     fn write(&self, n: u64, bytes: &[u8]) -> Result<(), Trouble> {
@@ -105,8 +83,7 @@ impl<R: Files, H: StoreFile> HostFile<'_, R, H> {
 
     fn sync_all(&self) -> Result<(), Trouble> {
         self.file.sync_data()?;
-        let found = self.look()?;
-        self.look_at_name(&found)
+        self.look()
     }
 
     // Keeps what was the trouble.
@@ -121,7 +98,7 @@ impl<R: Files, H: StoreFile> HostFile<'_, R, H> {
     }
 }
 
-impl<R: Files, H: StoreFile> Backing for HostFile<'_, R, H> {
+impl<H: StoreFile> Backing for HostFile<H> {
     fn put(&mut self, n: u64, bytes: &[u8; SECTOR_SIZE]) -> io::Result<()> {
         let done = self.write(n, bytes);
         self.keep(done)
@@ -137,7 +114,7 @@ impl<R: Files, H: StoreFile> Backing for HostFile<'_, R, H> {
     }
 }
 
-impl<R: Files, H: StoreFile> Stored for HostFile<'_, R, H> {
+impl<H: StoreFile> Stored for HostFile<H> {
     fn get_run(&mut self, first: u64, run: &mut [[u8; SECTOR_SIZE]]) -> io::Result<()> {
         self.file
             .read_exact_at(run.as_flattened_mut(), place_of(first)?)

@@ -6,7 +6,7 @@ ghost use Rattle.file_disk.specs.FileDisk.{history_of, failures_of};
 use crate::backing::Detached;
 use crate::draft::SECTORS_MAX;
 use crate::error::OpenError;
-use crate::host::{Held, HostFile, Name, StoreFile};
+use crate::host::{Held, HostFile, StoreFile};
 use crate::mirror::FileDisk;
 use crate::names::{draft_of, has_both, refuse_other, sync_folder};
 use sector_device::SECTOR_SIZE;
@@ -40,11 +40,11 @@ fn remove_draft<R: Files, A: Allocator>(rt: &R, alloc: &A, path: &str) -> Result
 ///
 /// `Busy` where another process has it open, `NotAFile` and `Linked` where the path names no regular file, a link, or one of several
 /// names of a file, `BadLength` where its length is no number of sectors from 1 to 2^20.
-pub fn open<'a, R: Files, A: Allocator>(
-    rt: &'a R,
+pub fn open<R: Files, A: Allocator>(
+    rt: &R,
     alloc: A,
-    path: &'a str,
-) -> Result<FileDisk<HostFile<'a, R, R::File>, A>, OpenError>
+    path: &str,
+) -> Result<FileDisk<HostFile<R::File>, A>, OpenError>
 where
     R::File: StoreFile,
     ensures synced { IfOk result (λ d. IsSynced (history_of d).disk) }
@@ -61,7 +61,6 @@ where
     let below = HostFile {
         file,
         length,
-        name: Some(Name { files: rt, path }),
         trouble: None,
     };
     FileDisk::over(alloc, below, sectors_in(length)? as usize)

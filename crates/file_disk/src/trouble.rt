@@ -16,7 +16,7 @@ pub enum Trouble {
     InputOutput,
     /// A name isn't text.
     NotText,
-    /// The file was removed or renamed while it was open, or another has its name.
+    /// The file was removed while it was open, or another was put in its place.
     Gone,
     /// The file's length was changed while it was open.
     Resized,
@@ -53,7 +53,9 @@ impl fmt::Display for Trouble {
             Trouble::TooLarge => f.write_str("the file system takes no file of this size"),
             Trouble::InputOutput => f.write_str("the device failed: an input or output error"),
             Trouble::NotText => f.write_str("a name that isn't text"),
-            Trouble::Gone => f.write_str("the file was removed or renamed while it was open"),
+            Trouble::Gone => f.write_str(
+                "the file was removed while it was open, or another was put in its place",
+            ),
             Trouble::Resized => f.write_str("the file's length was changed while it was open"),
             Trouble::System(code) => write!(f, "{}", io::Error::from_raw_os_error(*code)),
             Trouble::Other(kind) => write!(f, "{kind}"),

@@ -93,19 +93,30 @@ fn what_is_no_store_is_refused_by_name(rt: HostRuntime) -> Result<(), Fail> {
     Ok(())
 }
 
+// What is done to a file while a disk over it is open.
+#[derive(Clone, Copy, Debug, PartialEq, Eq)]
+enum Harm {
+    Removed,
+    Replaced,
+    Cut,
+}
+
 // Does this to the file of that name while a disk over it is open, and tells what is wrong then.
 fn trouble_after<R: Files<File = File> + AllocGlobal>(
     rt: &R,
     path: &str,
-    harm: u8,
+    harm: Harm,
 ) -> Result<Option<Trouble>, Fail> {
     made(rt, path)?;
     let mut disk = open(rt, rt.alloc(), path)?;
     write(&mut disk, 1)?;
     match harm {
-        0 => fs::remove_file(rt, path)?,
-        1 => fs::rename(rt, path, "moved")?,
-        _ => fs::OpenOptions::new()
+        Harm::Removed => fs::remove_file(rt, path)?,
+        Harm::Replaced => {
+            fs::write(rt, "other", [3; 1_024].as_slice())?;
+            fs::rename(rt, "other", path)?;
+        }
+        Harm::Cut => fs::OpenOptions::new()
             .write(true)
             .open(rt, path)?
             .set_len(512)?,
@@ -119,14 +130,15 @@ fn trouble_after<R: Files<File = File> + AllocGlobal>(
 #[test]
 fn a_file_that_is_harmed_while_it_is_open_is_told(rt: HostRuntime) -> Result<(), Fail> {
     for (harm, trouble) in [
-        (0, Trouble::Gone),
-        (1, Trouble::Gone),
-        (2, Trouble::Resized),
+        (Harm::Removed, Trouble::Gone),
+        (Harm::Replaced, Trouble::Gone),
+        (Harm::Cut, Trouble::Resized),
     ] {
         assert_eq!(&rt; trouble_after(&rt, "harmed", harm)?, Some(trouble));
+        if fs::exists(&rt, "harmed")? {
+            fs::remove_file(&rt, "harmed")?;
+        }
     }
-    fs::remove_file(&rt, "moved")?;
-    fs::remove_file(&rt, "harmed")?;
     Ok(())
 }
 
