@@ -9,7 +9,7 @@ status 1 where something is missing.
 import fnmatch, pathlib, re, sys
 
 TOP = pathlib.Path(__file__).resolve().parent.parent
-KINDS = {".rt", ".antt", ".edit", ".h", ".c", ".rs", ".py", ".sh", ".options", ".help"}
+KINDS = {".rt", ".antt", ".edit", ".h", ".c", ".rs", ".py", ".sh"}
 WORD = re.compile(r"[A-Za-z_]\w{2,}")
 BYTES = re.compile(r"(?<![\w:]):[0-9a-f]{2,}\b|\b\d\w*")
 OUTSIDE = {"libc", "synchronous"}  # names of other programs
@@ -46,7 +46,7 @@ def faults(page, words, ends):
         if "/" in file and re.fullmatch(r"[\w./*-]+", file):
             if not any(fnmatch.fnmatch(end, file.strip("./")) for end in ends):
                 yield f"no file {file}"
-        elif not name.startswith("rattle-kit"):
+        elif not name.startswith(("rattle-kit", "logic ")):
             for word in WORD.findall(BYTES.sub("", name)):
                 if word not in words and word not in OUTSIDE and not word.isupper():
                     yield f"no {word} in the sources, of `{name}`"

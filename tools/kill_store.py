@@ -5,8 +5,8 @@ Usage: tools/kill_store.py PROGRAM FOLDER [KILLS [SEED]]
 
 PROGRAM is the built program (crates/nsf_store/out/nsf_store, which `rt run -- --help` in crates/nsf_store makes), FOLDER an empty
 folder for the stores. Each process begins transactions, puts and deletes rows, commits, builds, cleans, takes images and flushes,
-until it is killed with SIGKILL; some are killed while they open the store. What the next one finds must be a prefix of the commits
-with all that a flush acknowledged, and each live entry must name its row.
+until it is killed with SIGKILL; some are killed while they open the store, and some flush behind each commit (`--durable`). What the
+next one finds must be a prefix of the commits with all that a flush acknowledged, and each live entry must name its row.
 
 A killed process leaves what the kernel holds of its file: this tries the program, not a loss of power.
 """
@@ -18,8 +18,10 @@ class Dead(Exception):
 
 
 class Store:
-    def __init__(self, program, file):
-        self.process = subprocess.Popen([program, "run", file], stdin=subprocess.PIPE, stdout=subprocess.PIPE, stderr=subprocess.PIPE)
+    def __init__(self, program, file, durable=False):
+        self.durable = durable
+        words = [program, "run", file] + ["--durable"] * durable
+        self.process = subprocess.Popen(words, stdin=subprocess.PIPE, stdout=subprocess.PIPE, stderr=subprocess.PIPE)
 
     def line(self):
         line = self.process.stdout.readline()
@@ -90,6 +92,13 @@ class Run:
         return tables[least:]
 
 
+def flushed(run, answer):
+    words = answer.split()
+    if words[0] != "horizon":
+        sys.exit(f"a flush was answered {words}")
+    run.horizon = int(words[1])
+
+
 def transaction(store, run, table, count):
     txn, changes, mine = store.ask("begin").split()[1], {}, dict(table)
     for _ in range(random.randint(1, 4)):
@@ -111,6 +120,8 @@ def transaction(store, run, table, count):
         sys.exit(f"a commit was answered {words}")
     run.commits.append((int(words[1]), changes))
     run.pending = None
+    if store.durable:
+        flushed(run, store.line())
     return mine, count
 
 
@@ -129,10 +140,7 @@ def work(store, run, life, counts):
         if random.random() < 0.15:
             store.ask("clean 1")
         if random.random() < 0.25:
-            words = store.ask("flush").split()
-            if words[0] != "horizon":
-                sys.exit(f"a flush was answered {words}")
-            run.horizon = int(words[1])
+            flushed(run, store.ask("flush"))
             counts["acknowledged"] += 1
 
 
@@ -170,7 +178,7 @@ def main():
             time.sleep(random.random() * 0.02)
             early.kill()
             counts["early"] += 1
-        store = Store(program, file)
+        store = Store(program, file, random.random() < 0.3)
         try:
             rows, live, life = store.dump()
         except Dead:

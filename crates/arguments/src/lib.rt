@@ -40,7 +40,7 @@ const SLOTS_HELP: &str = "Slots of each log, 4 to 256 [default: 4]";
 
 const SECTORS_HELP: &str = "Sectors of the disk, 0 to 100000 [default: as many as the store needs]";
 
-const STOP_HELP: &str = "The write or sync, counted from 1, that fails with a crash";
+const STOP_HELP: &str = "The write or sync that fails with a crash, 1 to 4294967295";
 
 const FATE_HELP: &str = "What becomes of unsynced sectors in that crash [default: old]";
 

@@ -3,6 +3,7 @@ use crate::found::{Found, look};
 use crate::listener::Listener;
 use crate::program::work_through;
 use crate::team::Team;
+use file_disk::Troubled;
 use loops::Gate;
 use opening::OpenError;
 use sector_device::Device;
@@ -15,7 +16,7 @@ use std::thread::Threads;
 
 // Lets the threads work on the store on the disk, and looks at what they left.
 fn work_and_look<
-    D: Device + Send + Drop,
+    D: Device + Troubled + Send + Drop,
     R: Threads + Wait + Clock + Sync,
     G: Gate + Sync,
     L: Listener + Sync,
@@ -24,8 +25,8 @@ fn work_and_look<
     let alloc = team.alloc;
     match work_through(disk, writers, team) {
         Ok(disk) => Ok(look(alloc, disk)?),
-        Err(OpenError::Refused(error)) => Err(Refused::Store(error)),
-        Err(OpenError::Unsound) => Err(Refused::Unsound),
+        Err((OpenError::Refused(error), disk)) => Err(Refused::Store(error).because(&disk)),
+        Err((OpenError::Unsound, _)) => Err(Refused::Unsound),
     }
 }
 

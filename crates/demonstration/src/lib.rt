@@ -21,7 +21,7 @@ pub use beginning::Beginning;
 pub use file::work_on_file;
 pub use found::{Found, look};
 pub use listener::{Listener, Nobody, Printer, Turn};
-pub use program::{run, run_words};
+pub use program::{run, run_words, told};
 pub use progress::Progress;
 pub use rows::{key_of, set_up};
 pub use team::{Refusals, Team, Worked, work_on};

@@ -37,20 +37,17 @@ fn formatted(alloc: Global) -> Result<MemDisk<Global>, Error> {
     Ok(disk)
 }
 
-/// The device with what the threads left, where they were refused nothing.
+/// The device with what the threads left, beside a refusal where one of them met it.
 pub(crate) fn work_through<
     D: Device + Send + Drop,
     R: Threads + Wait + Clock + Sync,
     G: Gate + Sync,
     L: Listener + Sync,
     E: Write + Send + Drop,
->(device: D, writers: u8, team: Team<'_, R, G, L, E>) -> Result<D, OpenError> {
-    let worked = match work_on(device, writers, team) {
-        Ok(worked) => worked,
-        Err((error, _)) => return Err(error),
-    };
+>(device: D, writers: u8, team: Team<'_, R, G, L, E>) -> Result<D, (OpenError, D)> {
+    let worked = work_on(device, writers, team)?;
     match worked.refusals.any() {
-        Some(error) => Err(OpenError::Refused(error)),
+        Some(error) => Err((OpenError::Refused(error), worked.device)),
         None => Ok(worked.device),
     }
 }
@@ -71,7 +68,10 @@ fn work_in_memory<R: Threads + Wait + Clock + Sync, E: Write + Send + Drop>(
         changes: u16::from(arguments.changes),
         progress,
     };
-    let mut disk = work_through(formatted(alloc)?, arguments.writers, team)?;
+    let mut disk = match work_through(formatted(alloc)?, arguments.writers, team) {
+        Ok(disk) => disk,
+        Err((error, _)) => return Err(error),
+    };
     disk.crash(&[Fate::Junk]);
     Ok(look(alloc, disk)?)
 }
@@ -107,8 +107,9 @@ fn print<W: Write>(output: &mut W, found: Found) -> io::Result<u8> {
     Ok(if same { 0 } else { 1 })
 }
 
-// Prints what was found, or why it wasn't, and answers the program's status.
-fn told<W: Write>(output: &mut W, found: Result<Found, OpenError>) -> io::Result<u8> {
+/// Prints what was found, or why it wasn't, and answers the program's status: 1 where a row is without its entry, an entry without its
+/// row, or something was refused.
+pub fn told<W: Write>(output: &mut W, found: Result<Found, OpenError>) -> io::Result<u8> {
     match found {
         Ok(found) => print(output, found),
         Err(error) => {

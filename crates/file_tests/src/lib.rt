@@ -11,9 +11,13 @@ mod fault_tests;
 #[cfg(test)]
 mod file_tests;
 #[cfg(test)]
+mod help;
+#[cfg(test)]
 mod migration_tests;
 #[cfg(test)]
 mod program;
+#[cfg(test)]
+mod service_tests;
 #[cfg(test)]
 mod shell_tests;
 #[cfg(test)]

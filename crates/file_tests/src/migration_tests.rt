@@ -46,6 +46,8 @@ life none
 rows 1
 live 0
 marked 0
+reserved 0
+free 64
 ";
 
 const IMAGED_STAT: &str = "format 2
@@ -58,6 +60,8 @@ life building :616e74 0.0
 rows 1
 live 1
 marked 1
+reserved 0
+free 62
 ";
 
 // What a file holds with these parts, and zeros elsewhere.

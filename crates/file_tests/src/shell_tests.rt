@@ -1,4 +1,5 @@
 // The verbs of `nsf-store`, one behind the other on a real file.
+use crate::help::HELP;
 use crate::program::run;
 use std::fs;
 use std::test::Fail;
@@ -35,6 +36,8 @@ life building -
 rows 2
 live 0
 marked 0
+reserved 0
+free 64
 ";
 
 const DUMP: &str = "row 0.0 :61 :
@@ -57,6 +60,7 @@ fn a_store_is_made_served_built_and_shown(rt: HostRuntime) -> Result<(), Fail> {
         "--slots",
         "4",
     ];
+    run(&rt, &["nsf-store", "--help"], "", 0, HELP, "")?;
     run(&rt, &new, "", 0, "", "")?;
     run(&rt, &new, "", 1, "", "nsf-store: s: it is there already\n")?;
     run(&rt, &["nsf-store", "check", "s"], "", 0, "sound\n", "")?;

@@ -42,7 +42,7 @@ typedef struct nsf_handle {
 
 /* What a call answers: 0, or why it was refused. A refused event changed nothing, but that a copy may have written groups of records
  * (nsf_stat tells the horizon), and that a flush or a copy that was refused by 2 may have written some of what it was to write; from
- * then on each flush and copy is refused by 2, until the store is opened again. nsf_flush and nsf_image are several such steps: those
+ * then on each flush, copy and commit is refused by 2, until the store is opened again. nsf_flush and nsf_image are several such steps: those
  * before the refused one stand. An answer of 0 is not all: where what was asked for isn't met, the reply is NSF_SKIPPED, and nothing was done. */
 enum {
     NSF_OK = 0,
@@ -106,7 +106,8 @@ static inline const char *nsf_message(uint32_t refusal)
 }
 
 /* What nsf_serve may be asked. What a kind has no use for is not looked at. An insertion, a deletion, an update or a commit of a
- * transaction that owes a step of its newest change, or is rolling back, is NSF_SKIPPED. */
+ * transaction that owes a step of its newest change, or is rolling back, is NSF_SKIPPED; but a commit behind a flush or a copy that
+ * was refused by 2 is always refused by 2. */
 enum {
     NSF_BEGIN = 1,    /* a transaction; replies NSF_TXN */
     NSF_INSERT = 2,   /* txn, key, body; NSF_RID */

@@ -45,6 +45,10 @@ pub ok_map : {X E : Type 0} {P Q : X → Type 0} (r : Result X E) → ((x : X) �
 ok_map (Ok x) f p = f x p
 ok_map (Err e) f p = tt
 
+pub ok_and : {X E : Type 0} (P Q : X → Type 0) (r : Result X E) → IfOk r P → IfOk r Q → IfOk r (λ x. P x × Q x)
+ok_and P Q (Ok x) p q = (p, q)
+ok_and P Q (Err e) p q = tt
+
 pub err_map : {X E : Type 0} {P Q : E → Type 0} (r : Result X E) → ((e : E) → P e → Q e) → IfErr r P → IfErr r Q
 err_map (Ok x) f p = tt
 err_map (Err e) f p = f e p

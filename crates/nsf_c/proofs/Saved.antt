@@ -10,5 +10,5 @@ use Rattle.nsf_c.specs.Calls.{IsStoreKept, content_of}
 held_now : (h : History) → IsCrashImage h.disk h.disk.content
 held_now h = record { sectors = refl; kept = λ k synced. refl; torn = λ k lt unsynced. h.whole k lt }
 
-pub is_kept : (s : Opened) → serving.LeavesItsRun history_of s (serving.device_of s) → IsStoreKept s (content_of s)
-is_kept s leaves past is = leaves past (content_of s) is (held_now (history_of (serving.device_of s)))
+pub is_kept : (s : Opened) → serving.LeavesItsRun history_of s.store (serving.device_of s.store) → IsStoreKept s (content_of s)
+is_kept s leaves past is = leaves past (content_of s) is (held_now (history_of (serving.device_of s.store)))

@@ -1,5 +1,5 @@
 -- What the calls do.
-use Rattle.std.specs.Prelude.{◌≡◌, ◌⊎◌, ℕ, ◌-◌, ◌/◌, ◌++◌, List, length, take, drop, min}
+use Rattle.std.specs.Prelude.{◌≡◌, ◌⊎◌, ℕ, false, ◌-◌, ◌/◌, ◌++◌, List, length, take, drop, min}
 use Rattle.std.specs.Simd.{first_chunks}
 use Rattle.std.specs.declared.alloc.Global.{Global}
 use Rattle.records.specs.GeometryValue.{GeometryValue, IsGeometry}
@@ -17,6 +17,7 @@ use Rattle.restart.specs.Parts.{core_of}
 use Rattle.restart.specs.Store.{Past, IsAt, Survives}
 use Rattle.restart.specs.declared.event.Event.{Event}
 use Rattle.restart.specs.declared.event.Reply.{Reply}
+use Rattle.serving.specs.Guarded.{ServesGuarded, FlushesGuarded, TakesImageGuarded}
 use Rattle.serving.specs.Store as serving
 use Rattle.nsf_c.specs.declared.asked.Asked.{Asked}
 use Rattle.nsf_c.specs.declared.handle.Handle.{Handle}
@@ -30,17 +31,18 @@ use Rattle.nsf_c.specs.Told.{plain, life_told, told_of, status_of}
 
 -- ---- serving
 
--- The event had this lawful reply, and the store's device has as many sectors as before (`sectors`).
+-- The event had this lawful reply, and the store's device has as many sectors as before (`sectors`). A commit behind a known failure
+-- of the device is refused by 2 instead, and nothing was done.
 abbrev pub Serves : Event → Reply Global → Opened → Opened → Type 0
-Serves event reply old new = serving.Serves history_of failures_of event reply old new
+Serves event reply old new = ServesGuarded history_of failures_of event reply old new
 
 -- Records were flushed up to the last one made, or a refusal came.
 abbrev pub Flushes : Reply Global → Opened → Opened → Type 0
-Flushes reply old new = serving.Flushes history_of failures_of (serving.last_made old) reply old new
+Flushes reply old new = FlushesGuarded history_of failures_of reply old new
 
 -- An image was taken and made current, or a refusal came.
 abbrev pub TakesImage : Reply Global → Opened → Opened → Type 0
-TakesImage reply old new = serving.TakesImage history_of failures_of reply old new
+TakesImage reply old new = TakesImageGuarded history_of failures_of reply old new
 
 -- the reply is told, and the call answers its number
 abbrev pub Tells : Reply Global → ℕ → Told → Type 0
@@ -70,23 +72,23 @@ pub record IsAnswered (P : Reply Global → Opened → Opened → Type 0) (statu
 
 -- whether a core may begin with what the store holds
 abbrev pub IsSound : Opened → Type 0
-IsSound s = CanOpen (opened_of (core_of s.engine))
+IsSound s = CanOpen (opened_of (core_of s.store.engine))
 
 -- what the store is, and how far it has come
 abbrev pub stat_of : Opened → Stat
 stat_of s = record {
-  last = serving.last_made s;
-  horizon = serving.horizon_of s;
-  attempts = (core_of s.engine).attempts;
-  pages = serving.pages_of s;
-  life = (life_told (serving.life_of s)).kind;
+  last = serving.last_made s.store;
+  horizon = serving.horizon_of s.store;
+  attempts = (core_of s.store.engine).attempts;
+  pages = serving.pages_of s.store;
+  life = (life_told (serving.life_of s.store)).kind;
 }
 
 -- ---- saving
 
 -- what its device holds
 abbrev pub content_of : Opened → Image
-content_of s = (history_of (serving.device_of s)).disk.content
+content_of s = (history_of (serving.device_of s.store)).disk.content
 
 -- So many sectors from the first on, as many as there are and as there is room for, stand in front; behind them stays what was there.
 pub record CopiesOut (content : Image) (first count : ℕ) (old new : Image) : Type 0 where
@@ -96,7 +98,7 @@ pub record CopiesOut (content : Image) (first count : ℕ) (old new : Image) : T
 -- Whatever run left the store where it is: a device of these sectors holds a beginning of it, with every record up to the horizon, and
 -- so with all that a reply has told to be safe.
 abbrev pub IsStoreKept : Opened → Image → Type 0
-IsStoreKept s image = (past : Past Global) → IsAt history_of past s.engine → Survives past (serving.horizon_of s) image
+IsStoreKept s image = (past : Past Global) → IsAt history_of past s.store.engine → Survives past (serving.horizon_of s.store) image
 
 -- ---- opening
 
@@ -114,11 +116,12 @@ pub record IsDisk (P : Image → Type 0) (disk : Disk) : Type 0 where
   pub synced : IsSynced (history_of disk).disk
   pub failures : failures_of disk ≡ 0
 
--- A store was opened on such a disk.
+-- A store was opened on such a disk, of which no failure is known.
 pub record IsOpenedOn (P : Image → Type 0) (s : Opened) : Type 0 where
   pub disk : Disk
   pub is_disk : IsDisk P disk
-  pub opens : serving.OpensOn history_of disk s
+  pub opens : serving.OpensOn history_of disk s.store
+  pub sound : s.has_failed ≡ false
 
 -- Nothing was opened on this disk, for this reason.
 abbrev pub IsRefused : Disk → Error → Type 0

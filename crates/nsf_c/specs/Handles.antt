@@ -2,7 +2,7 @@
 use Rattle.std.specs.Prelude.{◌≡◌, Option, Some, None}
 use Rattle.std.specs.declared.alloc.Global.{Global}
 use Rattle.file_disk.specs.declared.mirror.FileDisk.{FileDisk}
-use Rattle.serving.specs.declared.store.Store.{Store}
+use Rattle.serving.specs.declared.guarded.GuardedStore.{GuardedStore}
 use Rattle.nsf_c.specs.Full.{IsFull}
 use Rattle.nsf_c.specs.declared.below.Below.{Below}
 use Rattle.nsf_c.specs.declared.held.Held.{Held}
@@ -12,9 +12,9 @@ use Rattle.nsf_c.specs.declared.handle.Handle.{Handle}
 abbrev pub Disk : Type 0
 Disk = FileDisk Below Global
 
--- a store that C has open
+-- a store that C has open, whose commits are refused once its device is known to have failed
 abbrev pub Opened : Type 0
-Opened = Store Disk
+Opened = GuardedStore Disk
 
 -- a store is open under the handle
 abbrev pub IsOpen : Handle → Type 0

@@ -1,5 +1,5 @@
 //! A store is made, opened and closed.
-ghost use Rattle.std.specs.Prelude.{◌≡◌, ◌≢◌, ◌⊎◌, Some, IfOk, IfErr};
+ghost use Rattle.std.specs.Prelude.{◌≡◌, ◌≢◌, ◌⊎◌, Some, IfOk, IfErr, false};
 ghost use Rattle.records.specs.Refusals.{number_of};
 ghost use Rattle.file_disk.specs.FileDisk.{history_of};
 ghost use Rattle.serving.specs.Store.{OpensOn};
@@ -13,7 +13,7 @@ use file_disk::FileDisk;
 use flip_image::Halves;
 use records::{Error, Geometry};
 use sector_device::{Device, SECTOR_SIZE};
-use serving::Store;
+use serving::{GuardedStore, Store};
 use std::alloc::Global;
 
 // What is below, where the descriptor is of a line, or is none.
@@ -38,11 +38,15 @@ pub extern "C" fn nsf_sectors(pages: u32, entries: u32, slots: u32) -> u64
 
 // Opens the store on the disk.
 fn open_on(alloc: Global, disk: FileDisk<Below, Global>) -> Result<Box<Held>, Error>
-    ensures ok { IfOk result (λ held. OpensOn history_of disk held.value.store) }
+    ensures ok { IfOk result (λ held. OpensOn history_of disk held.value.store.store) }
+    ensures sound { IfOk result (λ held. held.value.store.has_failed ≡ false) }
     ensures err { IfErr result (λ e. (e ≡ Error.NoMemory) ⊎ IsRefused disk e) }
 {
     match Store::open(alloc, disk) {
-        Ok(store) => Ok(Box::new(alloc, Held { store })?),
+        Ok(store) => {
+            let store = GuardedStore::new(store);
+            Ok(Box::new(alloc, Held { store })?)
+        }
         Err((error, _)) => Err(error),
     }
 }

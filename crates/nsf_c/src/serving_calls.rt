@@ -22,7 +22,7 @@ fn serve(alloc: Global, handle: &mut Handle, event: Event) -> Reply<Global>
 }
 
 /// Serves the event that is asked for, tells its reply, and puts the places that a search found. Answers 0, or the number of the
-/// refusal; where what is asked for is no event, nothing is done.
+/// refusal; where what is asked for is no event, nothing is done. A commit is refused by 2 once a flush or a copy was.
 #[unsafe(no_mangle)]
 pub extern "C" fn nsf_serve(
     alloc: Global,
@@ -85,7 +85,7 @@ pub extern "C" fn nsf_can_open(alloc: Global, handle: &mut Handle) -> bool
     ensures { Reads (λ store. IsTrue result ↔ IsSound store) handle.old handle.new }
 {
     let held = handle.take(alloc);
-    let is_sound = held.store.core().can_open();
+    let is_sound = held.store.store.core().can_open();
     handle.put(held);
     is_sound
 }
@@ -97,10 +97,10 @@ pub extern "C" fn nsf_stat(alloc: Global, handle: &mut Handle, stat: &mut Stat)
     ensures { Reads (λ store. stat.new ≡ stat_of store) handle.old handle.new }
 {
     let held = handle.take(alloc);
-    let core = held.store.core();
+    let core = held.store.store.core();
     *stat = Stat {
         last: core.last(),
-        horizon: held.store.horizon(),
+        horizon: held.store.store.horizon(),
         attempts: core.attempts(),
         pages: core.pages(),
         life: life_told(&core.life()).kind,

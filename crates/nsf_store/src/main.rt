@@ -7,8 +7,19 @@ use std::io::BufReader;
 use std::process::ExitCode;
 use std::{env, io};
 
+// The words that the program was given.
+fn words(rt: &HostRuntime) -> io::Result<Vec<String>> {
+    Ok(env::args(rt)?.collect(rt.alloc())?)
+}
+
 fn main(rt: HostRuntime) -> io::Result<ExitCode> {
-    let words: Vec<String> = env::args(&rt)?.collect(rt.alloc())?;
+    let words = match words(&rt) {
+        Ok(words) => words,
+        Err(error) => {
+            let status = shell::refuse_words("nsf-store", error, &mut rt.stderr());
+            return Ok(ExitCode::from(status));
+        }
+    };
     let status = shell::run(
         &rt,
         words.as_slice(),

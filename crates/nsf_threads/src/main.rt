@@ -9,8 +9,19 @@ use std::io::IsTerminal;
 use std::process::ExitCode;
 use std::{env, io};
 
+// The words that the program was given.
+fn words(rt: &HostRuntime) -> io::Result<Vec<String>> {
+    Ok(env::args(rt)?.collect(rt.alloc())?)
+}
+
 fn main(rt: HostRuntime) -> io::Result<ExitCode> {
-    let words: Vec<String> = env::args(&rt)?.collect(rt.alloc())?;
+    let words = match words(&rt) {
+        Ok(words) => words,
+        Err(error) => {
+            let status = shell::refuse_words("nsf-threads", error, &mut rt.stderr());
+            return Ok(ExitCode::from(status));
+        }
+    };
     let progress = Progress {
         errors: rt.stderr(),
         is_terminal: rt.stderr().is_terminal(),

@@ -12,10 +12,14 @@ use Rattle.replay_values.specs.declared.answer.Answer.{Answer}
 use Rattle.replay_values.specs.declared.answer.Answer.TheVariants as answer
 use Rattle.serving.specs.Answers.{answer_of}
 use Rattle.serving.specs.Dump.{dump_text}
-use Rattle.serving.specs.Store.{Serves, TakesImage, Flushes, horizon_of, last_made}
+use Rattle.serving.specs.Guarded.{ServesGuarded, TakesImageGuarded, FlushesGuarded}
+use Rattle.serving.specs.Outcomes.{outcome_of}
+use Rattle.serving.specs.Store.{horizon_of}
 use Rattle.serving.specs.declared.request.Request.{Request}
 use Rattle.serving.specs.declared.request.Request.TheVariants as request
-use Rattle.serving.specs.declared.store.Store.{Store}
+use Rattle.serving.specs.declared.guarded.GuardedStore.{GuardedStore}
+use Rattle.serving.specs.declared.outcome.Outcome.{Outcome}
+use Rattle.serving.specs.declared.outcome.Outcome.TheVariants.{Other}
 
 -- the line of this answer was printed
 abbrev pub Prints : {W : Type 0} → (W → Option (List ℕ)) → Answer → W → W → Type 0
@@ -23,34 +27,42 @@ Prints contents answer before after = Appends (contents before) (contents after)
 
 module _ {D W : Type 0} (history : D → History) (failures : D → ℕ) (contents : W → Option (List ℕ)) where
   -- The event was served, and its answer printed.
-  pub record Tells (event : Event) (told : Answer) (old new : Store D) (before after : W) : Type 0 where
+  pub record Tells (event : Event) (told : Answer) (old new : GuardedStore D) (before after : W) : Type 0 where
     pub reply : Reply Global
-    pub serves : Serves history failures event reply old new
-    pub told_is : told ≡ answer_of (horizon_of new) reply
+    pub serves : ServesGuarded history failures event reply old new
+    pub told_is : told ≡ answer_of (horizon_of new.store) reply
     pub prints : Prints contents told before after
 
   -- The steps had these answers, each of which was printed, and none of which was the last one.
-  abbrev pub PrintsSteps : Event → List Answer → Store D → Store D → W → W → Type 0
+  abbrev pub PrintsSteps : Event → List Answer → GuardedStore D → GuardedStore D → W → W → Type 0
   PrintsSteps event [] old new before after = (new ≡ old) × (after ≡ before)
   PrintsSteps event (told ∷ answers) old new before after =
-      (mid : Store D) × (between : W) × Tells event told old mid before between × (is_last_step told ≡ false)
+      (mid : GuardedStore D) × (between : W) × Tells event told old mid before between × (is_last_step told ≡ false)
       × PrintsSteps event answers mid new between after
 
-  -- As many steps of this kind as were asked for were made. Or fewer: one more had the last answer.
-  abbrev pub MakesSteps : Event → ℕ → Store D → Store D → W → W → Type 0
-  MakesSteps event count old new before after =
-      (answers : List Answer) × (mid : Store D) × (between : W) × PrintsSteps event answers old mid before between
-      × (((length answers ≡ count) × (new ≡ mid) × (after ≡ between))
-      ⊎ ((length answers < count) × (told : Answer) × Tells event told mid new between after × (is_last_step told ≡ true)))
+  -- As many steps of this kind as were asked for were made. Or fewer: one more had the last answer, which is what came of it.
+  abbrev pub MakesSteps : Event → ℕ → Outcome → GuardedStore D → GuardedStore D → W → W → Type 0
+  MakesSteps event count outcome old new before after =
+      (answers : List Answer) × (mid : GuardedStore D) × (between : W) × PrintsSteps event answers old mid before between
+      × (((length answers ≡ count) × (outcome ≡ Other) × (new ≡ mid) × (after ≡ between))
+      ⊎ ((length answers < count) × (told : Answer) × Tells event told mid new between after × (is_last_step told ≡ true)
+      × (outcome ≡ outcome_of told)))
 
   -- The request was served, and what came of it was printed.
-  abbrev pub Answers : Request → Store D → Store D → W → W → Type 0
-  Answers (request.Event e) old new before after = (told : Answer) × Tells e told old new before after
-  Answers (request.Build count) old new before after = MakesSteps event.Build count old new before after
-  Answers (request.Clean count) old new before after = MakesSteps event.Clean count old new before after
-  Answers request.Flush old new before after =
-      (reply : Reply Global) × Flushes history failures (last_made old) reply old new × Prints contents (answer_of (horizon_of new) reply) before after
-  Answers request.Image old new before after =
-      (reply : Reply Global) × TakesImage history failures reply old new × Prints contents (answer_of (horizon_of new) reply) before after
-  Answers (request.Crash _) old new before after = (new ≡ old) × Prints contents answer.Skipped before after
-  Answers request.Dump old new before after = (new ≡ old) × Appends (contents before) (contents after) (dump_text old)
+  abbrev pub Answers : Request → Outcome → GuardedStore D → GuardedStore D → W → W → Type 0
+  Answers (request.Event e) outcome old new before after =
+      (told : Answer) × Tells e told old new before after × (outcome ≡ outcome_of told)
+  Answers (request.Build count) outcome old new before after = MakesSteps event.Build count outcome old new before after
+  Answers (request.Clean count) outcome old new before after = MakesSteps event.Clean count outcome old new before after
+  Answers request.Flush outcome old new before after =
+      (reply : Reply Global) × FlushesGuarded history failures reply old new
+      × Prints contents (answer_of (horizon_of new.store) reply) before after
+      × (outcome ≡ outcome_of (answer_of (horizon_of new.store) reply))
+  Answers request.Image outcome old new before after =
+      (reply : Reply Global) × TakesImageGuarded history failures reply old new
+      × Prints contents (answer_of (horizon_of new.store) reply) before after
+      × (outcome ≡ outcome_of (answer_of (horizon_of new.store) reply))
+  Answers (request.Crash _) outcome old new before after =
+      (new ≡ old) × Prints contents answer.Skipped before after × (outcome ≡ Other)
+  Answers request.Dump outcome old new before after =
+      (new ≡ old) × Appends (contents before) (contents after) (dump_text old.store) × (outcome ≡ Other)

@@ -1,9 +1,13 @@
 //! What the words of the program ask for.
+use crate::building::Build;
 use clap::error::ErrorKind;
 use clap::{Arg, ArgAction, ArgMatches, Command, Error, value_parser};
-use records::{ENTRIES_MAX, ENTRIES_MIN, LOG_SLOTS_MAX, LOG_SLOTS_MIN, PAGES_MAX};
+use records::{ENTRIES_MAX, ENTRIES_MIN, LOG_SLOTS_MAX, LOG_SLOTS_MIN, PAGES_MAX, SLOTS_PER_PAGE};
 use std::alloc::{AllocError, Global};
 use std::convert::AsStr;
+
+// How many places for entries there are for each row, where nothing else is asked for.
+const ENTRIES_PER_ROW: u32 = 4;
 
 /// What is to be done with the file.
 #[derive(Clone, Copy, Debug, PartialEq, Eq)]
@@ -14,18 +18,18 @@ pub enum Verb {
         entries: u32,
         slots: u32,
     },
-    /// The commands of the input are served.
-    Run,
+    /// The commands of the input are served; each commit is flushed where it is to be durable.
+    Run {
+        is_durable: bool,
+    },
     /// It is read, and what is wrong with it is said.
     Check,
     /// Its rows and entries are printed.
     Dump,
     /// What it is and how far it has come is printed.
     Stat,
-    /// The index is built to its end.
-    Build {
-        shows_progress: bool,
-    },
+    /// The index is built to its end, or dropped, created and built anew.
+    Build(Build),
 }
 
 /// What is asked for.
@@ -60,9 +64,16 @@ const MIGRATE_ABOUT: &str =
 
 const PAGES_HELP: &str = "Pages of the table, 1 to 256 [default: 16]";
 
-const ENTRIES_HELP: &str = "Places for entries of the index, 64 to 65536 [default: 4096]";
+const ENTRIES_HELP: &str =
+    "Places for entries of the index, 64 to 65536 [default: four for each row that the pages hold]";
 
 const SLOTS_HELP: &str = "Slots of each log, 4 to 256 [default: 16]";
+
+const DURABLE_HELP: &str =
+    "Flushes behind each commit, and answers its horizon: what was answered is lost to no kill";
+
+const AGAIN_HELP: &str =
+    "Drops the index before, if there is one, and creates it anew: the way out where it is full";
 
 const PROGRESS_HELP: &str =
     "Shows on the error stream how many pairs were attempted, also where that is no terminal";
@@ -81,11 +92,11 @@ fn path_arg<'a>(alloc: Global, name: &'a str, help: &'a str) -> Arg<'a> {
     Arg::new(alloc, name).required(true).help(help)
 }
 
-fn progress_arg<'a>(alloc: Global) -> Arg<'a> {
-    Arg::new(alloc, "progress")
-        .long("progress")
+fn flag_arg<'a>(alloc: Global, name: &'a str, help: &'a str) -> Arg<'a> {
+    Arg::new(alloc, name)
+        .long(name)
         .action(ArgAction::SetTrue)
-        .help(PROGRESS_HELP)
+        .help(help)
 }
 
 fn number_arg<'a>(alloc: Global, name: &'a str, least: u32, most: u32, help: &'a str) -> Arg<'a> {
@@ -128,11 +139,15 @@ fn new_verb<'a>(alloc: Global) -> Result<Command<'a>, AllocError> {
     with_arg(verb, slots)
 }
 
+fn run_verb<'a>(alloc: Global) -> Result<Command<'a>, AllocError> {
+    let verb = verb_with_file(alloc, "run", RUN_ABOUT)?;
+    with_arg(verb, flag_arg(alloc, "durable", DURABLE_HELP))
+}
+
 fn build_verb<'a>(alloc: Global) -> Result<Command<'a>, AllocError> {
-    with_arg(
-        verb_with_file(alloc, "build", BUILD_ABOUT)?,
-        progress_arg(alloc),
-    )
+    let verb = verb_with_file(alloc, "build", BUILD_ABOUT)?;
+    let verb = with_arg(verb, flag_arg(alloc, "again", AGAIN_HELP))?;
+    with_arg(verb, flag_arg(alloc, "progress", PROGRESS_HELP))
 }
 
 fn migrate_verb<'a>(alloc: Global) -> Result<Command<'a>, AllocError> {
@@ -144,7 +159,7 @@ fn migrate_verb<'a>(alloc: Global) -> Result<Command<'a>, AllocError> {
 
 fn command<'a>(alloc: Global) -> Result<Command<'a>, AllocError> {
     let all = with_verb(program(alloc)?, new_verb(alloc)?)?;
-    let all = with_verb(all, verb_with_file(alloc, "run", RUN_ABOUT)?)?;
+    let all = with_verb(all, run_verb(alloc)?)?;
     let all = with_verb(all, verb_with_file(alloc, "check", CHECK_ABOUT)?)?;
     let all = with_verb(all, verb_with_file(alloc, "dump", DUMP_ABOUT)?)?;
     let all = with_verb(all, verb_with_file(alloc, "stat", STAT_ABOUT)?)?;
@@ -156,25 +171,41 @@ fn number_in(matches: &ArgMatches<'_>, name: &str, default: u32) -> u32 {
     matches.get_one::<u32>(name).unwrap_or(default)
 }
 
+// As many entries as a store of so many pages is given where nothing else is asked for.
+fn entries_for(pages: u32) -> u32 {
+    pages
+        .saturating_mul(u32::from(SLOTS_PER_PAGE))
+        .saturating_mul(ENTRIES_PER_ROW)
+        .clamp(ENTRIES_MIN, ENTRIES_MAX)
+}
+
 fn new_of(matches: &ArgMatches<'_>) -> Verb {
+    let pages = number_in(matches, "pages", 16);
     Verb::New {
-        pages: number_in(matches, "pages", 16),
-        entries: number_in(matches, "entries", 4_096),
+        pages,
+        entries: number_in(matches, "entries", entries_for(pages)),
         slots: number_in(matches, "slots", 16),
     }
 }
 
-fn build_of(matches: &ArgMatches<'_>) -> Verb {
-    Verb::Build {
-        shows_progress: matches.get_flag("progress"),
+fn run_of(matches: &ArgMatches<'_>) -> Verb {
+    Verb::Run {
+        is_durable: matches.get_flag("durable"),
     }
+}
+
+fn build_of(matches: &ArgMatches<'_>) -> Verb {
+    Verb::Build(Build {
+        is_anew: matches.get_flag("again"),
+        shows_progress: matches.get_flag("progress"),
+    })
 }
 
 // The verb of this name; each but the last has a name of its own.
 fn verb_of(name: &str, matches: &ArgMatches<'_>) -> Verb {
     match name {
         "new" => new_of(matches),
-        "run" => Verb::Run,
+        "run" => run_of(matches),
         "check" => Verb::Check,
         "dump" => Verb::Dump,
         "stat" => Verb::Stat,

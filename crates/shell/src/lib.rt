@@ -10,6 +10,7 @@
 #![tactic(auto)]
 
 mod asked;
+mod building;
 mod migration;
 mod program;
 mod refused;
@@ -17,4 +18,4 @@ mod serve;
 mod show;
 
 pub use program::run;
-pub use refused::Refused;
+pub use refused::{Refused, refuse_words};

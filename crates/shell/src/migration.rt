@@ -1,5 +1,6 @@
 //! A store of version 1 in a file is moved to a new file.
 use crate::refused::Refused;
+use file_disk::Troubled;
 use moving::{NotVersionOne, move_disk, old_geometry};
 use records::Error;
 use restart::MigrateError;
@@ -12,6 +13,16 @@ use std::rt::Files;
 pub enum NotMoved {
     Old(Refused),
     New(Refused),
+}
+
+impl NotMoved {
+    // The same; where the new device failed, with the reason that it tells.
+    fn because<D: Troubled>(self, new: &D) -> NotMoved {
+        match self {
+            NotMoved::New(refused) => NotMoved::New(refused.because(new)),
+            old => old,
+        }
+    }
 }
 
 impl From<NotVersionOne> for NotMoved {
@@ -34,7 +45,7 @@ impl From<MigrateError> for NotMoved {
 }
 
 // Moves the store to the disk of the new file's draft, and gives that its name.
-fn finish<R: Files<File = File> + AllocGlobal, O: Device, N: Device + Drop>(
+fn finish<R: Files<File = File> + AllocGlobal, O: Device, N: Device + Troubled + Drop>(
     rt: &R,
     old: &mut O,
     path: &str,
@@ -43,7 +54,7 @@ fn finish<R: Files<File = File> + AllocGlobal, O: Device, N: Device + Drop>(
     // The disk has the file's lock until that has its name.
     let _disk = match move_disk(rt.alloc(), old, new) {
         Ok(disk) => disk,
-        Err((error, _)) => return Err(NotMoved::from(error)),
+        Err((error, disk)) => return Err(NotMoved::from(error).because(&disk)),
     };
     match file_disk::publish(rt, path) {
         Ok(()) => Ok(()),
@@ -70,7 +81,7 @@ fn move_to<R: Files<File = File> + AllocGlobal, O: Device>(
     moved
 }
 
-/// Moves the store of version 1 in the old file, which is only read, to a new file. Where that is refused before the new file has
+/// Moves the store of version 1 in the old file, which is only read and locked to the end, to a new file. Where that is refused before the new file has
 /// its name, no file is left, if the draft can be removed. What is wrong with the old file is told before what is wrong with the new
 /// one.
 pub fn migrate_file<R: Files<File = File> + AllocGlobal>(
@@ -78,7 +89,7 @@ pub fn migrate_file<R: Files<File = File> + AllocGlobal>(
     old: &str,
     new: &str,
 ) -> Result<(), NotMoved> {
-    match file_disk::read(rt, rt.alloc(), old) {
+    match file_disk::hold(rt, rt.alloc(), old) {
         Ok(mut disk) => move_to(rt, &mut disk, new),
         Err(error) => Err(NotMoved::Old(Refused::File(error))),
     }

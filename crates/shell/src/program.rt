@@ -1,14 +1,13 @@
 //! The verbs of the program.
 use crate::asked::{Asked, Verb, is_wanted, read};
+use crate::building::Build;
 use crate::migration::{NotMoved, migrate_file};
 use crate::refused::Refused;
-use crate::serve::serve_lines;
+use crate::serve::Service;
 use crate::show::{Stored, write_stat};
+use file_disk::Troubled;
 use flip_image::Halves;
-use model::Life;
-use nsf_core::BuildReply;
 use records::Geometry;
-use restart::{Event, Reply};
 use sector_device::Device;
 use serving::Store;
 use std::alloc::Global;
@@ -19,14 +18,11 @@ use std::io::{BufRead, Write};
 use std::rt::Files;
 use store_reader::read_store;
 
-// How many steps of the builder lie between two flushes.
-const STEPS: u32 = 64;
-
 // A store on the disk, opened.
-fn open<D: Device + Drop>(alloc: Global, disk: D) -> Result<Store<D>, Refused> {
+fn open<D: Device + Troubled + Drop>(alloc: Global, disk: D) -> Result<Store<D>, Refused> {
     match Store::open(alloc, disk) {
         Ok(store) => Ok(store),
-        Err((error, _)) => Err(Refused::Store(error)),
+        Err((error, disk)) => Err(Refused::Store(error).because(&disk)),
     }
 }
 
@@ -43,7 +39,7 @@ fn read_disk<D: Device>(alloc: Global, disk: &mut D) -> Result<Stored, Refused> 
 }
 
 // What the disk itself says, and its store.
-fn read_and_open<D: Device + Drop>(
+fn read_and_open<D: Device + Troubled + Drop>(
     alloc: Global,
     mut disk: D,
 ) -> Result<(Stored, Store<D>), Refused> {
@@ -52,13 +48,15 @@ fn read_and_open<D: Device + Drop>(
 }
 
 // Makes the disk a store, and gives its file its name.
-fn finish<R: Files<File = File> + AllocGlobal, D: Device + Drop>(
+fn finish<R: Files<File = File> + AllocGlobal, D: Device + Troubled + Drop>(
     rt: &R,
     path: &str,
     geometry: Geometry,
     mut disk: D,
 ) -> Result<(), Refused> {
-    Halves::format(&mut disk, geometry)?;
+    if let Err(error) = Halves::format(&mut disk, geometry) {
+        return Err(Refused::Store(error).because(&disk));
+    }
     file_disk::publish(rt, path)?;
     Ok(())
 }
@@ -78,115 +76,21 @@ fn make<R: Files<File = File> + AllocGlobal>(
     made
 }
 
-// What a step of the builder came to.
-#[derive(Clone, Copy, Debug, PartialEq, Eq)]
-enum Step {
-    /// The index is complete.
-    Complete,
-    /// A pair was attempted.
-    Attempted,
-    /// A page was taken, or a checkpoint made.
-    Other,
-}
-
-// Flushes, and answers the refusal, if there was one.
-fn flush<D: Device>(store: &mut Store<D>) -> Result<(), Refused> {
-    match store.flush() {
-        Reply::Refused(error) => Err(Refused::Store(error)),
-        _ => Ok(()),
-    }
-}
-
-// Makes a step of the builder.
-fn build_step<D: Device>(store: &mut Store<D>) -> Result<Step, Refused> {
-    match store.serve(Event::Build) {
-        Reply::Built(BuildReply::Done(_)) | Reply::Built(BuildReply::Idle) => Ok(Step::Complete),
-        Reply::Built(BuildReply::Placed(_)) | Reply::Built(BuildReply::Rejected(_)) => {
-            Ok(Step::Attempted)
-        }
-        Reply::Refused(error) => Err(Refused::Store(error)),
-        _ => Ok(Step::Other),
-    }
-}
-
-// Makes some steps of the builder, and tells whether the index is complete, and how many pairs were attempted.
-fn build_some<D: Device>(store: &mut Store<D>) -> Result<(bool, u64), Refused> {
-    let mut attempts: u64 = 0;
-    for _ in 0..STEPS {
-        match build_step(store)? {
-            Step::Complete => return Ok((true, attempts)),
-            Step::Attempted => attempts = attempts.saturating_add(1),
-            Step::Other => {}
-        }
-    }
-    Ok((false, attempts))
-}
-
-// Why the index of this store isn't built, if so.
-fn hindrance<D: Device>(store: &Store<D>) -> Option<Refused> {
-    if store.life() == Life::Absent {
-        return Some(Refused::NoIndex);
-    }
-    if !store.core().can_open() {
-        return Some(Refused::Unsound);
-    }
-    None
-}
-
-// Shows how many pairs were attempted, over the line before, where that can be.
-fn show<E: Write>(attempts: u64, errors: &mut E) {
-    let _ = write!(errors, "\rpairs attempted: {attempts}");
-}
-
-// Builds the index to its end, flushing as it goes, and shows the count of attempts where that is wanted.
-fn build_on<D: Device, E: Write>(
-    store: &mut Store<D>,
-    shows_progress: bool,
-    errors: &mut E,
-) -> Result<u64, Refused> {
-    if let Some(refused) = hindrance(store) {
-        return Err(refused);
-    }
-    let mut attempts: u64 = 0;
-    for _ in 0..u64::MAX {
-        let (is_complete, more) = build_some(store)?;
-        attempts = attempts.saturating_add(more);
-        flush(store)?;
-        if shows_progress {
-            show(attempts, errors);
-        }
-        if is_complete {
-            break;
-        }
-    }
-    Ok(attempts)
-}
-
-// The same, with what was shown on a line of its own.
-fn build<D: Device, E: Write>(
-    store: &mut Store<D>,
-    shows_progress: bool,
-    errors: &mut E,
-) -> Result<u64, Refused> {
-    let built = build_on(store, shows_progress, errors);
-    if shows_progress {
-        let _ = writeln!(errors);
-    }
-    built
-}
-
 // What follows does one verb on a disk, and then on that of a file: what a file is, is behind none of the store's own calls.
 
 // Builds the index on the disk to its end.
-fn build_disk<D: Device + Drop, W: Write, E: Write>(
+fn build_disk<D: Device + Troubled + Drop, W: Write, E: Write>(
     alloc: Global,
     disk: D,
-    shows_progress: bool,
+    build: Build,
     output: &mut W,
     errors: &mut E,
 ) -> Result<(), Refused> {
     let mut store = open(alloc, disk)?;
-    let attempts = build(&mut store, shows_progress, errors)?;
+    let attempts = match build.run(&mut store, errors) {
+        Ok(attempts) => attempts,
+        Err(refused) => return Err(refused.because(store.device())),
+    };
     writeln!(output, "complete, {attempts} pairs attempted")?;
     Ok(())
 }
@@ -195,16 +99,16 @@ fn build_file<R: Files<File = File>, W: Write, E: Write>(
     rt: &R,
     alloc: Global,
     path: &str,
-    shows_progress: bool,
+    build: Build,
     output: &mut W,
     errors: &mut E,
 ) -> Result<(), Refused> {
     let disk = file_disk::open(rt, alloc, path)?;
-    build_disk(alloc, disk, shows_progress, output, errors)
+    build_disk(alloc, disk, build, output, errors)
 }
 
 // Says whether the disk holds a store, whose index fits its rows.
-fn check_disk<D: Device + Drop, W: Write>(
+fn check_disk<D: Device + Troubled + Drop, W: Write>(
     alloc: Global,
     disk: D,
     output: &mut W,
@@ -227,7 +131,7 @@ fn check_file<R: Files<File = File>, W: Write>(
 }
 
 // Prints what the store on the disk holds.
-fn dump_disk<D: Device + Drop, W: Write>(
+fn dump_disk<D: Device + Troubled + Drop, W: Write>(
     alloc: Global,
     disk: D,
     output: &mut W,
@@ -246,7 +150,7 @@ fn dump_file<R: Files<File = File>, W: Write>(
 }
 
 // Prints what the store on the disk is, and how far it has come.
-fn stat_disk<D: Device + Drop, W: Write>(
+fn stat_disk<D: Device + Troubled + Drop, W: Write>(
     alloc: Global,
     disk: D,
     output: &mut W,
@@ -266,26 +170,31 @@ fn stat_file<R: Files<File = File>, W: Write>(
 
 // Serves the input over the store on the disk, and tells whether each line was one of a script. Behind the last line what is not
 // flushed yet is flushed.
-fn run_disk<D: Device + Drop, I: BufRead, W: Write>(
+fn run_disk<D: Device + Troubled + Drop, I: BufRead, W: Write, E: Write>(
     alloc: Global,
     disk: D,
+    is_durable: bool,
     input: &mut I,
     output: &mut W,
+    errors: &mut E,
 ) -> Result<bool, Refused> {
-    let mut store = open(alloc, disk)?;
-    let served = serve_lines(alloc, &mut store, input, output);
-    flush(&mut store)?;
+    let mut service = Service::new(open(alloc, disk)?, is_durable);
+    let served = service.serve_lines(alloc, input, output, errors);
+    service.flush()?;
     Ok(served?)
 }
 
-fn run_file<R: Files<File = File>, I: BufRead, W: Write>(
+fn run_file<R: Files<File = File>, I: BufRead, W: Write, E: Write>(
     rt: &R,
     alloc: Global,
     path: &str,
+    is_durable: bool,
     input: &mut I,
     output: &mut W,
+    errors: &mut E,
 ) -> Result<bool, Refused> {
-    run_disk(alloc, file_disk::open(rt, alloc, path)?, input, output)
+    let disk = file_disk::open(rt, alloc, path)?;
+    run_disk(alloc, disk, is_durable, input, output, errors)
 }
 
 // Does what is asked for, and tells whether nothing was refused.
@@ -304,13 +213,13 @@ fn act<R: Files<File = File> + AllocGlobal, I: BufRead, W: Write, E: Write>(
             entries,
             slots,
         } => make(rt, path, Geometry::new(pages, entries, slots)?)?,
-        Verb::Run => return run_file(rt, alloc, path, input, output),
+        Verb::Run { is_durable } => {
+            return run_file(rt, alloc, path, is_durable, input, output, errors);
+        }
         Verb::Check => check_file(rt, alloc, path, output)?,
         Verb::Dump => dump_file(rt, alloc, path, output)?,
         Verb::Stat => stat_file(rt, alloc, path, output)?,
-        Verb::Build { shows_progress } => {
-            build_file(rt, alloc, path, shows_progress, output, errors)?;
-        }
+        Verb::Build(build) => build_file(rt, alloc, path, build, output, errors)?,
     }
     Ok(true)
 }

@@ -67,13 +67,17 @@ fn write_geometry<W: Write>(geometry: Geometry, output: &mut W) -> io::Result<()
     writeln!(output, "slots {slots}")
 }
 
-// Prints how many rows and entries there are.
-fn write_counts<W: Write>(core: &Core<Global>, output: &mut W) -> io::Result<()> {
+// Prints how many rows and entries there are, and how many of the index's places are free. No transaction is active behind an
+// opening, so none is reserved.
+fn write_counts<W: Write>(core: &Core<Global>, places: u32, output: &mut W) -> io::Result<()> {
     let rows = rows_in(core);
     let (live, marked) = entries_in(core);
+    let free = u64::from(places).saturating_sub(live.saturating_add(marked));
     writeln!(output, "rows {rows}")?;
     writeln!(output, "live {live}")?;
-    writeln!(output, "marked {marked}")
+    writeln!(output, "marked {marked}")?;
+    writeln!(output, "reserved 0")?;
+    writeln!(output, "free {free}")
 }
 
 /// Prints what is told of the store, a line each.
@@ -86,5 +90,5 @@ pub fn write_stat<W: Write>(
     writeln!(output, "slots in use {}", stored.open_slots)?;
     writeln!(output, "last record {}", stored.last)?;
     write_life(core.life(), output)?;
-    write_counts(core, output)
+    write_counts(core, stored.geometry.entries, output)
 }

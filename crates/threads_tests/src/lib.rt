@@ -15,6 +15,8 @@ mod file_tests;
 #[cfg(test)]
 mod found;
 #[cfg(test)]
+mod help;
+#[cfg(test)]
 mod program_tests;
 #[cfg(test)]
 mod scene;

@@ -5,7 +5,7 @@ use Rattle.std.proofs.lemmas.List.{length-replicate}
 use Rattle.std.specs.Prelude.{ℕ, List, length}
 use Rattle.sector_device.specs.Values.{zero_sector}
 use Rattle.nsf_c.specs.Calls.{IsDisk, IsMade}
-use Rattle.nsf_c.proofs.Opened.{ok_map, err_map}
+use Rattle.nsf_c.proofs.Opened.{ok_and, ok_map, err_map}
 use Rattle.nsf_c.proofs.opening.make.Goals as goal
 
 made : (c : goal.After-open_on) → IsDisk (IsMade c.args.geometry) c.format.new.device
@@ -16,7 +16,7 @@ made c = record {
 }
 
 pub returns-clause-ok : goal.returns-clause-ok
-returns-clause-ok c = ok_map c.open_on.result (λ held opens. record { disk = c.format.new.device; is_disk = made c; opens = opens }) c.open_on.ensures.ok
+returns-clause-ok c = ok_map c.open_on.result (λ held opens. record { disk = c.format.new.device; is_disk = made c; opens = opens.0; sound = opens.1 }) (ok_and _ _ c.open_on.result c.open_on.ensures.ok c.open_on.ensures.sound)
 
 pub returns-clause-err : goal.returns-clause-err
 returns-clause-err c =

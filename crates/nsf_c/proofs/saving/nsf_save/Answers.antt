@@ -21,7 +21,7 @@ returns-clause-copied c =
 pub returns-clause-kept : goal.returns-clause-kept
 returns-clause-kept c =
     let held = c.deref.result.now in
-    let leaves = subst (λ (d : Disk). serving.LeavesItsRun history_of held.store d) c.device.ensures.device c.device.ensures.survives in (
+    let leaves = subst (λ (d : Disk). serving.LeavesItsRun history_of held.store.store d) c.device.ensures.device c.device.ensures.survives in (
       c.take-held.result.value,
       c.take-held.ensures.taken,
       c.put.ensures,

@@ -10,9 +10,9 @@ use Rattle.nsf_c.proofs.serving_calls.nsf_stat.Goals as goal
 
 pub returns : goal.returns
 returns c =
-    let core_is = c.core-core.ensures ∙ ap (λ (h : Held). core_of h.store.engine) c.deref.ensures in
+    let core_is = c.core-core.ensures ∙ ap (λ (h : Held). core_of h.store.store.engine) c.deref.ensures in
     let last = c.last.ensures ∙ ap (λ (v : CoreValue). v.last) core_is in
-    let horizon = c.horizon.ensures ∙ ap (λ (h : Held). serving.horizon_of h.store) c.deref-2.ensures in
+    let horizon = c.horizon.ensures ∙ ap (λ (h : Held). serving.horizon_of h.store.store) c.deref-2.ensures in
     let attempts = c.attempts.ensures ∙ ap (λ (v : CoreValue). v.attempts) core_is in
     let pages = c.pages.ensures.number ∙ ap (λ (v : CoreValue). v.heap.pages) core_is in
     let life = ap (λ (t : Told). t.kind) c.life_told.ensures ∙ ap (λ (l : Life). (life_told l).kind) (c.life.ensures.life ∙ ap (λ (v : CoreValue). v.life) core_is) in
