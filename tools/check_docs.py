@@ -1,10 +1,10 @@
 #!/usr/bin/env python3
-"""Looks whether README.md and docs/*.md agree with the sources. Usage: tools/check_docs.py, anywhere in the repository.
+"""Looks whether README.md and docs/*.md agree with the sources, and at the width of these. Usage: tools/check_docs.py, anywhere.
 
 Each word in backticks that could name an item, a crate or a file stands in the sources. At each place FILE:LINE that a table row
 names stands what the row is about, and a block of code behind such a place begins with that line. Each relative link leads
-somewhere. A row with functions and a file names functions of that file. It prints how many words each page has, and ends with
-status 1 where something is missing.
+somewhere. A row with functions and a file names functions of that file. A line of src or specs has at most 120 columns, one of
+proofs 160. It prints how many words each page has, and ends with status 1 where something is missing or too wide.
 """
 import fnmatch, pathlib, re, sys
 
@@ -74,6 +74,16 @@ def faults(page, words, ends):
             yield f"no {link} to link to"
 
 
+def wide_lines():
+    """Each line of a crate that is too wide."""
+    for part, most in (("src", 120), ("specs", 120), ("proofs", 160)):
+        for path in sorted(TOP.glob(f"crates/*/{part}/**/*")):
+            if path.suffix in {".rt", ".antt"}:
+                for number, line in enumerate(path.read_text().split("\n"), 1):
+                    if len(line) > most:
+                        yield f"{path.relative_to(TOP)}:{number} has {len(line)} columns"
+
+
 def main():
     words, ends = sources()
     pages = [TOP / "README.md", *sorted((TOP / "docs").glob("*.md"))]
@@ -85,6 +95,9 @@ def main():
         for fault in faults(page, words, ends):
             wrong += 1
             print(f"       {fault}")
+    for fault in wide_lines():
+        wrong += 1
+        print(f"       {fault}")
     print(f"{total:6} words, {wrong} faults")
     sys.exit(1 if wrong else 0)
 

@@ -24,8 +24,8 @@ pub(crate) struct Calls {
 /// What a stop at each write and sync of a script's commands leaves, by what becomes of the unsynced sectors.
 #[derive(Drop)]
 pub struct CrashMap {
-    // What was left, each once: the lines that are printed behind the stop. They come as the stops first met them, which is in the
-    // order of the history's prefixes.
+    // What was left, each once: the lines that are printed behind the stop. They come as the stops first met them,
+    // which is in the order of the history's prefixes.
     pub(crate) prefixes: Vec<Vec<u8>>,
     pub(crate) calls: Vec<Calls>,
 }
@@ -45,8 +45,8 @@ fn behind_stop(alloc: Global, output: &[u8]) -> Result<Option<Vec<u8>>, AllocErr
 }
 
 impl CrashMap {
-    /// The map of this script over a new store, as the arguments ask for it; their own stop and fate are left out of account.
-    /// The error is want of memory.
+    /// The map of this script over a new store, as the arguments ask for it; their own stop and fate are left out of
+    /// account. The error is want of memory.
     pub fn new(alloc: Global, arguments: &Arguments, text: &[u8]) -> io::Result<CrashMap> {
         let mut map = CrashMap {
             prefixes: Vec::new(alloc),
@@ -61,7 +61,8 @@ impl CrashMap {
         Ok(map)
     }
 
-    // What is left by each fate where the write or sync of this number is cut short, or `None` where the script makes fewer.
+    // What is left by each fate where the write or sync of this number is cut short, or `None` where the script makes
+    // fewer.
     fn left_at(
         &mut self,
         alloc: Global,

@@ -90,8 +90,8 @@ fn fault_of<S: AsStr>(words: &[S], arguments: &Arguments) -> Option<&'static str
     None
 }
 
-/// Makes the map that the words ask for, of the script that the input holds, and answers the program's exit status: 0 where it was
-/// printed, 1 where the script or the device was refused, or a file or stream failed, 2 for bad arguments.
+/// Makes the map that the words ask for, of the script that the input holds, and answers the program's exit status: 0
+/// where it was printed, 1 where the script or the device was refused, or a file or stream failed, 2 for bad arguments.
 pub fn run<S: AsStr, R: Read, W: Write, F: Files>(
     rt: &F,
     alloc: Global,

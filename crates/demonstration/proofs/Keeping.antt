@@ -1,5 +1,6 @@
 -- What a seat keeps, and what a writer tells.
-use Rattle.std.proofs.Common.{◌≡◌, ◌⊎◌, ◌∙◌, ◌++◌, ◌∷◌, [], All, Err, IfErr, IfOk, List, None, Ok, OnErr, OnOk, Option, Result, Some, ⊎_elim, ap, append-nil, append_assoc, refl, subst, sym, ℕ}
+use Rattle.std.proofs.Common.{◌≡◌, ◌⊎◌, ◌∙◌, ◌++◌, ◌∷◌, [], All, Err, IfErr, IfOk, List, None, Ok, OnErr, OnOk, Option, Result, Some, ⊎_elim, ap, append-nil}
+use Rattle.std.proofs.Common.{append_assoc, refl, subst, sym, ℕ}
 use Rattle.std.proofs.lemmas.List.Elements.{All-push, All-weaker}
 use Rattle.model.specs.declared.write.Write.{Write}
 use Rattle.nsf_core.specs.declared.parts.Ticket.{Ticket}
@@ -24,7 +25,8 @@ set_keeps (Ok t) old new session keeps is same = (ap (λ (s : SeatValue). s.numb
 set_keeps (Err e) old new session keeps is same = same_keeps old new same
 
 -- a change is no commit
-pub changed_keeps : (old new : SeatValue) (txn : ℕ) (change : Write) (rest : Option Error) → new ≡ record old { session = new.session } → HasChanged old.session txn change rest new.session → KeepsCommits old new
+pub changed_keeps : (old new : SeatValue) (txn : ℕ) (change : Write) (rest : Option Error) → new ≡ record old { session = new.session }
+    → HasChanged old.session txn change rest new.session → KeepsCommits old new
 changed_keeps old new txn change None seat changed = (ap (λ (s : SeatValue). s.number) seat, ap (λ (s : SessionValue). s.commits) changed.0.others)
 changed_keeps old new txn change (Some e) seat changed = (ap (λ (s : SeatValue). s.number) seat, ap (λ (s : SessionValue). s.commits) changed.0.others)
 
@@ -51,10 +53,19 @@ pub made_one : (a b : SeatValue) (t : Ticket) → Commits a b t → HasMade b t
 made_one a b t made = record { before = a.session.commits; one = record { ticket = t; writes = made.1.0 }; after = []; there = made.1.1; is = refl }
 
 -- a wait that was refused leaves number and session
-pub waited_keeps : (e : Error) (old before after : SeatValue) → before.number ≡ old.number → before.session ≡ old.session → HasReadWhy e before after → KeepsCommits old after
+pub waited_keeps : (e : Error) (old before after : SeatValue) → before.number ≡ old.number → before.session ≡ old.session → HasReadWhy e before after
+    → KeepsCommits old after
 waited_keeps e old before after number session why = ⊎_elim
-    (λ failed. (ap (λ (s : SeatValue). s.number) failed.1 ∙ number, ap (λ (s : SeatValue). s.session.commits) failed.1 ∙ ap (λ (s : SessionValue). s.commits) session))
-    (λ stopped. (ap (λ (s : SeatValue). s.number) stopped.2 ∙ number, ap (λ (s : SeatValue). s.session.commits) stopped.2 ∙ ap (λ (s : SessionValue). s.commits) session))
+    (λ failed. (
+      ap (λ (s : SeatValue). s.number) failed.1 ∙ number,
+      ap (λ (s : SeatValue). s.session.commits) failed.1
+          ∙ ap (λ (s : SessionValue). s.commits) session,
+    ))
+    (λ stopped. (
+      ap (λ (s : SeatValue). s.number) stopped.2 ∙ number,
+      ap (λ (s : SeatValue). s.session.commits) stopped.2
+          ∙ ap (λ (s : SessionValue). s.commits) session,
+    ))
     why
 
 -- ---- a ticket
@@ -74,7 +85,8 @@ has_last ticket_of xs x t is = record { before = xs; one = x; after = []; there 
 -- ---- what is told
 
 -- stays so when commits and acknowledgements are added
-pub tells_more : (old new : SeatValue) (acks more : List AckValue) (told : List Acknowledged) → Adds old new → Tells old acks told → Tells new (acks ++ more) told
+pub tells_more : (old new : SeatValue) (acks more : List AckValue) (told : List Acknowledged) → Adds old new → Tells old acks told
+    → Tells new (acks ++ more) told
 tells_more old new acks more told adds tells = All-weaker
     (λ (made : Acknowledged). HasMade old made.ticket × HasTicket (λ (a : AckValue). a.ticket) acks made.ticket)
     (λ (made : Acknowledged). HasMade new made.ticket × HasTicket (λ (a : AckValue). a.ticket) (acks ++ more) made.ticket)
@@ -90,12 +102,19 @@ tells_seat old new acks told adds tells =
     subst (λ (list : List AckValue). Tells new list told) (append-nil acks) (tells_more old new acks [] told adds tells)
 
 -- one more
-pub tells_one : (seat : SeatValue) (acks : List AckValue) (ack : AckValue) (told : List Acknowledged) (made : Acknowledged) → HasMade seat made.ticket → ack.ticket ≡ made.ticket → Tells seat acks told → Tells seat (acks ++ ack ∷ []) (told ++ made ∷ [])
+pub tells_one : (seat : SeatValue) (acks : List AckValue) (ack : AckValue) (told : List Acknowledged) (made : Acknowledged) → HasMade seat made.ticket
+    → ack.ticket ≡ made.ticket → Tells seat acks told → Tells seat (acks ++ ack ∷ []) (told ++ made ∷ [])
 tells_one seat acks ack told made has is tells =
-    All-push (λ (x : Acknowledged). HasMade seat x.ticket × HasTicket (λ (a : AckValue). a.ticket) (acks ++ ack ∷ []) x.ticket) told made (tells_more seat seat acks (ack ∷ []) told (adds_none seat seat (refl, refl)) tells) (has, has_last (λ (a : AckValue). a.ticket) acks ack made.ticket is)
+    All-push (λ (x : Acknowledged). HasMade seat x.ticket
+    × HasTicket (λ (a : AckValue). a.ticket) (acks ++ ack ∷ []) x.ticket) told made
+    (tells_more seat seat acks (ack ∷ []) told (adds_none seat seat (refl, refl)) tells) (
+      has,
+      has_last (λ (a : AckValue). a.ticket) acks ack made.ticket is,
+    )
 
 -- a transaction that was taken back, or begins to be
-pub abort_keeps : {T : Type 0} (r : Result T Error) (old new : SeatValue) (txn : ℕ) → new ≡ record old { session = new.session } → OnOk r (new.session ≡ ended old.session txn)
+pub abort_keeps : {T : Type 0} (r : Result T Error) (old new : SeatValue) (txn : ℕ) → new ≡ record old { session = new.session }
+    → OnOk r (new.session ≡ ended old.session txn)
     → OnErr r ((new.session ≡ old.session) ⊎ IsGoingBack old.session txn new.session) → KeepsCommits old new
 abort_keeps (Ok t) old new txn seat ok err = (ap (λ (s : SeatValue). s.number) seat, ap (λ (s : SessionValue). s.commits) ok)
 abort_keeps (Err e) old new txn seat ok err = (

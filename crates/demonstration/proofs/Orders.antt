@@ -1,5 +1,6 @@
 -- Seats in their order.
-use Rattle.std.proofs.Common.{◌≡◌, ◌⊎◌, ◌∙◌, ◌+◌, ◌<◌, ◌++◌, ◌∷◌, ℕ, zero, suc, List, [], Some, subst, length, map, inl, inr, ⊎_elim, refl, sym, ap, arith, length-append}
+use Rattle.std.proofs.Common.{◌≡◌, ◌⊎◌, ◌∙◌, ◌+◌, ◌<◌, ◌++◌, ◌∷◌, ℕ, zero, suc, List, [], Some, subst, length, map, inl, inr, ⊎_elim, refl, sym, ap, arith}
+use Rattle.std.proofs.Common.{length-append}
 use Rattle.std.proofs.lemmas.List.{length-map}
 use Rattle.std.proofs.lemmas.List.Elements.{All-nil}
 use Rattle.std.proofs.lemmas.Option.{get_or_from_slice_get, slice_get_within}
@@ -50,11 +51,13 @@ in_mapped f (y ∷ ys) (suc k) x at = in_mapped f ys k x at
 pub one_more : (count : ℕ) (seats : List SeatValue) (s : SeatValue) → AreAllSeats count seats → s.number ≡ count → AreAllSeats (count + 1) (seats ++ s ∷ [])
 one_more count seats s all next = record {
   counted = length-append seats (s ∷ []) ∙ ap (λ (n : ℕ). n + 1) all.counted;
-  each = λ k x at. ⊎_elim (λ early. all.each k x early) (λ last. ap (λ (z : SeatValue). z.number) last.1 ∙ (next ∙ (sym all.counted ∙ sym last.0))) (get_either seats s x k at);
+  each = λ k x at. ⊎_elim (λ early. all.each k x early) (λ last. ap (λ (z : SeatValue). z.number) last.1
+      ∙ (next ∙ (sym all.counted ∙ sym last.0))) (get_either seats s x k at);
 }
 
 -- new seats but for the last of them
-pub all_but_last : (board : TableId) (count : ℕ) (seats : List SeatValue) (s : SeatValue) → AreNewSeats board count (seats ++ s ∷ []) → AreAllSeats (length seats) seats × (s.number ≡ length seats) × (length seats + 1 ≡ count)
+pub all_but_last : (board : TableId) (count : ℕ) (seats : List SeatValue) (s : SeatValue) → AreNewSeats board count (seats ++ s ∷ [])
+    → AreAllSeats (length seats) seats × (s.number ≡ length seats) × (length seats + 1 ≡ count)
 all_but_last board count seats s new = (
   record { counted = refl; each = λ k x at. (new.each k x (get_first seats s x k at)).0 },
   (new.each (length seats) s (get_last seats s)).0,
@@ -92,9 +95,12 @@ all_left seat count n before after last all next more same numbers =
     next)
 
 -- each of which tells what it may, where none told anything before
-pub all_tell : {W X Y : Type 0} (seat : W → SeatValue) (acks : W → List AckValue) (told : W → List Acknowledged) (before : Vec W X) (after : Vec W Y) → after.len ≡ before.len
+pub all_tell : {W X Y : Type 0} (seat : W → SeatValue) (acks : W → List AckValue) (told : W → List Acknowledged) (before : Vec W X) (after : Vec W Y)
+    → after.len ≡ before.len
     → ((k : ℕ) (w : W) → slice_get before.items k ≡ Some w → told w ≡ [])
-    → ((k : ℕ) (w : W) → k < before.len → Tells (seat (slice_index_or before.items k w)) (acks (slice_index_or before.items k w)) (told (slice_index_or before.items k w)) → Tells (seat (slice_index_or after.items k w)) (acks (slice_index_or after.items k w)) (told (slice_index_or after.items k w)))
+    → ((k : ℕ) (w : W) → k < before.len
+    → Tells (seat (slice_index_or before.items k w)) (acks (slice_index_or before.items k w)) (told (slice_index_or before.items k w))
+    → Tells (seat (slice_index_or after.items k w)) (acks (slice_index_or after.items k w)) (told (slice_index_or after.items k w)))
     → AllTell seat acks told after.items
 all_tell {W = W} seat acks told before after same none tells k w at =
     let within : k < length before.items = omega (arith, slice_get_within after.items k w at, same, after.ok.0, before.ok.0) in
@@ -103,5 +109,6 @@ all_tell {W = W} seat acks told before after same none tells k w at =
     let first_is = get_or_from_slice_get before.items k first.0 w first.1 in
     let nothing : told (slice_index_or before.items k w) ≡ [] = ap told first_is ∙ none k first.0 first.1 in
     let now = tells k w (subst (λ (m : ℕ). k < m) (sym before.ok.0) within)
-    (subst (λ (ts : List Acknowledged). Tells (seat (slice_index_or before.items k w)) (acks (slice_index_or before.items k w)) ts) (sym nothing) (All-nil _)) in
+    (subst (λ (ts : List Acknowledged). Tells (seat (slice_index_or before.items k w)) (acks (slice_index_or before.items k w)) ts) (sym nothing) (All-nil _))
+    in
     subst (λ (x : W). Tells (seat x) (acks x) (told x)) w_is now

@@ -1,5 +1,6 @@
 -- What was acknowledged is in what a crash leaves.
-use Rattle.std.proofs.Common.{◌≡◌, ◌∙◌, ◌+◌, ◌++◌, ◌≤◌, ◌∷◌, [], zero, suc, ⊎_elim, ◌⊎◌, All, Bool, List, Some, ℕ, ap, arith, cond, false, filter, inl, inr, map, refl, subst, sym, true}
+use Rattle.std.proofs.Common.{◌≡◌, ◌∙◌, ◌+◌, ◌++◌, ◌≤◌, ◌∷◌, [], zero, suc, ⊎_elim, ◌⊎◌, All, Bool, List, Some, ℕ, ap, arith, cond, false, filter, inl, inr}
+use Rattle.std.proofs.Common.{map, refl, subst, sym, true}
 use Rattle.std.proofs.Math.Logic.{∥∥₁_map}
 use Rattle.std.proofs.lemmas.Bool.{le-leb}
 use Rattle.std.proofs.lemmas.List.Elements.{All-from_recursion, All-weaker, recursion_from_All}
@@ -59,7 +60,8 @@ made_in : (seat : ℕ) (c : CommitValue) (cs : Commits) → IsIn c (made_by seat
 made_in seat c [] is = in_nothing c is
 made_in seat c (x ∷ xs) is = by (seat == x.0) (made_in seat c xs) is
   where
-    by : (b : Bool) → (IsIn c (made_by seat xs) → IsIn c (map (λ y. y.1) xs)) → IsIn c (cond b (x.1 ∷ made_by seat xs) (made_by seat xs)) → IsIn c (x.1 ∷ map (λ y. y.1) xs)
+    by : (b : Bool) → (IsIn c (made_by seat xs) → IsIn c (map (λ y. y.1) xs)) → IsIn c (cond b (x.1 ∷ made_by seat xs) (made_by seat xs))
+        → IsIn c (x.1 ∷ map (λ y. y.1) xs)
     by true rest found = ⊎_elim
         (λ same. subst (λ d. IsIn c (d ∷ map (λ y. y.1) xs)) (sym same) (in_first c (map (λ y. y.1) xs)))
         (λ later. in_later c x.1 _ (rest later))
@@ -70,7 +72,8 @@ made_in seat c (x ∷ xs) is = by (seat == x.0) (made_in seat c xs) is
 in_filter : {X : Type 0} (p : X → Bool) (x : X) (xs : List X) → p x ≡ true → IsIn x xs → IsIn x (filter p xs)
 in_filter p x [] passes is = in_nothing x is
 in_filter p x (y ∷ ys) passes is = ⊎_elim
-    (λ same. subst (λ b. IsIn x (cond b (y ∷ filter p ys) (filter p ys))) (sym (ap p same ∙ passes)) (subst (λ z. IsIn x (z ∷ filter p ys)) (sym same) (in_first x (filter p ys))))
+    (λ same. subst (λ b. IsIn x (cond b (y ∷ filter p ys) (filter p ys))) (sym (ap p same ∙ passes))
+    (subst (λ z. IsIn x (z ∷ filter p ys)) (sym same) (in_first x (filter p ys))))
     (λ later. by (p y) (in_filter p x ys passes later))
     (in_more x y ys is)
   where
@@ -90,7 +93,8 @@ pub record HasCommit (seats : List SeatValue) (floor : ℕ) (ticket : Ticket) : 
   pub is : commit.ticket ≡ ticket
   pub low : commit.ticket.«record» ≤ floor
 
-keeps_commit : (o : Opened) (g : GeometryValue) (seats : List SeatValue) (popped : List RecordValue) (floor : ℕ) (image : Image) (ticket : Ticket) → HasCommit seats floor ticket → GivesSome o g seats popped floor image → KeepsCommit o image ticket
+keeps_commit : (o : Opened) (g : GeometryValue) (seats : List SeatValue) (popped : List RecordValue) (floor : ℕ) (image : Image) (ticket : Ticket)
+    → HasCommit seats floor ticket → GivesSome o g seats popped floor image → KeepsCommit o image ticket
 keeps_commit o g seats popped floor image ticket has some =
     let all = some.all.all in
     let c = has.commit in
@@ -136,11 +140,13 @@ all_rest : {X : Type 0} (P : X → Type 0) (xs ys : List X) → AllByRecursion P
 all_rest P [] ys all = all
 all_rest P (x ∷ xs) ys all = all_rest P xs ys all.1
 
-pub all_of_flat : {W X : Type 0} (P : X → Type 0) (f : W → List X) (ws : List W) → ((k : ℕ) (w : W) → slice_get ws k ≡ Some w → AllByRecursion P (f w)) → AllByRecursion P (flat_map f ws)
+pub all_of_flat : {W X : Type 0} (P : X → Type 0) (f : W → List X) (ws : List W) → ((k : ℕ) (w : W) → slice_get ws k ≡ Some w → AllByRecursion P (f w))
+    → AllByRecursion P (flat_map f ws)
 all_of_flat P f [] each = tt
 all_of_flat P f (w ∷ ws) each = all_append P (f w) (flat_map f ws) (each zero w refl) (all_of_flat P f ws (λ k v at. each (suc k) v at))
 
-pub all_in_flat : {W X : Type 0} (P : X → Type 0) (f : W → List X) (ws : List W) → AllByRecursion P (flat_map f ws) → (k : ℕ) (w : W) → slice_get ws k ≡ Some w → AllByRecursion P (f w)
+pub all_in_flat : {W X : Type 0} (P : X → Type 0) (f : W → List X) (ws : List W) → AllByRecursion P (flat_map f ws) → (k : ℕ) (w : W) → slice_get ws k ≡ Some w
+    → AllByRecursion P (f w)
 all_in_flat P f [] all k w at = absurd cc
 all_in_flat P f (v ∷ ws) all zero w at =
     let same : v ≡ w = cc in
@@ -148,16 +154,19 @@ all_in_flat P f (v ∷ ws) all zero w at =
 all_in_flat P f (v ∷ ws) all (suc k) w at = all_in_flat P f ws (all_rest P (f v) (flat_map f ws) all) k w at
 
 -- the record of a ticket that was acknowledged
-low_ticket : (floor : ℕ) (acks : List AckValue) (ticket : Ticket) → AllByRecursion (λ a. a.ticket.«record» ≤ floor) acks → HasTicket (λ a. a.ticket) acks ticket → ticket.«record» ≤ floor
+low_ticket : (floor : ℕ) (acks : List AckValue) (ticket : Ticket) → AllByRecursion (λ a. a.ticket.«record» ≤ floor) acks → HasTicket (λ a. a.ticket) acks ticket
+    → ticket.«record» ≤ floor
 low_ticket floor acks ticket low has =
     subst (λ (t : Ticket). t.«record» ≤ floor) has.is
-    (all_middle (λ (a : AckValue). a.ticket.«record» ≤ floor) has.before has.one has.after (subst (λ (list : List AckValue). AllByRecursion (λ a. a.ticket.«record» ≤ floor) list) has.there low))
+    (all_middle (λ (a : AckValue). a.ticket.«record» ≤ floor) has.before has.one has.after
+    (subst (λ (list : List AckValue). AllByRecursion (λ a. a.ticket.«record» ≤ floor) list) has.there low))
 
 module _ {W : Type 0} (seat : W → SeatValue) (acks : W → List AckValue) (told : W → List Acknowledged) (floor : ℕ) (writers : List W) (last : SeatValue) where
   abbrev all_seats : List SeatValue
   all_seats = map seat writers ++ last ∷ []
 
-  commits_of_one : AllByRecursion (λ a. a.ticket.«record» ≤ floor) (flat_map acks writers) → AllTell seat acks told writers → (k : ℕ) (w : W) → slice_get writers k ≡ Some w → AllByRecursion (λ made. HasCommit all_seats floor made.ticket) (told w)
+  commits_of_one : AllByRecursion (λ a. a.ticket.«record» ≤ floor) (flat_map acks writers) → AllTell seat acks told writers → (k : ℕ) (w : W)
+      → slice_get writers k ≡ Some w → AllByRecursion (λ made. HasCommit all_seats floor made.ticket) (told w)
   commits_of_one low tell k w at =
       let here : slice_get (sessions_of all_seats) k ≡ Some (seat w).session =
       in_mapped (λ (s : SeatValue). s.session) all_seats k (seat w) (get_first (map seat writers) last (seat w) k (in_mapped seat writers k w at)) in
@@ -177,7 +186,8 @@ module _ {W : Type 0} (seat : W → SeatValue) (acks : W → List AckValue) (tol
       })
       (told w) (tell k w at))
 
-  all_commits : AllByRecursion (λ a. a.ticket.«record» ≤ floor) (flat_map acks writers) → AllTell seat acks told writers → AllByRecursion (λ made. HasCommit all_seats floor made.ticket) (flat_map told writers)
+  all_commits : AllByRecursion (λ a. a.ticket.«record» ≤ floor) (flat_map acks writers) → AllTell seat acks told writers
+      → AllByRecursion (λ made. HasCommit all_seats floor made.ticket) (flat_map told writers)
   all_commits low tell = all_of_flat (λ (made : Acknowledged). HasCommit all_seats floor made.ticket) told writers (commits_of_one low tell)
 
 -- what each writer was told is kept
@@ -188,10 +198,12 @@ pub all_kept : {W : Type 0} (seat : W → SeatValue) (acks : W → List AckValue
     → All (λ a. a.ticket.«record» ≤ floor) all_acks → AllTell seat acks told writers → ∥ GivesSome o g seats popped floor image ∥₁
     → All (λ made. ∥ KeepsCommit o image made.ticket ∥₁) all_told
 all_kept seat acks told writers last seats all_acks all_told seats_are acks_are told_are o g popped floor image low tell some =
-    let lows = recursion_from_All (λ (a : AckValue). a.ticket.«record» ≤ floor) (flat_map acks writers) (subst (λ (list : List AckValue). All (λ a. a.ticket.«record» ≤ floor) list) acks_are low) in
+    let lows = recursion_from_All (λ (a : AckValue). a.ticket.«record» ≤ floor) (flat_map acks writers)
+    (subst (λ (list : List AckValue). All (λ a. a.ticket.«record» ≤ floor) list) acks_are low) in
     let have = subst (λ (ss : List SeatValue). AllByRecursion (λ (made : Acknowledged). HasCommit ss floor made.ticket) (flat_map told writers)) (sym seats_are)
     (all_commits seat acks told floor writers last lows tell) in
     All-weaker (λ (made : Acknowledged). HasCommit seats floor made.ticket) (λ (made : Acknowledged). ∥ KeepsCommit o image made.ticket ∥₁)
     (λ made has. ∥∥₁_map some (keeps_commit o g seats popped floor image made.ticket has))
     all_told
-    (All-from_recursion (λ (made : Acknowledged). HasCommit seats floor made.ticket) all_told (subst (λ (ts : List Acknowledged). AllByRecursion (λ (made : Acknowledged). HasCommit seats floor made.ticket) ts) (sym told_are) have))
+    (All-from_recursion (λ (made : Acknowledged). HasCommit seats floor made.ticket) all_told
+    (subst (λ (ts : List Acknowledged). AllByRecursion (λ (made : Acknowledged). HasCommit seats floor made.ticket) ts) (sym told_are) have))

@@ -16,8 +16,9 @@ use Rattle.closing.specs.Closing.{table_with, up_to}
 use Rattle.closing.specs.Gathered.{AreCommitsOf, sessions_of}
 use Rattle.demonstration.specs.declared.writer.Acknowledged.{Acknowledged}
 
--- A store on a device with this content gives the table of what was opened with the commits of some seats set over it, up to the number of a
--- record, as a core has them that may lie under the lock with the sessions of these seats; and that of this ticket is one of them.
+-- A store on a device with this content gives the table of what was opened with the commits of some seats set over it,
+-- up to the number of a record, as a core has them that may lie under the lock with the sessions of these seats; and
+-- that of this ticket is one of them.
 pub record KeepsCommit (o : Opened) (image : Image) (ticket : Ticket) : Type 0 where
   pub geometry : GeometryValue
   pub given : Given
@@ -38,4 +39,5 @@ pub record KeepsCommit (o : Opened) (image : Image) (ticket : Ticket) : Type 0 w
 
 -- whatever a crash leaves of the device keeps the commit of each row that is told as acknowledged
 abbrev pub KeepsAll : {D : Type 0} → (D → History) → Opened → D → List Acknowledged → Type 0
-KeepsAll history o device told = (image : Image) → IsCrashImage (history device).disk image → All (λ made. ∥ KeepsCommit o image made.ticket ∥₁) told
+KeepsAll history o device told = (image : Image) → IsCrashImage (history device).disk image
+    → All (λ made. ∥ KeepsCommit o image made.ticket ∥₁) told

@@ -14,11 +14,13 @@ KeepsCommits old new = (new.number ≡ old.number) × (new.session.commits ≡ o
 abbrev pub Commits : (old new : SeatValue) → Ticket → Type 0
 Commits old new ticket =
     (new.number ≡ old.number)
-    × ((writes : List Write) × (new.session.commits ≡ old.session.commits ++ record { ticket = ticket; writes = writes } ∷ []))
+    × ((writes : List Write) × (new.session.commits ≡ old.session.commits ++ record { ticket = ticket; writes = writes }
+    ∷ []))
 
 -- some commits more, or none
 abbrev pub Adds : (old new : SeatValue) → Type 0
-Adds old new = (new.number ≡ old.number) × ((more : List CommitValue) × (new.session.commits ≡ old.session.commits ++ more))
+Adds old new = (new.number ≡ old.number) × ((more : List CommitValue)
+    × (new.session.commits ≡ old.session.commits ++ more))
 
 -- one of these has the ticket
 pub record HasTicket {X : Type 0} (ticket_of : X → Ticket) (xs : List X) (ticket : Ticket) : Type 0 where
@@ -40,7 +42,9 @@ Tells seat acks told = All (λ made. HasMade seat made.ticket × HasTicket (λ a
 abbrev pub AllTell : {W : Type 0} → (W → SeatValue) → (W → List AckValue) → (W → List Acknowledged) → List W → Type 0
 AllTell {W} seat acks told writers = (k : ℕ) (w : W) → slice_get writers k ≡ Some w → Tells (seat w) (acks w) (told w)
 
--- A writer has gone on: its seat has its number, and what it tells is as before of commits that the seat made, and of acknowledgements.
-pub record GoesOn (old : SeatValue) (old_acks : List AckValue) (old_told : List Acknowledged) (new : SeatValue) (acks : List AckValue) (told : List Acknowledged) : Type 0 where
+-- A writer has gone on: its seat has its number, and what it tells is as before of commits that the seat made, and of
+-- acknowledgements.
+pub record GoesOn (old : SeatValue) (old_acks : List AckValue) (old_told : List Acknowledged) (new : SeatValue)
+    (acks : List AckValue) (told : List Acknowledged) : Type 0 where
   pub number : new.number ≡ old.number
   pub tells : Tells old old_acks old_told → Tells new acks told

@@ -30,8 +30,8 @@ fn work_and_look<
     }
 }
 
-/// Lets the threads work on the store in the file at the path, carries its build to the end, and looks at what is there. The file is
-/// locked meanwhile.
+/// Lets the threads work on the store in the file at the path, carries its build to the end, and looks at what is
+/// there. The file is locked meanwhile.
 pub fn work_on_file<
     R: Threads + Wait + Clock + Files<File = File> + Sync,
     G: Gate + Sync,

@@ -50,7 +50,8 @@ fn count_shown(core: &Core<Global>) -> (u32, u32) {
     (shown, fitting)
 }
 
-/// Opens the store on the device, carries its build to the end, makes that safe, and looks at its rows and visible entries.
+/// Opens the store on the device, carries its build to the end, makes that safe, and looks at its rows and visible
+/// entries.
 pub fn look<D: Device + Drop>(alloc: Global, device: D) -> Result<Found, Error> {
     let mut engine = match restart(alloc, device) {
         Ok(engine) => engine,

@@ -1,10 +1,10 @@
-//! The program `nsf-threads`: writers, a builder, a cleaner and a flusher side by side, on a new store in memory, whose power is cut
-//! then, or on the store in a file; and what is found behind that.
+//! The program `nsf-threads`: writers, a builder, a cleaner and a flusher side by side, on a new store in memory, whose
+//! power is cut then, or on the store in a file; and what is found behind that.
 //!
-//! Proved of `work_on`: where it answers `Ok`, a crash leaves the opened table with the commits of some seats set over it. The
-//! commit of each ticket that is told as acknowledged is one of them, whatever was refused (`kept`).
-//! Only tested (`threads_tests`, and the run of `nsf_threads`): what is printed, and the status. Neither: that these commits are
-//! the writers' own, that a listener hears of each, or that a thread was started.
+//! Proved of `work_on`: where it answers `Ok`, a crash leaves the opened table with the commits of some seats set over
+//! it. The commit of each ticket that is told as acknowledged is one of them, whatever was refused (`kept`). Only
+//! tested (`threads_tests`, and the run of `nsf_threads`): what is printed, and the status. Neither: that these commits
+//! are the writers' own, that a listener hears of each, or that a thread was started.
 #![tactic(auto)]
 
 mod beginning;

@@ -3,8 +3,8 @@ use nsf_core::Ticket;
 use records::Rid;
 use std::fmt;
 
-/// What a transaction of a writer did: it put a row, whose key has these two numbers, at this place; and it deleted the row at another
-/// one, if there is one.
+/// What a transaction of a writer did: it put a row, whose key has these two numbers, at this place; and it deleted the
+/// row at another one, if there is one.
 #[derive(Clone, Copy, Debug, PartialEq, Eq)]
 pub struct Turn {
     pub writer: u16,

@@ -107,8 +107,8 @@ fn print<W: Write>(output: &mut W, found: Found) -> io::Result<u8> {
     Ok(if same { 0 } else { 1 })
 }
 
-/// Prints what was found, or why it wasn't, and answers the program's status: 1 where a row is without its entry, an entry without its
-/// row, or something was refused.
+/// Prints what was found, or why it wasn't, and answers the program's status: 1 where a row is without its entry, an
+/// entry without its row, or something was refused.
 pub fn told<W: Write>(output: &mut W, found: Result<Found, OpenError>) -> io::Result<u8> {
     match found {
         Ok(found) => print(output, found),
@@ -163,9 +163,10 @@ fn act<
     }
 }
 
-/// Runs the program on these words, the first of them its own name, and answers its exit status: 0 where the rows of all commits
-/// were found, with just their entries, or help or the version was told; 1 where something was refused, or help can't be written; 2 for
-/// bad arguments. The error is that of the output. Commits that are safe are printed by the runtime.
+/// Runs the program on these words, the first of them its own name, and answers its exit status: 0 where the rows of
+/// all commits were found, with just their entries, or help or the version was told; 1 where something was refused, or
+/// help can't be written; 2 for bad arguments. The error is that of the output. Commits that are safe are printed by
+/// the runtime.
 pub fn run_words<
     S: AsStr,
     R: Threads + Wait + Clock + Files<File = File> + Print + Sync,
@@ -187,8 +188,8 @@ pub fn run_words<
     }
 }
 
-/// Runs the program on these words as `run_words` does, and answers its exit status. It is 1 where the output can't be written, and
-/// the error stream says so.
+/// Runs the program on these words as `run_words` does, and answers its exit status. It is 1 where the output can't be
+/// written, and the error stream says so.
 pub fn run<
     S: AsStr,
     R: Threads + Wait + Clock + Files<File = File> + Print + Sync,

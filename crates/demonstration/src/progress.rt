@@ -10,7 +10,8 @@ use std::{io, thread};
 // How many milliseconds it is from one look at the builder to the next.
 const BETWEEN_LOOKS: u64 = 1;
 
-/// Where the builder's progress is shown, and whether that is a terminal, on which each count stands in place of the one before.
+/// Where the builder's progress is shown, and whether that is a terminal, on which each count stands in place of the
+/// one before.
 #[derive(Drop)]
 pub struct Progress<E> {
     pub errors: E,

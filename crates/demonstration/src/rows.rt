@@ -31,7 +31,8 @@ pub(crate) fn begin<B: Group, R: Wait>(
     shared.begin(rt, seat)
 }
 
-/// Inserts a row with the key of these two numbers, and an empty body. After a refusal of a later step the change is left to finish.
+/// Inserts a row with the key of these two numbers, and an empty body. After a refusal of a later step the change is
+/// left to finish.
 pub(crate) fn insert<B: Group, R: Wait>(
     rt: &R,
     shared: &Shared<B>,
@@ -116,8 +117,8 @@ fn put_rows<B: Group, R: Wait>(
     Ok(())
 }
 
-/// Inserts a hundred rows in two commits, and then creates the index. The rows are those of the keys of 65,535 and each number below
-/// 100, with empty bodies.
+/// Inserts a hundred rows in two commits, and then creates the index. The rows are those of the keys of 65,535 and each
+/// number below 100, with empty bodies.
 pub fn set_up<B: Group, R: Wait>(
     rt: &R,
     shared: &Shared<B>,

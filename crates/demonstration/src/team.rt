@@ -1,5 +1,6 @@
 //! The threads of the program.
-ghost use Rattle.std.specs.Prelude.{◌≡◌, ◌≤◌, ◌<◌, ◌++◌, ◌∷◌, [], ℕ, All, IfOk, OnOk, flat_map, map, slice_get, slice_index_or, vec_len};
+ghost use Rattle.std.specs.Prelude.{◌≡◌, ◌≤◌, ◌<◌, ◌++◌, ◌∷◌, [], ℕ, All, IfOk, OnOk, flat_map, map, slice_get};
+ghost use Rattle.std.specs.Prelude.{slice_index_or, vec_len};
 ghost use Rattle.store_writer.specs.Parts.{halves_of, synced_of};
 ghost use Rattle.flusher.specs.Part.{popped_by};
 ghost use Rattle.closing.specs.Closing.{GivesSome};
@@ -32,8 +33,8 @@ use std::thread::{Threads, for_each_mut, join};
 // No more writers than this run side by side.
 const THREADS_MAX: usize = 64;
 
-/// The threads: a writer for each seat but the last, and the three loops. Each writer makes so many transactions. The listener
-/// hears of each commit that is safe. The builder's progress is shown where there is something to show it on.
+/// The threads: a writer for each seat but the last, and the three loops. Each writer makes so many transactions. The
+/// listener hears of each commit that is safe. The builder's progress is shown where there is something to show it on.
 #[derive(Drop)]
 pub struct Team<'a, R, G, L, E> {
     pub rt: &'a R,
@@ -45,8 +46,8 @@ pub struct Team<'a, R, G, L, E> {
     pub progress: Option<Progress<E>>,
 }
 
-/// What was refused: to a writer, which is the first of those that were refused something; to the flusher, to the builder; and before
-/// the threads began, or at the end.
+/// What was refused: to a writer, which is the first of those that were refused something; to the flusher, to the
+/// builder; and before the threads began, or at the end.
 #[derive(Clone, Copy, Debug, PartialEq, Eq)]
 pub struct Refusals {
     pub writer: Option<Error>,
@@ -90,7 +91,8 @@ struct Gathered<B: Group> {
 
 fn writers_of<B: Group>(alloc: Global, seats: Vec<Seat<B>>) -> Result<Vec<Writer<B>>, AllocError>
     ensures seats { IfOk result (λ writers. map (λ w. w.seat) writers.items ≡ seats.items) }
-    ensures none { IfOk result (λ writers. (k : ℕ) (w : _) → slice_get writers.items k ≡ Some w → w.acknowledged.items ≡ []) }
+    ensures none { IfOk result (λ writers. (k : ℕ) (w : _) → slice_get writers.items k ≡ Some w
+        → w.acknowledged.items ≡ []) }
 {
     let mut writers = Vec::with_capacity(alloc, seats.len())?;
     let mut number: u16 = 0;
@@ -116,7 +118,10 @@ fn write_all<B: Group + Send + Sync, R: Threads + Wait + Sync, L: Listener + Syn
     listener: &L,
 ) -> Vec<Writer<B>>
     ensures len { vec_len result ≡ vec_len writers }
-    ensures wrote { (k : ℕ) (w : _) → k < vec_len writers → GoesOn (slice_index_or writers.items k w).seat (slice_index_or writers.items k w).acks.items (slice_index_or writers.items k w).acknowledged.items (slice_index_or result.items k w).seat (slice_index_or result.items k w).acks.items (slice_index_or result.items k w).acknowledged.items }
+    ensures wrote { (k : ℕ) (w : _) → k < vec_len writers
+        → GoesOn (slice_index_or writers.items k w).seat (slice_index_or writers.items k w).acks.items
+        (slice_index_or writers.items k w).acknowledged.items (slice_index_or result.items k w).seat
+        (slice_index_or result.items k w).acks.items (slice_index_or result.items k w).acknowledged.items }
 {
     for_each_mut(
         rt,
@@ -153,7 +158,10 @@ fn write_and_watch<
     progress: Option<Progress<E>>,
 ) -> Vec<Writer<B>>
     ensures len { vec_len result ≡ vec_len writers }
-    ensures wrote { (k : ℕ) (w : _) → k < vec_len writers → GoesOn (slice_index_or writers.items k w).seat (slice_index_or writers.items k w).acks.items (slice_index_or writers.items k w).acknowledged.items (slice_index_or result.items k w).seat (slice_index_or result.items k w).acks.items (slice_index_or result.items k w).acknowledged.items }
+    ensures wrote { (k : ℕ) (w : _) → k < vec_len writers
+        → GoesOn (slice_index_or writers.items k w).seat (slice_index_or writers.items k w).acks.items
+        (slice_index_or writers.items k w).acknowledged.items (slice_index_or result.items k w).seat
+        (slice_index_or result.items k w).acks.items (slice_index_or result.items k w).acknowledged.items }
 {
     match progress {
         None => write_all(rt, shared, writers, changes, listener),
@@ -196,7 +204,8 @@ fn gather<B: Group>(
 ) -> Result<Gathered<B>, AllocError>
     ensures seats { IfOk result (λ g. g.seats.items ≡ map (λ w. w.seat) writers.items ++ last ∷ []) }
     ensures acks { IfOk result (λ g. g.acks.items ≡ flat_map (λ w. w.acks.items) writers.items) }
-    ensures acknowledged { IfOk result (λ g. g.acknowledged.items ≡ flat_map (λ w. w.acknowledged.items) writers.items) }
+    ensures acknowledged { IfOk result (λ g. g.acknowledged.items
+        ≡ flat_map (λ w. w.acknowledged.items) writers.items) }
 {
     let mut seats = Vec::with_capacity(alloc, writers.len())?;
     let mut acks = Vec::new(alloc);
@@ -220,7 +229,8 @@ fn gather<B: Group>(
     })
 }
 
-// What is left where the threads could not begin, or where there was no memory for what they left, with what was refused before.
+// What is left where the threads could not begin, or where there was no memory for what they left, with what was
+// refused before.
 fn given_up<B: Group, D: Device>(
     alloc: Global,
     flush: FlushPart<B, D>,
@@ -249,7 +259,9 @@ fn close<B: Group, D: Device, R: Wait>(
     acks: Vec<Ack<B>>,
 ) -> (D, Option<Error>)
     requires seats { AreAllSeats B.site.seats seats.items }
-    ensures some { (image : Image) → IsCrashImage (D.history result.0).disk image → ∥ GivesSome B.site.opened (halves_of flush.writer).geometry seats.items (popped_by flush) (synced_of flush.writer) image ∥₁ }
+    ensures some { (image : Image) → IsCrashImage (D.history result.0).disk image
+        → ∥ GivesSome B.site.opened (halves_of flush.writer).geometry seats.items (popped_by flush)
+        (synced_of flush.writer) image ∥₁ }
     ensures acked { All (λ a. a.ticket.«record» ≤ synced_of flush.writer) acks.items }
 {
     match finish(rt, alloc, shared, seats, flush, acks) {
@@ -338,7 +350,11 @@ fn run_all<
     build: BuildPart<B>,
 ) -> Ended<B, D, Vec<Writer<B>>>
     ensures len { vec_len result.clients ≡ vec_len writers }
-    ensures wrote { (k : ℕ) (w : _) → k < vec_len writers → GoesOn (slice_index_or writers.items k w).seat (slice_index_or writers.items k w).acks.items (slice_index_or writers.items k w).acknowledged.items (slice_index_or result.clients.items k w).seat (slice_index_or result.clients.items k w).acks.items (slice_index_or result.clients.items k w).acknowledged.items }
+    ensures wrote { (k : ℕ) (w : _) → k < vec_len writers
+        → GoesOn (slice_index_or writers.items k w).seat (slice_index_or writers.items k w).acks.items
+        (slice_index_or writers.items k w).acknowledged.items (slice_index_or result.clients.items k w).seat
+        (slice_index_or result.clients.items k w).acks.items
+        (slice_index_or result.clients.items k w).acknowledged.items }
     ensures last { result.seat.number ≡ last.number }
 {
     let Team {
@@ -411,7 +427,8 @@ fn begin<
     }
 }
 
-/// Opens the store on the device, with a seat for each writer and one more, lets the threads work, and takes back what they leave.
+/// Opens the store on the device, with a seat for each writer and one more, lets the threads work, and takes back what
+/// they leave.
 ///
 /// Whatever was refused, the commit of each row that is told as acknowledged is kept by a crash of the device (`kept`).
 pub fn work_on<
@@ -421,7 +438,8 @@ pub fn work_on<
     L: Listener + Sync,
     E: Write + Send + Drop,
 >(device: D, writers: u8, team: Team<'_, R, G, L, E>) -> Result<Worked<D>, (OpenError, D)>
-    ensures kept { IfOk result (λ worked. (o : Opened) × Opens (D.history device).disk.content o × KeepsAll D.history o worked.device worked.acknowledged.items) }
+    ensures kept { IfOk result (λ worked. (o : Opened) × Opens (D.history device).disk.content o
+        × KeepsAll D.history o worked.device worked.acknowledged.items) }
 {
     let seats = usize::from(writers) + 1;
     match open_store(team.alloc, device, seats) {

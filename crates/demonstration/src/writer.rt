@@ -9,7 +9,8 @@ use records::{Error, Rid, Txn};
 use shared::{Ack, Group, Seat, Shared};
 use std::sync::Wait;
 
-/// A row that a writer put, by the writer's number and that of its transaction, and the ticket of the commit, which was acknowledged.
+/// A row that a writer put, by the writer's number and that of its transaction, and the ticket of the commit, which was
+/// acknowledged.
 #[derive(Clone, Copy, Debug, PartialEq, Eq)]
 pub struct Acknowledged {
     pub writer: u16,
@@ -81,8 +82,8 @@ fn deleted_by(number: u16, before: Option<Rid>) -> Option<Rid> {
     if number % 4 == 2 { before } else { None }
 }
 
-// One transaction: the deletion of the row at the place, if there is one, and an insertion. Each fourth is taken back, and the others
-// are committed.
+// One transaction: the deletion of the row at the place, if there is one, and an insertion. Each fourth is taken back,
+// and the others are committed.
 fn change<B: Group, R: Wait>(
     rt: &R,
     shared: &Shared<B>,
@@ -113,7 +114,8 @@ fn note<B: Group, L: Listener>(
 ) -> Result<(), Error>
     requires { IfSome told (λ a. HasMade writer.old.seat a.0 × (a.1.ticket ≡ a.0)) }
     ensures seat { writer.new.seat ≡ writer.old.seat }
-    ensures tells { Tells writer.old.seat writer.old.acks.items writer.old.acknowledged.items → Tells writer.new.seat writer.new.acks.items writer.new.acknowledged.items }
+    ensures tells { Tells writer.old.seat writer.old.acks.items writer.old.acknowledged.items
+        → Tells writer.new.seat writer.new.acks.items writer.new.acknowledged.items }
 {
     let Some((ticket, ack)) = told else {
         return Ok(());
@@ -148,7 +150,8 @@ fn change_all<B: Group, R: Wait, L: Listener>(
     listener: &L,
 ) -> Result<(), Error>
     ensures number { writer.new.seat.number ≡ writer.old.seat.number }
-    ensures tells { Tells writer.old.seat writer.old.acks.items writer.old.acknowledged.items → Tells writer.new.seat writer.new.acks.items writer.new.acknowledged.items }
+    ensures tells { Tells writer.old.seat writer.old.acks.items writer.old.acknowledged.items
+        → Tells writer.new.seat writer.new.acks.items writer.new.acknowledged.items }
 {
     let mut before = None;
     for number in 0..changes {
@@ -161,8 +164,8 @@ fn change_all<B: Group, R: Wait, L: Listener>(
     Ok(())
 }
 
-/// Makes so many transactions, each with a key of this writer and of its own number, waits until each commit is safe, and tells the
-/// listener of it.
+/// Makes so many transactions, each with a key of this writer and of its own number, waits until each commit is safe,
+/// and tells the listener of it.
 pub(crate) fn write<B: Group, R: Wait, L: Listener>(
     rt: &R,
     shared: &Shared<B>,
@@ -170,7 +173,8 @@ pub(crate) fn write<B: Group, R: Wait, L: Listener>(
     changes: u16,
     listener: &L,
 )
-    ensures { GoesOn writer.old.seat writer.old.acks.items writer.old.acknowledged.items writer.new.seat writer.new.acks.items writer.new.acknowledged.items }
+    ensures { GoesOn writer.old.seat writer.old.acks.items writer.old.acknowledged.items writer.new.seat
+        writer.new.acks.items writer.new.acknowledged.items }
 {
     writer.refused = change_all(rt, shared, writer, changes, listener).err();
 }

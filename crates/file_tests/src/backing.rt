@@ -26,8 +26,8 @@ struct Page {
     is_dirty: bool,
 }
 
-/// What is below a disk: a device, and a cache of it. As with Linux, a sync that fails leaves what it didn't write in the cache,
-/// and no later sync writes it.
+/// What is below a disk: a device, and a cache of it. As with Linux, a sync that fails leaves what it didn't write in
+/// the cache, and no later sync writes it.
 #[derive(Drop)]
 pub struct Host {
     pages: Vec<Page>,

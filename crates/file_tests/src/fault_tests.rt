@@ -1,4 +1,5 @@
-// Each write and sync of a script fails in turn, the power is lost, at once or in the next process, and the store is opened again.
+// Each write and sync of a script fails in turn, the power is lost, at once or in the next process, and the store is
+// opened again.
 use crate::backing::{Host, Loss, Used};
 use file_disk::FileDisk;
 use flip_image::Halves;
@@ -139,34 +140,31 @@ fn play<D: Device>(store: &mut Store<D>, told: Told, more: u8) -> Result<Told, E
     Ok(told)
 }
 
-// The store on the device, opened, where no call fails.
-fn opened(alloc: Global, host: &mut Host) -> Option<Store<FileDisk<Used<'_>, Global>>> {
-    let Ok(disk) = FileDisk::over(alloc, Used { host }, sectors()) else {
-        return None;
-    };
+// The same on a disk, whose store is opened first.
+fn play_on<D: Device + Drop>(alloc: Global, disk: D, told: Told, more: u8) -> Result<Told, Error> {
     match Store::open(alloc, disk) {
-        Ok(store) => Some(store),
-        Err(_) => None,
+        Ok(mut store) => play(&mut store, told, more),
+        Err(_) => Ok(told),
     }
 }
 
-// A process opens the store, and puts rows, until a call fails.
+// A process opens the file, and puts rows, until a call fails.
 fn live(alloc: Global, host: &mut Host, told: Told, more: u8) -> Result<Told, Error> {
-    match opened(alloc, host) {
-        Some(mut store) => play(&mut store, told, more),
-        None => Ok(told),
+    match FileDisk::over(alloc, Used { host }, sectors()) {
+        Ok(disk) => play_on(alloc, disk, told, more),
+        Err(_) => Ok(told),
     }
 }
 
-// The store of which the power was lost holds what was acknowledged; and its index all of it, where that is to be built.
-fn look(
+// The store on the disk holds what was acknowledged; and its index all of it, where that is to be built.
+fn look_on<D: Device + Drop>(
     rt: &impl Abort,
     alloc: Global,
-    left: &mut Host,
+    disk: D,
     told: Told,
     is_built: bool,
 ) -> Result<(), Fail> {
-    let Some(mut store) = opened(alloc, left) else {
+    let Ok(mut store) = Store::open(alloc, disk) else {
         return Err(Fail::new("the store can't be opened again"));
     };
     let Some(rows) = rows_in(&store) else {
@@ -180,7 +178,22 @@ fn look(
     Ok(())
 }
 
-// A process goes on over the cache, and the power is lost before each of its syncs is done: what is on the device changes by these.
+// The same of what is left, once the power was lost.
+fn look(
+    rt: &impl Abort,
+    alloc: Global,
+    host: &mut Host,
+    told: Told,
+    is_built: bool,
+) -> Result<(), Fail> {
+    match FileDisk::over(alloc, Used { host }, sectors()) {
+        Ok(disk) => look_on(rt, alloc, disk, told, is_built),
+        Err(_) => Err(Fail::new("the file can't be opened again")),
+    }
+}
+
+// A process goes on over the cache, and the power is lost before each of its syncs is done: what is on the device
+// changes by these.
 fn cut_next(rt: &impl Abort, alloc: Global, host: &Host, told: Told) -> Result<(), Fail> {
     for cut_at in 1..100 {
         let mut next = host.copied()?;
@@ -216,8 +229,8 @@ fn nothing_acknowledged_is_lost_whichever_call_fails(rt: HostRuntime) -> Result<
     Err(Fail::new("more calls than there are"))
 }
 
-// What a sync that failed didn't write is in the cache, and no later sync writes it. Each sync of a process fails in turn, and the
-// power is lost in the next one.
+// What a sync that failed didn't write is in the cache, and no later sync writes it. Each sync of a process fails in
+// turn, and the power is lost in the next one.
 #[test]
 fn nothing_acknowledged_is_lost_in_the_next_process(rt: HostRuntime) -> Result<(), Fail> {
     let alloc = rt.alloc();

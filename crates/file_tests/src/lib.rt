@@ -1,5 +1,5 @@
-//! Tests of stores in files: what a backing that fails, drops or tears leaves; names, locks and refusals of files; and the verbs of
-//! `nsf-store`, one behind the other on a real file, also of version 1.
+//! Tests of stores in files: what a backing that fails, drops or tears leaves; names, locks and refusals of files; and
+//! the verbs of `nsf-store`, one behind the other on a real file, also of version 1.
 //!
 //! Proved of them is safety. Outside the gate, `tools/kill_store.py` kills the program at random moments.
 #![tactic(auto)]

@@ -14,7 +14,8 @@ const FULL: &str =
 const AGAIN: &str =
     "nsf-store: f: its index is full: `nsf-store build --again` drops it, creates it anew and builds it\n";
 
-// Commands by which 60 rows get an index, and 31 of them other keys before it is built: each then has two entries, one of them marked.
+// Commands by which 60 rows get an index, and 31 of them other keys before it is built: each then has two entries, one
+// of them marked.
 fn filling(alloc: Global) -> Result<String, AllocError> {
     let mut script = String::from_str(alloc, "begin\n")?;
     for n in 0..60_u8 {

@@ -1,5 +1,5 @@
-// The system's files, whose writes, syncs, locks and names are noted. A call of these can fail; each write is interrupted first, and
-// takes only a part.
+// The system's files, whose writes, syncs, locks and names are noted. A call of these can fail; each write is
+// interrupted first, and takes only a part.
 use file_disk::StoreFile;
 use std::alloc::{Alloc, Global};
 use std::cell::{Cell, RefCell};
@@ -12,8 +12,8 @@ use std::rt::Files;
 // How many bytes a write takes at most.
 const PART: usize = 300;
 
-/// The calls, each by a letter: `k` locks a file, `w` writes, `s` syncs it, `f` syncs a folder, `l` gives a second name, `r` removes
-/// one.
+/// The calls, each by a letter: `k` locks a file, `w` writes, `s` syncs it, `f` syncs a folder, `l` gives a second
+/// name, `r` removes one.
 #[derive(Drop)]
 pub struct Log {
     calls: RefCell<Vec<u8>>,

@@ -1,7 +1,7 @@
 //! Tests of both versions of the store's format.
 //!
-//! Stores of version 1, written by the format's text, are moved, harmed and hindered; in version 2 rows of each length lie in each slot.
-//! Proved of them is safety.
+//! Stores of version 1, written by the format's text, are moved, harmed and hindered; in version 2 rows of each length
+//! lie in each slot. Proved of them is safety.
 #![tactic(auto)]
 
 #[cfg(test)]

@@ -358,8 +358,8 @@ fn hindrance<M: StoreMemory>(
     }
 }
 
-// The same, where these calls of the old disk and of the new one fail, of which 0 is none, and the allocations behind so many are
-// refused.
+// The same, where these calls of the old disk and of the new one fail, of which 0 is none, and the allocations behind
+// so many are refused.
 fn hindered(
     alloc: Global,
     calls: (u64, u64),

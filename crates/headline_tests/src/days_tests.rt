@@ -60,8 +60,8 @@ fn found_behind<D: Mortal>(
     Ok((engine.core().life(), found))
 }
 
-// The first day's commit is flushed, the second day's isn't, and the third day puts its row there. The index that is built in the end
-// has the pairs of both rows.
+// The first day's commit is flushed, the second day's isn't, and the third day puts its row there. The index that is
+// built in the end has the pairs of both rows.
 #[test]
 fn three_days_and_a_build(rt: HostRuntime) -> Result<(), Fail> {
     let alloc = rt.alloc();

@@ -18,7 +18,8 @@ use Rattle.nsf_c.specs.contracts.handle.Handle as handle
 
 module _ {M : Type 1} {𝓤 : Ura M} {𝓛 : Logic 𝓤} {K : Type 0} {Γ : List (Item 𝓤)} {G : Goal 𝓤 𝓛.H} where
   pub handle_in : K → (p : Ptr) (value : Option Held)
-      → Step K 𝓛 (‵ (handle.the_row.own_val (record { at = p; value = value }) (vstruct (vcons (ptr_val p) vnil) ∷ [])) ∷ Γ) G (‵ (owned held.the_row p value) ∷ Γ) G
+      → Step K 𝓛 (‵ (handle.the_row.own_val (record { at = p; value = value }) (vstruct (vcons (ptr_val p) vnil) ∷ [])) ∷ Γ) G
+      (‵ (owned held.the_row p value) ∷ Γ) G
   handle_in t p value = step (λ s. let word : Val = vstruct (vcons (ptr_val p) vnil) in
       nothing t $ feq_i t (List Val) (ptr_val p ∷ []) (ptr_val p ∷ []) refl $ fjoin t $ feq_i t (List Val) (word ∷ []) (word ∷ []) refl $ fjoin t $
       fpack t (Valss (RawPtr ∷ [])) (within (shape handle.the_type) (p, tt) (word ∷ [])) (ptr_val p ∷ [], tt) $ fjoin t $ s)

@@ -4,7 +4,8 @@ use Rattle.records.specs.Values.{Place}
 use Rattle.records.specs.declared.rid.TheConstants.{SLOTS_PER_PAGE}
 use Rattle.records.specs.declared.key.TheConstants.{KEY_MAX, BODY_MAX}
 use Rattle.restart.specs.declared.event.Event.{Event}
-use Rattle.restart.specs.declared.event.Event.TheVariants.{Begin, Insert, Delete, Update, Step, Undo, End, Commit, Create, Drop, Build, Clean, Flush, Copy, Get, Find, Life}
+use Rattle.restart.specs.declared.event.Event.TheVariants.{Begin, Insert, Delete, Update, Step, Undo, End, Commit}
+use Rattle.restart.specs.declared.event.Event.TheVariants.{Create, Drop, Build, Clean, Flush, Copy, Get, Find, Life}
 use Rattle.nsf_c.specs.declared.asked.Asked.{Asked}
 
 -- the place that is asked about

@@ -31,8 +31,8 @@ use Rattle.nsf_c.specs.Told.{plain, life_told, told_of, status_of}
 
 -- ---- serving
 
--- The event had this lawful reply, and the store's device has as many sectors as before (`sectors`). A commit behind a known failure
--- of the device is refused by 2 instead, and nothing was done.
+-- The event had this lawful reply, and the store's device has as many sectors as before (`sectors`). A commit behind a
+-- known failure of the device is refused by 2 instead, and nothing was done.
 abbrev pub Serves : Event → Reply Global → Opened → Opened → Type 0
 Serves event reply old new = ServesGuarded history_of failures_of event reply old new
 
@@ -49,7 +49,8 @@ abbrev pub Tells : Reply Global → ℕ → Told → Type 0
 Tells reply status told = (status ≡ status_of reply) × (told ≡ told_of reply)
 
 -- The event that is asked for was served.
-pub record IsServed (asked : Asked) (key body : List ℕ) (status : ℕ) (told : Told) (room spots : List Spot) (old new : Handle) : Type 0 where
+pub record IsServed (asked : Asked) (key body : List ℕ) (status : ℕ) (told : Told) (room spots : List Spot)
+    (old new : Handle) : Type 0 where
   pub event : Event
   pub reply : Reply Global
   pub asks : Asks asked key body event
@@ -58,14 +59,16 @@ pub record IsServed (asked : Asked) (key body : List ℕ) (status : ℕ) (told :
   pub fills : FillsWith reply room spots
 
 -- What is asked for is no event, and nothing was done.
-pub record IsNotServed (asked : Asked) (key body : List ℕ) (status : ℕ) (told : Told) (room spots : List Spot) (old new : Handle) : Type 0 where
+pub record IsNotServed (asked : Asked) (key body : List ℕ) (status : ℕ) (told : Told) (room spots : List Spot)
+    (old new : Handle) : Type 0 where
   pub bad : IsBad asked key body status
   pub unchanged : new.value ≡ old.value
   pub told_is : told ≡ plain 0 0
   pub spots_stay : spots ≡ room
 
 -- A call that is no event had this reply.
-pub record IsAnswered (P : Reply Global → Opened → Opened → Type 0) (status : ℕ) (told : Told) (old new : Handle) : Type 0 where
+pub record IsAnswered (P : Reply Global → Opened → Opened
+    → Type 0) (status : ℕ) (told : Told) (old new : Handle) : Type 0 where
   pub reply : Reply Global
   pub moves : Moves (P reply) old new
   pub tells : Tells reply status told
@@ -90,15 +93,17 @@ stat_of s = record {
 abbrev pub content_of : Opened → Image
 content_of s = (history_of (serving.device_of s.store)).disk.content
 
--- So many sectors from the first on, as many as there are and as there is room for, stand in front; behind them stays what was there.
+-- So many sectors from the first on, as many as there are and as there is room for, stand in front; behind them stays
+-- what was there.
 pub record CopiesOut (content : Image) (first count : ℕ) (old new : Image) : Type 0 where
   pub count_is : count ≡ min (length content - first) (length old)
   pub new_is : new ≡ take count (drop first content) ++ drop count old
 
--- Whatever run left the store where it is: a device of these sectors holds a beginning of it, with every record up to the horizon, and
--- so with all that a reply has told to be safe.
+-- Whatever run left the store where it is: a device of these sectors holds a beginning of it, with every record up to
+-- the horizon, and so with all that a reply has told to be safe.
 abbrev pub IsStoreKept : Opened → Image → Type 0
-IsStoreKept s image = (past : Past Global) → IsAt history_of past s.store.engine → Survives past (serving.horizon_of s.store) image
+IsStoreKept s image = (past : Past Global) → IsAt history_of past s.store.engine
+    → Survives past (serving.horizon_of s.store) image
 
 -- ---- opening
 
@@ -147,8 +152,9 @@ Is sectors content = content ≡ sectors
 abbrev pub IsNotOpened : Image → ℕ → Type 0
 IsNotOpened sectors status = (status ≡ number_of NoMemory) ⊎ IsRefusedOn (Is sectors) status
 
--- why no store was made: the numbers are no geometry; or they are, and there was no memory, or a call of the device failed, or a
--- restart on the store just made refused
+-- why no store was made: the numbers are no geometry; or they are, and there was no memory, or a call of the device
+-- failed, or a restart on the store just made refused
 abbrev pub IsNotMade : GeometryValue → ℕ → Type 0
 IsNotMade g status = ((¬ IsGeometry g) × (status ≡ number_of BadGeometry))
-    ⊎ (IsGeometry g × ((status ≡ number_of NoMemory) ⊎ (status ≡ number_of DeviceFailed) ⊎ IsRefusedOn (IsMade g) status))
+    ⊎ (IsGeometry g × ((status ≡ number_of NoMemory) ⊎ (status ≡ number_of DeviceFailed)
+    ⊎ IsRefusedOn (IsMade g) status))

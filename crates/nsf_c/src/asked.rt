@@ -95,9 +95,9 @@ impl Asked {
         }
     }
 
-    /// The event that is asked for. The error is the number of the refusal: 9 where a transaction has no number, 10 where a place
-    /// has no such slot, 14 for a key and 15 for a body that is too long, 24 where no event has the kind. Of several it is the first in
-    /// this order.
+    /// The event that is asked for. The error is the number of the refusal: 9 where a transaction has no number, 10
+    /// where a place has no such slot, 14 for a key and 15 for a body that is too long, 24 where no event has the kind.
+    /// Of several it is the first in this order.
     pub(crate) fn event(&self, key: &[u8], body: &[u8]) -> Result<Event, u32>
         ensures asks { IfOk result (Asks self.now key.now body.now) }
         ensures bad { IfErr result (IsBad self.now key.now body.now) }

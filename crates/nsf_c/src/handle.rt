@@ -1,7 +1,7 @@
 //! A handle: the pointer to a store that C keeps.
 //!
-//! This file alone reaches the pointer, in three short functions whose proofs are written by hand, as are the two of `loose`. What
-//! they show: a pointer that came from a box is the same box again.
+//! This file alone reaches the pointer, in three short functions whose proofs are written by hand, as are the two of
+//! `loose`. What they show: a pointer that came from a box is the same box again.
 ghost use Rattle.std.specs.Prelude.{◌≡◌, Option, Some, None};
 ghost use Rattle.nsf_c.specs.Full.{IsFull};
 ghost use Rattle.nsf_c.specs.declared.held.Held.{Held};

@@ -1,10 +1,10 @@
 //! The engine as C calls it: a store stands behind a handle, which C keeps.
 //!
-//! Proved: each call meets the contract of the engine's call that `docs/C.md` names, over a disk whose reads are answered from memory.
-//! Trusted: what `include/nsf.h` asks of who calls, and that the other end of a line does what it is asked before it says so. One
-//! thread at a time is in a call of a handle, and all calls of a handle are of one thread.
-//! By hand: five functions of `handle.rt` and `loose.rt`, by which a pointer is a box again. Neither proved nor built by `rt ci`:
-//! what is C.
+//! Proved: each call meets the contract of the engine's call that `docs/C.md` names, over a disk whose reads are
+//! answered from memory. Trusted: what `include/nsf.h` asks of who calls, and that the other end of a line does what it
+//! is asked before it says so. One thread at a time is in a call of a handle, and all calls of a handle are of one
+//! thread. By hand: five functions of `handle.rt` and `loose.rt`, by which a pointer is a box again. Neither proved nor
+//! built by `rt ci`: what is C.
 #![tactic(auto)]
 
 mod asked;

@@ -85,8 +85,9 @@ fn put_opened(handle: &mut Handle, opened: Result<Box<Held>, Error>) -> u32
     }
 }
 
-/// Makes a store of this geometry and opens it under the handle: in memory where the line is negative, else on the line, at whose
-/// other end are as many sectors of zeros as `nsf_sectors` tells. Answers 0, or the number of the refusal.
+/// Makes a store of this geometry and opens it under the handle: in memory where the line is negative, else on the
+/// line, at whose other end are as many sectors of zeros as `nsf_sectors` tells. Answers 0, or the number of the
+/// refusal.
 #[unsafe(no_mangle)]
 pub extern "C" fn nsf_create(
     alloc: Global,
@@ -97,8 +98,10 @@ pub extern "C" fn nsf_create(
     slots: u32,
 ) -> u32
     requires { IsVacant handle.old }
-    ensures made { result ≡ 0 → Holds (IsOpenedOn (IsMade (record { pages = pages; entries = entries; slots = slots }))) handle.new }
-    ensures refused { result ≢ 0 → IsVacant handle.new × IsNotMade (record { pages = pages; entries = entries; slots = slots }) result }
+    ensures made { result ≡ 0 → Holds (IsOpenedOn (IsMade (record { pages = pages; entries = entries; slots = slots })))
+        handle.new }
+    ensures refused { result ≢ 0 → IsVacant handle.new
+        × IsNotMade (record { pages = pages; entries = entries; slots = slots }) result }
 {
     match Geometry::new(pages, entries, slots) {
         Ok(geometry) => put_opened(handle, make(alloc, line, geometry)),
@@ -106,8 +109,8 @@ pub extern "C" fn nsf_create(
     }
 }
 
-/// Opens the store that the bytes hold, as whole sectors, under the handle: in memory where the line is negative, else on the
-/// line, at whose other end are the same sectors, all of them safe. Answers 0, or the number of the refusal.
+/// Opens the store that the bytes hold, as whole sectors, under the handle: in memory where the line is negative, else
+/// on the line, at whose other end are the same sectors, all of them safe. Answers 0, or the number of the refusal.
 #[unsafe(no_mangle)]
 pub extern "C" fn nsf_open(alloc: Global, handle: &mut Handle, line: i32, bytes: &[u8]) -> u32
     requires { IsVacant handle.old }
@@ -118,7 +121,8 @@ pub extern "C" fn nsf_open(alloc: Global, handle: &mut Handle, line: i32, bytes:
     put_opened(handle, open_sectors(alloc, line, sectors))
 }
 
-/// Closes the store under the handle. What was not flushed is lost. (What closing leaves at the line's other end, no clause says.)
+/// Closes the store under the handle. What was not flushed is lost. (What closing leaves at the line's other end, no
+/// clause says.)
 #[unsafe(no_mangle)]
 pub extern "C" fn nsf_close(alloc: Global, handle: &mut Handle)
     requires { IsOpen handle.old }

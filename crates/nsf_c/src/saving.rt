@@ -16,9 +16,9 @@ fn copy_out(content: &[[u8; SECTOR_SIZE]], first: u64, room: &mut [[u8; SECTOR_S
     count as u64
 }
 
-/// Copies the sectors of the store's device out, from this number on: as many as there are and as there is room for. Answers how
-/// many. All of them, with no other call between, are bytes that [`crate::nsf_open`] opens as what a crash may leave now: a prefix
-/// of what was committed, with everything that a horizon told of.
+/// Copies the sectors of the store's device out, from this number on: as many as there are and as there is room for.
+/// Answers how many. All of them, with no other call between, are bytes that [`crate::nsf_open`] opens as what a crash
+/// may leave now: a prefix of what was committed, with everything that a horizon told of.
 #[unsafe(no_mangle)]
 pub extern "C" fn nsf_save(
     alloc: Global,
@@ -27,7 +27,8 @@ pub extern "C" fn nsf_save(
     room: &mut [[u8; SECTOR_SIZE]],
 ) -> u64
     requires { IsOpen handle.old }
-    ensures copied { Reads (λ store. CopiesOut (content_of store) first result room.old room.new) handle.old handle.new }
+    ensures copied { Reads (λ store. CopiesOut (content_of store) first result room.old room.new) handle.old
+        handle.new }
     ensures kept { Reads (λ store. IsStoreKept store (content_of store)) handle.old handle.new }
 {
     let held = handle.take(alloc);

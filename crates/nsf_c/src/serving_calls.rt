@@ -1,6 +1,7 @@
 //! The calls on a store that is open.
 ghost use Rattle.std.specs.Prelude.{◌≡◌, ◌⊎◌, ◌↔◌, IsTrue};
-ghost use Rattle.nsf_c.specs.Calls.{Flushes, IsAnswered, IsNotServed, IsServed, IsSound, Serves, TakesImage, Tells, stat_of};
+ghost use Rattle.nsf_c.specs.Calls.{Flushes, IsAnswered, IsNotServed, IsServed, IsSound, Serves, TakesImage, Tells};
+ghost use Rattle.nsf_c.specs.Calls.{stat_of};
 ghost use Rattle.nsf_c.specs.Handles.{IsOpen, Moves, Reads};
 
 use crate::asked::Asked;
@@ -21,8 +22,9 @@ fn serve(alloc: Global, handle: &mut Handle, event: Event) -> Reply<Global>
     reply
 }
 
-/// Serves the event that is asked for, tells its reply, and puts the places that a search found. Answers 0, or the number of the
-/// refusal; where what is asked for is no event, nothing is done. A commit is refused by 2 once a flush or a copy was.
+/// Serves the event that is asked for, tells its reply, and puts the places that a search found. Answers 0, or the
+/// number of the refusal; where what is asked for is no event, nothing is done. A commit is refused by 2 once a flush
+/// or a copy was.
 #[unsafe(no_mangle)]
 pub extern "C" fn nsf_serve(
     alloc: Global,
@@ -51,7 +53,8 @@ pub extern "C" fn nsf_serve(
     }
 }
 
-/// Flushes until every record made is synced, or a refusal comes. Where the log is full, an image is taken and made current.
+/// Flushes until every record made is synced, or a refusal comes. Where the log is full, an image is taken and made
+/// current.
 #[unsafe(no_mangle)]
 pub extern "C" fn nsf_flush(alloc: Global, handle: &mut Handle, told: &mut Told) -> u32
     requires { IsOpen handle.old }
@@ -77,8 +80,8 @@ pub extern "C" fn nsf_image(alloc: Global, handle: &mut Handle, told: &mut Told)
     status_of(&reply)
 }
 
-/// Whether the index fits the rows, so that all that is promised of a run is promised of this store too. To be asked right behind
-/// `nsf_open`, while no transaction is active.
+/// Whether the index fits the rows, so that all that is promised of a run is promised of this store too. To be asked
+/// right behind `nsf_open`, while no transaction is active.
 #[unsafe(no_mangle)]
 pub extern "C" fn nsf_can_open(alloc: Global, handle: &mut Handle) -> bool
     requires { IsOpen handle.old }

@@ -32,8 +32,8 @@ fn fill(spots: &mut [Spot], rids: &[Rid])
     }
 }
 
-/// Puts the places that a search found, as many as there is room for. Behind them, and where the reply is another, what was there
-/// stays.
+/// Puts the places that a search found, as many as there is room for. Behind them, and where the reply is another, what
+/// was there stays.
 pub(crate) fn put_found(spots: &mut [Spot], reply: &Reply<Global>)
     ensures { FillsWith reply.now spots.old spots.new }
 {

@@ -1,6 +1,7 @@
 //! What C is told.
 ghost use Rattle.std.specs.Prelude.{◌≡◌, ◌≤◌, length};
-ghost use Rattle.nsf_c.specs.Told.{padded, plain, placed, paired, rowed, built_told, cleaned_told, life_told, row_told, sector_of, told_of, status_of};
+ghost use Rattle.nsf_c.specs.Told.{padded, plain, placed, paired, rowed, built_told, cleaned_told, life_told, row_told};
+ghost use Rattle.nsf_c.specs.Told.{sector_of, told_of, status_of};
 
 use crate::kind;
 use model::Life;

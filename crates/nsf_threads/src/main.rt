@@ -1,5 +1,5 @@
-//! Lets writers, a builder, a cleaner and a flusher run side by side on a store in memory, cuts its power, and says what is
-//! found behind that.
+//! Lets writers, a builder, a cleaner and a flusher run side by side on a store in memory, cuts its power, and says
+//! what is found behind that.
 //!
 //! All that it does is in `demonstration`.
 #![tactic(auto)]

@@ -1,5 +1,5 @@
-//! Runs a script of commands against a store on a disk in memory, and prints each answer; or, asked by `--crash-map`, what a stop at
-//! each write and sync leaves.
+//! Runs a script of commands against a store on a disk in memory, and prints each answer; or, asked by `--crash-map`,
+//! what a stop at each write and sync leaves.
 //!
 //! All that it does is in `script_player` and in `crash_map`.
 #![tactic(auto)]

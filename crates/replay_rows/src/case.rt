@@ -133,8 +133,8 @@ impl Case {
         writeln!(report, "{name}:{words}: status {status}\n{output}{errors}")
     }
 
-    // Runs the program with no words at each width of the output up to that of what is expected. Whatever doesn't fit ends
-    // it with the status 1.
+    // Runs the program with no words at each width of the output up to that of what is expected. Whatever doesn't fit
+    // ends it with the status 1.
     fn check_narrow<W: Write>(&mut self, report: &mut W) -> io::Result<()> {
         let whole = self.output.len();
         for room in 0..=whole {

@@ -2,7 +2,8 @@
 ghost use Rattle.std.specs.Prelude.{◌≤◌, Some, length};
 ghost use Rattle.std.specs.Fmt.{DisplaysOnOk};
 ghost use Rattle.script.specs.Grammar.{rid_text};
-ghost use Rattle.replay_values.specs.Texts.{bytes_text, further_text, places_text, row_text, pair_text, entry_text, life_text, refusal_text};
+ghost use Rattle.replay_values.specs.Texts.{bytes_text, further_text, places_text, row_text, pair_text, entry_text};
+ghost use Rattle.replay_values.specs.Texts.{life_text, refusal_text};
 
 use model::Life;
 use records::{BODY_MAX, Error, Mark, Pair, Rid, Row};

@@ -37,5 +37,17 @@ module _ {W : Type 0} (contents : W → Option (List ℕ)) (event : Event) where
   pub last_step : (count : ℕ) (old new : Session) (next : Result Session End) (before after : W) (reply : Reply Global) (outcome : Result Answer Stopped)
       → 0 < count → ServesEvent event reply old new → outcome ≡ outcome_of new reply → IsLast outcome → GoesOn contents outcome new next before after
       → MakesSteps contents event count old next before after
-  last_step count old new next before after reply outcome some serves told last goes =
-      ([], old, before, (refl, refl), inr (some, new, reply, serves, subst IsLast told last, subst (λ (o : Result Answer Stopped). GoesOn contents o new next before after) told goes))
+  last_step count old new next before after reply outcome some serves told last goes = (
+    [],
+    old,
+    before,
+    (refl, refl),
+    inr (
+      some,
+      new,
+      reply,
+      serves,
+      subst IsLast told last,
+      subst (λ (o : Result Answer Stopped). GoesOn contents o new next before after) told goes,
+    ),
+  )

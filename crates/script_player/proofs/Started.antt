@@ -11,7 +11,9 @@ pub starts_for : (arguments : Arguments) (sectors : ℕ) (geometry : GeometryVal
     → IfOk result (Starts sectors geometry fails_at) → IfOk result (StartsFor arguments)
 starts_for arguments sectors geometry fails_at (Ok session) of_arguments asked cut starts = (
   fails_at,
-  subst (λ (g : GeometryValue). IsCutAt (sectors_asked arguments.sectors g) g arguments.stop fails_at) of_arguments (subst (λ (n : ℕ). IsCutAt n geometry arguments.stop fails_at) asked cut),
-  subst (λ (g : GeometryValue). Starts (sectors_asked arguments.sectors g) g fails_at session) of_arguments (subst (λ (n : ℕ). Starts n geometry fails_at session) asked starts),
+  subst (λ (g : GeometryValue). IsCutAt (sectors_asked arguments.sectors g) g arguments.stop fails_at) of_arguments
+      (subst (λ (n : ℕ). IsCutAt n geometry arguments.stop fails_at) asked cut),
+  subst (λ (g : GeometryValue). Starts (sectors_asked arguments.sectors g) g fails_at session) of_arguments
+      (subst (λ (n : ℕ). Starts n geometry fails_at session) asked starts),
 )
 starts_for _ _ _ _ (Err _) _ _ _ starts = starts

@@ -1,10 +1,12 @@
 -- What becomes of a whole script: what is printed, and the status of the program.
-use Rattle.std.specs.Prelude.{◌≡◌, ◌⊎◌, ◌≤◌, ◌<◌, ◌+◌, ◌-◌, ◌^◌, ℕ, length, min, Option, Some, None, IfSome, List, Result, Ok, Err}
+use Rattle.std.specs.Prelude.{◌≡◌, ◌⊎◌, ◌≤◌, ◌<◌, ◌+◌, ◌-◌, ◌^◌, ℕ, length, min, Option, Some, None, IfSome, List}
+use Rattle.std.specs.Prelude.{Result, Ok, Err}
 use Rattle.std.specs.Io.KnownBytes.{Appends}
 use Rattle.std.specs.declared.alloc.Global.{Global}
 use Rattle.records.specs.GeometryValue.{GeometryValue, IsGeometry, sectors_of}
 use Rattle.records.specs.declared.error.Error.{Error}
-use Rattle.records.specs.declared.error.Error.TheVariants.{NoMemory, DeviceFailed, DeviceTooSmall, BadGeometry, BadScript}
+use Rattle.records.specs.declared.error.Error.TheVariants.{NoMemory, DeviceFailed, DeviceTooSmall, BadGeometry}
+use Rattle.records.specs.declared.error.Error.TheVariants.{BadScript}
 use Rattle.sector_device.specs.FaultDisk.{which_of, made_of, fails_at_of}
 use Rattle.sector_device.specs.declared.call.Fate.{Fate}
 use Rattle.sector_device.specs.declared.fault.FaultDisk.{FaultDisk}
@@ -34,8 +36,8 @@ abbrev pub sectors_asked : Option ℕ → GeometryValue → ℕ
 sectors_asked (Some sectors) geometry = sectors
 sectors_asked None geometry = sectors_of geometry
 
--- A store of this geometry was made on a disk of so many sectors, and opened. The disk was to cut its write or sync of this
--- number short, from the opening on, or none at 0, and the session takes it for that.
+-- A store of this geometry was made on a disk of so many sectors, and opened. The disk was to cut its write or sync of
+-- this number short, from the opening on, or none at 0, and the session takes it for that.
 pub record Starts (sectors : ℕ) (geometry : GeometryValue) (fails_at : ℕ) (session : Session) : Type 0 where
   pub disk : FaultDisk (MemDisk Global)
   pub formatted : IsFormatted geometry (disk_history disk).disk.content
@@ -48,10 +50,11 @@ pub record Starts (sectors : ℕ) (geometry : GeometryValue) (fails_at : ℕ) (s
 
 -- why no store was made and opened on a new disk of so many sectors
 abbrev pub IsNoStart : ℕ → GeometryValue → Error → Type 0
-IsNoStart sectors geometry e = ((e ≡ DeviceTooSmall) × (sectors < sectors_of geometry)) ⊎ (e ≡ DeviceFailed) ⊎ (e ≡ NoMemory)
+IsNoStart sectors geometry e = ((e ≡ DeviceTooSmall) × (sectors < sectors_of geometry)) ⊎ (e ≡ DeviceFailed)
+    ⊎ (e ≡ NoMemory)
 
--- The number of the call that is cut short: 0 where none was asked for, and else so many more than such a session makes as it
--- is opened with none cut short.
+-- The number of the call that is cut short: 0 where none was asked for, and else so many more than such a session makes
+-- as it is opened with none cut short.
 abbrev pub IsCutAt : ℕ → GeometryValue → Option ℕ → ℕ → Type 0
 IsCutAt sectors geometry None fails_at = fails_at ≡ 0
 IsCutAt sectors geometry (Some stop) fails_at =
@@ -60,7 +63,8 @@ IsCutAt sectors geometry (Some stop) fails_at =
 -- A new store was opened, as the arguments ask for it.
 abbrev pub StartsFor : Arguments → Session → Type 0
 StartsFor arguments session =
-    (fails_at : ℕ) × IsCutAt (sectors_asked arguments.sectors (geometry_of arguments)) (geometry_of arguments) arguments.stop fails_at
+    (fails_at : ℕ) × IsCutAt (sectors_asked arguments.sectors (geometry_of arguments))
+    (geometry_of arguments) arguments.stop fails_at
     × Starts (sectors_asked arguments.sectors (geometry_of arguments)) (geometry_of arguments) fails_at session
 
 -- Why no command was run, the first that fits: the text is no script, the arguments give no geometry, or no store of it
@@ -71,7 +75,8 @@ IsFault arguments text e =
     ⊎ ((index : ℕ) × (e ≡ BadScript (index + 1)) × IsFirstFault (lines text) index)
     ⊎ ((commands : List Command) × IsScript (lines text) commands
     × (((e ≡ BadGeometry) × ¬ IsGeometry (geometry_of arguments))
-    ⊎ (IsGeometry (geometry_of arguments) × IsNoStart (sectors_asked arguments.sectors (geometry_of arguments)) (geometry_of arguments) e)))
+    ⊎ (IsGeometry (geometry_of arguments)
+    × IsNoStart (sectors_asked arguments.sectors (geometry_of arguments)) (geometry_of arguments) e)))
 
 -- the text is all that the input has, where that is known
 abbrev pub IsWholeInput : Option (List ℕ) → List ℕ → Type 0
@@ -85,14 +90,17 @@ module _ {W : Type 0} (contents : W → Option (List ℕ)) where
   -- The store was opened again on this disk, and that was printed, and then what it holds. Or it was refused.
   abbrev pub ShowsLeft : FaultDisk (MemDisk Global) → ℕ → W → W → Type 0
   ShowsLeft disk status before after =
-      ((session : Session) × (between : W) × OpensOn disk 0 session × Prints contents (answer.Restart (life_of session)) before between
+      ((session : Session) × (between : W) × OpensOn disk 0 session
+      × Prints contents (answer.Restart (life_of session)) before between
       × Appends (contents between) (contents after) (dump_text session.store) × (status ≡ 0))
-      ⊎ ((e : Error) × (given_back : FaultDisk (MemDisk Global)) × IsRefusedOn disk given_back e × IsRefused e status before after)
+      ⊎ ((e : Error) × (given_back : FaultDisk (MemDisk Global)) × IsRefusedOn disk given_back e
+      × IsRefused e status before after)
 
   -- That the session was stopped was printed. Then the power was lost, with this fate for every unsynced sector.
   abbrev pub IsStopped : Fate → FaultDisk (MemDisk Global) → ℕ → W → W → Type 0
   IsStopped fate disk status before after =
-      (left : FaultDisk (MemDisk Global)) × (between : W) × Prints contents answer.Stopped before between × LosesPower fate 0 disk left
+      (left : FaultDisk (MemDisk Global)) × (between : W) × Prints contents answer.Stopped before between
+      × LosesPower fate 0 disk left
       × ShowsLeft left status between after
 
   -- what is printed behind the commands' own lines, by how they ended
@@ -115,11 +123,12 @@ module _ {W : Type 0} (contents : W → Option (List ℕ)) where
   PlaysInput arguments input status before after =
       (text : List ℕ) × IsWholeInput input text × Plays arguments text status before after
 
-  -- The words ask for these arguments, and the whole input was played under them. Or nothing of it was read: the words ask
-  -- for help, which has the status 0, or 1 where it can't be written; or they have a fault, which has the status 2 and
-  -- prints nothing; or there was no memory for the arguments, and that was printed.
+  -- The words ask for these arguments, and the whole input was played under them. Or nothing of it was read: the words
+  -- ask for help, which has the status 0, or 1 where it can't be written; or they have a fault, which has the status 2
+  -- and prints nothing; or there was no memory for the arguments, and that was printed.
   abbrev pub RunsWords : {R : Type 0} → (R → Option (List ℕ)) → List (List ℕ) → R → R → ℕ → W → W → Type 0
   RunsWords remaining words input input' status before after =
       ((arguments : Arguments) × Ask words arguments × PlaysInput arguments (remaining input) status before after)
       ⊎ ((input' ≡ input)
-      × ((AskForHelp words × (status ≤ 1)) ⊎ (HaveFault words × (status ≡ 2) × (after ≡ before)) ⊎ IsRefused NoMemory status before after))
+      × ((AskForHelp words × (status ≤ 1)) ⊎ (HaveFault words × (status ≡ 2) × (after ≡ before))
+      ⊎ IsRefused NoMemory status before after))

@@ -1,5 +1,6 @@
 -- What the commands of a script do, and what is printed for them.
-use Rattle.std.specs.Prelude.{◌≡◌, ◌⊎◌, ◌<◌, ℕ, true, false, Option, List, [], ◌∷◌, length, Result, Ok, Err, MatchResult}
+use Rattle.std.specs.Prelude.{◌≡◌, ◌⊎◌, ◌<◌, ℕ, true, false, Option, List, [], ◌∷◌, length, Result, Ok, Err}
+use Rattle.std.specs.Prelude.{MatchResult}
 use Rattle.std.specs.Io.KnownBytes.{Appends}
 use Rattle.std.specs.declared.alloc.Global.{Global}
 use Rattle.sector_device.specs.declared.call.Fate.{Fate}
@@ -10,7 +11,8 @@ use Rattle.restart.specs.declared.event.Event.TheVariants as event
 use Rattle.restart.specs.declared.event.Reply.{Reply}
 use Rattle.script.specs.declared.command.Command.{Command}
 use Rattle.script_player.specs.Disk.{LosesPower}
-use Rattle.script_player.specs.Session.{disk_of, last_made, life_of, outcome_of, LeavesItsRun, ServesEvent, TakesImage, Flushes, calls_to_stop, Reopens}
+use Rattle.script_player.specs.Session.{disk_of, last_made, life_of, outcome_of, LeavesItsRun, ServesEvent, TakesImage}
+use Rattle.script_player.specs.Session.{Flushes, calls_to_stop, Reopens}
 use Rattle.serving.specs.Requests.{request_of}
 use Rattle.replay_values.specs.Steps.{is_last_step}
 use Rattle.replay_values.specs.Texts.{line_of}
@@ -34,19 +36,20 @@ module _ {W : Type 0} (contents : W → Option (List ℕ)) where
   abbrev pub Prints : Answer → W → W → Type 0
   Prints answer before after = Appends (contents before) (contents after) (line_of answer)
 
-  -- The answer was printed, and the session goes on. Or it was stopped: then nothing was printed, and its disk is left, of
-  -- which a crash leaves its run.
+  -- The answer was printed, and the session goes on. Or it was stopped: then nothing was printed, and its disk is left,
+  -- of which a crash leaves its run.
   abbrev pub GoesOn : Result Answer Stopped → Session → Result Session End → W → W → Type 0
   GoesOn (Ok answer) session next before after = (next ≡ Ok session) × Prints answer before after
-  GoesOn (Err stopped) session next before after = (next ≡ Err (end.Stopped (disk_of session))) × LeavesItsRun session × (after ≡ before)
+  GoesOn (Err stopped) session next before after = (next ≡ Err (end.Stopped (disk_of session))) × LeavesItsRun session
+      × (after ≡ before)
 
   -- where the store was opened again, that was printed
   abbrev pub PrintsRestart : Result Session End → W → W → Type 0
   PrintsRestart (Ok session) before after = Prints (answer.Restart (life_of session)) before after
   PrintsRestart (Err e) before after = after ≡ before
 
-  -- The power was lost, with this fate for every unsynced sector, which leaves the session's run, and the store was opened
-  -- again, or the session ended.
+  -- The power was lost, with this fate for every unsynced sector, which leaves the session's run, and the store was
+  -- opened again, or the session ended.
   abbrev pub Restarts : Fate → Session → Result Session End → W → W → Type 0
   Restarts fate old next before after =
       LeavesItsRun old × ((disk : FaultDisk (MemDisk Global)) × LosesPower fate (calls_to_stop old) (disk_of old) disk
@@ -57,7 +60,8 @@ module _ {W : Type 0} (contents : W → Option (List ℕ)) where
   abbrev pub PrintsSteps : Event → List Answer → Session → Session → W → W → Type 0
   PrintsSteps event [] old new before after = (new ≡ old) × (after ≡ before)
   PrintsSteps event (answer ∷ answers) old new before after =
-      (mid : Session) × (reply : Reply Global) × (between : W) × ServesEvent event reply old mid × (outcome_of mid reply ≡ Ok answer)
+      (mid : Session) × (reply : Reply Global) × (between : W) × ServesEvent event reply old mid
+      × (outcome_of mid reply ≡ Ok answer)
       × (is_last_step answer ≡ false) × Prints answer before between × PrintsSteps event answers mid new between after
 
   -- As many steps of this kind as were asked for were made. Or fewer: one more had the last answer, or was stopped.
@@ -71,15 +75,19 @@ module _ {W : Type 0} (contents : W → Option (List ℕ)) where
   -- The request was served, and what came of it was printed.
   abbrev pub Runs : Request → Session → Result Session End → W → W → Type 0
   Runs (request.Event e) old next before after =
-      (new : Session) × (reply : Reply Global) × ServesEvent e reply old new × GoesOn (outcome_of new reply) new next before after
+      (new : Session) × (reply : Reply Global) × ServesEvent e reply old new
+      × GoesOn (outcome_of new reply) new next before after
   Runs (request.Build count) old next before after = MakesSteps event.Build count old next before after
   Runs (request.Clean count) old next before after = MakesSteps event.Clean count old next before after
   Runs request.Flush old next before after =
-      (new : Session) × (reply : Reply Global) × Flushes (last_made old) reply old new × GoesOn (outcome_of new reply) new next before after
+      (new : Session) × (reply : Reply Global) × Flushes (last_made old) reply old new
+      × GoesOn (outcome_of new reply) new next before after
   Runs request.Image old next before after =
-      (new : Session) × (reply : Reply Global) × TakesImage reply old new × GoesOn (outcome_of new reply) new next before after
+      (new : Session) × (reply : Reply Global) × TakesImage reply old new
+      × GoesOn (outcome_of new reply) new next before after
   Runs (request.Crash fate) old next before after = Restarts fate old next before after
-  Runs request.Dump old next before after = (next ≡ Ok old) × Appends (contents before) (contents after) (dump_text old.store)
+  Runs request.Dump old next before after = (next ≡ Ok old)
+      × Appends (contents before) (contents after) (dump_text old.store)
 
   -- What the command asks for was served; one that gives too many bytes was refused.
   abbrev pub RunsCommand : Command → Session → Result Session End → W → W → Type 0

@@ -23,7 +23,8 @@ use Rattle.script_player.specs.declared.session.End.TheVariants as end
 abbrev pub disk_of : Session → FaultDisk (MemDisk Global)
 disk_of session = store.device_of session.store
 
--- The session is that of a store that was opened on this disk, whose write or sync of this number is cut short, or none at 0.
+-- The session is that of a store that was opened on this disk, whose write or sync of this number is cut short, or none
+-- at 0.
 pub record OpensOn (disk : FaultDisk (MemDisk Global)) (fails_at : ℕ) (session : Session) : Type 0 where
   pub store_is : store.OpensOn disk_history disk session.store
   pub fails_at_is : session.fails_at ≡ fails_at
@@ -32,8 +33,8 @@ pub record OpensOn (disk : FaultDisk (MemDisk Global)) (fails_at : ℕ) (session
 abbrev pub IsRefusedOn : (disk after : FaultDisk (MemDisk Global)) → Error → Type 0
 IsRefusedOn disk after e = store.IsRefusedOn disk_history disk_failures disk after e
 
--- Whatever run left the store where it is: a crash of its disk leaves that run, with every record up to the horizon, and so with all
--- that a reply has told to be safe.
+-- Whatever run left the store where it is: a crash of its disk leaves that run, with every record up to the horizon,
+-- and so with all that a reply has told to be safe.
 abbrev pub LeavesItsRun : Session → Type 0
 LeavesItsRun session = store.LeavesItsRun disk_history session.store (disk_of session)
 
@@ -70,7 +71,8 @@ is_stop session _ = false
 
 -- what is answered for the reply
 abbrev pub outcome_of : Session → Reply Global → Result Answer Stopped
-outcome_of session reply = if is_stop session reply then Err (record {}) else Ok (answer_of (store.horizon_of session.store) reply)
+outcome_of session reply = if is_stop session reply then Err (record {}) else Ok
+    (answer_of (store.horizon_of session.store) reply)
 
 -- The event had this reply, and nothing but the store has changed.
 pub record ServesEvent (event : Event) (reply : Reply Global) (old new : Session) : Type 0 where

@@ -2,7 +2,8 @@
 ghost use Rattle.std.specs.Prelude.{◌≡◌, ◌⊎◌, map, IfOk, IfErr, OnOk};
 ghost use Rattle.script.specs.Grammar.{lines, IsScript};
 ghost use Rattle.script_player.specs.Runs.{Prints, GoesOn, Restarts, MakesSteps, Runs, RunsCommand, RunsCommands};
-ghost use Rattle.script_player.specs.Plays.{geometry_of, sectors_asked, Starts, IsNoStart, IsCutAt, StartsFor, IsFault, IsRefused, IsStopped, Ends, Plays, IsWholeInput, PlaysInput, RunsWords};
+ghost use Rattle.script_player.specs.Plays.{geometry_of, sectors_asked, Starts, IsNoStart, IsCutAt, StartsFor, IsFault};
+ghost use Rattle.script_player.specs.Plays.{IsRefused, IsStopped, Ends, Plays, IsWholeInput, PlaysInput, RunsWords};
 
 use crate::session::{Disk, End, Session, Stopped};
 use arguments::NoArguments;
@@ -331,9 +332,9 @@ pub fn run_input<R: Read, W: Write>(
     }
 }
 
-/// Runs the program on these words, the first of them its own name, and answers its exit status:
-/// 0 where the script ran or help was asked for, 1 where script or device failed or was refused, 2 for bad arguments. The
-/// error is that of the input or of the output.
+/// Runs the program on these words, the first of them its own name, and answers its exit status: 0 where the script ran
+/// or help was asked for, 1 where script or device failed or was refused, 2 for bad arguments. The error is that of the
+/// input or of the output.
 pub fn run_words<S: AsStr, R: Read, W: Write>(
     alloc: Global,
     words: &[S],
@@ -351,8 +352,8 @@ pub fn run_words<S: AsStr, R: Read, W: Write>(
     }
 }
 
-/// Runs the program on these words as `run_words` does, and answers its exit status, which is 1 where the input can't be
-/// read or the output can't be written.
+/// Runs the program on these words as `run_words` does, and answers its exit status, which is 1 where the input can't
+/// be read or the output can't be written.
 pub fn run<S: AsStr, R: Read, W: Write>(
     alloc: Global,
     words: &[S],

@@ -66,7 +66,9 @@ fn tells_stop(fails_at: u64, error: Error) -> bool
 
 impl Session {
     ghost use Rattle.restart.specs.declared.event.Reply.{Reply};
-    ghost use Rattle.script_player.specs.Session.{OpensOn, IsRefusedOn, LeavesItsRun, disk_of, last_made, is_stop, outcome_of, ServesEvent, TakesImage, Flushes, calls_to_stop, Reopens, life_of};
+    ghost use Rattle.script_player.specs.Session.{OpensOn, IsRefusedOn, LeavesItsRun, disk_of, last_made, is_stop};
+    ghost use Rattle.script_player.specs.Session.{outcome_of, ServesEvent, TakesImage, Flushes, calls_to_stop, Reopens};
+    ghost use Rattle.script_player.specs.Session.{life_of};
 
     /// Opens the store on the disk, whose write or sync of this number is cut short, or none at 0.
     /// Where the restart is refused, the disk comes back.
@@ -100,8 +102,8 @@ impl Session {
         self.store.life()
     }
 
-    /// The disk, with what was written to it. A crash of it leaves what a restart takes back to a prefix of what was served,
-    /// with everything that a reply has told to be safe.
+    /// The disk, with what was written to it. A crash of it leaves what a restart takes back to a prefix of what was
+    /// served, with everything that a reply has told to be safe.
     pub fn into_disk(self) -> Disk
         ensures disk { result ≡ disk_of self }
         ensures survives { LeavesItsRun self }
@@ -131,7 +133,8 @@ impl Session {
 
     /// Serves one event.
     pub fn serve(&mut self, event: Event) -> Result<Answer, Stopped>
-        ensures { (reply : Reply Global) × ServesEvent event reply self.old self.new × (result ≡ outcome_of self.new reply) }
+        ensures { (reply : Reply Global) × ServesEvent event reply self.old self.new
+            × (result ≡ outcome_of self.new reply) }
     {
         let reply = self.store.serve(event);
         self.outcome_of(reply)
@@ -145,10 +148,11 @@ impl Session {
         self.outcome_of(reply)
     }
 
-    /// Flushes until every record made is synced, or a flush or a copy is refused. Where the log is full, an image is taken and
-    /// made current, and it goes on.
+    /// Flushes until every record made is synced, or a flush or a copy is refused. Where the log is full, an image is
+    /// taken and made current, and it goes on.
     pub fn flush(&mut self) -> Result<Answer, Stopped>
-        ensures { (reply : Reply Global) × Flushes (last_made self.old) reply self.old self.new × (result ≡ outcome_of self.new reply) }
+        ensures { (reply : Reply Global) × Flushes (last_made self.old) reply self.old self.new
+            × (result ≡ outcome_of self.new reply) }
     {
         let reply = self.store.flush();
         self.outcome_of(reply)
@@ -178,8 +182,8 @@ impl Session {
         }
     }
 
-    /// Prints each row, in the order of their places, then each entry of the index, in the order of their pairs, and how
-    /// far the index is.
+    /// Prints each row, in the order of their places, then each entry of the index, in the order of their pairs, and
+    /// how far the index is.
     pub fn dump<W: Write>(&self, output: &mut W) -> io::Result<()>
         ensures { OnOk result (Appends (W.contents output.old) (W.contents output.new) (dump_text self.now.store)) }
     {

@@ -75,12 +75,14 @@ later_whole start p (e ∷ es) h b =
 behind_all : (p : Pair) (es : List Entry) → T (below_all pair_cmp p es) → later (Some p) es ≡ es
 behind_all p [] b = refl
 behind_all p (e ∷ es) b =
-    ap (λ (o : Ordering). cond (is_lt o) (e ∷ later (Some p) es) (later (Some p) es)) (less_is (pair_cmp p e.0) (first _ _ b)) ∙ ap (λ (l : List Entry). e ∷ l) (behind_all p es (second _ _ b))
+    ap (λ (o : Ordering). cond (is_lt o) (e ∷ later (Some p) es) (later (Some p) es)) (less_is (pair_cmp p e.0) (first _ _ b))
+    ∙ ap (λ (l : List Entry). e ∷ l) (behind_all p es (second _ _ b))
 
 none_below : (p q : Pair) (es : List Entry) → pair_cmp p q ≡ Less → T (below_all pair_cmp q es) → map.find pair_cmp p es ≡ None
 none_below p q [] l b = refl
 none_below p q (e ∷ es) l b =
-    ap (λ (o : Ordering). cond (is_eq o) (Some e.1) (map.find pair_cmp p es)) (pair_cmp_total.trans p q e.0 l (less_is (pair_cmp q e.0) (first _ _ b))) ∙ none_below p q es l (second _ _ b)
+    ap (λ (o : Ordering). cond (is_eq o) (Some e.1) (map.find pair_cmp p es)) (pair_cmp_total.trans p q e.0 l (less_is (pair_cmp q e.0) (first _ _ b)))
+    ∙ none_below p q es l (second _ _ b)
 
 -- ---- what is found
 
@@ -97,7 +99,8 @@ some_is x y e = cc
 -- no entry comes after the start
 pub none_later : (start : Option Pair) (es : List Entry) → ((q : Pair) → IsAfter start q → map.find pair_cmp q es ≡ None) → later start es ≡ []
 none_later start [] h = refl
-none_later start (e ∷ es) h = by_test (is_after start e.0) refl (none_later start es (λ q after. none_behind (eq_by_cmp pair_cmp q e.0) e.1 (map.find pair_cmp q es) (h q after)))
+none_later start (e ∷ es) h = by_test (is_after start e.0) refl
+    (none_later start es (λ q after. none_behind (eq_by_cmp pair_cmp q e.0) e.1 (map.find pair_cmp q es) (h q after)))
   where
     by_test : (b : Bool) → is_after start e.0 ≡ b → later start es ≡ [] → cond b (e ∷ later start es) (later start es) ≡ []
     by_test true is rest = let none = sym (found_first e es) ∙ h e.0 (is_later start e.0 is) in absurd (cc (none))
@@ -108,7 +111,8 @@ pub least_later : (start : Option Pair) (p : Pair) (m : Mark) (es : List Entry) 
     → ((q : Pair) → IsAfter start q → pair_cmp q p ≡ Less → map.find pair_cmp q es ≡ None) → later start es ≡ (p, m) ∷ later (Some p) es
 least_later start p m [] sorted after found least = absurd (cc (found))
 least_later start p m (e ∷ es) sorted after found least =
-    by_order (pair_cmp p e.0) refl found (λ there. least_later start p m es (second _ _ sorted) after there (λ q a l. none_behind (eq_by_cmp pair_cmp q e.0) e.1 (map.find pair_cmp q es) (least q a l)))
+    by_order (pair_cmp p e.0) refl found (λ there. least_later start p m es (second _ _ sorted) after there (λ q a l.
+    none_behind (eq_by_cmp pair_cmp q e.0) e.1 (map.find pair_cmp q es) (least q a l)))
   where
     -- an entry before the pair isn't after the start
     passed : (b : Bool) → pair_cmp e.0 p ≡ Less → is_after start e.0 ≡ b → cond b (e ∷ later start es) (later start es) ≡ later start es
@@ -135,6 +139,8 @@ least_later start p m (e ∷ es) sorted after found least =
 pub none_left : (index : Index) (start : Option Pair) → IsLeastAbove index start None → later start (map.entries index) ≡ []
 none_left index start h = none_later start (map.entries index) (λ q after. sym (map.get-entries index q) ∙ h q after)
 
-pub one_left : (index : Index) (start : Option Pair) (p : Pair) (m : Mark) → IsLeastAbove index start (Some (p, m)) → later start (map.entries index) ≡ (p, m) ∷ later (Some p) (map.entries index)
+pub one_left : (index : Index) (start : Option Pair) (p : Pair) (m : Mark) → IsLeastAbove index start (Some (p, m))
+    → later start (map.entries index) ≡ (p, m) ∷ later (Some p) (map.entries index)
 one_left index start p m h =
-    least_later start p m (map.entries index) (map.entries_sorted index) h.0 (sym (map.get-entries index p) ∙ h.1) (λ q after low. sym (map.get-entries index q) ∙ h.2 q after low)
+    least_later start p m (map.entries index) (map.entries_sorted index) h.0 (sym (map.get-entries index p) ∙ h.1) (λ q after low. sym (map.get-entries index q)
+    ∙ h.2 q after low)

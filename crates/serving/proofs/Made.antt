@@ -18,14 +18,17 @@ module _ {D W : Type 0} (history : D → History) (failures : D → ℕ) (conten
   -- a step that is not the last one, before those that follow
   pub one_step : (count : ℕ) (outcome : Outcome) (old mid new : GuardedStore D) (before between after : W) (told : Answer)
       → Tells history failures contents event told old mid before between → is_last_step told ≡ false
-      → MakesSteps history failures contents event count outcome mid new between after → MakesSteps history failures contents event (count + 1) outcome old new before after
+      → MakesSteps history failures contents event count outcome mid new between after
+      → MakesSteps history failures contents event (count + 1) outcome old new before after
   one_step count outcome old mid new before between after told tells goes (answers, last, at, made, ends) =
       (told ∷ answers, last, at, (mid, between, tells, goes, made), by_end ends)
     where
       by_end : ((length answers ≡ count) × (outcome ≡ Other) × (new ≡ last) × (after ≡ at))
-          ⊎ ((length answers < count) × (final : Answer) × Tells history failures contents event final last new at after × (is_last_step final ≡ true) × (outcome ≡ outcome_of final))
+          ⊎ ((length answers < count) × (final : Answer) × Tells history failures contents event final last new at after × (is_last_step final ≡ true)
+          × (outcome ≡ outcome_of final))
           → ((length (told ∷ answers) ≡ count + 1) × (outcome ≡ Other) × (new ≡ last) × (after ≡ at))
-          ⊎ ((length (told ∷ answers) < count + 1) × (final : Answer) × Tells history failures contents event final last new at after × (is_last_step final ≡ true) × (outcome ≡ outcome_of final))
+          ⊎ ((length (told ∷ answers) < count + 1) × (final : Answer) × Tells history failures contents event final last new at after
+          × (is_last_step final ≡ true) × (outcome ≡ outcome_of final))
       by_end (inl h) = inl (omega (arith, h.0), h.1, h.2, h.3)
       by_end (inr h) = inr (omega (arith, h.0), h.1, h.2, h.3, h.4)
 

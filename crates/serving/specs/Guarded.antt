@@ -38,7 +38,8 @@ module _ {D : Type 0} (history : D → History) (failures : D → ℕ) where
 
   -- all records were flushed, or the final flush or copy had this reply
   abbrev pub FlushesGuarded : Reply Global → GuardedStore D → GuardedStore D → Type 0
-  FlushesGuarded reply old new = Flushes history failures (last_made old.store) reply old.store new.store × Notes reply old new
+  FlushesGuarded reply old new = Flushes history failures (last_made old.store) reply old.store new.store
+      × Notes reply old new
 
   -- an image was taken and made current, or the final copy had this reply
   abbrev pub TakesImageGuarded : Reply Global → GuardedStore D → GuardedStore D → Type 0

@@ -40,12 +40,15 @@ module _ {D W : Type 0} (history : D → History) (failures : D → ℕ) (conten
       (mid : GuardedStore D) × (between : W) × Tells event told old mid before between × (is_last_step told ≡ false)
       × PrintsSteps event answers mid new between after
 
-  -- As many steps of this kind as were asked for were made. Or fewer: one more had the last answer, which is what came of it.
+  -- As many steps of this kind as were asked for were made. Or fewer: one more had the last answer, which is what came
+  -- of it.
   abbrev pub MakesSteps : Event → ℕ → Outcome → GuardedStore D → GuardedStore D → W → W → Type 0
   MakesSteps event count outcome old new before after =
-      (answers : List Answer) × (mid : GuardedStore D) × (between : W) × PrintsSteps event answers old mid before between
+      (answers : List Answer) × (mid : GuardedStore D) × (between : W)
+      × PrintsSteps event answers old mid before between
       × (((length answers ≡ count) × (outcome ≡ Other) × (new ≡ mid) × (after ≡ between))
-      ⊎ ((length answers < count) × (told : Answer) × Tells event told mid new between after × (is_last_step told ≡ true)
+      ⊎ ((length answers < count) × (told : Answer) × Tells event told mid new between after
+      × (is_last_step told ≡ true)
       × (outcome ≡ outcome_of told)))
 
   -- The request was served, and what came of it was printed.

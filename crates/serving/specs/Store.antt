@@ -44,20 +44,20 @@ module _ {D : Type 0} where
   last_made s = (core_of s.engine).last
 
 module _ {D : Type 0} (history : D → History) where
-  -- The store was opened on this device. Whatever run of an engine left the device so, it holds a prefix of that run, with all
-  -- that the run had to keep.
+  -- The store was opened on this device. Whatever run of an engine left the device so, it holds a prefix of that run,
+  -- with all that the run had to keep.
   pub record OpensOn (device : D) (opened_store : Store D) : Type 0 where
     pub opened : IsOpened history device opened_store.engine
     pub recovers : RecoversAnyRun history device opened_store.engine
 
-  -- Whatever run left the engine where it is: a crash of this device leaves that run, with every record up to the horizon, and so with
-  -- all that a reply has told to be safe.
+  -- Whatever run left the engine where it is: a crash of this device leaves that run, with every record up to the
+  -- horizon, and so with all that a reply has told to be safe.
   abbrev pub LeavesItsRun : Store D → D → Type 0
   LeavesItsRun s device = KeepsRun history s.engine device
 
 module _ {D : Type 0} (history : D → History) (failures : D → ℕ) where
-  -- No store was opened on this device, and it came back so. What a run of an engine left is refused only for want of memory, or
-  -- where the device failed in the call.
+  -- No store was opened on this device, and it came back so. What a run of an engine left is refused only for want of
+  -- memory, or where the device failed in the call.
   pub record IsRefusedOn (device after : D) (e : Error) : Type 0 where
     pub not_opened : IsNotOpened history failures device after e
     pub readable : RefusesNoRun Global history failures device after e

@@ -46,8 +46,8 @@ impl<D: Device> GuardedStore<D> {
         Ok(Outcome::Other)
     }
 
-    /// Serves a request, prints its answers, and tells what came of it. A crash is none that a device itself can make: it is
-    /// answered `skipped`.
+    /// Serves a request, prints its answers, and tells what came of it. A crash is none that a device itself can make:
+    /// it is answered `skipped`.
     ///
     /// The error is the output's, and then the request was served in part or whole.
     pub fn answer<W: Write>(&mut self, request: Request, output: &mut W) -> io::Result<Outcome>

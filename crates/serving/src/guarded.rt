@@ -8,8 +8,8 @@ use restart::{Event, Reply};
 use sector_device::Device;
 use std::alloc::Global;
 
-/// A store that refuses each commit with `DeviceFailed` once a flush or a copy of it was: what is committed then can't become safe
-/// before the store is opened again.
+/// A store that refuses each commit with `DeviceFailed` once a flush or a copy of it was: what is committed then can't
+/// become safe before the store is opened again.
 #[derive(Drop)]
 pub struct GuardedStore<D: Device> {
     pub store: Store<D>,

@@ -32,7 +32,8 @@ fn dump_entry<W: Write>(pair: Pair, mark: Mark, output: &mut W) -> io::Result<()
 impl<D: Device> Store<D> {
     ghost use Rattle.nsf_core.specs.Value.{value_of};
     ghost use Rattle.restart.specs.Parts.{core_of};
-    ghost use Rattle.serving.specs.Store.{OpensOn, IsRefusedOn, LeavesItsRun, device_of, last_made, Serves, TakesImage, Flushes, horizon_of, rows_of, entries_of, life_of};
+    ghost use Rattle.serving.specs.Store.{OpensOn, IsRefusedOn, LeavesItsRun, device_of, last_made, Serves, TakesImage};
+    ghost use Rattle.serving.specs.Store.{Flushes, horizon_of, rows_of, entries_of, life_of};
 
     /// Opens the store on the device. Where the restart is refused, the device comes back.
     pub fn open(alloc: Global, device: D) -> Result<Self, (Error, D)>
@@ -73,8 +74,8 @@ impl<D: Device> Store<D> {
         self.engine.device()
     }
 
-    /// The device, with what was written to it. A crash of it leaves what a restart takes back to a prefix of what was served,
-    /// with every record up to the horizon, and so with everything that a reply has told to be safe.
+    /// The device, with what was written to it. A crash of it leaves what a restart takes back to a prefix of what was
+    /// served, with every record up to the horizon, and so with everything that a reply has told to be safe.
     pub fn into_device(self) -> D
         ensures device { result ≡ device_of self }
         ensures survives { LeavesItsRun D.history self result }
@@ -96,8 +97,8 @@ impl<D: Device> Store<D> {
         self.engine.take_image()
     }
 
-    /// Flushes until every record made is synced, or a flush or a copy is refused. Where the log is full, an image is taken and
-    /// made current, and it goes on.
+    /// Flushes until every record made is synced, or a flush or a copy is refused. Where the log is full, an image is
+    /// taken and made current, and it goes on.
     pub fn flush(&mut self) -> Reply<Global>
         ensures { Flushes D.history D.failures (last_made self.old) result self.old self.new }
     {
@@ -106,7 +107,8 @@ impl<D: Device> Store<D> {
 
     // Prints the row at the place, if there is one.
     fn dump_row<W: Write>(&self, rid: Rid, output: &mut W) -> io::Result<()>
-        ensures { OnOk result (Appends (W.contents output.old) (W.contents output.new) (row_line (rows_of self.now) rid)) }
+        ensures { OnOk result (Appends (W.contents output.old) (W.contents output.new)
+            (row_line (rows_of self.now) rid)) }
     {
         match self.engine.core().get(rid) {
             Some(row) => {
@@ -119,7 +121,8 @@ impl<D: Device> Store<D> {
 
     // Prints the rows of a page, in the order of their slots.
     fn dump_page<W: Write>(&self, page: u32, output: &mut W) -> io::Result<()>
-        ensures { OnOk result (Appends (W.contents output.old) (W.contents output.new) (slot_lines (rows_of self.now) page SLOTS_PER_PAGE)) }
+        ensures { OnOk result (Appends (W.contents output.old) (W.contents output.new)
+            (slot_lines (rows_of self.now) page SLOTS_PER_PAGE)) }
     {
         for slot in 0..SLOTS_PER_PAGE {
             self.dump_row(Rid { page, slot }, output)?;
@@ -136,7 +139,8 @@ impl<D: Device> Store<D> {
 
     // Prints the entries of the index, in the order of their pairs.
     fn dump_entries<W: Write>(&self, output: &mut W) -> io::Result<()>
-        ensures { OnOk result (Appends (W.contents output.old) (W.contents output.new) (entry_lines (entries_of self.now))) }
+        ensures { OnOk result (Appends (W.contents output.old) (W.contents output.new)
+            (entry_lines (entries_of self.now))) }
     {
         let mut last = None;
         while let Some(entry) = self.entry_above(last) {
@@ -146,8 +150,8 @@ impl<D: Device> Store<D> {
         Ok(())
     }
 
-    /// Prints each row, in the order of their places, then each entry of the index, in the order of their pairs, and how
-    /// far the index is.
+    /// Prints each row, in the order of their places, then each entry of the index, in the order of their pairs, and
+    /// how far the index is.
     pub fn dump<W: Write>(&self, output: &mut W) -> io::Result<()>
         ensures { OnOk result (Appends (W.contents output.old) (W.contents output.new) (dump_text self.now)) }
     {

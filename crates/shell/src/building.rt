@@ -114,7 +114,8 @@ impl Build {
         Ok(())
     }
 
-    /// Builds the index to its end, and answers how many pairs were attempted. What is shown of that stands on a line of its own.
+    /// Builds the index to its end, and answers how many pairs were attempted. What is shown of that stands on a line
+    /// of its own.
     pub fn run<D: Device, E: Write>(
         self,
         store: &mut Store<D>,

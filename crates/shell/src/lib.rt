@@ -1,12 +1,13 @@
-//! The program `nsf-store` over what it reads and writes: a store in a file, and the verbs that make, serve and show it.
+//! The program `nsf-store` over what it reads and writes: a store in a file, and the verbs that make, serve and show
+//! it.
 //!
-//! Only tested: what the verbs print, how they end, and what they say of a file that is no store. The steps below have the promises of
-//! `serving` and `file_disk`.
+//! Only tested: what the verbs print, how they end, and what they say of a file that is no store. The steps below have
+//! the promises of `serving` and `file_disk`.
 //!
 //! `Refused` says why a file or a store was refused, also to `nsf-threads`.
 //!
-//! Proved: that it is safe, and meets what the calls below ask. What a move of a store of version 1 leaves on both disks, `moving`
-//! promises.
+//! Proved: that it is safe, and meets what the calls below ask. What a move of a store of version 1 leaves on both
+//! disks, `moving` promises.
 #![tactic(auto)]
 
 mod asked;

@@ -62,8 +62,8 @@ fn finish<R: Files<File = File> + AllocGlobal, O: Device, N: Device + Troubled +
     }
 }
 
-// Moves the store of version 1 on the old disk to a new file. Where that is refused before the new file has its name, no file is
-// left, if the draft can be removed.
+// Moves the store of version 1 on the old disk to a new file. Where that is refused before the new file has its name,
+// no file is left, if the draft can be removed.
 fn move_to<R: Files<File = File> + AllocGlobal, O: Device>(
     rt: &R,
     old: &mut O,
@@ -81,9 +81,9 @@ fn move_to<R: Files<File = File> + AllocGlobal, O: Device>(
     moved
 }
 
-/// Moves the store of version 1 in the old file, which is only read and locked to the end, to a new file. Where that is refused before the new file has
-/// its name, no file is left, if the draft can be removed. What is wrong with the old file is told before what is wrong with the new
-/// one.
+/// Moves the store of version 1 in the old file, which is only read and locked to the end, to a new file. Where that is
+/// refused before the new file has its name, no file is left, if the draft can be removed. What is wrong with the old
+/// file is told before what is wrong with the new one.
 pub fn migrate_file<R: Files<File = File> + AllocGlobal>(
     rt: &R,
     old: &str,

@@ -61,8 +61,8 @@ fn finish<R: Files<File = File> + AllocGlobal, D: Device + Troubled + Drop>(
     Ok(())
 }
 
-// Makes a store of this geometry in a new file. Where that is refused before the file has its name, no file is left, if the draft
-// can be removed.
+// Makes a store of this geometry in a new file. Where that is refused before the file has its name, no file is left, if
+// the draft can be removed.
 fn make<R: Files<File = File> + AllocGlobal>(
     rt: &R,
     path: &str,
@@ -76,7 +76,8 @@ fn make<R: Files<File = File> + AllocGlobal>(
     made
 }
 
-// What follows does one verb on a disk, and then on that of a file: what a file is, is behind none of the store's own calls.
+// What follows does one verb on a disk, and then on that of a file: what a file is, is behind none of the store's own
+// calls.
 
 // Builds the index on the disk to its end.
 fn build_disk<D: Device + Troubled + Drop, W: Write, E: Write>(
@@ -168,8 +169,8 @@ fn stat_file<R: Files<File = File>, W: Write>(
     stat_disk(alloc, file_disk::read(rt, alloc, path)?, output)
 }
 
-// Serves the input over the store on the disk, and tells whether each line was one of a script. Behind the last line what is not
-// flushed yet is flushed.
+// Serves the input over the store on the disk, and tells whether each line was one of a script. Behind the last line
+// what is not flushed yet is flushed.
 fn run_disk<D: Device + Troubled + Drop, I: BufRead, W: Write, E: Write>(
     alloc: Global,
     disk: D,
@@ -268,9 +269,9 @@ fn answer<R: Files<File = File> + AllocGlobal, I: BufRead, W: Write, E: Write>(
     }
 }
 
-/// Runs the program on these words, the first of which is its own name, and answers its exit status: 0 where what they ask for was
-/// done, refused commands included; 1 where the file or the store was refused, of which the error stream says why, or a line of the
-/// input was no command; 2 for bad words.
+/// Runs the program on these words, the first of which is its own name, and answers its exit status: 0 where what they
+/// ask for was done, refused commands included; 1 where the file or the store was refused, of which the error stream
+/// says why, or a line of the input was no command; 2 for bad words.
 pub fn run<R: Files<File = File> + AllocGlobal, S: AsStr, I: BufRead, W: Write, E: Write>(
     rt: &R,
     words: &[S],

@@ -135,9 +135,9 @@ impl<D: Device + Troubled> Service<D> {
         }
     }
 
-    /// Serves the commands of the input until its end, each of which is answered before the next line is read, and tells whether
-    /// each line was one of a script; a line that is none is answered with its number, and passed over. Where the index is full,
-    /// the error stream tells once what helps, and where the device failed, why.
+    /// Serves the commands of the input until its end, each of which is answered before the next line is read, and
+    /// tells whether each line was one of a script; a line that is none is answered with its number, and passed over.
+    /// Where the index is full, the error stream tells once what helps, and where the device failed, why.
     pub fn serve_lines<I: BufRead, W: Write, E: Write>(
         &mut self,
         alloc: Global,

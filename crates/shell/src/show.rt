@@ -67,8 +67,8 @@ fn write_geometry<W: Write>(geometry: Geometry, output: &mut W) -> io::Result<()
     writeln!(output, "slots {slots}")
 }
 
-// Prints how many rows and entries there are, and how many of the index's places are free. No transaction is active behind an
-// opening, so none is reserved.
+// Prints how many rows and entries there are, and how many of the index's places are free. No transaction is active
+// behind an opening, so none is reserved.
 fn write_counts<W: Write>(core: &Core<Global>, places: u32, output: &mut W) -> io::Result<()> {
     let rows = rows_in(core);
     let (live, marked) = entries_in(core);

@@ -14,7 +14,8 @@ pub const GROUP: &[u8] = b"\0\x02\0\x31\
 /// The superblock of the least store of version 1.
 pub const SUPERBLOCK_1: Edit<'_> = (0, 0, b"NSFINDEX\0\0\0\x01\0\0\0\x01\0\0\0\x40\0\0\0\x04");
 
-/// The least store of version 1, as record 6 left it: a row, and an index that is built up to its pair, behind a marked entry.
+/// The least store of version 1, as record 6 left it: a row, and an index that is built up to its pair, behind a marked
+/// entry.
 pub const BUILDING_1: &[Edit<'_>] = &[
     SUPERBLOCK_1,
     (2, 0, b"\x01\x01\x03ant"),

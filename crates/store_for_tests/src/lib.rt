@@ -1,5 +1,5 @@
-//! A store in memory, for tests. No call promises anything before it runs, and clauses see nothing of a disk or of a store,
-//! which keeps the proofs of tests small.
+//! A store in memory, for tests. No call promises anything before it runs, and clauses see nothing of a disk or of a
+//! store, which keeps the proofs of tests small.
 #![tactic(auto)]
 
 mod answer;

@@ -31,7 +31,8 @@ fn left_by<M: StoreMemory>(memory: M, alloc: Global, events: &[Event]) -> Result
     Ok(disk)
 }
 
-// The first restart makes half B current: half A is in sectors 2 to 1083, half B begins at 1084, and its first gate is in 2134.
+// The first restart makes half B current: half A is in sectors 2 to 1083, half B begins at 1084, and its first gate is
+// in 2134.
 #[test]
 fn a_store_byte_by_byte(rt: HostRuntime) -> Result<(), Fail> {
     let memory = ample(rt.alloc());

@@ -17,8 +17,8 @@ const SCRIPT: &str = "begin\ninsert 1 =a =\ninsert 1 =b =\ncommit 1\ncreate\nflu
 // The calls of a device that may fail, and what becomes then of the sectors that are not synced.
 type Case = (Which, Fate);
 
-// The requests of a script, what they are answered while nothing fails, and what the store holds at first and whenever all is told to be
-// safe.
+// The requests of a script, what they are answered while nothing fails, and what the store holds at first and whenever
+// all is told to be safe.
 #[derive(Drop)]
 struct Whole<'a> {
     events: &'a [Event],
@@ -82,8 +82,8 @@ fn is_for_device(event: &Event) -> bool {
     matches!(event, Event::Flush | Event::Copy)
 }
 
-// Takes the answer to a request: whether it may be this, where that is answered while nothing fails. A failure of the device is told,
-// and from then on whenever the device is asked; all other answers stay.
+// Takes the answer to a request: whether it may be this, where that is answered while nothing fails. A failure of the
+// device is told, and from then on whenever the device is asked; all other answers stay.
 fn take_answer(told: &mut Told, event: &Event, answer: &Answer, wanted: &Answer) -> bool {
     if is_for_device(event) && (told.failed || *answer == FAILED) {
         told.failed = true;
@@ -132,8 +132,8 @@ fn run_over<M: StoreMemory>(
     }
 }
 
-// What a run that was stopped had told to be safe, what a crash left of it, and whether the device has failed, and a restart was
-// stopped too.
+// What a run that was stopped had told to be safe, what a crash left of it, and whether the device has failed, and a
+// restart was stopped too.
 #[derive(Clone, Copy)]
 struct Stopped {
     safe: u64,
@@ -142,8 +142,8 @@ struct Stopped {
     again: bool,
 }
 
-// Opens the store that is left on the disk, once a restart was stopped at this of its calls, and another one. What is held then, and
-// whether a restart was stopped.
+// Opens the store that is left on the disk, once a restart was stopped at this of its calls, and another one. What is
+// held then, and whether a restart was stopped.
 fn held_at_last<M: StoreMemory>(
     rt: &impl Abort,
     memory: M,
@@ -169,7 +169,8 @@ fn held_at_last<M: StoreMemory>(
     Err("a restart that is not stopped")?
 }
 
-// The device fails at this of those calls, and then the restarts behind it at that of theirs. Just where it fails, that is told.
+// The device fails at this of those calls, and then the restarts behind it at that of theirs. Just where it fails, that
+// is told.
 fn stop_at(
     rt: &impl Abort,
     alloc: Global,
@@ -215,8 +216,8 @@ fn stop_restarts(
     Err("fewer calls of a restart")?
 }
 
-// Stops a run at each of those calls in turn. What is left is what the store held as all was told to be safe, with all that was
-// told to be so, and never less than a stop before left.
+// Stops a run at each of those calls in turn. What is left is what the store held as all was told to be safe, with all
+// that was told to be so, and never less than a stop before left.
 fn stop_at_each(
     rt: &impl Abort,
     alloc: Global,
@@ -254,8 +255,8 @@ fn stop(rt: &impl Abort, alloc: Global, cases: &[(Case, u64)]) -> Result<(), Fai
     Ok(())
 }
 
-// The calls that change what is kept fail in turn, with each fate of what is not synced, and behind each of them each such call
-// of a restart.
+// The calls that change what is kept fail in turn, with each fate of what is not synced, and behind each of them each
+// such call of a restart.
 
 const WRITES: Which = Which::WritesAndSyncs;
 

@@ -8,7 +8,8 @@ use std::process::Abort;
 use std::test::Fail;
 use store_for_tests::{Answer, Contents, Disk, OpenStore, StoreMemory, ample, open, requests};
 
-// The number of a record that an answer tells of: one to wait for, or the last that is safe. Of a piece that is copied, 0.
+// The number of a record that an answer tells of: one to wait for, or the last that is safe. Of a piece that is copied,
+// 0.
 fn number_of(answer: &Answer) -> Option<u64> {
     match answer {
         Answer::Copied => Some(0),
@@ -50,8 +51,8 @@ fn held_on<M: StoreMemory>(memory: M, disk: Disk) -> Result<(Contents, usize), F
     Ok(held)
 }
 
-// One run of the script over so many pages and slots tells these numbers, and ends with a flip. What a crash leaves then, and how many
-// entries.
+// One run of the script over so many pages and slots tells these numbers, and ends with a flip. What a crash leaves
+// then, and how many entries.
 fn flip(
     rt: &impl Abort,
     alloc: Global,

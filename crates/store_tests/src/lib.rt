@@ -1,7 +1,7 @@
 //! Tests of the crate that opens a store and serves it, `restart`.
 //!
-//! Each allocation is refused in turn, and each call of the device fails in turn, with each fate; damaged stores are refused by
-//! name. Proved of them is safety.
+//! Each allocation is refused in turn, and each call of the device fails in turn, with each fate; damaged stores are
+//! refused by name. Proved of them is safety.
 #![tactic(auto)]
 
 #[cfg(test)]

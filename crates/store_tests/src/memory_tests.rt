@@ -1,5 +1,5 @@
-// Memory is refused to a store, each allocation in turn. What was refused for want of memory is asked again, and every other
-// reply is that of a store to which nothing was refused.
+// Memory is refused to a store, each allocation in turn. What was refused for want of memory is asked again, and every
+// other reply is that of a store to which nothing was refused.
 use nsf_core::BuildReply;
 use records::Error;
 use refused_memory::Refusing;
@@ -42,8 +42,8 @@ fn ask_again<M: StoreMemory>(
     }
 }
 
-// What a play of requests gave: the answers, the place of the request that was made again, what a crash leaves then, and how many
-// allocations were refused.
+// What a play of requests gave: the answers, the place of the request that was made again, what a crash leaves then,
+// and how many allocations were refused.
 #[derive(Drop)]
 struct Played {
     answers: Vec<Answer>,
@@ -110,7 +110,8 @@ fn play(
     play_in(rt, &Refusing::new(alloc, before), alloc, requests)
 }
 
-// Refuses each allocation in turn, and at last none. What was answered, and which of these answers were to a second request.
+// Refuses each allocation in turn, and at last none. What was answered, and which of these answers were to a second
+// request.
 fn refuse_each(
     rt: &impl Abort,
     alloc: Global,
@@ -150,8 +151,8 @@ const TAKEN_BACK: &str = "create\nbegin\ninsert 1 =k =\nbuild\nundo 1\nundo 1\nu
 const UPDATED: &str = "begin\ninsert 1 =p =1\ncommit 1\ncreate\nbegin\nupdate 2 0.0 =q =2\n\
     begin\ndelete 3 0.0\nstep 2\nundo 2\nundo 2\nundo 2\nundo 2\nend 2\nend 3\nflush\n";
 
-// Behind the insertion of 64 rows: a row is deleted behind the scan, its entry is taken out at the checkpoint, and another
-// deletion comes to no end.
+// Behind the insertion of 64 rows: a row is deleted behind the scan, its entry is taken out at the checkpoint, and
+// another deletion comes to no end.
 const OVER_TWO_PAGES: &str = "commit 1\ncreate\nbuild 2\nbegin\ndelete 2 1.0\nstep 2\ncommit 2\n\
     clean 2\nflush\nbuild 65\nclean 64\nbegin\ndelete 3 0.0\nclean 2\nflush\n";
 
@@ -174,8 +175,8 @@ fn is_of_complete(answer: &Answer) -> bool {
     )
 }
 
-// Each case is a script, over so many pages, of which at least so many requests are made again, and so many at the end of a build or of
-// a complete index.
+// Each case is a script, over so many pages, of which at least so many requests are made again, and so many at the end
+// of a build or of a complete index.
 #[test]
 fn each_allocation_is_refused(rt: HostRuntime) -> Result<(), Fail> {
     let large = behind_rows(rt.alloc(), 64, OVER_TWO_PAGES)?;

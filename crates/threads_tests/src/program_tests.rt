@@ -142,8 +142,8 @@ fn the_error_stream_tells_why_nothing_was_printed(rt: HostRuntime) -> Result<(),
     Ok(())
 }
 
-// What is refused to four writers of 20 commits each where a write or sync fails, this far behind the opening; and how many are
-// acknowledged.
+// What is refused to four writers of 20 commits each where a write or sync fails, this far behind the opening; and how
+// many are acknowledged.
 fn refused_at<R: Threads + Wait + Clock + Sync>(
     rt: &R,
     alloc: Global,
@@ -164,7 +164,8 @@ fn refused_at<R: Threads + Wait + Clock + Sync>(
     }
 }
 
-// Where nothing fails, all 80 commits are acknowledged; else a writer, the flusher and the end are told that the device has failed.
+// Where nothing fails, all 80 commits are acknowledged; else a writer, the flusher and the end are told that the device
+// has failed.
 #[test]
 fn a_failure_is_told(rt: HostRuntime) -> Result<(), Fail> {
     for behind in [None, Some(1), Some(30), Some(60), Some(100)] {

@@ -12,7 +12,8 @@ returns-in_err-ack-clause-err g c =
     let after = c.await_ack.new.seat in
     on_err c.from_residual-in_err-ack.result
     (adds_one c.args.seat.now after c.in_ok-ticket.ticket (keeps_commits c.args.seat.now begun after c.in_ok-ticket.ticket c.in_ok-ticket.ensures.ok
-    (waited_keeps c.in_err-ack.field-0.0 begun (record begun { sight = record begun.sight { horizon = after.sight.horizon } }) after refl refl c.in_err-ack.ensures.why)))
+    (waited_keeps c.in_err-ack.field-0.0 begun (record begun { sight = record begun.sight { horizon = after.sight.horizon } }) after refl refl
+    c.in_err-ack.ensures.why)))
 
 pub returns-clause-ok : goal.returns-clause-ok
 returns-clause-ok g c = (

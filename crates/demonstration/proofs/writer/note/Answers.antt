@@ -12,7 +12,8 @@ returns-clause-tells g c tells =
     let made = subst (λ (o : Option (Ticket × AckValue)). IfSome o (λ a. HasMade w.seat a.0 × (a.1.ticket ≡ a.0))) c.in-Some.is c.requires in
     subst (λ (list : List AckValue). Tells w.seat list c.push-2.new.self.items) (sym c.in_ok-push.ensures.items)
     (subst (λ (list : List Acknowledged). Tells w.seat (w.acks.items ++ c.in-Some.ack ∷ []) list) (sym c.in_ok-push-2.ensures.items)
-    (tells_one w.seat w.acks.items c.in-Some.ack w.acknowledged.items (record { writer = w.number; change = c.args.turn.change; ticket = c.in-Some.ticket }) made.0 made.1 tells))
+    (tells_one w.seat w.acks.items c.in-Some.ack w.acknowledged.items
+    (record { writer = w.number; change = c.args.turn.change; ticket = c.in-Some.ticket }) made.0 made.1 tells))
 
 pub returns-in_err-push-2-clause-tells : goal.returns-in_err-push-2-clause-tells
 returns-in_err-push-2-clause-tells g c tells =

@@ -12,7 +12,8 @@ held_as c = record {
 }
 
 pub returns-clause-ok : goal.returns-clause-ok
-returns-clause-ok c = ok_map c.open_on.result (λ held opens. record { disk = c.in_ok-disk.disk; is_disk = held_as c; opens = opens.0; sound = opens.1 }) (ok_and _ _ c.open_on.result c.open_on.ensures.ok c.open_on.ensures.sound)
+returns-clause-ok c = ok_map c.open_on.result (λ held opens. record { disk = c.in_ok-disk.disk; is_disk = held_as c; opens = opens.0; sound = opens.1 })
+    (ok_and _ _ c.open_on.result c.open_on.ensures.ok c.open_on.ensures.sound)
 
 pub returns-clause-err : goal.returns-clause-err
 returns-clause-err c = err_map c.open_on.result (λ e why. elim why [

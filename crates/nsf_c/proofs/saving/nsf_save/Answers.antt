@@ -15,7 +15,8 @@ returns-clause-copied c =
       c.take-held.result.value,
       c.take-held.ensures.taken,
       c.put.ensures,
-      subst (λ (content : Image). CopiesOut content c.args.first c.copy_out-count.result c.args.room.now c.copy_out-count.new.room) content_is c.copy_out-count.ensures,
+      subst (λ (content : Image). CopiesOut content c.args.first c.copy_out-count.result c.args.room.now c.copy_out-count.new.room) content_is
+          c.copy_out-count.ensures,
     )
 
 pub returns-clause-kept : goal.returns-clause-kept

@@ -8,5 +8,9 @@ use Rattle.nsf_c.proofs.serving_calls.nsf_can_open.Goals as goal
 
 pub returns : goal.returns
 returns c =
-    let core_is = c.core.ensures ∙ ap (λ (h : Held). core_of h.store.store.engine) c.deref.ensures in
-    (c.take-held.result.value, c.take-held.ensures.taken, c.put.ensures, subst (λ (v : CoreValue). IsTrue c.can_open-is_sound.result ↔ CanOpen (opened_of v)) core_is c.can_open-is_sound.ensures)
+    let core_is = c.core.ensures ∙ ap (λ (h : Held). core_of h.store.store.engine) c.deref.ensures in (
+      c.take-held.result.value,
+      c.take-held.ensures.taken,
+      c.put.ensures,
+      subst (λ (v : CoreValue). IsTrue c.can_open-is_sound.result ↔ CanOpen (opened_of v)) core_is c.can_open-is_sound.ensures,
+    )

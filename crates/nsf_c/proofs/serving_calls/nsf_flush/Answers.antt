@@ -8,6 +8,12 @@ returns c =
     let new = c.flush-reply.new.self in
     record {
       reply = c.flush-reply.result;
-      moves = (_, _, c.take-held.ensures.taken, c.put.ensures, subst (λ (old : Held). Flushes c.flush-reply.result old.store new) c.deref_mut.ensures.value c.flush-reply.ensures);
+      moves = (
+        _,
+        _,
+        c.take-held.ensures.taken,
+        c.put.ensures,
+        subst (λ (old : Held). Flushes c.flush-reply.result old.store new) c.deref_mut.ensures.value c.flush-reply.ensures,
+      );
       tells = (c.status_of.ensures, c.told_of.ensures);
     }

@@ -15,5 +15,11 @@ returns c =
     let horizon = c.horizon.ensures ∙ ap (λ (h : Held). serving.horizon_of h.store.store) c.deref-2.ensures in
     let attempts = c.attempts.ensures ∙ ap (λ (v : CoreValue). v.attempts) core_is in
     let pages = c.pages.ensures.number ∙ ap (λ (v : CoreValue). v.heap.pages) core_is in
-    let life = ap (λ (t : Told). t.kind) c.life_told.ensures ∙ ap (λ (l : Life). (life_told l).kind) (c.life.ensures.life ∙ ap (λ (v : CoreValue). v.life) core_is) in
-    (c.take-held.result.value, c.take-held.ensures.taken, c.put.ensures, λ i. record { last = last i; horizon = horizon i; attempts = attempts i; pages = pages i; life = life i })
+    let life = ap (λ (t : Told). t.kind) c.life_told.ensures
+    ∙ ap (λ (l : Life). (life_told l).kind) (c.life.ensures.life ∙ ap (λ (v : CoreValue). v.life) core_is) in (
+      c.take-held.result.value,
+      c.take-held.ensures.taken,
+      c.put.ensures,
+      λ i.
+          record { last = last i; horizon = horizon i; attempts = attempts i; pages = pages i; life = life i },
+    )

@@ -17,8 +17,12 @@ loop-i-preserved c =
     let below_rids : i < length rids = omega (arith, c.loop-i-test.true, c.min-i-end.ensures) in
     let below_spots : i < length spots = omega (arith, c.loop-i-test.true, c.min-i-end.ensures, c.loop-i.invariant.0) in
     let is = c.spot_of.ensures ∙ ap spot_of (get_or_read rids i c.index-rids-i.result below_rids c.index-rids-i.is nowhere) in
-    subst (λ (s : Spot). (length (slice_set spots i s) ≡ length old) × ((k : ℕ) → k < i + 1 → spot_at (slice_set spots i s) k ≡ spot_of (rid_at rids k)) × ((k : ℕ) → i + 1 ≤ k → spot_at (slice_set spots i s) k ≡ spot_at old k)) (sym is)
-    (length-set spots i (spot_of (rid_at rids i)) ∙ c.loop-i.invariant.0, one_more rids old spots i below_spots c.loop-i.invariant.1, no_more rids old spots i below_spots c.loop-i.invariant.2)
+    subst (λ (s : Spot). (length (slice_set spots i s) ≡ length old) × ((k : ℕ) → k < i + 1 → spot_at (slice_set spots i s) k ≡ spot_of (rid_at rids k))
+    × ((k : ℕ) → i + 1 ≤ k → spot_at (slice_set spots i s) k ≡ spot_at old k)) (sym is) (
+      length-set spots i (spot_of (rid_at rids i)) ∙ c.loop-i.invariant.0,
+      one_more rids old spots i below_spots c.loop-i.invariant.1,
+      no_more rids old spots i below_spots c.loop-i.invariant.2,
+    )
 
 pub returns : goal.returns
 returns c = record {

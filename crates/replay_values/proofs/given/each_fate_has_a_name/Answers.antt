@@ -6,7 +6,8 @@ use Rattle.sector_device.specs.declared.call.Fate.TheVariants.{Old, New, Zero, G
 use Rattle.replay_values.proofs.given.each_fate_has_a_name.Goals as goal
 
 -- where a text or another one names a fate, it is the one or names the other's
-picked : (name known : List ℕ) (first : Fate) (others : Option Fate) (b : Bool) → bytes_eq name known ≡ b → IsSome (if b then Some first else others) → (name ≡ known) ⊎ IsSome others
+picked : (name known : List ℕ) (first : Fate) (others : Option Fate) (b : Bool) → bytes_eq name known ≡ b → IsSome (if b then Some first else others)
+    → (name ≡ known) ⊎ IsSome others
 picked name known first others true e some = inl ((bytes_eq-Decides name known).0 e)
 picked name known first others false e some = inr some
 

@@ -26,7 +26,8 @@ returns-then-is_last_step g c =
     let last : is_last_step c.in-Ok.answer ≡ true = sym c.is_last_step.ensures ∙ c.if-is_last_step.true in
     let some : 0 < c.args.count - c.loop.counter = omega (arith, c.loop-test.true) in
     c.loop.invariant.runs (Ok c.serve.new.self) c.print.new.output
-    (last_step g.W.Write.contents c.args.event.now (c.args.count - c.loop.counter) c.loop.session c.serve.new.self (Ok c.serve.new.self) c.loop.output c.print.new.output
+    (last_step g.W.Write.contents c.args.event.now (c.args.count - c.loop.counter) c.loop.session c.serve.new.self
+    (Ok c.serve.new.self) c.loop.output c.print.new.output
     answered.0 (Ok c.in-Ok.answer) some answered.1 answered.2 last (refl, c.in_ok-print-in-Ok.ensures))
 
 pub returns-in-Err : goal.returns-in-Err
@@ -35,7 +36,8 @@ returns-in-Err g c =
     let answered = c.in-Err.ensures in
     let some : 0 < c.args.count - c.loop.counter = omega (arith, c.loop-test.true) in
     c.loop.invariant.runs (stopped_on c.into_disk.result) c.loop.output
-    (last_step g.W.Write.contents c.args.event.now (c.args.count - c.loop.counter) c.loop.session c.serve.new.self (stopped_on c.into_disk.result) c.loop.output c.loop.output
+    (last_step g.W.Write.contents c.args.event.now (c.args.count - c.loop.counter) c.loop.session c.serve.new.self
+    (stopped_on c.into_disk.result) c.loop.output c.loop.output
     answered.0 (Err (record {})) some answered.1 answered.2 tt (ap stopped_on c.into_disk.ensures.disk, c.into_disk.ensures.survives, refl))
 
 pub loop-preserved : goal.loop-preserved
@@ -47,7 +49,8 @@ loop-preserved g c =
       runs = λ next after steps.
           c.loop.invariant.runs next after
           (subst (λ (n : ℕ). MakesSteps g.W.Write.contents c.args.event.now n c.loop.session next c.loop.output after) left
-          (one_step g.W.Write.contents c.args.event.now (c.args.count - (c.loop.counter + 1)) c.loop.session c.serve.new.self next c.loop.output c.print.new.output after
+          (one_step g.W.Write.contents c.args.event.now (c.args.count - (c.loop.counter + 1)) c.loop.session c.serve.new.self next c.loop.output
+          c.print.new.output after
           answered.0 c.in-Ok.answer answered.1 (sym answered.2) goes_on c.in_ok-print-in-Ok.ensures steps));
     }
 

@@ -21,14 +21,20 @@ returns-in-Err g c =
     let inside : c.loop-command.command-index < length commands = omega arith in
     c.loop-command.invariant.runs (Err ends) after
     (from_here (λ (rest : List Command). RunsCommands g.W.Write.contents rest c.loop-command.session (Err ends) c.loop-command.output after)
-    commands c.loop-command.command-index c.command-item.result inside c.command-item.is
-    (Err ends, after, subst (λ (next : Result Session End). RunsCommand g.W.Write.contents c.command-item.result c.loop-command.session next c.loop-command.output after) c.in-Err.is c.in_ok-next.ensures, (refl, refl)))
+    commands c.loop-command.command-index c.command-item.result inside c.command-item.is (
+      Err ends,
+      after,
+      subst (λ (next : Result Session End).
+          RunsCommand g.W.Write.contents c.command-item.result c.loop-command.session next c.loop-command.output after) c.in-Err.is c.in_ok-next.ensures,
+      (refl, refl),
+    ))
 
 pub returns : goal.returns
 returns g c =
     let commands = c.args.commands.now in
     let past : length commands ≤ c.loop-command.command-index = omega arith in
-    let none : RunsCommands g.W.Write.contents (drop c.loop-command.command-index commands) c.loop-command.session (Ok tt) c.loop-command.output c.loop-command.output =
+    let none : RunsCommands g.W.Write.contents (drop c.loop-command.command-index commands) c.loop-command.session
+    (Ok tt) c.loop-command.output c.loop-command.output =
     subst (λ (rest : List Command). RunsCommands g.W.Write.contents rest c.loop-command.session (Ok tt) c.loop-command.output c.loop-command.output)
     (sym (drop_all c.loop-command.command-index commands past)) (refl, refl) in
     c.loop-command.invariant.runs (Ok tt) c.loop-command.output none
@@ -42,6 +48,11 @@ loop-command-preserved g c =
       runs = λ last after rest_runs.
           c.loop-command.invariant.runs last after
           (from_here (λ (rest : List Command). RunsCommands g.W.Write.contents rest c.loop-command.session last c.loop-command.output after)
-          commands c.loop-command.command-index c.command-item.result inside c.command-item.is
-          (Ok c.in-Ok.next, between, subst (λ (next : Result Session End). RunsCommand g.W.Write.contents c.command-item.result c.loop-command.session next c.loop-command.output between) c.in-Ok.is c.in_ok-next.ensures, rest_runs));
+          commands c.loop-command.command-index c.command-item.result inside c.command-item.is (
+            Ok c.in-Ok.next,
+            between,
+            subst (λ (next : Result Session End).
+                RunsCommand g.W.Write.contents c.command-item.result c.loop-command.session next c.loop-command.output between) c.in-Ok.is c.in_ok-next.ensures,
+            rest_runs,
+          ));
     }

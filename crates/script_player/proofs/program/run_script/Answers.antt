@@ -12,7 +12,16 @@ returns-in_ok-last-in-Ok g c =
     let script = subst (IsScript (lines text)) (sym c.deref.ensures.value) c.in-Ok.ensures.script in
     IfOk-weaker c.end.result (λ (status : ℕ). Ends contents arguments c.in_ok-last-in-Ok.last status c.run_commands.new.output c.end.new.output)
     (λ (status : ℕ). Plays contents arguments text status c.args.output.now c.end.new.output)
-    (λ status ends. inr (c.deref.result.now, c.in-Ok.session, c.in_ok-last-in-Ok.last, c.run_commands.new.output, script, c.in-Ok.ensures.starts, c.in_ok-last-in-Ok.ensures, ends))
+    (λ status ends. inr (
+      c.deref.result.now,
+      c.in-Ok.session,
+      c.in_ok-last-in-Ok.last,
+      c.run_commands.new.output,
+      script,
+      c.in-Ok.ensures.starts,
+      c.in_ok-last-in-Ok.ensures,
+      ends,
+    ))
     c.end.ensures
 
 pub returns-in-Err : goal.returns-in-Err

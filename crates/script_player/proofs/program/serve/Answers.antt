@@ -42,21 +42,24 @@ module _ {W F : Type 0} (contents : W → Option (List ℕ)) (old new : Session)
 
 pub returns-in-Event : goal.returns-in-Event
 returns-in-Event g c =
-    subst (λ (r : Request). IfOk c.go_on.result (λ (next : Result Session End). Runs g.W.Write.contents r c.args.session next c.args.output.now c.go_on.new.output))
+    subst (λ (r : Request). IfOk c.go_on.result (λ (next : Result Session End).
+    Runs g.W.Write.contents r c.args.session next c.args.output.now c.go_on.new.output))
     (sym c.in-Event.is)
     (event_runs g.W.Write.contents c.args.session c.serve-answer.new.self c.args.output.now c.go_on.new.output c.serve-answer.result
     c.in-Event.event c.go_on.result c.serve-answer.ensures c.go_on.ensures)
 
 pub returns-in-Flush : goal.returns-in-Flush
 returns-in-Flush g c =
-    subst (λ (r : Request). IfOk c.go_on-in-Flush.result (λ (next : Result Session End). Runs g.W.Write.contents r c.args.session next c.args.output.now c.go_on-in-Flush.new.output))
+    subst (λ (r : Request). IfOk c.go_on-in-Flush.result (λ (next : Result Session End).
+    Runs g.W.Write.contents r c.args.session next c.args.output.now c.go_on-in-Flush.new.output))
     (sym c.in-Flush.is)
     (flush_runs g.W.Write.contents c.args.session c.flush-answer.new.self c.args.output.now c.go_on-in-Flush.new.output c.flush-answer.result
     c.go_on-in-Flush.result c.flush-answer.ensures c.go_on-in-Flush.ensures)
 
 pub returns-in-Image : goal.returns-in-Image
 returns-in-Image g c =
-    subst (λ (r : Request). IfOk c.go_on-in-Image.result (λ (next : Result Session End). Runs g.W.Write.contents r c.args.session next c.args.output.now c.go_on-in-Image.new.output))
+    subst (λ (r : Request). IfOk c.go_on-in-Image.result (λ (next : Result Session End).
+    Runs g.W.Write.contents r c.args.session next c.args.output.now c.go_on-in-Image.new.output))
     (sym c.in-Image.is)
     (image_runs g.W.Write.contents c.args.session c.image-answer.new.self c.args.output.now c.go_on-in-Image.new.output c.image-answer.result
     c.go_on-in-Image.result c.image-answer.ensures c.go_on-in-Image.ensures)

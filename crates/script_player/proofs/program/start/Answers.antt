@@ -29,7 +29,8 @@ pub returns-clause-refused : goal.returns-clause-refused
 returns-clause-refused c =
     let g = c.args.geometry in
     let image = (disk_history c.new-disk.result).disk.content in
-    let formatted = subst (λ (d : MemDisk Global). IsFormatted g (history_of d).disk.content) (sym c.new-disk.ensures.device) c.in_ok-format.ensures.formatted in
+    let formatted = subst (λ (d : MemDisk Global). IsFormatted g (history_of d).disk.content)
+    (sym c.new-disk.ensures.device) c.in_ok-format.ensures.formatted in
     let closed = subst (λ (d : MemDisk Global). AreGatesClosed g A (history_of d).disk.content) (sym c.new-disk.ensures.device) c.in_ok-format.ensures.closed in
     let gives = c.format_gives_nothing.ensures.gives g image (disk_history c.new-disk.result).whole formatted closed in
     inr (⊎_elim

@@ -43,7 +43,10 @@ stayed = (stay_dropped (plain (λ _. handle.the_row)) f.ended.kept.0, (stay_drop
 pub into_loose_spec : {M : Type 1} → statement M
 into_loose_spec 𝓤 𝓛 𝓜 𝓡 wired =
     let c = f.clauses 𝓛 𝓜.mem 𝓡.returns in let W = walk_of 𝓛 f.ended stayed c in let 𝓣 = tables 𝓤 𝓛.H 𝓜 𝓡 𝓡.env in
-    proved 𝓛 f.ended stayed c 𝓜 𝓡 (Goes-blank 𝓛 0 (plain (λ _. handle.the_row)) f.ended.kept.0 (λ κs x w. tt), (Goes-blank 𝓛 0 (plain (λ _. heap.the_row)) f.ended.kept.1.0 (λ κs x w. tt), tt))
+    proved 𝓛 f.ended stayed c 𝓜 𝓡 (
+      Goes-blank 𝓛 0 (plain (λ _. handle.the_row)) f.ended.kept.0 (λ κs x w. tt),
+      (Goes-blank 𝓛 0 (plain (λ _. heap.the_row)) f.ended.kept.1.0 (λ κs x w. tt), tt),
+    )
     f.Key.name code.function (code.unfolded 𝓤 𝓛.H 𝓜 𝓡 wired)
     (λ κs. ((λ h. handle_laws.lowered h ∷ []), ((λ _. heap_val ∷ []), tt))) (λ κs. (handle_laws.lowers.val_is, (heap_Tells, tt))) (λ κs qs bounds a ask are.
     let h = a.0 in let g = a.1.0 in
@@ -58,9 +61,11 @@ into_loose_spec 𝓤 𝓛 𝓜 𝓡 wired =
     enter ! _ _ _ _ _ $ alloc_all ! (λ l. pass_all ! refl ((tt, (tt, tt)), ((tt, ((tt, tt), tt)), tt)) $
     sets ! (of_opd ! (get_in ! (fld ! refl (stop !)) (sub ! 0 refl (whole !)))) refl (tt, tt) $
     sets ! (of_opd ! (get ! refl)) refl (tt, tt) $
-    sets ! (agg ! (and_then ! (get ! refl) (and_then ! (get ! refl) (no_more !)))) refl (loose_good held.the_row heap.the_row heap_laws.the_row_laws ghosts b o heap_val (tt, ((tt, tt), tt))) $
+    sets ! (agg ! (and_then ! (get ! refl) (and_then ! (get ! refl) (no_more !)))) refl
+    (loose_good held.the_row heap.the_row heap_laws.the_row_laws ghosts b o heap_val (tt, ((tt, tt), tt))) $
     returns ! (look_at ! 0 refl) $ free_all ! refl $
-    suffices ! _ (ends_at 𝓛 f.ended stayed c y (both (vptr b o) heap_val) (record { at = block_ptr b o; alloc = g; value = s }) (tt, (tt, tt)) (tt, (tt, tt))) $ says ! full.1 $
+    suffices ! _ (ends_at 𝓛 f.ended stayed c y (both (vptr b o) heap_val) (record { at = block_ptr b o; alloc = g; value = s }) (tt, (tt, tt)) (tt, (tt, tt))) $
+    says ! full.1 $
     use1 𝓛 (‵ (box_owns (ghosts.dealloc_token g) held.the_row (block_ptr b o) s)) (id⊢ 𝓤 _) $
     loose_in held.the_row heap.the_row heap_laws.the_row_laws ghosts ! b o heap_val g s $
     nothing ! $ nothing ! $ join ! $ nothing ! $ join ! $ nothing ! $ done !))))

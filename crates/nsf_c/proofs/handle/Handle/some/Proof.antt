@@ -40,14 +40,17 @@ some_spec 𝓤 𝓛 𝓜 𝓡 wired =
     f.Key.name code.function (code.unfolded 𝓤 𝓛.H 𝓜 𝓡 wired) (λ z are.
     let v = z.0.3.0 in let Post : Val → SProp 𝓤 = (walk_of 𝓛 f.ended stayed c).post z in
     let Run : List Val → SProp 𝓤 = λ ws. WpFn 𝓤 𝓛.H 𝓣.C 𝓣.Λ code.function ws Post in
-    qed 𝓛 ((‵ ftrue ⊛ ‵ (owns (types_at f.signature.params z.0.0) z.0.3 z.0.4)) ∷ raw ((c z.0.0 z.0.3).requires z.1) ∷ []) ∵ split ! $ move ! (1 ∷ []) $ fsplit ! $
+    qed 𝓛 ((‵ ftrue ⊛ ‵ (owns (types_at f.signature.params z.0.0) z.0.3 z.0.4)) ∷ raw ((c z.0.0 z.0.3).requires z.1) ∷ []) ∵ split ! $ move !
+    (1 ∷ []) $ fsplit ! $
     loose_out held.the_row heap.the_row heap_laws.the_row_laws ghosts ! v z.0.4.0 (λ b o h e ws fits. keep ! (0 ∷ []) $
     let w : Val = both (vptr b o) h in
     suffices ! (Run (w ∷ [])) (subst (λ (us : List Val). ent 𝓤 (Run (w ∷ [])) (Run us)) (sym (λ i. ws i ++ [])) (id⊢ 𝓤 (Run (w ∷ [])))) $
-    enter ! 𝓣.C 𝓣.Λ code.function (w ∷ []) Post $ alloc_all ! (λ l. pass_all ! refl (loose_good held.the_row heap.the_row heap_laws.the_row_laws ghosts b o h fits, tt) $
+    enter ! 𝓣.C 𝓣.Λ code.function (w ∷ []) Post $ alloc_all ! (λ l.
+    pass_all ! refl (loose_good held.the_row heap.the_row heap_laws.the_row_laws ghosts b o h fits, tt) $
     sets ! (of_opd ! (get_in ! (fld ! refl (stop !)) (sub ! 0 refl (whole !)))) refl (tt, tt) $
     sets ! (of_opd ! (get ! refl)) refl (tt, tt) $
     sets ! (agg ! (and_then ! (get ! refl) (no_more !))) refl (tt, (tt, tt)) $
     returns ! (look_at ! 0 refl) $ free_all ! refl $
-    suffices ! _ (ends_at 𝓛 f.ended stayed c z (vstruct (vcons (vptr b o) vnil)) (record { at = block_ptr b o; value = Some v.value }) (tt, tt) (tt, tt)) $ says ! refl $
+    suffices ! _ (ends_at 𝓛 f.ended stayed c z (vstruct (vcons (vptr b o) vnil)) (record { at = block_ptr b o; value = Some v.value }) (tt, tt) (tt, tt)) $ says
+    ! refl $
     handle_in ! (block_ptr b o) (Some v.value) $ nothing ! $ nothing ! $ join ! $ nothing ! $ done !)))

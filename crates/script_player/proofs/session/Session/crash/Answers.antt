@@ -43,10 +43,13 @@ returns-else-tells_stop-clause-crashed c =
     )
 
 pub returns-in-Ok-clause-survives : goal.returns-in-Ok-clause-survives
-returns-in-Ok-clause-survives c = subst (λ (d : FaultDisk (MemDisk Global)). KeepsRun disk_history c.args.self.store.engine d) c.into_device-disk.ensures.device c.into_device-disk.ensures.survives
+returns-in-Ok-clause-survives c = subst (λ (d : FaultDisk (MemDisk Global)).
+    KeepsRun disk_history c.args.self.store.engine d) c.into_device-disk.ensures.device c.into_device-disk.ensures.survives
 
 pub returns-then-tells_stop-clause-survives : goal.returns-then-tells_stop-clause-survives
-returns-then-tells_stop-clause-survives c = subst (λ (d : FaultDisk (MemDisk Global)). KeepsRun disk_history c.args.self.store.engine d) c.into_device-disk.ensures.device c.into_device-disk.ensures.survives
+returns-then-tells_stop-clause-survives c = subst (λ (d : FaultDisk (MemDisk Global)).
+    KeepsRun disk_history c.args.self.store.engine d) c.into_device-disk.ensures.device c.into_device-disk.ensures.survives
 
 pub returns-else-tells_stop-clause-survives : goal.returns-else-tells_stop-clause-survives
-returns-else-tells_stop-clause-survives c = subst (λ (d : FaultDisk (MemDisk Global)). KeepsRun disk_history c.args.self.store.engine d) c.into_device-disk.ensures.device c.into_device-disk.ensures.survives
+returns-else-tells_stop-clause-survives c = subst (λ (d : FaultDisk (MemDisk Global)).
+    KeepsRun disk_history c.args.self.store.engine d) c.into_device-disk.ensures.device c.into_device-disk.ensures.survives

@@ -7,4 +7,5 @@ use Rattle.script_player.specs.Disk.{disk_history}
 use Rattle.script_player.proofs.session.Session.into_disk.Goals as goal
 
 pub returns-clause-survives : goal.returns-clause-survives
-returns-clause-survives c = subst (λ (d : FaultDisk (MemDisk Global)). KeepsRun disk_history c.args.self.store.engine d) c.into_device.ensures.device c.into_device.ensures.survives
+returns-clause-survives c = subst (λ (d : FaultDisk (MemDisk Global)).
+    KeepsRun disk_history c.args.self.store.engine d) c.into_device.ensures.device c.into_device.ensures.survives

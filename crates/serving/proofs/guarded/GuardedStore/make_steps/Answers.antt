@@ -9,7 +9,9 @@ pub loop-init : goal.loop-init
 loop-init g c =
     let all : c.args.count - 0 ≡ c.args.count = omega arith in
     record {
-      runs = λ outcome new after steps. subst (λ (n : ℕ). MakesSteps g.D.Device.history g.D.Device.failures g.W.Write.contents c.args.event.now n outcome c.args.self.now new c.args.output.now after) all steps;
+      runs = λ outcome new after steps. subst (λ (n : ℕ).
+          MakesSteps g.D.Device.history g.D.Device.failures g.W.Write.contents c.args.event.now n outcome c.args.self.now new c.args.output.now after) all
+          steps;
     }
 
 pub returns-then-is_last_step : goal.returns-then-is_last_step
@@ -26,7 +28,8 @@ returns-then-is_last_step g c =
     let last : is_last_step c.answer_of-answer.result ≡ true = sym c.is_last_step.ensures ∙ c.if-is_last_step.true in
     let some : 0 < c.args.count - c.loop.counter = omega (arith, c.loop-test.true) in
     c.loop.invariant.runs c.in_ok-outcome.outcome c.serve-reply.new.self c.print.new.output
-    (last_step h f w c.args.event.now (c.args.count - c.loop.counter) c.in_ok-outcome.outcome c.loop.self c.serve-reply.new.self c.loop.output c.print.new.output c.answer_of-answer.result some tells last c.in_ok-outcome.ensures.1)
+    (last_step h f w c.args.event.now (c.args.count - c.loop.counter) c.in_ok-outcome.outcome c.loop.self c.serve-reply.new.self c.loop.output
+    c.print.new.output c.answer_of-answer.result some tells last c.in_ok-outcome.ensures.1)
 
 pub loop-preserved : goal.loop-preserved
 loop-preserved g c =
@@ -45,7 +48,8 @@ loop-preserved g c =
       runs = λ outcome new after steps.
           c.loop.invariant.runs outcome new after
           (subst (λ (n : ℕ). MakesSteps h f w c.args.event.now n outcome c.loop.self new c.loop.output after) left
-          (one_step h f w c.args.event.now (c.args.count - (c.loop.counter + 1)) outcome c.loop.self c.serve-reply.new.self new c.loop.output c.print.new.output after c.answer_of-answer.result tells goes_on steps));
+          (one_step h f w c.args.event.now (c.args.count - (c.loop.counter + 1)) outcome c.loop.self c.serve-reply.new.self new c.loop.output c.print.new.output
+          after c.answer_of-answer.result tells goes_on steps));
     }
 
 pub returns : goal.returns

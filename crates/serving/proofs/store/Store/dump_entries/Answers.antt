@@ -9,7 +9,11 @@ use Rattle.serving.proofs.Entries.{Entry, later, later_all, line_of_entry, none_
 use Rattle.serving.proofs.store.Store.dump_entries.Goals as goal
 
 pub loop-entry-init : goal.loop-entry-init
-loop-entry-init g c = ([], Appends-nil (g.W.Write.contents c.args.output.now), ap (λ (es : List Entry). flat_map line_of_entry es) (later_all (map.entries (entries_of c.args.self.now))))
+loop-entry-init g c = (
+  [],
+  Appends-nil (g.W.Write.contents c.args.output.now),
+  ap (λ (es : List Entry). flat_map line_of_entry es) (later_all (map.entries (entries_of c.args.self.now))),
+)
 
 pub loop-entry-preserved : goal.loop-entry-preserved
 loop-entry-preserved g c =
@@ -20,7 +24,8 @@ loop-entry-preserved g c =
     let least = subst (λ (o : Option Entry). IsLeastAbove (entries_of c.args.self.now) c.loop-entry.last o) c.in-Some.is c.entry_above.ensures in
     let left = one_left (entries_of c.args.self.now) c.loop-entry.last entry.0 entry.1 least in (
       so_far.0 ++ line_of_entry entry,
-      Appends-trans (contents c.args.output.now) (contents c.loop-entry.output) (contents c.dump_entry.new.output) so_far.0 (line_of_entry entry) so_far.1 c.in_ok-dump_entry.ensures,
+      Appends-trans (contents c.args.output.now) (contents c.loop-entry.output) (contents c.dump_entry.new.output) so_far.0
+          (line_of_entry entry) so_far.1 c.in_ok-dump_entry.ensures,
       append_assoc so_far.0 (line_of_entry entry) (flat_map line_of_entry (later (Some entry.0) es))
           ∙ ap (λ (rest : List Entry). so_far.0 ++ flat_map line_of_entry rest) (sym left)
           ∙ so_far.2,
@@ -31,7 +36,8 @@ loop-entry-smaller g c =
     let es = map.entries (entries_of c.args.self.now) in
     let entry : Entry = c.in-Some.entry in
     let least = subst (λ (o : Option Entry). IsLeastAbove (entries_of c.args.self.now) c.loop-entry.last o) c.in-Some.is c.entry_above.ensures in
-    let left : length (later c.loop-entry.last es) ≡ suc (length (later (Some entry.0) es)) = ap length (one_left (entries_of c.args.self.now) c.loop-entry.last entry.0 entry.1 least) in
+    let left : length (later c.loop-entry.last es) ≡ suc (length (later (Some entry.0) es)) =
+    ap length (one_left (entries_of c.args.self.now) c.loop-entry.last entry.0 entry.1 least) in
     omega (arith, left)
 
 pub returns : goal.returns
