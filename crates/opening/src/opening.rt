@@ -39,7 +39,7 @@ pub fn open_store<D: Device, A: Memory>(
     if !engine.core().can_open() {
         return Err((OpenError::Unsound, engine.into_device()));
     }
-    let (core, writer) = match engine.into_parts() {
+    let (core, writer) = match engine.take_apart() {
         Ok(parts) => parts,
         Err(engine) => return Err((OpenError::Refused(Error::NoMemory), engine.into_device())),
     };

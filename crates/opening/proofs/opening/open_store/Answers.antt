@@ -14,14 +14,14 @@ pub invariant_of-result : goal.invariant_of-result
 invariant_of-result g c =
     let is = c.in-Ok.ensures.opened in
     let emptied = c.in-Ok.ensures.emptied in
-    let parted = c.in-Ok-into_parts.ensures in
+    let parted = c.in-Ok-take_apart.ensures in
     let made = c.in-Ok-open.ensures.made in
     let same = c.in-Ok-open.ensures.core in
     let can : CanOpen (over is.geometry is.given) = sound_opened g.D.Device.history c.args.device c.in-Ok.engine is _ c.core.ensures
     (c.can_open.ensures.0 c.if-not-can_open.false) in (
       subst (λ (n : ℕ). IsOpening n c.in-Ok-open.opening) (sym made.counted.0) made,
       subst IsJustOpened (sym same) (just_opened g.D.Device.history c.args.device c.in-Ok.engine is emptied can _ _ parted.parts parted.left),
-      subst (λ (v : CoreValue). IsNewWriter g.D.Device.history (opened_of v) c.in-Ok-into_parts.parts.1) (sym same)
+      subst (λ (v : CoreValue). IsNewWriter g.D.Device.history (opened_of v) c.in-Ok-take_apart.parts.1) (sym same)
           (new_over_core g.D.Device.history c.args.device c.in-Ok.engine is emptied can _ _ parted.parts parted.left),
     )
 
@@ -29,7 +29,7 @@ pub returns-in-Ok-open-clause-opened : goal.returns-in-Ok-open-clause-opened
 returns-in-Ok-open-clause-opened g c =
     let is = c.in-Ok.ensures.opened in
     let emptied = c.in-Ok.ensures.emptied in
-    let parted = c.in-Ok-into_parts.ensures in
+    let parted = c.in-Ok-take_apart.ensures in
     let can : CanOpen (over is.geometry is.given) = sound_opened g.D.Device.history c.args.device c.in-Ok.engine is _ c.core.ensures
     (c.can_open.ensures.0 c.if-not-can_open.false) in
     let over_engine = opened_is g.D.Device.history c.args.device c.in-Ok.engine is emptied can _ _ parted.parts parted.left in
@@ -52,4 +52,4 @@ returns-then-not-can_open-clause-refused g c =
 pub returns-in-Err-open-clause-refused : goal.returns-in-Err-open-clause-refused
 returns-in-Err-open-clause-refused g c =
     not_opened g.D.Device.history c.args.device c.in-Ok.engine c.in-Ok.ensures.opened g.D.Device.failures _ _
-    (c.into_device-in-Err-open.ensures.device ∙ c.in-Ok-into_parts.ensures.parts.device) c.in-Ok.ensures.quiet c.in-Err-open.ensures.no_memory
+    (c.into_device-in-Err-open.ensures.device ∙ c.in-Ok-take_apart.ensures.parts.device) c.in-Ok.ensures.quiet c.in-Err-open.ensures.no_memory
