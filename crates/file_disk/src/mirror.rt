@@ -179,6 +179,7 @@ impl<F: Stored + Drop, A: Allocator> FileDisk<F, A> {
 
     // Reads all that is below, and writes it back.
     fn load(&mut self) -> io::Result<()>
+        ensures size { length (history_of self.new).disk.content ≡ length (history_of self.old).disk.content }
         ensures failures { failures_of self.new ≡ failures_of self.old }
     {
         let sectors = self.content.len();
@@ -198,6 +199,7 @@ impl<F: Stored + Drop, A: Allocator> FileDisk<F, A> {
     /// A disk over what is below, which holds the sectors that that does. Each that was read is written back, and all
     /// are synced, before one counts as safe: after a sync that failed, what is read may be on no device.
     pub fn over(alloc: A, below: F, sectors: usize) -> Result<Self, OpenError>
+        ensures sectors { IfOk result (λ d. length (history_of d).disk.content ≡ sectors) }
         ensures synced { IfOk result (λ d. IsSynced (history_of d).disk) }
         ensures failures { IfOk result (λ d. failures_of d ≡ 0) }
     {

@@ -1,6 +1,6 @@
 -- Why a store that was to be moved doesn't live on.
-use Rattle.std.proofs.Common.{◌≡◌, ◌⊎◌, ⊎_elim, inl, inr, ℕ, sym, subst}
-use Rattle.records.specs.GeometryValue.{GeometryValue}
+use Rattle.std.proofs.Common.{◌≡◌, ◌⊎◌, ◌<◌, ⊎_elim, inl, inr, ℕ, length, sym, subst}
+use Rattle.records.specs.GeometryValue.{GeometryValue, sectors_of}
 use Rattle.records.specs.declared.error.Error.{Error}
 use Rattle.records.specs.declared.error.Error.TheVariants.{DeviceFailed}
 use Rattle.records.specs.declared.error.Error.TheVariants as errors
@@ -12,7 +12,7 @@ use Rattle.sector_device.specs.History.{History}
 use Rattle.store_reader.specs.Contents.{GivesIn}
 use Rattle.restart.specs.declared.migration.MigrateError.{MigrateError}
 use Rattle.restart.specs.declared.migration.MigrateError.TheVariants.{New, NoMemory, Old}
-use Rattle.restart.specs.Migrating.{IsNotMigrated, IsSmallerThan}
+use Rattle.restart.specs.Migrating.{IsNotMigrated}
 use Rattle.restart.specs.Store.{over}
 use Rattle.headline.specs.Moved.{IsToldLater, IsNotLived}
 
@@ -20,10 +20,13 @@ module _ (old new : Image) (old_before old_after : ℕ) where
   pub not_moved : {E : Type 0} (history : E → History) (failures : E → ℕ) (before after : E) (e : MigrateError) → (history before).disk.content ≡ new
       → IsNotMigrated old old_before old_after history failures before after e → IsNotLived old new old_before old_after e
   not_moved history failures before after (Old e) is why = why.0
-  not_moved history failures before after (New e) is why = ⊎_elim
-      (λ small. inl (small.0, subst (λ (i : Image). IsSmallerThan old i) is small.1))
-      (λ failed. inr (record { geometry = failed.1.geometry; given = failed.1.given; gave = failed.1.gave; failed = λ can. failed.0 }))
-      why
+  not_moved history failures before after (New e) is why =
+      record {
+        geometry = why.geometry;
+        given = why.given;
+        gave = why.gave;
+        why = ⊎_elim (λ small. inl (small.0, subst (λ (i : Image). length i < sectors_of why.geometry) is small.1)) (λ failed. inr (λ can. failed.0)) why.why;
+      }
   not_moved history failures before after NoMemory is why = tt
 
   pub not_opened : (g : GeometryValue) (given : Given) → GivesIn One old g given → (e : Error) (refusal : MigrateError) → IsToldLater e refusal
@@ -31,5 +34,5 @@ module _ (old new : Image) (old_before old_after : ℕ) where
   not_opened g given gave e refusal told why = ⊎_elim
       (λ none. subst (IsNotLived old new old_before old_after) (sym none.1) tt)
       (λ other. subst (IsNotLived old new old_before old_after) (sym other.1)
-      (inr (record { geometry = g; given = given; gave = gave; failed = λ can. ⊎_elim (λ memory. absurd (other.0 memory)) (λ failed. failed) (why can) })))
+      (record { geometry = g; given = given; gave = gave; why = inr (λ can. ⊎_elim (λ memory. absurd (other.0 memory)) (λ failed. failed) (why can)) }))
       told

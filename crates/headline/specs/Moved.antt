@@ -1,6 +1,6 @@
 -- What a store holds, behind the days since it was moved from an older device.
-use Rattle.std.specs.Prelude.{◌≡◌, ◌≢◌, ◌⊎◌, Bool, true, ℕ, List, None, Option, IfSome}
-use Rattle.records.specs.GeometryValue.{GeometryValue}
+use Rattle.std.specs.Prelude.{◌≡◌, ◌≢◌, ◌⊎◌, ◌<◌, Bool, true, ℕ, List, length, None, Option, IfSome}
+use Rattle.records.specs.GeometryValue.{GeometryValue, sectors_of}
 use Rattle.records.specs.declared.error.Error.{Error}
 use Rattle.records.specs.declared.error.Error.TheVariants.{DeviceFailed, DeviceTooSmall}
 use Rattle.records.specs.declared.error.Error.TheVariants as errors
@@ -12,7 +12,7 @@ use Rattle.sector_device.specs.Disk.{Image}
 use Rattle.store_reader.specs.Contents.{GivesIn}
 use Rattle.restart.specs.declared.migration.MigrateError.{MigrateError}
 use Rattle.restart.specs.declared.migration.MigrateError.TheVariants.{New, NoMemory, Old}
-use Rattle.restart.specs.Migrating.{IsOldRefused, IsSmallerThan}
+use Rattle.restart.specs.Migrating.{IsOldRefused}
 use Rattle.restart.specs.Store.{over}
 use Rattle.headline.specs.declared.day.Day.{Day}
 use Rattle.headline.specs.Days.{Answer}
@@ -29,16 +29,14 @@ pub record HoldsMoved {M : Type 0} (old : Image) (days : List (Day M)) (answers 
   pub refused : CanOpen (over geometry given) → IfSome unbuilt (λ e. (built ≡ true)
       × IsUnbuilt given days answers e core)
 
--- The old device gives something by version 1. Where a core may begin with that, the new one failed.
-pub record HasFailedLater (old : Image) (e : Error) : Type 0 where
+-- The old device gives something by version 1. The new one has too few sectors for it; or, where a core may begin with
+-- that, it failed.
+pub record IsNewNotLived (old new : Image) (e : Error) : Type 0 where
   pub geometry : GeometryValue
   pub given : Given
   pub gave : GivesIn One old geometry given
-  pub failed : CanOpen (over geometry given) → e ≡ DeviceFailed
-
--- the new device has too few sectors for the store of version 1 on the old one; or it failed
-abbrev pub IsNewNotLived : (old new : Image) → Error → Type 0
-IsNewNotLived old new e = ((e ≡ DeviceTooSmall) × IsSmallerThan old new) ⊎ HasFailedLater old e
+  pub why : ((e ≡ DeviceTooSmall) × (length new < sectors_of geometry))
+      ⊎ (CanOpen (over geometry given) → e ≡ DeviceFailed)
 
 -- why a store wasn't moved, or not opened behind its days
 abbrev pub IsNotLived : (old new : Image) → (old_before old_after : ℕ) → MigrateError → Type 0

@@ -29,7 +29,7 @@ fn later(error: Error) -> MigrateError
 /// `Old` where the old device failed in the move, or gives nothing by version 1. `New` with `DeviceTooSmall` where the
 /// new device has too few sectors; and else, where a core may begin with what the old one gave, with `DeviceFailed`
 /// alone. `NoMemory` at any time (`refused`). Where the old device gives something and the new one has too few sectors
-/// for it, that is told, also where memory was wanting; but a failure of the old one comes first (`too_small`, `room`).
+/// for it, that is told, unless the old one failed or memory was wanting (`too_small`, `room`).
 /// With any answer but `Old` with `DeviceFailed` the old device has not failed (`told`, `quiet`).
 ///
 /// [`live_through`]: crate::live_through

@@ -49,7 +49,7 @@ pub record BuildsOn (o : Opened) (old : BuildValue) (result : Result Ticket Erro
 -- index, or of room, only where the loop doesn't wait for one. (No public clause cites this.)
 abbrev pub IsOutcome : (waits : Bool) → Outcome → Result BuildReply Error → Type 0
 IsOutcome waits (Done ticket) step = step ≡ Ok (reply.Done ticket)
-IsOutcome waits (Refused e) step = (step ≡ Err e) × (e ≢ NoMemory) × (waits ≡ true → e ≢ NoIndex)
+IsOutcome waits (Refused e) step = (step ≡ Err e) × (e ≢ NoMemory) × (waits ≡ true → (e ≢ NoIndex) × (e ≢ IndexFull))
 IsOutcome waits Attempted step = (pair : Pair) × ((step ≡ Ok (reply.Placed pair)) ⊎ (step ≡ Ok (reply.Rejected pair)))
 IsOutcome waits Scanned step = (page : ℕ) × (step ≡ Ok (reply.Scanned page))
 IsOutcome waits Marked step = (pair : Pair) × (ticket : Ticket) × (step ≡ Ok (reply.Marked pair ticket))

@@ -61,8 +61,8 @@ pub fn old_geometry<D: Device>(disk: &mut D) -> Result<Geometry, NotVersionOne>
 /// Moves the store of version 1 on the old disk to the new one, which is given back. The old one is only read.
 ///
 /// The refusals are those of `migrate`, in that order: where the old disk gives something by version 1 and the new one
-/// has too few sectors for it, that is told, also where memory was wanting; but a failure of the old disk comes first
-/// (`too_small`, `room`).
+/// has too few sectors for it, that is told, unless the old disk failed or there was no memory to read it (`too_small`,
+/// `room`).
 pub fn move_disk<O: Device, N: Device, A: Allocator + Copy>(
     alloc: A,
     old: &mut O,

@@ -1,11 +1,11 @@
 -- What is moved to another device, and why nothing is.
-use Rattle.std.proofs.Common.{◌≡◌, ◌⊎◌, ℕ, ◌<◌, length, Result, Ok, Err, OnOk, IfOk, IfErr, inl, inr, refl, sym, ap, subst, ⊎_elim, arith}
+use Rattle.std.proofs.Common.{◌≡◌, ◌⊎◌, ℕ, ◌<◌, length, Result, Ok, Err, OnOk, IfOk, IfErr, inl, inr, refl, sym, ap, subst, ◌∙◌, ⊎_elim, arith}
 use Rattle.sector_device.specs.Disk.{Image}
-use Rattle.sector_device.specs.History.{History, Rises}
+use Rattle.sector_device.specs.History.{History}
 use Rattle.records.specs.GeometryValue.{GeometryValue, sectors_of}
 use Rattle.records.specs.declared.version.Version.TheVariants.{One}
 use Rattle.records.specs.declared.error.Error.{Error}
-use Rattle.records.specs.declared.error.Error.TheVariants.{NoMemory}
+use Rattle.records.specs.declared.error.Error.TheVariants.{DeviceFailed, NoMemory}
 use Rattle.model.specs.Given.{Given}
 use Rattle.gate_log.specs.Area.{Log, Refuses}
 use Rattle.image_half.specs.Image.{header_of}
@@ -18,7 +18,7 @@ use Rattle.store_reader.specs.Contents.{GivesIn, HasHeaderIn, IsUnreadableIn}
 use Rattle.nsf_core.specs.View.{CoreValue}
 use Rattle.restart.specs.declared.migration.MigrateError.{MigrateError}
 use Rattle.restart.specs.declared.migration.MigrateError.TheVariants as refusals
-use Rattle.restart.specs.Migrating.{IsOldRefused, IsNotMigrated, IsNotFilled, IsMigratedCore, IsFilled, IsHeaded, IsSmallAnswer, IsToldUnread, IsTooSmall}
+use Rattle.restart.specs.Migrating.{IsOldRefused, IsNotMigrated, IsNotFilled, IsMigratedCore, IsFilled, IsSmallAnswer, IsToldOfOld, IsTooSmall}
 
 -- what the old device gives fills the new one
 pub moved : (old : Image) (geometry : GeometryValue) (given : Given) (after : History) (halves : HalvesValue) (log : Log) (core : CoreValue)
@@ -29,23 +29,13 @@ moved old geometry given after halves log core gave filled = record {
       (subst (GivesIn One old geometry) (sym filled.given-is) gave);
 }
 
--- what gives something has a header
-headed : (old : Image) (geometry : GeometryValue) (given : Given) → GivesIn One old geometry given → IsHeaded old geometry
-headed old geometry given gave = (gave.half, gave.holds.store, (header_of gave.base gave.cells, gave.holds.imaged.header-is))
-
-pub has_header : (old : Image) (geometry : GeometryValue) (given : Given) → GivesIn One old geometry given → HasHeaderIn One old
-has_header old geometry given gave = (geometry, gave.half, gave.holds.store, (header_of gave.base gave.cells, gave.holds.imaged.header-is))
-
 -- the new device isn't filled with it
-module _ {E : Type 0} (old : Image) (old_before old_after : ℕ) (history : E → History) (failures : E
-    → ℕ) (before after : E) (geometry : GeometryValue) (given : Given) (gave : GivesIn One old geometry given) where
+module _ {E : Type 0} (old : Image) (old_before old_after : ℕ) (history : E → History) (failures : E → ℕ) (before after : E)
+    (geometry : GeometryValue) (given : Given) (gave : GivesIn One old geometry given) where
   pub not_filled : (e : MigrateError) → IsNotFilled geometry history failures before after e
       → IsNotMigrated old old_before old_after history failures before after e
   not_filled (refusals.Old e) why = absurd why
-  not_filled (refusals.New e) why = ⊎_elim
-      (λ small. inl (small.0, (geometry, headed old geometry given gave, small.1), small.2))
-      (λ failed. inr (failed.0, record { geometry = geometry; given = given; gave = gave; room = failed.1; failed = failed.2 }))
-      why
+  not_filled (refusals.New e) why = record { geometry = geometry; given = given; gave = gave; why = why }
   not_filled refusals.NoMemory why = why.1
 
   -- where it has too few sectors, that is told
@@ -62,19 +52,29 @@ pub old_refused : (old : Image) (before after : ℕ) (e : Error) → ¬ (e ≡ N
 old_refused old before after e other refused = ⊎_elim (λ why. ⊎_elim (λ none. absurd (other none)) (λ failed. inl failed) why) (λ unreadable.
     inr unreadable) refused
 
--- there was no memory to read the old device
-module _ {E : Type 0} (old : Image) (old_before mid old_after : ℕ) (history : E → History) (failures : E → ℕ) (new : E) where
-  pub unread_not_moved : mid ≡ old_before → (e : MigrateError) → IsToldUnread old (history new).disk.content mid old_after e
-      → IsNotMigrated old old_before old_after history failures new new e
-  unread_not_moved quiet (refusals.Old e) why = (inl (why.0, subst (λ n. Rises n old_after) quiet why.1), refl)
-  unread_not_moved quiet (refusals.New e) why = inl (why.0, why.1, refl)
-  unread_not_moved quiet refusals.NoMemory why = refl
+-- so it is not moved
+pub old_not_moved : {E : Type 0} (old : Image) (old_before old_after : ℕ) (history : E → History) (failures : E
+    → ℕ) (new : E) (e : Error) (refusal : MigrateError) → IsToldOfOld e refusal → Refuses old_before old_after e ⊎ IsUnreadableIn One old e
+    → IsNotMigrated old old_before old_after history failures new new refusal
+old_not_moved old old_before old_after history failures new e refusal told refused = ⊎_elim
+    (λ none. subst (IsNotMigrated old old_before old_after history failures new new) (sym none.1) refl)
+    (λ other. subst (IsNotMigrated old old_before old_after history failures new new) (sym other.1) (
+      old_refused old old_before old_after e other.0 refused,
+      refl,
+    ))
+    told
 
-  pub unread_small : (e : MigrateError) → IsToldUnread old (history new).disk.content mid old_after e → IsTooSmall old (history new).disk.content
-      → IsSmallAnswer e
-  unread_small (refusals.Old e) why small = inr (ap refusals.Old why.0)
-  unread_small (refusals.New e) why small = inl (ap refusals.New why.0)
-  unread_small refusals.NoMemory why small = absurd (omega (arith, why small.geometry small.gave.half small.gave.holds.store, small.few))
+-- what gives something has a header
+pub has_header : (old : Image) (geometry : GeometryValue) (given : Given) → GivesIn One old geometry given → HasHeaderIn One old
+has_header old geometry given gave = (geometry, gave.half, gave.holds.store, (header_of gave.base gave.cells, gave.holds.imaged.header-is))
+
+-- want of memory is told of want of memory alone
+pub wanted : (e : Error) (refusal : MigrateError) → IsToldOfOld e refusal → refusal ≡ refusals.NoMemory → e ≡ NoMemory
+wanted e refusal told none = ⊎_elim (λ is. is.0) (λ other. absurd (let bad = sym none ∙ other.1 in cc)) told
+
+-- and a failure as one
+pub not_failed : (e : Error) (refusal : MigrateError) → IsToldOfOld e refusal → ¬ (refusal ≡ refusals.Old DeviceFailed) → ¬ (e ≡ DeviceFailed)
+not_failed e refusal told other failed = ⊎_elim (λ none. absurd (let bad = sym none.0 ∙ failed in cc)) (λ is. other (is.1 ∙ ap refusals.Old failed)) told
 
 -- ---- sectors of a store
 

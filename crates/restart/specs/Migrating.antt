@@ -1,17 +1,15 @@
 -- What becomes of a store of version 1 that is moved to another device, and why it isn't moved.
-use Rattle.std.specs.Prelude.{◌≡◌, ◌⊎◌, ℕ, ◌<◌, ◌≤◌, length, None}
+use Rattle.std.specs.Prelude.{◌≡◌, ◌≢◌, ◌⊎◌, ℕ, ◌<◌, ◌≤◌, length, None}
 use Rattle.sector_device.specs.Disk.{Image, SameOutside}
 use Rattle.sector_device.specs.History.{History, Rises}
 use Rattle.records.specs.GeometryValue.{GeometryValue, sectors_of}
 use Rattle.records.specs.declared.version.Version.TheVariants.{One}
 use Rattle.records.specs.declared.error.Error.{Error}
 use Rattle.records.specs.declared.error.Error.TheVariants.{DeviceFailed, DeviceTooSmall}
+use Rattle.records.specs.declared.error.Error.TheVariants as errors
 use Rattle.model.specs.Given.{Given}
 use Rattle.gate_log.specs.Area.{Log}
-use Rattle.image_half.specs.Damage.{IsSoundIn, TheHeader}
-use Rattle.flip_image.specs.declared.half.Half.{Half}
-use Rattle.flip_image.specs.Layout.{HalvesValue, header_sector_in}
-use Rattle.flip_image.specs.Store.{IsStoreIn}
+use Rattle.flip_image.specs.Layout.{HalvesValue}
 use Rattle.store_reader.specs.Contents.{GivesIn, IsUnreadableIn}
 use Rattle.nsf_core.specs.View.{CoreValue}
 use Rattle.restart.specs.declared.copying.Copying.TheVariants.{Idle}
@@ -43,29 +41,16 @@ WritesTheStoreAlone old history before after = (geometry : GeometryValue) (given
 abbrev pub IsOldRefused : Image → ℕ → ℕ → Error → Type 0
 IsOldRefused old before now e = ((e ≡ DeviceFailed) × Rises before now) ⊎ IsUnreadableIn One old e
 
--- the old device holds a store of version 1 of this geometry, whose current half begins with a header
-abbrev pub IsHeaded : Image → GeometryValue → Type 0
-IsHeaded old geometry = (half : Half) × IsStoreIn One geometry half old
-    × IsSoundIn One geometry (header_sector_in One geometry half) old TheHeader
-
--- so it is, and the new device has too few sectors for a store of that geometry
-abbrev pub IsSmallerThan : (old new : Image) → Type 0
-IsSmallerThan old new = (geometry : GeometryValue) × IsHeaded old geometry × (length new < sectors_of geometry)
-
--- The old device gives something by version 1, the new one has sectors enough for it, and it failed in the call.
-pub record IsNewFailed {E : Type 0} (old : Image) (history : E → History) (failures : E
-    → ℕ) (before after : E) : Type 0 where
+-- The old device gives something by version 1; and the new one has too few sectors for a store of its geometry, and is
+-- as it was, or it has enough of them, and failed in the call.
+pub record IsNewRefused {E : Type 0} (old : Image) (history : E → History) (failures : E → ℕ) (before after : E)
+    (e : Error) : Type 0 where
   pub geometry : GeometryValue
   pub given : Given
   pub gave : GivesIn One old geometry given
-  pub room : sectors_of geometry ≤ length (history before).disk.content
-  pub failed : Rises (failures before) (failures after)
-
--- the new device has too few sectors, and is as it was; or it failed in the call
-abbrev pub IsNewRefused : {E : Type 0} → Image → (E → History) → (E → ℕ) → E → E → Error → Type 0
-IsNewRefused old history failures before after e =
-    ((e ≡ DeviceTooSmall) × IsSmallerThan old (history before).disk.content × (after ≡ before))
-    ⊎ ((e ≡ DeviceFailed) × IsNewFailed old history failures before after)
+  pub why : ((e ≡ DeviceTooSmall) × (length (history before).disk.content < sectors_of geometry) × (after ≡ before))
+      ⊎ ((e ≡ DeviceFailed) × (sectors_of geometry ≤ length (history before).disk.content)
+      × Rises (failures before) (failures after))
 
 -- The old device gives something by version 1, and the new one has too few sectors for it.
 pub record IsTooSmall (old new : Image) : Type 0 where
@@ -74,9 +59,9 @@ pub record IsTooSmall (old new : Image) : Type 0 where
   pub gave : GivesIn One old geometry given
   pub few : length new < sectors_of geometry
 
--- the answer then, whether or not memory was wanting as well; but a failure of the old device comes before it
+-- What is told then. A failure of the old device comes before it, and a want of memory to read that one may.
 abbrev pub IsSmallAnswer : MigrateError → Type 0
-IsSmallAnswer e = (e ≡ New DeviceTooSmall) ⊎ (e ≡ Old DeviceFailed)
+IsSmallAnswer e = (e ≡ New DeviceTooSmall) ⊎ (e ≡ Old DeviceFailed) ⊎ (e ≡ NoMemory)
 
 -- Why nothing was moved. Where the old device is to blame, or memory was wanting, the new one is as it was.
 abbrev pub IsNotMigrated : {E : Type 0} → Image → (old_before old_after : ℕ) → (E → History) → (E → ℕ) → E → E
@@ -110,9 +95,6 @@ IsNotFilled geometry history failures before after (New e) =
 IsNotFilled geometry history failures before after NoMemory =
     (sectors_of geometry ≤ length (history before).disk.content) × (after ≡ before)
 
--- what is told where there was no memory to read the old device (no public clause cites this)
-abbrev pub IsToldUnread : (old new : Image) → (before after : ℕ) → MigrateError → Type 0
-IsToldUnread old new before after (Old e) = (e ≡ DeviceFailed) × Rises before after
-IsToldUnread old new before after (New e) = (e ≡ DeviceTooSmall) × IsSmallerThan old new
-IsToldUnread old new before after NoMemory = (geometry : GeometryValue) (half : Half) → IsStoreIn One geometry half old
-    → sectors_of geometry ≤ length new
+-- what a refusal of the old device is told as (no public clause cites this)
+abbrev pub IsToldOfOld : Error → MigrateError → Type 0
+IsToldOfOld e refusal = ((e ≡ errors.NoMemory) × (refusal ≡ NoMemory)) ⊎ ((e ≢ errors.NoMemory) × (refusal ≡ Old e))

@@ -8,8 +8,8 @@
 //! `copies_flip`: so many copies make an image current. With none active an engine that served is left as a restart
 //! would leave it: `into_writer` gives the writer, with all that the engine holds synced (`written`), and `fresh_core`
 //! a core over it (`fresh`); `into_parts` gives both. `migrate` opens over a new device what an old one gives by
-//! version 1, and writes nothing on the old one (`migrated`, `kept`); a new device that is too small is told before
-//! want of memory (`too_small`). Only tested (`store_tests`): each allocation refused, and each call of the device
+//! version 1, and writes nothing on the old one (`migrated`, `kept`); a new device that is too small is told
+//! (`too_small`). Only tested (`store_tests`): each allocation refused, and each call of the device
 //! failing, in turn; that calls succeed where there is memory. Neither: time; that an engine is left so without its
 //! device being read, or with each sector written once at most.
 #![tactic(auto)]

@@ -12,7 +12,7 @@ ghost use Rattle.store_reader.specs.Contents.{GivesIn, HasHeaderIn};
 ghost use Rattle.nsf_core.specs.Value.{value_of};
 ghost use Rattle.restart.specs.Parts.{device_of};
 ghost use Rattle.restart.specs.Migrating.{BeginsEmpty, IsFilled, IsMigrated, IsMigratedCore, IsNotFilled};
-ghost use Rattle.restart.specs.Migrating.{IsNotMigrated, IsSmallAnswer, IsToldUnread, IsTooSmall, WritesTheStoreAlone};
+ghost use Rattle.restart.specs.Migrating.{IsNotMigrated, IsSmallAnswer, IsToldOfOld, IsTooSmall, WritesTheStoreAlone};
 
 use crate::Engine;
 use crate::copying::Copying;
@@ -55,13 +55,12 @@ pub enum MigrateError {
 /// failed. `NoMemory` comes before anything is written too, and only where the old device holds a store of version 1
 /// whose current half begins with a header (`memory`).
 ///
-/// Of faults that are met together the first of these is answered. `New` with `DeviceFailed` comes only where the old
-/// device gives something and the new one has room for it (`refused`). Where it gives something and the new one has no
-/// room, that is the answer, also where memory was wanting; but a failure of the old device comes first (`too_small`,
-/// `room`). Where there is no memory to read all of the old device, what stands behind its current half's header isn't
-/// known. A fault there goes untold then: the answer is `New` with `DeviceTooSmall`, or `NoMemory`. Where the old
-/// device failed in the call, that is what is told (`told`). After `New` with `DeviceFailed`, and after a crash within
-/// the call, the new device may hold anything: the call is made again.
+/// Of faults that are met together the first of these is answered: `New` comes only where the old device gives
+/// something, and with `DeviceFailed` only where the new one has room for it (`refused`). Where it gives something and
+/// the new one has no room, that is the answer, unless the old device failed, or there was no memory to read it
+/// (`too_small`, `room`). `NoMemory` may come while the old device is read, before a fault that a later sector has.
+/// Where the old device failed in the call, that is what is told (`told`). After `New` with `DeviceFailed`, and after a
+/// crash within the call, the new device may hold anything: the call is made again.
 ///
 /// The new store's log is empty, and no image of it is under way (`emptied`). The sectors behind the store are as they
 /// were (`around`).
@@ -133,32 +132,20 @@ fn move_store<O: Device, N: Device, A: Allocator + Copy>(
 {
     room_for_given();
     one_old_answer();
-    let error = match read_store_in(alloc, Version::One, old) {
-        Ok(found) => return fill(alloc, new, found.restored),
-        Err(error) => error,
-    };
-    match error {
-        Error::NoMemory => Err(unread(old, new)),
-        _ => Err(MigrateError::Old(error)),
+    match read_store_in(alloc, Version::One, old) {
+        Ok(found) => fill(alloc, new, found.restored),
+        Err(error) => Err(refusal_of_old(error)),
     }
 }
 
-// What is told where there was no memory to read the old store: the new device may be too small for it besides.
-fn unread<O: Device, N: Device>(old: &mut O, new: &N) -> MigrateError
-    requires { HasHeaderIn One (O.history old.old).disk.content }
-    ensures why { IsToldUnread (O.history old.old).disk.content (N.history new.now).disk.content (O.failures old.old)
-        (O.failures old.new) result }
-    ensures kept { OnlyReads (O.history old.old) (O.history old.new) }
-    ensures told { result ≢ MigrateError.Old Error.DeviceFailed → O.failures old.new ≡ O.failures old.old }
+// Why nothing is moved where the old store isn't read.
+fn refusal_of_old(error: Error) -> MigrateError
+    ensures { IsToldOfOld error result }
 {
-    let halves = match Halves::open_in(Version::One, old) {
-        Ok(halves) => halves,
-        Err(error) => return MigrateError::Old(error),
-    };
-    if new.sectors() < halves.geometry().sectors() {
-        return MigrateError::New(Error::DeviceTooSmall);
+    match error {
+        Error::NoMemory => MigrateError::NoMemory,
+        _ => MigrateError::Old(error),
     }
-    MigrateError::NoMemory
 }
 
 // Makes the device a store of this geometry, and opens it.

@@ -22,7 +22,7 @@ returns-in-Done-clause-attempted g c = raised g.B.Group.site.opened _ _ c.build_
 pub returns-in-Refused-clause-why : goal.returns-in-Refused-clause-why
 returns-in-Refused-clause-why g c = inr (
   c.in-Refused.ensures.1,
-  c.in-Refused.ensures.2,
+  (λ on. (c.in-Refused.ensures.2 on).0),
   was_refused g.B.Group.site.opened c.build_step-step.result.0 c.build_step-step.result.1 c.build_step-step.ensures c.in-Refused.error c.in-Refused.ensures.0,
 )
 

@@ -1,13 +1,11 @@
-use Rattle.std.proofs.Common.{◌<◌, ◌∙◌, ap, arith, inr, length, refl, sym, subst, ⊎_elim}
-use Rattle.sector_device.specs.Disk.{Disk, SameOutside}
+use Rattle.std.proofs.Common.{◌<◌, ◌∙◌, ap, arith, inl, inr, length, refl, sym, subst, ⊎_elim}
+use Rattle.sector_device.specs.Disk.{SameOutside}
 use Rattle.records.specs.GeometryValue.{GeometryValue, sectors_of}
 use Rattle.records.specs.declared.version.Version.TheVariants.{One}
 use Rattle.redo.specs.Restored.{given_in}
 use Rattle.nsf_core.specs.Value.{value_of}
-use Rattle.restart.specs.Migrating.{IsToldUnread}
 use Rattle.restart.specs.declared.migration.MigrateError.TheVariants as refusals
-use Rattle.restart.proofs.Migrated.{has_header, if_err_weaker, if_ok_weaker, moved, on_ok_weaker, not_filled, old_refused, told_small, unread_not_moved}
-use Rattle.restart.proofs.Migrated.{unread_small}
+use Rattle.restart.proofs.Migrated.{has_header, if_err_weaker, if_ok_weaker, moved, on_ok_weaker, not_failed, not_filled, old_not_moved, told_small, wanted}
 use Rattle.restart.proofs.migration.move_store.Goals as goal
 
 pub fill-requires : goal.fill-requires
@@ -64,37 +62,19 @@ returns-in-Ok-clause-too_small g c small =
     small)
     c.fill.ensures.refused
 
-pub returns-in-NoMemory-clause-refused : goal.returns-in-NoMemory-clause-refused
-returns-in-NoMemory-clause-refused g c =
+pub returns-in-Err-clause-refused : goal.returns-in-Err-clause-refused
+returns-in-Err-clause-refused g c =
     let f = g.O.Device.failures in
-    let new = (g.N.Device.history c.args.new.now).disk.content in
-    unread_not_moved (g.O.Device.history c.args.old.now).disk.content (f c.args.old.now) (f c.read_store_in.new.device)
-    (f c.unread.new.old) g.N.Device.history g.N.Device.failures c.args.new.now
-    (c.in-Err.ensures.told (λ is. let bad = sym c.in-NoMemory.is ∙ is in absurd cc)) c.unread.result
-    (subst (λ (d : Disk). IsToldUnread d.content new (f c.read_store_in.new.device) (f c.unread.new.old) c.unread.result) c.read_store_in.ensures.reads.disk
-    c.unread.ensures.why)
+    old_not_moved (g.O.Device.history c.args.old.now).disk.content (f c.args.old.now)
+    (f c.read_store_in.new.device) g.N.Device.history g.N.Device.failures c.args.new.now c.in-Err.error c.refusal_of_old.result c.refusal_of_old.ensures
+    c.in-Err.ensures.refused
 
-pub returns-in-NoMemory-clause-too_small : goal.returns-in-NoMemory-clause-too_small
-returns-in-NoMemory-clause-too_small g c =
-    let f = g.O.Device.failures in
-    let new = (g.N.Device.history c.args.new.now).disk.content in
-    unread_small (g.O.Device.history c.args.old.now).disk.content (f c.args.old.now) (f c.read_store_in.new.device)
-    (f c.unread.new.old) g.N.Device.history g.N.Device.failures c.args.new.now c.unread.result
-    (subst (λ (d : Disk). IsToldUnread d.content new (f c.read_store_in.new.device) (f c.unread.new.old) c.unread.result) c.read_store_in.ensures.reads.disk
-    c.unread.ensures.why)
-
-pub returns-in_default-clause-too_small : goal.returns-in_default-clause-too_small
-returns-in_default-clause-too_small g c small =
-    ⊎_elim (λ none. absurd (c.in_default.not-NoMemory none)) (λ failed. inr (ap refusals.Old failed.0))
-    (c.in-Err.ensures.accepted small.geometry small.given small.gave)
-
-pub returns-in_default-clause-refused : goal.returns-in_default-clause-refused
-returns-in_default-clause-refused g c =
-    let f = g.O.Device.failures in (
-      old_refused (g.O.Device.history c.args.old.now).disk.content (f c.args.old.now)
-          (f c.read_store_in.new.device) c.in-Err.error c.in_default.not-NoMemory c.in-Err.ensures.refused,
-      refl,
-    )
+pub returns-in-Err-clause-too_small : goal.returns-in-Err-clause-too_small
+returns-in-Err-clause-too_small g c small = ⊎_elim
+    (λ none. inr (inr none.1))
+    (λ other. ⊎_elim (λ none. absurd (other.0 none)) (λ failed. inr (inl (other.1 ∙ ap refusals.Old failed.0)))
+    (c.in-Err.ensures.accepted small.geometry small.given small.gave))
+    c.refusal_of_old.ensures
 
 pub returns-in-Ok-clause-memory : goal.returns-in-Ok-clause-memory
 returns-in-Ok-clause-memory g c =
@@ -104,6 +84,12 @@ returns-in-Ok-clause-memory g c =
 
 pub returns-in-Ok-clause-told : goal.returns-in-Ok-clause-told
 returns-in-Ok-clause-told g c = if_err_weaker _ _ c.fill.result (λ e why other. c.in-Ok.ensures.quiet) c.fill.ensures.refused
+
+pub returns-in-Err-clause-memory : goal.returns-in-Err-clause-memory
+returns-in-Err-clause-memory g c none = c.in-Err.ensures.memory (wanted c.in-Err.error c.refusal_of_old.result c.refusal_of_old.ensures none)
+
+pub returns-in-Err-clause-told : goal.returns-in-Err-clause-told
+returns-in-Err-clause-told g c other = c.in-Err.ensures.told (not_failed c.in-Err.error c.refusal_of_old.result c.refusal_of_old.ensures other)
 
 pub returns-in-Ok-clause-around : goal.returns-in-Ok-clause-around
 returns-in-Ok-clause-around g c =
