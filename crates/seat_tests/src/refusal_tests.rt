@@ -55,17 +55,6 @@ const STEPS: [(Request, Answer); 20] = [
 // The rows of the first three places.
 type Rows = [Option<Row>; 3];
 
-// The first four entries.
-type Entries = [Option<(Pair, Mark)>; 4];
-
-// What a store opens with: rows, entries, and whether there is an index.
-#[derive(Drop, PartialEq)]
-struct Opened {
-    rows: Rows,
-    entries: Entries,
-    life: Life,
-}
-
 // A new store on the device.
 fn format<D: Device>(device: &mut D, geometry: Geometry) -> Result<(), Error> {
     format_store(device, geometry)
@@ -79,39 +68,6 @@ fn formatted(alloc: Global) -> Result<MemDisk<Global>, Error> {
     Ok(disk)
 }
 
-// The entry above this one, if there is this one.
-fn above(core: &Core<Global>, last: Option<(Pair, Mark)>) -> Option<(Pair, Mark)> {
-    let (pair, _) = last?;
-    core.above(Some(&pair))
-}
-
-// The first entries of the index, in order.
-fn entries_of(core: &Core<Global>) -> Entries {
-    let first = core.above(None);
-    let second = above(core, first);
-    let third = above(core, second);
-    let fourth = above(core, third);
-    [first, second, third, fourth]
-}
-
-// What the store on the device opens with behind a crash.
-fn left_on(alloc: Global, mut disk: MemDisk<Global>) -> Result<Opened, Error> {
-    disk.crash(&[Fate::Junk]);
-    match restart(alloc, disk) {
-        Ok(engine) => {
-            let core = engine.core();
-            let opened = Opened {
-                rows: [core.get(FIRST), core.get(SECOND), core.get(THIRD)],
-                entries: entries_of(core),
-                life: core.life(),
-            };
-            drop(engine.into_device());
-            Ok(opened)
-        }
-        Err((error, _)) => Err(error),
-    }
-}
-
 // A row with this key.
 fn row(key: &[u8]) -> Result<Option<Row>, Error> {
     Ok(Some(Row {
@@ -120,35 +76,66 @@ fn row(key: &[u8]) -> Result<Option<Row>, Error> {
     }))
 }
 
-// An entry of this key.
-fn entry(key: &[u8], rid: Rid, mark: Mark) -> Result<Option<(Pair, Mark)>, Error> {
+// The pair of this key at a place.
+fn pair(key: &[u8], rid: Rid) -> Result<Pair, Error> {
     let key = Key::new(key)?;
-    Ok(Some((Pair { key, rid }, mark)))
+    Ok(Pair { key, rid })
 }
 
-// Whether this is what all commits leave; where the end was refused, the rows of the first ones.
-fn is_right(opened: &Opened, finished: bool) -> Result<bool, Error> {
+// Whether these are the entries of the index, in order.
+fn has_entries(core: &Core<Global>, wanted: &[(Pair, Mark)]) -> bool {
+    let mut next = core.above(None);
+    for entry in wanted {
+        let (pair, mark) = *entry;
+        if next != Some((pair, mark)) {
+            return false;
+        }
+        next = core.above(Some(&pair));
+    }
+    next.is_none()
+}
+
+// Whether the index is the second one, with what the last two commits left in it.
+fn is_indexed(core: &Core<Global>) -> Result<bool, Error> {
+    let wanted = [
+        (pair(b"fox", SECOND)?, Mark::Live),
+        (pair(b"gnu", THIRD)?, Mark::Marked),
+        (pair(b"hen", THIRD)?, Mark::Live),
+    ];
+    Ok(core.life() == Life::Building { highest: None } && has_entries(core, &wanted))
+}
+
+// What the store on the device opens with behind a crash: the rows, and whether the index is as all commits leave it.
+fn left_on(alloc: Global, mut disk: MemDisk<Global>) -> Result<(Rows, bool), Error> {
+    disk.crash(&[Fate::Junk]);
+    match restart(alloc, disk) {
+        Ok(engine) => {
+            let core = engine.core();
+            let rows = [core.get(FIRST), core.get(SECOND), core.get(THIRD)];
+            let indexed = is_indexed(core)?;
+            drop(engine.into_device());
+            Ok((rows, indexed))
+        }
+        Err((error, _)) => Err(error),
+    }
+}
+
+// Whether these are the rows of all commits, with their entries; where the end was refused, the rows of the first ones.
+fn is_right(rows: Rows, indexed: bool, finished: bool) -> Result<bool, Error> {
     let (eel, fox, hen) = (row(b"eel")?, row(b"fox")?, row(b"hen")?);
-    let whole = Opened {
-        rows: [eel, fox, hen],
-        entries: [
-            entry(b"fox", SECOND, Mark::Live)?,
-            entry(b"gnu", THIRD, Mark::Marked)?,
-            entry(b"hen", THIRD, Mark::Live)?,
-            None,
-        ],
-        life: Life::Building { highest: None },
-    };
-    let firsts = [[None, None, None], [eel, None, None], [eel, fox, None]];
-    Ok(*opened == whole || !finished && firsts.contains(&opened.rows))
+    let is_whole = rows == [eel, fox, hen] && indexed;
+    let is_first = rows == [None, None, None]
+        || rows == [eel, None, None]
+        || rows == [eel, fox, None];
+    Ok(is_whole || !finished && is_first)
 }
 
 // Whether all is as it should be where this allocation is refused, and how many were.
 fn play_short<R: Wait>(rt: &R, alloc: Global, before: u64) -> Result<(bool, u64), Error> {
     let memory = Refusing::new(alloc, before);
     let played = play(rt, &memory, formatted(alloc)?, &memory, &STEPS)?;
-    let opened = left_on(alloc, played.device)?;
-    let right = played.wrong.is_none() && is_right(&opened, played.finished)?;
+    let (rows, indexed) = left_on(alloc, played.device)?;
+    let right = played.wrong.is_none() && is_right(rows, indexed, played.finished)?;
     Ok((right, memory.refused()))
 }
 
