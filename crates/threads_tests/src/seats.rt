@@ -206,8 +206,8 @@ fn lead<B: Group, R: Wait + Clock>(
 // failure.
 fn note<B: Group>(
     writer: &mut Writer<B>,
-    put: Put,
-    deleted: Option<Put>,
+    put: &Put,
+    deleted: &Option<Put>,
     waited: Result<(), Error>,
 ) -> Result<(), Error>
     ensures { writer.new.seat ≡ writer.old.seat }
@@ -218,9 +218,10 @@ fn note<B: Group>(
                 return Err(Error::DeviceFailed);
             }
             writer.acknowledged = writer.acknowledged.saturating_add(1);
-            writer.kept.push(put)?;
-            if let Some(deleted) = deleted {
-                writer.gone.push(deleted)?;
+            writer.kept.push(*put)?;
+            let gone = *deleted;
+            if let Some(row) = gone {
+                writer.gone.push(row)?;
             }
             Ok(())
         }
@@ -229,6 +230,22 @@ fn note<B: Group>(
             Ok(())
         }
         Err(error) => Err(error),
+    }
+}
+
+// The place of a row, if there is a row.
+fn place_of(row: &Option<Put>) -> Option<Rid> {
+    let row = *row;
+    match row {
+        Some(put) => Some(put.rid),
+        None => None,
+    }
+}
+
+// Takes a row off those that are there, if it is the last one.
+fn forget(kept: &mut Vec<Put>, row: &Option<Put>) {
+    if kept.last().copied() == *row {
+        kept.pop();
     }
 }
 
@@ -244,17 +261,12 @@ fn keep_row<B: Group, R: Wait>(
     ensures { writer.new.seat.number ≡ writer.old.seat.number }
 {
     let first = writer.number;
-    let gone = match deleted {
-        Some(row) => Some(row.rid),
-        None => None,
-    };
-    if writer.kept.last().copied() == deleted {
-        writer.kept.pop();
-    }
+    let gone = place_of(&deleted);
+    forget(&mut writer.kept, &deleted);
     let (rid, ticket) = change(rt, shared, &mut writer.seat, (first, second), gone)?;
     let put = Put { rid, first, second };
     let waited = await_ack(rt, shared, &mut writer.seat, &ticket);
-    note(writer, put, deleted, waited)?;
+    note(writer, &put, &deleted, waited)?;
     Ok(put)
 }
 
