@@ -4,7 +4,7 @@
 Each word in backticks that could name an item, a crate or a file stands in the sources. At each place FILE:LINE that a table row
 names stands what the row is about, and a block of code behind such a place begins with that line. Each relative link leads
 somewhere. A row with functions and a file names functions of that file. A line of src or specs has at most 120 columns, one of
-proofs 160. It prints how many words each page has, and ends with status 1 where something is missing or too wide.
+proofs 160, strings aside. It prints how many words each page has, and ends with status 1 where something is missing or too wide.
 """
 import fnmatch, pathlib, re, sys
 
@@ -13,6 +13,7 @@ KINDS = {".rt", ".antt", ".edit", ".h", ".c", ".rs", ".py", ".sh"}
 WORD = re.compile(r"[A-Za-z_]\w{2,}")
 BYTES = re.compile(r"(?<![\w:]):[0-9a-f]{2,}\b|\b\d\w*")
 OUTSIDE = {"libc", "synchronous"}  # names of other programs
+TEXT = re.compile(r'"(?:[^"\\]|\\.)*"', re.S)
 PLACE = re.compile(r"`([\w./-]+\.(?:rt|antt)):(\d+)`")
 
 
@@ -79,7 +80,8 @@ def wide_lines():
     for part, most in (("src", 120), ("specs", 120), ("proofs", 160)):
         for path in sorted(TOP.glob(f"crates/*/{part}/**/*")):
             if path.suffix in {".rt", ".antt"}:
-                for number, line in enumerate(path.read_text().split("\n"), 1):
+                text = TEXT.sub(lambda it: "\n" * it[0].count("\n"), path.read_text())
+                for number, line in enumerate(text.split("\n"), 1):
                     if len(line) > most:
                         yield f"{path.relative_to(TOP)}:{number} has {len(line)} columns"
 
