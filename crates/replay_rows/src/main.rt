@@ -4,7 +4,8 @@
 //!
 //! - `#` a comment;
 //! - `=` the name of a case;
-//! - `<` a line of its script, `+` the same without a line feed behind it, `*` a number and a line that stands so often;
+//! - `<` a line of its script, `+` the same without a line feed behind it, `*` a number and a line that stands so
+//!   often;
 //! - `~` the script cannot be read;
 //! - `>` a line of its output;
 //! - `!` a line with which its errors begin: with none there are no errors;

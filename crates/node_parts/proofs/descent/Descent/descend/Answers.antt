@@ -15,7 +15,10 @@ place-requires g c =
 pub index-requires : goal.index-requires
 index-requires g c =
     let here = ap (λ r. r.node) c.self.view_is in
-    let over : IsOver c.self.inside.node.now c.in-Inner.row.items = record { seen = inner_is _ _ _ c.node.view_is c.in-Inner.is; labelled = (sound_inner _ _ c.node.invariant c.in-Inner.is).2 } in
+    let over : IsOver c.self.inside.node.now c.in-Inner.row.items = record {
+      seen = inner_is _ _ _ c.node.view_is c.in-Inner.is;
+      labelled = (sound_inner _ _ c.node.invariant c.in-Inner.is).2;
+    } in
     let n : length c.in-Inner.row.items ≡ vec_len c.in-Inner.row = search rules in
     omega (arith, n, place_inside _ _ _ _ over (rw here c.requires.some) c.place.ensures)
 
@@ -27,16 +30,24 @@ overflow_add-self g c =
 pub returns-clause-child : goal.returns-clause-child
 returns-clause-child g c goes =
     let here = ap (λ r. r.node) c.self.view_is in
-    let over : IsOver c.self.inside.node.now c.in-Inner.row.items = record { seen = inner_is _ _ _ c.node.view_is c.in-Inner.is; labelled = (sound_inner _ _ c.node.invariant c.in-Inner.is).2 } in
+    let over : IsOver c.self.inside.node.now c.in-Inner.row.items = record {
+      seen = inner_is _ _ _ c.node.view_is c.in-Inner.is;
+      labelled = (sound_inner _ _ c.node.invariant c.in-Inner.is).2;
+    } in
     let inside = place_inside _ _ _ c.args.pair.now over (rw here c.requires.some) c.place.ensures in
-    rw here at (child_is _ c.deref-self-inside.result.now _ _ c.index.result.now c.args.pair.now over c.place.ensures inside c.index.ensures c.deref-self-inside.ensures)
+    rw here at (child_is _ c.deref-self-inside.result.now _ _ c.index.result.now c.args.pair.now over c.place.ensures
+    inside c.index.ensures c.deref-self-inside.ensures)
 
 pub returns-clause-mark : goal.returns-clause-mark
 returns-clause-mark g c =
     let here = ap (λ r. r.node) c.self.view_is in
-    let over : IsOver c.self.inside.node.now c.in-Inner.row.items = record { seen = inner_is _ _ _ c.node.view_is c.in-Inner.is; labelled = (sound_inner _ _ c.node.invariant c.in-Inner.is).2 } in
+    let over : IsOver c.self.inside.node.now c.in-Inner.row.items = record {
+      seen = inner_is _ _ _ c.node.view_is c.in-Inner.is;
+      labelled = (sound_inner _ _ c.node.invariant c.in-Inner.is).2;
+    } in
     let inside = place_inside _ _ _ c.args.pair.now over (rw here c.requires.some) c.place.ensures in
-    rw here at (child_mark _ c.deref-self-inside.result.now _ _ c.index.result.now c.args.pair.now over (rw here c.requires.ascending) c.place.ensures inside c.index.ensures c.deref-self-inside.ensures)
+    rw here at (child_mark _ c.deref-self-inside.result.now _ _ c.index.result.now c.args.pair.now over
+    (rw here c.requires.ascending) c.place.ensures inside c.index.ensures c.deref-self-inside.ensures)
 
 pub returns-clause-visits : goal.returns-clause-visits
 returns-clause-visits g c = ap (λ r. r.visits + 1) c.self.view_is
