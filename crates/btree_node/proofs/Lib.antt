@@ -14,3 +14,4 @@ pub mod Mending
 pub mod Remove
 pub mod Path
 pub mod Descending
+pub mod Ways

@@ -8,13 +8,14 @@ use Rattle.btree_node.specs.Path.{top_path}
 use Rattle.btree_node.specs.Top.{nodes_for}
 use Rattle.btree_node.specs.Grown.{Nodes, AreEnough}
 
--- what a way is seen as: its pair, the places on it, how many nodes the pair's insertion takes, and the pair's mark, if
--- it has an entry
+-- what a way is seen as: its pair, the places on it, how many nodes the pair's insertion takes, the pair's mark, if it has
+-- an entry, and how many nodes were visited
 pub record Walked : Type 0 where
   pub pair : Pair
   pub path : List ℕ
   pub nodes : ℕ
   pub mark : Option Mark
+  pub visits : ℕ
 
 -- the way leads to where its pair belongs in this tree, and knows how many nodes the insertion there takes
 pub record IsWayIn (tree : Tree) (way : Walked) : Type 0 where

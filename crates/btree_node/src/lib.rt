@@ -4,11 +4,11 @@
 //! read: a way tells the mark of a pair (`mark`) and serves its insertion (`way`), and `plan` answers `NoMemory` alone
 //! (`no_memory`). `insert`, `set_mark`, `remove` and `take` can't fail; the first three change the named pair alone,
 //! and `take` answers what the tree held (`taken`). A look-up goes down by a `Descent`, which counts each node that it
-//! visits. It visits as many as the tree is high (`visited`), at most four (`few_visited`). `run_above` answers entries
-//! that follow one another (`run`), and none only where none is above (`none`). Only tested (`table_tests`): plans with
-//! each allocation refused in turn; heights of full trees, and how many runs a walk over one takes. Neither: that a way
-//! is one walk down; when memory is freed; speed; stack. By hand: the `unsafe impl` of an allocator that always
-//! refuses.
+//! visits. `get` and `find_way` visit as many as the tree is high (`visited`), at most four (`few_visited`).
+//! `run_above` answers entries that follow one another (`run`), and none only where none is above (`none`). Only tested
+//! (`table_tests`): plans with each allocation refused in turn; heights of full trees, and how many runs a walk over one
+//! takes. Neither: how many nodes `above` and `run_above` look at; when memory is freed; speed; stack. By hand: the
+//! `unsafe impl` of an allocator that always refuses.
 #![tactic(auto)]
 
 ghost use Rattle.std.specs.Prelude.{◌≡◌, ◌<◌, ◌≤◌, ◌↔◌, None, IfOk, IfErr, IsSome, IsTrue};
@@ -50,14 +50,15 @@ pub const ENTRIES_MAX: usize = records::ENTRIES_MAX as usize;
 /// The most levels of a tree.
 pub const LEVELS_MAX: usize = 4;
 
-/// A pair with its way down a tree, found in one walk: how many nodes the pair's insertion takes, and its mark if it
-/// has an entry.
+/// A pair with its way down a tree, found in one walk: how many nodes the pair's insertion takes, its mark if it has an
+/// entry, and how many nodes were visited.
 #[derive(Drop)]
 pub struct Way {
     pair: Pair,
     path: SmallVec<usize, LEVELS_MAX, Inline>,
     nodes: usize,
     mark: Option<Mark>,
+    visits: u32,
 }
 
 impl Model for Way {
@@ -66,7 +67,13 @@ impl Model for Way {
 
     ghost Value = { Walked };
 
-    ghost view = { λ w. record { pair = w.pair; path = w.path.items; nodes = w.nodes; mark = w.mark } };
+    ghost view = { λ w. record {
+      pair = w.pair;
+      path = w.path.items;
+      nodes = w.nodes;
+      mark = w.mark;
+      visits = w.visits;
+    } };
 
     ghost invariant = { λ w. w.path.capacity ≡ 4 };
 }
@@ -77,6 +84,13 @@ impl Way {
         ensures { result ≡ self.now.mark }
     {
         self.mark
+    }
+
+    /// How many nodes were visited.
+    pub fn visits(&self) -> u32
+        ensures { result ≡ self.now.visits }
+    {
+        self.visits
     }
 }
 
@@ -216,13 +230,15 @@ impl<A: Allocator + Clone> BTree<A> {
         ensures pair { result.pair ≡ pair.now }
         ensures mark { result.mark ≡ map.get (contents self.now) pair.now }
         ensures way { IsWayIn self.now result }
+        ensures visited { result.visits ≡ height_of self.now }
     {
         let mut path = SmallVec::new(Inline);
-        let (nodes, mark) = match &self.root {
-            None => (1, None),
+        let (nodes, mark, visits) = match &self.root {
+            None => (1, None, 0),
             Some(root) => {
-                let (splits, all, found) = way_to(root, pair, &mut path);
-                (splits + usize::from(all), found)
+                let mut way = Descent::new(root);
+                let (splits, all, found) = way_to(&mut way, pair, &mut path);
+                (splits + usize::from(all), found, way.visits())
             }
         };
         Way {
@@ -230,6 +246,7 @@ impl<A: Allocator + Clone> BTree<A> {
             path,
             nodes,
             mark,
+            visits,
         }
     }
 

@@ -11,8 +11,6 @@ ghost use Rattle.std.specs.List.{prefix_len};
 use crate::LEVELS_MAX;
 use crate::inline::Inline;
 use node_parts::descent::Descent;
-use node_parts::rows::FULL;
-use node_parts::search::entry_place;
 use node_parts::{Entry, Node, Parts};
 use records::{Mark, Pair, compare_pairs};
 use smallvec::SmallVec;
@@ -40,11 +38,11 @@ pub fn mark_below<A: Allocator>(way: &mut Descent<'_, A>, pair: &Pair) -> Option
     ensures found { result ≡ mark_in (entries way.old.node) pair.now }
     ensures visits { way.new.visits + 1 ≡ way.old.visits + depth way.old.node }
 {
-    if way.descend(pair) {
+    let (at, goes_on) = way.descend(pair);
+    if goes_on {
         return mark_below(way, pair);
     }
-    let row = way.row();
-    mark_at(row, entry_place(row, pair), pair)
+    mark_at(way.row(), at, pair)
 }
 
 /// How many levels a subtree has.
@@ -63,33 +61,30 @@ pub fn levels<A: Allocator>(node: &Node<A>) -> u32
 /// Notes the places on the way to where a pair belongs, and counts the nodes that its insertion splits.
 /// Beside the count, whether the top node is among them, and the mark of the pair.
 pub fn way_to<A: Allocator>(
-    node: &Node<A>,
+    way: &mut Descent<'_, A>,
     pair: &Pair,
     path: &mut SmallVec<usize, LEVELS_MAX, Inline>,
 ) -> (usize, bool, Option<Mark>)
-    requires ascending { IsAscending (entries node.now) }
-    requires tree { IsTree (depth node.now) node.now }
-    requires some { 0 < length (entries node.now) }
-    requires low { depth node.now ≤ LEVELS_MAX }
-    requires room { small_vec_len path.old + depth node.now ≤ path.old.capacity }
-    ensures path { path.new.items ≡ path.old.items ++ path_of node.now pair.now }
+    requires ascending { IsAscending (entries way.old.node) }
+    requires tree { IsTree (depth way.old.node) way.old.node }
+    requires some { 0 < length (entries way.old.node) }
+    requires low { way.old.visits + depth way.old.node ≤ LEVELS_MAX + 1 }
+    requires room { small_vec_len path.old + depth way.old.node ≤ path.old.capacity }
+    ensures path { path.new.items ≡ path.old.items ++ path_of way.old.node pair.now }
     ensures inline { path.new.capacity ≡ path.old.capacity }
-    ensures splits { result.0 ≡ splits node.now pair.now }
-    ensures few { result.0 ≤ depth node.now }
-    ensures all { result.1 ≡ (splits node.now pair.now == depth node.now) }
-    ensures found { result.2 ≡ mark_in (entries node.now) pair.now }
+    ensures splits { result.0 ≡ splits way.old.node pair.now }
+    ensures few { result.0 ≤ depth way.old.node }
+    ensures all { result.1 ≡ (splits way.old.node pair.now == depth way.old.node) }
+    ensures found { result.2 ≡ mark_in (entries way.old.node) pair.now }
+    ensures visits { way.new.visits + 1 ≡ way.old.visits + depth way.old.node }
 {
-    let at = node.place(pair);
+    let is_full = way.is_full();
+    let (at, goes_on) = way.descend(pair);
     path.push_reserved(at);
-    match &node.parts {
-        Parts::Leaf(row) => {
-            let full = row.len() == FULL;
-            (usize::from(full), full, mark_at(row, at, pair))
-        }
-        Parts::Inner(row) => {
-            let (below, all, found) = way_to(&row[at].node, pair, path);
-            let full = all && row.len() == FULL;
-            (below + usize::from(full), full, found)
-        }
+    if goes_on {
+        let (below, all, found) = way_to(way, pair, path);
+        let full = all && is_full;
+        return (below + usize::from(full), full, found);
     }
+    (usize::from(is_full), is_full, mark_at(way.row(), at, pair))
 }

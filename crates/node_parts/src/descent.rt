@@ -1,11 +1,13 @@
 //! Ways down from a node, on which each node counts as it is visited.
-ghost use Rattle.std.specs.Prelude.{◌≡◌, ◌+◌, ◌-◌, ◌^◌, ◌<◌, Some, false, length, slice_get, IsTrue, if◌then◌else◌};
+ghost use Rattle.std.specs.Prelude.{◌≡◌, ◌+◌, ◌-◌, ◌^◌, ◌<◌, ◌==◌, Some, false, length, slice_get, IsTrue};
+ghost use Rattle.std.specs.Prelude.{if◌then◌else◌};
 ghost use Rattle.node_parts.specs.Descents.{Reached};
 ghost use Rattle.node_parts.specs.Order.{IsAscending, mark_in};
 ghost use Rattle.node_parts.specs.Place.{place_in};
 ghost use Rattle.node_parts.specs.Rows.{branches};
-ghost use Rattle.node_parts.specs.Tree.{entries, IsLeaf};
+ghost use Rattle.node_parts.specs.Tree.{count, entries, IsLeaf};
 
+use crate::rows::FULL;
 use crate::{Entry, Node, Parts};
 use records::Pair;
 use std::alloc::Allocator;
@@ -44,25 +46,35 @@ impl<'a, A: Allocator> Descent<'a, A> {
         self.visits
     }
 
-    /// Visits the child where a pair belongs, and answers whether there is one: a leaf has none.
-    pub fn descend(&mut self, pair: &Pair) -> bool
+    /// Whether the node that was visited last is full.
+    pub fn is_full(&self) -> bool
+        ensures { result ≡ (count self.now.node == 32) }
+    {
+        self.node.count() == FULL
+    }
+
+    /// Finds the place of a pair in the node that was visited last, and visits the child there. Answers the place, and
+    /// whether there is a child: a leaf has none.
+    pub fn descend(&mut self, pair: &Pair) -> (usize, bool)
         requires ascending { IsAscending (entries self.old.node) }
         requires some { 0 < length (entries self.old.node) }
         requires few { self.old.visits < 2 ^ 32 - 1 }
-        ensures child { IsTrue result → slice_get (branches self.old.node) (place_in self.old.node pair.now)
+        ensures place { result.0 ≡ place_in self.old.node pair.now }
+        ensures child { IsTrue result.1 → slice_get (branches self.old.node) (place_in self.old.node pair.now)
             ≡ Some self.new.node }
         ensures mark { mark_in (entries self.new.node) pair.now ≡ mark_in (entries self.old.node) pair.now }
-        ensures visits { self.new.visits ≡ self.old.visits + (if result then 1 else 0) }
-        ensures leaf { result ≡ false → IsLeaf self.old.node }
-        ensures unchanged { result ≡ false → self.new ≡ self.old }
+        ensures visits { self.new.visits ≡ self.old.visits + (if result.1 then 1 else 0) }
+        ensures leaf { result.1 ≡ false → IsLeaf self.old.node }
+        ensures unchanged { result.1 ≡ false → self.new ≡ self.old }
     {
         let node = self.node;
+        let at = node.place(pair);
         let Parts::Inner(row) = &node.parts else {
-            return false;
+            return (at, false);
         };
-        self.node = &row[node.place(pair)].node;
+        self.node = &row[at].node;
         self.visits += 1;
-        true
+        (at, true)
     }
 
     /// The entries of the leaf where the way ends.

@@ -14,6 +14,7 @@ returns-clause-plan g c =
       path = c.way.inside.path.items;
       nodes = c.way.inside.nodes;
       mark = c.way.inside.mark;
+      visits = c.way.inside.visits;
     }) = subst (IsWayIn c.args.self.now) (sym c.way.view_is) c.requires.way in
     record {
       room = omega (arith, c.requires.room, len-contents c.args.self.now up);

@@ -1,62 +1,38 @@
-use Rattle.std.proofs.Common.{rules, arith, ◌∙◌, sym, ap, cond, ◌&&◌, ◌≡◌, ◌+◌, ◌^◌, ◌<◌, ◌≤◌, ◌++◌, [], ◌∷◌, length, vec_len, ◌==◌, length-append}
-use Rattle.std.proofs.Common.{append_assoc}
+use Rattle.std.proofs.Common.{rules, arith, ◌∙◌, sym, ap, cond, ◌&&◌, ◌≡◌, ◌+◌, ◌^◌, ◌<◌, ◌≤◌, ◌++◌, [], ◌∷◌, length, ◌==◌, append_assoc, length-append}
 use Rattle.btree_node.specs.Splits.{splits}
 use Rattle.btree_node.specs.Path.{path_of}
-use Rattle.node_parts.specs.Tree.{depth}
+use Rattle.node_parts.specs.Place.{place_in}
+use Rattle.node_parts.specs.Tree.{count, depth}
 use Rattle.btree_node.proofs.Counting.{and_true, and_false, bool_byte_is, bool_byte_small, top_split}
-use Rattle.btree_node.proofs.Path.{path_through}
-use Rattle.btree_node.proofs.Marks.{mark_of}
-use Rattle.btree_node.proofs.At as at
-use Rattle.btree_node.proofs.At.{at_child, at_range}
+use Rattle.btree_node.proofs.Descending.{IsBelow, below}
+use Rattle.btree_node.proofs.Ways.{path_on, splits_on}
 use Rattle.btree_node.proofs.lookup.+way_to.Goals as goal
 use Rattle.btree_node.proofs.lookup.+way_to.Goals.{then-all, else-all}
 
-pub index-requires : goal.index-requires
-index-requires g t c =
-    let n : length c.in-Inner.row.items ≡ vec_len c.in-Inner.row = search rules in
-    omega (arith, n, at_range _ _ _ _ _ c.node.view_is c.in-Inner.is c.node.invariant c.requires.some c.place-at.ensures)
-
-pub overflow_add-result : goal.overflow_add-result
-overflow_add-result g t c =
-    let a = at_child _ _ _ _ _ c.index.result.now _ c.node.view_is c.in-Inner.is c.node.invariant c.requires.ascending c.requires.some c.requires.tree
-    c.place-at.ensures c.index.ensures c.deref-in-Inner.ensures in
-    let lower : depth c.deref-in-Inner.result.now < depth c.args.node.now = at.lower a in
-    let small : c.way_to-below.result.0 + c.from-in-Inner.result < 2 ^ 64 =
-    omega (arith, lower, c.requires.low, c.way_to-below.ensures.few, c.from-in-Inner.ensures, bool_byte_small c.if-all.full) in
-    search (rules, small)
-
-pub returns-after-all-clause-path : goal.returns-after-all-clause-path
-returns-after-all-clause-path g t c =
-    let a = at_child _ _ _ _ _ c.index.result.now _ c.node.view_is c.in-Inner.is c.node.invariant c.requires.ascending c.requires.some c.requires.tree
-    c.place-at.ensures c.index.ensures c.deref-in-Inner.ensures in
-    let on : path_of c.args.node.now c.args.pair.now ≡ c.place-at.result ∷ path_of c.deref-in-Inner.result.now c.args.pair.now = path_through a in
-    c.way_to-below.ensures.path ∙ ap (λ w. w ++ path_of c.deref-in-Inner.result.now c.args.pair.now) c.push_reserved.ensures.items
-    ∙ append_assoc c.args.path.now.items (c.place-at.result ∷ []) (path_of c.deref-in-Inner.result.now c.args.pair.now)
-    ∙ ap (λ w. c.args.path.now.items ++ w) (sym on)
-
--- src/lib.rt:253:32
 pub way_to-below-requires : goal.way_to-below-requires
 way_to-below-requires g t c κs within =
-    let a = at_child _ _ _ _ _ c.index.result.now _ c.node.view_is c.in-Inner.is c.node.invariant c.requires.ascending c.requires.some c.requires.tree
-    c.place-at.ensures c.index.ensures c.deref-in-Inner.ensures in
-    let lower : depth c.deref-in-Inner.result.now < depth c.args.node.now = at.lower a in (
+    let b : IsBelow c.args.way.now.node c.descend-at.new.self.node =
+    below _ _ _ c.requires.tree c.requires.ascending (c.descend-at.ensures.child c.if-goes_on.true) in
+    let lower : depth c.descend-at.new.self.node < depth c.args.way.now.node = omega (arith, b.lower) in
+    let one : c.descend-at.new.self.visits ≡ c.args.way.now.visits + 1 = c.descend-at.ensures.visits
+    ∙ ap (λ r. c.args.way.now.visits + cond r 1 0) c.if-goes_on.true in (
       search (rules, lower),
       (
         search rules,
         (
-          at.ascending a,
+          b.ascending,
           (
-            at.level a,
+            b.tree,
             (
-              at.some a,
+              b.some,
               (
-                omega (arith, lower, c.requires.low),
+                omega (arith, b.lower, one, c.requires.low),
                 omega (
                   arith,
                   lower,
                   c.requires.room,
                   ap length c.push_reserved.ensures.items,
-                  length-append c.args.path.now.items (c.place-at.result ∷ []),
+                  length-append c.args.path.now.items (c.descend-at.result.0 ∷ []),
                   c.push_reserved.ensures.capacity,
                 ),
               ),
@@ -66,55 +42,64 @@ way_to-below-requires g t c κs within =
       ),
     )
 
--- src/lib.rt:237:1
-pub returns-after-all-clause-splits : goal.returns-after-all-clause-splits
-returns-after-all-clause-splits g t c =
-    let a = at_child _ _ _ _ _ c.index.result.now _ c.node.view_is c.in-Inner.is c.node.invariant c.requires.ascending c.requires.some c.requires.tree
-    c.place-at.ensures c.index.ensures c.deref-in-Inner.ensures in
-    let n : length c.in-Inner.row.items ≡ vec_len c.in-Inner.row = search rules in
-    let s : splits c.deref-in-Inner.result.now c.args.pair.now ≡ c.way_to-below.result.0 = sym c.way_to-below.ensures.splits in
-    let full : c.if-all.full ≡ (splits c.deref-in-Inner.result.now c.args.pair.now == depth c.deref-in-Inner.result.now) &&
-    (length c.in-Inner.row.items == 32) =
+pub overflow_add-result : goal.overflow_add-result
+overflow_add-result g t c =
+    let b : IsBelow c.args.way.now.node c.descend-at.new.self.node =
+    below _ _ _ c.requires.tree c.requires.ascending (c.descend-at.ensures.child c.if-goes_on.true) in
+    let small : c.way_to-below.result.0 + c.from.result < 2 ^ 64 =
+    omega (arith, b.lower, c.requires.low, c.way_to-below.ensures.few, c.from.ensures, bool_byte_small c.if-all.full) in
+    search (rules, small)
+
+pub returns-then-goes_on-clause-path : goal.returns-then-goes_on-clause-path
+returns-then-goes_on-clause-path g t c =
+    let old = c.args.way.now.node in
+    let new = c.descend-at.new.self.node in
+    let before = c.args.path.now.items in
+    let on : path_of old c.args.pair.now ≡ place_in old c.args.pair.now ∷ path_of new c.args.pair.now =
+    path_on _ _ _ c.requires.tree c.requires.ascending (c.descend-at.ensures.child c.if-goes_on.true) in
+    c.way_to-below.ensures.path ∙ ap (λ w. w ++ path_of new c.args.pair.now) c.push_reserved.ensures.items
+    ∙ append_assoc before (c.descend-at.result.0 ∷ []) (path_of new c.args.pair.now)
+    ∙ ap (λ k. before ++ k ∷ path_of new c.args.pair.now) c.descend-at.ensures.place ∙ ap (λ w. before ++ w) (sym on)
+
+pub returns-then-goes_on-clause-splits : goal.returns-then-goes_on-clause-splits
+returns-then-goes_on-clause-splits g t c =
+    let old = c.args.way.now.node in
+    let new = c.descend-at.new.self.node in
+    let s : splits new c.args.pair.now ≡ c.way_to-below.result.0 = sym c.way_to-below.ensures.splits in
+    let full : c.if-all.full ≡ (splits new c.args.pair.now == depth new) && (count old == 32) =
     elim c.if-all.branch [
-      | then-all w ↦
-          w.full-is ∙ ap (λ m. m == 32) (w.len.ensures ∙ sym n) ∙ and_true _ _ (sym c.way_to-below.ensures.all ∙ w.if-all.true)
-      | else-all w ↦
-          w.full-is ∙ c.way_to-below.ensures.all ∙ and_false _ _ (sym c.way_to-below.ensures.all ∙ w.if-all.false)
+      | then-all w ↦ w.full-is ∙ c.is_full-is_full.ensures ∙ and_true _ _ (sym c.way_to-below.ensures.all ∙ w.if-all.true)
+      | else-all w ↦ w.full-is ∙ c.way_to-below.ensures.all ∙ and_false _ _ (sym c.way_to-below.ensures.all ∙ w.if-all.false)
     ] in
-    ap (λ m. m + c.from-in-Inner.result) (sym s)
-    ∙ ap (λ m. splits c.deref-in-Inner.result.now c.args.pair.now + m) (c.from-in-Inner.ensures ∙ bool_byte_is c.if-all.full ∙ ap (λ b. cond b 1 0) full)
-    ∙ sym (at.splits_of a)
+    ap (λ m. m + c.from.result) (sym s)
+    ∙ ap (λ m. splits new c.args.pair.now + m) (c.from.ensures ∙ bool_byte_is c.if-all.full ∙ ap (λ b. cond b 1 0) full)
+    ∙ sym (splits_on _ _ _ c.requires.tree c.requires.ascending (c.descend-at.ensures.child c.if-goes_on.true))
 
--- src/lib.rt:237:1
-pub returns-after-all-clause-few : goal.returns-after-all-clause-few
-returns-after-all-clause-few g t c =
-    let a = at_child _ _ _ _ _ c.index.result.now _ c.node.view_is c.in-Inner.is c.node.invariant c.requires.ascending c.requires.some c.requires.tree
-    c.place-at.ensures c.index.ensures c.deref-in-Inner.ensures in
-    let below : depth c.deref-in-Inner.result.now < depth c.args.node.now = at.lower a in
-    omega (arith, below, c.way_to-below.ensures.few, c.from-in-Inner.ensures, bool_byte_small c.if-all.full)
+pub returns-then-goes_on-clause-few : goal.returns-then-goes_on-clause-few
+returns-then-goes_on-clause-few g t c =
+    let b : IsBelow c.args.way.now.node c.descend-at.new.self.node =
+    below _ _ _ c.requires.tree c.requires.ascending (c.descend-at.ensures.child c.if-goes_on.true) in
+    omega (arith, b.lower, c.way_to-below.ensures.few, c.from.ensures, bool_byte_small c.if-all.full)
 
--- src/lib.rt:237:1
-pub returns-after-all-clause-all : goal.returns-after-all-clause-all
-returns-after-all-clause-all g t c =
-    let a = at_child _ _ _ _ _ c.index.result.now _ c.node.view_is c.in-Inner.is c.node.invariant c.requires.ascending c.requires.some c.requires.tree
-    c.place-at.ensures c.index.ensures c.deref-in-Inner.ensures in
-    let n : length c.in-Inner.row.items ≡ vec_len c.in-Inner.row = search rules in
-    let s : splits c.deref-in-Inner.result.now c.args.pair.now ≡ c.way_to-below.result.0 = sym c.way_to-below.ensures.splits in
-    let full : c.if-all.full ≡ (splits c.deref-in-Inner.result.now c.args.pair.now == depth c.deref-in-Inner.result.now) &&
-    (length c.in-Inner.row.items == 32) =
+pub returns-then-goes_on-clause-all : goal.returns-then-goes_on-clause-all
+returns-then-goes_on-clause-all g t c =
+    let old = c.args.way.now.node in
+    let new = c.descend-at.new.self.node in
+    let full : c.if-all.full ≡ (splits new c.args.pair.now == depth new) && (count old == 32) =
     elim c.if-all.branch [
-      | then-all w ↦
-          w.full-is ∙ ap (λ m. m == 32) (w.len.ensures ∙ sym n) ∙ and_true _ _ (sym c.way_to-below.ensures.all ∙ w.if-all.true)
-      | else-all w ↦
-          w.full-is ∙ c.way_to-below.ensures.all ∙ and_false _ _ (sym c.way_to-below.ensures.all ∙ w.if-all.false)
+      | then-all w ↦ w.full-is ∙ c.is_full-is_full.ensures ∙ and_true _ _ (sym c.way_to-below.ensures.all ∙ w.if-all.true)
+      | else-all w ↦ w.full-is ∙ c.way_to-below.ensures.all ∙ and_false _ _ (sym c.way_to-below.ensures.all ∙ w.if-all.false)
     ] in
-    let few : splits c.deref-in-Inner.result.now c.args.pair.now ≤ depth c.deref-in-Inner.result.now = omega (arith, c.way_to-below.ensures.few, s) in
-    let up : depth c.args.node.now ≡ depth c.deref-in-Inner.result.now + 1 = omega (arith, at.child_depth a, (at.levels a).0) in
-    full ∙ sym (top_split _ _ (length c.in-Inner.row.items) few) ∙ ap (λ m. m == depth c.deref-in-Inner.result.now + 1) (sym (at.splits_of a))
-    ∙ ap (λ m. splits c.args.node.now c.args.pair.now == m) (sym up)
+    let b : IsBelow old new = below _ _ _ c.requires.tree c.requires.ascending (c.descend-at.ensures.child c.if-goes_on.true) in
+    let few : splits new c.args.pair.now ≤ depth new = omega (arith, c.way_to-below.ensures.few, c.way_to-below.ensures.splits) in
+    full ∙ sym (top_split _ _ (count old) few)
+    ∙ ap (λ m. m == depth new + 1) (sym (splits_on _ _ _ c.requires.tree c.requires.ascending (c.descend-at.ensures.child c.if-goes_on.true)))
+    ∙ ap (λ m. splits old c.args.pair.now == m) b.lower
 
-pub returns-after-all-clause-found : goal.returns-after-all-clause-found
-returns-after-all-clause-found g t c =
-    let a = at_child _ _ _ _ _ c.index.result.now _ c.node.view_is c.in-Inner.is c.node.invariant c.requires.ascending c.requires.some c.requires.tree
-    c.place-at.ensures c.index.ensures c.deref-in-Inner.ensures in
-    c.way_to-below.ensures.found ∙ sym (mark_of a)
+pub returns-then-goes_on-clause-visits : goal.returns-then-goes_on-clause-visits
+returns-then-goes_on-clause-visits g t c =
+    let b : IsBelow c.args.way.now.node c.descend-at.new.self.node =
+    below _ _ _ c.requires.tree c.requires.ascending (c.descend-at.ensures.child c.if-goes_on.true) in
+    let one : c.descend-at.new.self.visits ≡ c.args.way.now.visits + 1 = c.descend-at.ensures.visits
+    ∙ ap (λ r. c.args.way.now.visits + cond r 1 0) c.if-goes_on.true in
+    omega (arith, b.lower, one, c.way_to-below.ensures.visits)

@@ -7,8 +7,8 @@ use Rattle.node_parts.proofs.descent.Descent.descend.Goals as goal
 pub same-self : goal.same-self
 same-self g c = refl
 
-pub place-requires : goal.place-requires
-place-requires g c =
+pub place-at-requires : goal.place-at-requires
+place-at-requires g c =
     let here = ap (λ r. r.node) c.self.view_is in
     record { ascending = rw here c.requires.ascending }
 
@@ -20,7 +20,7 @@ index-requires g c =
       labelled = (sound_inner _ _ c.node.invariant c.in-Inner.is).2;
     } in
     let n : length c.in-Inner.row.items ≡ vec_len c.in-Inner.row = search rules in
-    omega (arith, n, place_inside _ _ _ _ over (rw here c.requires.some) c.place.ensures)
+    omega (arith, n, place_inside _ _ _ _ over (rw here c.requires.some) c.place-at.ensures)
 
 pub overflow_add-self : goal.overflow_add-self
 overflow_add-self g c =
@@ -34,8 +34,8 @@ returns-clause-child g c goes =
       seen = inner_is _ _ _ c.node.view_is c.in-Inner.is;
       labelled = (sound_inner _ _ c.node.invariant c.in-Inner.is).2;
     } in
-    let inside = place_inside _ _ _ c.args.pair.now over (rw here c.requires.some) c.place.ensures in
-    rw here at (child_is _ c.deref-self-inside.result.now _ _ c.index.result.now c.args.pair.now over c.place.ensures
+    let inside = place_inside _ _ _ c.args.pair.now over (rw here c.requires.some) c.place-at.ensures in
+    rw here at (child_is _ c.deref-self-inside.result.now _ _ c.index.result.now c.args.pair.now over c.place-at.ensures
     inside c.index.ensures c.deref-self-inside.ensures)
 
 pub returns-clause-mark : goal.returns-clause-mark
@@ -45,9 +45,9 @@ returns-clause-mark g c =
       seen = inner_is _ _ _ c.node.view_is c.in-Inner.is;
       labelled = (sound_inner _ _ c.node.invariant c.in-Inner.is).2;
     } in
-    let inside = place_inside _ _ _ c.args.pair.now over (rw here c.requires.some) c.place.ensures in
+    let inside = place_inside _ _ _ c.args.pair.now over (rw here c.requires.some) c.place-at.ensures in
     rw here at (child_mark _ c.deref-self-inside.result.now _ _ c.index.result.now c.args.pair.now over
-    (rw here c.requires.ascending) c.place.ensures inside c.index.ensures c.deref-self-inside.ensures)
+    (rw here c.requires.ascending) c.place-at.ensures inside c.index.ensures c.deref-self-inside.ensures)
 
 pub returns-clause-visits : goal.returns-clause-visits
 returns-clause-visits g c = ap (λ r. r.visits + 1) c.self.view_is
