@@ -22,19 +22,34 @@ pub const SECTORS_MAX: u64 = 1 << 20;
 // What the system says where a file system gives no second name: that it isn't permitted, or isn't supported.
 const NO_LINKS: [i32; 2] = [1, 95];
 
-// Whether nobody has the file of this name open.
-fn is_left_over<R: Files>(rt: &R, draft: &str) -> io::Result<bool>
+// How often a new draft's lock is tried, and a draft that is empty is looked at.
+const TRIES: u32 = 10_000;
+
+// What the lock of a draft tells, which its maker holds.
+fn told_by_lock<H: StoreFile>(draft: &H) -> io::Result<OpenError> {
+    match draft.try_lock_shared() {
+        Ok(()) => Ok(OpenError::DraftExists),
+        Err(TryLockError::WouldBlock) => Ok(OpenError::DraftInUse),
+        Err(TryLockError::Error(error)) => Err(error),
+    }
+}
+
+// What a draft that is there tells. Its maker makes it, locks it, and then fills it: a look at the lock of an empty one
+// could be in its way.
+fn told_by<R: Files>(rt: &R, draft: &str) -> io::Result<OpenError>
 where
     R::File: StoreFile,
 {
     if !fs::symlink_metadata(rt, draft)?.is_file() {
-        return Ok(true);
+        return Ok(OpenError::DraftExists);
     }
-    match fs::open(rt, draft)?.try_lock_shared() {
-        Ok(()) => Ok(true),
-        Err(TryLockError::WouldBlock) => Ok(false),
-        Err(TryLockError::Error(error)) => Err(error),
+    let file = fs::open(rt, draft)?;
+    for _ in 0..TRIES {
+        if file.metadata()?.len() != 0 {
+            return told_by_lock(&file);
+        }
     }
+    Ok(OpenError::DraftEmpty)
 }
 
 // Why no draft is made where one is there already.
@@ -42,9 +57,8 @@ fn refused_by<R: Files>(rt: &R, draft: &str) -> OpenError
 where
     R::File: StoreFile,
 {
-    match is_left_over(rt, draft) {
-        Ok(true) => OpenError::DraftExists,
-        Ok(false) => OpenError::DraftInUse,
+    match told_by(rt, draft) {
+        Ok(told) => told,
         // Whoever had it open has given it its name, or removed it.
         Err(error) if error.kind() == ErrorKind::NotFound => OpenError::DraftInUse,
         Err(error) => OpenError::from(error),
@@ -66,6 +80,17 @@ where
         Err(error) if error.kind() == ErrorKind::AlreadyExists => Err(refused_by(rt, draft)),
         Err(error) => Err(OpenError::from(error)),
     }
+}
+
+// Locks a new draft. Who looks at it has its lock for a moment.
+fn lock<H: StoreFile>(draft: &H) -> Result<(), TryLockError> {
+    for _ in 1..TRIES {
+        match draft.try_lock() {
+            Err(TryLockError::WouldBlock) => {}
+            tried => return tried,
+        }
+    }
+    draft.try_lock()
 }
 
 // Fills the file with this many sectors of zeros.
@@ -94,7 +119,7 @@ where
     ensures failures { IfOk result (λ d. failures_of d ≡ 0) }
 {
     let file = file.apart()?;
-    file.try_lock()?;
+    lock(&file)?;
     clear(&file, sectors)?;
     sync_folder(rt, path)?;
     let below = HostFile {
@@ -119,7 +144,8 @@ where
 /// is left, if that can be removed.
 ///
 /// `Exists` where something has the name `PATH`. Where something has the name `PATH.new`, `DraftInUse` if another
-/// process makes it now, and `DraftExists` if one was cut off as it did. `BadLength` for no sector or more than 2^20.
+/// process makes it now, `DraftExists` if one was cut off as it did, and `DraftEmpty` where it is empty, which tells
+/// neither. `BadLength` for no sector or more than 2^20.
 pub fn create<R: Files + AllocGlobal, A: Allocator>(
     rt: &R,
     alloc: A,

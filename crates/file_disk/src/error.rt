@@ -17,6 +17,9 @@ pub enum OpenError {
     Exists,
     /// The file under which it would be made, `PATH.new`, is there already, and nobody has it open.
     DraftExists,
+    /// The file under which it would be made, `PATH.new`, is there already, and empty: it is left over, or another
+    /// process has begun to make it just now.
+    DraftEmpty,
     /// Another process, or another disk of this one, has `PATH.new` open, as one that makes it now.
     DraftInUse,
     /// The file system gives a file no second name, as a new one needs to get its own.
@@ -59,6 +62,9 @@ impl fmt::Display for OpenError {
             OpenError::Exists => f.write_str("it is there already"),
             OpenError::DraftExists => f.write_str(
                 "the file of this name with .new behind it, under which it would be made, is left over: remove it",
+            ),
+            OpenError::DraftEmpty => f.write_str(
+                "the file of this name with .new behind it is empty: remove it, if no other process makes it now",
             ),
             OpenError::DraftInUse => {
                 f.write_str("another process makes it now, under this name with .new behind it")
