@@ -17,7 +17,7 @@ use Rattle.restart.specs.Parts.{core_of}
 use Rattle.restart.specs.Store.{Past, IsAt, Survives}
 use Rattle.restart.specs.declared.event.Event.{Event}
 use Rattle.restart.specs.declared.event.Reply.{Reply}
-use Rattle.serving.specs.Guarded.{ServesGuarded, FlushesGuarded, TakesImageGuarded}
+use Rattle.serving.specs.Guarded.{ServesGuarded, FlushesGuarded, TakesImageGuarded, knows_failure, store_of}
 use Rattle.serving.specs.Store as serving
 use Rattle.nsf_c.specs.declared.asked.Asked.{Asked}
 use Rattle.nsf_c.specs.declared.handle.Handle.{Handle}
@@ -75,23 +75,23 @@ pub record IsAnswered (P : Reply Global → Opened → Opened
 
 -- whether a core may begin with what the store holds
 abbrev pub IsSound : Opened → Type 0
-IsSound s = CanOpen (opened_of (core_of s.store.engine))
+IsSound s = CanOpen (opened_of (core_of (serving.engine_of (store_of s))))
 
 -- what the store is, and how far it has come
 abbrev pub stat_of : Opened → Stat
 stat_of s = record {
-  last = serving.last_made s.store;
-  horizon = serving.horizon_of s.store;
-  attempts = (core_of s.store.engine).attempts;
-  pages = serving.pages_of s.store;
-  life = (life_told (serving.life_of s.store)).kind;
+  last = serving.last_made (store_of s);
+  horizon = serving.horizon_of (store_of s);
+  attempts = (core_of (serving.engine_of (store_of s))).attempts;
+  pages = serving.pages_of (store_of s);
+  life = (life_told (serving.life_of (store_of s))).kind;
 }
 
 -- ---- saving
 
 -- what its device holds
 abbrev pub content_of : Opened → Image
-content_of s = (history_of (serving.device_of s.store)).disk.content
+content_of s = (history_of (serving.device_of (store_of s))).disk.content
 
 -- So many sectors from the first on, as many as there are and as there is room for, stand in front; behind them stays
 -- what was there.
@@ -102,8 +102,8 @@ pub record CopiesOut (content : Image) (first count : ℕ) (old new : Image) : T
 -- Whatever run left the store where it is: a device of these sectors holds a beginning of it, with every record up to
 -- the horizon, and so with all that a reply has told to be safe.
 abbrev pub IsStoreKept : Opened → Image → Type 0
-IsStoreKept s image = (past : Past Global) → IsAt history_of past s.store.engine
-    → Survives past (serving.horizon_of s.store) image
+IsStoreKept s image = (past : Past Global) → IsAt history_of past (serving.engine_of (store_of s))
+    → Survives past (serving.horizon_of (store_of s)) image
 
 -- ---- opening
 
@@ -125,8 +125,8 @@ pub record IsDisk (P : Image → Type 0) (disk : Disk) : Type 0 where
 pub record IsOpenedOn (P : Image → Type 0) (s : Opened) : Type 0 where
   pub disk : Disk
   pub is_disk : IsDisk P disk
-  pub opens : serving.OpensOn history_of disk s.store
-  pub sound : s.has_failed ≡ false
+  pub opens : serving.OpensOn history_of disk (store_of s)
+  pub sound : knows_failure s ≡ false
 
 -- Nothing was opened on this disk, for this reason.
 abbrev pub IsRefused : Disk → Error → Type 0

@@ -2,6 +2,7 @@
 ghost use Rattle.std.specs.Prelude.{◌≡◌, ◌≢◌, ◌⊎◌, Some, IfOk, IfErr, false};
 ghost use Rattle.records.specs.Refusals.{number_of};
 ghost use Rattle.file_disk.specs.FileDisk.{history_of};
+ghost use Rattle.serving.specs.Guarded.{knows_failure, store_of};
 ghost use Rattle.serving.specs.Store.{OpensOn};
 ghost use Rattle.nsf_c.specs.Calls.{Is, IsMade, IsNeeded, IsNotMade, IsNotOpened, IsOpenedOn, IsRefused, sectors_of};
 ghost use Rattle.nsf_c.specs.Handles.{Holds, IsOpen, IsVacant};
@@ -38,8 +39,8 @@ pub extern "C" fn nsf_sectors(pages: u32, entries: u32, slots: u32) -> u64
 
 // Opens the store on the disk.
 fn open_on(alloc: Global, disk: FileDisk<Below, Global>) -> Result<Box<Held>, Error>
-    ensures ok { IfOk result (λ held. OpensOn history_of disk held.value.store.store) }
-    ensures sound { IfOk result (λ held. held.value.store.has_failed ≡ false) }
+    ensures ok { IfOk result (λ held. OpensOn history_of disk (store_of held.value.store)) }
+    ensures sound { IfOk result (λ held. knows_failure held.value.store ≡ false) }
     ensures err { IfErr result (λ e. (e ≡ Error.NoMemory) ⊎ IsRefused disk e) }
 {
     match Store::open(alloc, disk) {

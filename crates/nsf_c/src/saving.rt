@@ -32,7 +32,7 @@ pub extern "C" fn nsf_save(
     ensures kept { Reads (λ store. IsStoreKept store (content_of store)) handle.old handle.new }
 {
     let held = handle.take(alloc);
-    let count = copy_out(held.store.store.device().content(), first, room);
+    let count = copy_out(held.store.store().device().content(), first, room);
     handle.put(held);
     count
 }

@@ -88,7 +88,7 @@ pub extern "C" fn nsf_can_open(alloc: Global, handle: &mut Handle) -> bool
     ensures { Reads (λ store. IsTrue result ↔ IsSound store) handle.old handle.new }
 {
     let held = handle.take(alloc);
-    let is_sound = held.store.store.core().can_open();
+    let is_sound = held.store.store().core().can_open();
     handle.put(held);
     is_sound
 }
@@ -100,10 +100,10 @@ pub extern "C" fn nsf_stat(alloc: Global, handle: &mut Handle, stat: &mut Stat)
     ensures { Reads (λ store. stat.new ≡ stat_of store) handle.old handle.new }
 {
     let held = handle.take(alloc);
-    let core = held.store.store.core();
+    let core = held.store.store().core();
     *stat = Stat {
         last: core.last(),
-        horizon: held.store.store.horizon(),
+        horizon: held.store.store().horizon(),
         attempts: core.attempts(),
         pages: core.pages(),
         life: life_told(&core.life()).kind,

@@ -9,6 +9,7 @@ use Rattle.restart.specs.declared.event.Reply.{Reply}
 use Rattle.restart.specs.declared.event.Reply.TheVariants.{Refused}
 use Rattle.serving.specs.Store.{Serves, TakesImage, Flushes, last_made}
 use Rattle.serving.specs.declared.guarded.GuardedStore.{GuardedStore}
+use Rattle.serving.specs.declared.store.Store.{Store}
 
 -- whether this event is a commit
 abbrev pub is_commit : Event → Bool
@@ -21,26 +22,34 @@ tells_failure (Refused DeviceFailed) = true
 tells_failure other = false
 
 module _ {D : Type 0} where
+  -- the store that is guarded
+  abbrev pub store_of : GuardedStore D → Store D
+  store_of s = s.store
+
+  -- whether a reply told that its device has failed
+  abbrev pub knows_failure : GuardedStore D → Bool
+  knows_failure s = s.has_failed
+
   -- whether the event is a commit that comes behind a known failure
   abbrev pub is_too_late : Event → GuardedStore D → Bool
-  is_too_late event s = is_commit event && s.has_failed
+  is_too_late event s = is_commit event && knows_failure s
 
   -- a failure is known from the reply on that tells it
   abbrev pub Notes : Reply Global → GuardedStore D → GuardedStore D → Type 0
-  Notes reply old new = new.has_failed ≡ old.has_failed || tells_failure reply
+  Notes reply old new = knows_failure new ≡ knows_failure old || tells_failure reply
 
 module _ {D : Type 0} (history : D → History) (failures : D → ℕ) where
   -- The event was served. Or it is a commit behind a known failure: then it is refused, and nothing was done.
   abbrev pub ServesGuarded : Event → Reply Global → GuardedStore D → GuardedStore D → Type 0
   ServesGuarded event reply old new =
-      ((is_too_late event old ≡ false) × Serves history failures event reply old.store new.store × Notes reply old new)
+      ((is_too_late event old ≡ false) × Serves history failures event reply (store_of old) (store_of new) × Notes reply old new)
       ⊎ ((is_too_late event old ≡ true) × (reply ≡ Refused DeviceFailed) × (new ≡ old))
 
   -- all records were flushed, or the final flush or copy had this reply
   abbrev pub FlushesGuarded : Reply Global → GuardedStore D → GuardedStore D → Type 0
-  FlushesGuarded reply old new = Flushes history failures (last_made old.store) reply old.store new.store
+  FlushesGuarded reply old new = Flushes history failures (last_made (store_of old)) reply (store_of old) (store_of new)
       × Notes reply old new
 
   -- an image was taken and made current, or the final copy had this reply
   abbrev pub TakesImageGuarded : Reply Global → GuardedStore D → GuardedStore D → Type 0
-  TakesImageGuarded reply old new = TakesImage history failures reply old.store new.store × Notes reply old new
+  TakesImageGuarded reply old new = TakesImage history failures reply (store_of old) (store_of new) × Notes reply old new

@@ -12,7 +12,7 @@ use Rattle.replay_values.specs.declared.answer.Answer.{Answer}
 use Rattle.replay_values.specs.declared.answer.Answer.TheVariants as answer
 use Rattle.serving.specs.Answers.{answer_of}
 use Rattle.serving.specs.Dump.{dump_text}
-use Rattle.serving.specs.Guarded.{ServesGuarded, TakesImageGuarded, FlushesGuarded}
+use Rattle.serving.specs.Guarded.{ServesGuarded, TakesImageGuarded, FlushesGuarded, store_of}
 use Rattle.serving.specs.Outcomes.{outcome_of}
 use Rattle.serving.specs.Store.{horizon_of}
 use Rattle.serving.specs.declared.request.Request.{Request}
@@ -30,7 +30,7 @@ module _ {D W : Type 0} (history : D → History) (failures : D → ℕ) (conten
   pub record Tells (event : Event) (told : Answer) (old new : GuardedStore D) (before after : W) : Type 0 where
     pub reply : Reply Global
     pub serves : ServesGuarded history failures event reply old new
-    pub told_is : told ≡ answer_of (horizon_of new.store) reply
+    pub told_is : told ≡ answer_of (horizon_of (store_of new)) reply
     pub prints : Prints contents told before after
 
   -- The steps had these answers, each of which was printed, and none of which was the last one.
@@ -59,13 +59,13 @@ module _ {D W : Type 0} (history : D → History) (failures : D → ℕ) (conten
   Answers (request.Clean count) outcome old new before after = MakesSteps event.Clean count outcome old new before after
   Answers request.Flush outcome old new before after =
       (reply : Reply Global) × FlushesGuarded history failures reply old new
-      × Prints contents (answer_of (horizon_of new.store) reply) before after
-      × (outcome ≡ outcome_of (answer_of (horizon_of new.store) reply))
+      × Prints contents (answer_of (horizon_of (store_of new)) reply) before after
+      × (outcome ≡ outcome_of (answer_of (horizon_of (store_of new)) reply))
   Answers request.Image outcome old new before after =
       (reply : Reply Global) × TakesImageGuarded history failures reply old new
-      × Prints contents (answer_of (horizon_of new.store) reply) before after
-      × (outcome ≡ outcome_of (answer_of (horizon_of new.store) reply))
+      × Prints contents (answer_of (horizon_of (store_of new)) reply) before after
+      × (outcome ≡ outcome_of (answer_of (horizon_of (store_of new)) reply))
   Answers (request.Crash _) outcome old new before after =
       (new ≡ old) × Prints contents answer.Skipped before after × (outcome ≡ Other)
   Answers request.Dump outcome old new before after =
-      (new ≡ old) × Appends (contents before) (contents after) (dump_text old.store) × (outcome ≡ Other)
+      (new ≡ old) × Appends (contents before) (contents after) (dump_text (store_of old)) × (outcome ≡ Other)

@@ -12,48 +12,53 @@ use Rattle.restart.specs.Repeated as repeated
 use Rattle.restart.specs.Store.{KeepsRun}
 use Rattle.restart.specs.declared.event.Event.{Event}
 use Rattle.restart.specs.declared.event.Reply.{Reply}
+use Rattle.restart.specs.declared.parts.Parts.{Parts}
 use Rattle.serving.specs.declared.store.Store.{Store}
 
 module _ {D : Type 0} where
+  -- the engine that serves it
+  abbrev pub engine_of : Store D → Parts D Global
+  engine_of s = s.engine
+
   -- the device below
   abbrev pub device_of : Store D → D
-  device_of s = engine.device_of s.engine
+  device_of s = engine.device_of (engine_of s)
 
   -- its rows
   abbrev pub rows_of : Store D → Table
-  rows_of s = (core_of s.engine).heap.rows
+  rows_of s = (core_of (engine_of s)).heap.rows
 
   -- how many pages these lie in
   abbrev pub pages_of : Store D → ℕ
-  pages_of s = (core_of s.engine).heap.pages
+  pages_of s = (core_of (engine_of s)).heap.pages
 
   -- the entries of its index
   abbrev pub entries_of : Store D → Index
-  entries_of s = (core_of s.engine).index.entries
+  entries_of s = (core_of (engine_of s)).index.entries
 
   -- how far its index is
   abbrev pub life_of : Store D → Life
-  life_of s = (core_of s.engine).life
+  life_of s = (core_of (engine_of s)).life
 
   -- every record up to this number is synced
   abbrev pub horizon_of : Store D → ℕ
-  horizon_of s = engine.horizon_of s.engine
+  horizon_of s = engine.horizon_of (engine_of s)
 
   -- the number of the last record made
   abbrev pub last_made : Store D → ℕ
-  last_made s = (core_of s.engine).last
+  last_made s = (core_of (engine_of s)).last
 
 module _ {D : Type 0} (history : D → History) where
   -- The store was opened on this device. Whatever run of an engine left the device so, it holds a prefix of that run,
   -- with all that the run had to keep.
   pub record OpensOn (device : D) (opened_store : Store D) : Type 0 where
-    pub opened : IsOpened history device opened_store.engine
-    pub recovers : RecoversAnyRun history device opened_store.engine
+    pub opened : IsOpened history device (engine_of opened_store)
+    pub recovers : RecoversAnyRun history device (engine_of opened_store)
 
   -- Whatever run left the engine where it is: a crash of this device leaves that run, with every record up to the
   -- horizon, and so with all that a reply has told to be safe.
   abbrev pub LeavesItsRun : Store D → D → Type 0
-  LeavesItsRun s device = KeepsRun history s.engine device
+  LeavesItsRun s device = KeepsRun history (engine_of s) device
 
 module _ {D : Type 0} (history : D → History) (failures : D → ℕ) where
   -- No store was opened on this device, and it came back so. What a run of an engine left is refused only for want of
@@ -64,12 +69,12 @@ module _ {D : Type 0} (history : D → History) (failures : D → ℕ) where
 
   -- the event had this lawful reply, and its engine serves it so
   abbrev pub Serves : Event → Reply Global → Store D → Store D → Type 0
-  Serves event reply old new = repeated.Serves history failures event reply old.engine new.engine
+  Serves event reply old new = repeated.Serves history failures event reply (engine_of old) (engine_of new)
 
   -- an image was taken and made current, or the final copy had this reply
   abbrev pub TakesImage : Reply Global → Store D → Store D → Type 0
-  TakesImage final old new = repeated.TakesImage history failures final old.engine new.engine
+  TakesImage final old new = repeated.TakesImage history failures final (engine_of old) (engine_of new)
 
   -- all records up to the last were flushed, or the final flush or copy had this reply
   abbrev pub Flushes : (last : ℕ) → Reply Global → Store D → Store D → Type 0
-  Flushes last final old new = repeated.FlushesAll history failures last final old.engine new.engine
+  Flushes last final old new = repeated.FlushesAll history failures last final (engine_of old) (engine_of new)

@@ -37,7 +37,7 @@ impl<D: Device> GuardedStore<D> {
     {
         for _ in 0..count {
             let reply = self.serve(*event);
-            let answer = answer_of(reply, self.store.horizon());
+            let answer = answer_of(reply, self.store().horizon());
             let outcome = print(output, &answer)?;
             if answer.is_last_step() {
                 return Ok(outcome);
@@ -57,21 +57,21 @@ impl<D: Device> GuardedStore<D> {
         match request {
             Request::Event(event) => {
                 let reply = self.serve(event);
-                print(output, &answer_of(reply, self.store.horizon()))
+                print(output, &answer_of(reply, self.store().horizon()))
             }
             Request::Build(count) => self.make_steps(&Event::Build, count, output),
             Request::Clean(count) => self.make_steps(&Event::Clean, count, output),
             Request::Flush => {
                 let reply = self.flush();
-                print(output, &answer_of(reply, self.store.horizon()))
+                print(output, &answer_of(reply, self.store().horizon()))
             }
             Request::Image => {
                 let reply = self.take_image();
-                print(output, &answer_of(reply, self.store.horizon()))
+                print(output, &answer_of(reply, self.store().horizon()))
             }
             Request::Crash(_) => print(output, &Answer::Skipped),
             Request::Dump => {
-                self.store.dump(output)?;
+                self.store().dump(output)?;
                 Ok(Outcome::Other)
             }
         }

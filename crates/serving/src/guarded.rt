@@ -1,6 +1,6 @@
 //! A store whose commits are refused once its device is known to have failed.
 ghost use Rattle.std.specs.Prelude.{◌≡◌, false};
-ghost use Rattle.serving.specs.Guarded.{is_commit, tells_failure};
+ghost use Rattle.serving.specs.Guarded.{tells_failure};
 
 use crate::store::Store;
 use records::Error;
@@ -12,16 +12,9 @@ use std::alloc::Global;
 /// become safe before the store is opened again.
 #[derive(Drop)]
 pub struct GuardedStore<D: Device> {
-    pub store: Store<D>,
-    /// Whether a reply told that the device has failed.
-    pub has_failed: bool,
-}
-
-// Whether the event is a commit.
-fn is_commit(event: &Event) -> bool
-    ensures { result ≡ is_commit event.now }
-{
-    matches!(event, Event::Commit { .. })
+    store: Store<D>,
+    // whether a reply told that the device has failed
+    has_failed: bool,
 }
 
 // Whether the reply tells that the device has failed.
@@ -33,11 +26,12 @@ fn tells_failure(reply: &Reply<Global>) -> bool
 
 impl<D: Device> GuardedStore<D> {
     ghost use Rattle.serving.specs.Guarded.{FlushesGuarded, Notes, ServesGuarded, TakesImageGuarded};
+    ghost use Rattle.serving.specs.Guarded.{is_too_late, knows_failure, store_of};
 
     /// The store, of which no failure is known yet.
     pub fn new(store: Store<D>) -> Self
-        ensures store { result.store ≡ store }
-        ensures sound { result.has_failed ≡ false }
+        ensures store { store_of result ≡ store }
+        ensures sound { knows_failure result ≡ false }
     {
         GuardedStore {
             store,
@@ -45,19 +39,43 @@ impl<D: Device> GuardedStore<D> {
         }
     }
 
+    /// The store, to be looked at.
+    pub fn store(&self) -> &Store<D>
+        ensures { result.now ≡ store_of self.now }
+    {
+        &self.store
+    }
+
+    /// The store, whose commits nothing guards any more.
+    pub fn into_store(self) -> Store<D>
+        ensures { result ≡ store_of self }
+    {
+        self.store
+    }
+
     // Notes whether the reply tells that the device has failed.
     fn note(&mut self, reply: &Reply<Global>)
-        ensures same { self.new.store ≡ self.old.store }
+        ensures same { store_of self.new ≡ store_of self.old }
         ensures noted { Notes reply.now self.old self.new }
     {
         self.has_failed = self.has_failed || tells_failure(reply);
+    }
+
+    // Whether the event is a commit that comes behind a known failure.
+    fn is_too_late(&self, event: &Event) -> bool
+        ensures { result ≡ is_too_late event.now self.now }
+    {
+        match event {
+            Event::Commit { .. } => self.has_failed,
+            _ => false,
+        }
     }
 
     /// Serves one event; a commit is refused where a failure of the device is known.
     pub fn serve(&mut self, event: Event) -> Reply<Global>
         ensures { ServesGuarded D.history D.failures event result self.old self.new }
     {
-        if is_commit(&event) && self.has_failed {
+        if self.is_too_late(&event) {
             return Reply::Refused(Error::DeviceFailed);
         }
         let reply = self.store.serve(event);

@@ -33,7 +33,7 @@ impl<D: Device> Store<D> {
     ghost use Rattle.nsf_core.specs.Value.{value_of};
     ghost use Rattle.restart.specs.Parts.{core_of};
     ghost use Rattle.serving.specs.Store.{OpensOn, IsRefusedOn, LeavesItsRun, device_of, last_made, Serves, TakesImage};
-    ghost use Rattle.serving.specs.Store.{Flushes, horizon_of, rows_of, entries_of, life_of};
+    ghost use Rattle.serving.specs.Store.{Flushes, engine_of, horizon_of, rows_of, entries_of, life_of};
 
     /// Opens the store on the device. Where the restart is refused, the device comes back.
     pub fn open(alloc: Global, device: D) -> Result<Self, (Error, D)>
@@ -47,7 +47,7 @@ impl<D: Device> Store<D> {
 
     /// The core: rows, transactions and index as they are now.
     pub fn core(&self) -> &Core<Global>
-        ensures { value_of result.now ≡ core_of self.now.engine }
+        ensures { value_of result.now ≡ core_of (engine_of self.now) }
     {
         self.engine.core()
     }

@@ -18,7 +18,7 @@ pub enum Verb {
         entries: u32,
         slots: u32,
     },
-    /// The commands of the input are served; each commit is flushed where it is to be durable.
+    /// The commands of the input are served; each commit is flushed before its answer where it is to be durable.
     Run {
         is_durable: bool,
     },
@@ -70,7 +70,7 @@ const ENTRIES_HELP: &str =
 const SLOTS_HELP: &str = "Slots of each log, 4 to 256 [default: 16]";
 
 const DURABLE_HELP: &str =
-    "Flushes behind each commit, and answers its horizon: what was answered is lost to no kill";
+    "Flushes each commit before its ticket is answered, and its horizon behind that: no kill loses a commit that was answered";
 
 const AGAIN_HELP: &str =
     "Drops the index before, if there is one, and creates it anew: the way out where it is full";

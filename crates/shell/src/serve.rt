@@ -25,7 +25,7 @@ fn at_line(error: Error, line: u64) -> Error {
 #[derive(Drop)]
 pub struct Service<D: Device> {
     guarded: GuardedStore<D>,
-    /// Whether each commit is flushed before the next command.
+    /// Whether each commit is flushed before it is answered.
     is_durable: bool,
     /// That the index is full.
     full: Notice,
@@ -83,7 +83,9 @@ impl<D: Device + Troubled> Service<D> {
             let _ = writeln!(errors, "nsf-store: {FULL_INDEX}");
         }
         if self.failure.take() {
-            let refused = Refused::Store(Error::DeviceFailed).because(self.guarded.store.device());
+            let refused = Refused::Store(Error::DeviceFailed).because(
+                self.guarded.store().device(),
+            );
             let _ = writeln!(errors, "nsf-store: {refused}");
         }
     }
@@ -95,8 +97,32 @@ impl<D: Device + Troubled> Service<D> {
         Ok(outcome)
     }
 
+    // Serves a commit. Its ticket is held until all is flushed, so that nothing is answered that isn't safe; where the
+    // flush is refused, that is the commit's answer.
+    fn serve_durably<W: Write>(
+        &mut self,
+        alloc: Global,
+        request: Request,
+        output: &mut W,
+    ) -> io::Result<()> {
+        let mut answers = Vec::new(alloc);
+        if self.answer(request, &mut answers)? == Outcome::Ticket {
+            let mut flushed = Vec::new(alloc);
+            if let Outcome::Refused(_) = self.answer(Request::Flush, &mut flushed)? {
+                answers.clear();
+            }
+            answers.extend_from_slice(flushed.as_slice())?;
+        }
+        output.write_all(answers.as_slice())
+    }
+
     // Serves a command, and prints its answers.
-    fn serve_command<W: Write>(&mut self, command: &Command, output: &mut W) -> io::Result<()> {
+    fn serve_command<W: Write>(
+        &mut self,
+        alloc: Global,
+        command: &Command,
+        output: &mut W,
+    ) -> io::Result<()> {
         let request = match Request::of(command) {
             Ok(request) => request,
             Err(error) => {
@@ -104,11 +130,10 @@ impl<D: Device + Troubled> Service<D> {
                 return writeln!(output, "{answer}");
             }
         };
-        let outcome = self.answer(request, output)?;
-        let is_commit = matches!(command, Command::Commit { .. });
-        if self.is_durable && is_commit && outcome == Outcome::Ticket {
-            self.answer(Request::Flush, output)?;
+        if self.is_durable && matches!(command, Command::Commit { .. }) {
+            return self.serve_durably(alloc, request, output);
         }
+        self.answer(request, output)?;
         Ok(())
     }
 
@@ -123,7 +148,7 @@ impl<D: Device + Troubled> Service<D> {
         match script::read(alloc, line) {
             Ok(commands) => {
                 for command in &commands {
-                    self.serve_command(command, output)?;
+                    self.serve_command(alloc, command, output)?;
                 }
                 Ok(true)
             }
@@ -163,7 +188,7 @@ impl<D: Device + Troubled> Service<D> {
     pub fn flush(&mut self) -> Result<(), Refused> {
         match granted(self.guarded.flush()) {
             Ok(()) => Ok(()),
-            Err(refused) => Err(refused.because(self.guarded.store.device())),
+            Err(refused) => Err(refused.because(self.guarded.store().device())),
         }
     }
 }

@@ -2,6 +2,7 @@ use Rattle.std.proofs.Common.{◌∙◌, ap, subst}
 use Rattle.sector_device.specs.Disk.{Image}
 use Rattle.file_disk.specs.FileDisk.{history_of}
 use Rattle.serving.specs.Store as serving
+use Rattle.serving.specs.declared.store.Store.{Store}
 use Rattle.nsf_c.specs.Calls.{CopiesOut, IsStoreKept, content_of}
 use Rattle.nsf_c.specs.Handles.{Disk}
 use Rattle.nsf_c.specs.declared.held.Held.{Held}
@@ -11,7 +12,8 @@ use Rattle.nsf_c.proofs.saving.nsf_save.Goals as goal
 pub returns-clause-copied : goal.returns-clause-copied
 returns-clause-copied c =
     let of_device = c.content.ensures ∙ ap (λ (d : Disk). (history_of d).disk.content) c.device.ensures.device in
-    let content_is = of_device ∙ ap (λ (h : Held). content_of h.store) c.deref.ensures in (
+    let of_store = of_device ∙ ap (λ (s : Store Disk). (history_of (serving.device_of s)).disk.content) c.store.ensures in
+    let content_is = of_store ∙ ap (λ (h : Held). content_of h.store) c.deref.ensures in (
       c.take-held.result.value,
       c.take-held.ensures.taken,
       c.put.ensures,
@@ -22,7 +24,8 @@ returns-clause-copied c =
 pub returns-clause-kept : goal.returns-clause-kept
 returns-clause-kept c =
     let held = c.deref.result.now in
-    let leaves = subst (λ (d : Disk). serving.LeavesItsRun history_of held.store.store d) c.device.ensures.device c.device.ensures.survives in (
+    let of_device = subst (λ (d : Disk). serving.LeavesItsRun history_of c.store.result.now d) c.device.ensures.device c.device.ensures.survives in
+    let leaves = subst (λ (s : Store Disk). serving.LeavesItsRun history_of s (serving.device_of s)) c.store.ensures of_device in (
       c.take-held.result.value,
       c.take-held.ensures.taken,
       c.put.ensures,

@@ -2,7 +2,10 @@ use Rattle.std.proofs.Common.{◌∙◌, ap}
 use Rattle.model.specs.declared.life.Life.{Life}
 use Rattle.nsf_core.specs.View.{CoreValue}
 use Rattle.restart.specs.Parts.{core_of}
+use Rattle.serving.specs.Guarded.{store_of}
 use Rattle.serving.specs.Store as serving
+use Rattle.serving.specs.declared.store.Store.{Store}
+use Rattle.nsf_c.specs.Handles.{Disk}
 use Rattle.nsf_c.specs.Told.{life_told}
 use Rattle.nsf_c.specs.declared.held.Held.{Held}
 use Rattle.nsf_c.specs.declared.told.Told.{Told}
@@ -10,9 +13,11 @@ use Rattle.nsf_c.proofs.serving_calls.nsf_stat.Goals as goal
 
 pub returns : goal.returns
 returns c =
-    let core_is = c.core-core.ensures ∙ ap (λ (h : Held). core_of h.store.store.engine) c.deref.ensures in
+    let core_is = c.core-core.ensures ∙ ap (λ (s : Store Disk). core_of (serving.engine_of s)) c.store.ensures
+    ∙ ap (λ (h : Held). core_of (serving.engine_of (store_of h.store))) c.deref.ensures in
     let last = c.last.ensures ∙ ap (λ (v : CoreValue). v.last) core_is in
-    let horizon = c.horizon.ensures ∙ ap (λ (h : Held). serving.horizon_of h.store.store) c.deref-2.ensures in
+    let horizon = c.horizon.ensures ∙ ap (λ (s : Store Disk). serving.horizon_of s) c.store-2.ensures
+    ∙ ap (λ (h : Held). serving.horizon_of (store_of h.store)) c.deref-2.ensures in
     let attempts = c.attempts.ensures ∙ ap (λ (v : CoreValue). v.attempts) core_is in
     let pages = c.pages.ensures.number ∙ ap (λ (v : CoreValue). v.heap.pages) core_is in
     let life = ap (λ (t : Told). t.kind) c.life_told.ensures
