@@ -1,4 +1,4 @@
-//! The map for a program's words.
+//! The program for its words: a script's run, or the map of it.
 use crate::map::CrashMap;
 use crate::picture::write_picture;
 use crate::table::write_table;
@@ -7,7 +7,7 @@ use replay_values::Arguments;
 use std::alloc::Global;
 use std::convert::AsStr;
 use std::fs::Files;
-use std::io::{Read, Write};
+use std::io::{ErrorKind, Read, Write};
 use std::{fs, io};
 
 // The word that asks for a map, and the one before the name of a file for its picture.
@@ -15,9 +15,26 @@ const MAP: &str = "--crash-map";
 
 const PICTURE: &str = "--svg";
 
-/// Whether a map is asked for.
-pub fn is_asked<S: AsStr>(words: &[S]) -> bool {
+// What a map ends with in place of its status.
+#[derive(Clone, Copy)]
+enum Ending {
+    NoMemory,
+    Unread,
+    Unwritten,
+    Undrawn,
+}
+
+// Whether a map is asked for.
+fn is_asked<S: AsStr>(words: &[S]) -> bool {
     words.iter().any(|word| word.as_str() == MAP)
+}
+
+// What an error of a stream, or of a file, ends with: want of memory is told as that.
+fn ending_of(error: io::Error, ending: Ending) -> Ending {
+    match error.kind() {
+        ErrorKind::OutOfMemory => Ending::NoMemory,
+        _ => ending,
+    }
 }
 
 // The words that are no map's own.
@@ -40,43 +57,62 @@ fn picture_file<'a, S: AsStr>(words: &'a [S]) -> Option<&'a str> {
     Some(words.get(at + 1)?.as_str())
 }
 
-// Prints what the script's run itself prints where it is refused, or else the map; and draws it into the file.
-fn show<W: Write, F: Files>(
+// What is printed of a map, and the status: what the script's run itself prints where it is refused, or else the table.
+// The map is drawn into the file.
+fn printed<F: Files>(
     rt: &F,
     alloc: Global,
     arguments: &Arguments,
     text: &[u8],
     file: Option<&str>,
-    output: &mut W,
-) -> io::Result<u8> {
+) -> io::Result<(Vec<u8>, u8)> {
     let mut printed = Vec::new(alloc);
     let status = script_player::run_script(alloc, arguments, text, &mut printed)?;
     if status != 0 {
-        output.write_all(&printed)?;
-        return Ok(status);
+        return Ok((printed, status));
     }
     let map = CrashMap::new(alloc, arguments, text)?;
-    write_table(output, &map)?;
+    let mut table = Vec::new(alloc);
+    write_table(&mut table, &map)?;
     if let Some(file) = file {
         let mut picture = Vec::new(alloc);
         write_picture(&mut picture, &map)?;
         fs::write(rt, file, picture)?;
     }
-    Ok(0)
+    Ok((table, 0))
 }
 
 // Reads the script, and shows its map.
-fn show_input<R: Read, W: Write, F: Files>(
+fn show<R: Read, W: Write, F: Files>(
     rt: &F,
     alloc: Global,
     arguments: &Arguments,
     file: Option<&str>,
     input: &mut R,
     output: &mut W,
-) -> io::Result<u8> {
+) -> Result<u8, Ending> {
     let mut text = Vec::new(alloc);
-    input.read_to_end(&mut text)?;
-    show(rt, alloc, arguments, &text, file, output)
+    if let Err(error) = input.read_to_end(&mut text) {
+        return Err(ending_of(error, Ending::Unread));
+    }
+    let (printed, status) = match printed(rt, alloc, arguments, &text, file) {
+        Ok(made) => made,
+        Err(error) => return Err(ending_of(error, Ending::Undrawn)),
+    };
+    match output.write_all(&printed) {
+        Ok(()) => Ok(status),
+        Err(error) => Err(ending_of(error, Ending::Unwritten)),
+    }
+}
+
+// Tells what a map ended with. What can't be told either is let go: the status tells it.
+fn tell<W: Write>(ending: Ending, file: Option<&str>, output: &mut W, errors: &mut impl Write) {
+    let _ = match ending {
+        Ending::NoMemory => writeln!(output, "refused 1 NoMemory"),
+        Ending::Unread => writeln!(errors, "nsf: cannot read standard input"),
+        Ending::Unwritten => writeln!(errors, "nsf: cannot write to standard output"),
+        Ending::Undrawn => writeln!(errors, "nsf: cannot write {}", file.unwrap_or("")),
+    };
 }
 
 // Why a map isn't made of these words, if it isn't.
@@ -90,8 +126,69 @@ fn fault_of<S: AsStr>(words: &[S], arguments: &Arguments) -> Option<&'static str
     None
 }
 
-/// Makes the map that the words ask for, of the script that the input holds, and answers the program's exit status: 0
-/// where it was printed, 1 where the script or the device was refused, or a file or stream failed, 2 for bad arguments.
+// The words that are no map's own, and the arguments that they ask for.
+fn arguments_of<S: AsStr, W: Write>(
+    alloc: Global,
+    words: &[S],
+    output: &mut W,
+    errors: &mut impl Write,
+) -> Result<Arguments, NoArguments> {
+    match others(alloc, words) {
+        Ok(others) => arguments::read(alloc, &others, output, errors),
+        Err(_) => Err(NoArguments::NoMemory),
+    }
+}
+
+/// Tells why the program's own words can't be read, and answers the exit status: 1 for want of memory, and 2 for a word
+/// that isn't text.
+pub fn refuse_words<W: Write>(error: io::Error, output: &mut W, errors: &mut impl Write) -> u8 {
+    match error.kind() {
+        ErrorKind::OutOfMemory => {
+            tell(Ending::NoMemory, None, output, errors);
+            1
+        }
+        _ => {
+            let _ = writeln!(errors, "error: a word isn't text");
+            2
+        }
+    }
+}
+
+// Makes the map that the words ask for, and answers the exit status.
+fn run_map<S: AsStr, R: Read, W: Write, F: Files>(
+    rt: &F,
+    alloc: Global,
+    words: &[S],
+    input: &mut R,
+    output: &mut W,
+    errors: &mut impl Write,
+) -> u8 {
+    let arguments = match arguments_of(alloc, words, output, errors) {
+        Ok(arguments) => arguments,
+        Err(NoArguments::NoMemory) => {
+            tell(Ending::NoMemory, None, output, errors);
+            return 1;
+        }
+        Err(NoArguments::Told(status)) => return status,
+    };
+    if let Some(fault) = fault_of(words, &arguments) {
+        let _ = writeln!(errors, "error: {fault}");
+        return 2;
+    }
+    let file = picture_file(words);
+    match show(rt, alloc, &arguments, file, input, output) {
+        Ok(status) => status,
+        Err(ending) => {
+            tell(ending, file, output, errors);
+            1
+        }
+    }
+}
+
+/// Runs the program on these words, the first of them its own name, and answers its exit status: 0 where the script ran
+/// or its map was printed, or help was asked for; 1 where the script or the device was refused, memory was wanting, or
+/// a file or stream failed; 2 for bad arguments. A map is made of the script that the input holds where `--crash-map`
+/// is among the words.
 pub fn run<S: AsStr, R: Read, W: Write, F: Files>(
     rt: &F,
     alloc: Global,
@@ -99,16 +196,9 @@ pub fn run<S: AsStr, R: Read, W: Write, F: Files>(
     input: &mut R,
     output: &mut W,
     errors: &mut impl Write,
-) -> io::Result<u8> {
-    let others = others(alloc, words)?;
-    let arguments = match arguments::read(alloc, &others, output, errors) {
-        Ok(arguments) => arguments,
-        Err(NoArguments::NoMemory) => return Ok(1),
-        Err(NoArguments::Told(status)) => return Ok(status),
-    };
-    if let Some(fault) = fault_of(words, &arguments) {
-        writeln!(errors, "error: {fault}")?;
-        return Ok(2);
+) -> u8 {
+    if is_asked(words) {
+        return run_map(rt, alloc, words, input, output, errors);
     }
-    show_input(rt, alloc, &arguments, picture_file(words), input, output)
+    script_player::run(alloc, words, input, output, errors)
 }

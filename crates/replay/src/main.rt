@@ -1,21 +1,24 @@
 //! Runs a script of commands against a store on a disk in memory, and prints each answer; or, asked by `--crash-map`,
 //! what a stop at each write and sync leaves.
 //!
-//! All that it does is in `script_player` and in `crash_map`.
+//! All that it does is in `crash_map`, and in `script_player` below it.
 #![tactic(auto)]
 
 use std::process::ExitCode;
 use std::{env, io};
 
+// The words that the program was given.
+fn words(rt: &HostRuntime) -> io::Result<Vec<String>> {
+    Ok(env::args(rt)?.collect(rt.alloc())?)
+}
+
 fn main(rt: HostRuntime) -> io::Result<ExitCode> {
-    let words: Vec<String> = env::args(&rt)?.collect(rt.alloc())?;
-    let alloc = rt.alloc();
     let output = &mut io::writer(&rt);
     let errors = &mut rt.stderr();
-    if crash_map::is_asked(&words) {
-        let status = crash_map::run(&rt, alloc, &words, &mut rt.reader(), output, errors)?;
-        return Ok(ExitCode::from(status));
-    }
-    let status = script_player::run(alloc, words.as_slice(), &mut rt.reader(), output, errors);
+    let words = match words(&rt) {
+        Ok(words) => words,
+        Err(error) => return Ok(ExitCode::from(crash_map::refuse_words(error, output, errors))),
+    };
+    let status = crash_map::run(&rt, rt.alloc(), &words, &mut rt.reader(), output, errors);
     Ok(ExitCode::from(status))
 }

@@ -1,7 +1,9 @@
 //! A case: a script, and what the program gives on it.
 use crate::streams::{Input, Output};
-use script_player::run;
+use crash_map::run;
+use replay_values::FATES;
 use std::alloc::{AllocError, Global};
+use std::fs::Files;
 use std::io;
 use std::io::Write;
 
@@ -47,7 +49,12 @@ impl Case {
     }
 
     /// Does what the line of the table says.
-    pub fn follow<W: Write>(&mut self, line: &[u8], report: &mut W) -> io::Result<()> {
+    pub fn follow<F: Files, W: Write>(
+        &mut self,
+        rt: &F,
+        line: &[u8],
+        report: &mut W,
+    ) -> io::Result<()> {
         match line {
             [b'=', b' ', name @ ..] => self.name.extend_from_slice(name)?,
             [b'<', b' ', text @ ..] => add_line(&mut self.script, text)?,
@@ -59,8 +66,9 @@ impl Case {
             [b'>'] => self.output.push(b'\n')?,
             [b'!', b' ', text @ ..] => add_line(&mut self.errors, text)?,
             [b'?', b' ', digit] => self.status = digit.wrapping_sub(b'0'),
-            [b'$', words @ ..] => self.check(text_of(words), report)?,
-            [b'%'] => self.check_narrow(report)?,
+            [b'$', words @ ..] => self.check(rt, text_of(words), report)?,
+            [b'@', words @ ..] => self.check_stops(rt, text_of(words), report)?,
+            [b'%', words @ ..] => self.check_narrow(rt, text_of(words), report)?,
             [] => self.end(report)?,
             _ => {}
         }
@@ -79,7 +87,7 @@ impl Case {
     }
 
     // Runs the program on these words behind its name, with so much room for the output.
-    fn outcome(&self, words: &str, room: usize) -> Result<Outcome, AllocError> {
+    fn outcome<F: Files>(&self, rt: &F, words: &str, room: usize) -> Result<Outcome, AllocError> {
         let mut all = Vec::new(self.alloc);
         all.push("nsf-replay")?;
         for word in words.split(' ').filter(|word| !word.is_empty()) {
@@ -95,6 +103,7 @@ impl Case {
         };
         let mut errors = Vec::new(self.alloc);
         let status = run(
+            rt,
             self.alloc,
             all.as_slice(),
             &mut input,
@@ -117,8 +126,8 @@ impl Case {
     }
 
     // Runs the program on these words, and prints what differs from what is expected.
-    fn check<W: Write>(&mut self, words: &str, report: &mut W) -> io::Result<()> {
-        let outcome = self.outcome(words, usize::MAX)?;
+    fn check<F: Files, W: Write>(&mut self, rt: &F, words: &str, report: &mut W) -> io::Result<()> {
+        let outcome = self.outcome(rt, words, usize::MAX)?;
         if outcome.output == self.output
             && outcome.status == self.status
             && self.has_errors(&outcome.errors)
@@ -133,12 +142,41 @@ impl Case {
         writeln!(report, "{name}:{words}: status {status}\n{output}{errors}")
     }
 
-    // Runs the program with no words at each width of the output up to that of what is expected. Whatever doesn't fit
+    // Runs the program with a stop at each write and sync from the first of two numbers to the second, and with each
+    // fate, on the words behind these numbers.
+    fn check_stops<F: Files, W: Write>(
+        &mut self,
+        rt: &F,
+        text: &str,
+        report: &mut W,
+    ) -> io::Result<()> {
+        let mut words = text.split(' ').filter(|word| !word.is_empty());
+        let first = words.next().and_then(|word| word.parse::<u32>().ok());
+        let last = words.next().and_then(|word| word.parse::<u32>().ok());
+        let mut rest = String::new(self.alloc);
+        for word in words {
+            rest.push_str(&format!(in self.alloc; " {word}")?)?;
+        }
+        for stop in first.unwrap_or(1)..=last.unwrap_or(0) {
+            for fate in FATES {
+                let all = format!(in self.alloc; "{rest} --stop {stop} --fate {fate}")?;
+                self.check(rt, &all, report)?;
+            }
+        }
+        Ok(())
+    }
+
+    // Runs the program on these words at each width of the output up to that of what is expected. Whatever doesn't fit
     // ends it with the status 1.
-    fn check_narrow<W: Write>(&mut self, report: &mut W) -> io::Result<()> {
+    fn check_narrow<F: Files, W: Write>(
+        &mut self,
+        rt: &F,
+        words: &str,
+        report: &mut W,
+    ) -> io::Result<()> {
         let whole = self.output.len();
         for room in 0..=whole {
-            let status = self.outcome("", room)?.status;
+            let status = self.outcome(rt, words, room)?.status;
             let expected = if room < whole { 1 } else { self.status };
             if status == expected {
                 self.good = self.good.saturating_add(1);

@@ -11,7 +11,8 @@
 //! - `!` a line with which its errors begin: with none there are no errors;
 //! - `?` its exit status, 0 where this line is missing;
 //! - `$` the words of a run, parted by spaces;
-//! - `%` a run with no words at each output that is too narrow, and at one that is just wide enough;
+//! - `@` two numbers, and the words of runs: one with each stop from the first to the second, and with each fate;
+//! - `%` the words of runs: one at each output that is too narrow, and at one that is just wide enough;
 //! - an empty line ends the case.
 #![tactic(auto)]
 
@@ -28,7 +29,7 @@ fn main(rt: HostRuntime) -> io::Result<()> {
     let mut report = io::writer(&rt);
     let mut case = Case::new(rt.alloc());
     for line in table.split(|byte| *byte == b'\n') {
-        case.follow(line, &mut report)?;
+        case.follow(&rt, line, &mut report)?;
     }
     Ok(())
 }

@@ -1,5 +1,9 @@
-// What help prints. The launcher reads it here, and a test compares it with the program.
+// What help prints. The launcher reads it here, and a test compares it with the program. And what is told of words that
+// can't be read.
+use crash_map::refuse_words;
 use script_player::run;
+use std::io;
+use std::io::ErrorKind;
 use std::test::Fail;
 
 const HELP: &str =
@@ -27,5 +31,22 @@ fn help_is_what_the_launcher_prints(rt: HostRuntime) -> Result<(), Fail> {
     let status = run(rt.alloc(), words, &mut input, &mut output, &mut errors);
     assert_eq!(rt; output.as_slice(), HELP.as_bytes());
     assert_eq!(rt; status, 0);
+    Ok(())
+}
+
+#[test]
+fn words_that_cannot_be_read(rt: HostRuntime) -> Result<(), Fail> {
+    let cases: [(ErrorKind, u8, &str, &str); 2] = [
+        (ErrorKind::InvalidData, 2, "", "error: a word isn't text\n"),
+        (ErrorKind::OutOfMemory, 1, "refused 1 NoMemory\n", ""),
+    ];
+    for (kind, wanted, told, complained) in cases {
+        let mut output = Vec::new(rt.alloc());
+        let mut errors = Vec::new(rt.alloc());
+        let status = refuse_words(io::Error::from(kind), &mut output, &mut errors);
+        assert_eq!(rt; status, wanted);
+        assert_eq!(rt; output.as_slice(), told.as_bytes());
+        assert_eq!(rt; errors.as_slice(), complained.as_bytes());
+    }
     Ok(())
 }

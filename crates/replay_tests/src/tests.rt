@@ -1,12 +1,14 @@
-//! Allocations that are refused: the tests of this file hold whichever one is.
+//! Allocations that are refused: the tests of this file hold whichever one is, and none passes without its comparison.
 use crash_map::{CrashMap, write_table};
 use replay_values::Arguments;
 use script_player::run;
 use sector_device::Fate;
 use std::alloc::{AllocError, Global};
+use std::fs::Files;
 use std::io;
 use std::process::Abort;
 use std::str::from_utf8;
+use std::test::Fail;
 
 // Room for what a test expects: the output takes no memory while the program runs.
 const OUTPUT_MAX: usize = 4096;
@@ -149,19 +151,20 @@ fn compare(rt: &(impl Abort + AllocGlobal), commands: &[&str]) -> Result<(), All
     Ok(())
 }
 
-#[test]
-fn a_refused_command_changes_nothing(rt: HostRuntime) {
-    let _ = compare(&rt, &COMMIT);
+// The same, once more where an allocation of the test's own was refused: at most one is.
+fn compare_twice(rt: &(impl Abort + AllocGlobal), commands: &[&str]) -> Result<(), AllocError> {
+    match compare(rt, commands) {
+        Ok(()) => Ok(()),
+        Err(_) => compare(rt, commands),
+    }
 }
 
 #[test]
-fn a_refused_step_of_a_rollback_changes_nothing(rt: HostRuntime) {
-    let _ = compare(&rt, &ROLLBACK);
-}
-
-#[test]
-fn a_refused_step_of_an_index_changes_nothing(rt: HostRuntime) {
-    let _ = compare(&rt, &INDEX);
+fn a_refused_command_changes_nothing(rt: HostRuntime) -> Result<(), Fail> {
+    for commands in [&COMMIT[..], &ROLLBACK[..], &INDEX[..]] {
+        compare_twice(&rt, commands)?;
+    }
+    Ok(())
 }
 
 // The map of the script, as it is printed.
@@ -174,8 +177,39 @@ fn map_of(alloc: Global, script: &[u8]) -> io::Result<String> {
 }
 
 #[test]
-fn a_stop_leaves_a_commit_or_nothing(rt: HostRuntime) {
-    if let Ok(map) = map_of(rt.alloc(), FLUSHED) {
-        assert_eq!(rt; map.as_str(), FLUSHED_MAP);
-    }
+fn a_stop_leaves_a_commit_or_nothing(rt: HostRuntime) -> Result<(), Fail> {
+    let map = match map_of(rt.alloc(), FLUSHED) {
+        Ok(map) => map,
+        Err(_) => map_of(rt.alloc(), FLUSHED)?,
+    };
+    assert_eq!(rt; map.as_str(), FLUSHED_MAP);
+    Ok(())
+}
+
+// What the program prints where a map is asked for, and its status. The output takes no memory while it runs.
+fn mapped<R: Files + AllocGlobal>(rt: &R) -> Result<(Vec<u8>, u8), AllocError> {
+    let alloc = rt.alloc();
+    let mut input = FLUSHED;
+    let mut output = Vec::with_capacity(alloc, OUTPUT_MAX)?;
+    let mut errors = Vec::new(alloc);
+    let words = ["nsf-replay", "--crash-map"];
+    let status = crash_map::run(rt, alloc, &words, &mut input, &mut output, &mut errors);
+    Ok((output, status))
+}
+
+// The map, or that there was no memory for it.
+#[test]
+fn a_map_or_no_memory(rt: HostRuntime) -> Result<(), Fail> {
+    let (output, status) = match mapped(&rt) {
+        Ok(made) => made,
+        Err(_) => mapped(&rt)?,
+    };
+    let text = from_utf8(&output)?;
+    let wanted = if status == 0 {
+        FLUSHED_MAP
+    } else {
+        "refused 1 NoMemory\n"
+    };
+    assert!(rt; status <= 1 && text == wanted, "{status}: {text}");
+    Ok(())
 }

@@ -296,6 +296,29 @@ fn note_carriage_return(text: &[u8], errors: &mut impl Write) {
     }
 }
 
+// The number of the first line that is no comment and holds a byte above 7e, which makes it a bad one.
+fn line_that_is_no_text(text: &[u8]) -> Option<usize> {
+    text.split(|byte| *byte == b'\n')
+        .position(|line| !line.starts_with(b"#") && line.iter().any(|byte| *byte > 0x7e))
+        .map(|before| before.saturating_add(1))
+}
+
+// Says on the error stream which line of the script isn't text.
+fn note_no_text(text: &[u8], errors: &mut impl Write) {
+    if let Some(number) = line_that_is_no_text(text) {
+        let _ = writeln!(
+            errors,
+            "nsf: line {number} of the script isn't text: it has a byte above 7e"
+        );
+    }
+}
+
+// Says on the error stream which bytes of the script make it a bad one.
+fn note_bytes(text: &[u8], errors: &mut impl Write) {
+    note_carriage_return(text, errors);
+    note_no_text(text, errors);
+}
+
 // Says on the error stream that the output couldn't be written, if so.
 fn note_unwritten(ran: &io::Result<u8>, errors: &mut impl Write) {
     if ran.is_err() {
@@ -317,7 +340,7 @@ pub fn run_input<R: Read, W: Write>(
 {
     match all_of(alloc, input) {
         Ok(text) => {
-            note_carriage_return(&text, errors);
+            note_bytes(&text, errors);
             let ran = run_script(alloc, arguments, &text, output);
             note_unwritten(&ran, errors);
             ran
