@@ -172,9 +172,30 @@ fn each_write_and_name_is_synced(rt: HostRuntime) -> Result<(), Fail> {
     );
     let bytes = fs::read(&rt, "synced")?;
     assert!(&rt; bytes.len() == 1_024 && bytes.iter().filter(|byte| **byte == 9).count() == 512);
+    // Somebody looks at the draft before it is locked.
+    log.keep_busy(3);
     create(&files, rt.alloc(), "left", 2)?;
+    assert!(&rt;
+        matches!(
+            create(&files, rt.alloc(), "left", 2),
+            Err(OpenError::DraftExists)
+        )
+    );
     discard(&files, "left")?;
-    assert_eq!(&rt; log.take(rt.alloc()).as_slice(), b"kwwwwsfrf".as_slice());
+    assert_eq!(&rt;
+        log.take(rt.alloc()).as_slice(),
+        b"kkkkwwwwsfhrf".as_slice()
+    );
+    // A draft that is empty is not locked by a look.
+    fs::write(&rt, "left.new", [].as_slice())?;
+    assert!(&rt;
+        matches!(
+            create(&files, rt.alloc(), "left", 2),
+            Err(OpenError::DraftEmpty)
+        )
+    );
+    assert!(&rt; log.take(rt.alloc()).is_empty());
+    fs::remove_file(&rt, "left.new")?;
     fs::remove_file(&rt, "synced")?;
     Ok(())
 }

@@ -4,37 +4,13 @@ use sector_device::SECTOR_SIZE;
 use std::alloc::{AllocError, Global};
 use std::fs;
 use std::test::Fail;
+use store_for_tests::{BUILDING_1, Edit, GROUP, SUPERBLOCK_1};
 
 // How many sectors the least store of version 1 has.
 const SECTORS: usize = 1_118;
 
-// A sector, a place in it, and what stands there.
-type Part<'a> = (usize, usize, &'a [u8]);
-
-const SUPERBLOCK: Part<'_> = (0, 0, b"NSFINDEX\0\0\0\x01\0\0\0\x01\0\0\0\x40\0\0\0\x04");
-
 // A row of a transaction that commits, in the log.
-const LOGGED: &[Part<'_>] = &[
-    SUPERBLOCK,
-    (528, 0, b"\xa5"),
-    (529, 0, b"\0\x02\0\x31"),
-    (529, 11, b"\x01\0\0\0\0\0\0\0\x01\x01"),
-    (529, 29, b"\x01\x03ant\x01x"),
-    (529, 43, b"\x02\0\0\0\0\0\0\0\x01\x07"),
-];
-
-// The image that record 6 left, of an index that is built up to the one row, with a marked entry.
-const IMAGED: &[Part<'_>] = &[
-    SUPERBLOCK,
-    (2, 0, b"\x01\x01\x03ant"),
-    (2, 40, b"\x06\0\0\0\x02"),
-    (516, 64, b"\x01\x03ant"),
-    (516, 90, b"\x01x"),
-    (524, 0, b"\x01a"),
-    (524, 30, b"\x01\x02"),
-    (524, 32, b"\x03ant"),
-    (524, 63, b"\x01"),
-];
+const LOGGED: &[Edit<'_>] = &[SUPERBLOCK_1, (528, 0, b"\xa5"), (529, 0, GROUP)];
 
 const LOGGED_STAT: &str = "format 2
 pages 1
@@ -50,7 +26,7 @@ reserved 0
 free 64
 ";
 
-const IMAGED_STAT: &str = "format 2
+const BUILDING_STAT: &str = "format 2
 pages 1
 entries 64
 slots 4
@@ -65,11 +41,13 @@ free 62
 ";
 
 // What a file holds with these parts, and zeros elsewhere.
-fn bytes_of(alloc: Global, sectors: usize, parts: &[Part<'_>]) -> Result<Vec<u8>, AllocError> {
+fn bytes_of(alloc: Global, sectors: usize, parts: &[Edit<'_>]) -> Result<Vec<u8>, AllocError> {
     let mut bytes = Vec::new(alloc);
     bytes.resize(sectors.saturating_mul(SECTOR_SIZE), 0)?;
     for (sector, at, part) in parts {
-        let first = sector.saturating_mul(SECTOR_SIZE).saturating_add(*at);
+        let first = (*sector as usize)
+            .saturating_mul(SECTOR_SIZE)
+            .saturating_add(*at);
         for (n, byte) in part.iter().enumerate() {
             if let Some(place) = bytes.get_mut(first.saturating_add(n)) {
                 *place = *byte;
@@ -81,7 +59,7 @@ fn bytes_of(alloc: Global, sectors: usize, parts: &[Part<'_>]) -> Result<Vec<u8>
 
 #[test]
 fn a_store_of_version_1_is_moved_to_a_new_file(rt: HostRuntime) -> Result<(), Fail> {
-    for (parts, stat) in [(LOGGED, LOGGED_STAT), (IMAGED, IMAGED_STAT)] {
+    for (parts, stat) in [(LOGGED, LOGGED_STAT), (BUILDING_1, BUILDING_STAT)] {
         let bytes = bytes_of(rt.alloc(), SECTORS, parts)?;
         fs::write(&rt, "old", bytes.as_slice())?;
         let calls: [(&[&str], u8, &str, &str); 5] = [
@@ -118,20 +96,20 @@ fn a_store_of_version_1_is_moved_to_a_new_file(rt: HostRuntime) -> Result<(), Fa
 
 #[test]
 fn no_file_is_left_where_nothing_is_moved(rt: HostRuntime) -> Result<(), Fail> {
-    let cases: [(usize, &[Part<'_>], &str); 4] = [
+    let cases: [(usize, &[Edit<'_>], &str); 4] = [
         (
             SECTORS,
-            &[SUPERBLOCK, (516, 0, b"\x01")],
+            &[SUPERBLOCK_1, (516, 0, b"\x01")],
             "nsf-store: harmed: it is damaged at sector 516\n",
         ),
         (
             SECTORS,
-            &[SUPERBLOCK, (0, 11, b"\x03")],
+            &[SUPERBLOCK_1, (0, 11, b"\x03")],
             "nsf-store: harmed: it is damaged at sector 0\n",
         ),
         (
             SECTORS - 1,
-            &[SUPERBLOCK],
+            &[SUPERBLOCK_1],
             "nsf-store: harmed: it is shorter than the store that it begins with\n",
         ),
         (

@@ -1,9 +1,6 @@
 // What the shell tells of a full index, of commits that are durable, and of a device that has failed.
-use crate::program::run;
-use records::{Error, Geometry};
-use restart::{Event, Reply};
-use sector_device::{FaultDisk, MemDisk, Which};
-use serving::{GuardedStore, Store};
+use crate::answers::Answers;
+use crate::program::{run, serve};
 use std::alloc::{AllocError, Global};
 use std::fs;
 use std::test::Fail;
@@ -14,14 +11,33 @@ const FULL: &str =
 const AGAIN: &str =
     "nsf-store: f: its index is full: `nsf-store build --again` drops it, creates it anew and builds it\n";
 
+const SMALL: &str = "nsf-store: s: its index has fewer places than the table has rows\n";
+
+const CUT: &str = "nsf-store: the file's length was changed while it was open
+nsf-store: d: the file's length was changed while it was open
+";
+
+// Commands by which a transaction inserts rows with keys from this number on, and commits.
+fn insert(
+    script: &mut String,
+    alloc: Global,
+    txn: u8,
+    first: u8,
+    rows: u8,
+) -> Result<(), AllocError> {
+    script.push_str("begin\n")?;
+    for n in first..first.saturating_add(rows) {
+        script.push_str(format!(in alloc; "insert {txn} ={n} =\n")?.as_str())?;
+    }
+    script.push_str(format!(in alloc; "commit {txn}\n")?.as_str())
+}
+
 // Commands by which 60 rows get an index, and 31 of them other keys before it is built: each then has two entries, one
 // of them marked.
 fn filling(alloc: Global) -> Result<String, AllocError> {
-    let mut script = String::from_str(alloc, "begin\n")?;
-    for n in 0..60_u8 {
-        script.push_str(format!(in alloc; "insert 1 ={n} =\n")?.as_str())?;
-    }
-    script.push_str("commit 1\ncreate\n")?;
+    let mut script = String::new(alloc);
+    insert(&mut script, alloc, 1, 0, 60)?;
+    script.push_str("create\n")?;
     for n in 0..31_u8 {
         let txn = n.saturating_add(2);
         let update = format!(in alloc; "begin\nupdate {txn} 0.{n} =u{n} =\n")?;
@@ -32,79 +48,122 @@ fn filling(alloc: Global) -> Result<String, AllocError> {
     Ok(script)
 }
 
+// Commands by which there are more rows than the least index has places.
+fn many(alloc: Global) -> Result<String, AllocError> {
+    let mut script = String::new(alloc);
+    insert(&mut script, alloc, 1, 0, 60)?;
+    insert(&mut script, alloc, 2, 60, 6)?;
+    Ok(script)
+}
+
 #[test]
 fn the_way_out_of_a_full_index_is_told(rt: HostRuntime) -> Result<(), Fail> {
     let new = &["nsf-store", "new", "f", "--pages", "1", "--entries", "64"];
     run(&rt, new.as_slice(), "", 0, "", "")?;
-    let script = filling(rt.alloc())?;
-    let mut output = Vec::new(rt.alloc());
-    let mut errors = Vec::new(rt.alloc());
-    let mut input = script.as_str().as_bytes();
+    let mut answers = Answers::new(&rt, "");
     let words = &["nsf-store", "run", "f"];
-    let status = shell::run(&rt, words.as_slice(), &mut input, &mut output, &mut errors);
+    let (status, said) = serve(
+        words.as_slice(),
+        filling(rt.alloc())?.as_str(),
+        &mut answers,
+    );
     assert_eq!(rt; status, 0);
-    assert!(rt; output.ends_with(b"refused 13 IndexFull\n"));
-    assert_eq!(rt; errors.as_slice(), FULL.as_bytes());
-    run(&rt, &["nsf-store", "build", "f"], "", 1, "", AGAIN)?;
+    assert!(rt; answers.text.ends_with(b"refused 13 IndexFull\n"));
+    assert_eq!(rt; said.as_slice(), FULL.as_bytes());
     let done = "complete, 60 pairs attempted\n";
-    run(
-        &rt,
-        &["nsf-store", "build", "--again", "f"],
-        "",
-        0,
-        done,
-        "",
-    )?;
-    run(&rt, &["nsf-store", "check", "f"], "", 0, "sound\n", "")?;
+    let calls: [(&[&str], u8, &str, &str); 3] = [
+        (&["nsf-store", "build", "f"], 1, "", AGAIN),
+        (&["nsf-store", "build", "--again", "f"], 0, done, ""),
+        (&["nsf-store", "check", "f"], 0, "sound\n", ""),
+    ];
+    for (words, status, printed, said) in calls {
+        run(&rt, words, "", status, printed, said)?;
+    }
     fs::remove_file(&rt, "f")?;
     Ok(())
 }
 
 #[test]
-fn a_durable_commit_is_flushed(rt: HostRuntime) -> Result<(), Fail> {
+fn an_index_that_is_too_small_is_told(rt: HostRuntime) -> Result<(), Fail> {
+    let new = &["nsf-store", "new", "s", "--pages", "2", "--entries", "64"];
+    run(&rt, new.as_slice(), "", 0, "", "")?;
+    let mut answers = Answers::new(&rt, "");
+    let words = &["nsf-store", "run", "s"];
+    let (status, _) = serve(words.as_slice(), many(rt.alloc())?.as_str(), &mut answers);
+    assert!(rt; status == 0 && answers.text.ends_with(b"rid 1.2\nticket 68\n"));
     run(
         &rt,
-        &["nsf-store", "new", "d", "--pages", "1"],
+        &["nsf-store", "build", "--again", "s"],
         "",
-        0,
+        1,
         "",
-        "",
+        SMALL,
     )?;
-    let script = "begin\ninsert 1 =a =\ncommit 1\nbegin\ncommit 2\ncommit 9\n";
-    let answers =
-        "txn 1\nrid 0.0\nticket 2\nhorizon 2\ntxn 2\nticket 3\nhorizon 3\nrefused 9 NoSuchTxn\n";
-    let words = &["nsf-store", "run", "--durable", "d"];
-    run(&rt, words.as_slice(), script, 0, answers, "")?;
-    fs::remove_file(&rt, "d")?;
+    fs::remove_file(&rt, "s")?;
     Ok(())
 }
 
-// A store on a device whose write or sync of this number fails.
-fn store_on(alloc: Global, number: u64) -> Result<Store<FaultDisk<MemDisk<Global>>>, Fail> {
-    let geometry = Geometry::new(1, 64, 4)?;
-    let mut disk = MemDisk::new(alloc, geometry.sectors(), 4_096)?;
-    flip_image::Halves::format(&mut disk, geometry)?;
-    match Store::open(alloc, FaultDisk::new(disk, Which::WritesAndSyncs, number)) {
-        Ok(store) => Ok(store),
-        Err((error, _)) => Err(Fail::from(error)),
-    }
+// A run of the program on a new store, and what it answers and says.
+#[derive(Clone, Copy, Debug, PartialEq, Eq)]
+struct Run<'a> {
+    words: &'a [&'a str],
+    script: &'a str,
+    // whether the file is cut once a row has its place
+    is_cut: bool,
+    status: u8,
+    answers: &'a str,
+    said: &'a str,
 }
 
+const DURABLE: &[&str] = &["nsf-store", "run", "--durable", "d"];
+
+const PUT: Run<'_> = Run {
+    words: DURABLE,
+    script: "begin\ninsert 1 =a =\ncommit 1\nbegin\ncommit 2\ncommit 9\n",
+    is_cut: false,
+    status: 0,
+    answers: "txn 1\nrid 0.0\nticket 2\nhorizon 2\ntxn 2\nticket 3\nhorizon 3\nrefused 9 NoSuchTxn\n",
+    said: "",
+};
+
+const FAILED: Run<'_> = Run {
+    words: &["nsf-store", "run", "d"],
+    script: "begin\ninsert 1 =a =\ncommit 1\nflush\nbegin\ncommit 2\n",
+    is_cut: true,
+    status: 1,
+    answers: "txn 1\nrid 0.0\nticket 2\nrefused 2 DeviceFailed\ntxn 2\nrefused 2 DeviceFailed\n",
+    said: CUT,
+};
+
+const FAILED_DURABLE: Run<'_> = Run {
+    words: DURABLE,
+    script: "begin\ninsert 1 =a =\ncommit 1\nbegin\ncommit 2\n",
+    is_cut: true,
+    status: 1,
+    answers: "txn 1\nrid 0.0\nrefused 2 DeviceFailed\ntxn 2\nrefused 2 DeviceFailed\n",
+    said: CUT,
+};
+
+// As the last ticket is answered, the file holds all that it does in the end.
 #[test]
-fn no_commit_is_answered_behind_a_failure(rt: HostRuntime) -> Result<(), Fail> {
-    let opening = store_on(rt.alloc(), 0)?.device().made();
-    let store = store_on(rt.alloc(), opening.saturating_add(1))?;
-    let mut guarded = GuardedStore::new(store);
-    for is_known in [false, true] {
-        let Reply::Txn(txn) = guarded.serve(Event::Begin) else {
-            return Err(Fail::new("no transaction was begun"));
-        };
-        let refused = matches!(
-            guarded.serve(Event::Commit { txn }),
-            Reply::Refused(Error::DeviceFailed)
-        );
-        assert_eq!(rt; refused, is_known);
-        assert!(rt; matches!(guarded.flush(), Reply::Refused(Error::DeviceFailed)));
+fn a_durable_commit_is_safe_once_it_is_answered(rt: HostRuntime) -> Result<(), Fail> {
+    for wanted in [PUT, FAILED, FAILED_DURABLE] {
+        run(
+            &rt,
+            &["nsf-store", "new", "d", "--pages", "1"],
+            "",
+            0,
+            "",
+            "",
+        )?;
+        let mut answers = Answers::new(&rt, "d");
+        answers.cuts = wanted.is_cut;
+        let (status, said) = serve(wanted.words, wanted.script, &mut answers);
+        assert_eq!(rt; answers.text.as_slice(), wanted.answers.as_bytes());
+        assert_eq!(rt; said.as_slice(), wanted.said.as_bytes());
+        assert_eq!(rt; status, wanted.status);
+        assert!(rt; wanted.is_cut || answers.held == fs::read(&rt, "d")?);
+        fs::remove_file(&rt, "d")?;
     }
     Ok(())
 }

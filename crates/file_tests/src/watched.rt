@@ -12,8 +12,8 @@ use std::rt::Files;
 // How many bytes a write takes at most.
 const PART: usize = 300;
 
-/// The calls, each by a letter: `k` locks a file, `w` writes, `s` syncs it, `f` syncs a folder, `l` gives a second
-/// name, `r` removes one.
+/// The calls, each by a letter: `k` locks a file, `h` locks it against those that would lock it alone, `w` writes, `s`
+/// syncs it, `f` syncs a folder, `l` gives a second name, `r` removes one.
 #[derive(Drop)]
 pub struct Log {
     calls: RefCell<Vec<u8>>,
@@ -22,15 +22,23 @@ pub struct Log {
     // The system's number of that failure.
     code: i32,
     is_interrupted: Cell<bool>,
+    // How many locks find the file locked.
+    busy: Cell<u64>,
 }
 
 impl Log {
+    /// The next so many locks find the file locked.
+    pub fn keep_busy(&self, locks: u64) {
+        self.busy.set(locks);
+    }
+
     pub fn new(alloc: Global, before: u64, code: i32) -> Log {
         Log {
             calls: RefCell::new(Vec::new(alloc)),
             before: Cell::new(before),
             code,
             is_interrupted: Cell::new(false),
+            busy: Cell::new(0),
         }
     }
 
@@ -40,6 +48,18 @@ impl Log {
             Ok(calls) => calls,
             Err(_) => Vec::new(alloc),
         }
+    }
+
+    fn note_lock(&self, call: u8) -> Result<(), TryLockError> {
+        if let Err(error) = self.note(call) {
+            return Err(TryLockError::Error(error));
+        }
+        let busy = self.busy.get();
+        self.busy.set(busy.saturating_sub(1));
+        if busy != 0 {
+            return Err(TryLockError::WouldBlock);
+        }
+        Ok(())
     }
 
     fn note(&self, call: u8) -> io::Result<()> {
@@ -107,13 +127,12 @@ impl OpenFile for WatchedFile<'_> {
 
 impl StoreFile for WatchedFile<'_> {
     fn try_lock(&self) -> Result<(), TryLockError> {
-        match self.log.note(b'k') {
-            Ok(()) => self.file.try_lock(),
-            Err(error) => Err(TryLockError::Error(error)),
-        }
+        self.log.note_lock(b'k')?;
+        self.file.try_lock()
     }
 
     fn try_lock_shared(&self) -> Result<(), TryLockError> {
+        self.log.note_lock(b'h')?;
         self.file.try_lock_shared()
     }
 

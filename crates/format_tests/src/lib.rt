@@ -7,6 +7,4 @@
 #[cfg(test)]
 mod migration_tests;
 #[cfg(test)]
-mod opened;
-#[cfg(test)]
 mod row_tests;

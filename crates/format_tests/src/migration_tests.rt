@@ -1,5 +1,4 @@
 // A store of version 1 is moved to another disk.
-use crate::opened::{ample, open};
 use model::Life;
 use records::{Body, Error, Key, Mark, Pair, Rid, Row};
 use refused_memory::Refusing;
@@ -9,7 +8,8 @@ use std::alloc::Global;
 use std::process::Abort;
 use std::test::Fail;
 use store_for_tests::{
-    Answer, Contents, Disk, Edit, GROUP, OpenStore, StoreMemory, edit, requests,
+    Answer, BUILDING_1, Contents, Disk, Edit, GROUP, OpenStore, SUPERBLOCK_1, StoreMemory, ample,
+    edit, open, requests,
 };
 
 // The sectors of the least store, in version 1 and in version 2.
@@ -17,36 +17,21 @@ const OLD_SECTORS: u64 = 1_118;
 
 const SECTORS: u64 = 2_166;
 
-const SUPERBLOCK: Edit<'_> = (0, 0, b"NSFINDEX\0\0\0\x01\0\0\0\x01\0\0\0\x40\0\0\0\x04");
-
 // A group in the log.
-const LOGGED: &[Edit<'_>] = &[SUPERBLOCK, (528, 0, b"\xa5"), (529, 0, GROUP)];
+const LOGGED: &[Edit<'_>] = &[SUPERBLOCK_1, (528, 0, b"\xa5"), (529, 0, GROUP)];
 
 // The same, without its commit.
 const UNFINISHED: &[Edit<'_>] = &[
-    SUPERBLOCK,
+    SUPERBLOCK_1,
     (528, 0, b"\xa5"),
     (529, 0, GROUP),
     (529, 0, b"\0\x01\0\x20"),
     (529, 36, &[0; 17]),
 ];
 
-// The image of an index that is built up to the row, with a marked entry, as record 6 left it.
-const IMAGED: &[Edit<'_>] = &[
-    SUPERBLOCK,
-    (2, 0, b"\x01\x01\x03ant"),
-    (2, 40, b"\x06\0\0\0\x02"),
-    (516, 64, b"\x01\x03ant"),
-    (516, 90, b"\x01x"),
-    (524, 0, b"\x01a"),
-    (524, 30, b"\x01\x02"),
-    (524, 32, b"\x03ant"),
-    (524, 63, b"\x01"),
-];
-
-// The same, where transaction 2 has put in the row of the entry that isn't marked yet.
+// The index that is built up to the row, where transaction 2 has put in the row of the entry that isn't marked yet.
 const IMAGED_UNFINISHED: &[Edit<'_>] = &[
-    SUPERBLOCK,
+    SUPERBLOCK_1,
     (2, 0, b"\x01\x01\x03ant"),
     (2, 40, b"\x06\0\0\0\x02"),
     (3, 7, b"\x02\0\x01"),
@@ -193,7 +178,7 @@ fn stores_of_version_1_are_moved(rt: HostRuntime) -> Result<(), Fail> {
     let cases: [(&[Edit<'_>], Contents); 4] = [
         (UNFINISHED, none),
         (LOGGED, logged),
-        (IMAGED, imaged),
+        (BUILDING_1, imaged),
         (IMAGED_UNFINISHED, imaged),
     ];
     for (edits, wanted) in cases {
@@ -259,19 +244,19 @@ fn stores_that_are_not_moved(rt: HostRuntime) -> Result<(), Fail> {
         ),
         (
             "version 2",
-            &[SUPERBLOCK, (0, 11, b"\x02")],
+            &[SUPERBLOCK_1, (0, 11, b"\x02")],
             SECTORS,
             damaged,
         ),
         (
             "version 2, and a new disk too small",
-            &[SUPERBLOCK, (0, 11, b"\x02")],
+            &[SUPERBLOCK_1, (0, 11, b"\x02")],
             0,
             damaged,
         ),
         (
             "more pages",
-            &[SUPERBLOCK, (0, 15, b"\x02")],
+            &[SUPERBLOCK_1, (0, 15, b"\x02")],
             SECTORS,
             MigrateError::Old(Error::DeviceTooSmall),
         ),
@@ -295,32 +280,32 @@ fn stores_that_are_not_moved(rt: HostRuntime) -> Result<(), Fail> {
 fn harmed_stores_of_version_1(rt: HostRuntime) -> Result<(), Fail> {
     let memory = ample(rt.alloc());
     let cases: [(&[Edit<'_>], u64); 18] = [
-        (&[SUPERBLOCK, (0, 24, b"\x01")], 0),
-        (&[SUPERBLOCK, (0, 15, b"\0")], 0),
-        (&[SUPERBLOCK, (2, 0, b"\x03")], 2),
-        (&[SUPERBLOCK, (2, 1, b"\x01")], 2),
-        (&[SUPERBLOCK, (2, 45, b"\x01")], 2),
-        (&[SUPERBLOCK, (3, 39, b"\x01")], 3),
-        (&[SUPERBLOCK, (3, 9, b"\x01")], 3),
-        (&[SUPERBLOCK, (3, 7, b"\x01\0\x01")], 4),
-        (&[SUPERBLOCK, (516, 0, b"\x01")], 516),
-        (&[SUPERBLOCK, (516, 64, b"\x02")], 516),
-        (&[SUPERBLOCK, (516, 64, b"\x01\x19")], 516),
-        (&[SUPERBLOCK, (516, 64, b"\x01"), (516, 90, b"\x26")], 516),
-        (&[SUPERBLOCK, (523, 0, b"\x02")], 516),
-        (&[SUPERBLOCK, (2, 44, b"\x01")], 524),
-        (&[SUPERBLOCK, (528, 0, b"\xa5")], 528),
-        (&[SUPERBLOCK, (528, 0, b"\xa5"), (529, 0, DROP)], 528),
+        (&[SUPERBLOCK_1, (0, 24, b"\x01")], 0),
+        (&[SUPERBLOCK_1, (0, 15, b"\0")], 0),
+        (&[SUPERBLOCK_1, (2, 0, b"\x03")], 2),
+        (&[SUPERBLOCK_1, (2, 1, b"\x01")], 2),
+        (&[SUPERBLOCK_1, (2, 45, b"\x01")], 2),
+        (&[SUPERBLOCK_1, (3, 39, b"\x01")], 3),
+        (&[SUPERBLOCK_1, (3, 9, b"\x01")], 3),
+        (&[SUPERBLOCK_1, (3, 7, b"\x01\0\x01")], 4),
+        (&[SUPERBLOCK_1, (516, 0, b"\x01")], 516),
+        (&[SUPERBLOCK_1, (516, 64, b"\x02")], 516),
+        (&[SUPERBLOCK_1, (516, 64, b"\x01\x19")], 516),
+        (&[SUPERBLOCK_1, (516, 64, b"\x01"), (516, 90, b"\x26")], 516),
+        (&[SUPERBLOCK_1, (523, 0, b"\x02")], 516),
+        (&[SUPERBLOCK_1, (2, 44, b"\x01")], 524),
+        (&[SUPERBLOCK_1, (528, 0, b"\xa5")], 528),
+        (&[SUPERBLOCK_1, (528, 0, b"\xa5"), (529, 0, DROP)], 528),
         (
             &[
-                SUPERBLOCK,
+                SUPERBLOCK_1,
                 (2, 40, b"\x01"),
                 (528, 0, b"\xa5"),
                 (529, 0, GROUP),
             ],
             528,
         ),
-        (&[SUPERBLOCK, (536, 0, b"\xa5")], 536),
+        (&[SUPERBLOCK_1, (536, 0, b"\xa5")], 536),
     ];
     for (edits, sector) in cases {
         let mut old = old_disk(rt.alloc(), edits)?;
@@ -340,70 +325,95 @@ fn harmed_stores_of_version_1(rt: HostRuntime) -> Result<(), Fail> {
 // More than the calls of a disk in a migration, and than its allocations.
 const CALLS: u64 = 1_000;
 
-// Why a store isn't moved, and whether the new disk was written.
-fn hindrance<M: StoreMemory>(
-    memory: M,
-    old: &mut Disk,
-    new: Disk,
-) -> Result<Option<(MigrateError, bool)>, Error> {
+// Why a store isn't moved, if it isn't, and whether the new disk was written; and whether memory was refused.
+type Hindered = (Option<(MigrateError, bool)>, bool);
+
+fn hindrance<M: StoreMemory>(memory: M, old: &mut Disk, new: Disk) -> Result<Hindered, Error> {
     match memory.moved(old, new) {
         Ok(store) => {
             store.close();
-            Ok(None)
+            Ok((None, memory.refused() > 0))
         }
         Err((error, disk)) => {
             let mut disk = disk.crash(Fate::New);
-            Ok(Some((error, disk.sector(0)? != [0; SECTOR_SIZE])))
+            let written = disk.sector(0)? != [0; SECTOR_SIZE];
+            Ok((Some((error, written)), memory.refused() > 0))
         }
     }
 }
 
-// The same, where these calls of the old disk and of the new one fail, of which 0 is none, and the allocations behind
-// so many are refused.
+// What fails in a migration: these calls of the old disk and of the new one, of which 0 is none, and the allocations
+// behind so many.
+type Hindrance = (u64, u64, u64);
+
+// The same, where this fails, and the new disk has so many sectors.
 fn hindered(
     alloc: Global,
-    calls: (u64, u64),
-    before: u64,
-) -> Result<Option<(MigrateError, bool)>, Fail> {
+    (old_call, new_call, before): Hindrance,
+    sectors: u64,
+) -> Result<Hindered, Fail> {
     let memory = Refusing::new(alloc, before);
-    let mut old = old_disk(alloc, LOGGED)?.failing(Which::All, calls.0);
-    let new = Disk::bare(alloc, SECTORS)?.failing(Which::All, calls.1);
+    let mut old = old_disk(alloc, LOGGED)?.failing(Which::All, old_call);
+    let new = Disk::bare(alloc, sectors)?.failing(Which::All, new_call);
     Ok(hindrance(&memory, &mut old, new)?)
 }
 
-// Each call of the old disk fails in turn, and each of the new one, and each allocation is refused in turn.
+// What fails in turn.
+#[derive(Clone, Copy)]
+enum Place {
+    OldCall,
+    NewCall,
+    Allocation,
+}
+
+// What fails at this count.
+fn at_count(place: Place, count: u64) -> Hindrance {
+    match place {
+        Place::OldCall => (count.saturating_add(1), 0, u64::MAX),
+        Place::NewCall => (0, count.saturating_add(1), u64::MAX),
+        Place::Allocation => (0, 0, count),
+    }
+}
+
+// Moves a store to a disk of so many sectors, where each place fails in turn, until none does. The answer is this one
+// while one does, and else this.
+fn hinder_each(
+    rt: &impl Abort,
+    alloc: Global,
+    place: Place,
+    sectors: u64,
+    (wanted, whole): (MigrateError, Option<MigrateError>),
+) -> Result<(), Fail> {
+    for count in 0..CALLS {
+        let (found, refused) = hindered(alloc, at_count(place, count), sectors)?;
+        let error = found.map(|(error, _)| error);
+        if error == whole && !refused {
+            return Ok(());
+        }
+        assert_eq!(rt; error, Some(wanted));
+        let written = found.is_some_and(|(_, written)| written);
+        assert!(rt; !written || wanted == MigrateError::New(Error::DeviceFailed));
+    }
+    Err("fewer calls")?
+}
+
+// Each call of the old disk fails in turn, and each of the new one, and each allocation is refused in turn. That the
+// old disk failed, or that memory was wanting, is told before a new disk that is too small.
 #[test]
 fn migrations_that_are_hindered(rt: HostRuntime) -> Result<(), Fail> {
-    let mut moved: u32 = 0;
-    for call in 1..CALLS {
-        match hindered(rt.alloc(), (call, 0), u64::MAX)? {
-            Some(found) => {
-                assert_eq!(rt; found, (MigrateError::Old(Error::DeviceFailed), false));
-            }
-            None => {
-                moved = moved.saturating_add(1);
-                break;
-            }
-        }
+    let old = MigrateError::Old(Error::DeviceFailed);
+    let new = MigrateError::New(Error::DeviceFailed);
+    let small = MigrateError::New(Error::DeviceTooSmall);
+    let none = MigrateError::NoMemory;
+    let cases: [(Place, u64, (MigrateError, Option<MigrateError>)); 5] = [
+        (Place::OldCall, SECTORS, (old, None)),
+        (Place::NewCall, SECTORS, (new, None)),
+        (Place::Allocation, SECTORS, (none, None)),
+        (Place::OldCall, SECTORS - 1, (old, Some(small))),
+        (Place::Allocation, SECTORS - 1, (none, Some(small))),
+    ];
+    for (place, sectors, wanted) in cases {
+        hinder_each(&rt, rt.alloc(), place, sectors, wanted)?;
     }
-    for call in 1..CALLS {
-        match hindered(rt.alloc(), (0, call), u64::MAX)? {
-            Some((error, _)) => assert_eq!(rt; error, MigrateError::New(Error::DeviceFailed)),
-            None => {
-                moved = moved.saturating_add(1);
-                break;
-            }
-        }
-    }
-    for before in 0..CALLS {
-        match hindered(rt.alloc(), (0, 0), before)? {
-            Some(found) => assert_eq!(rt; found, (MigrateError::NoMemory, false)),
-            None => {
-                moved = moved.saturating_add(1);
-                break;
-            }
-        }
-    }
-    assert_eq!(rt; moved, 3);
     Ok(())
 }

@@ -1,12 +1,11 @@
 // Rows of each length in each slot of a page, of which each fourth lies across the end of a sector.
-use crate::opened::{ample, open};
 use records::{Body, Key, Rid, Row, Txn};
 use restart::Event;
 use sector_device::Fate;
 use std::alloc::Global;
 use std::process::Abort;
 use std::test::Fail;
-use store_for_tests::{Answer, Disk, OpenStore, StoreMemory};
+use store_for_tests::{Answer, Disk, OpenStore, StoreMemory, ample, open};
 
 // How many lengths a body may have, from 0 on.
 const LENGTHS: u32 = 70;

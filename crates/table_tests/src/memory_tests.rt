@@ -1,4 +1,5 @@
 // Each part is used with each of its allocations refused in turn: it wants memory just where one was refused.
+use crate::quiet_tests::hand_out;
 use crate::values::{pair_of, row_of};
 use heap_pages::Heap;
 use marked_index::MarkedIndex;
@@ -13,6 +14,19 @@ use txn_table::TxnTable;
 // How often a part is used at most.
 const PLAYS: u64 = 2_000;
 
+// A scan of a heap of one page, which has taken its pairs.
+pub(crate) fn scan_rows<A: Allocator + Copy>(
+    rt: &impl Abort,
+    memory: A,
+    heap: &Heap<A>,
+) -> Result<Scan<A>, Error> {
+    let mut scan = Scan::new(memory, None, 1);
+    assert!(rt; heap.pages() == 1 && scan.wants_page() == Some(0));
+    let pairs = heap.page_pairs(0)?;
+    scan.take_page(0, &pairs)?;
+    Ok(scan)
+}
+
 // Fills a page, whose pairs come from a scan then.
 fn scan_page<A: Allocator + Copy>(rt: &impl Abort, memory: A) -> Result<(), Error> {
     let mut heap = Heap::new(memory, 1)?;
@@ -21,14 +35,11 @@ fn scan_page<A: Allocator + Copy>(rt: &impl Abort, memory: A) -> Result<(), Erro
         let rid = Rid { page: 0, slot };
         heap.set(rid, Some(row_of(u32::from(slot))?));
     }
-    let mut scan = Scan::new(memory, None, 1);
-    assert!(rt; heap.pages() == 1 && scan.wants_page() == Some(0));
-    let pairs = heap.page_pairs(0)?;
-    scan.take_page(0, &pairs)?;
+    let mut scan = scan_rows(rt, memory, &heap)?;
     for _ in 0..SLOTS_PER_PAGE {
-        assert!(rt; scan.hand_out().is_some());
+        assert!(rt; hand_out(&mut scan).is_some());
     }
-    assert!(rt; scan.hand_out().is_none());
+    assert!(rt; hand_out(&mut scan).is_none());
     Ok(())
 }
 

@@ -1,11 +1,12 @@
 // The calls that take no memory. Each is made where the next allocation would be refused, and counted.
-use crate::tree_tests::put;
-use crate::values::{Memory, pair_of, row_of};
-use btree_node::{BTree, ENTRIES_MAX};
+use crate::memory_tests::scan_rows;
+use crate::tree_tests::{found, put, put_quietly, take};
+use crate::values::{Memory, RID, pair_of, row_of};
+use btree_node::BTree;
 use heap_pages::{Heap, HeapPage};
 use marked_index::MarkedIndex;
 use nsf_core::{Core, Owed};
-use records::{Change, Error, Geometry, Mark, Rid, Rows};
+use records::{Change, Error, Geometry, Mark, Pair, Rid, Row, Rows, Txn};
 use refused_memory::Refusing;
 use sorted_scan::Scan;
 use std::alloc::Allocator;
@@ -13,20 +14,43 @@ use std::process::Abort;
 use std::test::Fail;
 use txn_table::TxnTable;
 
-const RID: Rid = Rid { page: 0, slot: 5 };
+// Most of these make few calls of the part, and promise nothing, so that who makes several has no more to read than it
+// needs.
+
+fn use_page(rt: &impl Abort) -> Result<(), Error> {
+    let mut page = HeapPage::new();
+    page.set(5, Some(row_of(7)?));
+    assert!(rt; page.get(5) == Some(row_of(7)?));
+    Ok(())
+}
+
+fn set_row<A: Allocator + Copy>(rt: &impl Abort, heap: &mut Heap<A>, row: Option<Row>) {
+    assert!(rt; RID.page < heap.pages());
+    heap.set(RID, row);
+}
+
+fn row_in<A: Allocator + Copy>(heap: &Heap<A>) -> Option<Row> {
+    heap.get(RID)
+}
 
 fn use_heap<A: Allocator + Copy>(rt: &impl Abort, memory: &Memory, within: A) -> Result<(), Error> {
-    let row = row_of(7)?;
     let mut heap = Heap::new(within, 1)?;
     memory.refuse_after(0);
-    let mut page = HeapPage::new();
-    page.set(5, Some(row));
-    assert!(rt; page.get(5) == Some(row) && heap.pages() == 1);
-    heap.set(RID, Some(row));
-    assert!(rt; heap.get(RID) == Some(row) && heap.pages() == 1);
-    heap.set(RID, None);
-    assert!(rt; heap.get(RID).is_none());
+    use_page(rt)?;
+    set_row(rt, &mut heap, Some(row_of(7)?));
+    assert!(rt; row_in(&heap) == Some(row_of(7)?));
+    set_row(rt, &mut heap, None);
+    assert!(rt; row_in(&heap).is_none());
     Ok(())
+}
+
+fn mark<A: Allocator + Copy>(rt: &impl Abort, tree: &mut BTree<A>, pair: &Pair) {
+    assert!(rt; tree.get(pair).0.is_some());
+    tree.set_mark(pair, Mark::Marked);
+}
+
+fn above<A: Allocator + Copy>(tree: &BTree<A>, pair: &Pair) -> Option<(Pair, Mark)> {
+    tree.above(Some(pair))
 }
 
 // The pair that is put last splits a leaf, and with it the tree gets a root. Its removal makes them one leaf again.
@@ -35,18 +59,43 @@ fn use_tree<A: Allocator + Copy>(rt: &impl Abort, memory: &Memory, within: A) ->
     for number in 0..32u32 {
         put(rt, &mut tree, number)?;
     }
-    let pair = pair_of(32)?;
-    assert!(rt; tree.len() < ENTRIES_MAX && tree.get(&pair).0.is_none());
-    let plan = tree.plan_insert(&pair)?;
-    memory.refuse_after(0);
-    tree.insert(plan, Mark::Live);
-    assert!(rt; tree.get(&pair) == (Some(Mark::Live), 2));
-    tree.set_mark(&pair, Mark::Marked);
-    assert!(rt; tree.above(Some(&pair_of(31)?)) == Some((pair, Mark::Marked)));
-    assert!(rt; tree.get(&pair).0.is_some());
-    tree.remove(&pair);
-    assert!(rt; tree.len() == 32 && tree.above(Some(&pair)).is_none());
+    let (pair, before) = (pair_of(32)?, pair_of(31)?);
+    put_quietly(rt, &mut tree, &pair, Some(memory))?;
+    assert!(rt; found(&tree, &pair) == (Some(Mark::Live), 2));
+    mark(rt, &mut tree, &pair);
+    assert!(rt; above(&tree, &before) == Some((pair, Mark::Marked)));
+    take(rt, &mut tree, &pair);
+    assert!(rt; tree.len() == 32 && above(&tree, &before).is_none());
     Ok(())
+}
+
+fn pledge<A: Allocator + Copy>(rt: &impl Abort, index: &mut MarkedIndex<A>) -> Result<(), Error> {
+    index.pledge()?;
+    assert!(rt; 0 < index.pledged());
+    Ok(())
+}
+
+fn release<A: Allocator + Copy>(rt: &impl Abort, index: &mut MarkedIndex<A>) {
+    assert!(rt; 0 < index.pledged());
+    index.release(1);
+}
+
+fn mark_new<A: Allocator + Copy>(
+    rt: &impl Abort,
+    index: &mut MarkedIndex<A>,
+    pair: &Pair,
+) -> Result<(), Error> {
+    assert!(rt; 0 < index.pledged());
+    index.txn_mark(pair)?;
+    Ok(())
+}
+
+fn is_marked<A: Allocator + Copy>(index: &MarkedIndex<A>, pair: &Pair) -> bool {
+    index.get(pair) == Some(Mark::Marked) && index.above(None).is_some()
+}
+
+fn clean<A: Allocator + Copy>(index: &mut MarkedIndex<A>, pair: &Pair) -> bool {
+    index.clean(pair, true)
 }
 
 fn use_index<A: Allocator + Copy>(
@@ -56,16 +105,33 @@ fn use_index<A: Allocator + Copy>(
 ) -> Result<(), Error> {
     let mut index = MarkedIndex::new(within, Geometry::new(1, 64, 4)?);
     let pair = pair_of(7)?;
-    index.pledge()?;
-    assert!(rt; 0 < index.pledged());
-    index.txn_mark(&pair)?;
+    pledge(rt, &mut index)?;
+    mark_new(rt, &mut index, &pair)?;
     memory.refuse_after(0);
-    index.pledge()?;
-    assert!(rt; 0 < index.pledged());
-    index.release(1);
-    assert!(rt; index.get(&pair) == Some(Mark::Marked) && index.above(None).is_some());
-    assert!(rt; index.clean(&pair, true) && index.is_empty());
+    pledge(rt, &mut index)?;
+    release(rt, &mut index);
+    assert!(rt; is_marked(&index, &pair));
+    assert!(rt; clean(&mut index, &pair) && index.is_empty());
     Ok(())
+}
+
+// A transaction that has made this change.
+fn changing<A: Allocator + Copy>(table: &mut TxnTable<A>, change: Change) -> Result<Txn, Error> {
+    let txn = table.begin()?;
+    table.note(txn, change)?;
+    Ok(txn)
+}
+
+fn holds<A: Allocator + Copy>(table: &TxnTable<A>, txn: Txn) -> bool {
+    table.holder(RID) == Some(txn) && table.held_rows().len() == 1
+}
+
+fn undone<A: Allocator + Copy>(table: &mut TxnTable<A>, txn: Txn) -> Option<Change> {
+    table.pop_undo(txn)
+}
+
+fn end<A: Allocator + Copy>(table: &mut TxnTable<A>, txn: Txn) -> Result<(), Error> {
+    table.end(txn)
 }
 
 fn use_table<A: Allocator + Copy>(
@@ -74,48 +140,69 @@ fn use_table<A: Allocator + Copy>(
     within: A,
 ) -> Result<(), Error> {
     let mut table = TxnTable::new(within);
-    let txn = table.begin()?;
-    let rows = Rows::Inserted { new: row_of(7)? };
     let change = Change {
         position: 0,
         rid: RID,
-        rows,
+        rows: Rows::Inserted { new: row_of(7)? },
     };
-    table.note(txn, change)?;
+    let txn = changing(&mut table, change)?;
     memory.refuse_after(0);
-    assert!(rt; table.holder(RID) == Some(txn) && table.held_rows().len() == 1);
-    assert!(rt; table.pop_undo(txn) == Some(change));
-    table.end(txn)?;
+    assert!(rt; holds(&table, txn));
+    assert!(rt; undone(&mut table, txn) == Some(change));
+    end(&mut table, txn)?;
     assert!(rt; table.is_empty());
     Ok(())
 }
 
+fn next<A: Allocator + Copy>(scan: &Scan<A>) -> Option<Pair> {
+    scan.next()
+}
+
+pub(crate) fn hand_out<A: Allocator + Copy>(scan: &mut Scan<A>) -> Option<Pair> {
+    scan.hand_out()
+}
+
 fn use_scan<A: Allocator + Copy>(rt: &impl Abort, memory: &Memory, within: A) -> Result<(), Error> {
     let mut heap = Heap::new(within, 1)?;
-    assert!(rt; heap.pages() == 1);
-    heap.set(RID, Some(row_of(7)?));
-    assert!(rt; heap.pages() == 1);
-    let pairs = heap.page_pairs(0)?;
-    let mut scan = Scan::new(within, None, 1);
-    assert!(rt; scan.wants_page() == Some(0));
-    scan.take_page(0, &pairs)?;
+    set_row(rt, &mut heap, Some(row_of(7)?));
+    let mut scan = scan_rows(rt, within, &heap)?;
     memory.refuse_after(0);
     let pair = pair_of(7)?;
-    assert!(rt; scan.next() == Some(pair) && scan.hand_out() == Some(pair));
-    assert!(rt; scan.next().is_none() && scan.remaining() == 0);
+    assert!(rt; next(&scan) == Some(pair) && hand_out(&mut scan) == Some(pair));
+    assert!(rt; next(&scan).is_none() && scan.remaining() == 0);
     Ok(())
+}
+
+// A core with an index, in which a transaction inserts this row.
+fn inserting<A: Allocator + Copy>(
+    rt: &impl Abort,
+    core: &mut Core<A>,
+    row: Row,
+) -> Result<(Txn, Rid), Error> {
+    let txn = begun(core)?;
+    assert!(rt; core.ready(txn));
+    Ok((txn, core.start_insert(txn, row.key, row.body)?))
+}
+
+fn begun<A: Allocator + Copy>(core: &mut Core<A>) -> Result<Txn, Error> {
+    core.create_index()?;
+    core.begin()
+}
+
+fn owes_key<A: Allocator + Copy>(core: &Core<A>, txn: Txn) -> bool {
+    core.owes(txn) == Some(Owed::KeyPut) && !core.ready(txn)
+}
+
+fn has_row_alone<A: Allocator + Copy>(core: &Core<A>, rid: Rid, row: Row) -> bool {
+    core.get(rid) == Some(row) && core.above(None).is_none()
 }
 
 fn use_core<A: Allocator + Copy>(rt: &impl Abort, memory: &Memory, within: A) -> Result<(), Error> {
     let mut core = Core::new(within, Geometry::new(1, 64, 4)?, 0)?;
-    core.create_index()?;
-    let txn = core.begin()?;
     let row = row_of(7)?;
-    assert!(rt; core.ready(txn));
-    let rid = core.start_insert(txn, row.key, row.body)?;
+    let (txn, rid) = inserting(rt, &mut core, row)?;
     memory.refuse_after(0);
-    assert!(rt; core.get(rid) == Some(row) && core.above(None).is_none());
-    assert!(rt; core.owes(txn) == Some(Owed::KeyPut) && !core.ready(txn));
+    assert!(rt; has_row_alone(&core, rid, row) && owes_key(&core, txn));
     assert!(rt; core.life().is_indexed() && core.attempts() == 0);
     Ok(())
 }

@@ -7,14 +7,31 @@ use std::alloc::{Allocator, Global};
 use std::process::Abort;
 use std::test::Fail;
 
-// Whether the insertion of a pair that is absent can be planned.
-fn can_plan<A: Allocator + Copy>(
+// Plans the insertion of a pair.
+fn plan<A: Allocator + Copy>(rt: &impl Abort, tree: &BTree<A>, pair: &Pair) -> Result<(), Error> {
+    assert!(rt; tree.len() < ENTRIES_MAX);
+    tree.plan_insert(pair)?;
+    Ok(())
+}
+
+/// The mark of a pair, and how many nodes were visited.
+pub(crate) fn found<A: Allocator + Copy>(tree: &BTree<A>, pair: &Pair) -> (Option<Mark>, u32) {
+    tree.get(pair)
+}
+
+/// Puts a pair in that is absent. Where memory is given, none is left of it from the plan on.
+pub(crate) fn put_quietly<A: Allocator + Copy>(
     rt: &impl Abort,
-    tree: &BTree<A>,
+    tree: &mut BTree<A>,
     pair: &Pair,
+    memory: Option<&Memory>,
 ) -> Result<(), Error> {
     assert!(rt; tree.len() < ENTRIES_MAX && tree.get(pair).0.is_none());
-    tree.plan_insert(pair)?;
+    let plan = tree.plan_insert(pair)?;
+    if let Some(memory) = memory {
+        memory.refuse_after(0);
+    }
+    tree.insert(plan, Mark::Live);
     Ok(())
 }
 
@@ -24,23 +41,13 @@ pub(crate) fn put<A: Allocator + Copy>(
     tree: &mut BTree<A>,
     number: u32,
 ) -> Result<(), Error> {
-    let pair = pair_of(number)?;
-    assert!(rt; tree.len() < ENTRIES_MAX && tree.get(&pair).0.is_none());
-    let plan = tree.plan_insert(&pair)?;
-    tree.insert(plan, Mark::Live);
-    Ok(())
+    put_quietly(rt, tree, &pair_of(number)?, None)
 }
 
-// Takes a pair out that is present.
-fn take<A: Allocator + Copy>(
-    rt: &impl Abort,
-    tree: &mut BTree<A>,
-    number: u32,
-) -> Result<(), Error> {
-    let pair = pair_of(number)?;
-    assert!(rt; tree.get(&pair).0.is_some());
-    tree.remove(&pair);
-    Ok(())
+/// Takes a pair out that is present.
+pub(crate) fn take<A: Allocator + Copy>(rt: &impl Abort, tree: &mut BTree<A>, pair: &Pair) {
+    assert!(rt; tree.get(pair).0.is_some());
+    tree.remove(pair);
 }
 
 // How many levels a tree of so many entries has, up to 33 that came in rising order.
@@ -59,7 +66,7 @@ fn grow_and_shrink<A: Allocator + Copy>(rt: &impl Abort, memory: A) -> Result<()
         assert!(rt; tree.height() == levels_of(number), "with {number} pairs");
     }
     for left in (0..=32u32).rev() {
-        take(rt, &mut tree, left + 1)?;
+        take(rt, &mut tree, &pair_of(left + 1)?);
         let is_low = tree.height() == levels_of(left);
         assert!(rt; is_low || left == 32, "with {left} pairs");
     }
@@ -135,7 +142,7 @@ fn refuse_each<A: Allocator + Copy>(
     for before in 0..9 {
         let was = memory.refused();
         memory.refuse_after(before);
-        let planned = can_plan(rt, tree, &pair);
+        let planned = plan(rt, tree, &pair);
         if memory.refused() == was {
             assert!(rt; planned == Ok(()));
             memory.refuse_after(u64::MAX);

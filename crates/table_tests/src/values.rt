@@ -6,6 +6,9 @@ use std::alloc::Global;
 /// Memory of which one allocation may be refused.
 pub(crate) type Memory = Refusing<Global>;
 
+/// Where a row stands.
+pub(crate) const RID: Rid = Rid { page: 0, slot: 5 };
+
 /// The row whose key is a number in four bytes.
 pub(crate) fn row_of(number: u32) -> Result<Row, Error> {
     Ok(Row {
@@ -18,6 +21,6 @@ pub(crate) fn row_of(number: u32) -> Result<Row, Error> {
 pub(crate) fn pair_of(number: u32) -> Result<Pair, Error> {
     Ok(Pair {
         key: Key::new(&number.to_be_bytes())?,
-        rid: Rid { page: 0, slot: 5 },
+        rid: RID,
     })
 }
