@@ -2,72 +2,10 @@
 use model::Life;
 use nsf_core::Ticket;
 use records::{Body, Error, Key, PAGES_MAX, Rid, SLOTS_PER_PAGE, Txn};
+use seats_for_tests::{await_ack, begin, commit, life, put, remove, update};
 use shared::{Group, Seat, Shared};
 use std::ops::Range;
 use std::sync::Wait;
-
-fn begin<B: Group, R: Wait>(rt: &R, shared: &Shared<B>, seat: &mut Seat<B>) -> Result<Txn, Error> {
-    shared.begin(rt, seat)
-}
-
-fn insert<B: Group, R: Wait>(
-    rt: &R,
-    shared: &Shared<B>,
-    seat: &mut Seat<B>,
-    txn: Txn,
-    key: Key,
-    body: Body,
-) -> Result<Rid, Error> {
-    if !seat.ready(txn) {
-        return Err(Error::NoSuchTxn);
-    }
-    let change = shared.insert(rt, seat, txn, key, body)?;
-    match change.rest {
-        Some(error) => Err(error),
-        None => Ok(change.rid),
-    }
-}
-
-fn delete<B: Group, R: Wait>(
-    rt: &R,
-    shared: &Shared<B>,
-    seat: &mut Seat<B>,
-    txn: Txn,
-    rid: Rid,
-) -> Result<(), Error> {
-    if !seat.ready(txn) {
-        return Err(Error::NoSuchTxn);
-    }
-    match shared.delete(rt, seat, txn, rid)?.rest {
-        Some(error) => Err(error),
-        None => Ok(()),
-    }
-}
-
-fn commit<B: Group, R: Wait>(
-    rt: &R,
-    shared: &Shared<B>,
-    seat: &mut Seat<B>,
-    txn: Txn,
-) -> Result<Ticket, Error> {
-    if !seat.ready(txn) {
-        return Err(Error::NoSuchTxn);
-    }
-    shared.commit(rt, seat, txn)
-}
-
-/// Waits until a commit is safe.
-pub(crate) fn await_ack<B: Group, R: Wait>(
-    rt: &R,
-    shared: &Shared<B>,
-    seat: &mut Seat<B>,
-    ticket: Ticket,
-) -> Result<(), Error> {
-    match shared.await_ack(rt, seat, ticket) {
-        Ok(_) => Ok(()),
-        Err(error) => Err(error),
-    }
-}
 
 /// Creates the index. No transaction may be active.
 pub(crate) fn create_index<B: Group, R: Wait>(
@@ -75,19 +13,17 @@ pub(crate) fn create_index<B: Group, R: Wait>(
     shared: &Shared<B>,
     seat: &mut Seat<B>,
 ) -> Result<(), Error> {
-    match shared.create_index(rt, seat) {
-        Ok(_) => Ok(()),
-        Err(error) => Err(error),
-    }
+    seats_for_tests::create_index(rt, shared, seat)?;
+    Ok(())
 }
 
 /// Whether the index is complete.
 pub(crate) fn is_complete<B: Group, R: Wait>(rt: &R, shared: &Shared<B>) -> bool {
-    matches!(shared.life(rt), Life::Complete)
+    matches!(life(rt, shared), Life::Complete)
 }
 
 // Puts a row with this number as its key.
-fn put<B: Group, R: Wait>(
+fn put_number<B: Group, R: Wait>(
     rt: &R,
     shared: &Shared<B>,
     seat: &mut Seat<B>,
@@ -95,7 +31,7 @@ fn put<B: Group, R: Wait>(
     number: u32,
 ) -> Result<Rid, Error> {
     let key = Key::new(&number.to_be_bytes())?;
-    insert(rt, shared, seat, txn, key, Body::new(b"row")?)
+    put(rt, shared, seat, txn, key, Body::new(b"row")?)
 }
 
 /// A transaction that puts a row with this number as its key, or deletes the one that is at the place, and waits until
@@ -110,10 +46,10 @@ pub(crate) fn turn<B: Group, R: Wait>(
     let txn = begin(rt, shared, seat)?;
     let then = match place {
         Some(rid) => {
-            delete(rt, shared, seat, txn, rid)?;
+            remove(rt, shared, seat, txn, rid)?;
             None
         }
-        None => Some(put(rt, shared, seat, txn, number)?),
+        None => Some(put_number(rt, shared, seat, txn, number)?),
     };
     let ticket = commit(rt, shared, seat, txn)?;
     await_ack(rt, shared, seat, ticket)?;
@@ -135,7 +71,7 @@ pub(crate) fn fill_page<B: Group, R: Wait>(
     let txn = begin(rt, shared, seat)?;
     for slot in 0..SLOTS_PER_PAGE {
         let place = u32::from(page) * u32::from(SLOTS_PER_PAGE) + u32::from(slot);
-        put(rt, shared, seat, txn, mixed(place))?;
+        put_number(rt, shared, seat, txn, mixed(place))?;
     }
     commit(rt, shared, seat, txn)
 }
@@ -154,10 +90,7 @@ fn rekey<B: Group, R: Wait>(
         slot: (number % slots) as u16,
     };
     let key = Key::new(&mixed(number).to_be_bytes())?;
-    match shared
-        .update_if_ready(rt, seat, txn, rid, key, Body::new(b"row")?)?
-        .rest
-    {
+    match update(rt, shared, seat, txn, rid, key, Body::new(b"row")?)?.rest {
         Some(error) => Err(error),
         None => Ok(()),
     }

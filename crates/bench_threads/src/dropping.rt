@@ -5,12 +5,15 @@ use crate::calls::{create_index, fill_page, rekey_some};
 use crate::clock::{now, sleep};
 use crate::rounds::{Disk, formatted};
 use anyhow::Result;
-use loops::{NoGate, build_loop};
-use opening::{OpenError, OpenStore, Parts, open_store};
+use loops::NoGate;
+use opening::OpenStore;
 use records::{ENTRIES_MAX, Error, PAGES_MAX, Rid, SLOTS_PER_PAGE};
+use runs_for_tests::build;
+use seats_for_tests::{Parts, drop_index, get, open, start};
 use shared::{BuildPart, Group, Seat, Shared};
 use std::alloc::Global;
 use std::marker::Brand;
+use std::mem::forget;
 use std::rt::Clock;
 use std::sync::Wait;
 use std::sync::atomic::{AtomicBool, Ordering};
@@ -41,14 +44,13 @@ fn fill<B: Group, R: Wait>(
     rt: &R,
     shared: &Shared<B>,
     seat: &mut Seat<B>,
-    mut build: BuildPart<B>,
+    mut part: BuildPart<B>,
 ) -> Result<(), Error> {
     for page in 0..PAGES_MAX as u16 {
         fill_page(rt, shared, seat, page)?;
     }
     create_index(rt, shared, seat)?;
-    let mut view = shared.another_view(seat);
-    build_loop(rt, shared, &mut build, &mut view, &NoGate)?;
+    build(rt, shared, &mut part, &NoGate)?;
     for number in (ROWS..ENTRIES).step_by(TOGETHER) {
         rekey_some(
             rt,
@@ -68,7 +70,7 @@ fn drop_timed<B: Group, R: Wait + Clock>(
 ) -> Result<u64, Error> {
     sleep(rt, AROUND);
     let begun = now(rt);
-    shared.drop_index(rt, seat)?;
+    drop_index(rt, shared, seat)?;
     let took = now(rt).saturating_sub(begun);
     sleep(rt, AROUND);
     Ok(took)
@@ -87,7 +89,7 @@ fn read<B: Group, R: Wait + Clock>(
             return longest;
         }
         let begun = now(rt);
-        shared.get(rt, seat, Rid { page: 0, slot: 0 });
+        get(rt, shared, seat, Rid { page: 0, slot: 0 });
         longest = longest.max(now(rt).saturating_sub(begun));
     }
     unreachable!()
@@ -161,7 +163,13 @@ fn play_with<B: Group + Send + Sync, R: Threads + Wait + Clock + Sync>(
     shared: &Shared<B>,
     parts: Parts<B, Disk>,
 ) -> Result<(u64, u64), Error> {
-    let Parts { seats, build, .. } = parts;
+    let Parts {
+        seats,
+        flush,
+        build,
+        clean: _,
+    } = parts;
+    forget(flush);
     let mut parties = parties_of(alloc, seats)?;
     if let Some(party) = parties.first_mut() {
         fill(rt, shared, &mut party.seat, build)?;
@@ -177,15 +185,19 @@ fn begin<B: Group + Send + Sync, R: Threads + Wait + Clock + Sync>(
 ) -> Result<(u64, u64), Error>
     requires names { store.site ≡ B.site }
 {
-    match store.start::<B>() {
-        Ok((shared, parts)) => play_with(rt, alloc, &shared, parts),
+    match start::<B, Disk, Global>(store) {
+        Ok((shared, parts)) => {
+            let taken = play_with(rt, alloc, &shared, parts);
+            forget(shared);
+            taken
+        }
         Err((error, _)) => Err(error),
     }
 }
 
-fn play<R: Threads + Wait + Clock + Sync>(rt: &R, alloc: Global) -> Result<(u64, u64), OpenError> {
-    match open_store(alloc, formatted(alloc)?, 2) {
-        Ok(store) => Ok(begin::<Brand, R>(rt, alloc, store)?),
+fn play<R: Threads + Wait + Clock + Sync>(rt: &R, alloc: Global) -> Result<(u64, u64), Error> {
+    match open(alloc, formatted(alloc)?, 2) {
+        Ok(store) => begin::<Brand, R>(rt, alloc, store),
         Err((error, _)) => Err(error),
     }
 }

@@ -6,10 +6,9 @@ ghost use Rattle.shared.specs.Seats.{AreNewSeats};
 use crate::clock::now;
 use crate::rounds::{Disk, formatted};
 use anyhow::Result;
-use closing::finish;
-use flusher::FlushPart;
-use opening::{OpenError, OpenStore, Parts, open_store};
+use opening::OpenStore;
 use records::Error;
+use seats_for_tests::{Parts, begin, commit, open, start, take_back};
 use shared::{Group, Seat, Shared};
 use std::alloc::Global;
 use std::marker::Brand;
@@ -27,8 +26,8 @@ fn commit_all<B: Group, R: Wait>(
     ensures { seat.new.number ≡ seat.old.number }
 {
     for _turn in 0..commits {
-        let txn = shared.begin(rt, seat)?;
-        shared.commit_if_ready(rt, seat, txn)?;
+        let txn = begin(rt, shared, seat)?;
+        commit(rt, shared, seat, txn)?;
     }
     Ok(())
 }
@@ -54,19 +53,14 @@ fn end<B: Group, R: Wait + Clock>(
     rt: &R,
     alloc: Global,
     shared: Shared<B>,
-    seats: Vec<Seat<B>>,
-    flush: FlushPart<B, Disk>,
+    parts: Parts<B, Disk>,
 ) -> Result<u64, Error>
-    requires seats { AreAllSeats B.site.seats seats.items }
+    requires seats { AreAllSeats B.site.seats parts.seats.items }
 {
     let begun = now(rt);
-    match finish(rt, alloc, shared, seats, flush, Vec::new(alloc)) {
-        Ok(closed) => {
-            let took = now(rt).saturating_sub(begun);
-            forget(closed);
-            Ok(took)
-        }
-        Err((error, _)) => Err(error),
+    match take_back(rt, alloc, shared, parts) {
+        (_, None) => Ok(now(rt).saturating_sub(begun)),
+        (_, Some(error)) => Err(error),
     }
 }
 
@@ -79,23 +73,24 @@ fn play<B: Group, R: Wait + Clock>(
 ) -> Result<u64, Error>
     requires names { store.site ≡ B.site }
 {
-    let (shared, parts) = match store.start::<B>() {
+    let (shared, mut parts) = match start::<B, Disk, Global>(store) {
         Ok(started) => started,
         Err((error, _)) => return Err(error),
     };
-    let Parts {
-        mut seats,
-        flush,
-        build: _,
-    } = parts;
-    commit_by_first(rt, &shared, &mut seats, commits)?;
-    end(rt, alloc, shared, seats, flush)
+    match commit_by_first(rt, &shared, &mut parts.seats, commits) {
+        Ok(()) => end(rt, alloc, shared, parts),
+        Err(error) => {
+            forget(shared);
+            forget(parts);
+            Err(error)
+        }
+    }
 }
 
 // The same in a new store.
-fn play_new<R: Wait + Clock>(rt: &R, alloc: Global, commits: u64) -> Result<u64, OpenError> {
-    match open_store(alloc, formatted(alloc)?, 1) {
-        Ok(store) => Ok(play::<Brand, R>(rt, alloc, store, commits)?),
+fn play_new<R: Wait + Clock>(rt: &R, alloc: Global, commits: u64) -> Result<u64, Error> {
+    match open(alloc, formatted(alloc)?, 1) {
+        Ok(store) => play::<Brand, R>(rt, alloc, store, commits),
         Err((error, _)) => Err(error),
     }
 }

@@ -5,7 +5,7 @@ use crate::rounds::play_on;
 use crate::table::print_all;
 use anyhow::Result;
 use file_disk::{FileDisk, HostFile};
-use opening::{format_store, open_store};
+use opening::format_store;
 use records::Geometry;
 use std::alloc::Global;
 use std::fs::File;
@@ -66,7 +66,7 @@ fn fill<R: Alloc<A = Global> + Threads + Wait + Clock + CpuClock + Files<File = 
 fn open<R: Alloc<A = Global> + Clock + Files<File = File>>(rt: &R, path: &str) -> Result<u64> {
     let begun = now(rt);
     let disk = file_disk::open(rt, rt.alloc(), path)?;
-    match open_store(rt.alloc(), disk, 1) {
+    match seats_for_tests::open(rt.alloc(), disk, 1) {
         Ok(_) => Ok(now(rt).saturating_sub(begun) / 1_000),
         Err((error, _)) => Err(error.into()),
     }

@@ -3,14 +3,16 @@ ghost use Rattle.std.specs.Prelude.{◌≡◌};
 
 use crate::clients::{Client, Commit, Plan, Times, work_all};
 use file_disk::{Detached, FileDisk};
-use flusher::FlushPart;
-use loops::{Ended, NoGate, run_beside};
-use opening::{OpenError, OpenStore, Parts, format_store, open_store};
+use loops::NoGate;
+use opening::{OpenStore, format_store};
 use records::{Error, Geometry};
+use runs_for_tests::{LoopParts, Ran, run};
+use seats_for_tests::{Parts, open, start};
 use sector_device::Device;
-use shared::{BuildPart, Group, Seat, Shared};
+use shared::{Group, Seat, Shared};
 use std::alloc::Global;
 use std::marker::Brand;
+use std::mem::forget;
 use std::rt::Clock;
 use std::sync::Wait;
 use std::thread::Threads;
@@ -71,32 +73,7 @@ fn round_of<B: Group>(alloc: Global, clients: Vec<Client<B>>) -> Result<Round, E
     }
 }
 
-// Runs the clients beside the loops.
-fn run_loops<
-    B: Group + Send + Sync,
-    D: Device + Send + Drop,
-    R: Threads + Wait + Clock + CpuClock + Sync,
->(
-    rt: &R,
-    shared: &Shared<B>,
-    last: Seat<B>,
-    flush: FlushPart<B, D>,
-    build: BuildPart<B>,
-    clients: Vec<Client<B>>,
-    plan: Plan,
-) -> Ended<B, D, Vec<Client<B>>> {
-    run_beside(
-        rt,
-        shared,
-        last,
-        flush,
-        build,
-        &NoGate,
-        move || work_all(rt, shared, clients, plan),
-    )
-}
-
-// Lets so many clients work.
+// Lets so many clients work beside the loops.
 fn work<
     B: Group + Send + Sync,
     D: Device + Send + Drop,
@@ -110,17 +87,33 @@ fn work<
     plan: Plan,
 ) -> Result<Round, Error> {
     let Parts {
-        mut seats,
+        seats,
         flush,
         build,
+        clean,
     } = parts;
-    let Some(last) = seats.pop() else {
-        return Err(Error::NoMemory);
+    let loops = LoopParts {
+        flush,
+        build,
+        clean,
     };
-    let clients = clients_of(alloc, seats, count)?;
-    let ended = run_loops(rt, shared, last, flush, build, clients, plan);
-    ended.flushed?;
-    round_of(alloc, ended.clients)
+    match clients_of(alloc, seats, count) {
+        Ok(clients) => {
+            let work = move || work_all(rt, shared, clients, plan);
+            let Ran {
+                clients,
+                loops,
+                flushed,
+            } = run(rt, shared, loops, &NoGate, work)?;
+            drop(loops.flush.into_parts());
+            flushed?;
+            round_of(alloc, clients)
+        }
+        Err(error) => {
+            forget(loops);
+            Err(error)
+        }
+    }
 }
 
 // Gives the store its names, and lets the clients work.
@@ -131,7 +124,7 @@ fn begin<
 >(rt: &R, alloc: Global, store: OpenStore<D>, count: usize, plan: Plan) -> Result<Round, Error>
     requires names { store.site ≡ B.site }
 {
-    match store.start::<B>() {
+    match start::<B, D, Global>(store) {
         Ok((shared, parts)) => work(rt, alloc, &shared, parts, count, plan),
         Err((error, _)) => Err(error),
     }
@@ -146,9 +139,9 @@ pub(crate) fn play_on<D: Device + Send + Drop, R: Threads + Wait + Clock + CpuCl
     seats: u8,
     writers: u8,
     plan: Plan,
-) -> Result<Round, OpenError> {
-    match open_store(alloc, disk, usize::from(seats) + 2) {
-        Ok(store) => Ok(begin::<Brand, D, R>(rt, alloc, store, usize::from(writers) + 1, plan)?),
+) -> Result<Round, Error> {
+    match open(alloc, disk, usize::from(seats) + 1) {
+        Ok(store) => begin::<Brand, D, R>(rt, alloc, store, usize::from(writers) + 1, plan),
         Err((error, _)) => Err(error),
     }
 }
@@ -160,6 +153,6 @@ pub(crate) fn play<R: Threads + Wait + Clock + CpuClock + Sync>(
     seats: u8,
     writers: u8,
     plan: Plan,
-) -> Result<Round, OpenError> {
+) -> Result<Round, Error> {
     play_on(rt, alloc, formatted(alloc)?, seats, writers, plan)
 }

@@ -11,7 +11,7 @@ use Rattle.board.specs.declared.knowledge.Knowledge.{Knowledge}
 use Rattle.board.specs.Views.{part_ways}
 use Rattle.board.specs.Rule.{Posted, flag, words_of, Fits, SomeStops, AllApart, IsBoardKept, first_view, spent_view}
 use Rattle.board.specs.Steps.{without_builder, builder_of, without_reader, reader_of, staying, leaving, seen_by, flushed_by, built_by, informed, RaisesHorizon}
-use Rattle.board.specs.Steps.{RaisesProgress, SetsFailed, SetsStop, ReadsHorizon, ReadsProgress, ReadsFailed, ReadsStop, Compares}
+use Rattle.board.specs.Steps.{RaisesProgress, SetsFailed, SetsStop, ReadsHorizon, ReadsProgress, ReadsFailed, HearsStop, ReadsStop, Compares}
 use Rattle.board.proofs.Names.{off, at_end, apart_set, apart_end, apart_cut}
 
 at_here : {A : Type 0} (l : List A) (i : ℕ) (a b : A) → get_elem? l i ≡ some a → get_elem? (set l i b) i ≡ some b
@@ -314,6 +314,26 @@ reads_stop slots seat me may s k _ at _ =
     only_first s.views seat v at may first k.apart (λ j u there. (k.fits j u there).stops) (k.stops (sym is ∙ on)) in
     (w, keeps, tt, sees s k seat 3 me.1 v w at refl mine (λ did. did) refl refl, ((λ on. is ∙ old.stopped on), alone, refl))
 
+pub hears_stop : (slots seat : ℕ) (me : Seated) → Allows IsBoardKept slots seat me 3 (λ n. n) (HearsStop (step slots 3 0 0 none) me)
+hears_stop slots seat me s k _ at _ =
+    let v : Knowledge = me.0 in
+    let n : ℕ = get_or s.words 3 0 in
+    let w : Knowledge = record v { stopped = eqb n 1 } in
+    let old = k.fits seat v at in
+    let is : eqb n 1 ≡ k.posted.stopped = ap (λ (ws : List ℕ). eqb (get_or ws 3 0) 1) k.words ∙ flag_is k.posted.stopped in
+    let mine : Fits k.posted k.flusher k.builder seat w =
+    record {
+      horizon = old.horizon;
+      progress = old.progress;
+      failed = old.failed;
+      stopped = λ on. sym is
+          ∙ on;
+      of_flusher = old.of_flusher;
+      of_builder = old.of_builder;
+      stops = old.stops;
+    } in
+    (w, keeps, tt, sees s k seat 3 me.1 v w at refl mine (λ did. did) refl refl, ((λ on. is ∙ old.stopped on), refl))
+
 pub compares : (slots seat : ℕ) (me : Seated) → Allows IsBoardKept slots seat me 0 (λ n. n) (Compares (step slots 0 0 0 none) me)
 compares slots seat me s k _ at _ =
     let v : Knowledge = me.0 in
@@ -545,7 +565,7 @@ learns seat v other told never s k at apart there =
       horizon = theirs.horizon;
       progress = theirs.progress;
       failed = theirs.failed;
-      stopped = theirs.stopped;
+      stopped = mine.stopped;
       of_flusher = mine.of_flusher;
       of_builder = mine.of_builder;
       stops = mine.stops;

@@ -40,13 +40,12 @@ flushed_by v = record (seen_by v) { horizon = v.published; failed = v.device_fai
 abbrev pub built_by : Knowledge → Knowledge
 built_by v = record (seen_by v) { progress = v.attempts }
 
--- the first view has now seen what the second had
+-- the first view has now seen what the second had, but of the stop flag
 abbrev pub informed : Knowledge → Knowledge → Knowledge
 informed v told = record v {
   horizon = told.horizon;
   progress = told.progress;
   failed = told.failed;
-  stopped = told.stopped;
 }
 
 -- What a step tells of the step, the view before, the number found or stored, and the view after. No
@@ -93,6 +92,10 @@ ReadsStop st m n m' =
     (m.0.stopped ≡ true → (n == 1) ≡ true)
     × (m.0.name ≡ [] → (n == 1) ≡ true → m.0.stops ≡ true)
     × (m' ≡ (record m.0 { stopped = n == 1 }, m.1))
+
+-- the flusher or the builder reads the stop flag, which stays set where it was seen set
+abbrev pub HearsStop : Tells
+HearsStop st m n m' = (m.0.stopped ≡ true → (n == 1) ≡ true) × (m' ≡ (record m.0 { stopped = n == 1 }, m.1))
 
 -- nothing that the view knows to be seen is beyond what its holder has published
 abbrev pub Compares : Tells

@@ -18,16 +18,19 @@ pub record Sighting : Type 0 where
   pub name : List Bool
 
 -- What the flusher has published on a board: its own count, and whether it has said that its device
--- failed.
+-- failed. And whether it found the stop flag set.
 pub record FlusherCount : Type 0 where
   pub board : TableId
   pub horizon : ℕ
   pub failed : Bool
+  pub stopped : Bool
 
--- What the builder has published on a board: its own count of attempts.
+-- What the builder has published on a board: its own count of attempts. And whether it found the stop
+-- flag set.
 pub record BuilderCount : Type 0 where
   pub board : TableId
   pub progress : ℕ
+  pub stopped : Bool
 
 -- a view of this board that has read nothing
 abbrev pub nothing_seen : TableId → Sighting
@@ -76,11 +79,16 @@ sighting_of board v = record {
 
 -- what the holder of the flusher's view has published
 abbrev pub flusher_count_of : TableId → Knowledge → FlusherCount
-flusher_count_of board v = record { board = board; horizon = v.published; failed = v.device_failed }
+flusher_count_of board v = record {
+  board = board;
+  horizon = v.published;
+  failed = v.device_failed;
+  stopped = v.stopped;
+}
 
 -- what the holder of the builder's view has published
 abbrev pub builder_count_of : TableId → Knowledge → BuilderCount
-builder_count_of board v = record { board = board; progress = v.attempts }
+builder_count_of board v = record { board = board; progress = v.attempts; stopped = v.stopped }
 
 -- it is neither the flusher's nor the builder's, and may set the stop flag
 abbrev pub IsThread : Knowledge → Type 0

@@ -4,9 +4,9 @@ ghost use Rattle.board.specs.Views.{Sighting, FlusherCount, BuilderCount, nothin
 
 use crate::knowledge::Knowledge;
 use crate::rule::{
-    BoardRule, Compare, CutBuilder, CutReader, CutView, Learn, RaiseHorizon, RaiseProgress,
-    ReadFailed, ReadHorizon, ReadProgress, ReadStop, SetFailed, SetStop, TellBuilt, TellFlushed,
-    TellSeen,
+    BoardRule, Compare, CutBuilder, CutReader, CutView, HearStop, Learn, RaiseHorizon,
+    RaiseProgress, ReadFailed, ReadHorizon, ReadProgress, ReadStop, SetFailed, SetStop, TellBuilt,
+    TellFlushed, TellSeen,
 };
 use crate::views::{BuildView, FlushView, View};
 use crate::waits::Waits;
@@ -48,8 +48,8 @@ impl<A: Allocator> Board<A> {
     ///
     /// The error is that the memory for the four words was refused.
     pub fn new(alloc: A) -> Result<(Board<A>, FlushView, BuildView, View), AllocError>
-        ensures flush { IfOk result (λ r. r.1 ≡ record { board = r.0; horizon = 0; failed = false }) }
-        ensures build { IfOk result (λ r. r.2 ≡ record { board = r.0; progress = 0 }) }
+        ensures flush { IfOk result (λ r. r.1 ≡ record { board = r.0; horizon = 0; failed = false; stopped = false }) }
+        ensures build { IfOk result (λ r. r.2 ≡ record { board = r.0; progress = 0; stopped = false }) }
         ensures view { IfOk result (λ r. r.3 ≡ nothing_seen r.0) }
     {
         let (table, mut seat) = Table::of_words(alloc, &[0; 4], &())?;
@@ -169,6 +169,26 @@ impl<A: Allocator> Board<A> {
     {
         let shared = &self.table.shared;
         shared.load::<ReadStop>(&mut view.seat, STOP) == 1
+    }
+
+    /// The flusher reads the stop flag. It stays true once this view has seen it.
+    pub fn stopped_flusher(&self, view: &mut FlushView) -> bool
+        requires { view.old.board ≡ self.now }
+        ensures seen { view.new ≡ record view.old { stopped = result } }
+        ensures stays { IsTrue view.old.stopped → IsTrue result }
+    {
+        let shared = &self.table.shared;
+        shared.load::<HearStop>(&mut view.seat, STOP) == 1
+    }
+
+    /// The builder reads the stop flag. It stays true once this view has seen it.
+    pub fn stopped_builder(&self, view: &mut BuildView) -> bool
+        requires { view.old.board ≡ self.now }
+        ensures seen { view.new ≡ record view.old { stopped = result } }
+        ensures stays { IsTrue view.old.stopped → IsTrue result }
+    {
+        let shared = &self.table.shared;
+        shared.load::<HearStop>(&mut view.seat, STOP) == 1
     }
 
     /// One thread that holds the flusher's view and another, as at the end, has them compared. It learns that no

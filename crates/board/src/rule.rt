@@ -85,6 +85,15 @@ impl Play<(), Knowledge> for ReadStop {
     ghost then = { ReadsStop };
 }
 
+/// The flusher or the builder reads the stop flag.
+pub(crate) struct HearStop;
+
+impl Play<(), Knowledge> for HearStop {
+    ghost use Rattle.board.specs.Steps.{HearsStop};
+
+    ghost then = { HearsStop };
+}
+
 /// The flusher or the builder compares what it knows to be seen with what it has published.
 pub(crate) struct Compare;
 

@@ -21,7 +21,7 @@ use nsf_core::Core;
 use records::Error;
 use sector_device::Device;
 use sessions::Commit;
-use shared::{Ack, Group, Memory, Seat, Shared};
+use shared::{Ack, Group, Memory, Parts, Seat, Shared};
 use std::alloc::Global;
 use std::sync::Wait;
 use tail::RecordQueue;
@@ -91,9 +91,9 @@ fn told<B: Group, D: Device, A: Memory>(flush: &FlushPart<B, D, A>, error: Error
     }
 }
 
-/// Takes every seat back, and writes every record out that was made: those that wait in the core and in the queue too,
-/// in groups or, once the log is full, in an image. Then the device holds what the core does, and each acknowledgement
-/// is of a record on it.
+/// Takes every seat and every part back, and writes every record out that was made: those that wait in the core and in
+/// the queue too, in groups or, once the log is full, in an image. Then the device holds what the core does, and each
+/// acknowledgement is of a record on it.
 ///
 /// A crash at any moment of the call, and of the device that is given back, whatever the answer is, leaves what some of
 /// the records that were made make of what was opened, the first ones, with all that were synced before; and each
@@ -104,32 +104,37 @@ pub fn finish<B: Group, D: Device, R: Wait, A: Memory>(
     rt: &R,
     alloc: A,
     shared: Shared<B, A>,
-    mut seats: Vec<Seat<B, A>, A>,
-    mut flush: FlushPart<B, D, A>,
+    parts: Parts<B, D, A>,
     acks: Vec<Ack<B>, A>,
 ) -> Result<Closed<D, A>, (Error, D)>
-    requires seats { AreAllSeats B.site.seats seats.items }
-    ensures commits { IfOk result (λ c. ∥ AreCommitsOf seats.items c.commits.items ∥₁) }
-    ensures core { IfOk result (λ c. ∥ IsCoreOf B.site.opened seats.items (popped_by flush)
+    requires seats { AreAllSeats B.site.seats parts.seats.items }
+    ensures commits { IfOk result (λ c. ∥ AreCommitsOf parts.seats.items c.commits.items ∥₁) }
+    ensures core { IfOk result (λ c. ∥ IsCoreOf B.site.opened parts.seats.items (popped_by parts.flush)
         (value_of c.core) c.commits.items ∥₁) }
     ensures device { IfOk result (λ c. (image : Image) → IsCrashImage (D.history c.device).disk image
-        → ∥ GivesAll B.site.opened (halves_of flush.writer).geometry (value_of c.core) c.commits.items image ∥₁) }
+        → ∥ GivesAll B.site.opened (halves_of parts.flush.writer).geometry (value_of c.core) c.commits.items image ∥₁) }
     ensures horizon { IfOk result (λ c. c.horizon ≡ (value_of c.core).last) }
     ensures acks { IfOk result (λ c. All (λ a. a.ticket.«record» ≤ c.horizon) acks.items) }
-    ensures acked { All (λ a. a.ticket.«record» ≤ synced_of flush.writer) acks.items }
-    ensures images { IfOk result (λ c. LeavesOnly (D.history (device_of flush.writer)) (D.history c.device) (λ image.
-        ∥ GivesSome B.site.opened (halves_of flush.writer).geometry seats.items (popped_by flush)
-        (synced_of flush.writer) image ∥₁)) }
-    ensures left { IfErr result (λ r. LeavesOnly (D.history (device_of flush.writer)) (D.history r.1) (λ image.
-        ∥ GivesSome B.site.opened (halves_of flush.writer).geometry seats.items (popped_by flush)
-        (synced_of flush.writer) image ∥₁)) }
-    ensures sound { OnOk result (has_failed flush.writer ≡ false) }
-    ensures err { IfErr result (λ r. ((r.0 ≡ NoMemory) × (has_failed flush.writer ≡ false)
-        × (D.failures r.1 ≡ D.failures (device_of flush.writer)))
-        ⊎ ((r.0 ≡ DeviceFailed) × (has_failed flush.writer ≡ false
-        → Rises (D.failures (device_of flush.writer)) (D.failures r.1)))) }
-    ensures later { IfErr result (λ r. D.failures (device_of flush.writer) ≤ D.failures r.1) }
+    ensures acked { All (λ a. a.ticket.«record» ≤ synced_of parts.flush.writer) acks.items }
+    ensures images { IfOk result (λ c. LeavesOnly (D.history (device_of parts.flush.writer)) (D.history c.device)
+        (λ image. ∥ GivesSome B.site.opened (halves_of parts.flush.writer).geometry parts.seats.items
+        (popped_by parts.flush) (synced_of parts.flush.writer) image ∥₁)) }
+    ensures left { IfErr result (λ r. LeavesOnly (D.history (device_of parts.flush.writer)) (D.history r.1) (λ image.
+        ∥ GivesSome B.site.opened (halves_of parts.flush.writer).geometry parts.seats.items (popped_by parts.flush)
+        (synced_of parts.flush.writer) image ∥₁)) }
+    ensures sound { OnOk result (has_failed parts.flush.writer ≡ false) }
+    ensures err { IfErr result (λ r. ((r.0 ≡ NoMemory) × (has_failed parts.flush.writer ≡ false)
+        × (D.failures r.1 ≡ D.failures (device_of parts.flush.writer)))
+        ⊎ ((r.0 ≡ DeviceFailed) × (has_failed parts.flush.writer ≡ false
+        → Rises (D.failures (device_of parts.flush.writer)) (D.failures r.1)))) }
+    ensures later { IfErr result (λ r. D.failures (device_of parts.flush.writer) ≤ D.failures r.1) }
 {
+    let Parts {
+        mut seats,
+        mut flush,
+        build: _,
+        clean: _,
+    } = parts;
     let (mut locked, queue, registry, board) = shared.into_parts();
     settle_all(&board, &mut flush, acks);
     compare_all(&registry, &mut locked, &mut seats);

@@ -1,4 +1,5 @@
 //! A line that says how far the builder is.
+use loops::BuilderEnd;
 use model::Life;
 use shared::{Group, GroupView, Shared};
 use std::io::Write;
@@ -37,11 +38,13 @@ impl<E: Write> Progress<E> {
     }
 }
 
-/// Shows how many pairs the builder has tried, each time that it has tried more, while it builds.
+/// Shows how many pairs the builder has tried, each time that it has tried more, while it builds. Where it has ended
+/// and the index is not complete, it builds no more.
 pub(crate) fn watch<B: Group, R: Wait + Clock, E: Write + Drop>(
     rt: &R,
     shared: &Shared<B>,
     mut view: GroupView<B>,
+    builder: &BuilderEnd<B>,
     mut progress: Progress<E>,
 ) -> io::Result<()> {
     let mut shown = 0;
@@ -53,7 +56,9 @@ pub(crate) fn watch<B: Group, R: Wait + Clock, E: Write + Drop>(
             shown = tried;
         }
         match life {
-            Life::Building { .. } => thread::sleep(rt, Duration::from_millis(BETWEEN_LOOKS)),
+            Life::Building { .. } if builder.reason().is_none() => {
+                thread::sleep(rt, Duration::from_millis(BETWEEN_LOOKS))
+            }
             _ => return progress.end(shown),
         }
     }

@@ -18,11 +18,11 @@ use crate::progress::{Progress, watch};
 use crate::writer::{Acknowledged, Writer, write};
 use closing::finish;
 use flusher::FlushPart;
-use loops::{Ended, Gate, run_beside};
+use loops::{BuilderEnd, Ended, Gate, NotRun, run_beside};
 use opening::{OpenError, OpenStore, Parts, open_store};
 use records::Error;
 use sector_device::Device;
-use shared::{Ack, BuildPart, Group, GroupView, Seat, Shared};
+use shared::{Ack, BuildPart, CleanPart, Group, GroupView, Seat, Shared};
 use std::alloc::{AllocError, Global};
 use std::io::Write;
 use std::marker::Brand;
@@ -47,7 +47,7 @@ pub struct Team<'a, R, G, L, E> {
 }
 
 /// What was refused: to a writer, which is the first of those that were refused something; to the flusher, to the
-/// builder; and before the threads began, or at the end.
+/// builder; and before the threads began, also where one can't be made (`NoMemory`), or at the end.
 #[derive(Clone, Copy, Debug, PartialEq, Eq)]
 pub struct Refusals {
     pub writer: Option<Error>,
@@ -132,14 +132,15 @@ fn write_all<B: Group + Send + Sync, R: Threads + Wait + Sync, L: Listener + Syn
     writers
 }
 
-// Shows the builder's progress, as long as it can be written.
+// Shows the builder's progress, as long as it can be written, and the builder has not ended.
 fn show_progress<B: Group, R: Wait + Clock, E: Write + Drop>(
     rt: &R,
     shared: &Shared<B>,
     view: GroupView<B>,
+    builder: &BuilderEnd<B>,
     progress: Progress<E>,
 ) {
-    let _ = watch(rt, shared, view, progress);
+    let _ = watch(rt, shared, view, builder, progress);
 }
 
 // Runs all writers, and shows the builder's progress beside them, if it is to be shown.
@@ -155,6 +156,7 @@ fn write_and_watch<
     changes: u16,
     listener: &L,
     view: GroupView<B>,
+    builder: &BuilderEnd<B>,
     progress: Option<Progress<E>>,
 ) -> Vec<Writer<B>>
     ensures len { vec_len result ≡ vec_len writers }
@@ -168,7 +170,7 @@ fn write_and_watch<
         Some(progress) => {
             let ((), written) = join(
                 rt,
-                move || show_progress(rt, shared, view, progress),
+                move || show_progress(rt, shared, view, builder, progress),
                 move || write_all(rt, shared, writers, changes, listener),
             );
             written
@@ -254,20 +256,27 @@ fn close<B: Group, D: Device, R: Wait>(
     rt: &R,
     alloc: Global,
     shared: Shared<B>,
-    seats: Vec<Seat<B>>,
-    flush: FlushPart<B, D>,
+    parts: Parts<B, D>,
     acks: Vec<Ack<B>>,
 ) -> (D, Option<Error>)
-    requires seats { AreAllSeats B.site.seats seats.items }
+    requires seats { AreAllSeats B.site.seats parts.seats.items }
     ensures some { (image : Image) → IsCrashImage (D.history result.0).disk image
-        → ∥ GivesSome B.site.opened (halves_of flush.writer).geometry seats.items (popped_by flush)
-        (synced_of flush.writer) image ∥₁ }
-    ensures acked { All (λ a. a.ticket.«record» ≤ synced_of flush.writer) acks.items }
+        → ∥ GivesSome B.site.opened (halves_of parts.flush.writer).geometry parts.seats.items (popped_by parts.flush)
+        (synced_of parts.flush.writer) image ∥₁ }
+    ensures acked { All (λ a. a.ticket.«record» ≤ synced_of parts.flush.writer) acks.items }
 {
-    match finish(rt, alloc, shared, seats, flush, acks) {
+    match finish(rt, alloc, shared, parts, acks) {
         Ok(closed) => (closed.device, None),
         Err((error, device)) => (device, Some(error)),
     }
+}
+
+// The parts of the three loops.
+#[derive(Drop)]
+struct LoopParts<B: Group, D: Device> {
+    flush: FlushPart<B, D>,
+    build: BuildPart<B>,
+    clean: CleanPart<B>,
 }
 
 // Takes back what the writers leave, where these refusals came before.
@@ -277,13 +286,18 @@ fn take_back<B: Group, D: Device + Drop, R: Wait>(
     shared: Shared<B>,
     writers: Vec<Writer<B>>,
     last: Seat<B>,
-    flush: FlushPart<B, D>,
+    loops: LoopParts<B, D>,
     before: Refusals,
 ) -> Worked<D>
     requires seats { AreAllSeats B.site.seats (map (λ w. w.seat) writers.items ++ last ∷ []) }
     requires told { AllTell (λ w. w.seat) (λ w. w.acks.items) (λ w. w.acknowledged.items) writers.items }
     ensures { KeepsAll D.history B.site.opened result.device result.acknowledged.items }
 {
+    let LoopParts {
+        flush,
+        build,
+        clean,
+    } = loops;
     let Ok(gathered) = gather(alloc, writers, last) else {
         return given_up(alloc, flush, before, Error::NoMemory);
     };
@@ -292,7 +306,13 @@ fn take_back<B: Group, D: Device + Drop, R: Wait>(
         acks,
         acknowledged,
     } = gathered;
-    let (device, end) = close(rt, alloc, shared, seats, flush, acks);
+    let parts = Parts {
+        seats,
+        flush,
+        build,
+        clean,
+    };
+    let (device, end) = close(rt, alloc, shared, parts, acks);
     let mut refusals = before;
     refusals.end = end;
     Worked {
@@ -308,18 +328,19 @@ fn end<B: Group, D: Device + Drop, R: Wait>(
     alloc: Global,
     shared: Shared<B>,
     ended: Ended<B, D, Vec<Writer<B>>>,
+    last: Seat<B>,
 ) -> Worked<D>
-    requires seats { AreAllSeats B.site.seats (map (λ w. w.seat) ended.clients.items ++ ended.seat ∷ []) }
+    requires seats { AreAllSeats B.site.seats (map (λ w. w.seat) ended.clients.items ++ last ∷ []) }
     requires told { AllTell (λ w. w.seat) (λ w. w.acks.items) (λ w. w.acknowledged.items) ended.clients.items }
     ensures { KeepsAll D.history B.site.opened result.device result.acknowledged.items }
 {
     let Ended {
         clients,
-        seat,
         flush,
+        build,
+        clean,
         flushed,
         built,
-        ..
     } = ended;
     let refusals = Refusals {
         writer: first_refused(&clients),
@@ -330,10 +351,16 @@ fn end<B: Group, D: Device + Drop, R: Wait>(
         },
         end: None,
     };
-    take_back(rt, alloc, shared, clients, seat, flush, refusals)
+    let loops = LoopParts {
+        flush,
+        build,
+        clean,
+    };
+    take_back(rt, alloc, shared, clients, last, loops, refusals)
 }
 
-// Runs the writers and the three loops, each in a thread.
+// Runs the writers and the three loops, each in a thread. Where a thread is wanting, the flusher's part comes back as
+// it was.
 fn run_all<
     B: Group + Send + Sync,
     D: Device + Send + Drop,
@@ -345,17 +372,15 @@ fn run_all<
     team: Team<'_, R, G, L, E>,
     shared: &Shared<B>,
     writers: Vec<Writer<B>>,
-    mut last: Seat<B>,
-    flush: FlushPart<B, D>,
-    build: BuildPart<B>,
-) -> Ended<B, D, Vec<Writer<B>>>
-    ensures len { vec_len result.clients ≡ vec_len writers }
-    ensures wrote { (k : ℕ) (w : _) → k < vec_len writers
+    last: &mut Seat<B>,
+    loops: LoopParts<B, D>,
+) -> Result<Ended<B, D, Vec<Writer<B>>>, FlushPart<B, D>>
+    ensures len { IfOk result (λ e. vec_len e.clients ≡ vec_len writers) }
+    ensures wrote { IfOk result (λ e. (k : ℕ) (w : _) → k < vec_len writers
         → GoesOn (slice_index_or writers.items k w).seat (slice_index_or writers.items k w).acks.items
-        (slice_index_or writers.items k w).acknowledged.items (slice_index_or result.clients.items k w).seat
-        (slice_index_or result.clients.items k w).acks.items
-        (slice_index_or result.clients.items k w).acknowledged.items }
-    ensures last { result.seat.number ≡ last.number }
+        (slice_index_or writers.items k w).acknowledged.items (slice_index_or e.clients.items k w).seat
+        (slice_index_or e.clients.items k w).acks.items (slice_index_or e.clients.items k w).acknowledged.items) }
+    ensures last { last.new.number ≡ last.old.number }
 {
     let Team {
         rt,
@@ -365,16 +390,33 @@ fn run_all<
         progress,
         ..
     } = team;
-    let view = shared.another_view(&mut last);
-    run_beside(
-        rt,
-        shared,
-        last,
+    let LoopParts {
         flush,
         build,
+        clean,
+    } = loops;
+    let view = shared.another_view(last);
+    let told = BuilderEnd::new();
+    let builder = &told;
+    let ran = run_beside(
+        rt,
+        shared,
+        flush,
+        build,
+        clean,
+        builder,
         gate,
-        move || write_and_watch(rt, shared, writers, changes, listener, view, progress),
-    )
+        move || write_and_watch(
+            rt, shared, writers, changes, listener, view, builder, progress,
+        ),
+    );
+    match ran {
+        Ok(ended) => Ok(ended),
+        Err(not_run) => {
+            let NotRun { flush, .. } = not_run;
+            Err(flush)
+        }
+    }
 }
 
 // Prepares the store, lets the threads work, and takes all back that they leave.
@@ -395,6 +437,7 @@ fn work_together<
         mut seats,
         flush,
         build,
+        clean,
     } = parts;
     let Some(mut last) = seats.pop() else {
         return given_up(alloc, flush, Refusals::none(), Error::NoMemory);
@@ -405,8 +448,15 @@ fn work_together<
     let Ok(writers) = writers_of(alloc, seats) else {
         return given_up(alloc, flush, Refusals::none(), Error::NoMemory);
     };
-    let ended = run_all(team, &shared, writers, last, flush, build);
-    end(rt, alloc, shared, ended)
+    let loops = LoopParts {
+        flush,
+        build,
+        clean,
+    };
+    match run_all(team, &shared, writers, &mut last, loops) {
+        Ok(ended) => end(rt, alloc, shared, ended, last),
+        Err(flush) => given_up(alloc, flush, Refusals::none(), Error::NoMemory),
+    }
 }
 
 // Gives the store its names, and lets the threads work.

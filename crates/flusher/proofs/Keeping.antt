@@ -1,10 +1,9 @@
 -- What each call leaves of the flusher's part.
-use Rattle.std.proofs.Common.{◌≡◌, ℕ, ◌+◌, ◌-◌, ◌≤◌, false, true≢false, List, [], ◌++◌, length, take, Result, Ok, Err, refl, sym, ap, subst, ◌∙◌, arith}
+use Rattle.std.proofs.Common.{◌≡◌, ℕ, ◌+◌, ◌-◌, ◌≤◌, Bool, false, true≢false, List, [], ◌++◌, length, take, Result, Ok, Err, refl, sym, ap, subst, ◌∙◌, arith}
 use Rattle.std.proofs.Common.{append-nil, length-append, IfOk, IfErr, OnOk, OnErr, inl, inr}
 use Rattle.std.proofs.Math.Seq.{take-append_seam, take-length, take-nil}
 use Rattle.std.proofs.lemmas.List.{length-take-le}
 use Rattle.std.specs.FinMap.{len}
-use Rattle.atomic_table.specs.Seated.{TableId}
 use Rattle.records.specs.RecordValue.{RecordValue}
 use Rattle.records.specs.GeometryValue.{GeometryValue}
 use Rattle.records.specs.declared.error.Error.{Error}
@@ -30,7 +29,7 @@ use Rattle.store_reader.specs.Contents.{Gives}
 use Rattle.store_writer.specs.Contents.{LeftBy, StoreHas}
 use Rattle.store_writer.specs.Writer.{AreNext, CanFlip, HasFailed, IsChunk, IsFlipReply, IsFlushReply, IsNotFlushed, IsWriter, longer, opened_run}
 use Rattle.locked_core.specs.Following.{FitPlaces, FollowOpening}
-use Rattle.flusher.specs.Part.{FlushValue, GivesBeginning, IsFlusher, FlushLeaves, MayOpenAgain, count_of, flush_value, last_handed, popped_by, run_of}
+use Rattle.flusher.specs.Part.{FlushValue, GivesBeginning, IsFlusher, FlushLeaves, MayOpenAgain, flush_value, last_handed, popped_by, run_of}
 
 -- ---- lists
 
@@ -302,16 +301,24 @@ module _ {D : Type 0} (history : D → History) (o : Opened) where
         ∙ ap (λ (l : List RecordValue). take (length popped - length l) popped) none ∙ all_handed popped in
         omega (arith, is, size, ap length same, ap length front, ap length kept.0, length-append (take (length popped - length held) popped) held)
 
+  -- ---- as a look at the stop flag leaves them
+
+  pub kept_by_look : {A : Type 0} (popped held : List RecordValue) (w : Writer D A) (v : FlusherCount) → AreKept popped held w v
+      → (now : FlusherCount) (set : Bool) → now ≡ record v { stopped = set } → AreKept popped held w now
+  kept_by_look popped held w v kept now set is = (
+    kept.0,
+    goes_on history o (flush_value popped held w v) w now kept.1 kept.1.writer
+        (omega (arith, kept.1.horizon, ap (λ (c : FlusherCount). c.horizon) is)) (ap (λ (c : FlusherCount). c.failed) is ∙ kept.1.failed),
+  )
+
   -- ---- as a call of the writer leaves them
 
   module _ {A : Type 0} (popped held : List RecordValue) (w : Writer D A) (v : FlusherCount) (kept : AreKept popped held w v) (new : Writer D A) where
-    pub kept_by_call : (board : TableId) (now : FlusherCount)
-        → IsWriter history (run_of o (flush_value popped held w v)) (last_handed o (flush_value popped held w v)) new → now ≡ count_of board new
-        → AreKept popped held new now
-    kept_by_call board now stands told = (
+    pub kept_by_call : (now : FlusherCount) → IsWriter history (run_of o (flush_value popped held w v)) (last_handed o (flush_value popped held w v)) new
+        → now.horizon ≡ synced_of new → now.failed ≡ has_failed new → AreKept popped held new now
+    kept_by_call now stands horizon failed = (
       kept.0,
-      goes_on history o (flush_value popped held w v) new now kept.1 stands (omega (arith, ap (λ (c : FlusherCount). c.horizon) told))
-          (ap (λ (c : FlusherCount). c.failed) told),
+      goes_on history o (flush_value popped held w v) new now kept.1 stands (omega (arith, horizon)) failed,
     )
 
     -- what is published may be raised to what the writer has synced

@@ -2,10 +2,15 @@
 use Rattle.std.proofs.Common.{◌≡◌, List, [], ◌++◌, length, take, Result, Ok, Err, OnOk, OnErr, refl, sym, ap, ◌∙◌, subst, append-nil, append_assoc}
 use Rattle.records.specs.RecordValue.{RecordValue}
 use Rattle.records.specs.declared.error.Error.{Error}
+use Rattle.board.specs.Views.{FlusherCount}
 use Rattle.store_writer.specs.declared.writer.Writer.{Writer}
 use Rattle.store_writer.specs.Parts.{waiting_of}
 use Rattle.flusher.specs.Going.{TakesIn}
-use Rattle.flusher.specs.Part.{FlushValue, HasGot, popped_by}
+use Rattle.flusher.specs.Part.{FlushValue, HasGot, LooksForStop, popped_by}
+
+-- nothing was published
+told_same : (old new : FlusherCount) → new ≡ old → new ≡ record old { stopped = new.stopped }
+told_same old new is = subst (λ (c : FlusherCount). c ≡ record old { stopped = c.stopped }) (sym is) refl
 
 module _ {D A : Type 0} where
   pub got_none : (w : Writer D A) → HasGot [] w w
@@ -22,6 +27,18 @@ module _ {D A : Type 0} where
     published = refl;
   }
 
+  -- it looked whether all are asked to stop
+  pub took_look : (old new : FlushValue D A) → LooksForStop old new → TakesIn old new
+  took_look old new looks = subst (TakesIn old) (sym looks)
+      (record {
+        popped = [];
+        popped-are = sym (append-nil (popped_by old));
+        more = [];
+        handed = sym (append-nil old.handed);
+        got = got_none old.writer;
+        published = refl;
+      })
+
   module _ (old mid : FlushValue D A) (popped : List RecordValue) (is : mid ≡ record old { held = old.held ++ popped }) where
     all_are : popped_by mid ≡ popped_by old ++ popped
     all_are = ap popped_by is ∙ sym (append_assoc old.handed old.held popped)
@@ -34,7 +51,7 @@ module _ {D A : Type 0} where
       more = [];
       handed = ap (λ (f : FlushValue D A). f.handed) is ∙ sym (append-nil old.handed);
       got = subst (λ (f : FlushValue D A). HasGot [] old.writer f.writer) (sym is) (got_none old.writer);
-      published = ap (λ (f : FlushValue D A). f.published) is;
+      published = told_same old.published mid.published (ap (λ (f : FlushValue D A). f.published) is);
     }
 
     module _ (new : FlushValue D A) (told : new.published ≡ mid.published) where
@@ -49,7 +66,7 @@ module _ {D A : Type 0} where
         more = old.held ++ popped;
         handed = ok.0 ∙ ap popped_by is;
         got = subst (λ (f : FlushValue D A). HasGot f.held f.writer new.writer) is got;
-        published = published_is;
+        published = told_same old.published new.published published_is;
       }
 
       -- or nothing was
@@ -60,7 +77,7 @@ module _ {D A : Type 0} where
         more = [];
         handed = err.0 ∙ ap (λ (f : FlushValue D A). f.handed) is ∙ sym (append-nil old.handed);
         got = subst (λ (f : FlushValue D A). HasGot [] f.writer new.writer) is got;
-        published = published_is;
+        published = told_same old.published new.published published_is;
       }
 
       pub took_in : (result : Result (Unit {0}) Error) → OnOk result ((new.handed ≡ popped_by mid) × (new.held ≡ []))
@@ -95,5 +112,5 @@ module _ {D A : Type 0} where
       failed = second.got.failed ∙ first.got.failed;
       image = second.got.image ∙ first.got.image;
     };
-    published = second.published ∙ first.published;
+    published = second.published ∙ ap (λ (c : FlusherCount). record c { stopped = new.published.stopped }) first.published;
   }

@@ -7,14 +7,14 @@ use Rattle.store_writer.specs.Parts.{device_of, halves_of, has_failed, synced_of
 use Rattle.flusher.specs.Part.{FlushValue, GivesBeginning, HasGot, popped_by}
 
 -- Some records more were popped, and the writer has got some more of those that were popped. Nothing else of it
--- changed, and nothing was published.
+-- changed, and nothing was published; it may have looked whether all are asked to stop.
 pub record TakesIn {D A : Type 0} (old new : FlushValue D A) : Type 0 where
   pub popped : List RecordValue
   pub popped-are : popped_by new ≡ popped_by old ++ popped
   pub more : List RecordValue
   pub handed : new.handed ≡ old.handed ++ more
   pub got : HasGot more old.writer new.writer
-  pub published : new.published ≡ old.published
+  pub published : new.published ≡ record old.published { stopped = new.published.stopped }
 
 -- It has gone on, by as many calls as there were: more records were popped and handed in, or as many, and none was
 -- lost; no horizon went back, and the store is the same. A crash at any moment since leaves what some of the records

@@ -14,8 +14,8 @@ use Rattle.store_writer.specs.declared.writer.Writer.{Writer}
 use Rattle.flusher.specs.Part.{FlushValue, last_handed, run_of}
 
 -- half the slots of the current half's log are open, where half of an odd number is rounded down
-abbrev pub IsHalfOpen : {D A : Type 0} → Writer D A → Type 0
-IsHalfOpen w = (halves_of w).geometry.slots / 2 ≤ (log_of w).open_slots
+abbrev pub IsHalfFull : {D A : Type 0} → Writer D A → Type 0
+IsHalfFull w = (halves_of w).geometry.slots / 2 ≤ (log_of w).open_slots
 
 -- an image is copied in steps and is at this place, or whole where there is none, unless a flush gave it up
 abbrev pub IsAt : (pages : ℕ) → Option CopyPlace → Option NewImage → Type 0

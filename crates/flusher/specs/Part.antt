@@ -1,6 +1,5 @@
 -- What contracts see of the flusher's part, and what it keeps.
 use Rattle.std.specs.Prelude.{◌≡◌, ℕ, ◌+◌, ◌-◌, ◌≤◌, List, ◌++◌, length, take}
-use Rattle.atomic_table.specs.Seated.{TableId}
 use Rattle.records.specs.GeometryValue.{GeometryValue}
 use Rattle.records.specs.RecordValue.{RecordValue}
 use Rattle.model.specs.Cells.{cells_after}
@@ -90,9 +89,9 @@ pub record GivesBeginning (o : Opened) (g : GeometryValue) (handed : List Record
 abbrev pub FlushLeaves : {D A : Type 0} → Opened → FlushValue D A → Image → Type 0
 FlushLeaves o f = GivesBeginning o (halves_of f.writer).geometry f.handed (synced_of f.writer)
 
--- what is published of a writer
-abbrev pub count_of : {D A : Type 0} → TableId → Writer D A → FlusherCount
-count_of board writer = record { board = board; horizon = synced_of writer; failed = has_failed writer }
+-- what is published of a writer, behind what was published before
+abbrev pub count_of : {D A : Type 0} → FlusherCount → Writer D A → FlusherCount
+count_of before writer = record before { horizon = synced_of writer; failed = has_failed writer }
 
 -- The writer has got these records more, which wait; and nothing else of it changed.
 pub record HasGot {D A : Type 0} (more : List RecordValue) (old new : Writer D A) : Type 0 where
@@ -109,4 +108,8 @@ pub record HasGot {D A : Type 0} (more : List RecordValue) (old new : Writer D A
 pub record Publishes {D A : Type 0} (old new : FlushValue D A) : Type 0 where
   pub handed : new.handed ≡ old.handed
   pub held : new.held ≡ old.held
-  pub published : new.published ≡ count_of old.published.board new.writer
+  pub published : new.published ≡ count_of old.published new.writer
+
+-- it has looked whether all are asked to stop, and nothing else of it changed
+abbrev pub LooksForStop : {D A : Type 0} → FlushValue D A → FlushValue D A → Type 0
+LooksForStop old new = new ≡ record old { published = record old.published { stopped = new.published.stopped } }

@@ -7,7 +7,7 @@ ghost use Rattle.nsf_core.specs.Outbox.{HandsOn};
 ghost use Rattle.store_writer.specs.Parts.{halves_of, has_failed, image_of};
 ghost use Rattle.store_writer.specs.Places.{IsAtPiece};
 ghost use Rattle.store_writer.specs.Writer.{IsChunk, MustStartAgain};
-ghost use Rattle.flusher.specs.Images.{IsHalfOpen, IsPieceDue, TakesNext};
+ghost use Rattle.flusher.specs.Images.{IsHalfFull, IsPieceDue, TakesNext};
 
 use crate::part::FlushPart;
 use image_model::{Chunk, CopyPlace};
@@ -59,7 +59,7 @@ impl<B: Group, D: Device, A: Memory> FlushPart<B, D, A> {
 
     /// Whether half the slots of the current half's log are open: then an image begins, which empties it.
     pub fn wants_image(&self) -> bool
-        ensures begins { IsTrue result ↔ IsHalfOpen self.now.writer }
+        ensures begins { IsTrue result ↔ IsHalfFull self.now.writer }
     {
         let slots = u64::from(self.writer.geometry().slots);
         self.writer.open_slots() >= slots / 2

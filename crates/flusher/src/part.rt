@@ -1,7 +1,7 @@
 //! What the flusher owns.
 ghost use Rattle.std.specs.FinMap.{len};
 ghost use Rattle.std.specs.Prelude.{◌≡◌, ◌≢◌, ◌-◌, ◌≤◌, ◌++◌, ℕ, List, [], length, take, false, Ok, OnOk, OnErr, IfOk};
-ghost use Rattle.std.specs.Prelude.{IfErr};
+ghost use Rattle.std.specs.Prelude.{IfErr, IsTrue};
 ghost use Rattle.sector_device.specs.Disk.{Image, IsCrashImage};
 ghost use Rattle.sector_device.specs.History.{LeavesOnly};
 ghost use Rattle.records.specs.RecordValue.{RecordValue};
@@ -74,7 +74,7 @@ fn publish<D: Device, A: Memory>(board: &Board<A>, view: &mut FlushView, writer:
     requires board { view.old.board ≡ board.now }
     requires horizon { view.old.horizon ≤ synced_of writer.now }
     requires failed { has_failed writer.now ≡ false → view.old.failed ≡ false }
-    ensures { view.new ≡ count_of board.now writer.now }
+    ensures { view.new ≡ count_of view.old writer.now }
 {
     board.publish(view, writer.synced());
     if writer.has_failed() {
@@ -84,7 +84,8 @@ fn publish<D: Device, A: Memory>(board: &Board<A>, view: &mut FlushView, writer:
 
 impl<B: Group, D: Device, A: Memory> FlushPart<B, D, A> {
     ghost use Rattle.locked_core.specs.Locked.{locked_of};
-    ghost use Rattle.flusher.specs.Part.{HasGot, IsFlusher, FlushLeaves, Publishes, last_handed, popped_by, run_of};
+    ghost use Rattle.flusher.specs.Part.{HasGot, IsFlusher, FlushLeaves, LooksForStop, Publishes, last_handed};
+    ghost use Rattle.flusher.specs.Part.{popped_by, run_of};
 
     /// The part of a flusher that has popped nothing, with a writer over what was opened. How far that is synced is
     /// published, so that a ticket from before is known to be safe from the beginning.
@@ -108,7 +109,7 @@ impl<B: Group, D: Device, A: Memory> FlushPart<B, D, A> {
           handed = [];
           held = [];
           writer = writer;
-          published = count_of ends.published.board writer;
+          published = count_of ends.published writer;
         } }
     {
         let FlushEnds { popper, mut view } = ends;
@@ -123,6 +124,16 @@ impl<B: Group, D: Device, A: Memory> FlushPart<B, D, A> {
             view,
             site: PhantomData,
         }
+    }
+
+    /// Whether all threads are asked to stop. It stays true once this part has seen it. (Who asked, no clause says.)
+    pub fn stopped(&mut self, board: &Board<A>) -> bool
+        requires { board.now ≡ B.site.board }
+        ensures looks { LooksForStop self.old self.new }
+        ensures seen { self.new.published.stopped ≡ result }
+        ensures stays { IsTrue self.old.published.stopped → IsTrue result }
+    {
+        board.stopped_flusher(&mut self.view)
     }
 
     /// A law: what the type keeps.

@@ -10,12 +10,11 @@ ghost use Rattle.restart.specs.Parts.{core_of};
 ghost use Rattle.headline_threads.specs.Seats.{HoldsSeats};
 
 use closing::finish;
-use flusher::FlushPart;
 use headline::Mortal;
 use records::Error;
 use restart::{Engine, restart};
 use sector_device::Device;
-use shared::{Ack, Group, Memory, Seat, Shared};
+use shared::{Ack, Group, Memory, Parts, Shared};
 use std::sync::Wait;
 use store_reader::one_answer;
 
@@ -24,24 +23,23 @@ fn finish_device<B: Group, D: Device, R: Wait, A: Memory>(
     rt: &R,
     alloc: A,
     shared: Shared<B, A>,
-    seats: Vec<Seat<B, A>, A>,
-    flush: FlushPart<B, D, A>,
+    parts: Parts<B, D, A>,
     acks: Vec<Ack<B>, A>,
 ) -> D
-    requires seats { AreAllSeats B.site.seats seats.items }
+    requires seats { AreAllSeats B.site.seats parts.seats.items }
     ensures some { (image : Image) → IsCrashImage (D.history result).disk image
-        → ∥ GivesSome B.site.opened (halves_of flush.writer).geometry seats.items (popped_by flush)
-        (synced_of flush.writer) image ∥₁ }
-    ensures acked { All (λ a. a.ticket.«record» ≤ synced_of flush.writer) acks.items }
+        → ∥ GivesSome B.site.opened (halves_of parts.flush.writer).geometry parts.seats.items (popped_by parts.flush)
+        (synced_of parts.flush.writer) image ∥₁ }
+    ensures acked { All (λ a. a.ticket.«record» ≤ synced_of parts.flush.writer) acks.items }
 {
-    match finish(rt, alloc, shared, seats, flush, acks) {
+    match finish(rt, alloc, shared, parts, acks) {
         Ok(closed) => closed.device,
         Err((_, device)) => device,
     }
 }
 
-/// Takes every seat back and writes out what they made, as `finish` does. Whatever that answers, the power then fails;
-/// and the store is opened again.
+/// Takes every seat and every part back and writes out what they made, as `finish` does. Whatever that answers, the
+/// power then fails; and the store is opened again.
 ///
 /// What it holds are the rows that the threads began with, with the first commits of all seats set over them, in the
 /// order of their numbers; and each whose acknowledgement is handed in is among them (`holds`). `NoMemory` and
@@ -50,17 +48,16 @@ pub fn finish_and_open<B: Group, D: Mortal, R: Wait, A: Memory>(
     rt: &R,
     alloc: A,
     shared: Shared<B, A>,
-    seats: Vec<Seat<B, A>, A>,
-    flush: FlushPart<B, D, A>,
+    parts: Parts<B, D, A>,
     acks: Vec<Ack<B>, A>,
 ) -> Result<Engine<D, A>, Error>
-    requires seats { AreAllSeats B.site.seats seats.items }
-    ensures holds { IfOk result (λ engine. ∥ HoldsSeats B.site.opened.given.table seats.items acks.items
+    requires seats { AreAllSeats B.site.seats parts.seats.items }
+    ensures holds { IfOk result (λ engine. ∥ HoldsSeats B.site.opened.given.table parts.seats.items acks.items
         (core_of engine) ∥₁) }
     ensures refused { IfErr result (λ e. (e ≡ NoMemory) ⊎ (e ≡ DeviceFailed)) }
 {
     one_answer();
-    let mut device = finish_device(rt, alloc, shared, seats, flush, acks);
+    let mut device = finish_device(rt, alloc, shared, parts, acks);
     device.stop_now();
     match restart(alloc, device) {
         Ok(engine) => Ok(engine),

@@ -17,6 +17,7 @@ ghost use Rattle.core_model.specs.Histories.{CanOpen, no_writes};
 ghost use Rattle.core_contracts.specs.Served.{items_of};
 ghost use Rattle.nsf_core.specs.Builds.{built};
 ghost use Rattle.nsf_core.specs.Cleaning.{cleaner};
+ghost use Rattle.nsf_core.specs.Loading.{IsQuiet};
 ghost use Rattle.nsf_core.specs.Moves.{HasNoChange, txn_shown};
 ghost use Rattle.nsf_core.specs.Outbox.{HandsOn};
 ghost use Rattle.nsf_core.specs.Replies.{reply_by, reply_of_detached, reply_of_ticket};
@@ -522,6 +523,13 @@ impl<B: Group, A: Memory> Locked<B, A> {
         ensures { result ≡ (locked_of self.now).core.attempts }
     {
         self.core.attempts()
+    }
+
+    /// Whether no transaction is active.
+    pub fn is_quiet(&self) -> bool
+        ensures { IsTrue result ↔ IsQuiet (locked_of self.now).core }
+    {
+        self.core.active_txns() == 0
     }
 
     /// Whether no change of the transaction is left to take back.

@@ -3,7 +3,7 @@ use Rattle.std.proofs.Common.{◌≡◌, ◌≢◌, ◌⊎◌, IfErr, IfOk, IfSo
 use Rattle.std.proofs.Common.{sym, subst, max, arith, ltb-true, ltb-false}
 use Rattle.std.proofs.Math.Logic.{∥∥₁_map}
 use Rattle.records.specs.declared.error.Error.{Error}
-use Rattle.records.specs.declared.error.Error.TheVariants.{IndexFull, NoIndex, NoMemory, Stopped}
+use Rattle.records.specs.declared.error.Error.TheVariants.{NoMemory, Stopped}
 use Rattle.records.specs.declared.pair.Pair.{Pair}
 use Rattle.core_contracts.specs.Events.{Event, Refused}
 use Rattle.core_model.specs.Histories.{Opened}
@@ -13,7 +13,7 @@ use Rattle.nsf_core.specs.declared.parts.Ticket.{Ticket}
 use Rattle.nsf_core.specs.declared.reply.BuildReply.{BuildReply}
 use Rattle.nsf_core.specs.declared.reply.BuildReply.TheVariants as reply
 use Rattle.shared.specs.Served.{WasServed}
-use Rattle.loops.specs.Building.{HasAttempted, HasPublished, HasStepped}
+use Rattle.loops.specs.Building.{EndsBuilder, EndsRun, HasAttempted, HasPublished, HasStepped}
 
 module _ (o : Opened) (step : Result BuildReply Error) (attempts : ℕ) (was : ∥ HasStepped o (reply_by built step) attempts ∥₁) where
   -- as it was served, the step being so
@@ -55,29 +55,18 @@ raised o first was attempts new is before now more = by (nat_lt was attempts) re
         at was same (before (omega (arith, same, more)))
 
 -- why a builder ended that is ended with its clients
-pub ended_why : {T : Type 0} (o : Opened) (P : Type 0) (result : Result T Error)
-    → IfErr result (λ e. ((e ≡ Stopped) × P) ⊎ ((e ≢ NoMemory) × (true ≡ true → e ≢ NoIndex) × ∥ WasServed o Event.Build (Refused e) ∥₁))
-    → IfErr result (λ e. (e ≡ Stopped) ⊎ ((e ≢ NoMemory) × (e ≢ NoIndex) × ∥ WasServed o Event.Build (Refused e) ∥₁))
-ended_why o P (Ok x) why = tt
-ended_why o P (Err e) (inl stopped) = inl stopped.0
-ended_why o P (Err e) (inr refused) = inr (refused.0, refused.1 refl, refused.2)
+pub ended_why : (o : Opened) (P : Type 0) (e : Error)
+    → ((e ≡ Stopped) × P) ⊎ ((e ≢ NoMemory) × ∥ WasServed o Event.Build (Refused e) ∥₁ × (true ≡ true → EndsRun o e)) → EndsBuilder o e
+ended_why o P e (inl stopped) not = absurd (not stopped.0)
+ended_why o P e (inr refused) not = (refused.0, refused.1, refused.2 refl)
 
 -- why a builder ended that is ended by the stop flag alone
 pub looked_why : {T : Type 0} (o : Opened) (P : Type 0) (result : Result T Error)
-    → IfErr result (λ e. ((e ≡ Stopped) × (false ≡ false → P)) ⊎ ((e ≢ NoMemory) × (false ≡ true → e ≢ NoIndex) × ∥ WasServed o Event.Build (Refused e) ∥₁))
+    → IfErr result (λ e. ((e ≡ Stopped) × (false ≡ false → P)) ⊎ ((e ≢ NoMemory) × ∥ WasServed o Event.Build (Refused e) ∥₁ × (false ≡ true → EndsRun o e)))
     → IfErr result (λ e. ((e ≡ Stopped) × P) ⊎ ((e ≢ NoMemory) × ∥ WasServed o Event.Build (Refused e) ∥₁))
 looked_why o P (Ok x) why = tt
 looked_why o P (Err e) (inl stopped) = inl (stopped.0, stopped.1 refl)
-looked_why o P (Err e) (inr refused) = inr (refused.0, refused.2)
-
--- why a builder ended that is ended with its clients, and that waited for room or not
-pub told_why : (o : Opened) (P : Type 0) (is_full : Bool) (e : Error) → (is_full ≡ true → e ≡ IndexFull) → (is_full ≡ false → e ≡ Stopped)
-    → (is_full ≡ true → ∥ WasServed o Event.Build (Refused IndexFull) ∥₁) → P → (in_run : Bool)
-    → ((e ≡ Stopped) × P) ⊎ ((e ≢ NoMemory) × (in_run ≡ true → e ≢ NoIndex) × ∥ WasServed o Event.Build (Refused e) ∥₁)
-told_why o P true e full not was p in_run =
-    inr (subst (λ (x : Error). (x ≢ NoMemory) × (in_run ≡ true → x ≢ NoIndex)
-    × ∥ WasServed o Event.Build (Refused x) ∥₁) (sym (full refl)) ((λ same. cc), (λ on same. cc), was refl))
-told_why o P false e full not was p in_run = inl (not refl, p)
+looked_why o P (Err e) (inr refused) = inr (refused.0, refused.1)
 
 -- ---- one index behind another
 
@@ -101,6 +90,10 @@ attempted_on o first was now rises before later more = by (nat_lt was now) refl
     by false not =
         let same : now ≡ was = omega (arith, rises, ltb-false was now not) in
         subst (λ (k : ℕ). ∥ HasAttempted o k ∥₁) (sym same) (before (omega (arith, same, more)))
+
+-- and one that is the same as it was
+pub attempted_as : (o : Opened) (first was now : ℕ) → now ≡ was → (first < was → ∥ HasAttempted o was ∥₁) → first < now → ∥ HasAttempted o now ∥₁
+attempted_as o first was now same before more = subst (λ (k : ℕ). ∥ HasAttempted o k ∥₁) (sym same) (before (omega (arith, same, more)))
 
 -- what holds of the index that was completed last holds of the one that is told
 pub last_told : (P : Ticket → Type 0) (completed : Option Ticket) (error : Error) (result : Result Ticket Error)

@@ -13,6 +13,7 @@ use Rattle.store_writer.specs.declared.writer.StepReply.{StepReply}
 use Rattle.flusher.proofs.Going.{counted_by_call, counted_by_flush, flip_geometry, goes_by_call, step_geometry}
 use Rattle.flusher.proofs.Keeping.{flip_rises, flush_rises}
 use Rattle.flusher.specs.Going.{GoesOn, TakesIn}
+use Rattle.flusher.specs.Images.{IsHalfFull}
 use Rattle.flusher.specs.Part.{FlushValue, FlushLeaves, Publishes, last_handed, run_of}
 use Rattle.loops.specs.Through.{Calls, GoesThrough, IsFlip, IsFlush, IsStep, RunsThrough}
 
@@ -70,11 +71,21 @@ module _ {D A : Type 0} (history : D → History) (failures : D → ℕ) (o : Op
       }
 
       pub by_step : (number : ℕ) (piece : Piece A) (result : Result StepReply Error) → IsChunk (run_of o old) old.writer number piece
-          → IfOk result (λ reply. IsStepReply number piece reply old.writer new.writer)
+          → (has_failed old.writer ≡ false → IsHalfFull old.writer) → IfOk result (λ reply. IsStepReply number piece reply old.writer new.writer)
           → OnOk result ((has_failed old.writer ≡ false) × (has_failed new.writer ≡ false)) → IfErr result (λ e. HasFailed failures e old.writer new.writer)
           → synced_of new.writer ≡ synced_of old.writer → OnErr result (IsAsBefore old.writer new.writer) → Calls history failures o old new
-      by_step number piece result chunk stepped sound err kept left = record {
-        made = inr (inl (record { number = number; piece = piece; chunk = chunk; result = result; stepped = stepped; sound = sound; err = err; left = left }));
+      by_step number piece result chunk late stepped sound err kept left = record {
+        made = inr (inl (record {
+          number = number;
+          piece = piece;
+          chunk = chunk;
+          late = late;
+          result = result;
+          stepped = stepped;
+          sound = sound;
+          err = err;
+          left = left;
+        }));
         publishes = publishes;
         geometry = step_geometry old.writer new.writer number piece result stepped left;
         rises = omega (arith, kept);

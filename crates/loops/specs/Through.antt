@@ -11,6 +11,7 @@ use Rattle.store_writer.specs.declared.writer.FlipReply.{FlipReply}
 use Rattle.store_writer.specs.declared.writer.FlushReply.{FlushReply}
 use Rattle.store_writer.specs.declared.writer.StepReply.{StepReply}
 use Rattle.flusher.specs.Going.{TakesIn}
+use Rattle.flusher.specs.Images.{IsHalfFull}
 use Rattle.flusher.specs.Part.{FlushValue, FlushLeaves, Publishes, last_handed, run_of}
 
 -- One group was flushed, with this answer of the writer.
@@ -21,11 +22,13 @@ pub record IsFlush {D A : Type 0} (failures : D → ℕ) (old new : FlushValue D
   pub err : IfErr result (λ e. IsNotFlushed failures e old.writer new.writer)
   pub left : OnErr result (IsBeforeFlush old.writer new.writer)
 
--- One chunk of an image was offered that may be taken, with this answer.
+-- One chunk of an image was offered that may be taken, with this answer. Half the slots of the log were full then, or
+-- more, unless the device had failed: so no image is begun earlier.
 pub record IsStep {D A : Type 0} (failures : D → ℕ) (o : Opened) (old new : FlushValue D A) : Type 0 where
   pub number : ℕ
   pub piece : Piece A
   pub chunk : IsChunk (run_of o old) old.writer number piece
+  pub late : has_failed old.writer ≡ false → IsHalfFull old.writer
   pub result : Result StepReply Error
   pub stepped : IfOk result (λ reply. IsStepReply number piece reply old.writer new.writer)
   pub sound : OnOk result ((has_failed old.writer ≡ false) × (has_failed new.writer ≡ false))

@@ -1,18 +1,19 @@
 //! The loop that builds the index.
-ghost use Rattle.std.specs.Prelude.{◌≡◌, ◌≢◌, ◌⊎◌, ◌<◌, ◌≤◌, IsTrue, IfOk, IfErr, false, true};
-ghost use Rattle.records.specs.declared.error.Error.TheVariants.{IndexFull, NoIndex, NoMemory, Stopped};
+ghost use Rattle.std.specs.Prelude.{◌≡◌, ◌≢◌, ◌⊎◌, ◌<◌, ◌≤◌, Err, IsTrue, IfOk, IfErr, false, true};
+ghost use Rattle.records.specs.declared.error.Error.{Error as ErrorValue};
+ghost use Rattle.records.specs.declared.error.Error.TheVariants.{NoMemory, Stopped};
 ghost use Rattle.core_contracts.specs.Events.{Event, Refused};
 ghost use Rattle.nsf_core.specs.Builds.{built};
 ghost use Rattle.nsf_core.specs.Replies.{reply_by};
 ghost use Rattle.nsf_core.specs.declared.reply.BuildReply.TheVariants as reply;
 ghost use Rattle.shared.specs.Served.{WasServed};
-ghost use Rattle.loops.specs.Building.{HasAttempted, HasPublished, HasStepped, IsOutcome};
+ghost use Rattle.loops.specs.Building.{EndsRun, HasAttempted, HasPublished, HasRefused, HasStepped, IsOutcome};
 
 use crate::gate::{Gate, Point};
 use crate::rest::{Rest, has_ended, leave_room};
 use nsf_core::{BuildReply, Ticket};
 use records::Error;
-use shared::{BuildPart, Group, GroupView, Memory, Shared};
+use shared::{BuildPart, Group, Memory, Shared};
 use std::sync::Wait;
 use std::sync::atomic::AtomicU64;
 
@@ -29,9 +30,7 @@ pub(crate) enum Outcome {
     Attempted,
     /// A checkpoint was made.
     Marked,
-    /// There is no room in the index for the next pair.
-    Full,
-    /// Nothing was done: the index was complete before, or there is none yet, or memory is wanting.
+    /// Nothing was done: the index was complete before, or there is none yet, or room in it or memory is wanting.
     Nothing,
 }
 
@@ -45,55 +44,49 @@ pub fn build_loop<B: Group, R: Wait, G: Gate, A: Memory>(
     rt: &R,
     shared: &Shared<B, A>,
     build: &mut BuildPart<B>,
-    view: &mut GroupView<B>,
     gate: &G,
 ) -> Result<Ticket, Error>
     ensures done { IfOk result (λ ticket. ∥ WasServed B.site.opened Event.Build (built (reply.Done ticket)) ∥₁) }
     ensures published { IfOk result (λ ticket. ∥ HasPublished B.site.opened ticket build.new.progress ∥₁) }
-    ensures why { IfErr result (λ e. ((e ≡ Stopped) × IsTrue view.new.stopped)
+    ensures why { IfErr result (λ e. ((e ≡ Stopped) × IsTrue build.new.stopped)
         ⊎ ((e ≢ NoMemory) × ∥ WasServed B.site.opened Event.Build (Refused e) ∥₁)) }
     ensures rises { build.old.progress ≤ build.new.progress }
     ensures attempted { build.old.progress < build.new.progress → ∥ HasAttempted B.site.opened build.new.progress ∥₁ }
-    ensures view { view.new ≡ record view.old { stopped = view.new.stopped } }
 {
-    build_until(rt, shared, build, view, gate, false, &AtomicU64::new(0))
+    build_until(rt, shared, build, gate, false, &AtomicU64::new(0))
 }
 
-/// The same, until the run ends, if it is in one. Then it also waits for an index where there is none, and for room in
-/// a full one, since places that transactions reserved come back as they end. A run that ends while it waits for room
-/// is told as `IndexFull`.
+/// The same, until the run ends, if it is in one. Then it also waits for an index where there is none; and for room in
+/// a full one where a transaction is active, whose end may give places back.
 pub(crate) fn build_until<B: Group, R: Wait, G: Gate, A: Memory>(
     rt: &R,
     shared: &Shared<B, A>,
     build: &mut BuildPart<B>,
-    view: &mut GroupView<B>,
     gate: &G,
     in_run: bool,
     ended: &AtomicU64,
 ) -> Result<Ticket, Error>
     ensures done { IfOk result (λ ticket. ∥ WasServed B.site.opened Event.Build (built (reply.Done ticket)) ∥₁) }
     ensures published { IfOk result (λ ticket. ∥ HasPublished B.site.opened ticket build.new.progress ∥₁) }
-    ensures why { IfErr result (λ e. ((e ≡ Stopped) × (in_run ≡ false → IsTrue view.new.stopped))
-        ⊎ ((e ≢ NoMemory) × (in_run ≡ true → e ≢ NoIndex) × ∥ WasServed B.site.opened Event.Build (Refused e) ∥₁)) }
+    ensures why { IfErr result (λ e. ((e ≡ Stopped) × (in_run ≡ false → IsTrue build.new.stopped))
+        ⊎ ((e ≢ NoMemory) × ∥ WasServed B.site.opened Event.Build (Refused e) ∥₁
+        × (in_run ≡ true → EndsRun B.site.opened e))) }
     ensures rises { build.old.progress ≤ build.new.progress }
     ensures attempted { build.old.progress < build.new.progress → ∥ HasAttempted B.site.opened build.new.progress ∥₁ }
-    ensures view { view.new ≡ record view.old { stopped = view.new.stopped } }
 {
     let bell = &shared.board().waits().resting;
     let mut rest = Rest::new();
     let mut steps = 0;
-    let mut is_full = false;
     for _ in rt.forever() {
         let rings = bell.rings();
         if has_ended(in_run, ended) {
-            return Err(end_told(is_full));
-        }
-        if view.stopped(shared) {
             return Err(Error::Stopped);
         }
-        let (step, attempts) = build_step(rt, shared);
-        is_full = false;
-        match outcome_of(step, in_run) {
+        if build.stopped(shared) {
+            return Err(Error::Stopped);
+        }
+        let (step, attempts, is_quiet) = build_step(rt, shared, build);
+        match outcome_of(step, in_run, is_quiet) {
             Outcome::Done(ticket) => {
                 build.raise_progress(shared, attempts);
                 return Ok(ticket);
@@ -109,33 +102,15 @@ pub(crate) fn build_until<B: Group, R: Wait, G: Gate, A: Memory>(
                 steps = leave_room(rt, shared, rings, steps);
             }
             Outcome::Marked => {}
-            Outcome::Full => {
-                is_full = true;
-                rest.sleep(rt, bell, rings);
-            }
             Outcome::Nothing => rest.sleep(rt, bell, rings),
         }
     }
     unreachable!()
 }
 
-// Why a run of the builder is told to have ended with its clients: because they ended, or for want of room that it
-// waited for.
-fn end_told(is_full: bool) -> Error
-    ensures full { is_full ≡ true → result ≡ IndexFull }
-    ensures not { is_full ≡ false → result ≡ Stopped }
-{
-    if is_full {
-        Error::IndexFull
-    } else {
-        Error::Stopped
-    }
-}
-
-// What this answer of a step means, to a loop that waits for an index where there is none and for room in it, or to one
-// that doesn't.
-fn outcome_of(step: Result<BuildReply, Error>, waits: bool) -> Outcome
-    ensures { IsOutcome waits result step }
+// What this answer of a step means, to a loop that waits for an index or for room in it, or to one that doesn't.
+fn outcome_of(step: Result<BuildReply, Error>, waits: bool, is_quiet: bool) -> Outcome
+    ensures { IsOutcome waits is_quiet result step }
 {
     match step {
         Ok(BuildReply::Done(ticket)) => Outcome::Done(ticket),
@@ -146,27 +121,30 @@ fn outcome_of(step: Result<BuildReply, Error>, waits: bool) -> Outcome
         Ok(BuildReply::Idle) => Outcome::Nothing,
         Err(Error::NoMemory) => Outcome::Nothing,
         Err(Error::NoIndex) if waits => Outcome::Nothing,
-        Err(Error::IndexFull) if waits => Outcome::Full,
+        Err(Error::IndexFull) if waits && !is_quiet => Outcome::Nothing,
         Err(error) => Outcome::Refused(error),
     }
 }
 
-// One step of the builder, which may have made a record, and how many attempts were made since the store was opened,
-// with it.
+// One step of the builder, which may have made a record; how many attempts were made since the store was opened, with
+// it; and whether no transaction was active then.
 fn build_step<B: Group, R: Wait, A: Memory>(
     rt: &R,
     shared: &Shared<B, A>,
-) -> (Result<BuildReply, Error>, u64)
-    ensures { ∥ HasStepped B.site.opened (reply_by built result.0) result.1 ∥₁ }
+    build: &BuildPart<B>,
+) -> (Result<BuildReply, Error>, u64, bool)
+    ensures stepped { ∥ HasStepped B.site.opened (reply_by built result.0) result.1 ∥₁ }
+    ensures quiet { (e : ErrorValue) → result.0 ≡ Err e → result.2 ≡ true → ∥ HasRefused B.site.opened e ∥₁ }
 {
-    let mut locked = shared.hold_last(rt);
+    let mut locked = shared.hold_to_build(rt, build);
     locked.push_outbox(rt, shared.queue());
     let built = locked.build_step();
     let attempts = locked.attempts();
+    let is_quiet = locked.is_quiet();
     locked.push_outbox(rt, shared.queue());
     drop(locked);
     if matches!(built, Ok(BuildReply::Done(_))) {
         shared.board().waits().pushed.ring();
     }
-    (built, attempts)
+    (built, attempts, is_quiet)
 }

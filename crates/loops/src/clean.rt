@@ -9,7 +9,7 @@ use crate::gate::{Gate, Point};
 use crate::rest::{Rest, has_ended, pause_cleaner};
 use nsf_core::CleanReply;
 use records::Error;
-use shared::{Group, GroupView, Memory, Shared};
+use shared::{CleanPart, Group, Memory, Shared};
 use std::sync::Wait;
 use std::sync::atomic::AtomicU64;
 
@@ -19,25 +19,25 @@ use std::sync::atomic::AtomicU64;
 pub fn clean_loop<B: Group, R: Wait, G: Gate, A: Memory>(
     rt: &R,
     shared: &Shared<B, A>,
-    view: &mut GroupView<B>,
+    part: &mut CleanPart<B>,
     gate: &G,
 )
-    ensures { view.new ≡ record view.old { stopped = true } }
+    ensures { part.new ≡ record part.old { stopped = true } }
 {
-    clean_until(rt, shared, view, gate, false, &AtomicU64::new(0));
+    clean_until(rt, shared, part, gate, false, &AtomicU64::new(0));
 }
 
 /// The same, until the run ends, if it is in one.
 pub(crate) fn clean_until<B: Group, R: Wait, G: Gate, A: Memory>(
     rt: &R,
     shared: &Shared<B, A>,
-    view: &mut GroupView<B>,
+    part: &mut CleanPart<B>,
     gate: &G,
     in_run: bool,
     ended: &AtomicU64,
 )
-    ensures view { view.new ≡ record view.old { stopped = view.new.stopped } }
-    ensures stopped { in_run ≡ false → view.new.stopped ≡ true }
+    ensures part { part.new ≡ record part.old { stopped = part.new.stopped } }
+    ensures stopped { in_run ≡ false → part.new.stopped ≡ true }
 {
     let bell = &shared.board().waits().resting;
     let mut rest = Rest::new();
@@ -47,12 +47,12 @@ pub(crate) fn clean_until<B: Group, R: Wait, G: Gate, A: Memory>(
         if has_ended(in_run, ended) {
             return;
         }
-        let is_stopped = view.stopped(shared);
+        let is_stopped = part.stopped(shared);
         if is_stopped {
             return;
         }
         gate.at(Point::CleanStep);
-        match clean_step(rt, shared) {
+        match clean_step(rt, shared, part) {
             Ok(CleanReply::Cleaned(_)) => rest = Rest::new(),
             Ok(CleanReply::Kept(_)) => steps = pause_cleaner(rt, bell, rings, steps),
             Ok(CleanReply::Wrapped) | Err(_) => rest.sleep(rt, bell, rings),
@@ -65,10 +65,11 @@ pub(crate) fn clean_until<B: Group, R: Wait, G: Gate, A: Memory>(
 fn clean_step<B: Group, R: Wait, A: Memory>(
     rt: &R,
     shared: &Shared<B, A>,
+    part: &CleanPart<B>,
 ) -> Result<CleanReply, Error>
     ensures { ∥ WasServed B.site.opened Event.Clean (reply_by cleaner result) ∥₁ }
 {
-    let mut locked = shared.hold_last(rt);
+    let mut locked = shared.hold_to_clean(rt, part);
     locked.push_outbox(rt, shared.queue());
     let cleaned = locked.clean_step();
     locked.push_outbox(rt, shared.queue());

@@ -7,7 +7,7 @@ ghost use Rattle.store_writer.specs.Writer.{IsChunk, MustStartAgain};
 ghost use Rattle.flusher.specs.Images.{IsPieceDue};
 ghost use Rattle.flusher.specs.Going.{GoesOn, TakesIn};
 ghost use Rattle.flusher.specs.Part.{run_of};
-ghost use Rattle.loops.specs.Copying.{StandsBy, steps_of_image};
+ghost use Rattle.loops.specs.Copying.{IsDue, StandsBy, steps_of_image};
 ghost use Rattle.loops.specs.Through.{RunsThrough};
 ghost use Rattle.loops.specs.declared.flush.Copying.{Copying as CopyingValue};
 
@@ -17,7 +17,7 @@ use flusher::FlushPart;
 use image_model::{CHUNK_ENTRIES, Chunk, CopyPlace};
 use records::{Error, Geometry};
 use sector_device::Device;
-use shared::{Group, GroupView, Memory, Shared};
+use shared::{Group, Memory, Shared};
 use std::sync::Wait;
 use std::sync::atomic::AtomicU64;
 use store_writer::{FlipReply, FlushReply, StepReply, kept_place};
@@ -50,16 +50,14 @@ pub fn flush_loop<B: Group, D: Device, R: Wait, G: Gate, A: Memory>(
     rt: &R,
     shared: &Shared<B, A>,
     part: &mut FlushPart<B, D, A>,
-    view: &mut GroupView<B>,
     gate: &G,
 ) -> Result<(), Error>
     ensures goes_on { GoesOn D.history D.failures B.site.opened part.old part.new }
     ensures through { RunsThrough D.history D.failures B.site.opened part.old part.new }
-    ensures stopped { OnOk result (IsTrue view.new.stopped × (has_failed part.new.writer ≡ false)) }
+    ensures stopped { OnOk result (IsTrue part.new.published.stopped × (has_failed part.new.writer ≡ false)) }
     ensures failed { IfErr result (λ e. (e ≡ DeviceFailed) × (has_failed part.new.writer ≡ true)) }
-    ensures view { view.new ≡ record view.old { stopped = view.new.stopped } }
 {
-    flush_until(rt, shared, part, view, gate, false, &AtomicU64::new(0))
+    flush_until(rt, shared, part, gate, false, &AtomicU64::new(0))
 }
 
 /// The same, until the run ends, if it is in one.
@@ -67,16 +65,15 @@ pub(crate) fn flush_until<B: Group, D: Device, R: Wait, G: Gate, A: Memory>(
     rt: &R,
     shared: &Shared<B, A>,
     part: &mut FlushPart<B, D, A>,
-    view: &mut GroupView<B>,
     gate: &G,
     in_run: bool,
     ended: &AtomicU64,
 ) -> Result<(), Error>
     ensures goes_on { GoesOn D.history D.failures B.site.opened part.old part.new }
     ensures through { RunsThrough D.history D.failures B.site.opened part.old part.new }
-    ensures stopped { OnOk result ((in_run ≡ false → IsTrue view.new.stopped) × (has_failed part.new.writer ≡ false)) }
+    ensures stopped { OnOk result ((in_run ≡ false → IsTrue part.new.published.stopped)
+        × (has_failed part.new.writer ≡ false)) }
     ensures failed { IfErr result (λ e. (e ≡ DeviceFailed) × (has_failed part.new.writer ≡ true)) }
-    ensures view { view.new ≡ record view.old { stopped = view.new.stopped } }
 {
     part.stands();
     let bell = &shared.board().waits().pushed;
@@ -92,7 +89,7 @@ pub(crate) fn flush_until<B: Group, D: Device, R: Wait, G: Gate, A: Memory>(
         if has_ended(in_run, ended) {
             return Ok(());
         }
-        if view.stopped(shared) {
+        if is_stopped(shared, part) {
             return Ok(());
         }
         rounds = rounds.wrapping_add(1);
@@ -108,6 +105,22 @@ pub(crate) fn flush_until<B: Group, D: Device, R: Wait, G: Gate, A: Memory>(
         quiet = rest_flusher(rt, bell, rings, seen, quiet);
     }
     unreachable!()
+}
+
+// Whether all are asked to stop.
+fn is_stopped<B: Group, D: Device, A: Memory>(
+    shared: &Shared<B, A>,
+    part: &mut FlushPart<B, D, A>,
+) -> bool
+    ensures goes_on { GoesOn D.history D.failures B.site.opened part.old part.new }
+    ensures through { RunsThrough D.history D.failures B.site.opened part.old part.new }
+    ensures copying { (copying : CopyingValue) → StandsBy copying part.old → StandsBy copying part.new }
+    ensures writer { part.new.writer ≡ part.old.writer }
+    ensures seen { part.new.published.stopped ≡ result }
+{
+    let is_stopped = part.stopped(shared.board());
+    part.stands();
+    is_stopped
 }
 
 // What was found in a round, before which so much was synced, and so much had been handed in, and which went well or
@@ -225,7 +238,7 @@ fn take_in<B: Group, D: Device, R: Wait, A: Memory>(
     if !wanted {
         return Ok(());
     }
-    let mut locked = shared.hold(rt);
+    let mut locked = shared.hold_to_flush(rt, part);
     part.take_in(rt, shared.queue(), &mut *locked)
 }
 
@@ -251,7 +264,7 @@ fn write<B: Group, D: Device, G: Gate, A: Memory>(
     Ok(reply == FlushReply::LogFull)
 }
 
-// Takes the next chunk of an image, or makes it current; or begins one, where half the slots are open.
+// Takes the next chunk of an image, or makes it current; or begins one, where half the slots are full.
 fn copy<B: Group, D: Device, R: Wait, G: Gate, A: Memory>(
     rt: &R,
     shared: &Shared<B, A>,
@@ -295,6 +308,7 @@ fn copy_piece<B: Group, D: Device, R: Wait, G: Gate, A: Memory>(
     requires copying { StandsBy copying.old part.old }
     requires due { has_failed part.old.writer ≡ false
         → IsPieceDue (halves_of part.old.writer).geometry.pages place (image_of part.old.writer) }
+    requires late { IsDue part.old }
     ensures goes_on { GoesOn D.history D.failures B.site.opened part.old part.new }
     ensures through { RunsThrough D.history D.failures B.site.opened part.old part.new }
     ensures copying { StandsBy copying.new part.new }
@@ -313,9 +327,11 @@ fn copy_all<B: Group, D: Device, R: Wait, G: Gate, A: Memory>(
     gate: &G,
 ) -> Result<(), Error>
     requires copying { StandsBy copying.old part.old }
+    requires late { IsDue part.old }
     ensures goes_on { GoesOn D.history D.failures B.site.opened part.old part.new }
     ensures through { RunsThrough D.history D.failures B.site.opened part.old part.new }
     ensures copying { StandsBy copying.new part.new }
+    ensures late { IsDue part.new }
 {
     gate.at(Point::CopyStep);
     let chunk = copied_whole(rt, shared, part)?;
@@ -343,7 +359,7 @@ fn copied_piece<B: Group, D: Device, R: Wait, A: Memory>(
     if part.has_failed() {
         return Err(Error::DeviceFailed);
     }
-    let mut locked = shared.hold(rt);
+    let mut locked = shared.hold_to_flush(rt, part);
     let copied = part.copy_step(rt, shared.queue(), &mut *locked, place);
     part.stands();
     copied
@@ -363,7 +379,7 @@ fn copied_whole<B: Group, D: Device, R: Wait, A: Memory>(
     ensures at { IfOk result (λ chunk. IsAtPiece (halves_of part.new.writer).geometry.pages chunk.piece
         (image_of part.new.writer)) }
 {
-    let mut locked = shared.hold(rt);
+    let mut locked = shared.hold_to_flush(rt, part);
     let copied = part.copy_whole(rt, shared.queue(), &mut *locked);
     part.stands();
     copied
@@ -380,9 +396,11 @@ fn take_chunk<B: Group, D: Device, A: Memory>(
     requires chunk { IsChunk (run_of B.site.opened part.old) part.old.writer chunk.number chunk.piece }
     requires at { ¬ MustStartAgain chunk.piece part.old.writer
         → IsAtPiece (halves_of part.old.writer).geometry.pages chunk.piece (image_of part.old.writer) }
+    requires late { IsDue part.old }
     ensures goes_on { GoesOn D.history D.failures B.site.opened part.old part.new }
     ensures through { RunsThrough D.history D.failures B.site.opened part.old part.new }
     ensures copying { StandsBy copying.new part.new }
+    ensures late { IsDue part.new }
 {
     part.stands();
     let behind = chunk.place_behind(part.geometry());
@@ -406,6 +424,7 @@ fn flip<B: Group, D: Device, A: Memory>(
     is_full: bool,
 ) -> Result<(), Error>
     requires copying { StandsBy copying.old part.old }
+    requires late { IsDue part.old }
     ensures goes_on { GoesOn D.history D.failures B.site.opened part.old part.new }
     ensures through { RunsThrough D.history D.failures B.site.opened part.old part.new }
     ensures copying { StandsBy copying.new part.new }

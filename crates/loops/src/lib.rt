@@ -8,23 +8,28 @@
 //!
 //! Proved: `flush_loop` ends with `Ok` only where the stop flag was read and the device has not failed, and with
 //! `DeviceFailed` where the device failed (`stopped`, `failed`); over all its rounds no record is lost and no horizon
-//! falls (`goes_on`); a crash within a call of its writer leaves all that was synced before that call (`through`).
-//! `build_loop` ends with a ticket only where some core that may lie under the lock answers that it completed the index
-//! (`done`). `run_beside` keeps what the clients promise (`clients`). Neither: that a thread is started or a call
-//! returns, that the builder or the cleaner makes a step, that the flusher writes, when an image is taken, that
-//! progress is told before the end of a build, that a refusal ends the builder, that a run lasts as long as its
-//! clients, and that a gate is called.
+//! falls (`goes_on`); a crash within a call of its writer leaves all that was synced before that call, and no image is
+//! begun before half the log's slots are full (`through`). `build_loop` ends with a ticket only where some core that
+//! may lie under the lock answers that it completed the index (`done`). `run_beside` keeps what the clients promise
+//! (`clients`), and gives all back as it was where a thread is wanting (`not_run`); the refusal that
+//! `BuilderEnd::reason` tells is one that some such core gives. Neither: that a thread is started or a call returns,
+//! that the builder or the cleaner makes a step, that the flusher writes, that an image is taken, that progress is told
+//! before the end of a build, that a refusal ends the builder or is told, that a run lasts as long as its clients, and
+//! that a gate is called.
 #![tactic(auto)]
 
 mod build;
+mod builder_end;
 mod clean;
 mod flush;
 mod gate;
 mod rest;
 mod run;
+mod start;
 
 pub use build::build_loop;
+pub use builder_end::BuilderEnd;
 pub use clean::clean_loop;
 pub use flush::flush_loop;
 pub use gate::{Gate, NoGate, Point};
-pub use run::{Ended, run_beside};
+pub use run::{Ended, NotRun, run_beside};

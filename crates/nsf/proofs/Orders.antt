@@ -1,6 +1,5 @@
 -- Seats in their order.
-use Rattle.std.proofs.Common.{◌≡◌, ◌⊎◌, ◌∙◌, ◌+◌, ◌<◌, ◌++◌, ◌∷◌, ℕ, zero, suc, List, [], Some, subst, length, map, inl, inr, ⊎_elim, refl, sym, ap, arith}
-use Rattle.std.proofs.Common.{length-append}
+use Rattle.std.proofs.Common.{◌≡◌, ◌∙◌, ◌<◌, ◌∷◌, ℕ, zero, suc, List, [], Some, subst, length, map, refl, sym, ap, arith}
 use Rattle.std.proofs.lemmas.List.{length-map}
 use Rattle.std.proofs.lemmas.Option.{get_or_from_slice_get, slice_get_within}
 use Rattle.std.specs.Prelude.{slice_get, slice_index_or}
@@ -8,24 +7,6 @@ use Rattle.std.specs.declared.vec.Vec.{Vec}
 use Rattle.atomic_table.specs.Seated.{TableId}
 use Rattle.closing.specs.Gathered.{AreAllSeats}
 use Rattle.shared.specs.Seats.{AreNewSeats, SeatValue}
-
--- the last of a list with one more
-pub get_last : {X : Type 0} (xs : List X) (x : X) → slice_get (xs ++ x ∷ []) (length xs) ≡ Some x
-get_last [] x = refl
-get_last (y ∷ ys) x = get_last ys x
-
--- and the others
-pub get_first : {X : Type 0} (xs : List X) (x y : X) (k : ℕ) → slice_get xs k ≡ Some y → slice_get (xs ++ x ∷ []) k ≡ Some y
-get_first [] x y k at = absurd cc
-get_first (z ∷ zs) x y zero at = at
-get_first (z ∷ zs) x y (suc k) at = get_first zs x y k at
-
--- which there are no more of
-pub get_either : {X : Type 0} (xs : List X) (x y : X) (k : ℕ) → slice_get (xs ++ x ∷ []) k ≡ Some y → (slice_get xs k ≡ Some y) ⊎ ((k ≡ length xs) × (y ≡ x))
-get_either [] x y zero at = inr (refl, cc)
-get_either [] x y (suc k) at = absurd cc
-get_either (z ∷ zs) x y zero at = inl at
-get_either (z ∷ zs) x y (suc k) at = ⊎_elim (λ early. inl early) (λ last. inr (ap suc last.0, last.1)) (get_either zs x y k at)
 
 -- what is at a place of a list
 pub some_at : {X : Type 0} (xs : List X) (k : ℕ) → k < length xs → (x : X) × (slice_get xs k ≡ Some x)
@@ -44,22 +25,9 @@ in_mapped f [] k x at = absurd cc
 in_mapped f (y ∷ ys) zero x at = cc
 in_mapped f (y ∷ ys) (suc k) x at = in_mapped f ys k x at
 
--- one seat more, of the next number
-pub one_more : (count : ℕ) (seats : List SeatValue) (s : SeatValue) → AreAllSeats count seats → s.number ≡ count → AreAllSeats (count + 1) (seats ++ s ∷ [])
-one_more count seats s all next = record {
-  counted = length-append seats (s ∷ []) ∙ ap (λ (n : ℕ). n + 1) all.counted;
-  each = λ k x at. ⊎_elim (λ early. all.each k x early) (λ last. ap (λ (z : SeatValue). z.number) last.1
-      ∙ (next ∙ (sym all.counted ∙ sym last.0))) (get_either seats s x k at);
-}
-
--- new seats but for the last of them
-pub all_but_last : (board : TableId) (count : ℕ) (seats : List SeatValue) (s : SeatValue) → AreNewSeats board count (seats ++ s ∷ [])
-    → AreAllSeats (length seats) seats × (s.number ≡ length seats) × (length seats + 1 ≡ count)
-all_but_last board count seats s new = (
-  record { counted = refl; each = λ k x at. (new.each k x (get_first seats s x k at)).0 },
-  (new.each (length seats) s (get_last seats s)).0,
-  sym (length-append seats (s ∷ [])) ∙ new.counted,
-)
+-- new seats are all seats
+pub all_new : (board : TableId) (count : ℕ) (seats : List SeatValue) → AreNewSeats board count seats → AreAllSeats count seats
+all_new board count seats new = record { counted = new.counted; each = λ k x at. (new.each k x at).0 }
 
 -- what has the same numbers at the same places
 pub kept_in_order : {X : Type 0} (seat : X → SeatValue) (count : ℕ) (xs ys : List X) → length ys ≡ length xs
@@ -79,14 +47,11 @@ kept_in_order seat count xs ys same numbers all = record {
       ∙ (ap (λ z. (seat z).number) x_is ∙ all.each k (seat x.0) (in_mapped seat xs k x.0 x.1))));
 }
 
--- those that have the seats that they had, and the last seat
-pub all_left : {W X Y : Type 0} (seat : W → SeatValue) (count n : ℕ) (before : Vec W X) (after : Vec W Y) (last : SeatValue)
-    → AreAllSeats n (map seat before.items) → last.number ≡ n → n + 1 ≡ count → after.len ≡ before.len
+-- those that have the seats that they had
+pub all_left : {W X Y : Type 0} (seat : W → SeatValue) (count : ℕ) (before : Vec W X) (after : Vec W Y) → AreAllSeats count (map seat before.items)
+    → after.len ≡ before.len
     → ((k : ℕ) (w : W) → k < before.len → (seat (slice_index_or after.items k w)).number ≡ (seat (slice_index_or before.items k w)).number)
-    → AreAllSeats count (map seat after.items ++ last ∷ [])
-all_left seat count n before after last all next more same numbers =
-    subst (λ (m : ℕ). AreAllSeats m (map seat after.items ++ last ∷ [])) more
-    (one_more n (map seat after.items) last
-    (kept_in_order seat n before.items after.items (sym after.ok.0 ∙ (same ∙ before.ok.0))
-    (λ k w within. numbers k w (subst (λ (m : ℕ). k < m) (sym before.ok.0) within)) all)
-    next)
+    → AreAllSeats count (map seat after.items)
+all_left seat count before after all same numbers =
+    kept_in_order seat count before.items after.items (sym after.ok.0
+    ∙ (same ∙ before.ok.0)) (λ k w within. numbers k w (subst (λ (m : ℕ). k < m) (sym before.ok.0) within)) all

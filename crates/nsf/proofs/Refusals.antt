@@ -19,10 +19,10 @@ module _ {D : Type 0} (history : D → History) (failures : D
     synced = λ other. subst (λ (d : D). IsSynced (history d).disk) (sym same) is.synced;
   }
 
-  pub not_shared : (after : D) (e : OpenError) → e ≡ Refused NoMemory → after ≡ s.device → IsNotShared history failures before after e
-  not_shared after e why same = subst (λ (x : OpenError). IsNotShared history failures before after x) (sym why) (not_opened after same)
+  pub not_shared : (after : D) (e : OpenError) → e ≡ Refused NoMemory → after ≡ s.device → IsNotShared history failures before count after e
+  not_shared after e why same = subst (λ (x : OpenError). IsNotShared history failures before count after x) (sym why) (inl (not_opened after same))
 
   pub none_began : {X : Type 0} (r : Result X (OpenError × D)) → IfErr r (λ x. (x.0 ≡ Refused NoMemory) × (x.1 ≡ s.device))
-      → IfErr r (λ x. IsNotShared history failures before x.1 x.0)
+      → IfErr r (λ x. IsNotShared history failures before count x.1 x.0)
   none_began (Ok x) told = tt
   none_began (Err x) told = not_shared x.1 x.0 told.0 told.1

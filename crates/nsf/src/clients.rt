@@ -1,5 +1,5 @@
 //! Clients of a store, each in a thread of its own.
-ghost use Rattle.std.specs.Prelude.{◌≡◌, ◌∷◌, ◌++◌, ◌+◌, ◌<◌, [], IfErr, IfOk, ℕ, map, slice_index_or, vec_len};
+ghost use Rattle.std.specs.Prelude.{◌≡◌, ◌<◌, IfErr, IfOk, ℕ, map, slice_index_or, vec_len};
 ghost use Rattle.records.specs.declared.error.Error.TheVariants.{NoMemory};
 ghost use Rattle.core_model.specs.Histories.{Opened};
 ghost use Rattle.store_writer.specs.Parts.{device_of};
@@ -11,12 +11,12 @@ ghost use Rattle.nsf.specs.Serving.{HasRoom, KeepsSeat, LeavesCommits};
 
 use closing::finish;
 use flusher::FlushPart;
-use loops::{Ended, NoGate, run_beside};
+use loops::{BuilderEnd, Ended, NoGate, NotRun, run_beside};
 use nsf_core::Ticket;
 use opening::{OpenError, OpenStore, Parts, open_store};
 use records::Error;
 use sector_device::Device;
-use shared::{BuildPart, Group, Seat, Shared};
+use shared::{BuildPart, CleanPart, Group, Seat, Shared};
 use std::alloc::{AllocError, Global};
 use std::marker::Brand;
 use std::sync::Wait;
@@ -25,8 +25,15 @@ use std::thread::{Threads, for_each_mut};
 /// Something that uses a store beside others, in a thread of its own with a seat of its own.
 pub trait Client {
     /// What it does, once. It has the seat that it was given until it returns: so it is behind each call that takes the
-    /// seat.
-    fn work<B: Group, R: Wait>(&mut self, rt: &R, shared: &Shared<B>, seat: &mut Seat<B>)
+    /// seat. Where it waits for an index, it asks why the builder has ended, if it has (`BuilderEnd::reason`): then the
+    /// index is not completed meanwhile.
+    fn work<B: Group, R: Wait>(
+        &mut self,
+        rt: &R,
+        shared: &Shared<B>,
+        seat: &mut Seat<B>,
+        builder: &BuilderEnd<B>,
+    )
         ensures { seat.new.number ≡ seat.old.number };
 }
 
@@ -51,8 +58,9 @@ pub struct Served<C, D> {
 /// those up to some record (`leaves`). (That a client is called, and which seats are whose, no clause says.) A
 /// transaction that a client left active is taken back when the store is opened again.
 ///
-/// The errors are those of `open_store`, and `NoMemory`. The device is given back then; a crash at any moment of
-/// the call leaves what one before could, or what gives the same (`refused`).
+/// The errors are those of `open_store`, as where there are more than 16 clients, and `NoMemory`, also where no thread
+/// can be made for what runs beside the clients: then no client is called. The device is given back then; a crash at
+/// any moment of the call leaves what one before could, or what gives the same (`refused`).
 pub fn serve<C: Client + Send + Drop, D: Device + Send + Drop, R: Threads + Wait + Sync>(
     rt: &R,
     alloc: Global,
@@ -62,10 +70,9 @@ pub fn serve<C: Client + Send + Drop, D: Device + Send + Drop, R: Threads + Wait
     ensures leaves { IfOk result (λ s. (o : Opened) × Opens (D.history device).disk.content o
         × LeavesCommits D.history o s.device s.written) }
     ensures clients { IfOk result (λ s. vec_len s.clients ≡ vec_len clients) }
-    ensures refused { IfErr result (λ r. IsNotShared D.history D.failures device r.1 r.0) }
+    ensures refused { IfErr result (λ r. IsNotShared D.history D.failures device (vec_len clients) r.1 r.0) }
 {
-    let seats = clients.len().saturating_add(1);
-    match open_store(alloc, device, seats) {
+    match open_store(alloc, device, clients.len()) {
         Ok(store) => begin::<Brand, C, D, R>(rt, alloc, store, clients),
         Err(refused) => Err(refused),
     }
@@ -83,8 +90,7 @@ fn begin<
     store: OpenStore<D>,
     clients: Vec<C>,
 ) -> Result<Served<C, D>, (OpenError, D)>
-    requires names { store.site ≡ B.site }
-    requires some { 0 < B.site.seats }
+    requires { store.site ≡ B.site }
     ensures leaves { IfOk result (λ s. LeavesCommits D.history B.site.opened s.device s.written) }
     ensures clients { IfOk result (λ s. vec_len s.clients ≡ vec_len clients) }
     ensures no_memory { IfErr result (λ r. (r.0 ≡ Refused NoMemory) × (r.1 ≡ store.device)) }
@@ -137,20 +143,19 @@ struct Room<B: Group, C> {
 
 fn room_for<B: Group, C: Drop>(alloc: Global, count: usize) -> Result<Room<B, C>, AllocError>
     ensures clients { IfOk result (λ room. HasRoom room.clients count) }
-    ensures seats { IfOk result (λ room. HasRoom room.seats (count + 1)) }
+    ensures seats { IfOk result (λ room. HasRoom room.seats count) }
 {
     let clients = Vec::with_capacity(alloc, count)?;
-    let places = count.checked_add(1).ok_or(AllocError)?;
-    let seats = Vec::with_capacity(alloc, places)?;
+    let seats = Vec::with_capacity(alloc, count)?;
     Ok(Room { clients, seats })
 }
 
-// The clients of these desks, and their seats with the last one behind them.
-fn parted<B: Group, C: Drop>(desks: Vec<Desk<B, C>>, last: Seat<B>, room: Room<B, C>) -> Room<B, C>
+// The clients of these desks, and their seats.
+fn parted<B: Group, C: Drop>(desks: Vec<Desk<B, C>>, room: Room<B, C>) -> Room<B, C>
     requires clients { HasRoom room.clients (vec_len desks) }
-    requires seats { HasRoom room.seats (vec_len desks + 1) }
+    requires seats { HasRoom room.seats (vec_len desks) }
     ensures clients { result.clients.items ≡ map (λ d. d.client) desks.items }
-    ensures seats { result.seats.items ≡ map (λ d. d.seat) desks.items ++ last ∷ [] }
+    ensures seats { result.seats.items ≡ map (λ d. d.seat) desks.items }
 {
     let Room {
         mut clients,
@@ -165,9 +170,6 @@ fn parted<B: Group, C: Drop>(desks: Vec<Desk<B, C>>, last: Seat<B>, room: Room<B
             unreachable!()
         };
     }
-    let Ok(()) = seats.push(last) else {
-        unreachable!()
-    };
     Room { clients, seats }
 }
 
@@ -176,6 +178,7 @@ fn work_all<B: Group + Send + Sync, C: Client + Send, R: Threads + Wait + Sync>(
     rt: &R,
     shared: &Shared<B>,
     mut desks: Vec<Desk<B, C>>,
+    builder: &BuilderEnd<B>,
 ) -> Vec<Desk<B, C>>
     ensures len { vec_len result ≡ vec_len desks }
     ensures seats { (k : ℕ) (d : _) → k < vec_len desks
@@ -186,18 +189,24 @@ fn work_all<B: Group + Send + Sync, C: Client + Send, R: Threads + Wait + Sync>(
         rt,
         &mut desks,
         threads,
-        &|_: usize, desk: &mut Desk<B, C>| work_at(rt, shared, desk),
+        &|_: usize, desk: &mut Desk<B, C>| work_at(rt, shared, desk, builder),
     );
     desks
 }
 
-fn work_at<B: Group, C: Client, R: Wait>(rt: &R, shared: &Shared<B>, desk: &mut Desk<B, C>)
+fn work_at<B: Group, C: Client, R: Wait>(
+    rt: &R,
+    shared: &Shared<B>,
+    desk: &mut Desk<B, C>,
+    builder: &BuilderEnd<B>,
+)
     ensures { KeepsSeat desk.old.seat desk.new.seat }
 {
-    desk.client.work(rt, shared, &mut desk.seat);
+    desk.client.work(rt, shared, &mut desk.seat, builder);
 }
 
-// Runs the clients and the three loops, each in a thread.
+// Runs the clients and the three loops, each in a thread. Where a thread is wanting, the flusher's part comes back as
+// it was.
 fn run_all<
     B: Group + Send + Sync,
     C: Client + Send + Drop,
@@ -207,28 +216,38 @@ fn run_all<
     rt: &R,
     shared: &Shared<B>,
     desks: Vec<Desk<B, C>>,
-    last: Seat<B>,
     flush: FlushPart<B, D>,
     build: BuildPart<B>,
-) -> Ended<B, D, Vec<Desk<B, C>>>
-    ensures len { vec_len result.clients ≡ vec_len desks }
-    ensures seats { (k : ℕ) (d : _) → k < vec_len desks
-        → KeepsSeat (slice_index_or desks.items k d).seat (slice_index_or result.clients.items k d).seat }
-    ensures last { result.seat.number ≡ last.number }
+    clean: CleanPart<B>,
+) -> Result<Ended<B, D, Vec<Desk<B, C>>>, FlushPart<B, D>>
+    ensures len { IfOk result (λ e. vec_len e.clients ≡ vec_len desks) }
+    ensures seats { IfOk result (λ e. (k : ℕ) (d : _) → k < vec_len desks
+        → KeepsSeat (slice_index_or desks.items k d).seat (slice_index_or e.clients.items k d).seat) }
+    ensures back { IfErr result (λ part. part ≡ flush) }
 {
-    run_beside(
+    let told = BuilderEnd::new();
+    let builder = &told;
+    let ran = run_beside(
         rt,
         shared,
-        last,
         flush,
         build,
+        clean,
+        builder,
         &NoGate,
         move || -> Vec<Desk<B, C>>
             ensures len { vec_len result ≡ vec_len desks }
             ensures seats { (k : ℕ) (d : _) → k < vec_len desks
                 → KeepsSeat (slice_index_or desks.items k d).seat (slice_index_or result.items k d).seat }
-        { work_all(rt, shared, desks) },
-    )
+        { work_all(rt, shared, desks, builder) },
+    );
+    match ran {
+        Ok(ended) => Ok(ended),
+        Err(not_run) => {
+            let NotRun { flush, .. } = not_run;
+            Err(flush)
+        }
+    }
 }
 
 // The device, once all that was made is written out, and why it isn't, if so.
@@ -236,14 +255,13 @@ fn close<B: Group, D: Device, R: Wait>(
     rt: &R,
     alloc: Global,
     shared: Shared<B>,
-    seats: Vec<Seat<B>>,
-    flush: FlushPart<B, D>,
+    parts: Parts<B, D>,
 ) -> (D, Result<(), Error>)
-    requires seats { AreAllSeats B.site.seats seats.items }
+    requires seats { AreAllSeats B.site.seats parts.seats.items }
     ensures { LeavesCommits D.history B.site.opened result.0 result.1 }
 {
-    flush.stands();
-    match finish(rt, alloc, shared, seats, flush, Vec::new(alloc)) {
+    parts.flush.stands();
+    match finish(rt, alloc, shared, parts, Vec::new(alloc)) {
         Ok(closed) => (closed.device, Ok(())),
         Err((error, device)) => (device, Err(error)),
     }
@@ -257,21 +275,28 @@ fn end<B: Group, C: Drop, D: Device, R: Wait>(
     ended: Ended<B, D, Vec<Desk<B, C>>>,
     room: Room<B, C>,
 ) -> Served<C, D>
-    requires seats { AreAllSeats B.site.seats (map (λ d. d.seat) ended.clients.items ++ ended.seat ∷ []) }
+    requires seats { AreAllSeats B.site.seats (map (λ d. d.seat) ended.clients.items) }
     requires room { HasRoom room.clients (vec_len ended.clients) }
-    requires places { HasRoom room.seats (vec_len ended.clients + 1) }
+    requires places { HasRoom room.seats (vec_len ended.clients) }
     ensures leaves { LeavesCommits D.history B.site.opened result.device result.written }
     ensures clients { vec_len result.clients ≡ vec_len ended.clients }
 {
     let Ended {
         clients: desks,
-        seat,
         flush,
+        build,
+        clean,
         built,
         ..
     } = ended;
-    let Room { clients, seats } = parted(desks, seat, room);
-    let (device, written) = close(rt, alloc, shared, seats, flush);
+    let Room { clients, seats } = parted(desks, room);
+    let parts = Parts {
+        seats,
+        flush,
+        build,
+        clean,
+    };
+    let (device, written) = close(rt, alloc, shared, parts);
     Served {
         clients,
         device,
@@ -289,7 +314,7 @@ fn seated<B: Group, C: Drop>(
     ensures seats { IfOk result (λ r. map (λ d. d.seat) r.0.items ≡ seats.items) }
     ensures clients { IfOk result (λ r. vec_len r.0 ≡ vec_len clients) }
     ensures room { IfOk result (λ r. HasRoom r.1.clients (vec_len r.0)) }
-    ensures places { IfOk result (λ r. HasRoom r.1.seats (vec_len r.0 + 1)) }
+    ensures places { IfOk result (λ r. HasRoom r.1.seats (vec_len r.0)) }
 {
     let desks = desks_of(alloc, seats, clients)?;
     let room = room_for(alloc, desks.len())?;
@@ -309,25 +334,22 @@ fn seat_all<
     parts: Parts<B, D>,
     clients: Vec<C>,
 ) -> Result<Served<C, D>, D>
-    requires seats { AreNewSeats B.site.board B.site.seats parts.seats.items }
-    requires some { 0 < B.site.seats }
+    requires { AreNewSeats B.site.board B.site.seats parts.seats.items }
     ensures leaves { IfOk result (λ s. LeavesCommits D.history B.site.opened s.device s.written) }
     ensures clients { IfOk result (λ s. vec_len s.clients ≡ vec_len clients) }
     ensures back { IfErr result (λ d. d ≡ device_of parts.flush.writer) }
 {
     let Parts {
-        mut seats,
+        seats,
         flush,
         build,
+        clean,
     } = parts;
-    let Some(last) = seats.pop() else {
-        unreachable!()
-    };
     match seated(alloc, seats, clients) {
-        Ok((desks, room)) => {
-            let ended = run_all(rt, &shared, desks, last, flush, build);
-            Ok(end(rt, alloc, shared, ended, room))
-        }
+        Ok((desks, room)) => match run_all(rt, &shared, desks, flush, build, clean) {
+            Ok(ended) => Ok(end(rt, alloc, shared, ended, room)),
+            Err(flush) => Err(flush.into_parts().0),
+        },
         Err(AllocError) => Err(flush.into_parts().0),
     }
 }

@@ -70,7 +70,13 @@
 //! }
 //!
 //! impl Client for Put {
-//!     fn work<B: Group, R: Wait>(&mut self, rt: &R, shared: &Shared<B>, seat: &mut Seat<B>) {
+//!     fn work<B: Group, R: Wait>(
+//!         &mut self,
+//!         rt: &R,
+//!         shared: &Shared<B>,
+//!         seat: &mut Seat<B>,
+//!         _builder: &BuilderEnd<B>,
+//!     ) {
 //!         self.done = self.put(rt, shared, seat);
 //!     }
 //! }
@@ -123,7 +129,9 @@ pub use clients::{Client, Served, serve};
 pub use closing::{Closed, finish};
 pub use file_disk as file;
 pub use flusher::FlushPart;
-pub use loops::{Ended, Gate, NoGate, Point, build_loop, clean_loop, flush_loop, run_beside};
+pub use loops::{
+    BuilderEnd, Ended, Gate, NoGate, NotRun, Point, build_loop, clean_loop, flush_loop, run_beside,
+};
 pub use model::Life;
 pub use moving::{NotVersionOne, old_geometry};
 pub use nsf_core::{BuildReply, CleanReply, Core, Ticket};
@@ -137,4 +145,4 @@ pub use records::{
 pub use restart::{Engine, Event, MigrateError, Reply, every_story, migrate, restart};
 pub use sector_device::{Device, Failed, Fate, FaultDisk, MemDisk, Which};
 pub use sessions::Commit;
-pub use shared::{Ack, BuildPart, Change, Group, GroupView, Seat, Shared, each_refusal};
+pub use shared::{Ack, BuildPart, Change, CleanPart, Group, GroupView, Seat, Shared, each_refusal};

@@ -1,7 +1,10 @@
 //! A store under many threads.
 ghost use Rattle.std.specs.Prelude.{◌≡◌};
 
-use nsf::{Body, Client, Error, Group, Key, MemDisk, OpenError, Seat, Shared, Ticket, Txn, serve};
+use nsf::{
+    Body, BuilderEnd, Client, Error, Group, Key, MemDisk, OpenError, Seat, Shared, Ticket, Txn,
+    serve,
+};
 use std::alloc::Global;
 use std::sync::Wait;
 use std::thread::Threads;
@@ -55,7 +58,13 @@ impl Put {
 }
 
 impl Client for Put {
-    fn work<B: Group, R: Wait>(&mut self, rt: &R, shared: &Shared<B>, seat: &mut Seat<B>) {
+    fn work<B: Group, R: Wait>(
+        &mut self,
+        rt: &R,
+        shared: &Shared<B>,
+        seat: &mut Seat<B>,
+        _builder: &BuilderEnd<B>,
+    ) {
         self.done = self.put(rt, shared, seat);
     }
 }

@@ -11,7 +11,7 @@ use Rattle.sector_device.specs.History.{History}
 use Rattle.store_writer.specs.Parts.{device_of}
 use Rattle.store_writer.specs.declared.writer.Writer.{Writer}
 use Rattle.restart.specs.Settling.{IsFresh, IsSettled}
-use Rattle.shared.specs.Openings.{IsJustOpened, opened_of}
+use Rattle.shared.specs.Openings.{IsJustOpened}
 use Rattle.opening.specs.Openings.{IsNewWriter, Opens}
 
 -- how many transactions are active was counted

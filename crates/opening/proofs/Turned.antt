@@ -1,5 +1,5 @@
 -- What a crash leaves of a store while it is opened may be opened again.
-use Rattle.std.proofs.Common.{◌≡◌, refl, sym, subst, ⊎_elim}
+use Rattle.std.proofs.Common.{refl, sym, subst, ⊎_elim}
 use Rattle.sector_device.specs.Disk.{Disk, Image, IsSynced}
 use Rattle.sector_device.specs.History.{History, LeavesOnly}
 use Rattle.sector_device.proofs.Moments.{at_end, weaker}

@@ -1,10 +1,10 @@
 -- What a store is opened with, and what its threads begin with.
 use Rattle.std.specs.FinMap.{len}
-use Rattle.std.specs.Prelude.{[], false, None, ℕ, ◌≡◌, ◌≤◌, ◌⊎◌}
+use Rattle.std.specs.Prelude.{[], false, None, ℕ, ◌≡◌, ◌≤◌, ◌<◌, ◌⊎◌}
 use Rattle.atomic_table.specs.Seated.{TableId}
 use Rattle.records.specs.GeometryValue.{GeometryValue}
 use Rattle.records.specs.declared.error.Error.{Error}
-use Rattle.records.specs.declared.error.Error.TheVariants.{NoMemory, TxnsActive}
+use Rattle.records.specs.declared.error.Error.TheVariants.{NoMemory, TooManyTxns, TxnsActive}
 use Rattle.model.specs.Given.{Given, opening_cells}
 use Rattle.core_model.specs.Histories.{CanOpen, Opened}
 use Rattle.nsf_core.specs.Loading.{IsQuiet}
@@ -51,7 +51,7 @@ StaysOpenable disk = (image : Image) → IsCrashImage disk image → IsOpenable 
 pub record IsNewFlusher {D A : Type 0} (board : TableId) (o : Opened) (f : FlushValue D A) : Type 0 where
   pub handed : f.handed ≡ []
   pub held : f.held ≡ []
-  pub published : f.published ≡ record { board = board; horizon = o.given.last; failed = false }
+  pub published : f.published ≡ record { board = board; horizon = o.given.last; failed = false; stopped = false }
   pub synced : synced_of f.writer ≡ o.given.last
   pub sound : has_failed f.writer ≡ false
   pub empty : (log_of f.writer).open_slots ≡ 0
@@ -74,10 +74,11 @@ pub record StoreValue (D : Type 0) : Type 0 where
   pub site : Names
   pub device : D
 
--- So many seats are open over what the device gave, which is sound, and was written back as a restart does it; no call
--- of the device failed.
+-- So many seats, 16 at most, are open over what the device gave, which is sound, and was written back as a restart does
+-- it; no call of the device failed.
 pub record IsOpenedOver {D : Type 0} (history : D → History) (failures : D
     → ℕ) (before : D) (count : ℕ) (s : StoreValue D) : Type 0 where
+  pub most : count ≤ 16
   pub seats : s.site.seats ≡ count
   pub opened : Opens (history before).disk.content s.site.opened
   pub sound : CanOpen s.site.opened
@@ -95,18 +96,21 @@ pub record IsUnsound {D : Type 0} (history : D → History) (failures : D → �
   pub synced : IsSynced (history after).disk
   pub quiet : failures after ≡ failures before
 
--- why no store was opened for threads
-abbrev pub IsNotShared : {D : Type 0} → (D → History) → (D → ℕ) → D → D → OpenError → Type 0
-IsNotShared history failures before after (Refused e) = IsNotOpened history failures before after e
-IsNotShared history failures before after Unsound = IsUnsound history failures before after
+-- Why no store was opened for threads, which were to have so many seats: there are more than 16, and the device is as
+-- it was; or it is as of a restart, with memory for what is behind it; or what it opens with is not sound.
+abbrev pub IsNotShared : {D : Type 0} → (D → History) → (D → ℕ) → D → (count : ℕ) → D → OpenError → Type 0
+IsNotShared history failures before count after (Refused e) = IsNotOpened history failures before after e
+    ⊎ ((e ≡ TooManyTxns) × (16 < count) × (after ≡ before))
+IsNotShared history failures before count after Unsound = IsUnsound history failures before after
 
--- So many seats are open over what the engine held, with no transaction active: the same rows and entries, the index as
--- far as it was, after the same last record. It is sound, and all of it is synced: a crash of the device leaves what
--- opens with it. A crash at any moment of the call leaves a prefix of whatever run the engine served, with every record
--- up to its horizon, and so with everything acknowledged; no call of the device failed. No sector was written but those
--- that a copy writes.
+-- So many seats, 16 at most, are open over what the engine held, with no transaction active: the same rows and entries,
+-- the index as far as it was, after the same last record. It is sound, and all of it is synced: a crash of the device
+-- leaves what opens with it. A crash at any moment of the call leaves a prefix of whatever run the engine served, with
+-- every record up to its horizon, and so with everything acknowledged; no call of the device failed. No sector was
+-- written but those that a copy writes.
 pub record IsOpenedFrom {D A : Type 0} (history : D → History) (failures : D
     → ℕ) (engine : Parts D A) (count : ℕ) (s : StoreValue D) : Type 0 where
+  pub most : count ≤ 16
   pub seats : s.site.seats ≡ count
   pub quiet : IsQuiet (core_of engine)
   pub opened : s.site.opened ≡ opened_of (core_of engine)
@@ -125,8 +129,10 @@ IsRefusedFrom history failures old new e =
     ⊎ (IsQuiet (core_of old) × CanOpen (opened_of (core_of old))
     × (((e ≡ NoMemory) × (new ≡ old)) ⊎ IsNotWritten history failures old new e))
 
--- why no engine was shared; it is given back
-abbrev pub IsNotOpenedFrom : {D A : Type 0} → (D → History) → (D → ℕ) → Parts D A → Parts D A → OpenError → Type 0
-IsNotOpenedFrom history failures old new (Refused e) = IsRefusedFrom history failures old new e
-IsNotOpenedFrom history failures old new Unsound = IsQuiet (core_of old) × (CanOpen (opened_of (core_of old)) → ⊥)
+-- why no engine was shared by so many seats; it is given back
+abbrev pub IsNotOpenedFrom : {D A : Type 0} → (D → History) → (D → ℕ) → Parts D A → (count : ℕ) → Parts D A → OpenError
+    → Type 0
+IsNotOpenedFrom history failures old count new (Refused e) = IsRefusedFrom history failures old new e
+    ⊎ ((e ≡ TooManyTxns) × (16 < count) × (new ≡ old))
+IsNotOpenedFrom history failures old count new Unsound = IsQuiet (core_of old) × (CanOpen (opened_of (core_of old)) → ⊥)
     × (new ≡ old)

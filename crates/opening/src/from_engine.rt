@@ -2,7 +2,7 @@
 ghost use Rattle.std.specs.Prelude.{◌≡◌, IfErr, IfOk};
 ghost use Rattle.opening.specs.Openings.{IsNotOpenedFrom, IsOpenedFrom};
 
-use crate::refusal::OpenError;
+use crate::refusal::{OpenError, SEATS_MAX};
 use crate::store::OpenStore;
 use records::Error;
 use restart::Engine;
@@ -14,17 +14,21 @@ use shared::{Memory, open};
 /// given up. No sector is written but those that a copy writes (`opened`). Then commits are counted anew, and a build
 /// goes on above the pair checkpointed last, as behind a restart.
 ///
-/// `TxnsActive` where a transaction is active; `Unsound` where a core may not begin with what the engine holds;
-/// `NoMemory`; and `DeviceFailed` as of a copy. With any of them the engine is given back, and its run goes on; it is
-/// as it was, but where what it holds could not be written (`refused`).
+/// `TooManyTxns` where there are to be more than 16 seats, which is as many as transactions may be active; `TxnsActive`
+/// where a transaction is active; `Unsound` where a core may not begin with what the engine holds; `NoMemory`; and
+/// `DeviceFailed` as of a copy. With any of them the engine is given back, and its run goes on; it is as it was, but
+/// where what it holds could not be written (`refused`).
 pub fn open_engine<D: Device, A: Memory>(
     alloc: A,
     engine: Engine<D, A>,
     seats: usize,
 ) -> Result<OpenStore<D, A>, (OpenError, Engine<D, A>)>
     ensures opened { IfOk result (IsOpenedFrom D.history D.failures engine seats) }
-    ensures refused { IfErr result (λ r. IsNotOpenedFrom D.history D.failures engine r.1 r.0) }
+    ensures refused { IfErr result (λ r. IsNotOpenedFrom D.history D.failures engine seats r.1 r.0) }
 {
+    if seats > SEATS_MAX {
+        return Err((OpenError::Refused(Error::TooManyTxns), engine));
+    }
     if engine.core().active_txns() > 0 {
         return Err((OpenError::Refused(Error::TxnsActive), engine));
     }

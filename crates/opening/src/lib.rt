@@ -4,17 +4,16 @@
 //! part of the thread that writes to the device, and the view of the one that builds the index.
 //!
 //! Proved: `open_store` opens a store as a restart does (`opened`), tells one that no core may begin with (`Unsound`),
-//! or refuses (`refused`). `open_engine` shares an engine that served: the store opens with what the engine holds, and
-//! no record up to its horizon is lost (`opened`); or the engine is given back (`refused`). What threads, or a crash
-//! within the opening, leave may be opened again (the laws `left_by_threads`, `left_by_an_opening`). `OpenStore::start`
-//! hands out new seats and a flusher's part with nothing popped (`seats`, `flush`). Neither: that `open_engine` doesn't
-//! read the device, and writes each sector once at most.
+//! or refuses (`refused`). It has 16 seats at most. `open_engine` shares an engine that served: the store opens with
+//! what the engine holds, and no record up to its horizon is lost (`opened`); or the engine is given back (`refused`).
+//! What threads, or a crash within the opening, leave may be opened again (the laws `left_by_threads`,
+//! `left_by_an_opening`). `OpenStore::start` hands out new seats and a flusher's part with nothing popped (`seats`,
+//! `flush`). Neither: that `open_engine` doesn't read the device, and writes each sector once at most.
 #![tactic(auto)]
 
 mod from_engine;
 mod openable;
 mod opening;
-mod parts;
 mod refusal;
 mod store;
 
@@ -23,6 +22,6 @@ pub use openable::{
     format_store, left_by_a_run, left_by_an_opening, left_by_threads, sound_or_not,
 };
 pub use opening::open_store;
-pub use parts::Parts;
 pub use refusal::OpenError;
+pub use shared::Parts;
 pub use store::OpenStore;

@@ -12,3 +12,6 @@ pub enum OpenError {
     #[error("Unsound")]
     Unsound,
 }
+
+/// No more seats than this share a store: as many as transactions may be active.
+pub(crate) const SEATS_MAX: usize = 16;

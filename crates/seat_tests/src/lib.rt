@@ -4,6 +4,8 @@
 #![tactic(auto)]
 
 #[cfg(test)]
+mod looks;
+#[cfg(test)]
 mod play;
 #[cfg(test)]
 mod refusal_tests;

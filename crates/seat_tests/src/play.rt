@@ -3,18 +3,26 @@ ghost use Rattle.std.specs.Prelude.{◌≡◌};
 ghost use Rattle.closing.specs.Gathered.{AreAllSeats};
 ghost use Rattle.shared.specs.Seats.{AreNewSeats};
 
+use crate::looks::look_all;
 use crate::requests::{Answer, Last, Request, ask_again};
-use closing::{Closed, finish};
 use flusher::FlushPart;
-use opening::{OpenError, OpenStore, Parts, open_store};
+use opening::OpenStore;
 use records::Error;
 use refused_memory::Refusing;
+use seats_for_tests::{Parts, open, start, take_back};
 use sector_device::Device;
 use shared::{Group, Memory, Seat, Shared};
 use std::alloc::Global;
 use std::marker::Brand;
-use std::mem::forget;
 use std::sync::Wait;
+
+/// What a seat does: it makes requests, and gives the answers beside them; or it looks where the queue had refused a
+/// record.
+#[derive(Clone, Copy)]
+pub(crate) enum Turn<'a> {
+    Asks(&'a [(Request, Answer)]),
+    Looks,
+}
 
 /// The first of the seat's answers that wasn't right, if there was one; whether all was written out; and the device
 /// that is left.
@@ -46,44 +54,49 @@ fn answer_all<B: Group, A: Memory, R: Wait>(
 }
 
 // Whether all was written out, and the device, once the seat is taken back, or once that was refused for want of
-// memory. A want where no allocation was refused is told as another refusal. What else is left is not let go: to prove
-// its destructors here would cost more than the test.
+// memory. A want where no allocation was refused is told as another refusal.
 fn close<B: Group, D: Device, A: Memory, R: Wait>(
     rt: &R,
     alloc: A,
     shared: Shared<B, A>,
-    seats: Vec<Seat<B, A>, A>,
-    flush: FlushPart<B, D, A>,
+    parts: Parts<B, D, A>,
     memory: &Refusing<Global>,
 ) -> Result<(bool, D), (Error, D)>
-    requires seats { AreAllSeats B.site.seats seats.items }
+    requires { AreAllSeats B.site.seats parts.seats.items }
 {
     let refused = memory.refused();
-    match finish(rt, alloc, shared, seats, flush, Vec::new(alloc)) {
-        Ok(
-            Closed {
-                device,
-                core,
-                commits,
-                horizon: _,
-            },
-        ) => {
-            forget(core);
-            forget(commits);
-            Ok((true, device))
-        }
-        Err((Error::NoMemory, device)) if memory.refused() != refused => Ok((false, device)),
-        Err((_, device)) => Err((Error::Stopped, device)),
+    match take_back(rt, alloc, shared, parts) {
+        (device, None) => Ok((true, device)),
+        (device, Some(Error::NoMemory)) if memory.refused() != refused => Ok((false, device)),
+        (device, Some(_)) => Err((Error::Stopped, device)),
     }
 }
 
-// What the first of new seats answers.
-fn ask_first<B: Group, A: Memory, R: Wait>(
+// What a seat does, up to an answer that isn't right.
+fn take_turn<B: Group, D: Device, A: Memory, R: Wait>(
+    rt: &R,
+    shared: &Shared<B, A>,
+    seat: &mut Seat<B, A>,
+    flush: &mut FlushPart<B, D, A>,
+    memory: &Refusing<Global>,
+    turn: Turn<'_>,
+) -> Option<Answer>
+    ensures { seat.new.number ≡ seat.old.number }
+{
+    match turn {
+        Turn::Asks(steps) => answer_all(rt, shared, seat, memory, steps),
+        Turn::Looks => look_all(rt, shared, seat, flush, memory),
+    }
+}
+
+// What the first of new seats does.
+fn begin_first<B: Group, D: Device, A: Memory, R: Wait>(
     rt: &R,
     shared: &Shared<B, A>,
     seats: &mut Vec<Seat<B, A>, A>,
+    flush: &mut FlushPart<B, D, A>,
     memory: &Refusing<Global>,
-    steps: &[(Request, Answer)],
+    turn: Turn<'_>,
 ) -> Option<Answer>
     requires { AreNewSeats B.site.board B.site.seats seats.old.items }
     ensures { AreAllSeats B.site.seats seats.new.items }
@@ -91,27 +104,29 @@ fn ask_first<B: Group, A: Memory, R: Wait>(
     if seats.is_empty() {
         return None;
     }
-    answer_all(rt, shared, &mut seats[0], memory, steps)
+    take_turn(rt, shared, &mut seats[0], flush, memory, turn)
 }
 
-// What the first of the seats answers, and the device once all is taken back.
+// What the first of the seats does, and the device once all is taken back.
 fn play_with<B: Group, D: Device, A: Memory, R: Wait>(
     rt: &R,
     alloc: A,
     shared: Shared<B, A>,
-    parts: Parts<B, D, A>,
+    mut parts: Parts<B, D, A>,
     memory: &Refusing<Global>,
-    steps: &[(Request, Answer)],
+    turn: Turn<'_>,
 ) -> Result<Played<D>, (Error, D)>
     requires seats { AreNewSeats B.site.board B.site.seats parts.seats.items }
 {
-    let Parts {
-        mut seats,
-        flush,
-        build: _,
-    } = parts;
-    let wrong = ask_first(rt, &shared, &mut seats, memory, steps);
-    match close(rt, alloc, shared, seats, flush, memory) {
+    let wrong = begin_first(
+        rt,
+        &shared,
+        &mut parts.seats,
+        &mut parts.flush,
+        memory,
+        turn,
+    );
+    match close(rt, alloc, shared, parts, memory) {
         Ok((finished, device)) => Ok(Played {
             wrong,
             finished,
@@ -127,12 +142,12 @@ fn play_in<B: Group, D: Device, A: Memory, R: Wait>(
     alloc: A,
     store: OpenStore<D, A>,
     memory: &Refusing<Global>,
-    steps: &[(Request, Answer)],
+    turn: Turn<'_>,
 ) -> Result<Played<D>, (Error, D)>
     requires names { store.site ≡ B.site }
 {
-    match store.start::<B>() {
-        Ok((shared, parts)) => play_with(rt, alloc, shared, parts, memory, steps),
+    match start::<B, D, A>(store) {
+        Ok((shared, parts)) => play_with(rt, alloc, shared, parts, memory, turn),
         Err(refused) => Err(refused),
     }
 }
@@ -143,28 +158,27 @@ fn play_on<D: Device, A: Memory, R: Wait>(
     alloc: A,
     device: D,
     memory: &Refusing<Global>,
-    steps: &[(Request, Answer)],
+    turn: Turn<'_>,
 ) -> Result<Played<D>, (Error, D)> {
-    match open_store(alloc, device, 1) {
-        Ok(store) => play_in::<Brand, D, A, R>(rt, alloc, store, memory, steps),
-        Err((OpenError::Refused(error), device)) => Err((error, device)),
-        Err((OpenError::Unsound, device)) => Err((Error::Stopped, device)),
+    match open(alloc, device, 1) {
+        Ok(store) => play_in::<Brand, D, A, R>(rt, alloc, store, memory, turn),
+        Err(refused) => Err(refused),
     }
 }
 
-/// Whether a seat gives these answers, and the device once it is taken back. What wants memory is asked once more,
+/// Whether a seat does all as it is to, and the device once it is taken back. What wants memory is asked once more,
 /// where an allocation was refused.
 pub(crate) fn play<D: Device + Drop, A: Memory, R: Wait>(
     rt: &R,
     alloc: A,
     device: D,
     memory: &Refusing<Global>,
-    steps: &[(Request, Answer)],
+    turn: Turn<'_>,
 ) -> Result<Played<D>, Error> {
     let refused = memory.refused();
-    let played = match play_on(rt, alloc, device, memory, steps) {
+    let played = match play_on(rt, alloc, device, memory, turn) {
         Err((Error::NoMemory, device)) if memory.refused() != refused => {
-            play_on(rt, alloc, device, memory, steps)
+            play_on(rt, alloc, device, memory, turn)
         }
         played => played,
     };

@@ -1,6 +1,6 @@
 // Memory is refused to a store and its seat, each allocation in turn. What was refused is asked once more, and all else
 // is as where nothing is refused: each answer, and what a restart finds behind the end.
-use crate::play::play;
+use crate::play::{Turn, play};
 use crate::requests::{Answer, Request};
 use model::Life;
 use nsf_core::Core;
@@ -112,9 +112,9 @@ fn left_on(alloc: Global, mut disk: MemDisk<Global>) -> Result<(Rows, bool), Err
         Ok(engine) => {
             let core = engine.core();
             let rows = [core.get(FIRST), core.get(SECOND), core.get(THIRD)];
-            let indexed = is_indexed(core)?;
+            let indexed = is_indexed(core);
             drop(engine.into_device());
-            Ok((rows, indexed))
+            Ok((rows, indexed?))
         }
         Err((error, _)) => Err(error),
     }
@@ -133,7 +133,7 @@ fn is_right(rows: Rows, indexed: bool, finished: bool) -> Result<bool, Error> {
 // Whether all is as it should be where this allocation is refused, and how many were.
 fn play_short<R: Wait>(rt: &R, alloc: Global, before: u64) -> Result<(bool, u64), Error> {
     let memory = Refusing::new(alloc, before);
-    let played = play(rt, &memory, formatted(alloc)?, &memory, &STEPS)?;
+    let played = play(rt, &memory, formatted(alloc)?, &memory, Turn::Asks(&STEPS))?;
     let (rows, indexed) = left_on(alloc, played.device)?;
     let right = played.wrong.is_none() && is_right(rows, indexed, played.finished)?;
     Ok((right, memory.refused()))
@@ -150,4 +150,16 @@ fn each_allocation_is_refused_to_a_seat(rt: HostRuntime) -> Result<(), Fail> {
         }
     }
     Err("fewer allocations")?
+}
+
+// Behind a record that the queue refused, `get`, `find` and `life` push it, each in its turn, once memory is back.
+#[test]
+fn a_look_up_pushes_what_was_refused(rt: HostRuntime) -> Result<(), Fail> {
+    let memory = Refusing::new(rt.alloc(), u64::MAX);
+    let disk = formatted(rt.alloc())?;
+    let played = play(&rt, &memory, disk, &memory, Turn::Looks)?;
+    assert!(&rt; played.wrong.is_none());
+    assert!(&rt; played.finished);
+    assert!(&rt; memory.refused() > 2);
+    Ok(())
 }

@@ -4,6 +4,9 @@ ghost use Rattle.std.specs.Prelude.{◌≡◌};
 use nsf_core::Ticket;
 use records::{Body, Error, Key, Rid, Txn};
 use refused_memory::Refusing;
+use seats_for_tests::{
+    abort, begin, carry_on, commit, create_index, delete, drop_index, insert, update,
+};
 use shared::{Change, Group, Memory, Seat, Shared};
 use std::alloc::Global;
 use std::sync::Wait;
@@ -22,7 +25,8 @@ pub(crate) enum Request {
 }
 
 /// What a seat answers: the number of a record and that of a commit, the number of a transaction, or the place of a
-/// row. A want of memory where no allocation was refused is an answer of its own, which is never right.
+/// row. A want of memory where no allocation was refused is an answer of its own, which is never right; and so is that
+/// a record still waits for the queue.
 #[derive(Clone, Copy, PartialEq)]
 pub(crate) enum Answer {
     Written(u64, Option<u64>),
@@ -31,6 +35,7 @@ pub(crate) enum Answer {
     Ended,
     Refused(Error),
     WantsNothing,
+    Waits,
 }
 
 /// The transaction that began last, and the place of the row that was inserted last.
@@ -84,7 +89,7 @@ fn carried<B: Group, A: Memory, R: Wait>(
             if memory.refused() == refused {
                 return Ok(Answer::WantsNothing);
             }
-            shared.carry_on(rt, seat, txn)?;
+            carry_on(rt, shared, seat, txn)?;
             Ok(Answer::Changed(change.rid))
         }
         Some(error) => Err(error),
@@ -105,14 +110,22 @@ fn make_change<B: Group, A: Memory, R: Wait>(
     let body = Body::new(b"body")?;
     match request {
         Request::Insert(key) => {
-            let change = shared.insert_if_ready(rt, seat, txn, Key::new(key)?, body)?;
+            let change = insert(rt, shared, seat, txn, Key::new(key)?, body)?;
             last.rid = Some(change.rid);
             Ok(change)
         }
         Request::Update(key) => {
-            shared.update_if_ready(rt, seat, txn, last.inserted()?, Key::new(key)?, body)
+            update(
+                rt,
+                shared,
+                seat,
+                txn,
+                last.inserted()?,
+                Key::new(key)?,
+                body,
+            )
         }
-        _ => shared.delete_if_ready(rt, seat, txn, last.inserted()?),
+        _ => delete(rt, shared, seat, txn, last.inserted()?),
     }
 }
 
@@ -129,18 +142,18 @@ fn ask<B: Group, A: Memory, R: Wait>(
 {
     let refused = memory.refused();
     match request {
-        Request::Create => Ok(written(shared.create_index(rt, seat)?)),
-        Request::Drop => Ok(written(shared.drop_index(rt, seat)?)),
+        Request::Create => Ok(written(create_index(rt, shared, seat)?)),
+        Request::Drop => Ok(written(drop_index(rt, shared, seat)?)),
         Request::Begin => {
-            let txn = shared.begin(rt, seat)?;
+            let txn = begin(rt, shared, seat)?;
             last.txn = Some(txn);
             Ok(Answer::Begun(txn.number()))
         }
         Request::Abort => {
-            shared.abort(rt, seat, last.begun()?)?;
+            abort(rt, shared, seat, last.begun()?)?;
             Ok(Answer::Ended)
         }
-        Request::Commit => Ok(written(shared.commit_if_ready(rt, seat, last.begun()?)?)),
+        Request::Commit => Ok(written(commit(rt, shared, seat, last.begun()?)?)),
         _ => {
             let change = make_change(rt, shared, seat, last, request)?;
             carried(rt, shared, seat, memory, refused, last.begun()?, change)

@@ -19,7 +19,7 @@ use Rattle.sessions.specs.Steps.{changed, stepped}
 use Rattle.sessions.specs.Values.{active_of, ActiveValue, has_unfinished, is_active, is_ready, is_unfinished, SessionValue}
 use Rattle.register.specs.Reading.{ReadsBack}
 use Rattle.shared.specs.Changed.{HasChanged, IsUnderWay, row_of, unfinished_of}
-use Rattle.shared.specs.Served.{WasChanged, WasServedTo}
+use Rattle.shared.specs.Served.{WasChanged}
 use Rattle.shared.proofs.Advances.{deleted, followed, inserted, updated}
 use Rattle.shared.proofs.Lookups.{unfinished_is_some}
 use Rattle.shared.proofs.Single.{rows_single, under_way_single}

@@ -1,5 +1,5 @@
 -- A seat of which a call changed the session alone, or what it has seen.
-use Rattle.std.proofs.Common.{◌≡◌, Err, IfOk, Ok, OnErr, Result, ℕ, refl, ap, ◌∙◌, subst, sym}
+use Rattle.std.proofs.Common.{◌≡◌, Err, IfOk, Ok, OnErr, Result, refl, ◌∙◌, subst, sym}
 use Rattle.records.specs.declared.error.Error.{Error}
 use Rattle.board.specs.Views.{Sighting}
 use Rattle.locked_core.specs.Seats as part

@@ -1,5 +1,5 @@
 -- What contracts see of a seat, of an acknowledgement, and of the builder's part.
-use Rattle.std.specs.Prelude.{[], List, slice_get, Some, length, ℕ, ◌≡◌}
+use Rattle.std.specs.Prelude.{[], Bool, List, slice_get, Some, length, ℕ, ◌≡◌}
 use Rattle.atomic_table.specs.Seated.{TableId}
 use Rattle.board.specs.Views.{nothing_seen, Sighting}
 use Rattle.nsf_core.specs.declared.parts.Ticket.{Ticket}
@@ -16,9 +16,10 @@ pub record AckValue : Type 0 where
   pub ticket : Ticket
   pub sight : Sighting
 
--- the builder's part: how many attempts it has published
+-- the builder's part: how many attempts it has published, and whether it found the stop flag set
 pub record BuildValue : Type 0 where
   pub progress : ℕ
+  pub stopped : Bool
 
 -- the view of a board, whatever its name, has seen nothing
 abbrev pub HasSeenNothing : TableId → Sighting → Type 0

@@ -1,5 +1,5 @@
 //! The builder's part.
-ghost use Rattle.std.specs.Prelude.{◌≡◌, ◌≤◌, max};
+ghost use Rattle.std.specs.Prelude.{◌≡◌, ◌≤◌, IsTrue, max};
 
 use crate::shared::Shared;
 use crate::views::GroupView;
@@ -7,8 +7,8 @@ use board::BuildView;
 use locked_core::{Group, Memory};
 use std::marker::{Model, PhantomData};
 
-/// What the builder publishes with on the group's board: how many attempts it has made. To a contract it is a
-/// `BuildValue`.
+/// What the builder publishes with on the group's board: how many attempts it has made. With it the builder takes the
+/// lock, and looks whether it is to stop. To a contract it is a `BuildValue`.
 #[derive(Drop)]
 pub struct BuildPart<B: Group> {
     pub(crate) view: BuildView,
@@ -21,7 +21,7 @@ impl<B: Group> Model for BuildPart<B> {
 
     ghost Value = { BuildValue };
 
-    ghost view = { λ p. record { progress = p.view.progress } };
+    ghost view = { λ p. record { progress = p.view.progress; stopped = p.view.stopped } };
 
     ghost invariant = { λ p. p.view.board ≡ B.site.board };
 }
@@ -29,9 +29,17 @@ impl<B: Group> Model for BuildPart<B> {
 impl<B: Group> BuildPart<B> {
     /// Raises the count of attempts that is published. A number that is not above it changes nothing.
     pub fn raise_progress<A: Memory>(&mut self, shared: &Shared<B, A>, progress: u64)
-        ensures { self.new ≡ record { progress = max self.old.progress progress } }
+        ensures { self.new ≡ record self.old { progress = max self.old.progress progress } }
     {
         shared.board.raise_progress(&mut self.view, progress);
+    }
+
+    /// Whether all threads are asked to stop. It stays true once this part has seen it. (Who asked, no clause says.)
+    pub fn stopped<A: Memory>(&mut self, shared: &Shared<B, A>) -> bool
+        ensures seen { self.new ≡ record self.old { stopped = result } }
+        ensures stays { IsTrue self.old.stopped → IsTrue result }
+    {
+        shared.board.stopped_builder(&mut self.view)
     }
 
     /// Compares what a view has seen with what was published: no count of attempts that it has seen is above the

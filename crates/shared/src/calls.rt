@@ -1,4 +1,5 @@
-//! The calls of a seat that make one step of the core, or read it. Each pushes first what the queue had refused.
+//! The calls of a seat that make one step of the core, or read it. Each pushes first what the queue had refused; the
+//! queue may refuse it again, so no clause says so.
 ghost use Rattle.std.specs.Prelude.{◌≡◌, Err, IfOk, OnErr, Option, Some, false, true, ℕ};
 ghost use Rattle.records.specs.declared.error.Error.TheVariants.{NoSuchTxn};
 ghost use Rattle.records.specs.declared.row.Row.{Row as RowValue};
@@ -100,6 +101,8 @@ impl<B: Group, A: Memory> Shared<B, A> {
 
     /// The row at the place, also before its transaction's commit, as a core has it that may lie under the lock. If a
     /// transaction of the seat holds the place, that is the row which the seat's session has for it.
+    ///
+    /// What the queue had refused is pushed first (no clause says so).
     pub fn get<R: Wait>(&self, rt: &R, seat: &mut Seat<B, A>, rid: Rid) -> Option<Row>
         ensures served { ∥ WasServedTo B.site.opened seat.old.number seat.old.session (Event.Get rid)
             (Reply.RowIs result) ∥₁ }
@@ -115,7 +118,7 @@ impl<B: Group, A: Memory> Shared<B, A> {
 
     /// The places of the rows with this key, by the index, as a core has it that may lie under the lock.
     ///
-    /// The refusals are those of the core's `find`.
+    /// The refusals are those of the core's `find`. What the queue had refused is pushed first (no clause says so).
     pub fn find<R: Wait>(&self, rt: &R, key: Key) -> Result<Vec<Rid, A>, Error>
         ensures { ∥ WasServed B.site.opened (Event.Find key) (reply_by (λ rids. Reply.Found rids.items) result) ∥₁ }
     {
@@ -124,7 +127,8 @@ impl<B: Group, A: Memory> Shared<B, A> {
         locked.find(key)
     }
 
-    /// How far the index is, in a core that may lie under the lock.
+    /// How far the index is, in a core that may lie under the lock. What the queue had refused is pushed first (no
+    /// clause says so).
     pub fn life<R: Wait>(&self, rt: &R) -> Life
         ensures { ∥ WasServed B.site.opened Event.Life (Reply.LifeIs result) ∥₁ }
     {

@@ -3,7 +3,7 @@
 //! Each call of a seat makes its steps of the core one at a time, each under the lock anew, and hands the records that
 //! they make to the queue of the flusher. What a seat knows of its own transactions is in its session, which the calls
 //! keep in step with the core. A seat learns from the board, without the lock, which of the records are safe on the
-//! device.
+//! device. Nobody holds the lock but within a call: a seat here, and flusher, builder and cleaner by their parts.
 //!
 //! Proved: what an `Ok` makes of the seat's session (`ok`, `changed`). Each reply is one that some core which may lie
 //! under the lock gives (`served`). `get` of a place that the seat holds answers its own row (`own`). An
@@ -17,8 +17,10 @@ mod acks;
 mod builder;
 mod calls;
 mod changes;
+mod cleaner;
 mod laws;
 mod opening;
+mod parts;
 mod seat;
 mod shared;
 mod taken_back;
@@ -27,9 +29,11 @@ mod views;
 
 pub use builder::BuildPart;
 pub use changes::Change;
+pub use cleaner::CleanPart;
 pub use laws::each_refusal;
 pub use locked_core::{Group, Memory};
-pub use opening::{Opening, Parts, open};
+pub use opening::{FirstParts, Opening, open};
+pub use parts::Parts;
 pub use seat::{Ack, Seat};
 pub use shared::Shared;
 pub use views::GroupView;

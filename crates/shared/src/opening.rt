@@ -1,13 +1,13 @@
 //! What the threads share, made before it has its names.
 ghost use Rattle.std.specs.Prelude.{◌≡◌, [], false, length, IfErr, IfOk};
-ghost use Rattle.board.specs.Views.{nothing_seen};
 ghost use Rattle.nsf_core.specs.Value.{value_of};
 ghost use Rattle.records.specs.declared.error.Error.TheVariants.{NoMemory};
 ghost use Rattle.session_halves.specs.Halves.{IsNew};
 ghost use Rattle.shared.specs.Openings.{IsJustOpened, IsOpening, names_of};
-ghost use Rattle.shared.specs.Seats.{AreNewSeats};
+ghost use Rattle.shared.specs.Seats.{AreNewSeats, HasSeenNothing};
 
 use crate::builder::BuildPart;
+use crate::cleaner::CleanPart;
 use crate::seat::Seat;
 use crate::shared::Shared;
 use board::{Board, BuildView, FlushView, View};
@@ -38,12 +38,14 @@ pub struct Opening<A: Memory = Global> {
     pub(crate) view: View,
 }
 
-/// What the threads are given: the seats, what the flusher's part is made of, and the builder's part.
+/// What the threads are given before the flusher has its part: the seats, what that part is made of, and the parts of
+/// the builder and the cleaner.
 #[derive(Drop)]
-pub struct Parts<B: Group, A: Memory = Global> {
+pub struct FirstParts<B: Group, A: Memory = Global> {
     pub seats: Vec<Seat<B, A>, A>,
     pub ends: FlushEnds<A>,
     pub build: BuildPart<B>,
+    pub clean: CleanPart<B>,
 }
 
 /// Makes what so many threads with a seat each share.
@@ -77,15 +79,16 @@ impl<A: Memory> Opening<A> {
     /// What the threads share, and their parts.
     ///
     /// The one error is `NoMemory`.
-    pub fn start<B: Group>(self) -> Result<(Shared<B, A>, Parts<B, A>), Error>
+    pub fn start<B: Group>(self) -> Result<(Shared<B, A>, FirstParts<B, A>), Error>
         requires names { names_of self ≡ B.site }
         requires made { IsOpening B.site.seats self }
         requires opened { IsJustOpened (value_of self.core) }
         ensures seats { IfOk result (λ r. AreNewSeats B.site.board B.site.seats r.1.seats.items) }
         ensures popper { IfOk result (λ r. r.1.ends.popper ≡ record { queue = B.site.queue; records = [] }) }
         ensures flush { IfOk result (λ r. r.1.ends.published
-            ≡ record { board = B.site.board; horizon = 0; failed = false }) }
-        ensures build { IfOk result (λ r. r.1.build ≡ record { progress = 0 }) }
+            ≡ record { board = B.site.board; horizon = 0; failed = false; stopped = false }) }
+        ensures build { IfOk result (λ r. r.1.build ≡ record { progress = 0; stopped = false }) }
+        ensures clean { IfOk result (λ r. HasSeenNothing B.site.board r.1.clean) }
         ensures no_memory { IfErr result (λ e. e ≡ NoMemory) }
     {
         let Opening {
@@ -100,8 +103,9 @@ impl<A: Memory> Opening<A> {
             board,
             flush,
             build,
-            view,
+            mut view,
         } = self;
+        let clean_view = board.another(&mut view);
         let seats = seats_of::<B, A>(alloc, &board, view, halves)?;
         let locked = Locked::<B, A>::new(core, pusher, book);
         let shared = Shared {
@@ -111,11 +115,15 @@ impl<A: Memory> Opening<A> {
             board,
             site: PhantomData,
         };
-        let parts = Parts {
+        let parts = FirstParts {
             seats,
             ends: FlushEnds::new(popper, flush),
             build: BuildPart {
                 view: build,
+                site: PhantomData,
+            },
+            clean: CleanPart {
+                view: clean_view,
                 site: PhantomData,
             },
         };
@@ -131,7 +139,7 @@ fn seats_of<B: Group, A: Memory>(
     halves: Vec<Half<A>, A>,
 ) -> Result<Vec<Seat<B, A>, A>, Error>
     requires board { board.now ≡ B.site.board }
-    requires view { view ≡ nothing_seen B.site.board }
+    requires view { HasSeenNothing B.site.board view }
     requires counted { length halves.items ≡ B.site.seats }
     requires halves { IsNew B.site.table halves.items }
     ensures seats { IfOk result (λ v. AreNewSeats B.site.board B.site.seats v.items) }

@@ -2,8 +2,12 @@
 ghost use Rattle.std.specs.Prelude.{◌≡◌};
 ghost use Rattle.tail.specs.Ends.{name_prop};
 
+use crate::builder::BuildPart;
+use crate::cleaner::CleanPart;
 use board::Board;
+use flusher::FlushPart;
 use locked_core::{Group, Locked, Memory};
+use sector_device::Device;
 use session_halves::Registry;
 use std::alloc::Global;
 use std::marker::PhantomData;
@@ -54,8 +58,35 @@ impl<B: Group, A: Memory> Shared<B, A> {
         self.board.waits().set_pause_every(attempts);
     }
 
-    /// Takes the lock for a seat or for the flusher, before the builder and the cleaner.
-    pub fn hold<R: Wait>(&self, rt: &R) -> MutexGuard<'_, Locked<B, A>> {
+    /// Takes the lock for the flusher, as its part shows, before the builder and the cleaner.
+    pub fn hold_to_flush<D: Device, R: Wait>(
+        &self,
+        rt: &R,
+        _part: &FlushPart<B, D, A>,
+    ) -> MutexGuard<'_, Locked<B, A>> {
+        self.hold(rt)
+    }
+
+    /// Takes the lock for the builder, as its part shows. For a short while seats and the flusher go first.
+    pub fn hold_to_build<R: Wait>(
+        &self,
+        rt: &R,
+        _part: &BuildPart<B>,
+    ) -> MutexGuard<'_, Locked<B, A>> {
+        self.hold_last(rt)
+    }
+
+    /// Takes the lock for the cleaner, as its part shows. For a short while seats and the flusher go first.
+    pub fn hold_to_clean<R: Wait>(
+        &self,
+        rt: &R,
+        _part: &CleanPart<B>,
+    ) -> MutexGuard<'_, Locked<B, A>> {
+        self.hold_last(rt)
+    }
+
+    // Takes the lock for a seat or for the flusher, before the builder and the cleaner.
+    pub(crate) fn hold<R: Wait>(&self, rt: &R) -> MutexGuard<'_, Locked<B, A>> {
         let waits = self.board.waits();
         waits.wants_lock();
         let guard = self.seize(rt);
@@ -63,8 +94,8 @@ impl<B: Group, A: Memory> Shared<B, A> {
         guard
     }
 
-    /// Takes the lock for the builder or the cleaner: for a short while seats and the flusher go first.
-    pub fn hold_last<R: Wait>(&self, rt: &R) -> MutexGuard<'_, Locked<B, A>> {
+    // Takes the lock for the builder or the cleaner: for a short while seats and the flusher go first.
+    fn hold_last<R: Wait>(&self, rt: &R) -> MutexGuard<'_, Locked<B, A>> {
         let waits = self.board.waits();
         for _ in 0..LOOKS_BEHIND_OTHERS {
             if !waits.is_lock_wanted() {

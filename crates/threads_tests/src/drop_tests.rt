@@ -2,23 +2,25 @@
 //! that it may ask all to stop.
 ghost use Rattle.std.specs.Prelude.{◌≡◌};
 
-use crate::example::formatted;
+use crate::found::formatted;
 use demonstration::set_up;
 use flusher::FlushPart;
-use loops::{Gate, Point, build_loop};
-use nsf_core::Ticket;
-use opening::{OpenError, OpenStore, Parts, open_store};
+use loops::{Gate, Point};
+use opening::OpenStore;
 use records::{Error, Geometry};
+use runs_for_tests::build;
+use seats_for_tests::{drop_index, open, start};
 use sector_device::{Device, MemDisk};
 use shared::{BuildPart, Group, GroupView, Seat, Shared};
 use std::alloc::Global;
 use std::cell::Cell;
 use std::marker::Brand;
+use std::mem::forget;
 use std::sync::Wait;
 use std::test::Fail;
 
 // How the builder ended, whether the index was dropped, and what was seen of the board behind that.
-type Ended = (Result<Ticket, Error>, bool, Seen);
+type Ended = (Result<(), Error>, bool, Seen);
 
 // The horizon, whether the device failed, and whether all are asked to stop.
 type Seen = (u64, bool, bool);
@@ -38,7 +40,7 @@ impl<B: Group, R: Wait> Gate for DropsIndex<'_, B, R> {
             return;
         }
         if let Some(mut seat) = self.seat.replace(None) {
-            let dropped = self.shared.drop_index(self.rt, &mut seat);
+            let dropped = drop_index(self.rt, self.shared, &mut seat);
             self.dropped.set(dropped.is_ok());
         }
     }
@@ -61,13 +63,14 @@ fn stop_and_look<B: Group, D: Device>(
     )
 }
 
-// Creates an index over a hundred rows, and builds it.
-fn build<B: Group, D: Device + Drop, R: Wait>(
+// Creates an index over a hundred rows, and builds it. What is left of the gate is not let go: to prove its destructor
+// here would cost more than the test.
+fn build_held<B: Group, D: Device, R: Wait>(
     rt: &R,
     shared: &Shared<B>,
     mut seat: Seat<B>,
-    mut flush: FlushPart<B, D>,
-    mut build: BuildPart<B>,
+    flush: &mut FlushPart<B, D>,
+    part: &mut BuildPart<B>,
 ) -> Result<Ended, Error> {
     set_up(rt, shared, &mut seat)?;
     let mut view = shared.another_view(&mut seat);
@@ -77,42 +80,37 @@ fn build<B: Group, D: Device + Drop, R: Wait>(
         seat: Cell::new(Some(seat)),
         dropped: Cell::new(false),
     };
-    let built = build_loop(rt, shared, &mut build, &mut view, &gate);
-    let seen = stop_and_look(shared, &mut flush, &mut build, &mut view);
-    Ok((built, gate.dropped.get(), seen))
+    let built = build(rt, shared, part, &gate);
+    let dropped = gate.dropped.get();
+    forget(gate);
+    let seen = stop_and_look(shared, flush, part, &mut view);
+    Ok((built, dropped, seen))
 }
 
-fn build_with<B: Group, D: Device + Drop, R: Wait>(
-    rt: &R,
-    shared: &Shared<B>,
-    parts: Parts<B, D>,
-) -> Result<Ended, Error> {
-    let Parts {
-        mut seats,
-        flush,
-        build: view,
-    } = parts;
-    match seats.pop() {
-        Some(seat) => build(rt, shared, seat, flush, view),
-        None => Err(Error::NoMemory),
-    }
-}
-
+// Builds it in the store. What the threads share is not let go either.
 fn build_in<B: Group, D: Device + Drop, R: Wait>(
     rt: &R,
     store: OpenStore<D>,
 ) -> Result<Ended, Error>
     requires names { store.site ≡ B.site }
 {
-    match store.start::<B>() {
-        Ok((shared, parts)) => build_with(rt, &shared, parts),
+    match start::<B, D, Global>(store) {
+        Ok((shared, mut parts)) => {
+            let ended = match parts.seats.pop() {
+                Some(seat) => build_held(rt, &shared, seat, &mut parts.flush, &mut parts.build),
+                None => Err(Error::NoMemory),
+            };
+            forget(parts);
+            forget(shared);
+            ended
+        }
         Err((error, _)) => Err(error),
     }
 }
 
-fn build_on<R: Wait>(rt: &R, alloc: Global, disk: MemDisk<Global>) -> Result<Ended, OpenError> {
-    match open_store(alloc, disk, 1) {
-        Ok(store) => Ok(build_in::<Brand, MemDisk<Global>, R>(rt, store)?),
+fn build_on<R: Wait>(rt: &R, alloc: Global, disk: MemDisk<Global>) -> Result<Ended, Error> {
+    match open(alloc, disk, 1) {
+        Ok(store) => build_in::<Brand, MemDisk<Global>, R>(rt, store),
         Err((error, _)) => Err(error),
     }
 }

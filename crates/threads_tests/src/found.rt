@@ -1,28 +1,58 @@
 //! What is found behind a crash.
-use crate::example::formatted;
 use crate::seats::{Put, Told};
 use demonstration::key_of;
 use nsf_core::Core;
-use records::{ENTRIES_MAX, Error, Geometry, Key, Mark, Rid};
-use restart::restart;
+use opening::format_store;
+use records::{Body, ENTRIES_MAX, Error, Geometry, Key, Mark, Rid};
+use restart::{Engine, Event, Reply, restart};
 use sector_device::{Device, Fate, FaultDisk, MemDisk, Which};
 use std::alloc::Global;
 
 /// A disk in memory that may fail.
 pub type Disk = FaultDisk<MemDisk<Global>>;
 
-// So many writes and syncs are made where a new store of eight pages and 16 slots is opened.
-const OPENING: u64 = 151;
+// The row that the engine puts.
+const SERVED: Put = Put {
+    rid: Rid { page: 0, slot: 0 },
+    first: 100,
+    second: 0,
+};
 
-/// A disk with a new store of eight pages, whose write or sync of this number behind the opening fails, if there is a
-/// number. The number of the last one within the opening is 0.
-pub fn failing(alloc: Global, behind: Option<u64>) -> Result<Disk, Error> {
+/// A disk in memory with a new store, and with room to record so many writes and syncs.
+pub fn formatted(
+    alloc: Global,
+    geometry: Geometry,
+    calls: usize,
+) -> Result<MemDisk<Global>, Error> {
+    let mut disk = MemDisk::new(alloc, geometry.sectors(), calls)?;
+    format_store(&mut disk, geometry)?;
+    Ok(disk)
+}
+
+/// A disk with a new store of eight pages and 16 slots, whose write or sync of this number fails, counted from 1.
+pub fn failing(alloc: Global, fails_at: u64) -> Result<Disk, Error> {
     let disk = formatted(alloc, Geometry::new(8, 1_024, 16)?, 16_384)?;
-    let fails_at = match behind {
-        Some(number) => OPENING.saturating_add(number),
-        None => 0,
-    };
     Ok(FaultDisk::new(disk, Which::WritesAndSyncs, fails_at))
+}
+
+// What an engine answers to a request.
+fn ask<D: Device>(engine: &mut Engine<D, Global>, event: Event) -> Reply<Global> {
+    engine.serve(event)
+}
+
+/// An engine over the store on the device that has put a row and committed it, and flushed nothing.
+pub fn served<D: Device + Drop>(alloc: Global, device: D) -> Result<Engine<D, Global>, Error> {
+    let key = key_of(SERVED.first, SERVED.second)?;
+    let body = Body::new(b"")?;
+    let mut engine = match restart(alloc, device) {
+        Ok(engine) => engine,
+        Err((error, _)) => return Err(error),
+    };
+    if let Reply::Txn(txn) = ask(&mut engine, Event::Begin) {
+        ask(&mut engine, Event::Insert { txn, key, body });
+        ask(&mut engine, Event::Commit { txn });
+    }
+    Ok(engine)
 }
 
 // How many entries are marked.
@@ -66,23 +96,31 @@ pub struct Behind {
     pub marked: u32,
 }
 
-// How many rows were told to be safe.
+// How many rows were told to be safe, with the engine's.
 fn count_kept(told: &Told) -> u32 {
-    u32::try_from(told.kept.len()).unwrap_or(u32::MAX)
+    u32::try_from(told.kept.len())
+        .unwrap_or(u32::MAX)
+        .saturating_add(1)
+}
+
+// What is found of these rows.
+fn look_in(core: &Core<Global>, told: &Told) -> Result<Behind, Error> {
+    let served = count_there(core, &[SERVED])?;
+    let there = count_there(core, &told.kept)?.saturating_add(served);
+    Ok(Behind {
+        lost: count_kept(told).saturating_sub(there),
+        back: count_there(core, &told.gone)?,
+        marked: count_marked(core),
+    })
 }
 
 // What is found where the store on the device is opened.
 fn look<D: Device + Drop>(alloc: Global, device: D, told: &Told) -> Result<Behind, Error> {
     match restart(alloc, device) {
         Ok(engine) => {
-            let core = engine.core();
-            let behind = Behind {
-                lost: count_kept(told).saturating_sub(count_there(core, &told.kept)?),
-                back: count_there(core, &told.gone)?,
-                marked: count_marked(core),
-            };
+            let behind = look_in(engine.core(), told);
             drop(engine.into_device());
-            Ok(behind)
+            behind
         }
         Err((error, _)) => Err(error),
     }

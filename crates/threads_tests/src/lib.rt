@@ -9,8 +9,6 @@ mod calls;
 #[cfg(test)]
 mod drop_tests;
 #[cfg(test)]
-mod example;
-#[cfg(test)]
 mod file_tests;
 #[cfg(test)]
 mod found;

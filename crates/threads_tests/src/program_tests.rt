@@ -1,10 +1,10 @@
 //! The program `nsf-threads`: what it prints, and its status; and what it tells of a device that fails.
 use crate::found::failing;
 use crate::help::HELP;
-use demonstration::{Beginning, Found, Nobody, Progress, Refusals, Team, run, told, work_on};
-use loops::NoGate;
+use crate::stage::{HeldDisk, Stage};
+use demonstration::{Beginning, Found, Nobody, Progress, Refusals, Team, Turn, run, told, work_on};
 use opening::OpenError;
-use records::Error;
+use records::{Error, Rid};
 use std::alloc::Global;
 use std::fs::File;
 use std::io;
@@ -13,6 +13,9 @@ use std::rt::{Clock, Files};
 use std::sync::Wait;
 use std::test::Fail;
 use std::thread::Threads;
+
+// So many writes and syncs are made where a new store is opened.
+const OPENING: u64 = 151;
 
 // An output with room for nothing.
 #[derive(Clone, Copy, Debug, Drop)]
@@ -40,13 +43,14 @@ fn run_on<R: Threads + Wait + Clock + Files<File = File> + Print + Sync, W: Writ
     rt: &R,
     alloc: Global,
     words: &[&str],
+    is_terminal: bool,
     output: &mut W,
 ) -> Said {
     let mut errors = Vec::new(alloc);
     let mut shown = Vec::new(alloc);
     let progress = Progress {
         errors: &mut shown,
-        is_terminal: false,
+        is_terminal,
     };
     let status = run(rt, alloc, words, output, progress, &mut errors);
     Said {
@@ -56,47 +60,80 @@ fn run_on<R: Threads + Wait + Clock + Files<File = File> + Print + Sync, W: Writ
     }
 }
 
+// A run: its words; what it prints; its status; and how the error stream begins with progress or bad words. Progress
+// that begins with a return is that on a terminal.
+type Case = (&'static [&'static str], &'static str, u8, &'static [u8]);
+
+const CASES: [Case; 11] = [
+    (&["nsf-threads"], "rows 116 shown 116 same yes\n", 0, b""),
+    (
+        &["nsf-threads", "--writers", "1", "--changes", "1", "--watch"],
+        "rows 101 shown 101 same yes\n",
+        0,
+        b"nsf: ",
+    ),
+    (
+        &["nsf-threads", "--writers", "1", "--changes", "2", "--watch"],
+        "rows 102 shown 102 same yes\n",
+        0,
+        b"\rnsf: ",
+    ),
+    (
+        &["nsf-threads", "--writers", "3", "--changes", "7"],
+        "rows 112 shown 112 same yes\n",
+        0,
+        b"",
+    ),
+    (
+        &["nsf-threads", "--writers", "8", "--changes", "60"],
+        "rows 340 shown 340 same yes\n",
+        0,
+        b"",
+    ),
+    (&["nsf-threads", "--version"], "nsf-threads 0.1.0\n", 0, b""),
+    (&["nsf-threads", "--help"], HELP, 0, b""),
+    (&["nsf-threads", "--writers", "0"], "", 2, b"error: "),
+    (&["nsf-threads", "--writers", "9"], "", 2, b"error: "),
+    (&["nsf-threads", "--changes", "0"], "", 2, b"error: "),
+    (&["nsf-threads", "--changes", "61"], "", 2, b"error: "),
+];
+
 #[test]
 fn each_row_has_its_entry(rt: HostRuntime) -> Result<(), Fail> {
-    let runs: [(&[&str], &str, u8, bool); 10] = [
-        (&["nsf-threads"], "rows 116 shown 116 same yes\n", 0, false),
-        (
-            &["nsf-threads", "--writers", "1", "--changes", "1", "--watch"],
-            "rows 101 shown 101 same yes\n",
-            0,
-            true,
-        ),
-        (
-            &["nsf-threads", "--writers", "3", "--changes", "7"],
-            "rows 112 shown 112 same yes\n",
-            0,
-            false,
-        ),
-        (
-            &["nsf-threads", "--writers", "8", "--changes", "60"],
-            "rows 340 shown 340 same yes\n",
-            0,
-            false,
-        ),
-        (
-            &["nsf-threads", "--version"],
-            "nsf-threads 0.1.0\n",
-            0,
-            false,
-        ),
-        (&["nsf-threads", "--help"], HELP, 0, false),
-        (&["nsf-threads", "--writers", "0"], "", 2, true),
-        (&["nsf-threads", "--writers", "9"], "", 2, true),
-        (&["nsf-threads", "--changes", "0"], "", 2, true),
-        (&["nsf-threads", "--changes", "61"], "", 2, true),
-    ];
-    for (words, wanted, status, tells) in runs {
+    for (words, wanted, status, shown) in CASES {
         let mut output = Vec::new(rt.alloc());
-        let said = run_on(&rt, rt.alloc(), words, &mut output);
+        let said = run_on(
+            &rt,
+            rt.alloc(),
+            words,
+            shown.starts_with(b"\r"),
+            &mut output,
+        );
         assert_eq!(&rt; output.as_slice(), wanted.as_bytes());
         assert_eq!(&rt; said.status, status);
-        assert_eq!(&rt; !said.progress.is_empty(), tells);
+        assert!(&rt; said.progress.starts_with(shown));
+        assert_eq!(&rt; said.progress.is_empty(), shown.is_empty());
         assert!(&rt; said.errors.is_empty());
+    }
+    Ok(())
+}
+
+// A commit that is safe is told with what its transaction did.
+#[test]
+fn a_turn_is_told(rt: HostRuntime) -> Result<(), Fail> {
+    let (rid, gone) = (Rid { page: 2, slot: 7 }, Rid { page: 0, slot: 1 });
+    let turns = [
+        (None, "row 2.7 :00010203 :"),
+        (Some(gone), "row 2.7 :00010203 : deleted 0.1"),
+    ];
+    for (deleted, wanted) in turns {
+        let turn = Turn {
+            writer: 1,
+            change: 0x203,
+            rid,
+            deleted,
+        };
+        assert_eq!(&rt; format!(in rt.alloc(); "{turn}")?.as_str(), wanted);
     }
     Ok(())
 }
@@ -131,34 +168,40 @@ fn the_error_stream_tells_why_nothing_was_printed(rt: HostRuntime) -> Result<(),
         (&["nsf-threads", "--writers", "1", "--changes", "1"], full),
     ];
     for (words, wanted) in runs {
-        let said = run_on(&rt, rt.alloc(), words, &mut Full);
+        let said = run_on(&rt, rt.alloc(), words, false, &mut Full);
         assert_eq!(&rt; said.errors.as_slice(), wanted.as_bytes());
         assert_eq!(&rt; said.status, 1);
     }
     let missing = &["nsf-threads", "--file", "missing"];
-    let said = run_on(&rt, rt.alloc(), missing.as_slice(), &mut Full);
+    let said = run_on(&rt, rt.alloc(), missing.as_slice(), false, &mut Full);
     assert!(&rt; said.errors.starts_with(b"nsf-threads: missing: "));
     assert_eq!(&rt; said.status, 1);
     Ok(())
 }
 
-// What is refused to four writers of 20 commits each where a write or sync fails, this far behind the opening; and how
-// many are acknowledged.
+// What is refused to four writers of 20 commits each where the write or sync of this number fails, or none at 0; and
+// how many are acknowledged.
 fn refused_at<R: Threads + Wait + Clock + Sync>(
     rt: &R,
     alloc: Global,
-    behind: Option<u64>,
+    fails_at: u64,
 ) -> Result<(Refusals, usize), OpenError> {
-    let team: Team<'_, R, NoGate, Nobody, Vec<u8>> = Team {
+    let stage = Stage::new(rt, None, None);
+    let disk = failing(alloc, fails_at)?;
+    let device = HeldDisk {
+        disk,
+        stage: &stage,
+    };
+    let team: Team<'_, R, Stage<'_, R>, Nobody, Vec<u8>> = Team {
         rt,
         alloc,
         beginning: Beginning::New,
-        gate: &NoGate,
+        gate: &stage,
         listener: &Nobody,
         changes: 26,
         progress: None,
     };
-    match work_on(failing(alloc, behind)?, 4, team) {
+    match work_on(device, 4, team) {
         Ok(worked) => Ok((worked.refusals, worked.acknowledged.len())),
         Err((error, _)) => Err(error),
     }
@@ -168,10 +211,12 @@ fn refused_at<R: Threads + Wait + Clock + Sync>(
 // has failed.
 #[test]
 fn a_failure_is_told(rt: HostRuntime) -> Result<(), Fail> {
-    for behind in [None, Some(1), Some(30), Some(60), Some(100)] {
-        let failed = match behind {
-            Some(_) => Some(Error::DeviceFailed),
-            None => None,
+    for behind in [0u64, 1, 30, 60, 100] {
+        let fails_at = if behind == 0 { 0 } else { OPENING + behind };
+        let failed = if behind == 0 {
+            None
+        } else {
+            Some(Error::DeviceFailed)
         };
         let refusals = Refusals {
             writer: failed,
@@ -179,9 +224,9 @@ fn a_failure_is_told(rt: HostRuntime) -> Result<(), Fail> {
             builder: None,
             end: failed,
         };
-        let (refused, acknowledged) = refused_at(&rt, rt.alloc(), behind)?;
+        let (refused, acknowledged) = refused_at(&rt, rt.alloc(), fails_at)?;
         assert_eq!(&rt; refused, refusals);
-        assert!(&rt; behind.is_some() || acknowledged == 80);
+        assert!(&rt; behind > 0 || acknowledged == 80);
     }
     Ok(())
 }

@@ -1,28 +1,23 @@
-//! Four writers beside the loops, on a new store, to the end of all threads.
-ghost use Rattle.std.specs.Prelude.{◌≡◌, ◌++◌, ◌∷◌, [], ◌<◌, ℕ, map, slice_index_or, vec_len};
+//! Four writers beside the loops, on the store of an engine that served, to the end of all threads.
+ghost use Rattle.std.specs.Prelude.{◌≡◌, ℕ, IfOk, map};
 ghost use Rattle.closing.specs.Gathered.{AreAllSeats};
 ghost use Rattle.shared.specs.Seats.{AreNewSeats};
 
-use crate::found::{Behind, behind_crash, failing};
+use crate::found::{Behind, behind_crash, failing, served};
 use crate::seats::{Told, WRITERS, Writer, gather, seats_of, write_all, writers_of};
 use crate::stage::{HeldDisk, Stage};
-use closing::finish;
-use demonstration::set_up;
-use flusher::FlushPart;
-use loops::{Ended, run_beside};
-use opening::{OpenError, OpenStore, Parts, open_store};
+use opening::{OpenError, OpenStore, open_engine};
 use records::Error;
+use runs_for_tests::{LoopParts, Ran, run};
+use seats_for_tests::{Parts, start, take_back};
 use sector_device::Device;
-use shared::{BuildPart, Group, Seat, Shared};
+use shared::{Group, Shared};
 use std::alloc::Global;
 use std::marker::Brand;
 use std::mem::forget;
 use std::rt::Clock;
 use std::sync::Wait;
 use std::thread::Threads;
-
-// Of the writers, of one that looks at the index behind them, and of the loops.
-const SEATS: usize = WRITERS as usize + 2;
 
 /// What was seen: how many tickets of the writers were acknowledged, and how many refused for the device's failure;
 /// what else was refused to them; how the flusher ended, and all threads; whether the index found a row, and the
@@ -53,66 +48,92 @@ fn run_loops<B: Group + Send + Sync, D: Device + Send + Drop, R: Threads + Wait 
     rt: &R,
     shared: &Shared<B>,
     writers: Vec<Writer<B>>,
-    last: Seat<B>,
-    flush: FlushPart<B, D>,
-    build: BuildPart<B>,
+    loops: LoopParts<B, D>,
     stage: &Stage<'_, R>,
-) -> Ended<B, D, Vec<Writer<B>>>
-    ensures len { vec_len result.clients ≡ vec_len writers }
-    ensures numbers { (k : ℕ) (w : _) → k < vec_len writers
-        → (slice_index_or result.clients.items k w).seat.number ≡ (slice_index_or writers.items k w).seat.number }
-    ensures last { result.seat.number ≡ last.number }
+) -> Result<Ran<B, D, Vec<Writer<B>>>, Error>
+    ensures { IfOk result (λ ran. (count : ℕ) → AreAllSeats count (map (λ w. w.seat) writers.items)
+        → AreAllSeats count (map (λ w. w.seat) ran.clients.items)) }
 {
-    let client = move || write_all(rt, shared, writers, stage);
-    run_beside(rt, shared, last, flush, build, stage, client)
+    let clients = move || -> Vec<Writer<B>>
+        ensures { (count : ℕ) → AreAllSeats count (map (λ w. w.seat) writers.items)
+            → AreAllSeats count (map (λ w. w.seat) result.items) }
+    { write_all(rt, shared, writers, stage) };
+    run(rt, shared, loops, stage, clients)
 }
 
-// The device, and what was refused at the end. What else is left is not let go: to prove its destructors here would
-// cost more than the test.
-fn close<B: Group, D: Device, R: Wait>(
-    rt: &R,
-    alloc: Global,
-    shared: Shared<B>,
-    seats: Vec<Seat<B>>,
-    flush: FlushPart<B, D>,
-) -> (D, Option<Error>)
-    requires seats { AreAllSeats B.site.seats seats.items }
-{
-    match finish(rt, alloc, shared, seats, flush, Vec::new(alloc)) {
-        Ok(closed) => {
-            forget(closed.core);
-            forget(closed.commits);
-            (closed.device, None)
-        }
-        Err((error, device)) => (device, Some(error)),
-    }
-}
-
-// Takes back what the threads leave.
+// Takes back what the threads leave, where the flusher ended so the first time.
 fn end<B: Group, D: Device + Drop, R: Wait>(
     rt: &R,
     alloc: Global,
     shared: Shared<B>,
-    ended: Ended<B, D, Vec<Writer<B>>>,
+    ran: Ran<B, D, Vec<Writer<B>>>,
+    flusher: Result<(), Error>,
 ) -> Result<Left<D>, Error>
-    requires seats { AreAllSeats B.site.seats (map (λ w. w.seat) ended.clients.items ++ ended.seat ∷ []) }
+    requires { AreAllSeats B.site.seats (map (λ w. w.seat) ran.clients.items) }
 {
-    let Ended {
+    let Ran {
         clients,
-        seat,
-        flush,
+        loops: LoopParts {
+            flush,
+            build,
+            clean,
+        },
         flushed,
-        ..
-    } = ended;
-    let told = gather(alloc, &clients)?;
-    let seats = seats_of(alloc, clients, seat)?;
-    let (device, end) = close(rt, alloc, shared, seats, flush);
+    } = ran;
+    let told = gather(alloc, &clients);
+    let Ok(seats) = seats_of(alloc, clients) else {
+        forget(shared);
+        forget(flush);
+        return Err(Error::NoMemory);
+    };
+    let parts = Parts {
+        seats,
+        flush,
+        build,
+        clean,
+    };
+    let (device, end) = take_back(rt, alloc, shared, parts);
     Ok(Left {
-        told,
-        flusher: flushed.err(),
+        told: told?,
+        flusher: flusher.and(flushed).err(),
         end,
         device,
     })
+}
+
+// Runs the writers, what they do behind their rows, in a run of its own, and the end.
+fn run_all<B: Group + Send + Sync, D: Device + Send + Drop, R: Threads + Wait + Clock + Sync>(
+    rt: &R,
+    alloc: Global,
+    shared: Shared<B>,
+    writers: Vec<Writer<B>>,
+    loops: LoopParts<B, D>,
+    stage: &Stage<'_, R>,
+) -> Result<Left<D>, Error>
+    requires seats { AreAllSeats B.site.seats (map (λ w. w.seat) writers.items) }
+{
+    match run_loops(rt, &shared, writers, loops, stage) {
+        Ok(
+            Ran {
+                clients,
+                loops,
+                flushed,
+            },
+        ) => {
+            stage.ends_writing();
+            match run_loops(rt, &shared, clients, loops, stage) {
+                Ok(ran) => end(rt, alloc, shared, ran, flushed),
+                Err(error) => {
+                    forget(shared);
+                    Err(error)
+                }
+            }
+        }
+        Err(error) => {
+            forget(shared);
+            Err(error)
+        }
+    }
 }
 
 // Plays the scene with these parts.
@@ -126,18 +147,24 @@ fn play_with<B: Group + Send + Sync, D: Device + Send + Drop, R: Threads + Wait 
     requires seats { AreNewSeats B.site.board B.site.seats parts.seats.items }
 {
     let Parts {
-        mut seats,
+        seats,
         flush,
         build,
+        clean,
     } = parts;
-    let Some(mut last) = seats.pop() else {
-        return Err(Error::NoMemory);
+    let loops = LoopParts {
+        flush,
+        build,
+        clean,
     };
-    set_up(rt, &shared, &mut last)?;
-    let writers = writers_of(alloc, seats)?;
-    stage.arm();
-    let ended = run_loops(rt, &shared, writers, last, flush, build, stage);
-    end(rt, alloc, shared, ended)
+    match writers_of(alloc, seats) {
+        Ok(writers) => run_all(rt, alloc, shared, writers, loops, stage),
+        Err(_) => {
+            forget(shared);
+            forget(loops);
+            Err(Error::NoMemory)
+        }
+    }
 }
 
 // Plays the scene in the store.
@@ -149,33 +176,36 @@ fn play_in<B: Group + Send + Sync, D: Device + Send + Drop, R: Threads + Wait + 
 ) -> Result<Left<D>, Error>
     requires names { store.site ≡ B.site }
 {
-    match store.start::<B>() {
+    match start::<B, D, Global>(store) {
         Ok((shared, parts)) => play_with(rt, alloc, shared, parts, stage),
         Err((error, _)) => Err(error),
     }
 }
 
-// Plays the scene on the device.
+// Plays the scene on the device, in the store of an engine that served.
 fn play_on<D: Device + Send + Drop, R: Threads + Wait + Clock + Sync>(
     rt: &R,
     alloc: Global,
     device: D,
     stage: &Stage<'_, R>,
 ) -> Result<Left<D>, OpenError> {
-    match open_store(alloc, device, SEATS) {
+    match open_engine(alloc, served(alloc, device)?, usize::from(WRITERS)) {
         Ok(store) => Ok(play_in::<Brand, D, R>(rt, alloc, store, stage)?),
-        Err((error, _)) => Err(error),
+        Err((error, engine)) => {
+            forget(engine);
+            Err(error)
+        }
     }
 }
 
-/// Plays the scene on a new store, whose write or sync of this number behind the opening fails, if there is a number.
+/// Plays the scene on a new store, where the write or sync of this number fails, or none at 0.
 pub fn play<R: Threads + Wait + Clock + Sync>(
     rt: &R,
     alloc: Global,
     stage: &Stage<'_, R>,
-    fails_behind: Option<u64>,
+    fails_at: u64,
 ) -> Result<Seen, OpenError> {
-    let disk = failing(alloc, fails_behind)?;
+    let disk = failing(alloc, fails_at)?;
     let Left {
         told,
         flusher,

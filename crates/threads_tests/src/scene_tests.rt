@@ -10,6 +10,9 @@ use std::test::Fail;
 // So many of the sixty transactions of four writers are commits; each fourth is taken back.
 const COMMITS: u32 = 48;
 
+// So many writes and syncs are made where a new store is opened, an engine puts a row, and is shared.
+const OPENING: u64 = 301;
+
 // The first time that the flusher syncs, and that the builder has scanned a page.
 const AT_FIRST: (Place, Place) = (Place::Sync, Place::At(Point::BuildScanned));
 
@@ -38,7 +41,7 @@ fn loops_that_are_held_hold_no_seat(rt: HostRuntime) -> Result<(), Fail> {
     };
     for (flusher, builder) in [AT_FIRST, AT_COPIES] {
         let stage = Stage::new(&rt, Some(flusher), Some(builder));
-        let seen = play(&rt, rt.alloc(), &stage, None)?;
+        let seen = play(&rt, rt.alloc(), &stage, 0)?;
         assert!(&rt; stage.holds());
         assert!(&rt; !stage.is_late());
         assert_eq!(&rt; seen, wanted);
@@ -54,10 +57,10 @@ fn loops_that_are_held_hold_no_seat(rt: HostRuntime) -> Result<(), Fail> {
 fn what_is_acknowledged_is_kept(rt: HostRuntime) -> Result<(), Fail> {
     let (flusher, builder) = AT_FIRST;
     let stage = Stage::new(&rt, None, None);
-    assert!(&rt; play(&rt, rt.alloc(), &stage, Some(0)).is_err());
-    for behind in [1, 30, 60, 100] {
+    assert!(&rt; play(&rt, rt.alloc(), &stage, OPENING).is_err());
+    for behind in [1u64, 30, 60, 100] {
         let stage = Stage::new(&rt, Some(flusher), Some(builder));
-        let seen = play(&rt, rt.alloc(), &stage, Some(behind))?;
+        let seen = play(&rt, rt.alloc(), &stage, OPENING + behind)?;
         assert!(&rt; !stage.is_late());
         assert_eq!(&rt; seen.flusher, Some(Error::DeviceFailed));
         assert_eq!(&rt; seen.end, Some(Error::DeviceFailed));

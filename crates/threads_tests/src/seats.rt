@@ -1,15 +1,16 @@
 //! What seats do beside the loops.
-ghost use Rattle.std.specs.Prelude.{◌≡◌, ◌++◌, ◌∷◌, [], ◌<◌, ℕ, IfOk, map, slice_index_or, vec_len};
+ghost use Rattle.std.specs.Prelude.{◌≡◌, ◌<◌, ℕ, IfOk, map, slice_index_or, vec_len};
+ghost use Rattle.closing.specs.Gathered.{AreAllSeats};
 
-use crate::calls::{
-    abort, await_ack, begin, commit, delete, has_failed, insert, is_acked, make_anew, progress,
-    reads,
-};
+use crate::calls::{insert, make_anew, reads};
 use crate::stage::Stage;
-use demonstration::key_of;
+use demonstration::{key_of, set_up};
 use model::Life;
 use nsf_core::Ticket;
 use records::{Error, Rid};
+use seats_for_tests::{
+    abort, await_ack, begin, commit, find, has_failed, is_acked, life, progress, remove,
+};
 use shared::{Group, Seat, Shared};
 use std::alloc::{AllocError, Global};
 use std::rt::Clock;
@@ -35,11 +36,11 @@ const LEADING: u16 = 102;
 
 const ENDING: u16 = 103;
 
-// The place of the first row of the store, which the builder scans first, and of the second one, with the first half of
-// their keys.
-const FIRST_ROW: Rid = Rid { page: 0, slot: 0 };
+// The places of the first two rows that are put before the writers' rows, on the page that the builder scans first, and
+// the first half of their keys.
+const FIRST_ROW: Rid = Rid { page: 0, slot: 1 };
 
-const SECOND_ROW: Rid = Rid { page: 0, slot: 1 };
+const SECOND_ROW: Rid = Rid { page: 0, slot: 2 };
 
 const ROWS: u16 = 0xffff;
 
@@ -107,7 +108,7 @@ fn wait_unless_held<B: Group, R: Wait + Clock>(
     ensures { seat.new.number ≡ seat.old.number }
 {
     for _ in stage.looks() {
-        if stage.holds() || is_acked(shared, seat, ticket) || has_failed(shared, seat) {
+        if stage.holds() || is_acked(shared, seat, *ticket) || has_failed(shared, seat) {
             return;
         }
         stage.rest();
@@ -129,7 +130,7 @@ fn change<B: Group, R: Wait>(
     let txn = begin(rt, shared, seat)?;
     let rid = insert(rt, shared, seat, txn, first, second)?;
     if let Some(gone) = gone {
-        delete(rt, shared, seat, txn, gone)?;
+        remove(rt, shared, seat, txn, gone)?;
     }
     let ticket = commit(rt, shared, seat, txn)?;
     Ok((rid, ticket))
@@ -189,9 +190,9 @@ fn lead<B: Group, R: Wait + Clock>(
         return Err(Error::NoSuchRow);
     }
     stage.flusher.let_go();
-    delete(rt, shared, seat, txn, FIRST_ROW)?;
+    remove(rt, shared, seat, txn, FIRST_ROW)?;
     let ticket = commit(rt, shared, seat, txn)?;
-    let waited = await_ack(rt, shared, seat, &ticket);
+    let waited = await_ack(rt, shared, seat, ticket);
     stage.await_cleaner(2);
     match waited {
         Ok(()) => Ok(true),
@@ -265,7 +266,7 @@ fn keep_row<B: Group, R: Wait>(
     forget(&mut writer.kept, &deleted);
     let (rid, ticket) = change(rt, shared, &mut writer.seat, (first, second), gone)?;
     let put = Put { rid, first, second };
-    let waited = await_ack(rt, shared, &mut writer.seat, &ticket);
+    let waited = await_ack(rt, shared, &mut writer.seat, ticket);
     note(writer, &put, &deleted, waited)?;
     Ok(put)
 }
@@ -293,8 +294,9 @@ fn write_rows<B: Group, R: Wait>(
     Ok(())
 }
 
-// What the first writer does before its rows, where loops are to be held. In any case they are let go.
-fn lead_if_set<B: Group, R: Wait + Clock>(
+// What the first writer does before its rows: it puts others, and creates the index, which lets all write. Where loops
+// are to be held it leads. In any case they are let go.
+fn begin_all<B: Group, R: Wait + Clock>(
     rt: &R,
     shared: &Shared<B>,
     writer: &mut Writer<B>,
@@ -302,7 +304,11 @@ fn lead_if_set<B: Group, R: Wait + Clock>(
 ) -> Result<(), Error>
     ensures { writer.new.seat.number ≡ writer.old.seat.number }
 {
-    if writer.number > 0 || !stage.is_set() {
+    stage.arm();
+    let prepared = set_up(rt, shared, &mut writer.seat);
+    stage.begins_writing();
+    prepared?;
+    if !stage.is_set() {
         return Ok(());
     }
     let led = lead(rt, shared, &mut writer.seat, stage);
@@ -318,7 +324,8 @@ fn lead_if_set<B: Group, R: Wait + Clock>(
     Ok(())
 }
 
-// The last of the seats looks at the index behind the writers, where loops were held and the device has not failed.
+// What the first writer does behind all rows: it looks at the index, where loops were held and the device has not
+// failed.
 fn look_behind<B: Group, R: Wait + Clock>(
     rt: &R,
     shared: &Shared<B>,
@@ -327,14 +334,13 @@ fn look_behind<B: Group, R: Wait + Clock>(
 ) -> Result<(), Error>
     ensures { writer.new.seat.number ≡ writer.old.seat.number }
 {
-    stage.await_written(u64::from(WRITERS));
-    if stage.is_set() && !has_failed(shared, &mut writer.seat) {
+    if writer.number == 0 && stage.is_set() && !has_failed(shared, &mut writer.seat) {
         writer.built = end(rt, shared, &mut writer.seat, stage)?;
     }
     Ok(())
 }
 
-// All that a seat does. The first one begins as `lead` says, where loops are to be held.
+// All that a seat does in a run.
 fn work<B: Group, R: Wait + Clock>(
     rt: &R,
     shared: &Shared<B>,
@@ -343,10 +349,13 @@ fn work<B: Group, R: Wait + Clock>(
 ) -> Result<(), Error>
     ensures { writer.new.seat.number ≡ writer.old.seat.number }
 {
-    if writer.number >= WRITERS {
+    if stage.is_written() {
         return look_behind(rt, shared, writer, stage);
     }
-    lead_if_set(rt, shared, writer, stage)?;
+    if writer.number == 0 {
+        begin_all(rt, shared, writer, stage)?;
+    }
+    stage.await_writing();
     write_rows(rt, shared, writer)
 }
 
@@ -359,8 +368,8 @@ fn write<B: Group, R: Wait + Clock>(
 )
     ensures { writer.new.seat.number ≡ writer.old.seat.number }
 {
-    writer.refused = work(rt, shared, writer, stage).err();
-    stage.has_written();
+    let refused = work(rt, shared, writer, stage).err();
+    writer.refused = writer.refused.or(refused);
 }
 
 /// A writer for each of these seats.
@@ -388,8 +397,8 @@ pub fn writers_of<B: Group>(
     Ok(writers)
 }
 
-/// Runs all writers, each in a thread.
-pub fn write_all<B: Group + Send + Sync, R: Threads + Wait + Clock + Sync>(
+// Runs all writers, each in a thread.
+fn write_each<B: Group + Send + Sync, R: Threads + Wait + Clock + Sync>(
     rt: &R,
     shared: &Shared<B>,
     mut writers: Vec<Writer<B>>,
@@ -408,6 +417,19 @@ pub fn write_all<B: Group + Send + Sync, R: Threads + Wait + Clock + Sync>(
     writers
 }
 
+/// Runs all writers, and gives them back in their order.
+pub fn write_all<B: Group + Send + Sync, R: Threads + Wait + Clock + Sync>(
+    rt: &R,
+    shared: &Shared<B>,
+    writers: Vec<Writer<B>>,
+    stage: &Stage<'_, R>,
+) -> Vec<Writer<B>>
+    ensures { (count : ℕ) → AreAllSeats count (map (λ w. w.seat) writers.items)
+        → AreAllSeats count (map (λ w. w.seat) result.items) }
+{
+    write_each(rt, shared, writers, stage)
+}
+
 /// What they were told.
 pub fn gather<B: Group>(alloc: Global, writers: &[Writer<B>]) -> Result<Told, AllocError> {
     let mut told = Told {
@@ -424,24 +446,24 @@ pub fn gather<B: Group>(alloc: Global, writers: &[Writer<B>]) -> Result<Told, Al
         told.acknowledged = told.acknowledged.saturating_add(writer.acknowledged);
         told.failed = told.failed.saturating_add(writer.failed);
         told.refused = told.refused.or(writer.refused);
-        told.built = writer.built;
+        if writer.number == 0 {
+            told.built = writer.built;
+        }
     }
     Ok(told)
 }
 
-/// The seats of all writers, with the last one behind them.
+/// The seats of all writers.
 pub fn seats_of<B: Group>(
     alloc: Global,
     writers: Vec<Writer<B>>,
-    last: Seat<B>,
 ) -> Result<Vec<Seat<B>>, AllocError>
-    ensures { IfOk result (λ seats. seats.items ≡ map (λ w. w.seat) writers.items ++ last ∷ []) }
+    ensures { IfOk result (λ seats. seats.items ≡ map (λ w. w.seat) writers.items) }
 {
     let mut seats = Vec::with_capacity(alloc, writers.len())?;
     for writer in writers {
         seats.push(writer.seat)?;
     }
-    seats.push(last)?;
     Ok(seats)
 }
 
@@ -450,7 +472,7 @@ pub fn seats_of<B: Group>(
 // Waits until the index is complete.
 fn await_index<B: Group, R: Wait + Clock>(rt: &R, shared: &Shared<B>, stage: &Stage<'_, R>) {
     for _ in stage.looks() {
-        if let Life::Complete = shared.life(rt) {
+        if let Life::Complete = life(rt, shared) {
             return;
         }
         stage.rest();
@@ -471,12 +493,12 @@ fn leave_mark<B: Group, R: Wait + Clock>(
     change(rt, shared, seat, (ENDING, 1), Some(rid))?;
     stage.await_cleaner(STEPS_OF_CLEANER);
     let (_, ticket) = change(rt, shared, seat, (ENDING, 2), None)?;
-    await_ack(rt, shared, seat, &ticket)
+    await_ack(rt, shared, seat, ticket)
 }
 
 // Whether the index finds the second row at its place alone.
 fn finds_row<B: Group, R: Wait>(rt: &R, shared: &Shared<B>) -> Result<bool, Error> {
-    let found = shared.find(rt, key_of(ROWS, 1)?)?;
+    let found = find(rt, shared, key_of(ROWS, 1)?)?;
     Ok(found.as_slice() == [SECOND_ROW].as_slice())
 }
 

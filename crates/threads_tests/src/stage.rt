@@ -50,8 +50,8 @@ impl Hold {
     }
 }
 
-/// Where flusher and builder are held, once they are to be; how many steps the cleaner has begun, and how many writers
-/// have ended.
+/// Where flusher and builder are held, once they are to be; how many steps the cleaner has begun, and whether the
+/// writers may begin, and have ended.
 #[derive(Drop)]
 pub struct Stage<'a, R> {
     rt: &'a R,
@@ -60,7 +60,8 @@ pub struct Stage<'a, R> {
     armed: AtomicBool,
     late: AtomicBool,
     cleaned: AtomicU64,
-    written: AtomicU64,
+    begun: AtomicBool,
+    written: AtomicBool,
 }
 
 impl<'a, R: Clock> Stage<'a, R> {
@@ -72,7 +73,8 @@ impl<'a, R: Clock> Stage<'a, R> {
             armed: AtomicBool::new(false),
             late: AtomicBool::new(false),
             cleaned: AtomicU64::new(0),
-            written: AtomicU64::new(0),
+            begun: AtomicBool::new(false),
+            written: AtomicBool::new(false),
         }
     }
 
@@ -86,9 +88,19 @@ impl<'a, R: Clock> Stage<'a, R> {
         self.late.store(true, Ordering::SeqCst);
     }
 
-    /// A writer has ended.
-    pub fn has_written(&self) {
-        self.written.fetch_add(1, Ordering::SeqCst);
+    /// The writers may begin.
+    pub fn begins_writing(&self) {
+        self.begun.store(true, Ordering::SeqCst);
+    }
+
+    /// The writers have ended.
+    pub fn ends_writing(&self) {
+        self.written.store(true, Ordering::SeqCst);
+    }
+
+    /// Whether the writers have ended.
+    pub fn is_written(&self) -> bool {
+        self.written.load(Ordering::SeqCst)
     }
 
     /// Whether a loop is to be held.
@@ -127,23 +139,17 @@ impl<'a, R: Clock> Stage<'a, R> {
         self.is_too_late();
     }
 
-    // Looks until the count has come so far.
-    fn look_for(&self, count: &AtomicU64, wanted: u64) {
-        for _ in self.looks() {
-            if count.load(Ordering::SeqCst) >= wanted {
-                return;
-            }
-            self.rest();
-        }
-        self.is_too_late();
-    }
-
     // Holds a thread that comes by this place, where it is the first one.
     fn pass(&self, hold: &Hold, place: Place) {
         let armed = self.armed.load(Ordering::SeqCst);
         if armed && hold.place == Some(place) && !hold.held.swap(true, Ordering::SeqCst) {
             self.look(&hold.let_go);
         }
+    }
+
+    /// Looks until the writers may begin.
+    pub fn await_writing(&self) {
+        self.look(&self.begun);
     }
 
     /// Looks until both loops are held.
@@ -154,13 +160,14 @@ impl<'a, R: Clock> Stage<'a, R> {
 
     /// Looks until the cleaner has begun so many steps more.
     pub fn await_cleaner(&self, steps: u64) {
-        let before = self.cleaned.load(Ordering::SeqCst);
-        self.look_for(&self.cleaned, before.saturating_add(steps));
-    }
-
-    /// Looks until so many writers have ended.
-    pub fn await_written(&self, writers: u64) {
-        self.look_for(&self.written, writers);
+        let wanted = self.cleaned.load(Ordering::SeqCst).saturating_add(steps);
+        for _ in self.looks() {
+            if self.cleaned.load(Ordering::SeqCst) >= wanted {
+                return;
+            }
+            self.rest();
+        }
+        self.is_too_late();
     }
 }
 

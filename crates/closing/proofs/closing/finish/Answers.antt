@@ -16,9 +16,9 @@ returns-in-Ok-clause-commits g c =
     let history = g.D.Device.history in
     let failures = g.D.Device.failures in
     let z = g.B.Group.site in
-    let old = c.args.flush in
+    let old = c.args.parts.flush in
     let f = c.close.new.flush in
-    let seats = c.args.seats.items in
+    let seats = c.args.parts.seats.items in
     let under = c.close.new.locked in
     let l = locked_of under in
     let first = (locked_of c.into_parts-locked.result.0).book in
@@ -40,9 +40,9 @@ returns-in-Ok-clause-core g c =
     let history = g.D.Device.history in
     let failures = g.D.Device.failures in
     let z = g.B.Group.site in
-    let old = c.args.flush in
+    let old = c.args.parts.flush in
     let f = c.close.new.flush in
-    let seats = c.args.seats.items in
+    let seats = c.args.parts.seats.items in
     let under = c.close.new.locked in
     let l = locked_of under in
     let first = (locked_of c.into_parts-locked.result.0).book in
@@ -64,9 +64,9 @@ returns-in-Ok-clause-device g c =
     let history = g.D.Device.history in
     let failures = g.D.Device.failures in
     let z = g.B.Group.site in
-    let old = c.args.flush in
+    let old = c.args.parts.flush in
     let f = c.close.new.flush in
-    let seats = c.args.seats.items in
+    let seats = c.args.parts.seats.items in
     let under = c.close.new.locked in
     let l = locked_of under in
     let first = (locked_of c.into_parts-locked.result.0).book in
@@ -90,9 +90,9 @@ returns-in-Ok-clause-horizon g c =
     let history = g.D.Device.history in
     let failures = g.D.Device.failures in
     let z = g.B.Group.site in
-    let old = c.args.flush in
+    let old = c.args.parts.flush in
     let f = c.close.new.flush in
-    let seats = c.args.seats.items in
+    let seats = c.args.parts.seats.items in
     let under = c.close.new.locked in
     let l = locked_of under in
     let first = (locked_of c.into_parts-locked.result.0).book in
@@ -113,7 +113,7 @@ returns-in-Ok-clause-horizon g c =
 pub returns-in-Ok-clause-sound : goal.returns-in-Ok-clause-sound
 returns-in-Ok-clause-sound g c =
     let z = g.B.Group.site in
-    let writes : WritesOn g.D.Device.history g.D.Device.failures z.opened c.args.flush c.close.new.flush =
+    let writes : WritesOn g.D.Device.history g.D.Device.failures z.opened c.args.parts.flush c.close.new.flush =
     subst (λ (x : FlushValue _ _). WritesOn g.D.Device.history g.D.Device.failures z.opened x c.close.new.flush) c.settle_all.ensures.same
     c.close.ensures.writes in
     writes.stays c.in-Ok.ensures.sound
@@ -123,9 +123,9 @@ returns-in-Ok-clause-images g c =
     let history = g.D.Device.history in
     let failures = g.D.Device.failures in
     let z = g.B.Group.site in
-    let old = c.args.flush in
+    let old = c.args.parts.flush in
     let f = c.close.new.flush in
-    let seats = c.args.seats.items in
+    let seats = c.args.parts.seats.items in
     let under = c.close.new.locked in
     let l = locked_of under in
     let first = (locked_of c.into_parts-locked.result.0).book in
@@ -138,14 +138,14 @@ returns-in-Ok-clause-images g c =
     left_at_end history failures z.opened seats l book under.shared
     (popped_by old) popped old f writes c.into_parts-device.result.0 c.into_parts-device.ensures.device c.close.ensures.beginning
 
-pub returns-in-Err-clause-left : goal.returns-in-Err-clause-left
-returns-in-Err-clause-left g c =
+pub returns-clause-left : goal.returns-clause-left
+returns-clause-left g c =
     let history = g.D.Device.history in
     let failures = g.D.Device.failures in
     let z = g.B.Group.site in
-    let old = c.args.flush in
+    let old = c.args.parts.flush in
     let f = c.close.new.flush in
-    let seats = c.args.seats.items in
+    let seats = c.args.parts.seats.items in
     let under = c.close.new.locked in
     let l = locked_of under in
     let first = (locked_of c.into_parts-locked.result.0).book in
@@ -158,14 +158,14 @@ returns-in-Err-clause-left g c =
     left_at_end history failures z.opened seats l book under.shared
     (popped_by old) popped old f writes c.into_parts-rest.result.0 c.into_parts-rest.ensures.device c.close.ensures.beginning
 
-pub returns-in-Err-clause-err : goal.returns-in-Err-clause-err
-returns-in-Err-clause-err g c =
+pub returns-clause-err : goal.returns-clause-err
+returns-clause-err g c =
     let history = g.D.Device.history in
     let failures = g.D.Device.failures in
     let z = g.B.Group.site in
-    let old = c.args.flush in
+    let old = c.args.parts.flush in
     let f = c.close.new.flush in
-    let seats = c.args.seats.items in
+    let seats = c.args.parts.seats.items in
     let under = c.close.new.locked in
     let l = locked_of under in
     let first = (locked_of c.into_parts-locked.result.0).book in
@@ -179,17 +179,17 @@ returns-in-Err-clause-err g c =
     (popped_by old) popped old f writes c.into_parts-rest.result.0 c.into_parts-rest.ensures.device c.in-Err.error c.told-why.result c.in-Err.ensures.err
     c.told-why.ensures.failed c.told-why.ensures.sound
 
-pub returns-in-Err-clause-later : goal.returns-in-Err-clause-later
-returns-in-Err-clause-later g c =
+pub returns-clause-later : goal.returns-clause-later
+returns-clause-later g c =
     let z = g.B.Group.site in
-    let writes : WritesOn g.D.Device.history g.D.Device.failures z.opened c.args.flush c.close.new.flush =
+    let writes : WritesOn g.D.Device.history g.D.Device.failures z.opened c.args.parts.flush c.close.new.flush =
     subst (λ (x : FlushValue _ _). WritesOn g.D.Device.history g.D.Device.failures z.opened x c.close.new.flush) c.settle_all.ensures.same
     c.close.ensures.writes in
-    subst (λ d. g.D.Device.failures (device_of c.args.flush.writer) ≤ g.D.Device.failures d) (sym c.into_parts-rest.ensures.device) writes.later
+    subst (λ d. g.D.Device.failures (device_of c.args.parts.flush.writer) ≤ g.D.Device.failures d) (sym c.into_parts-rest.ensures.device) writes.later
 
 pub returns-in-Ok-clause-acks : goal.returns-in-Ok-clause-acks
 returns-in-Ok-clause-acks g c = λ k ack within.
-    let writes : WritesOn g.D.Device.history g.D.Device.failures g.B.Group.site.opened c.args.flush c.close.new.flush =
+    let writes : WritesOn g.D.Device.history g.D.Device.failures g.B.Group.site.opened c.args.parts.flush c.close.new.flush =
     subst (λ (x : FlushValue _ _). WritesOn g.D.Device.history g.D.Device.failures g.B.Group.site.opened x c.close.new.flush) c.settle_all.ensures.same
     c.close.ensures.writes in
     omega (arith, c.settle_all.ensures.reached k ack within, writes.rises, c.synced-horizon.ensures)

@@ -4,8 +4,8 @@ use Rattle.demonstration.proofs.team.close.Goals as goal
 
 pub returns-in-Ok-clause-some : goal.returns-in-Ok-clause-some
 returns-in-Ok-clause-some g c = λ image crash.
-    at_end (g.D.Device.history (device_of c.args.flush.writer)) (g.D.Device.history c.in-Ok.closed.device) _ c.in-Ok.ensures.images image crash
+    at_end (g.D.Device.history (device_of c.args.parts.flush.writer)) (g.D.Device.history c.in-Ok.closed.device) _ c.in-Ok.ensures.images image crash
 
 pub returns-in-Err-clause-some : goal.returns-in-Err-clause-some
 returns-in-Err-clause-some g c = λ image crash.
-    at_end (g.D.Device.history (device_of c.args.flush.writer)) (g.D.Device.history c.in-Err.device) _ c.in-Err.ensures.left image crash
+    at_end (g.D.Device.history (device_of c.args.parts.flush.writer)) (g.D.Device.history c.in-Err.device) _ c.in-Err.ensures.left image crash

@@ -3,6 +3,7 @@ use denote.Param.Send.{sendable}
 use Rattle.std.proofs.Crossing.{crosses}
 use Rattle.shared.proofs.views.GroupView.TheSendSync as view
 use Rattle.loops.proofs.Crosses.{shared_sync}
+use Rattle.loops.proofs.builder_end.BuilderEnd.TheSendSync as builder_end
 use Rattle.demonstration.proofs.progress.Progress.TheSendSync as progress
 use Rattle.demonstration.proofs.team.write_and_watch.Goals as goal
 
@@ -12,4 +13,4 @@ join-written-requires-send-F g c κs within =
     let l = c.type_bounds.sync-L in
     let e = c.type_bounds.send-E in
     let s = shared_sync (param 0 g.row.B) g.B.Group in
-    search (progress.the_send, view.the_send, sendable, crosses) depth 20
+    search (progress.the_send, view.the_send, builder_end.the_sync, sendable, crosses) depth 20

@@ -1,7 +1,7 @@
-use Rattle.std.proofs.Common.{◌∙◌, ap}
+use Rattle.std.proofs.Common.{◌∙◌, None, Some, ap}
 use Rattle.flusher.proofs.Going.{goes_nowhere, goes_then}
-use Rattle.loops.specs.declared.flush.Copying.TheVariants.{Steps}
-use Rattle.loops.proofs.Rounds.{due_of}
+use Rattle.loops.specs.declared.flush.Copying.TheVariants.{GivenUp, Steps}
+use Rattle.loops.proofs.Rounds.{begun_at, due_of}
 use Rattle.loops.proofs.Through.{through_none, through_then}
 use Rattle.loops.proofs.flush.copy.Goals as goal
 
@@ -22,3 +22,16 @@ returns-in_ok-copy_all-in-GivenUp-clause-goes_on g c =
 pub returns-in_ok-copy_all-in-GivenUp-clause-through : goal.returns-in_ok-copy_all-in-GivenUp-clause-through
 returns-in_ok-copy_all-in-GivenUp-clause-through g c =
     through_then g.D.Device.history g.D.Device.failures g.B.Group.site.opened _ _ _ c.copy_all.ensures.through c.flip-in-GivenUp.ensures.through
+
+pub copy_piece-requires-in-Steps-Some-clause-late : goal.copy_piece-requires-in-Steps-Some-clause-late
+copy_piece-requires-in-Steps-Some-clause-late g c =
+    let is = c.in-Steps-Some.is ∙ ap Steps c.in-Steps-Some.field-0-is in
+    λ sound. (begun_at c.args.copying.now (Steps (Some c.in-Steps-Some.place)) c.args.part.now is c.requires.copying sound).1
+
+pub flip-requires-clause-late : goal.flip-requires-clause-late
+flip-requires-clause-late g c =
+    let is = c.in-Steps-None.is ∙ ap Steps c.in-Steps-None.field-0-is in
+    λ sound. (begun_at c.args.copying.now (Steps None) c.args.part.now is c.requires.copying sound).1
+
+pub copy_all-requires-clause-late : goal.copy_all-requires-clause-late
+copy_all-requires-clause-late g c = λ sound. (begun_at c.args.copying.now GivenUp c.args.part.now c.in-GivenUp.is c.requires.copying sound).1

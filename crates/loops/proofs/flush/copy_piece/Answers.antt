@@ -1,5 +1,6 @@
 use Rattle.flusher.proofs.Going.{goes_then}
 use Rattle.loops.proofs.Through.{through_then}
+use Rattle.loops.specs.declared.flush.Copying.TheVariants.{GivenUp}
 use Rattle.loops.proofs.flush.copy_piece.Goals as goal
 
 pub take_chunk-requires-clause-copying : goal.take_chunk-requires-clause-copying
@@ -15,3 +16,6 @@ returns-clause-goes_on g c = goes_then g.D.Device.history g.D.Device.failures g.
 pub returns-clause-through : goal.returns-clause-through
 returns-clause-through g c = through_then g.D.Device.history g.D.Device.failures g.B.Group.site.opened _ _ _ c.copied_piece.ensures.through
     c.take_chunk.ensures.through
+
+pub take_chunk-requires-clause-late : goal.take_chunk-requires-clause-late
+take_chunk-requires-clause-late g c = λ sound. (c.copied_piece.ensures.copying GivenUp (λ was. (tt, c.requires.late was)) sound).1

@@ -2,6 +2,7 @@ use Rattle.std.proofs.Common.{Ok, ◌∙◌, ap}
 use Rattle.flusher.specs.Part.{last_handed}
 use Rattle.loops.proofs.Rounds.{stands_behind, stands_failed}
 use Rattle.loops.proofs.Through.{by_flip, goes_by, through_call}
+use Rattle.loops.specs.declared.flush.Copying.TheVariants.{GivenUp}
 use Rattle.loops.proofs.flush.flip.Goals as goal
 
 pub returns-in_err-flip-clause-goes_on : goal.returns-in_err-flip-clause-goes_on
@@ -100,3 +101,9 @@ returns-then-may_wait-clause-copying g c =
     let o = g.B.Group.site.opened in
     stands_behind c.args.part.now c.flip.new.self c.args.copying.now (last_handed o c.args.part.now) c.flip.result (c.in_ok-flip.was
     ∙ ap Ok c.in-Behind.is) c.flip.ensures.flipped c.requires.copying
+
+pub returns-else-may_wait-clause-copying : goal.returns-else-may_wait-clause-copying
+returns-else-may_wait-clause-copying g c =
+    let o = g.B.Group.site.opened in
+    stands_behind c.args.part.now c.flip.new.self GivenUp (last_handed o c.args.part.now) c.flip.result (c.in_ok-flip.was ∙ ap Ok c.in-Behind.is)
+    c.flip.ensures.flipped (λ sound. (tt, c.requires.late sound))

@@ -1,4 +1,3 @@
-use Rattle.std.proofs.Common.{◌≡◌}
 use Rattle.flusher.specs.Going.{GoesOn}
 use Rattle.loops.specs.Copying.{StandsBy}
 use Rattle.loops.specs.Through.{RunsThrough}
@@ -9,5 +8,4 @@ invariant-loop g l = record {
   goes_on : GoesOn g.D.Device.history g.D.Device.failures g.B.Group.site.opened l.fn.part l.part;
   through : RunsThrough g.D.Device.history g.D.Device.failures g.B.Group.site.opened l.fn.part l.part;
   copying : StandsBy l.copying l.part;
-  view : l.view ≡ record l.fn.view { stopped = l.view.stopped };
 }

@@ -1,11 +1,9 @@
-use Rattle.std.proofs.Common.{◌≡◌, ◌≢◌, ◌⊎◌, ◌∙◌, ap, arith, Err}
-use Rattle.core_contracts.specs.Events.{Event, Refused}
+use Rattle.std.proofs.Common.{arith}
+use Rattle.core_contracts.specs.Events.{Event}
 use Rattle.nsf_core.specs.Builds.{built}
 use Rattle.nsf_core.specs.declared.reply.BuildReply.TheVariants as reply
-use Rattle.nsf_core.specs.declared.parts.Ticket.{Ticket}
-use Rattle.records.specs.declared.error.Error.TheVariants.{NoIndex, NoMemory, Stopped}
 use Rattle.shared.specs.Served.{WasServed}
-use Rattle.loops.specs.Building.{HasPublished}
+use Rattle.loops.specs.Building.{EndsBuilder, HasPublished}
 use Rattle.loops.proofs.Steps.{attempted_on, ended_why, last_told, still_last, why_told}
 use Rattle.loops.proofs.run.build_until_end.Goals as goal
 
@@ -31,8 +29,11 @@ returns-in-Err g c =
           before.done;
       published = last_told (λ ticket. ∥ HasPublished o ticket c.build_until.new.build.progress ∥₁) c.loop.completed c.in-Err.error c.end_of-ended.result
           told.ok (still_last o c.loop.completed _ _ now.rises before.published);
-      why = why_told (λ e. (e ≡ Stopped) ⊎ ((e ≢ NoMemory) × (e ≢ NoIndex) × ∥ WasServed o Event.Build (Refused e) ∥₁)) c.loop.completed c.in-Err.error
-          c.end_of-ended.result told.err (ended_why {T = Ticket} o _ (Err c.in-Err.error) c.in-Err.ensures.why);
+      why = why_told (λ e. EndsBuilder o e) c.loop.completed c.in-Err.error c.end_of-ended.result told.err
+          (ended_why o _ c.in-Err.error c.in-Err.ensures.why);
       rises = omega (arith, before.rises, now.rises);
       attempted = attempted_on o _ _ _ now.rises before.attempted now.attempted;
     }
+
+pub tell-requires : goal.tell-requires
+tell-requires g c = ended_why g.B.Group.site.opened _ c.in-Err.error c.in-Err.ensures.why

@@ -1,4 +1,4 @@
-use Rattle.std.proofs.Common.{◌≡◌, ◌<◌, ◌≤◌, IfSome}
+use Rattle.std.proofs.Common.{◌<◌, ◌≤◌, IfSome}
 use Rattle.core_contracts.specs.Events.{Event}
 use Rattle.nsf_core.specs.Builds.{built}
 use Rattle.nsf_core.specs.declared.reply.BuildReply.TheVariants as reply

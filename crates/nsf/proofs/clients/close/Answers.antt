@@ -6,14 +6,14 @@ use Rattle.nsf.proofs.clients.close.Goals as goal
 
 pub returns-in-Ok : goal.returns-in-Ok
 returns-in-Ok g c = record {
-  geometry = (halves_of c.args.flush.writer).geometry;
+  geometry = (halves_of c.args.parts.flush.writer).geometry;
   pages = c.stands.ensures.pages;
   places = c.stands.ensures.places;
-  seats = c.args.seats.items;
-  popped = popped_by c.args.flush;
-  floor = synced_of c.args.flush.writer;
+  seats = c.args.parts.seats.items;
+  popped = popped_by c.args.parts.flush;
+  floor = synced_of c.args.parts.flush.writer;
   some = λ image crash.
-      at_end (g.D.Device.history (device_of c.args.flush.writer)) (g.D.Device.history c.in-Ok.closed.device) _ c.in-Ok.ensures.images image crash;
+      at_end (g.D.Device.history (device_of c.args.parts.flush.writer)) (g.D.Device.history c.in-Ok.closed.device) _ c.in-Ok.ensures.images image crash;
   all = record {
     commits = c.in-Ok.closed.commits.items;
     of_seats = c.in-Ok.ensures.commits;
@@ -24,13 +24,13 @@ returns-in-Ok g c = record {
 
 pub returns-in-Err : goal.returns-in-Err
 returns-in-Err g c = record {
-  geometry = (halves_of c.args.flush.writer).geometry;
+  geometry = (halves_of c.args.parts.flush.writer).geometry;
   pages = c.stands.ensures.pages;
   places = c.stands.ensures.places;
-  seats = c.args.seats.items;
-  popped = popped_by c.args.flush;
-  floor = synced_of c.args.flush.writer;
+  seats = c.args.parts.seats.items;
+  popped = popped_by c.args.parts.flush;
+  floor = synced_of c.args.parts.flush.writer;
   some = λ image crash.
-      at_end (g.D.Device.history (device_of c.args.flush.writer)) (g.D.Device.history c.in-Err.device) _ c.in-Err.ensures.left image crash;
+      at_end (g.D.Device.history (device_of c.args.parts.flush.writer)) (g.D.Device.history c.in-Err.device) _ c.in-Err.ensures.left image crash;
   all = tt;
 }

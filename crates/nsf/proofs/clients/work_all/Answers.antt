@@ -2,10 +2,11 @@ use denote.Param.{param}
 use denote.Param.Send.{sendable}
 use Rattle.std.proofs.Crossing.{crosses}
 use Rattle.loops.proofs.Crosses.{shared_sync}
+use Rattle.loops.proofs.builder_end.BuilderEnd.TheSendSync as builder_end
 use Rattle.nsf.proofs.clients.work_all.Goals as goal
 
 pub for_each_mut-requires-sync-F : goal.for_each_mut-requires-sync-F
 for_each_mut-requires-sync-F g c κs within =
     let r = c.type_bounds.sync-R in
     let s = shared_sync (param 0 g.row.B) g.B.Group in
-    search (sendable, crosses) depth 20
+    search (builder_end.the_sync, sendable, crosses) depth 20

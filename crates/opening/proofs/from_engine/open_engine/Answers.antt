@@ -1,4 +1,4 @@
-use Rattle.std.proofs.Common.{◌∙◌, ℕ, ap, inl, inr, refl, subst, sym}
+use Rattle.std.proofs.Common.{◌∙◌, ℕ, ap, arith, inl, inr, refl, subst, sym}
 use Rattle.std.proofs.lemmas.Bool.{false≢true}
 use Rattle.core_model.specs.Histories.{CanOpen, Opened}
 use Rattle.restart.specs.Parts.{core_of}
@@ -31,6 +31,7 @@ returns-in-Ok-into_writer-clause-opened g c =
     let written = c.in-Ok-into_writer.ensures.written in
     let now = ap opened_of c.in-Ok-open.ensures.core ∙ c.in-Ok.ensures.fresh.same in
     record {
+      most = omega arith;
       seats = c.in-Ok-open.ensures.made.counted.0;
       quiet = none_active _ _ c.core.ensures _ c.active_txns.ensures.number c.if-active_txns-gt0.false;
       opened = now;
@@ -42,7 +43,8 @@ returns-in-Ok-into_writer-clause-opened g c =
     }
 
 pub returns-then-active_txns-gt0-clause-refused : goal.returns-then-active_txns-gt0-clause-refused
-returns-then-active_txns-gt0-clause-refused g c = inl (refl, some_active _ _ c.core.ensures _ c.active_txns.ensures.number c.if-active_txns-gt0.true, refl)
+returns-then-active_txns-gt0-clause-refused g c = inl
+    (inl (refl, some_active _ _ c.core.ensures _ c.active_txns.ensures.number c.if-active_txns-gt0.true, refl))
 
 pub returns-then-not-can_open-clause-refused : goal.returns-then-not-can_open-clause-refused
 returns-then-not-can_open-clause-refused g c = (
@@ -53,24 +55,27 @@ returns-then-not-can_open-clause-refused g c = (
 
 pub returns-in-Err-clause-refused : goal.returns-in-Err-clause-refused
 returns-in-Err-clause-refused g c =
-    inr (
+    inl (inr (
       none_active _ _ c.core.ensures _ c.active_txns.ensures.number c.if-active_txns-gt0.false,
       c.can_open.ensures.0 c.if-not-can_open.false,
       inl (c.in-Err.ensures.no_memory, refl),
-    )
+    ))
 
 pub returns-in-Err-open-clause-refused : goal.returns-in-Err-open-clause-refused
 returns-in-Err-open-clause-refused g c =
-    inr (
+    inl (inr (
       none_active _ _ c.core.ensures _ c.active_txns.ensures.number c.if-active_txns-gt0.false,
       c.can_open.ensures.0 c.if-not-can_open.false,
       inl (c.in-Err-open.ensures.no_memory, refl),
-    )
+    ))
 
 pub returns-in-Err-into_writer-clause-refused : goal.returns-in-Err-into_writer-clause-refused
 returns-in-Err-into_writer-clause-refused g c =
-    inr (
+    inl (inr (
       none_active _ _ c.core.ensures _ c.active_txns.ensures.number c.if-active_txns-gt0.false,
       c.can_open.ensures.0 c.if-not-can_open.false,
       inr c.in-Err-into_writer.ensures.refused,
-    )
+    ))
+
+pub returns-then-seats-gt-SEATS_MAX-clause-refused : goal.returns-then-seats-gt-SEATS_MAX-clause-refused
+returns-then-seats-gt-SEATS_MAX-clause-refused g c = inr (refl, omega arith, refl)

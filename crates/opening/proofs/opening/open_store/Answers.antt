@@ -1,4 +1,4 @@
-use Rattle.std.proofs.Common.{◌≡◌, ◌∙◌, false, true, ap, sym, subst, ℕ}
+use Rattle.std.proofs.Common.{◌∙◌, ap, arith, inl, inr, refl, sym, subst, ℕ}
 use Rattle.std.proofs.lemmas.Bool.{false≢true}
 use Rattle.core_model.specs.Histories.{CanOpen, Opened}
 use Rattle.nsf_core.specs.View.{CoreValue}
@@ -35,6 +35,7 @@ returns-in-Ok-open-clause-opened g c =
     let over_engine = opened_is g.D.Device.history c.args.device c.in-Ok.engine is emptied can _ _ parted.parts parted.left in
     let now = ap opened_of c.in-Ok-open.ensures.core ∙ over_engine in
     record {
+      most = omega arith;
       seats = c.in-Ok-open.ensures.made.counted.0;
       opened = subst (λ (o : Opened). Opens (g.D.Device.history c.args.device).disk.content o) (sym now)
           (opens g.D.Device.history c.args.device c.in-Ok.engine is);
@@ -50,6 +51,12 @@ returns-then-not-can_open-clause-refused g c =
     (λ can. false≢true (sym c.if-not-can_open.true ∙ c.can_open.ensures.1 can)) g.D.Device.failures _ c.into_device.ensures.device c.in-Ok.ensures.quiet
 
 pub returns-in-Err-open-clause-refused : goal.returns-in-Err-open-clause-refused
-returns-in-Err-open-clause-refused g c =
-    not_opened g.D.Device.history c.args.device c.in-Ok.engine c.in-Ok.ensures.opened g.D.Device.failures _ _
-    (c.into_device-in-Err-open.ensures.device ∙ c.in-Ok-take_apart.ensures.parts.device) c.in-Ok.ensures.quiet c.in-Err-open.ensures.no_memory
+returns-in-Err-open-clause-refused g c = inl
+    (not_opened g.D.Device.history c.args.device c.in-Ok.engine c.in-Ok.ensures.opened g.D.Device.failures _ _
+    (c.into_device-in-Err-open.ensures.device ∙ c.in-Ok-take_apart.ensures.parts.device) c.in-Ok.ensures.quiet c.in-Err-open.ensures.no_memory)
+
+pub returns-then-seats-gt-SEATS_MAX-clause-refused : goal.returns-then-seats-gt-SEATS_MAX-clause-refused
+returns-then-seats-gt-SEATS_MAX-clause-refused g c = inr (refl, omega arith, refl)
+
+pub returns-in-Err-clause-refused : goal.returns-in-Err-clause-refused
+returns-in-Err-clause-refused g c = inl c.in-Err.ensures.refused

@@ -1,4 +1,4 @@
-use Rattle.std.proofs.Common.{◌≡◌, ℕ, [], ap, ◌∙◌, arith, length, subst}
+use Rattle.std.proofs.Common.{◌≡◌, ℕ, ap, ◌∙◌, arith, length, subst}
 use Rattle.board.specs.Views.{Sighting}
 use Rattle.locked_core.specs.Seats.{SeatValue}
 use Rattle.shared.specs.Seats.{AreNewSeats}
@@ -31,7 +31,7 @@ loop-half-init g c =
     record {
       seats = no_seats z.board c.in_ok-seats.seats.items c.in_ok-seats.ensures.items;
       board = ap (λ (v : Sighting). v.board) c.requires.view;
-      nothing = ap (λ (v : Sighting). record v { name = [] }) c.requires.view;
+      nothing = c.requires.view;
       left = omega (arith, ap length all, c.requires.counted);
       halves = all_halves z.table _ _ c.requires.halves all;
     }

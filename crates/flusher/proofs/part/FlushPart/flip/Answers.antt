@@ -15,9 +15,10 @@ invariant_of-self g c =
     let kept = kept_by_call g.D.Device.history g.B.Group.site.opened _ _ _ _ (
       c.self.invariant.1,
       c.self.invariant.2,
-    ) c.checkpoint_flip-flipped.new.self _ c.publish.new.view
-    (c.checkpoint_flip-flipped.ensures.writer _ _ c.self.invariant.2.writer) c.publish.ensures in
-    (c.self.invariant.0, kept.0, kept.1, c.self.invariant.3, ap (λ (n : FlusherCount). n.board) c.publish.ensures ∙ c.requires)
+    ) c.checkpoint_flip-flipped.new.self c.publish.new.view
+    (c.checkpoint_flip-flipped.ensures.writer _ _ c.self.invariant.2.writer) (ap (λ (n : FlusherCount). n.horizon) c.publish.ensures)
+    (ap (λ (n : FlusherCount). n.failed) c.publish.ensures) in
+    (c.self.invariant.0, kept.0, kept.1, c.self.invariant.3, ap (λ (n : FlusherCount). n.board) c.publish.ensures ∙ c.self.invariant.4)
 
 pub returns-clause-images : goal.returns-clause-images
 returns-clause-images g c = images_of g.D.Device.history g.B.Group.site.opened _ _ c.self.view_is c.checkpoint_flip-flipped.new.self c.self.invariant.2

@@ -16,5 +16,5 @@ invariant_of-result g c =
     kept_at_first g.D.Device.history g.B.Group.site.opened _ _ c.args.writer c.publish.new.view c.synced-last.result records c.new.ensures.items is.writer
     is.pages is.places is.fits (omega (arith, ap (λ (n : FlusherCount). n.horizon) told)) (ap (λ (n : FlusherCount). n.failed) told)
     c.synced-last.ensures in
-    let board = ap (λ (n : FlusherCount). n.board) told ∙ is.site in
+    let board = ap (λ (n : FlusherCount). n.board) told ∙ (ap (λ (e : EndsValue). e.published.board) same ∙ is.board) in
     (queue, kept.0.0, kept.0.1, kept.1, board)

@@ -1,7 +1,16 @@
-use Rattle.std.proofs.Common.{ap, rules, subst}
+use Rattle.std.proofs.Common.{[], ap, rules, subst}
+use Rattle.board.specs.Views.{Sighting}
 use Rattle.session_halves.specs.Halves.{IsNew}
 use Rattle.locked_core.specs.Names.{Names}
+use Rattle.shared.proofs.Seats.{sees_nothing, stays_blind}
+use Rattle.shared.specs.Seats.{HasSeenNothing}
 use Rattle.shared.proofs.opening.Opening.start.Goals as goal
+
+pub seats_of-requires-clause-view : goal.seats_of-requires-clause-view
+seats_of-requires-clause-view g c =
+    let nothing = subst (λ z. HasSeenNothing z c.args.self.view) (ap (λ (n : Names). n.board) c.requires.names)
+    (ap (λ (v : Sighting). record v { name = [] }) c.requires.made.view) in
+    stays_blind g.B.Group.site.board c.args.self.view _ _ nothing c.another-clean_view.ensures.stays
 
 pub seats_of-requires-clause-halves : goal.seats_of-requires-clause-halves
 seats_of-requires-clause-halves g c = subst (λ z. IsNew z c.args.self.halves.items) (ap (λ (n : Names). n.table) c.requires.names) c.requires.made.halves
@@ -11,3 +20,9 @@ new-locked-requires-clause-book g c = subst (λ z. IsNew z c.args.self.book.item
 
 pub returns-in_err-seats-clause-no_memory : goal.returns-in_err-seats-clause-no_memory
 returns-in_err-seats-clause-no_memory g c = let told = c.in_err-seats.ensures.no_memory in search (rules, told, c.from_residual.ensures)
+
+pub returns-clause-clean : goal.returns-clause-clean
+returns-clause-clean g c =
+    let nothing = subst (λ z. HasSeenNothing z c.args.self.view) (ap (λ (n : Names). n.board) c.requires.names)
+    (ap (λ (v : Sighting). record v { name = [] }) c.requires.made.view) in
+    sees_nothing g.B.Group.site.board c.args.self.view _ _ nothing c.another-clean_view.ensures.leaves

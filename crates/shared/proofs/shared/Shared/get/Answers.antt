@@ -3,7 +3,7 @@ use Rattle.std.specs.Prelude.{slice_get}
 use Rattle.core_contracts.specs.Events.{Event, Reply}
 use Rattle.nsf_core.specs.Value.{value_of}
 use Rattle.session_halves.specs.Halves.{shown}
-use Rattle.locked_core.specs.Locked.{LockedValue, locked_of}
+use Rattle.locked_core.specs.Locked.{LockedValue}
 use Rattle.shared.specs.Changed.{row_of}
 use Rattle.shared.specs.Seats.{SeatValue}
 use Rattle.shared.specs.Served.{WasServedTo}
