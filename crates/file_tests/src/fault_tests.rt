@@ -1,18 +1,21 @@
 // Each write and sync of a script fails in turn, the power is lost, at once or in the next process, and the store is
 // opened again.
 use crate::backing::{Host, Loss, Used};
-use file_disk::FileDisk;
+use file_disk::{Backing, FileDisk};
 use flip_image::Halves;
 use nsf_core::BuildReply;
 use records::{Body, Error, Geometry, Key, Mark, Pair, Rid, Row, SLOTS_PER_PAGE};
 use restart::{Event, Reply};
-use sector_device::Device;
+use sector_device::{Device, SECTOR_SIZE};
 use serving::Store;
 use std::alloc::Global;
 use std::process::Abort;
 use std::test::Fail;
 
 const ROWS: u8 = 5;
+
+// More sectors than are read at once, and no multiple of those.
+const SECTORS: usize = 300;
 
 const LOSSES: [Loss; 3] = [Loss::Dropped, Loss::Kept, Loss::Torn];
 
@@ -206,6 +209,34 @@ fn cut_next(rt: &impl Abort, alloc: Global, host: &Host, told: Told) -> Result<(
         look(rt, alloc, &mut next, told, false)?;
     }
     Err(Fail::new("more syncs than there are"))
+}
+
+// A sector that can be told from its neighbours.
+fn numbered(n: usize) -> [u8; SECTOR_SIZE] {
+    [u8::try_from(n % 251).unwrap_or(0); SECTOR_SIZE]
+}
+
+// A sync fails, so the device holds nothing of what the cache shows, and no later sync writes it. Each sector that an
+// opening reads is on the device then, so that the next one reads it behind a cut.
+#[test]
+fn each_sector_that_was_read_is_safe(rt: HostRuntime) -> Result<(), Fail> {
+    let alloc = rt.alloc();
+    let mut host = Host::new(alloc, SECTORS)?;
+    let mut used = Used { host: &mut host };
+    for n in 0..SECTORS {
+        used.put(n as u64, &numbered(n))?;
+    }
+    host.fail_at_sync(1);
+    assert!(&rt; Used { host: &mut host }.sync().is_err());
+    for _ in 0..2 {
+        let disk = FileDisk::over(alloc, Used { host: &mut host }, SECTORS)?;
+        for (n, sector) in disk.content().iter().enumerate() {
+            assert!(&rt; *sector == numbered(n), "sector {n}");
+        }
+        drop(disk);
+        host.lose_power(Loss::Dropped);
+    }
+    Ok(())
 }
 
 #[test]

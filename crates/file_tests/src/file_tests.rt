@@ -3,12 +3,12 @@ use crate::watched::{Log, Watched};
 use file_disk::{OpenError, Trouble, Troubled, create, discard, hold, open, publish, read};
 use refused_memory::Refusing;
 use sector_device::{Device, Failed, SECTOR_SIZE};
-use std::fs;
-use std::fs::File;
+use std::fs::{File, OpenFile, OpenOptions};
 use std::os::unix::fs::symlink;
 use std::process::Abort;
 use std::rt::Files;
 use std::test::Fail;
+use std::{fs, io};
 
 const NEVER: u64 = u64::MAX;
 
@@ -20,9 +20,13 @@ fn write<D: Device>(disk: &mut D, byte: u8) -> Result<(), Failed> {
     disk.sync()
 }
 
-// A file of two sectors of zeros.
-fn made<R: Files<File = File> + AllocGlobal>(rt: &R, path: &str) -> Result<(), OpenError> {
-    create(rt, rt.alloc(), path, 2)?;
+// A file of so many sectors of zeros.
+fn made<R: Files<File = File> + AllocGlobal>(
+    rt: &R,
+    path: &str,
+    sectors: u64,
+) -> Result<(), OpenError> {
+    create(rt, rt.alloc(), path, sectors)?;
     publish(rt, path)
 }
 
@@ -55,7 +59,7 @@ fn a_draft_is_its_makers_until_it_has_its_name(rt: HostRuntime) -> Result<(), Fa
 #[test]
 fn a_file_is_locked_while_it_is_open(rt: HostRuntime) -> Result<(), Fail> {
     let alloc = rt.alloc();
-    made(&rt, "locked")?;
+    made(&rt, "locked", 2)?;
     let disk = open(&rt, alloc, "locked")?;
     assert!(&rt; matches!(open(&rt, alloc, "locked"), Err(OpenError::Busy)));
     assert!(&rt; matches!(read(&rt, alloc, "locked"), Err(OpenError::Busy)));
@@ -85,8 +89,12 @@ fn what_is_no_store_is_refused_by_name(rt: HostRuntime) -> Result<(), Fail> {
     assert!(&rt; matches!(open(&rt, alloc, "link"), Err(OpenError::Linked)));
     fs::hard_link(&rt, "short", "other")?;
     assert!(&rt; matches!(open(&rt, alloc, "short"), Err(OpenError::Linked)));
+    // What has the name of its draft is another file.
+    fs::write(&rt, "short.new", b"mine".as_slice())?;
+    assert!(&rt; matches!(open(&rt, alloc, "short"), Err(OpenError::Linked)));
+    assert!(&rt; fs::exists(&rt, "short.new")?);
     assert!(&rt; matches!(open(&rt, alloc, "missing"), Err(OpenError::Io(_))));
-    for path in ["short", "empty", "link", "other"] {
+    for path in ["short", "short.new", "empty", "link", "other"] {
         fs::remove_file(&rt, path)?;
     }
     fs::remove_dir_all(&rt, "folder")?;
@@ -99,15 +107,23 @@ enum Harm {
     Removed,
     Replaced,
     Cut,
+    Grown,
 }
 
-// Does this to the file of that name while a disk over it is open, and tells what is wrong then.
+// Gives the file of that name this length.
+fn set_length<R: Files<File = File>>(rt: &R, path: &str, length: u64) -> io::Result<()> {
+    let file = OpenOptions::new().write(true).open(rt, path)?;
+    file.set_len(length)
+}
+
+// Does this to the file of that name, of so many sectors, while a disk over it is open, and tells what is wrong then.
 fn trouble_after<R: Files<File = File> + AllocGlobal>(
     rt: &R,
     path: &str,
+    sectors: u64,
     harm: Harm,
 ) -> Result<Option<Trouble>, Fail> {
-    made(rt, path)?;
+    made(rt, path, sectors)?;
     let mut disk = open(rt, rt.alloc(), path)?;
     write(&mut disk, 1)?;
     match harm {
@@ -116,10 +132,8 @@ fn trouble_after<R: Files<File = File> + AllocGlobal>(
             fs::write(rt, "other", [3; 1_024].as_slice())?;
             fs::rename(rt, "other", path)?;
         }
-        Harm::Cut => fs::OpenOptions::new()
-            .write(true)
-            .open(rt, path)?
-            .set_len(512)?,
+        Harm::Cut => set_length(rt, path, 512)?,
+        Harm::Grown => set_length(rt, path, 1_536)?,
     }
     match write(&mut disk, 2) {
         Ok(()) => Ok(None),
@@ -129,12 +143,15 @@ fn trouble_after<R: Files<File = File> + AllocGlobal>(
 
 #[test]
 fn a_file_that_is_harmed_while_it_is_open_is_told(rt: HostRuntime) -> Result<(), Fail> {
-    for (harm, trouble) in [
-        (Harm::Removed, Trouble::Gone),
-        (Harm::Replaced, Trouble::Gone),
-        (Harm::Cut, Trouble::Resized),
+    // To a disk of one sector nothing is written: it is only synced.
+    for (sectors, harm, trouble) in [
+        (2, Harm::Removed, Trouble::Gone),
+        (1, Harm::Removed, Trouble::Gone),
+        (2, Harm::Replaced, Trouble::Gone),
+        (2, Harm::Cut, Trouble::Resized),
+        (2, Harm::Grown, Trouble::Resized),
     ] {
-        assert_eq!(&rt; trouble_after(&rt, "harmed", harm)?, Some(trouble));
+        assert_eq!(&rt; trouble_after(&rt, "harmed", sectors, harm)?, Some(trouble));
         if fs::exists(&rt, "harmed")? {
             fs::remove_file(&rt, "harmed")?;
         }
@@ -172,6 +189,10 @@ fn each_write_and_name_is_synced(rt: HostRuntime) -> Result<(), Fail> {
     );
     let bytes = fs::read(&rt, "synced")?;
     assert!(&rt; bytes.len() == 1_024 && bytes.iter().filter(|byte| **byte == 9).count() == 512);
+    // A publication that was cut off is ended by an opening, and that is safe then.
+    fs::hard_link(&rt, "synced", "synced.new")?;
+    open(&files, rt.alloc(), "synced")?;
+    assert_eq!(&rt; log.take(rt.alloc()).as_slice(), b"krfwwwws".as_slice());
     // Somebody looks at the draft before it is locked.
     log.keep_busy(3);
     create(&files, rt.alloc(), "left", 2)?;
@@ -218,6 +239,35 @@ fn fail_after<R: Files<File = File> + AllocGlobal + Abort>(
     if fs::exists(rt, "failed")? {
         open(rt, rt.alloc(), "failed")?;
         fs::remove_file(rt, "failed")?;
+    }
+    Ok(())
+}
+
+// Behind a write that failed, the seventh call of an opened disk, nothing reaches the file.
+#[test]
+fn nothing_is_written_behind_a_failure(rt: HostRuntime) -> Result<(), Fail> {
+    made(&rt, "spoiled", 2)?;
+    let log = Log::new(rt.alloc(), 6, 5);
+    let files = Watched { rt: &rt, log: &log };
+    let mut disk = open(&files, rt.alloc(), "spoiled")?;
+    assert!(&rt; write(&mut disk, 1).is_err());
+    log.take(rt.alloc());
+    assert!(&rt; write(&mut disk, 2).is_err());
+    assert!(&rt; disk.sync().is_err());
+    assert!(&rt; log.take(rt.alloc()).is_empty());
+    fs::remove_file(&rt, "spoiled")?;
+    Ok(())
+}
+
+// A file system gives no second name: the eighth call is to give one.
+#[test]
+fn that_no_second_name_is_given_is_told(rt: HostRuntime) -> Result<(), Fail> {
+    for code in [1, 95] {
+        let log = Log::new(rt.alloc(), 7, code);
+        let files = Watched { rt: &rt, log: &log };
+        let made = make_and_write(&files, "single");
+        assert!(&rt; matches!(made, Err(OpenError::NoSecondName)));
+        assert!(&rt; !fs::exists(&rt, "single.new")? && !fs::exists(&rt, "single")?);
     }
     Ok(())
 }
