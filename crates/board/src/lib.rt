@@ -3,7 +3,8 @@
 //!
 //! A thread steps with a view, a token that it owns and that takes no bytes. The flusher has the [`FlushView`] and
 //! alone raises the horizon or says that the device failed. The builder has the [`BuildView`] and alone raises the
-//! progress. Every other thread has a [`View`]: it reads the four words and may set the stop flag.
+//! progress. Both also read the stop flag. Every other thread has a [`View`]: it reads the four words and may set the
+//! stop flag.
 //!
 //! Threads that have nothing to do sleep on the bells of the board, which its steps ring ([`Waits`]). Nothing rests on
 //! a ring: each sleep ends by itself.

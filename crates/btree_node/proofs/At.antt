@@ -6,7 +6,7 @@ use Rattle.std.proofs.Math.Nat.{one-le-pow}
 use Rattle.std.specs.List.{insert, prefix_len}
 use Rattle.node_parts.specs.Place.{place_in}
 use Rattle.node_parts.proofs.Places.{place_in-row}
-use Rattle.records.specs.declared.pair.Pair.{Pair}
+use Rattle.record_values.specs.declared.pair.Pair.{Pair}
 use Rattle.node_parts.specs.declared.Entry.{Entry}
 use Rattle.node_parts.specs.declared.Child.{Child}
 use Rattle.node_parts.specs.declared.Parts.{Parts}

@@ -7,9 +7,9 @@ use Rattle.std.specs.Ordering.{is_lt, is_eq, eq_by_cmp, ordering_reverse}
 use Rattle.std.specs.declared.cmp.Ordering.{Ordering}
 use Rattle.std.specs.declared.cmp.Ordering.TheVariants.{Less, Equal, Greater}
 use Rattle.std.proofs.lemmas.Cmp.{tied_itself}
-use Rattle.records.specs.Orders.{pair_cmp, pair_cmp_total, pair_cmp-IsAntisymmetric}
-use Rattle.records.specs.declared.pair.Pair.{Pair}
-use Rattle.records.specs.declared.pair.Mark.{Mark}
+use Rattle.record_values.specs.Orders.{pair_cmp, pair_cmp_total, pair_cmp-IsAntisymmetric}
+use Rattle.record_values.specs.declared.pair.Pair.{Pair}
+use Rattle.record_values.specs.declared.pair.Mark.{Mark}
 use Rattle.node_parts.specs.declared.Entry.{Entry}
 use Rattle.node_parts.specs.Order.{order, is_below, mark_in, with_mark, insert_entry, IsAscending}
 use Rattle.node_parts.specs.Tree.{Tree, leaf, entries}

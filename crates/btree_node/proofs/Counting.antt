@@ -19,5 +19,9 @@ pub bool_byte_small : (b : Bool) → bool_byte b ≤ 1
 bool_byte_small true = omega arith
 bool_byte_small false = omega arith
 
+pub one_is : (b : Bool) → (cond b 1 0 == 1) ≡ b
+one_is true = refl
+one_is false = refl
+
 pub top_split : (s d n : ℕ) → s ≤ d → (s + cond ((s == d) && (n == 32)) 1 0 == d + 1) ≡ (s == d) && (n == 32)
 top_split s d n h = grind (arith, nat_tests)

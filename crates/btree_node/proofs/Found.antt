@@ -8,8 +8,8 @@ use Rattle.std.specs.Slice.{IsItemAt}
 use Rattle.std.specs.List.{prefix_len}
 use Rattle.std.specs.Ordering.{is_eq}
 use Rattle.std.proofs.Math.ListN.{set}
-use Rattle.records.specs.declared.pair.Pair.{Pair}
-use Rattle.records.specs.declared.pair.Mark.{Mark}
+use Rattle.record_values.specs.declared.pair.Pair.{Pair}
+use Rattle.record_values.specs.declared.pair.Mark.{Mark}
 use Rattle.node_parts.specs.declared.Entry.{Entry}
 use Rattle.node_parts.specs.Order.{order, is_below, mark_in, with_mark, AllAbove, IsAscending}
 use Rattle.node_parts.proofs.Order.{below-differs, mark_in-above, AllAbove-from}

@@ -3,8 +3,8 @@ use Rattle.std.proofs.Common.{◌≡◌, ℕ, ◌<◌, ◌≤◌, List, get_or, 
 use Rattle.std.specs.Prelude.{IsSome}
 use Rattle.std.specs.List.{insert, remove}
 use Rattle.std.proofs.Math.ListN.{set}
-use Rattle.records.specs.declared.pair.Mark.{Mark}
-use Rattle.records.specs.declared.pair.Pair.{Pair}
+use Rattle.record_values.specs.declared.pair.Mark.{Mark}
+use Rattle.record_values.specs.declared.pair.Pair.{Pair}
 use Rattle.node_parts.specs.declared.Entry.{Entry}
 use Rattle.node_parts.specs.Order.{is_below, insert_entry, mark_in, with_mark, IsAscending}
 use Rattle.node_parts.specs.Tree.{Tree, leaf, branch, entries, count, IsLeaf}

@@ -1,17 +1,17 @@
-pub mod Contents
-pub mod Insert
-pub mod At
-pub mod Ascending
-pub mod Top
-pub mod Counting
-pub mod Above
-pub mod Fronts
-pub mod Marks
-pub mod Found
-pub mod Leaves
-pub mod Splice
-pub mod Mending
-pub mod Remove
-pub mod Path
-pub mod Descending
-pub mod Ways
+mod Contents
+mod Insert
+mod At
+mod Ascending
+mod Top
+mod Counting
+mod Above
+mod Fronts
+mod Marks
+mod Found
+mod Leaves
+mod Splice
+mod Mending
+mod Remove
+mod Path
+mod Descending
+mod Ways

@@ -1,8 +1,8 @@
 -- The mark of a pair stands with the child where the pair belongs.
 use Rattle.std.proofs.Common.{◌≡◌, ℕ, ◌-◌, ◌≤◌, List, ◌++◌, length, take, drop, get_or, Some, sym, ap, ◌∙◌, arith, suc}
 use Rattle.std.proofs.Math.ListN.{set, length-set}
-use Rattle.records.specs.declared.pair.Pair.{Pair}
-use Rattle.records.specs.declared.pair.Mark.{Mark}
+use Rattle.record_values.specs.declared.pair.Pair.{Pair}
+use Rattle.record_values.specs.declared.pair.Mark.{Mark}
 use Rattle.node_parts.specs.declared.Child.{Child}
 use Rattle.node_parts.specs.Order.{mark_in, with_mark}
 use Rattle.node_parts.specs.Tree.{Tree, branch, entries, forest_of, trees_of, count, depth}

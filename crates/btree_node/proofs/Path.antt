@@ -1,6 +1,6 @@
 -- The way of a pair through a row of children.
 use Rattle.std.proofs.Common.{◌≡◌, ℕ, ◌-◌, ◌<◌, ◌≤◌, true, false, List, [], ◌∷◌, ◌++◌, length, take, drop, get_or, Some, refl, sym, ap, ◌∙◌, arith, zero, suc}
-use Rattle.records.specs.declared.pair.Pair.{Pair}
+use Rattle.record_values.specs.declared.pair.Pair.{Pair}
 use Rattle.node_parts.specs.declared.Entry.{Entry}
 use Rattle.node_parts.specs.declared.Child.{Child}
 use Rattle.node_parts.specs.Order.{is_below, AllAbove, IsAscending}

@@ -7,8 +7,8 @@ use Rattle.std.specs.List.{remove, prefix_len}
 use Rattle.std.specs.Ordering.{is_eq, is_lt}
 use Rattle.std.specs.declared.cmp.Ordering.{Ordering}
 use Rattle.std.specs.declared.cmp.Ordering.TheVariants.{Less, Equal, Greater}
-use Rattle.records.specs.declared.pair.Pair.{Pair}
-use Rattle.records.specs.declared.pair.Mark.{Mark}
+use Rattle.record_values.specs.declared.pair.Pair.{Pair}
+use Rattle.record_values.specs.declared.pair.Mark.{Mark}
 use Rattle.node_parts.specs.declared.Entry.{Entry}
 use Rattle.node_parts.specs.declared.Child.{Child}
 use Rattle.node_parts.specs.Order.{order, is_below, mark_in, AllAbove, IsAscending}

@@ -2,7 +2,7 @@
 use Rattle.std.proofs.Common.{◌≡◌, ℕ, ◌+◌, ◌-◌, ◌<◌, ◌≤◌, [], ◌∷◌, length, refl, sym, arith, cond, ◌==◌, Bool, length-append}
 use Rattle.node_parts.specs.Tree.{Tree, leaf, branch, none, more, entries, forest_entries, count, depth, trees_of}
 use Rattle.node_parts.specs.Balance.{IsTree, IsRoot}
-use Rattle.records.specs.declared.pair.Pair.{Pair}
+use Rattle.record_values.specs.declared.pair.Pair.{Pair}
 use Rattle.node_parts.proofs.Balance.{depth-tree}
 use Rattle.btree_node.specs.Splits.{splits}
 use Rattle.btree_node.specs.Top.{nodes_for}

@@ -1,18 +1,20 @@
 -- The way of a pair goes on through the child where the pair belongs.
-use Rattle.std.proofs.Common.{◌≡◌, ℕ, ◌+◌, ◌-◌, ◌<◌, Bool, true, false, not, cond, ◌==◌, ◌&&◌, List, [], ◌∷◌, ◌++◌, length, Option, Some, None, refl, ap, arith, suc}
+use Rattle.std.proofs.Common.{◌≡◌, ℕ, ◌+◌, ◌-◌, ◌<◌, Bool, true, false, not, cond, ◌==◌, ◌&&◌, List, [], ◌∷◌, ◌++◌, length, Option, Some, None, refl, ap, arith}
+use Rattle.std.proofs.Common.{suc, zero, sym, ◌∙◌, ◌≤◌}
 use Rattle.std.specs.List.{prefix_len, slice_get}
 use Rattle.std.proofs.lemmas.Option.{slice_get_within}
-use Rattle.records.specs.declared.pair.Pair.{Pair}
+use Rattle.record_values.specs.declared.pair.Pair.{Pair}
 use Rattle.node_parts.specs.declared.Entry.{Entry}
 use Rattle.node_parts.specs.Balance.{AreTrees, IsTree}
-use Rattle.node_parts.specs.Order.{IsAscending, is_below}
+use Rattle.node_parts.specs.Order.{IsAscending, is_below, mark_in}
 use Rattle.node_parts.specs.Place.{begins_after, place_in}
 use Rattle.node_parts.specs.Rows.{branches}
 use Rattle.node_parts.specs.Tree.{Forest, IsLeaf, Tree, branch, count, depth, entries, forest_depth, forest_entries, leaf, more, none, trees_of}
-use Rattle.node_parts.proofs.Order.{AllAbove-right, IsAscending-right, below_trans}
+use Rattle.node_parts.proofs.Order.{AllAbove-from, AllAbove-right, AllBelow-upto, IsAscending-right, below_head, below_trans, mark_in-above, mark_in-below}
+use Rattle.node_parts.proofs.Order.{mark_in-left, mark_in-right}
 use Rattle.btree_node.specs.Path.{forest_path, path_of}
 use Rattle.btree_node.specs.Splits.{forest_splits, is_before_all, splits}
-use Rattle.btree_node.proofs.At.{not_empty}
+use Rattle.btree_node.proofs.At.{not_empty, prefix_len-upto}
 use Rattle.btree_node.proofs.Descending.{IsBelow, below}
 
 -- the tree of a row on the way of a pair
@@ -100,3 +102,57 @@ path_ends (branch f) p l = absurd l
 pub splits_end : (t : Tree) (p : Pair) → IsLeaf t → splits t p ≡ cond (count t == 32) 1 0
 splits_end (leaf es) p l = refl
 splits_end (branch f) p l = absurd l
+
+pub place_ends : (t : Tree) (p : Pair) → IsLeaf t → place_in t p ≡ prefix_len (λ e. is_below e.pair p) (entries t)
+place_ends (leaf es) p l = refl
+place_ends (branch f) p l = absurd l
+
+-- ---- the mark
+none_before : (es ys : List Entry) (p : Pair) → begins_after es p ≡ true → IsAscending (es ++ ys) → mark_in (es ++ ys) p ≡ None
+none_before [] ys p b a = cc
+none_before (e ∷ es) ys p b a = mark_in-above (e ∷ (es ++ ys)) p (b, AllAbove-from p e.pair (es ++ ys) b a.0)
+
+none_after : (es fs ys : List Entry) (p : Pair) → 0 < length fs → IsAscending (es ++ (fs ++ ys)) → begins_after fs p ≡ false → mark_in es p ≡ None
+none_after es [] ys p some a e = absurd (omega arith)
+none_after es (y ∷ fs) ys p some a e = mark_in-below es p (AllBelow-upto es y.pair p (below_head es y (fs ++ ys) a) e)
+
+mark_chosen : (h : ℕ) (f : Forest) (p : Pair) (u : Tree) → AreTrees h f → IsAscending (forest_entries f) → chosen f p ≡ Some u
+    → mark_in (forest_entries f) p ≡ mark_in (entries u) p
+mark_chosen h none p u b a e = cc
+mark_chosen h (more t none) p u b a e =
+    let same : t ≡ u = cc in
+    mark_in-left (entries t) [] p refl ∙ ap (λ x. mark_in (entries x) p) same
+mark_chosen h (more t (more s g)) p u b a e =
+    pick (mark_chosen h (more s g) p u b.2 rest) (begins_after (entries s) p) refl e
+  where
+    rest : IsAscending (forest_entries (more s g))
+    rest = IsAscending-right (entries t) (forest_entries (more s g)) a
+
+    pick : (chosen (more s g) p ≡ Some u → mark_in (forest_entries (more s g)) p ≡ mark_in (entries u) p) → (v : Bool) → begins_after (entries s) p ≡ v
+        → cond v (Some t) (chosen (more s g) p) ≡ Some u → mark_in (entries t ++ forest_entries (more s g)) p ≡ mark_in (entries u) p
+    pick r true v k =
+        let same : t ≡ u = cc in
+        mark_in-left (entries t) (forest_entries (more s g)) p (none_before (entries s) (forest_entries g) p v rest) ∙ ap (λ x. mark_in (entries x) p) same
+    pick r false v k =
+        let without : mark_in (entries t) p ≡ None = none_after (entries t) (entries s) (forest_entries g) p (not_empty h s b.2.1 b.2.0) a v in
+        mark_in-right (entries t) (forest_entries (more s g)) p without ∙ r k
+
+-- the child where a pair belongs has its mark
+pub mark_on : (t u : Tree) (p : Pair) → IsTree (depth t) t → IsAscending (entries t) → slice_get (branches t) (place_in t p) ≡ Some u
+    → mark_in (entries u) p ≡ mark_in (entries t) p
+mark_on (leaf es) u p b a e = absurd (omega (arith, slice_get_within (branches (leaf es)) (place_in (leaf es) p) u e))
+mark_on (branch f) u p b a e =
+    sym (mark_chosen (depth (branch f) - 1) f p u b.2 a (chosen_at (depth (branch f) - 1) f p u b.2 a e))
+
+-- ---- where a way ends
+past : (ts : List Tree) (k : ℕ) → slice_get ts k ≡ None → length ts ≤ k
+past [] k e = omega arith
+past (t ∷ ts) zero e = cc
+past (t ∷ ts) (suc k) e = omega (arith, past ts k e)
+
+-- a node with entries that has no child where a pair belongs is a leaf
+pub leaf_on : (t : Tree) (p : Pair) → 0 < length (entries t) → slice_get (branches t) (place_in t p) ≡ None → IsLeaf t
+leaf_on (leaf es) p s e = tt
+leaf_on (branch none) p s e = absurd (omega (arith, s))
+leaf_on (branch (more t f)) p s e =
+    absurd (omega (arith, past (t ∷ trees_of f) (place_in (branch (more t f)) p) e, prefix_len-upto (comes p) (t ∷ trees_of f)))

@@ -1,9 +1,9 @@
 -- The map that a tree holds.
 use Rattle.std.specs.Prelude.{List, map}
 use Rattle.std.specs.FinMap.{FinMap, from_entries}
-use Rattle.records.specs.Orders.{pair_cmp}
-use Rattle.records.specs.declared.pair.Pair.{Pair}
-use Rattle.records.specs.declared.pair.Mark.{Mark}
+use Rattle.record_values.specs.Orders.{pair_cmp}
+use Rattle.record_values.specs.declared.pair.Pair.{Pair}
+use Rattle.record_values.specs.declared.pair.Mark.{Mark}
 use Rattle.node_parts.specs.declared.Entry.{Entry}
 use Rattle.node_parts.specs.Tree.{Tree, entries}
 

@@ -1,6 +1,6 @@
 -- The way of a pair down a tree.
 use Rattle.std.specs.Prelude.{ℕ, cond, List, [], ◌∷◌}
-use Rattle.records.specs.declared.pair.Pair.{Pair}
+use Rattle.record_values.specs.declared.pair.Pair.{Pair}
 use Rattle.node_parts.specs.Tree.{Tree, Forest, leaf, branch, none, more}
 use Rattle.node_parts.specs.Place.{place_in}
 use Rattle.btree_node.specs.Splits.{is_before_all}

@@ -1,15 +1,15 @@
 -- Which ways and plans serve which trees.
-use Rattle.records.specs.declared.geometry.TheConstants.{ENTRIES_MAX}
+use Rattle.record_values.specs.declared.geometry.TheConstants.{ENTRIES_MAX}
 use Rattle.std.specs.Prelude.{◌≡◌, ℕ, ◌<◌, List, Option, length}
-use Rattle.records.specs.declared.pair.Pair.{Pair}
-use Rattle.records.specs.declared.pair.Mark.{Mark}
+use Rattle.record_values.specs.declared.pair.Pair.{Pair}
+use Rattle.record_values.specs.declared.pair.Mark.{Mark}
 use Rattle.node_parts.specs.Tree.{Tree, entries}
 use Rattle.btree_node.specs.Path.{top_path}
 use Rattle.btree_node.specs.Top.{nodes_for}
 use Rattle.btree_node.specs.Grown.{Nodes, AreEnough}
 
--- what a way is seen as: its pair, the places on it, how many nodes the pair's insertion takes, the pair's mark, if it has
--- an entry, and how many nodes were visited
+-- what a way is seen as: its pair, the places on it, how many nodes the pair's insertion takes, the pair's mark, if it
+-- has an entry, and how many nodes were visited
 pub record Walked : Type 0 where
   pub pair : Pair
   pub path : List ℕ

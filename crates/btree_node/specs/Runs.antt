@@ -1,9 +1,9 @@
 -- Entries that follow one another.
 use Rattle.std.specs.Prelude.{◌≡◌, List, [], ◌∷◌, ◌++◌, Option, Some, cond}
 use Rattle.std.specs.FinMap.{FinMap}
-use Rattle.records.specs.Orders.{pair_cmp}
-use Rattle.records.specs.declared.pair.Pair.{Pair}
-use Rattle.records.specs.declared.pair.Mark.{Mark}
+use Rattle.record_values.specs.Orders.{pair_cmp}
+use Rattle.record_values.specs.declared.pair.Pair.{Pair}
+use Rattle.record_values.specs.declared.pair.Mark.{Mark}
 use Rattle.node_parts.specs.declared.Entry.{Entry}
 use Rattle.node_parts.specs.Order.{is_below}
 use Rattle.btree_node.specs.Above.{IsLeastAbove}

@@ -1,6 +1,6 @@
 -- How many nodes an insertion splits.
 use Rattle.std.specs.Prelude.{ℕ, ◌+◌, ◌==◌, ◌&&◌, Bool, true, cond, length}
-use Rattle.records.specs.declared.pair.Pair.{Pair}
+use Rattle.record_values.specs.declared.pair.Pair.{Pair}
 use Rattle.node_parts.specs.Place.{begins_after}
 use Rattle.node_parts.specs.Tree.{Tree, Forest, leaf, branch, none, more, entries, trees_of, forest_depth}
 

@@ -1,8 +1,8 @@
 -- A whole tree, and what an insertion into it takes.
-use Rattle.records.specs.declared.geometry.TheConstants.{ENTRIES_MAX}
+use Rattle.record_values.specs.declared.geometry.TheConstants.{ENTRIES_MAX}
 use Rattle.std.specs.Prelude.{◌≡◌, ℕ, ◌+◌, ◌≤◌, ◌==◌, cond, [], ◌∷◌, length, Option, Some, None, Box}
 use Rattle.node_parts.specs.declared.Node.{Node}
-use Rattle.records.specs.declared.pair.Pair.{Pair}
+use Rattle.record_values.specs.declared.pair.Pair.{Pair}
 use Rattle.node_parts.specs.Tree.{Tree, leaf, branch, entries, depth}
 use Rattle.node_parts.specs.Balance.{IsRoot}
 use Rattle.node_parts.specs.Order.{IsAscending}

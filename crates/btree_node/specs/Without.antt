@@ -1,7 +1,7 @@
 -- What a removal leaves.
 use Rattle.std.specs.Prelude.{List, [], ◌∷◌, cond}
 use Rattle.std.specs.Ordering.{is_eq}
-use Rattle.records.specs.declared.pair.Pair.{Pair}
+use Rattle.record_values.specs.declared.pair.Pair.{Pair}
 use Rattle.node_parts.specs.declared.Entry.{Entry}
 use Rattle.node_parts.specs.Order.{order}
 

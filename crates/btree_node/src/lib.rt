@@ -6,8 +6,8 @@
 //! and `take` answers what the tree held (`taken`). A look-up goes down by a `Descent`, which counts each node that it
 //! visits. `get` and `find_way` visit as many as the tree is high (`visited`), at most four (`few_visited`).
 //! `run_above` answers entries that follow one another (`run`), and none only where none is above (`none`). Only tested
-//! (`table_tests`): plans with each allocation refused in turn; heights of full trees, and how many runs a walk over one
-//! takes. Neither: how many nodes `above` and `run_above` look at; when memory is freed; speed; stack. By hand: the
+//! (`test_tables`): plans with each allocation refused in turn; heights of full trees, and how many runs a walk over
+//! one takes. Neither: how many nodes `above` and `run_above` look at; when memory is freed; speed; stack. By hand: the
 //! `unsafe impl` of an allocator that always refuses.
 #![tactic(auto)]
 

@@ -38,8 +38,8 @@ pub fn mark_below<A: Allocator>(way: &mut Descent<'_, A>, pair: &Pair) -> Option
     ensures found { result ≡ mark_in (entries way.old.node) pair.now }
     ensures visits { way.new.visits + 1 ≡ way.old.visits + depth way.old.node }
 {
-    let (at, goes_on) = way.descend(pair);
-    if goes_on {
+    let at = way.place(pair);
+    if way.descend_to(at) {
         return mark_below(way, pair);
     }
     mark_at(way.row(), at, pair)
@@ -79,9 +79,9 @@ pub fn way_to<A: Allocator>(
     ensures visits { way.new.visits + 1 ≡ way.old.visits + depth way.old.node }
 {
     let is_full = way.is_full();
-    let (at, goes_on) = way.descend(pair);
+    let at = way.place(pair);
     path.push_reserved(at);
-    if goes_on {
+    if way.descend_to(at) {
         let (below, all, found) = way_to(way, pair, path);
         let full = all && is_full;
         return (below + usize::from(full), full, found);

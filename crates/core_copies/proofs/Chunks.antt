@@ -5,17 +5,17 @@ use Rattle.std.proofs.lemmas.Option.{slice_get_cases, slice_get_past}
 use Rattle.std.specs.FinMap.{empty, entries, entries-from_sorted, find, from_sorted, get, get-from_sorted, len-empty, len-entries}
 use Rattle.std.specs.Ordering.{eq_by_cmp}
 use Rattle.std.specs.declared.cmp.Ordering.TheVariants.{Less}
-use Rattle.records.specs.Maps.{key_is, other_key, pair_exact, same_key}
-use Rattle.records.specs.Orders.{pair_cmp}
-use Rattle.records.specs.declared.pair.Mark.{Mark}
-use Rattle.records.specs.declared.pair.Pair.{Pair}
+use Rattle.record_values.specs.Maps.{key_is, other_key, pair_exact, same_key}
+use Rattle.record_values.specs.Orders.{pair_cmp}
+use Rattle.record_values.specs.declared.pair.Mark.{Mark}
+use Rattle.record_values.specs.declared.pair.Pair.{Pair}
 use Rattle.model.specs.Table.{Index}
-use Rattle.image_model.specs.Partly.{joined}
-use Rattle.image_model.specs.declared.chunk.TheConstants.{CHUNK_ENTRIES}
-use Rattle.image_model.proofs.Ordered.{joined_entries}
-use Rattle.image_model.proofs.Steps.{get_first, get_second}
+use Rattle.store_image_model.specs.Partly.{joined}
+use Rattle.store_image_model.specs.declared.chunk.TheConstants.{CHUNK_ENTRIES}
+use Rattle.store_image_model.proofs.Ordered.{joined_entries}
+use Rattle.store_image_model.proofs.Steps.{get_first, get_second}
 use Rattle.btree_node.specs.Above.{IsLeastAbove}
-use Rattle.nsf_core.specs.View.{CoreValue}
+use Rattle.core_parts.specs.View.{CoreValue}
 use Rattle.core_copies.specs.Pieces.{AreEntriesOf}
 use Rattle.core_copies.specs.Private.{unlisted}
 use Rattle.core_copies.proofs.Copied.{AreUpTo, all_copied, below_up, none_copied, one_copied, past_none}

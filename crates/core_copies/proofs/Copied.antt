@@ -1,19 +1,18 @@
 -- Entries that are copied one after another, in order.
-use Rattle.std.proofs.Common.{◌≡◌, ◌≢◌, ◌⊎◌, inl, inr, ⊎_elim, ℕ, ◌+◌, ◌<◌, ◌≤◌, Bool, true, false, cond, List, [], ◌∷◌, Option, Some, None, refl, sym, ap}
-use Rattle.std.proofs.Common.{subst, ◌∙◌, arith}
-use Rattle.std.proofs.lemmas.Bool.{false≢true}
-use Rattle.std.specs.FinMap.{empty, entries, find, get, get-empty, get-entries}
+use Rattle.std.proofs.Common.{◌≡◌, ◌≢◌, ◌⊎◌, inl, inr, ⊎_elim, Option, Some, None, refl, sym, ap}
+use Rattle.std.proofs.Common.{subst, ◌∙◌}
+use Rattle.std.specs.FinMap.{empty, get, get-empty}
 use Rattle.std.specs.Cmp.{tied_itself}
-use Rattle.std.specs.Ordering.{eq_by_cmp, is_lt, ordering_reverse}
+use Rattle.std.specs.Ordering.{ordering_reverse}
 use Rattle.std.specs.declared.cmp.Ordering.{Ordering}
 use Rattle.std.specs.declared.cmp.Ordering.TheVariants.{Equal, Greater, Less}
-use Rattle.records.specs.Maps.{alike, get-set_at_other, get-set_at_same, key_is, pair_exact, set_at}
-use Rattle.records.specs.Orders.{pair_cmp, pair_cmp_total}
-use Rattle.records.specs.declared.pair.Mark.{Mark}
-use Rattle.records.specs.declared.pair.Pair.{Pair}
+use Rattle.record_values.specs.Maps.{alike, get-set_at_other, get-set_at_same, pair_exact, set_at}
+use Rattle.record_values.specs.Orders.{pair_cmp, pair_cmp_total}
+use Rattle.record_values.specs.declared.pair.Mark.{Mark}
+use Rattle.record_values.specs.declared.pair.Pair.{Pair}
 use Rattle.model.specs.Table.{Index}
-use Rattle.image_model.specs.Partly.{IsUpTo}
-use Rattle.image_model.proofs.Steps.{up_to_or_not}
+use Rattle.store_image_model.specs.Partly.{IsUpTo}
+use Rattle.store_image_model.proofs.Steps.{up_to_or_not}
 use Rattle.btree_node.specs.Above.{IsAfter, IsLeastAbove}
 
 -- ---- pairs up to another, and after it
@@ -126,69 +125,3 @@ all_copied all above last more h none p not = ⊎_elim (λ up. h.there p not up)
 
 pub whole_copied : (all : Index) (last : Option Pair) (more : Index) → AreUpTo all None last more → IsLeastAbove all last None → more ≡ all
 whole_copied all last more h none = alike pair_exact more all (λ p. all_copied all None last more h none p (λ up. up))
-
--- ---- how many entries are left
-
--- whether a pair comes after another, or after none
-abbrev comes_after : Option Pair → Pair → Bool
-comes_after None q = true
-comes_after (Some start) q = is_lt (pair_cmp start q)
-
-after_is : (last : Option Pair) (q : Pair) → IsAfter last q → comes_after last q ≡ true
-after_is None q after = refl
-after_is (Some l) q after = ap is_lt after
-
-is_less : (o : Ordering) → is_lt o ≡ true → o ≡ Less
-is_less Less is = refl
-is_less Equal is = absurd (false≢true is)
-is_less Greater is = absurd (false≢true is)
-
--- how many of these entries pass the test
-abbrev passing : (Pair → Bool) → List (Pair × Mark) → ℕ
-passing test [] = 0
-passing test (e ∷ es) = cond (test e.0) 1 0 + passing test es
-
-weaker_here : (a b : Bool) (m n : ℕ) → (a ≡ true → b ≡ true) → m ≤ n → cond a 1 0 + m ≤ cond b 1 0 + n
-weaker_here true true m n weaker le = omega (arith, le)
-weaker_here true false m n weaker le = absurd (false≢true (weaker refl))
-weaker_here false true m n weaker le = omega (arith, le)
-weaker_here false false m n weaker le = omega (arith, le)
-
-fewer_here : (a b : Bool) (m n : ℕ) → a ≡ false → b ≡ true → m ≤ n → cond a 1 0 + m < cond b 1 0 + n
-fewer_here true b m n out within le = absurd (false≢true (sym out))
-fewer_here false true m n out within le = omega (arith, le)
-fewer_here false false m n out within le = absurd (false≢true within)
-
-fewer_later : (a b : Bool) (m n : ℕ) → (a ≡ true → b ≡ true) → m < n → cond a 1 0 + m < cond b 1 0 + n
-fewer_later true true m n weaker lt = omega (arith, lt)
-fewer_later true false m n weaker lt = absurd (false≢true (weaker refl))
-fewer_later false true m n weaker lt = omega (arith, lt)
-fewer_later false false m n weaker lt = omega (arith, lt)
-
-module _ (f g : Pair → Bool) (weaker : (q : Pair) → f q ≡ true → g q ≡ true) (p : Pair) (out : f p ≡ false) (within : g p ≡ true) where
-  no_more : (es : List (Pair × Mark)) → passing f es ≤ passing g es
-  no_more [] = omega arith
-  no_more (e ∷ es) = weaker_here (f e.0) (g e.0) (passing f es) (passing g es) (weaker e.0) (no_more es)
-
-  fewer : (es : List (Pair × Mark)) (m : Mark) → find pair_cmp p es ≡ Some m → passing f es < passing g es
-  fewer [] m found = absurd (some_none m found)
-  fewer (e ∷ es) m found = by (fewer es m) (eq_by_cmp pair_cmp p e.0) refl found
-    where
-      by : (find pair_cmp p es ≡ Some m → passing f es < passing g es) → (b : Bool) → eq_by_cmp pair_cmp p e.0 ≡ b
-          → cond b (Some e.1) (find pair_cmp p es) ≡ Some m → passing f (e ∷ es) < passing g (e ∷ es)
-      by rest true is found =
-          let same : p ≡ e.0 = key_is pair_exact p e.0 is in
-          fewer_here (f e.0) (g e.0) (passing f es) (passing g es) (ap f (sym same) ∙ out) (ap g (sym same) ∙ within) (no_more es)
-      by rest false is found = fewer_later (f e.0) (g e.0) (passing f es) (passing g es) (weaker e.0) (rest found)
-
--- how many entries come after a pair
-abbrev pub left_after : Index → Option Pair → ℕ
-left_after all last = passing (comes_after last) (entries all)
-
-pub fewer_left : (all : Index) (last : Option Pair) (e : Pair × Mark) → IsLeastAbove all last (Some e) → left_after all (Some e.0) < left_after all last
-fewer_left all last e least = fewer (comes_after (Some e.0)) (comes_after last) (λ q later. weaker last least.0 q (is_less (pair_cmp e.0 q) later)) e.0
-    (ap is_lt (tied_itself pair_cmp_total e.0)) (after_is last e.0 least.0) (entries all) e.1 (sym (get-entries all e.0) ∙ least.1)
-  where
-    weaker : (last : Option Pair) → IsAfter last e.0 → (q : Pair) → pair_cmp e.0 q ≡ Less → comes_after last q ≡ true
-    weaker None after q later = refl
-    weaker (Some l) after q later = ap is_lt (pair_cmp_total.trans l e.0 q after later)

@@ -7,14 +7,14 @@ use Rattle.std.specs.Coded.{Coded-set, Unit-prop, coded_ℕ, le_prop}
 use Rattle.std.specs.FinMap.{empty, entries, get, get-empty, len, len-empty, len-entries}
 use Rattle.std.specs.Prelude.{IsSome}
 use Rattle.records.specs.ChangeValue.{ChangeValue}
-use Rattle.records.specs.GeometryValue.{GeometryValue}
-use Rattle.records.specs.Maps.{alike, nat_exact}
-use Rattle.records.specs.Orders.{pair_cmp, rid_cmp}
-use Rattle.records.specs.Values.{Place}
+use Rattle.record_values.specs.GeometryValue.{GeometryValue}
+use Rattle.record_values.specs.Maps.{alike, nat_exact}
+use Rattle.record_values.specs.Orders.{pair_cmp, rid_cmp}
+use Rattle.record_values.specs.Values.{Place}
 use Rattle.records.specs.declared.change.TheConstants.{CHANGES_MAX}
-use Rattle.records.specs.declared.pair.Mark.{Mark}
-use Rattle.records.specs.declared.pair.Pair.{Pair}
-use Rattle.records.specs.declared.row.Row.{Row}
+use Rattle.record_values.specs.declared.pair.Mark.{Mark}
+use Rattle.record_values.specs.declared.pair.Pair.{Pair}
+use Rattle.record_values.specs.declared.row.Row.{Row}
 use Rattle.model.specs.declared.life.Life.{Life}
 use Rattle.model.specs.declared.life.Life.TheVariants.{Building}
 use Rattle.model.specs.Cells.{Cells, Pending, list_of}
@@ -27,11 +27,11 @@ use Rattle.txn_table.specs.Table.{TxnState, has_any, state_of}
 use Rattle.core_model.specs.Changes.{Changes, Unchanged, as_list, ◌▹◌}
 use Rattle.core_model.specs.Invariants.{IsHolderOf, IsNumbered}
 use Rattle.core_model.specs.States.{State}
-use Rattle.core_contracts.specs.Events.{Standing}
-use Rattle.nsf_core.specs.View.{AreOne, CoreValue, IsSafe, IsState}
-use Rattle.image_half.specs.Source.{FitsImage}
-use Rattle.image_model.specs.declared.chunk.CopyPlace.{CopyPlace}
-use Rattle.image_model.specs.declared.chunk.Piece.{Piece}
+use Rattle.core_model.specs.Events.{Standing}
+use Rattle.core_parts.specs.View.{AreOne, CoreValue, IsSafe, IsState}
+use Rattle.store_image_half.specs.Source.{FitsImage}
+use Rattle.store_image_model.specs.declared.chunk.CopyPlace.{CopyPlace}
+use Rattle.store_image_model.specs.declared.chunk.Piece.{Piece}
 use Rattle.core_copies.specs.Pieces.{AreEntriesOf, IsPageOf, IsPieceOf, IsStartOf}
 use Rattle.core_copies.specs.Private.{unlisted}
 use Rattle.core_copies.specs.Shown.{FitsStoreOf, IsCellsOf, list_shown}

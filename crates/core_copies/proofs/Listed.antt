@@ -4,11 +4,11 @@ use Rattle.std.proofs.lemmas.Bool.{cases_eq}
 use Rattle.std.specs.FinMap.{get, get-empty}
 use Rattle.std.specs.Ordering.{eq_by_cmp, nat_cmp}
 use Rattle.records.specs.ChangeValue.{ChangeValue}
-use Rattle.records.specs.Maps.{get-set_at_other, get-set_at_same, key_is, nat_exact, other_key, rid_exact, same_key}
-use Rattle.records.specs.Orders.{rid_cmp}
-use Rattle.records.specs.Values.{Place}
-use Rattle.records.specs.declared.pair.Mark.{Mark}
-use Rattle.records.specs.declared.pair.Pair.{Pair}
+use Rattle.record_values.specs.Maps.{get-set_at_other, get-set_at_same, key_is, nat_exact, other_key, rid_exact, same_key}
+use Rattle.record_values.specs.Orders.{rid_cmp}
+use Rattle.record_values.specs.Values.{Place}
+use Rattle.record_values.specs.declared.pair.Mark.{Mark}
+use Rattle.record_values.specs.declared.pair.Pair.{Pair}
 use Rattle.model.specs.Cells.{Cells, Pending, with_list}
 use Rattle.model.specs.Given.{opening_cells}
 use Rattle.model.specs.Table.{Table}

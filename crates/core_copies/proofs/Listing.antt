@@ -6,7 +6,7 @@ use Rattle.std.specs.FinMap.{contains_key, empty, get, get-empty, len, len-empty
 use Rattle.std.specs.Cmp.{nat_cmp_total}
 use Rattle.std.specs.Ordering.{nat_cmp}
 use Rattle.records.specs.ChangeValue.{ChangeValue}
-use Rattle.records.specs.Maps.{get-set_at_other, get-set_at_same, nat_exact}
+use Rattle.record_values.specs.Maps.{get-set_at_other, get-set_at_same, nat_exact}
 use Rattle.model.specs.Cells.{Pending, with_list}
 use Rattle.txn_table.specs.Table.{TxnState, holds_rows, state_of}
 use Rattle.core_copies.specs.Private.{HasListPut}
@@ -17,9 +17,6 @@ Txn = ℕ × TxnState
 
 no_state : (x : TxnState) → (◌≡◌ {A = Option TxnState} None (Some x)) → ⊥
 no_state x e = absurd cc
-
-same_txn : (x y : Txn) → (◌≡◌ {A = Option Txn} (Some x) (Some y)) → x ≡ y
-same_txn x y e = cc
 
 -- an active transaction is at some place of the table
 placed : (t : ℕ) (es : List Txn) (x : TxnState) → state_of t es ≡ Some x → (i : ℕ) × (e : Txn) × (i < length es) × (slice_get es i ≡ Some e) × (e.0 ≡ t)
@@ -92,11 +89,6 @@ all_listed active lists h t = by (state_of t active) refl
 pub none_shown : (o : Option TxnState) → holds_rows o ≡ false → list_shown o ≡ None
 none_shown None none = refl
 none_shown (Some x) none = ap (λ b. cond b (Some x.changes) None) none
-
-pub some_shown : (o : Option TxnState) (changes : List ChangeValue) → holds_rows o ≡ true → Some changes ≡ option_map (λ (x : TxnState). x.changes) o
-    → list_shown o ≡ Some changes
-some_shown None changes holds is = absurd cc
-some_shown (Some x) changes holds is = ap (λ b. cond b (Some x.changes) None) holds ∙ sym is
 
 pub one_put : (active : List Txn) (n : ℕ) (lists new : Pending) → AreListedTo active n lists → (t : ℕ)
     → Some t ≡ option_map (λ (e : Txn). e.0) (slice_get active n) → HasListPut (list_shown (state_of t active)) t lists new → AreListedTo active (n + 1) new

@@ -1,7 +1,7 @@
 -- The cells that the records of a run leave are those of the core.
 use Rattle.std.proofs.Common.{◌≡◌, ℕ, List, ◌++◌, Option, None, Some, refl, sym, subst, ◌∙◌}
 use Rattle.records.specs.RecordValue.{RecordValue}
-use Rattle.records.specs.GeometryValue.{GeometryValue}
+use Rattle.record_values.specs.GeometryValue.{GeometryValue}
 use Rattle.records.specs.declared.record.Action.{Action}
 use Rattle.model.specs.Cells.{Cells, cells_after}
 use Rattle.model.specs.Given.{opening_cells}
@@ -15,9 +15,9 @@ use Rattle.core_model.specs.Logs.{HasMade, next_number, one_record, records_from
 use Rattle.core_model.specs.Records.{action_of, set_by_any}
 use Rattle.core_model.specs.States.{State}
 use Rattle.core_model.specs.Steps.{MachineStep, after}
-use Rattle.core_contracts.specs.Events.{Event, Reply, Standing}
-use Rattle.core_contracts.specs.Served.{HasServed}
-use Rattle.nsf_core.specs.View.{CoreValue, IsState}
+use Rattle.core_model.specs.Events.{Event, Reply, Standing}
+use Rattle.core_model.specs.Served.{HasServed}
+use Rattle.core_parts.specs.View.{CoreValue, IsState}
 use Rattle.core_copies.proofs.Listed.{lists_begin, lists_go_on}
 use Rattle.core_copies.proofs.Owned.{cells_shown}
 use Rattle.core_copies.specs.Lists.{HasLists}

@@ -4,16 +4,16 @@ use Rattle.std.proofs.Common.{eq-eqb}
 use Rattle.std.proofs.lemmas.Bool.{eqb-true, false≢true}
 use Rattle.std.specs.FinMap.{get}
 use Rattle.records.specs.ChangeValue.{ChangeValue}
-use Rattle.records.specs.Maps.{alike, nat_exact}
-use Rattle.records.specs.Values.{Place}
+use Rattle.record_values.specs.Maps.{alike, nat_exact}
+use Rattle.record_values.specs.Values.{Place}
 use Rattle.model.specs.Cells.{Cells}
 use Rattle.txn_table.specs.Sound.{IsSound, OneHolder, Rises}
 use Rattle.txn_table.specs.Table.{TxnState, has_any, holder_of, is_among, state_of}
 use Rattle.core_model.specs.Changes.{as_list}
 use Rattle.core_model.specs.Records.{HasCells, IsListOf}
 use Rattle.core_model.specs.States.{Active, State}
-use Rattle.core_contracts.specs.Events.{Standing}
-use Rattle.nsf_core.specs.View.{AreOne, CoreValue, IsState}
+use Rattle.core_model.specs.Events.{Standing}
+use Rattle.core_parts.specs.View.{AreOne, CoreValue, IsState}
 use Rattle.core_copies.specs.Lists.{HasLists}
 use Rattle.core_copies.specs.Shown.{IsCellsOf, list_shown}
 

@@ -5,14 +5,14 @@ use Rattle.std.specs.Prelude.{IsSome}
 use Rattle.std.proofs.lemmas.Bool.{cases_eq, cases_lt}
 use Rattle.std.proofs.lemmas.Option.{same_Some}
 use Rattle.std.specs.FinMap.{empty, get, get-empty}
-use Rattle.records.specs.Maps.{alike, get-set_at_other, get-set_at_same, rid_exact, set_at}
-use Rattle.records.specs.Orders.{rid_cmp}
-use Rattle.records.specs.Values.{Place}
-use Rattle.records.specs.declared.rid.TheConstants.{SLOTS_PER_PAGE}
-use Rattle.records.specs.declared.row.Row.{Row}
+use Rattle.record_values.specs.Maps.{alike, get-set_at_other, get-set_at_same, rid_exact, set_at}
+use Rattle.record_values.specs.Orders.{rid_cmp}
+use Rattle.record_values.specs.Values.{Place}
+use Rattle.record_values.specs.declared.rid.TheConstants.{SLOTS_PER_PAGE}
+use Rattle.record_values.specs.declared.row.Row.{Row}
 use Rattle.heap_pages.specs.Pages.{HeapValue, IsPlaceInside}
 use Rattle.model.specs.Table.{Table}
-use Rattle.nsf_core.specs.View.{CoreValue}
+use Rattle.core_parts.specs.View.{CoreValue}
 use Rattle.core_copies.specs.Pieces.{IsPageOf}
 use Rattle.core_copies.specs.Private.{HasPagePut, unlisted}
 
@@ -35,13 +35,6 @@ pub record ArePutTo (all : Table) (page slot : ℕ) (old new : Table) : Type 0 w
   pub here : (q : Place) → q.page ≡ page → q.slot < slot → get new q ≡ get all q
   pub rest : (q : Place) → q.page ≡ page → slot ≤ q.slot → get new q ≡ None
   pub others : (q : Place) → q.page ≢ page → get new q ≡ get old q
-
-pub none_put : (all : Table) (page : ℕ) (old : Table) → ((q : Place) → q.page ≡ page → get old q ≡ None) → ArePutTo all page 0 old old
-none_put all page old none = record {
-  here = λ q same below. absurd (omega (arith, below));
-  rest = λ q same past. none q same;
-  others = λ q apart. refl;
-}
 
 module _ (all : Table) (page slot : ℕ) (old mid : Table) (row : Option Row) (found : row ≡ get all (record { page = page; slot = slot }))
     (h : ArePutTo all page slot old mid) where

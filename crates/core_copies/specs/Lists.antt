@@ -1,7 +1,7 @@
 -- Which transactions the log of a core has a list of.
 use Rattle.std.specs.FinMap.{get}
 use Rattle.std.specs.Prelude.{◌≡◌, ◌≢◌, ℕ, Some, None}
-use Rattle.records.specs.Values.{Place}
+use Rattle.record_values.specs.Values.{Place}
 use Rattle.model.specs.Cells.{Cells}
 use Rattle.core_model.specs.States.{State}
 

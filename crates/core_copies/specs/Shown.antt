@@ -2,11 +2,11 @@
 use Rattle.std.specs.FinMap.{get}
 use Rattle.std.specs.Prelude.{◌≡◌, ℕ, List, Option, Some, None, if◌then◌else◌}
 use Rattle.records.specs.ChangeValue.{ChangeValue}
-use Rattle.records.specs.GeometryValue.{GeometryValue}
+use Rattle.record_values.specs.GeometryValue.{GeometryValue}
 use Rattle.model.specs.Cells.{Cells}
 use Rattle.txn_table.specs.Table.{TxnState, has_any, state_of}
-use Rattle.nsf_core.specs.View.{CoreValue}
-use Rattle.image_half.specs.Source.{FitsImage}
+use Rattle.core_parts.specs.View.{CoreValue}
+use Rattle.store_image_half.specs.Source.{FitsImage}
 
 -- The list that the log has of a transaction: its changes. One that holds no row has made no record, and has no list.
 abbrev pub list_shown : Option TxnState → Option (List ChangeValue)

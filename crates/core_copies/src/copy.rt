@@ -7,11 +7,11 @@ ghost use Rattle.core_copies.specs.Pieces.{IsPieceOf, IsWholeOf};
 ghost use Rattle.core_copies.specs.Shown.{IsCellsOf};
 
 use crate::parts::{all_entries, all_lists, all_rows, next_entries, page_rows};
-use image_model::{Chunk, CopyPlace, Piece};
 use model::CellMaps;
 use nsf_core::Core;
 use records::Error;
 use std::alloc::Allocator;
+use store_image_model::{Chunk, CopyPlace, Piece};
 
 /// Copies of a core, for images of its store.
 pub trait Copies<A: Allocator> {

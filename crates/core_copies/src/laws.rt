@@ -1,6 +1,6 @@
 //! Laws of copies.
 ghost use Rattle.std.specs.Prelude.{◌≡◌, List};
-ghost use Rattle.records.specs.GeometryValue.{GeometryValue};
+ghost use Rattle.record_values.specs.GeometryValue.{GeometryValue};
 ghost use Rattle.records.specs.RecordValue.{RecordValue};
 ghost use Rattle.model.specs.Cells.{Cells, cells_after};
 ghost use Rattle.model.specs.Given.{opening_cells};
@@ -10,9 +10,9 @@ ghost use Rattle.core_model.specs.Invariants.{IsWellFormed};
 ghost use Rattle.core_model.specs.Records.{HasCells, action_of, set_by_any};
 ghost use Rattle.core_model.specs.States.{State};
 ghost use Rattle.core_model.specs.Steps.{IsEnabled, MachineStep, after};
-ghost use Rattle.core_contracts.specs.Events.{Event, Reply, Standing};
-ghost use Rattle.core_contracts.specs.Served.{HasServed};
-ghost use Rattle.nsf_core.specs.View.{CoreValue, IsState};
+ghost use Rattle.core_model.specs.Events.{Event, Reply, Standing};
+ghost use Rattle.core_model.specs.Served.{HasServed};
+ghost use Rattle.core_parts.specs.View.{CoreValue, IsState};
 ghost use Rattle.core_copies.specs.Lists.{HasLists};
 ghost use Rattle.core_copies.specs.Shown.{IsCellsOf, IsOfGeometry};
 

@@ -4,6 +4,8 @@
 //! that belongs at a place (`piece`), with the number of the last record (`number`). The one error is `NoMemory`. The
 //! laws `one_copy`, `each_list` and `made_cells` say why these are the cells that the records leave. Neither: what a
 //! copy costs, and that it succeeds where there is memory.
+//!
+//! Lemmas about its public words that crates above may cite, in `proofs`: `Cited`.
 #![tactic(auto)]
 
 mod copy;

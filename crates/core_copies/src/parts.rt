@@ -1,23 +1,23 @@
 //! The parts of a copy: lists, rows and entries.
 ghost use Rattle.std.specs.Prelude.{◌≡◌, ◌≤◌, ℕ, [], length, None, IsSome, OnOk, IfOk, IfErr};
 ghost use Rattle.std.specs.FinMap as map;
-ghost use Rattle.records.specs.Maps.{set_at};
-ghost use Rattle.records.specs.Values.{Place};
+ghost use Rattle.record_values.specs.Maps.{set_at};
+ghost use Rattle.record_values.specs.Values.{Place};
 ghost use Rattle.btree_node.specs.Above.{IsLeastAbove};
 ghost use Rattle.btree_node.specs.Runs.{IsRunAbove};
 ghost use Rattle.heap_pages.specs.Pages.{IsPlaceInside};
-ghost use Rattle.nsf_core.specs.Moves.{txn_shown};
+ghost use Rattle.core_parts.specs.Moves.{txn_shown};
 ghost use Rattle.nsf_core.specs.Value.{value_of};
 ghost use Rattle.core_copies.specs.Pieces.{AreEntriesOf, IsPageOf};
 ghost use Rattle.core_copies.specs.Private.{HasListPut, HasPagePut, table_of, unlisted};
 ghost use Rattle.core_copies.specs.Shown.{list_shown};
 
 use btree_node::Entry;
-use image_model::{CHUNK_ENTRIES, PageRows};
 use model::{EntryMap, ListMap, RowMap};
 use nsf_core::Core;
 use records::{Error, Mark, Pair, Rid, Row, SLOTS_PER_PAGE, Txn};
 use std::alloc::Allocator;
+use store_image_model::{CHUNK_ENTRIES, PageRows};
 
 // Adds the list that the log has of the transaction, if it has one.
 fn put_list<A: Allocator + Copy>(

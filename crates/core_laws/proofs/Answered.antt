@@ -1,15 +1,15 @@
 -- What is left of two answers to one call.
 use Rattle.std.proofs.Common.{Bool, None, Option, Some, ap, false, refl, subst, sym, true, ℕ, ◌++◌, ◌∙◌, ◌≡◌, ◌≢◌}
 use Rattle.std.specs.Option.{option_map}
-use Rattle.records.specs.declared.error.Error.{Error}
+use Rattle.record_values.specs.declared.error.Error.{Error}
 use Rattle.txn_table.specs.Table.{TxnState, rolls, state_of}
 use Rattle.txn_table.specs.declared.progress.Progress.{Progress}
 use Rattle.txn_table.specs.declared.progress.Progress.TheVariants.{OwesEntry, OwesRow, Ready, Rolling, UndoesEntry, UndoesRow}
 use Rattle.core_model.specs.States.{Active, Made, NewMarked, OldMarked, OldSet, Phase, RowSet, State}
-use Rattle.core_contracts.specs.Events.{Event, Refused, Reply, Standing, standing_after}
-use Rattle.core_contracts.specs.Replies.{after_any}
-use Rattle.core_contracts.specs.Served.{records_by}
-use Rattle.nsf_core.specs.View.{Answers, AreOne, CoreValue, IsProgressOf, IsSafe, Serves, Shows, ShowsTxn}
+use Rattle.core_model.specs.Events.{Event, Refused, Reply, Standing, standing_after}
+use Rattle.core_model.specs.Replies.{after_any}
+use Rattle.core_model.specs.Served.{records_by}
+use Rattle.core_parts.specs.View.{Answers, AreOne, CoreValue, IsProgressOf, IsSafe, Serves, Shows, ShowsTxn}
 use Rattle.core_laws.specs.Alike.{AreAlike, without_rows}
 use Rattle.core_laws.proofs.Deciding.{reply_one}
 

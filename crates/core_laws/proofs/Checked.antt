@@ -1,12 +1,12 @@
 -- What a check says of the call.
 use Rattle.std.proofs.Common.{ap, subst, sym, ◌≡◌, ◌≢◌}
-use Rattle.records.specs.declared.error.Error.{Error}
+use Rattle.record_values.specs.declared.error.Error.{Error}
 use Rattle.core_model.specs.States.{State}
-use Rattle.core_contracts.specs.Events.{Event, Refused, Reply, Standing}
-use Rattle.core_contracts.specs.Replies.{IsAllowed}
-use Rattle.core_contracts.specs.Served.{HasStanding}
-use Rattle.nsf_core.specs.Asked.{IsFine, IsRefused}
-use Rattle.nsf_core.specs.View.{Answers, CoreValue, IsSafe, Serves}
+use Rattle.core_model.specs.Events.{Event, Refused, Reply, Standing}
+use Rattle.core_model.specs.Replies.{IsAllowed}
+use Rattle.core_model.specs.Served.{HasStanding}
+use Rattle.core_parts.specs.Asked.{IsFine, IsRefused}
+use Rattle.core_parts.specs.View.{Answers, CoreValue, IsSafe, Serves}
 use Rattle.core_laws.specs.Granted.{IsGranted}
 use Rattle.core_laws.proofs.Deciding.{memory_granted, reply_one}
 

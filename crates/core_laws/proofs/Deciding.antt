@@ -2,21 +2,21 @@
 use Rattle.std.proofs.Common.{Bool, None, Option, Some, [], ap, arith, false, inl, inr, refl, subst, sym, true, true≢false, ℕ, ◌<◌, ◌∙◌, ◌∷◌, ◌≡◌, ◌≢◌, ◌≤◌}
 use Rattle.std.specs.FinMap.{get}
 use Rattle.std.specs.Ordering.{is_lt}
-use Rattle.records.specs.Orders.{pair_cmp, pair_cmp-IsAntisymmetric, pair_cmp_total, rid_cmp, rid_cmp-IsAntisymmetric, rid_cmp_total}
+use Rattle.record_values.specs.Orders.{pair_cmp, pair_cmp-IsAntisymmetric, pair_cmp_total, rid_cmp, rid_cmp-IsAntisymmetric, rid_cmp_total}
 use Rattle.records.specs.declared.change.Rows.TheVariants.{Deleted, Inserted, Updated}
-use Rattle.records.specs.declared.error.Error.{Error}
-use Rattle.records.specs.declared.limits.TheConstants.{ATTEMPTS_PER_CHECKPOINT}
-use Rattle.records.specs.declared.pair.Pair.{Pair}
-use Rattle.records.specs.declared.row.Row.{Row}
+use Rattle.record_values.specs.declared.error.Error.{Error}
+use Rattle.record_values.specs.declared.limits.TheConstants.{ATTEMPTS_PER_CHECKPOINT}
+use Rattle.record_values.specs.declared.pair.Pair.{Pair}
+use Rattle.record_values.specs.declared.row.Row.{Row}
 use Rattle.core_model.specs.States.{State}
 use Rattle.core_model.specs.Steps.{CanClean, IsBuilding, MachineStep, Start}
 use Rattle.model.specs.declared.life.Life.{Life}
 use Rattle.model.specs.declared.life.Life.TheVariants.{Building, Complete}
-use Rattle.core_contracts.specs.Events.{BuildReply, Built, CleanReply, Cleaned, Cleaner, Done, Event, Idle, Kept, Placed, Refused, Rejected, Reply, Scanned}
-use Rattle.core_contracts.specs.Events.{Standing, Wrapped}
-use Rattle.core_contracts.specs.Served.{HasStanding}
-use Rattle.core_contracts.specs.Replies.{IsAllowed, IsBuildDue, IsCleanDue, IsStepDue, IsFirst, IsNextEntry, IsNextPair, Refusals, WantsMemory, accepted}
-use Rattle.core_contracts.specs.Replies.{build_step, change_of, clean_step, no_memory, refusals, refusals_of, refused, refused_last, skipped, unknown}
+use Rattle.core_model.specs.Events.{BuildReply, Built, CleanReply, Cleaned, Cleaner, Done, Event, Idle, Kept, Placed, Refused, Rejected, Reply, Scanned}
+use Rattle.core_model.specs.Events.{Standing, Wrapped}
+use Rattle.core_model.specs.Served.{HasStanding}
+use Rattle.core_model.specs.Replies.{IsAllowed, IsBuildDue, IsCleanDue, IsStepDue, IsFirst, IsNextEntry, IsNextPair, Refusals, WantsMemory, accepted}
+use Rattle.core_model.specs.Replies.{build_step, change_of, clean_step, no_memory, refusals, refusals_of, refused, refused_last, skipped, unknown}
 use Rattle.core_laws.specs.Granted.{IsGranted}
 use Rattle.core_laws.proofs.Levels.{level_by}
 use Rattle.core_laws.proofs.Ordered.{sorted_one}

@@ -8,10 +8,10 @@ use Rattle.std.specs.Option.{option_map}
 use Rattle.std.specs.Ordering.{nat_cmp}
 use Rattle.std.specs.Prelude.{take}
 use Rattle.records.specs.ChangeValue.{ChangeValue}
-use Rattle.records.specs.Maps.{get-set_at_other, get-set_at_same, nat_exact}
+use Rattle.record_values.specs.Maps.{get-set_at_other, get-set_at_same, nat_exact}
 use Rattle.records.specs.RecordValue.{RecordValue}
-use Rattle.records.specs.Values.{Place}
-use Rattle.records.specs.declared.pair.Pair.{Pair}
+use Rattle.record_values.specs.Values.{Place}
+use Rattle.record_values.specs.declared.pair.Pair.{Pair}
 use Rattle.model.specs.Given.{IsBeginning, given_after}
 use Rattle.model.specs.History.{Item, life_after, table_after}
 use Rattle.model.specs.Table.{IsPairOf}
@@ -26,11 +26,11 @@ use Rattle.core_model.specs.Invariants.{IsBusyWith, IsUnfinished}
 use Rattle.core_model.specs.Records.{HasCells, IsListOf}
 use Rattle.core_model.specs.States.{Active, Made, Phase, State}
 use Rattle.core_model.specs.Steps.{all_reserved}
-use Rattle.core_contracts.proofs.Laws.{served_faithful, served_recovers}
-use Rattle.core_contracts.specs.Events.{Event, Reply, Standing}
-use Rattle.core_contracts.specs.Served.{items_of}
-use Rattle.nsf_core.specs.View.{AreOne, CoreValue, IsProgressOf, Shows}
-use Rattle.nsf_core.specs.Moves.{txn_shown}
+use Rattle.core_model.proofs.ReplyLaws.{served_faithful, served_recovers}
+use Rattle.core_model.specs.Events.{Event, Reply, Standing}
+use Rattle.core_model.specs.Served.{items_of}
+use Rattle.core_parts.specs.View.{AreOne, CoreValue, IsProgressOf, Shows}
+use Rattle.core_parts.specs.Moves.{txn_shown}
 use Rattle.core_laws.specs.Calls.{HasReplied}
 use Rattle.core_laws.specs.Holds.{HoldsHistory, IsBeingChanged, IsHalfway, ShowsRows, cells_shown, lists_of}
 

@@ -1,17 +1,17 @@
 -- What a core begins with.
 use Rattle.std.proofs.Common.{arith, refl, ℕ, ◌≤◌}
 use Rattle.std.specs.FinMap.{get-empty, len, len-empty}
-use Rattle.records.specs.GeometryValue.{GeometryValue}
-use Rattle.records.specs.Orders.{pair_cmp, rid_cmp}
-use Rattle.records.specs.declared.number.TheConstants.{LAST_NUMBER}
-use Rattle.records.specs.declared.pair.Mark.{Mark}
+use Rattle.record_values.specs.GeometryValue.{GeometryValue}
+use Rattle.record_values.specs.Orders.{pair_cmp, rid_cmp}
+use Rattle.record_values.specs.declared.number.TheConstants.{LAST_NUMBER}
+use Rattle.record_values.specs.declared.pair.Mark.{Mark}
 use Rattle.model.specs.Given.{Given}
 use Rattle.model.specs.Inside.{IsGivenInside}
 use Rattle.core_model.proofs.Laws.{not_none}
 use Rattle.core_model.specs.Histories.{CanOpen, FitsStore}
 use Rattle.core_loader.proofs.Laws.{stands_for}
 use Rattle.core_loader.specs.Loaded.{holding}
-use Rattle.nsf_core.specs.Moves.{fresh}
+use Rattle.core_parts.specs.Moves.{fresh}
 use Rattle.core_laws.specs.Calls.{BeginsWith}
 use Rattle.core_laws.specs.Openings.{empty_after, store_with}
 

@@ -1,16 +1,16 @@
 -- A core stands for the abstract one from call to call.
 use Rattle.std.proofs.Common.{List, [], ap, append-nil, append_assoc, subst, sym, ◌++◌, ◌∙◌, ◌∷◌, ◌≤◌}
 use Rattle.records.specs.RecordValue.{RecordValue}
-use Rattle.records.specs.declared.number.TheConstants.{LAST_NUMBER}
+use Rattle.record_values.specs.declared.number.TheConstants.{LAST_NUMBER}
 use Rattle.core_model.specs.Histories.{CanOpen, Opened, opened}
 use Rattle.core_model.specs.States.{State}
-use Rattle.core_contracts.proofs.Laws.{served_allowed, served_nothing}
-use Rattle.core_contracts.specs.Events.{Event, Reply, Standing, standing_after, standing_at}
-use Rattle.core_contracts.specs.Replies.{after_any}
-use Rattle.core_contracts.specs.Served.{HasServed, records_by}
+use Rattle.core_model.proofs.ReplyLaws.{served_allowed, served_nothing}
+use Rattle.core_model.specs.Events.{Event, Reply, Standing, standing_after, standing_at}
+use Rattle.core_model.specs.Replies.{after_any}
+use Rattle.core_model.specs.Served.{HasServed, records_by}
 use Rattle.nsf_core.proofs.Offered.{stands}
 use Rattle.nsf_core.specs.Outbox.{HandsOn}
-use Rattle.nsf_core.specs.View.{Answers, CoreValue, IsState, Serves, Shows}
+use Rattle.core_parts.specs.View.{Answers, CoreValue, IsState, Serves, Shows}
 use Rattle.core_laws.specs.Calls.{BeginsWith, Calls, HasReplied, no_call, served, taken}
 
 -- whatever waits, the core stands for the same

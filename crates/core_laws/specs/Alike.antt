@@ -1,9 +1,9 @@
 -- Cores that no call tells apart.
 use Rattle.std.specs.Prelude.{[], length, option_map, ℕ, ◌≡◌}
-use Rattle.records.specs.Values.{Place}
+use Rattle.record_values.specs.Values.{Place}
 use Rattle.txn_table.specs.Table.{TxnState, holder_of}
-use Rattle.nsf_core.specs.View.{CoreValue}
-use Rattle.nsf_core.specs.Moves.{txn_shown}
+use Rattle.core_parts.specs.View.{CoreValue}
+use Rattle.core_parts.specs.Moves.{txn_shown}
 
 -- a transaction without the rows that it holds, which have their holder
 abbrev pub without_rows : TxnState → TxnState

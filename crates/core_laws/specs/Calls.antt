@@ -1,12 +1,12 @@
 -- Calls of a core, one after another.
 use Rattle.std.specs.Prelude.{List, [], ◌++◌, ◌∷◌, ◌≡◌}
 use Rattle.records.specs.RecordValue.{RecordValue}
-use Rattle.core_contracts.specs.Events.{Event, Reply, Standing, standing_at}
-use Rattle.core_contracts.specs.Served.{HasServed}
+use Rattle.core_model.specs.Events.{Event, Reply, Standing, standing_at}
+use Rattle.core_model.specs.Served.{HasServed}
 use Rattle.core_model.specs.Histories.{Opened, opened}
 use Rattle.core_model.specs.States.{State}
 use Rattle.nsf_core.specs.Outbox.{HandsOn}
-use Rattle.nsf_core.specs.View.{CoreValue, IsState, Serves}
+use Rattle.core_parts.specs.View.{CoreValue, IsState, Serves}
 
 -- a core stands for what was opened, with no transaction, and no record waits
 pub record BeginsWith (o : Opened) (v : CoreValue) : Type 0 where

@@ -1,5 +1,5 @@
 -- Replies of events that were neither refused nor skipped.
-use Rattle.core_contracts.specs.Events.{Refused, Reply, Skipped}
+use Rattle.core_model.specs.Events.{Refused, Reply, Skipped}
 
 -- the event got what it asked for
 abbrev pub IsGranted : Reply → Type 0

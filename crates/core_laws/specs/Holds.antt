@@ -3,10 +3,10 @@ use Rattle.std.specs.FinMap.{get, len}
 use Rattle.std.specs.FinMap as map
 use Rattle.std.specs.Prelude.{List, None, Some, [], ℕ, ◌+◌, ◌∷◌, ◌≡◌, ◌≤◌, ◌↔◌}
 use Rattle.records.specs.ChangeValue.{ChangeValue}
-use Rattle.records.specs.Values.{Place}
-use Rattle.records.specs.declared.pair.Mark.TheVariants.{Live}
-use Rattle.records.specs.declared.pair.Pair.{Pair}
-use Rattle.records.specs.declared.row.Row.{Row}
+use Rattle.record_values.specs.Values.{Place}
+use Rattle.record_values.specs.declared.pair.Mark.TheVariants.{Live}
+use Rattle.record_values.specs.declared.pair.Pair.{Pair}
+use Rattle.record_values.specs.declared.row.Row.{Row}
 use Rattle.model.specs.Cells.{Cells, Pending, with_list}
 use Rattle.model.specs.History.{Item, life_after, table_after}
 use Rattle.model.specs.Recovery.{recovered_rows}
@@ -18,8 +18,8 @@ use Rattle.txn_table.specs.declared.progress.Progress.TheVariants.{OwesEntry, Ow
 use Rattle.txn_table.specs.declared.progress.Progress.TheVariants.{UndoesRow}
 use Rattle.core_model.specs.Changes.{pair_of}
 use Rattle.core_model.specs.Histories.{IsCovered, Opened}
-use Rattle.nsf_core.specs.View.{CoreValue}
-use Rattle.nsf_core.specs.Moves.{txn_shown}
+use Rattle.core_parts.specs.View.{CoreValue}
+use Rattle.core_parts.specs.Moves.{txn_shown}
 
 -- the changes of each active transaction, under its number
 abbrev pub lists_of : List (ℕ × TxnState) → Pending

@@ -1,7 +1,7 @@
 -- What a core begins with.
 use Rattle.std.specs.FinMap as map
 use Rattle.std.specs.Prelude.{ℕ}
-use Rattle.records.specs.GeometryValue.{GeometryValue}
+use Rattle.record_values.specs.GeometryValue.{GeometryValue}
 use Rattle.model.specs.Given.{Given}
 use Rattle.model.specs.declared.life.Life.TheVariants.{Absent}
 use Rattle.core_model.specs.Histories.{Opened}

@@ -7,28 +7,30 @@
 //! tell (`holds`). With a complete index and no transaction active, the visible entries are the pairs of the rows
 //! (`complete`). Wherever the records stop, a prefix of the history is recovered of them (`recovers`). `one_reply` and
 //! `one_answer`: but for want of memory, a state and an event leave one reply and one value.
+//!
+//! Lemmas about its public words that crates above may cite, in `proofs`: `Laws`.
 #![tactic(auto)]
 
 ghost use Rattle.std.specs.Prelude.{◌≡◌, ◌≢◌, ◌≤◌, ◌+◌, ◌++◌, [], ◌∷◌, ℕ, List, Option, length, take};
 ghost use Rattle.std.specs.FinMap.{len};
-ghost use Rattle.records.specs.GeometryValue.{GeometryValue};
+ghost use Rattle.record_values.specs.GeometryValue.{GeometryValue};
 ghost use Rattle.records.specs.RecordValue.{RecordValue};
-ghost use Rattle.records.specs.declared.error.Error.{Error};
-ghost use Rattle.records.specs.declared.number.TheConstants.{LAST_NUMBER};
+ghost use Rattle.record_values.specs.declared.error.Error.{Error};
+ghost use Rattle.record_values.specs.declared.number.TheConstants.{LAST_NUMBER};
 ghost use Rattle.model.specs.Given.{Given, IsBeginning, given_after};
 ghost use Rattle.model.specs.Inside.{IsGivenInside};
 ghost use Rattle.model.specs.declared.life.Life.TheVariants.{Complete};
 ghost use Rattle.core_model.specs.States.{State};
 ghost use Rattle.core_model.specs.Steps.{MachineStep};
 ghost use Rattle.core_model.specs.Histories.{CanOpen, Opened, no_writes};
-ghost use Rattle.core_contracts.specs.Events.{Event, Refused, Reply, Standing};
-ghost use Rattle.core_contracts.specs.Replies.{IsAllowed, WantsMemory};
-ghost use Rattle.core_contracts.specs.Served.{HasStanding, items_of};
+ghost use Rattle.core_model.specs.Events.{Event, Refused, Reply, Standing};
+ghost use Rattle.core_model.specs.Replies.{IsAllowed, WantsMemory};
+ghost use Rattle.core_model.specs.Served.{HasStanding, items_of};
 ghost use Rattle.core_loader.specs.Loaded.{holding};
-ghost use Rattle.nsf_core.specs.Moves.{fresh};
+ghost use Rattle.core_parts.specs.Moves.{fresh};
 ghost use Rattle.nsf_core.specs.Outbox.{HandsOn};
-ghost use Rattle.nsf_core.specs.Asked.{IsFine, IsRefused};
-ghost use Rattle.nsf_core.specs.View.{CoreValue, IsSafe, Serves};
+ghost use Rattle.core_parts.specs.Asked.{IsFine, IsRefused};
+ghost use Rattle.core_parts.specs.View.{CoreValue, IsSafe, Serves};
 ghost use Rattle.core_laws.specs.Alike.{AreAlike};
 ghost use Rattle.core_laws.specs.Calls.{BeginsWith, Calls, HasReplied};
 ghost use Rattle.core_laws.specs.Openings.{empty_after, store_with};

@@ -7,7 +7,7 @@ use Rattle.std.specs.FinMap.{len-entries, same_entries_map}
 use Rattle.std.specs.FinMap.Entries.{below_all}
 use Rattle.std.specs.Ordering.{eq_by_cmp, is_lt}
 use Rattle.std.specs.declared.cmp.Ordering.{Ordering}
-use Rattle.records.specs.Maps.{IsExact, alike, get-set_at, key_is, other_key, same_key, set_at}
+use Rattle.record_values.specs.Maps.{IsExact, alike, get-set_at, key_is, other_key, same_key, set_at}
 
 first : (a b : Bool) → T (a && b) → T a
 first true b p = tt

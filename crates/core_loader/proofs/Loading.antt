@@ -4,14 +4,14 @@ use Rattle.std.proofs.lemmas.Bool.{lt-ltb, ltb-true}
 use Rattle.std.proofs.lemmas.List.Elements.{All-nil}
 use Rattle.std.specs.FinMap.{empty, get, get-empty, len, len-empty}
 use Rattle.std.specs.Ordering.{nat_cmp}
-use Rattle.records.specs.GeometryValue.{GeometryValue}
-use Rattle.records.specs.Maps.{pair_exact, rid_exact, set_at}
-use Rattle.records.specs.Orders.{pair_cmp}
-use Rattle.records.specs.Values.{Place}
-use Rattle.records.specs.declared.number.TheConstants.{LAST_NUMBER}
-use Rattle.records.specs.declared.pair.Mark.{Mark}
-use Rattle.records.specs.declared.pair.Pair.{Pair}
-use Rattle.records.specs.declared.row.Row.{Row}
+use Rattle.record_values.specs.GeometryValue.{GeometryValue}
+use Rattle.record_values.specs.Maps.{pair_exact, rid_exact, set_at}
+use Rattle.record_values.specs.Orders.{pair_cmp}
+use Rattle.record_values.specs.Values.{Place}
+use Rattle.record_values.specs.declared.number.TheConstants.{LAST_NUMBER}
+use Rattle.record_values.specs.declared.pair.Mark.{Mark}
+use Rattle.record_values.specs.declared.pair.Pair.{Pair}
+use Rattle.record_values.specs.declared.row.Row.{Row}
 use Rattle.model.specs.Following.{IsWithin}
 use Rattle.model.specs.Given.{Given}
 use Rattle.model.specs.Inside.{AreEntriesWithin, IsGivenInside}
@@ -19,10 +19,10 @@ use Rattle.model.specs.Table.{Index, Table}
 use Rattle.sorted_scan.specs.Scans.{HasRun, begun, begun_run}
 use Rattle.core_model.proofs.Laws.{none_reserved, opened_fit}
 use Rattle.core_model.specs.Histories.{FitsStore, Opened, highest_of, opened}
-use Rattle.core_contracts.proofs.Laws.{opened_standing}
-use Rattle.core_contracts.specs.Events.{standing_at}
+use Rattle.core_model.proofs.ReplyLaws.{opened_standing}
+use Rattle.core_model.specs.Events.{standing_at}
 use Rattle.nsf_core.specs.Loading.{IsQuiet, entry_loaded}
-use Rattle.nsf_core.specs.View.{CoreValue, IsState}
+use Rattle.core_parts.specs.View.{CoreValue, IsState}
 use Rattle.marked_index.specs.Index.{IsFull}
 use Rattle.model.proofs.MapLaws.{len_less}
 use Rattle.core_loader.specs.Loaded.{holding, with_entries, with_rows}

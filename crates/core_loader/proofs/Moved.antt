@@ -3,7 +3,7 @@ use Rattle.std.proofs.Common.{is_some, Bool, None, Some, ap, arith, cond, false,
 use Rattle.std.specs.FinMap.{FinMap, empty, get, get-empty, len, len-insert, len-remove}
 use Rattle.std.specs.Ordering.{eq_by_cmp}
 use Rattle.std.specs.declared.cmp.Ordering.{Ordering}
-use Rattle.records.specs.Maps.{IsExact, alike, get-set_at, key_is, set_at}
+use Rattle.record_values.specs.Maps.{IsExact, alike, get-set_at, key_is, set_at}
 use Rattle.model.proofs.MapLaws.{len_less}
 
 -- each key is still in the one with what it had, or is in the other

@@ -1,13 +1,13 @@
 -- A core over what is given.
-use Rattle.records.specs.GeometryValue.{GeometryValue}
+use Rattle.record_values.specs.GeometryValue.{GeometryValue}
 use Rattle.model.specs.Given.{Given}
 use Rattle.model.specs.Table.{Index, Table}
-use Rattle.redo.specs.Restored.{given_in}
-use Rattle.redo.specs.declared.restored.Restored.{Restored}
+use Rattle.store_reader.specs.Restored.{given_in}
+use Rattle.store_reader.specs.declared.restored.Restored.{Restored}
 use Rattle.core_model.specs.Histories.{Opened}
 use Rattle.nsf_core.specs.Loading.{life_loaded}
-use Rattle.nsf_core.specs.Moves.{fresh}
-use Rattle.nsf_core.specs.View.{CoreValue}
+use Rattle.core_parts.specs.Moves.{fresh}
+use Rattle.core_parts.specs.View.{CoreValue}
 
 -- the core with these rows
 abbrev pub with_rows : CoreValue → Table → CoreValue

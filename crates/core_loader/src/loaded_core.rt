@@ -4,18 +4,18 @@ ghost use Rattle.std.specs.FinMap as map;
 ghost use Rattle.model.specs.Following.{IsWithin};
 ghost use Rattle.model.specs.Inside.{AreEntriesWithin};
 ghost use Rattle.core_model.specs.Histories.{opened};
-ghost use Rattle.core_contracts.specs.Events.{standing_at};
+ghost use Rattle.core_model.specs.Events.{standing_at};
 ghost use Rattle.nsf_core.specs.Loading.{IsQuiet};
 ghost use Rattle.nsf_core.specs.Value.{value_of};
-ghost use Rattle.nsf_core.specs.View.{IsState};
+ghost use Rattle.core_parts.specs.View.{IsState};
 ghost use Rattle.core_loader.specs.Loaded.{holding, store_of, with_entries, with_rows};
-ghost use Rattle.redo.specs.Restored.{given_in};
+ghost use Rattle.store_reader.specs.Restored.{given_in};
 
 use model::{EntryMap, RowMap};
 use nsf_core::Core;
 use records::Error;
-use redo::Restored;
 use std::alloc::Allocator;
+use store_reader::Restored;
 
 // Loads these rows into a core that has none.
 fn load_rows<A: Allocator + Copy>(

@@ -1,7 +1,7 @@
 -- The builder's attempts lie above the pair that was checkpointed last, also where that was before the core was opened.
 use Rattle.std.proofs.Common.{Bool, ℕ, List, None, Option, Some, ap, refl, subst, sym, true, ◌∙◌, ◌≡◌, ◌≢◌}
 use Rattle.records.specs.ChangeValue.{ChangeValue}
-use Rattle.records.specs.declared.pair.Pair.{Pair}
+use Rattle.record_values.specs.declared.pair.Pair.{Pair}
 use Rattle.model.specs.declared.life.Life.TheVariants.{Absent, Building, Complete}
 use Rattle.core_model.proofs.Orders.{above_trans}
 use Rattle.core_model.specs.Changes.{Changes, Unchanged, new_pair, old_pair, ◌▹◌}

@@ -3,13 +3,13 @@ use Rattle.std.proofs.Common.{Bool, None, Option, Some, ap, false, inl, inr, nat
 use Rattle.std.proofs.Common.{◌⊎◌}
 use Rattle.std.specs.Cmp.Lexicographic.{nat_list_cmp_total}
 use Rattle.std.specs.FinMap.{get, get-empty, nat_cmp-IsAntisymmetric, slice_cmp-IsAntisymmetric}
-use Rattle.records.specs.Maps.{get-set_at_other, get-set_at_same, pair_exact, set_at}
-use Rattle.records.specs.Orders.{pair_cmp}
-use Rattle.records.specs.Values.{Place}
-use Rattle.records.specs.declared.pair.Mark.{Mark}
-use Rattle.records.specs.declared.pair.Mark.TheVariants.{Live, Marked}
-use Rattle.records.specs.declared.pair.Pair.{Pair}
-use Rattle.records.specs.declared.row.Row.{Row}
+use Rattle.record_values.specs.Maps.{get-set_at_other, get-set_at_same, pair_exact, set_at}
+use Rattle.record_values.specs.Orders.{pair_cmp}
+use Rattle.record_values.specs.Values.{Place}
+use Rattle.record_values.specs.declared.pair.Mark.{Mark}
+use Rattle.record_values.specs.declared.pair.Mark.TheVariants.{Live, Marked}
+use Rattle.record_values.specs.declared.pair.Pair.{Pair}
+use Rattle.record_values.specs.declared.row.Row.{Row}
 use Rattle.model.specs.KeyActions.{after_action}
 use Rattle.model.specs.Table.{Index, IsPairOf, Table}
 use Rattle.model.specs.declared.key_action.KeyAction.TheVariants.{BuildPut}

@@ -1,13 +1,13 @@
 -- The three kinds of step of a transaction: it marks a pair, puts a pair, or sets a row.
 use Rattle.std.proofs.Common.{None, Option, Some, ap, inl, inr, refl, sym, true, true≢false, ℕ, ◌<◌, ◌∙◌, ◌≡◌, ◌≢◌, ◌⊎◌}
 use Rattle.std.specs.FinMap.{get}
-use Rattle.records.specs.Maps.{get-set_at_other, get-set_at_same, pair_exact, rid_exact, set_at}
-use Rattle.records.specs.Orders.{pair_cmp-IsAntisymmetric, pair_cmp_total}
-use Rattle.records.specs.Values.{Place}
-use Rattle.records.specs.declared.pair.Mark.{Mark}
-use Rattle.records.specs.declared.pair.Mark.TheVariants.{Live, Marked}
-use Rattle.records.specs.declared.pair.Pair.{Pair}
-use Rattle.records.specs.declared.row.Row.{Row}
+use Rattle.record_values.specs.Maps.{get-set_at_other, get-set_at_same, pair_exact, rid_exact, set_at}
+use Rattle.record_values.specs.Orders.{pair_cmp-IsAntisymmetric, pair_cmp_total}
+use Rattle.record_values.specs.Values.{Place}
+use Rattle.record_values.specs.declared.pair.Mark.{Mark}
+use Rattle.record_values.specs.declared.pair.Mark.TheVariants.{Live, Marked}
+use Rattle.record_values.specs.declared.pair.Pair.{Pair}
+use Rattle.record_values.specs.declared.row.Row.{Row}
 use Rattle.model.specs.Table.{Index, IsPairOf, Table}
 use Rattle.model.specs.declared.life.Life.{Life}
 use Rattle.model.specs.declared.life.Life.TheVariants.{Absent, Building}

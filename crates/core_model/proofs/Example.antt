@@ -2,12 +2,12 @@
 use Rattle.std.proofs.Common.{Bool, None, Some, [], ap, arith, false, inl, inr, nat_eq, not, refl, suc, sym, true, true≢false, zero, ℕ, ◌&&◌, ◌+◌, ◌<◌, ◌∙◌}
 use Rattle.std.proofs.Common.{◌∷◌, ◌≡◌, ◌≢◌, ◌≤◌}
 use Rattle.std.specs.FinMap.{empty, get, get-empty, insert, len, len-empty}
-use Rattle.records.specs.Maps.{get-set_at_other, get-set_at_same, pair_exact, rid_exact, set_at}
-use Rattle.records.specs.Orders.{pair_cmp, rid_cmp}
-use Rattle.records.specs.declared.pair.Mark.{Mark}
-use Rattle.records.specs.declared.pair.Mark.TheVariants.{Marked}
-use Rattle.records.specs.declared.pair.Pair.{Pair}
-use Rattle.records.specs.declared.row.Row.{Row}
+use Rattle.record_values.specs.Maps.{get-set_at_other, get-set_at_same, pair_exact, rid_exact, set_at}
+use Rattle.record_values.specs.Orders.{pair_cmp, rid_cmp}
+use Rattle.record_values.specs.declared.pair.Mark.{Mark}
+use Rattle.record_values.specs.declared.pair.Mark.TheVariants.{Marked}
+use Rattle.record_values.specs.declared.pair.Pair.{Pair}
+use Rattle.record_values.specs.declared.row.Row.{Row}
 use Rattle.model.specs.KeyActions.{after_action}
 use Rattle.model.specs.Table.{Index, IsPairOf, Table}
 use Rattle.model.specs.declared.key_action.KeyAction.TheVariants.{BuildPut}

@@ -2,11 +2,11 @@
 use Rattle.std.proofs.Common.{None, Option, Some, ap, inl, inr, subst, sym, true, ℕ, ◌<◌, ◌∙◌, ◌≡◌, ◌≢◌, ◌⊎◌}
 use Rattle.std.specs.Cmp.{nat_cmp_total}
 use Rattle.std.specs.FinMap.{get, nat_cmp-IsAntisymmetric}
-use Rattle.records.specs.Orders.{rid_cmp-IsAntisymmetric, rid_cmp_total}
-use Rattle.records.specs.Values.{Place}
-use Rattle.records.specs.declared.pair.Mark.TheVariants.{Live}
-use Rattle.records.specs.declared.pair.Pair.{Pair}
-use Rattle.records.specs.declared.row.Row.{Row}
+use Rattle.record_values.specs.Orders.{rid_cmp-IsAntisymmetric, rid_cmp_total}
+use Rattle.record_values.specs.Values.{Place}
+use Rattle.record_values.specs.declared.pair.Mark.TheVariants.{Live}
+use Rattle.record_values.specs.declared.pair.Pair.{Pair}
+use Rattle.record_values.specs.declared.row.Row.{Row}
 use Rattle.model.specs.Table.{Index, IsPairOf, Table}
 use Rattle.model.specs.declared.life.Life.TheVariants.{Absent, Building}
 use Rattle.core_model.proofs.Latest.{holds_more, not_none, phase_same}

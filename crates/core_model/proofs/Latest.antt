@@ -2,12 +2,12 @@
 use Rattle.std.proofs.Common.{Bool, None, Option, Some, ap, cond, false, refl, sym, true, ℕ, ◌∙◌, ◌≡◌, ◌≢◌}
 use Rattle.std.specs.FinMap.{entries, get, nat_cmp-IsAntisymmetric, slice_cmp-IsAntisymmetric}
 use Rattle.records.specs.ChangeValue.{ChangeValue}
-use Rattle.records.specs.Orders.{rid_cmp-IsAntisymmetric, rid_cmp_total}
+use Rattle.record_values.specs.Orders.{rid_cmp-IsAntisymmetric, rid_cmp_total}
 use Rattle.records.specs.Spelling.{new_row, old_row}
-use Rattle.records.specs.Values.{Place}
-use Rattle.records.specs.declared.pair.Mark.TheVariants.{Marked}
-use Rattle.records.specs.declared.pair.Pair.{Pair}
-use Rattle.records.specs.declared.row.Row.{Row}
+use Rattle.record_values.specs.Values.{Place}
+use Rattle.record_values.specs.declared.pair.Mark.TheVariants.{Marked}
+use Rattle.record_values.specs.declared.pair.Pair.{Pair}
+use Rattle.record_values.specs.declared.row.Row.{Row}
 use Rattle.model.specs.Table.{Index, Table}
 use Rattle.core_model.proofs.Orders.{apart, by_test, level}
 use Rattle.core_model.specs.Changes.{Changes, Unchanged, gone, latest, pair_of, same_key, ◌▹◌}

@@ -19,4 +19,8 @@ mod Logs
 mod Followed
 mod Copies
 pub mod Laws
-pub mod Example
+mod Example
+mod Replies
+mod Served
+mod Worked
+pub mod ReplyLaws

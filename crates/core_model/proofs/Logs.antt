@@ -9,9 +9,9 @@ use Rattle.std.specs.FinMap.Entries.{below_all, find, is_sorted}
 use Rattle.std.specs.Ordering.{is_lt, nat_cmp}
 use Rattle.std.specs.Prelude.{T, map}
 use Rattle.records.specs.ChangeValue.{ChangeValue}
-use Rattle.records.specs.Maps.{alike, nat_exact, other_key, rid_exact, same_key}
+use Rattle.record_values.specs.Maps.{alike, nat_exact, other_key, rid_exact, same_key}
 use Rattle.records.specs.RecordValue.{RecordValue}
-use Rattle.records.specs.declared.pair.Pair.{Pair}
+use Rattle.record_values.specs.declared.pair.Pair.{Pair}
 use Rattle.records.specs.declared.record.Action.{Action}
 use Rattle.model.proofs.HistoryLaws.{up_to-append}
 use Rattle.model.specs.Cells.{Cells, cells_after, reverted}

@@ -6,8 +6,8 @@ use Rattle.std.specs.Ordering.{eq_by_cmp, is_eq, is_lt, ordering_reverse}
 use Rattle.std.specs.declared.cmp.Ordering.{Ordering}
 use Rattle.std.specs.declared.cmp.Ordering.TheVariants.{Equal, Greater, Less}
 use mathlib.Core.Path.{fun_ext}
-use Rattle.records.specs.Orders.{pair_cmp, pair_cmp-IsAntisymmetric, pair_cmp_total}
-use Rattle.records.specs.declared.pair.Pair.{Pair}
+use Rattle.record_values.specs.Orders.{pair_cmp, pair_cmp-IsAntisymmetric, pair_cmp_total}
+use Rattle.record_values.specs.declared.pair.Pair.{Pair}
 use Rattle.core_model.specs.Steps.{above, update}
 
 module _ {K : Type 0} {R : K → K → Ordering} (o : IsTotalOrder R) where

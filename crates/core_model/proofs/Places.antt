@@ -5,14 +5,14 @@ use Rattle.std.specs.Cmp.{nat_cmp_total}
 use Rattle.std.specs.FinMap.{entries, get, insert, len, len-empty, len-insert, len-remove, nat_cmp-IsAntisymmetric, remove}
 use Rattle.std.specs.Ordering.{nat_cmp}
 use Rattle.records.specs.ChangeValue.{ChangeValue}
-use Rattle.records.specs.Maps.{get-set_at_other, get-set_at_same, pair_exact, set_at}
-use Rattle.records.specs.Orders.{pair_cmp, pair_cmp_total}
+use Rattle.record_values.specs.Maps.{get-set_at_other, get-set_at_same, pair_exact, set_at}
+use Rattle.record_values.specs.Orders.{pair_cmp, pair_cmp_total}
 use Rattle.records.specs.Spelling.{new_row, old_row}
-use Rattle.records.specs.Values.{Place}
-use Rattle.records.specs.declared.pair.Mark.{Mark}
-use Rattle.records.specs.declared.pair.Mark.TheVariants.{Live, Marked}
-use Rattle.records.specs.declared.pair.Pair.{Pair}
-use Rattle.records.specs.declared.row.Row.{Row}
+use Rattle.record_values.specs.Values.{Place}
+use Rattle.record_values.specs.declared.pair.Mark.{Mark}
+use Rattle.record_values.specs.declared.pair.Mark.TheVariants.{Live, Marked}
+use Rattle.record_values.specs.declared.pair.Pair.{Pair}
+use Rattle.record_values.specs.declared.row.Row.{Row}
 use Rattle.model.specs.KeyActions.{after_action}
 use Rattle.model.specs.Table.{Index, Table}
 use Rattle.model.specs.declared.key_action.KeyAction.TheVariants.{BuildPut}
@@ -112,10 +112,6 @@ enough_for true entries c =
     let old : lacks entries (old_pair true c) ≤ 1 = lacks_one entries (old_pair true c) in
     let new : lacks entries (new_pair true c) ≤ 1 = lacks_one entries (new_pair true c) in
     omega (arith, old, new)
-
--- ---- a step of a transaction
-record IsOneTxn (s s' : State) (t : ℕ) (cs : Changes) : Type 0 where
-  pub here : (u : ℕ) (y : Active) → s'.txns u ≡ Some y → ((u ≡ t) × (y.changes ≡ cs)) ⊎ ((u ≢ t) × (s.txns u ≡ Some y))
 
 one_txn : (s : State) (t : ℕ) (x : Active) (u : ℕ) (y : Active) → with_txn s t x u ≡ Some y → ((u ≡ t) × (y.changes ≡ x.changes))
     ⊎ ((u ≢ t) × (s.txns u ≡ Some y))

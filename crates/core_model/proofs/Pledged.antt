@@ -4,7 +4,7 @@ use Rattle.std.specs.Cmp.{nat_cmp_total}
 use Rattle.std.specs.FinMap.{get, get-insert, get-remove, insert, nat_cmp-IsAntisymmetric, remove}
 use Rattle.std.specs.Ordering.{eq_by_cmp, nat_cmp}
 use Rattle.records.specs.ChangeValue.{ChangeValue}
-use Rattle.records.specs.declared.pair.Pair.{Pair}
+use Rattle.record_values.specs.declared.pair.Pair.{Pair}
 use Rattle.core_model.proofs.Frames.{nat_decided, txn_apart, txn_here}
 use Rattle.core_model.proofs.Orders.{apart, level, update_apart, update_here}
 use Rattle.core_model.specs.Changes.{Changes, Unchanged, new_pair, old_pair, ◌▹◌}

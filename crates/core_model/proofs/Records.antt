@@ -7,19 +7,19 @@ use Rattle.std.specs.Cmp.{nat_cmp_total}
 use Rattle.std.specs.FinMap.{entries, get, nat_cmp-IsAntisymmetric}
 use Rattle.std.specs.Ordering.{nat_cmp}
 use Rattle.records.specs.ChangeValue.{ChangeValue}
-use Rattle.records.specs.Maps.{get-set_at_other, get-set_at_same, nat_exact, pair_exact, set_at, set_at-get}
-use Rattle.records.specs.Orders.{rid_cmp}
+use Rattle.record_values.specs.Maps.{get-set_at_other, get-set_at_same, nat_exact, pair_exact, set_at, set_at-get}
+use Rattle.record_values.specs.Orders.{rid_cmp}
 use Rattle.records.specs.RecordValue.{has_new, has_old, has_rows}
 use Rattle.records.specs.Spelling.{new_row, old_row}
-use Rattle.records.specs.Values.{Place}
+use Rattle.record_values.specs.Values.{Place}
 use Rattle.records.specs.declared.change.Rows.{Rows}
 use Rattle.records.specs.declared.change.Rows.TheVariants.{Deleted, Inserted, Updated}
-use Rattle.records.specs.declared.pair.Mark.{Mark}
-use Rattle.records.specs.declared.pair.Mark.TheVariants.{Live, Marked}
-use Rattle.records.specs.declared.pair.Pair.{Pair}
+use Rattle.record_values.specs.declared.pair.Mark.{Mark}
+use Rattle.record_values.specs.declared.pair.Mark.TheVariants.{Live, Marked}
+use Rattle.record_values.specs.declared.pair.Pair.{Pair}
 use Rattle.records.specs.declared.record.Action.{Action}
 use Rattle.records.specs.declared.record.Part.TheVariants.{Slot}
-use Rattle.records.specs.declared.row.Row.{Row}
+use Rattle.record_values.specs.declared.row.Row.{Row}
 use Rattle.model.specs.Cells.{Cells, Pending, list_of, noted, set_by, taken_off, with_list}
 use Rattle.model.specs.KeyActions.{after_action}
 use Rattle.model.specs.Table.{Index, Table}

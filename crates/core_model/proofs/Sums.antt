@@ -7,7 +7,7 @@ use Rattle.std.specs.Ordering.{is_eq, is_lt, nat_cmp}
 use Rattle.std.specs.Prelude.{T, fold, map, sum}
 use Rattle.std.specs.declared.cmp.Ordering.{Ordering}
 use Rattle.std.specs.declared.cmp.Ordering.TheVariants.{Equal, Greater, Less}
-use Rattle.records.specs.Maps.{get-set_at_other, get-set_at_same, nat_exact, set_at, set_at-again, set_at-get}
+use Rattle.record_values.specs.Maps.{get-set_at_other, get-set_at_same, nat_exact, set_at, set_at-again, set_at-get}
 use Rattle.core_model.specs.States.{Pledges}
 use Rattle.core_model.specs.Steps.{all_reserved, reserved}
 

@@ -5,13 +5,13 @@ use Rattle.std.specs.Cmp.Lexicographic.{nat_list_cmp_total}
 use Rattle.std.specs.FinMap.{entries, get, nat_cmp-IsAntisymmetric}
 use Rattle.std.specs.Ordering.{eq_by_cmp, nat_cmp}
 use Rattle.records.specs.ChangeValue.{ChangeValue}
-use Rattle.records.specs.Maps.{get-set_at, get-set_at_same, pair_exact, rid_exact, set_at}
-use Rattle.records.specs.Orders.{rid_cmp, rid_cmp-IsAntisymmetric, rid_cmp_total}
+use Rattle.record_values.specs.Maps.{get-set_at, get-set_at_same, pair_exact, rid_exact, set_at}
+use Rattle.record_values.specs.Orders.{rid_cmp, rid_cmp-IsAntisymmetric, rid_cmp_total}
 use Rattle.records.specs.Spelling.{new_row, old_row}
-use Rattle.records.specs.Values.{Place}
-use Rattle.records.specs.declared.pair.Mark.TheVariants.{Live, Marked}
-use Rattle.records.specs.declared.pair.Pair.{Pair}
-use Rattle.records.specs.declared.row.Row.{Row}
+use Rattle.record_values.specs.Values.{Place}
+use Rattle.record_values.specs.declared.pair.Mark.TheVariants.{Live, Marked}
+use Rattle.record_values.specs.declared.pair.Pair.{Pair}
+use Rattle.record_values.specs.declared.row.Row.{Row}
 use Rattle.model.specs.Committed.{writes_of}
 use Rattle.model.specs.Table.{Index, Table, applied}
 use Rattle.model.specs.declared.life.Life.{Life}
@@ -36,9 +36,6 @@ all_applied (older ▹ c) = refl
 made_phase : (indexed : Bool) (entries : Index) (cs : Changes) (rolling : Bool) → IsPhaseOf indexed entries cs Made rolling
 made_phase indexed entries Unchanged rolling = refl
 made_phase indexed entries (older ▹ c) rolling = tt
-
-equal_key : (a b : Row) (x : Bool) → same_key b a ≡ x → x ≡ true → a.key ≡ b.key
-equal_key a b x e t = sym (same_key_is b a (e ∙ t))
 
 -- a row that stays by one name stays by the other
 both_stay : (a b : Row) → a.key ≡ b.key → same_key a b ≡ true
@@ -107,10 +104,6 @@ replace_marked s r row v e = inr (inr e)
 
 made_applied : (x : Active) → x.phase ≡ Made → made_of x ≡ x.changes
 made_applied x e = ap (λ phase. applied_of x.changes (is_applied phase)) e ∙ all_applied x.changes
-
-row_made_applied : (new : Option Pair) → is_applied (row_made new) ≡ true
-row_made_applied None = refl
-row_made_applied (Some p) = refl
 
 -- ---- the first step of a change
 module _ (s : State) (i : IsCoherent s) (t : ℕ) (x : Active) (c : ChangeValue) (active : s.txns t ≡ Some x) (ready : IsReady x)
@@ -624,22 +617,6 @@ end_by s i t phase rolling active =
 
 pub end_keeps : (s : State) → IsCoherent s → (t : ℕ) (x : Active) → s.txns t ≡ Some x → x.changes ≡ Unchanged → IsCoherent (left s t s.committed)
 end_keeps s i t x active none = end_by s i t x.phase x.rolling (active ∙ ap (λ cs. Some (record { changes = cs; phase = x.phase; rolling = x.rolling })) none)
-
--- an undo that is begun again, where the old row was set already, marks the new pair once more
-pub mark_again : (s : State) → IsCoherent s
-    → (t : ℕ) (c : ChangeValue) (older : Changes) (rolling : Bool) (p : Pair)
-    (active : s.txns t ≡ Some (record { changes = older ▹ c; phase = OldSet; rolling = rolling }))
-    → new_pair (is_indexed s.life) c ≡ Some p
-    → IsCoherent (record s {
-      entries = set_at s.entries p (Some Marked);
-      txns = with_txn s t (record { changes = older ▹ c; phase = OldSet; rolling = rolling });
-    })
-mark_again s i t c older rolling p active n =
-    let g : Gone (is_indexed s.life) c.rid (new_row c.rows) p = gone_is _ c.rid (new_row c.rows) (old_row c.rows) p n in
-    let h : HasPair (old_pair (is_indexed s.life) c) (λ q. Unit {0}) = (i.txns t _ active).phase in
-    mark_step s s.holder c.rid t _ (record { changes = older ▹ c; phase = OldSet; rolling = rolling }) i
-    (phase_ends s i t c older OldSet rolling active OldSet rolling) p (ap (λ w. w.rid) g.pair) g.there
-    (row_now s i t c older OldSet rolling active) (record { it = h.it; is = h.is; holds = tt }) (refl, λ k. absurd (cc))
 
 -- ---- a change is taken back whole, all steps of its undo from the first on, however far it or its undo had come
 module _ (s : State) (t : ℕ) (c : ChangeValue) (older : Changes) where

@@ -2,9 +2,9 @@
 use Rattle.std.specs.FinMap.{entries}
 use Rattle.std.specs.Ordering.{nat_cmp}
 use Rattle.std.specs.Prelude.{Bool, List, None, Option, Some, [], ℕ, ◌∷◌, ◌≡◌}
-use Rattle.records.specs.Maps.{set_at}
+use Rattle.record_values.specs.Maps.{set_at}
 use Rattle.records.specs.Spelling.{old_row}
-use Rattle.records.specs.declared.pair.Mark.TheVariants.{Live, Marked}
+use Rattle.record_values.specs.declared.pair.Mark.TheVariants.{Live, Marked}
 use Rattle.model.specs.Table.{Index, Table}
 use Rattle.core_model.specs.Changes.{Changes, Unchanged, new_pair, old_pair, ◌▹◌}
 use Rattle.core_model.specs.Histories.{Opened}

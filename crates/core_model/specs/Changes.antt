@@ -3,10 +3,10 @@
 use Rattle.std.specs.Ordering.{eq_by_cmp}
 use Rattle.std.specs.Prelude.{List, Option, [], cond, ◌++◌, ◌∷◌}
 use Rattle.records.specs.ChangeValue.{ChangeValue}
-use Rattle.records.specs.Orders.{rid_cmp}
+use Rattle.record_values.specs.Orders.{rid_cmp}
 use Rattle.records.specs.Spelling.{new_row}
-use Rattle.records.specs.Values.{Place}
-use Rattle.records.specs.declared.row.Row.{Row}
+use Rattle.record_values.specs.Values.{Place}
+use Rattle.record_values.specs.declared.row.Row.{Row}
 pub use Rattle.model.specs.Pairs.{gone, new_pair, old_pair, pair_at, pair_of, same_key}
 
 -- the changes of a transaction, the oldest first: none, or the older ones and the newest behind them

@@ -2,10 +2,10 @@
 use Rattle.std.specs.FinMap.{empty}
 use Rattle.std.specs.Prelude.{List, [], ◌∷◌}
 use Rattle.records.specs.ChangeValue.{ChangeValue}
-use Rattle.records.specs.Values.{Place}
+use Rattle.record_values.specs.Values.{Place}
 use Rattle.records.specs.declared.change.Rows.TheVariants.{Inserted}
-use Rattle.records.specs.declared.pair.Pair.{Pair}
-use Rattle.records.specs.declared.row.Row.{Row}
+use Rattle.record_values.specs.declared.pair.Pair.{Pair}
+use Rattle.record_values.specs.declared.row.Row.{Row}
 use Rattle.model.specs.declared.life.Life.TheVariants.{Absent}
 use Rattle.core_model.specs.Histories.{Opened, opened}
 use Rattle.core_model.specs.States.{State}

@@ -6,3 +6,7 @@ pub mod Histories
 pub mod Example
 pub mod Records
 pub mod Logs
+pub mod Events
+pub mod Replies
+pub mod Served
+pub mod Worked

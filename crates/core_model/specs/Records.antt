@@ -2,8 +2,8 @@
 use Rattle.std.specs.FinMap.{get}
 use Rattle.std.specs.Prelude.{Bool, List, None, Option, Some, false, true, ℕ, ◌≡◌}
 use Rattle.records.specs.ChangeValue.{ChangeValue}
-use Rattle.records.specs.declared.pair.Mark.{Mark}
-use Rattle.records.specs.declared.pair.Pair.{Pair}
+use Rattle.record_values.specs.declared.pair.Mark.{Mark}
+use Rattle.record_values.specs.declared.pair.Pair.{Pair}
 use Rattle.records.specs.declared.record.Action.{Action}
 use Rattle.records.specs.declared.record.Action.TheVariants.{OfIndex, OfTxn}
 use Rattle.records.specs.declared.record.IndexAction.{IndexAction}

@@ -2,8 +2,8 @@
 use Rattle.std.specs.FinMap.{FinMap}
 use Rattle.std.specs.Ordering.{nat_cmp}
 use Rattle.std.specs.Prelude.{Bool, Option, ℕ}
-use Rattle.records.specs.Values.{Place}
-use Rattle.records.specs.declared.pair.Pair.{Pair}
+use Rattle.record_values.specs.Values.{Place}
+use Rattle.record_values.specs.declared.pair.Pair.{Pair}
 use Rattle.model.specs.Table.{Index, Table}
 use Rattle.model.specs.declared.life.Life.{Life}
 use Rattle.core_model.specs.Changes.{Changes}

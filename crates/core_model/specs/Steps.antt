@@ -6,12 +6,12 @@ use Rattle.std.specs.Prelude.{Bool, None, Option, Some, cond, false, length, nat
 use Rattle.std.specs.Prelude.{◌+◌, ◌-◌, ◌<◌, ◌||◌, ◌≡◌, ◌≢◌, ◌≤◌, ◌⊎◌}
 use Rattle.std.specs.declared.cmp.Ordering.{Ordering}
 use Rattle.records.specs.ChangeValue.{ChangeValue}
-use Rattle.records.specs.Maps.{set_at}
-use Rattle.records.specs.Orders.{pair_cmp, rid_cmp}
+use Rattle.record_values.specs.Maps.{set_at}
+use Rattle.record_values.specs.Orders.{pair_cmp, rid_cmp}
 use Rattle.records.specs.Spelling.{new_row, old_row}
-use Rattle.records.specs.declared.pair.Mark.TheVariants.{Live, Marked}
-use Rattle.records.specs.declared.pair.Pair.{Pair}
-use Rattle.records.specs.declared.row.Row.{Row}
+use Rattle.record_values.specs.declared.pair.Mark.TheVariants.{Live, Marked}
+use Rattle.record_values.specs.declared.pair.Pair.{Pair}
+use Rattle.record_values.specs.declared.row.Row.{Row}
 use Rattle.model.specs.Committed.{writes_of}
 use Rattle.model.specs.KeyActions.{after_action}
 use Rattle.model.specs.Table.{Index, Table, applied}
@@ -21,7 +21,7 @@ use Rattle.model.specs.declared.life.Life.TheVariants.{Absent, Building, Complet
 pub use Rattle.model.specs.Following.{IsBuilding}
 pub use Rattle.model.specs.Pairs.{is_indexed, with_entry}
 use Rattle.core_model.specs.Changes.{Changes, Unchanged, as_list, new_pair, old_pair, ◌▹◌}
-use Rattle.records.specs.declared.limits.TheConstants.{PLACES_PER_CHANGE}
+use Rattle.record_values.specs.declared.limits.TheConstants.{PLACES_PER_CHANGE}
 use Rattle.core_model.specs.States.{Active, Made, NewMarked, OldMarked, OldSet, Phase, Pledges, RowSet, State}
 
 -- the function with this value at this argument

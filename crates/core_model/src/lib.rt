@@ -1,11 +1,16 @@
-//! The core as an abstract machine: its steps, and what every order of them keeps.
+//! The core as an abstract machine: its steps, what every order of them keeps, and which reply each event may get.
 //!
 //! Proved, on plain data: every order of the steps keeps rows, entries, history and reserved places together
 //! (`every_order`). A complete index with no transaction active is exact (`complete_index`). A restart at any stop
 //! gives a prefix of the history (`any_stop`). Each step sets the cell that its record names (`each_record`). A worked
-//! example shows that the premises can be met (`undone_insertion_is_rejected`). Nothing here runs. That code makes
-//! these steps is the contract of `nsf_core`.
+//! example shows that the premises can be met (`undone_insertion_is_rejected`). `IsAllowed` says which reply each event
+//! may get in a state, and the step that is made with it; `items_of` which history events and replies tell. Nothing
+//! here runs. That code makes these steps, and replies so, is the contract of `nsf_core`.
+//!
+//! Lemmas about its public words that crates above may cite, in `proofs`: `Laws` and `ReplyLaws`.
 #![tactic(auto)]
+
+pub mod service;
 
 ghost use Rattle.std.specs.Prelude.{◌≡◌, ◌≤◌, ◌+◌, ◌++◌, [], ℕ, List, Option, Some, length, map, take, true, IsTrue};
 ghost use Rattle.records.specs.declared.record.Action.{Action};
@@ -14,7 +19,7 @@ ghost use Rattle.model.specs.Cells.{Cells};
 ghost use Rattle.core_model.specs.Records.{HasCells, action_of, set_by_any};
 ghost use Rattle.std.specs.FinMap.{len};
 ghost use Rattle.records.specs.RecordValue.{RecordValue};
-ghost use Rattle.records.specs.declared.txn.TheConstants.{TXNS_MAX};
+ghost use Rattle.record_values.specs.declared.txn.TheConstants.{TXNS_MAX};
 ghost use Rattle.model.specs.declared.write.Write.{Write};
 ghost use Rattle.model.specs.Cells.{cells_after};
 ghost use Rattle.model.specs.Following.{CanFollow};
@@ -26,8 +31,8 @@ ghost use Rattle.model.specs.Images.{IsCopied};
 ghost use Rattle.model.specs.declared.life.Life.TheVariants.{Building, Complete};
 ghost use Rattle.model.specs.History.{Item, life_after, table_after};
 ghost use Rattle.std.specs.FinMap.{get};
-ghost use Rattle.records.specs.declared.pair.Mark.TheVariants.{Marked};
-ghost use Rattle.records.specs.declared.pair.Pair.{Pair};
+ghost use Rattle.record_values.specs.declared.pair.Mark.TheVariants.{Marked};
+ghost use Rattle.record_values.specs.declared.pair.Pair.{Pair};
 ghost use Rattle.core_model.specs.Example.{opening, steps, last, pair};
 ghost use Rattle.core_model.specs.States.{State};
 ghost use Rattle.core_model.specs.Steps.{Attempt, MachineStep, above, after, IsEnabled};

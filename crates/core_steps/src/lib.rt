@@ -4,8 +4,6 @@
 //! law `each_change` of `nsf_core` ties each step's record to the abstract core (`first`, `next`, `undo`).
 #![tactic(auto)]
 
-mod laws;
 mod step;
 
-pub use laws::one_step_without_an_index;
 pub use step::{Cell, Step, forward, undo};

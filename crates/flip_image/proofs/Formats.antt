@@ -1,39 +1,40 @@
 -- What is there once a device is formatted.
 use Rattle.std.proofs.Common.{◌≡◌, inl, inr, ℕ, ◌+◌, ◌*◌, ◌<◌, ◌≤◌, ◌-◌, List, All, length, sym, ◌∙◌, ap, subst, arith}
-use Rattle.sector_device.specs.Disk.{Image, sector, SameOutside}
+use Rattle.sector_device.specs.Disk.{CrashState, sector, SameOutside}
 use Rattle.sector_device.specs.Values.{zero_sector, IsMarked, InRow, AreZeroSectors}
 use Rattle.sector_device.proofs.KnownSectors.{zero_bytes, zero_not_marked}
-use Rattle.records.specs.GeometryValue.{GeometryValue, IsGeometry, sectors_of}
+use Rattle.record_values.specs.GeometryValue.{GeometryValue, IsGeometry, sectors_of}
 use Rattle.flip_image.specs.declared.half.Half.TheVariants.{A}
 use Rattle.flip_image.specs.Layout.{pages_first, log_first}
 use Rattle.flip_image.specs.declared.half.Half.{Half}
 use Rattle.flip_image.specs.Store.{Names, IsSuperblock, AreZeros, IsFormatted, AreGatesClosed, AreLogGatesZero, IsFormatSector}
 
 -- zeros that are there stay
-zeros_stay : (S : ℕ → Type 0) (old new : Image) (first count : ℕ) → SameOutside S old new → ((n : ℕ) → first ≤ n → n < first + count → ¬ S n)
+zeros_stay : (S : ℕ → Type 0) (old new : CrashState) (first count : ℕ) → SameOutside S old new → ((n : ℕ) → first ≤ n → n < first + count → ¬ S n)
     → AreZeros old first count → AreZeros new first count
 zeros_stay S old new first count same apart zeros i below =
     subst (All (λ b. b ≡ 0)) (sym (same.same (first + i) (apart (first + i) (omega arith) (omega arith)))) (zeros i below)
 
 -- zeros from a later sector on
-zeros_within : (image : Image) (first count low n : ℕ) → first ≤ low → low + n ≤ first + count → AreZeros image first count → AreZeros image low n
+zeros_within : (image : CrashState) (first count low n : ℕ) → first ≤ low → low + n ≤ first + count → AreZeros image first count → AreZeros image low n
 zeros_within image first count low n from to zeros i below =
     let same : first + (low + i - first) ≡ low + i = omega (arith, from) in
     subst (λ (k : ℕ). All (λ b. b ≡ 0) (sector image k)) same (zeros (low + i - first) (omega (arith, from, to, below)))
 
 -- sectors of zeros, one behind the other
-row_zeros : (image : Image) (first count : ℕ) → AreZeroSectors image first 1 count → AreZeros image first count
+row_zeros : (image : CrashState) (first count : ℕ) → AreZeroSectors image first 1 count → AreZeros image first count
 row_zeros image first count zeros i below =
     let same : first + i ≡ first + 1 * i = omega arith in
     subst (All (λ b. b ≡ 0)) (sym (ap (sector image) same ∙ zeros i below)) zero_bytes
 
 -- a gate of zeros is closed
-pub gates_closed : (g : GeometryValue) (half : Half) (image : Image) → AreLogGatesZero g half image → AreGatesClosed g half image
+pub gates_closed : (g : GeometryValue) (half : Half) (image : CrashState) → AreLogGatesZero g half image → AreGatesClosed g half image
 gates_closed g half image zeros slot below is_open = zero_not_marked (subst IsMarked (zeros slot below) is_open)
 
 module _ (g : GeometryValue) (header first pages log slots : ℕ) (is_header : header ≡ 2) (is_first : first ≡ pages_first g A) (is_pages : pages ≡ g.pages)
     (is_log : log ≡ log_first g A) (is_slots : slots ≡ g.slots)
-    (c0 c1 c2 c3 c4 c5 : Image) (one : SameOutside (λ n. n ≡ 0) c0 c1) (two : SameOutside (λ n. n ≡ 1) c1 c2) (three : SameOutside (InRow header 1 2) c2 c3)
+    (c0 c1 c2 c3 c4 c5 : CrashState) (one : SameOutside (λ n. n ≡ 0) c0 c1) (two : SameOutside (λ n. n ≡ 1) c1 c2)
+    (three : SameOutside (InRow header 1 2) c2 c3)
     (four : SameOutside (InRow first 1 (16 * pages)) c3 c4) (five : SameOutside (InRow log 8 slots) c4 c5) where
   -- the sectors that are written
   pub all_outside : SameOutside (IsFormatSector g) c0 c5

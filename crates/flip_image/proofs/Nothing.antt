@@ -8,20 +8,20 @@ use Rattle.std.proofs.lemmas.List.{ext_get_or, get_or-replicate, get_or-take, ge
 use Rattle.std.proofs.lemmas.List.Elements.{All-replicate, All-take, All-drop}
 use Rattle.std.proofs.lemmas.Bool.{cases_lt}
 use Rattle.std.proofs.lemmas.Option.{none-some, slice_get_within}
-use Rattle.sector_device.specs.Disk.{Image, sector, IsDiskWhole}
-use Rattle.records.specs.Orders.{pair_cmp, rid_cmp}
+use Rattle.sector_device.specs.Disk.{CrashState, sector, IsDiskWhole}
+use Rattle.record_values.specs.Orders.{pair_cmp, rid_cmp}
 use Rattle.records.specs.ChangeValue.{ChangeValue}
-use Rattle.records.specs.GeometryValue.{GeometryValue, sectors_of}
+use Rattle.record_values.specs.GeometryValue.{GeometryValue, sectors_of}
 use Rattle.records.specs.Spelling.{u32, u64}
-use Rattle.records.specs.declared.version.Version.TheVariants.{Two}
-use Rattle.records.specs.Values.{Place}
-use Rattle.records.specs.declared.pair.Pair.{Pair}
-use Rattle.records.specs.declared.pair.Mark.{Mark}
+use Rattle.record_values.specs.declared.version.Version.TheVariants.{Two}
+use Rattle.record_values.specs.Values.{Place}
+use Rattle.record_values.specs.declared.pair.Pair.{Pair}
+use Rattle.record_values.specs.declared.pair.Mark.{Mark}
 use Rattle.model.specs.declared.life.Life.TheVariants.{Absent, Building}
-use Rattle.image_parts.specs.Spelling.{header, row, zeros}
-use Rattle.image_half.specs.Layout.{cut, page_bytes}
-use Rattle.image_half.specs.Image.{IsHeader, AreHeads, HasEdges, IsRow, header_of, head_of, row_bytes, no_cells}
-use Rattle.image_half.proofs.Bytes.{length_bytes, byte_at, all_bytes}
+use Rattle.store_image_parts.specs.Spelling.{header, row, zeros}
+use Rattle.store_image_half.specs.Layout.{cut, page_bytes}
+use Rattle.store_image_half.specs.Image.{IsHeader, AreHeads, HasEdges, IsRow, header_of, head_of, row_bytes, no_cells}
+use Rattle.store_image_half.proofs.Bytes.{length_bytes, byte_at, all_bytes}
 use Rattle.flip_image.specs.declared.half.Half.{Half}
 use Rattle.flip_image.specs.declared.half.Half.TheVariants.{A, B}
 use Rattle.flip_image.specs.Layout.{header_sector, heads_sector, page_sector, log_first}
@@ -77,7 +77,7 @@ end_inside g B = omega arith
 not_building : (p : Pair) → Absent ≡ Building (Some p) → ⊥
 not_building p is = cc
 
-module _ (g : GeometryValue) (half : Half) (image : Image) (whole : IsDiskWhole image) (room : sectors_of g ≤ length image) where
+module _ (g : GeometryValue) (half : Half) (image : CrashState) (whole : IsDiskWhole image) (room : sectors_of g ≤ length image) where
   first : ℕ
   first = header_sector g half
 

@@ -3,11 +3,11 @@ use Rattle.std.proofs.Common.{Result, OnOk, OnErr, ◌≡◌, ◌⊎◌, inl, in
 use Rattle.std.proofs.Common.{◌∙◌, arith}
 use Rattle.std.proofs.lemmas.Bool.{cases_eq}
 use Rattle.sector_device.specs.declared.device.Failed.{Failed}
-use Rattle.sector_device.specs.Disk.{Image, Disk, sector, after_write, after_sync, IsFailedWrite, IsSynced, IsCrashImage, SameOutside}
-use Rattle.sector_device.specs.History.{History, Elapses, LeavesOnly}
+use Rattle.sector_device.specs.Disk.{CrashState, Disk, sector, after_write, after_sync, IsFailedWrite, IsSynced, IsCrashState, SameOutside}
+use Rattle.sector_device.specs.DevicePast.{DevicePast, Elapses, LeavesOnly}
 use Rattle.sector_device.proofs.Moments.{one_call, write_goes_on, sync_goes_on}
 use Rattle.sector_device.proofs.Sectors.{outside_synced, written_outside, crash_outside, crash_synced}
-use Rattle.records.specs.GeometryValue.{GeometryValue}
+use Rattle.record_values.specs.GeometryValue.{GeometryValue}
 use Rattle.flip_image.specs.declared.half.Half.{Half}
 use Rattle.flip_image.specs.declared.half.Half.TheVariants.{A, B}
 use Rattle.flip_image.specs.Layout.{other, InHalf, InHalfImage, InLog}
@@ -34,7 +34,7 @@ parts_apart g half n image log = omega (arith, image.1, log.0)
 
 -- ---- stores
 
-pub store_in_front : (g : GeometryValue) (half : Half) (image changed : Image) → length changed ≡ length image
+pub store_in_front : (g : GeometryValue) (half : Half) (image changed : CrashState) → length changed ≡ length image
     → ((n : ℕ) → n < 2 → sector changed n ≡ sector image n) → IsStore g half image → IsStore g half changed
 store_in_front g half image changed long same store = record {
   limits = store.limits;
@@ -48,7 +48,7 @@ names_one : (bytes : List ℕ) (half : Half) → Names bytes half ⊎ Names byte
 names_one bytes A = ⊎_elim (λ is. inr is) (λ no. inl no) (cases_eq (slice_index bytes 0) 165)
 names_one bytes B = ⊎_elim (λ is. inl is) (λ no. inr no) (cases_eq (slice_index bytes 0) 165)
 
-pub either_store : (g : GeometryValue) (half : Half) (image changed : Image) → SameOutside (λ n. n ≡ 1) image changed → IsStore g half image
+pub either_store : (g : GeometryValue) (half : Half) (image changed : CrashState) → SameOutside (λ n. n ≡ 1) image changed → IsStore g half image
     → IsStore g half changed ⊎ IsStore g (other half) changed
 either_store g half image changed same store = ⊎_elim (λ named. inl (of half named)) (λ named. inr (of (other half) named)) (names_one (sector changed 1) half)
   where
@@ -66,8 +66,8 @@ not_true : (b : Bool) → ¬ (b ≡ true) → b ≡ false
 not_true true not = absurd (not refl)
 not_true false not = refl
 
-module _ (h0 h1 h2 h3 : History) where
-  here : (c : Image) → IsCrashImage h0.disk c → IsFlipping h0.disk c
+module _ (h0 h1 h2 h3 : DevicePast) where
+  here : (c : CrashState) → IsCrashState h0.disk c → IsFlipping h0.disk c
   here c crash = inl (record { sectors = crash.sectors; same = λ k out. crash.kept k (not_true (h0.disk.unsynced k) out) })
 
   pub flipping_end : (r1 r2 r3 : Result Unit Failed) (bytes : List ℕ) → h1.disk ≡ after_sync h0.disk → Elapses h0 h1
@@ -84,10 +84,10 @@ module _ (h0 h1 h2 h3 : History) where
       first : LeavesOnly h0 h1 (IsFlipping h0.disk)
       first = one_call h0 h1 (IsFlipping h0.disk) time1 here (λ c crash.
           let is : c ≡ h0.disk.content = crash_synced h1.disk c all crash ∙ same in
-          inr (record { sectors = ap length is; same = λ k out. ap (λ (i : Image). sector i k) is }))
+          inr (record { sectors = ap length is; same = λ k out. ap (λ (i : CrashState). sector i k) is }))
 
       second : LeavesOnly h0 h2 (IsFlipping h0.disk)
       second = write_goes_on h0 h1 h2 (IsFlipping h0.disk) first time2 r2 1 bytes ok2 err2 (λ b c crash.
-          inr (subst (λ (i : Image). SameOutside (λ n. n ≡ 1) i c) same
+          inr (subst (λ (i : CrashState). SameOutside (λ n. n ≡ 1) i c) same
           (crash_outside (λ n. n ≡ 1) h1.disk.content (after_write h1.disk 1 b) c
           (written_outside (λ n. n ≡ 1) h1.disk.content h1.disk 1 b refl (outside_synced (λ n. n ≡ 1) h1.disk all)) crash)))

@@ -4,12 +4,12 @@ use Rattle.std.proofs.Common.{length-append}
 use Rattle.std.proofs.lemmas.List.{take_at, drop_at, drop-drop, length-drop, append-nil, nil_from_length, take_all}
 use borrow.Rule.Slice.PartMut.{put_mid}
 use Rattle.byteorder.specs.Endian.{big_number}
-use Rattle.records.specs.GeometryValue.{GeometryValue, IsGeometry}
+use Rattle.record_values.specs.GeometryValue.{GeometryValue, IsGeometry}
 use Rattle.records.specs.Spelling.{u32, u64, IsBytes}
 use Rattle.records.proofs.Numbers.{IsBytes-drop, length-u32, length-u64, u32_front, u64_front, u32_once, u64_once}
 use Rattle.flip_image.specs.declared.superblock.TheConstants.{TITLE}
-use Rattle.records.specs.declared.version.Version.{Version}
-use Rattle.records.specs.declared.version.Version.TheVariants.{One, Two}
+use Rattle.record_values.specs.declared.version.Version.{Version}
+use Rattle.record_values.specs.declared.version.Version.TheVariants.{One, Two}
 use Rattle.flip_image.specs.Steps.{IsOlderNumber}
 use Rattle.flip_image.specs.Store.{title, number_of, superblock_in, IsSuperblockIn, HasOlderNumber}
 

@@ -1,11 +1,11 @@
 -- What an image is a store of, for proofs in the crates above.
 use Rattle.std.proofs.Common.{◌≡◌, ◌⊎◌, inl, inr, ℕ, ◌+◌, ◌<◌, ◌≤◌, List, All, refl, ap, sym, ◌∙◌, subst, arith}
-use Rattle.sector_device.specs.Disk.{Image, sector, SameOutside}
-use Rattle.records.specs.declared.error.Error.{Error}
-use Rattle.records.specs.declared.error.Error.TheVariants.{OldVersion}
-use Rattle.records.specs.declared.version.Version.{Version}
-use Rattle.records.specs.declared.version.Version.TheVariants.{One, Two}
-use Rattle.records.specs.GeometryValue.{GeometryValue, sectors_in}
+use Rattle.sector_device.specs.Disk.{CrashState, sector, SameOutside}
+use Rattle.record_values.specs.declared.error.Error.{Error}
+use Rattle.record_values.specs.declared.error.Error.TheVariants.{OldVersion}
+use Rattle.record_values.specs.declared.version.Version.{Version}
+use Rattle.record_values.specs.declared.version.Version.TheVariants.{One, Two}
+use Rattle.record_values.specs.GeometryValue.{GeometryValue, sectors_in}
 use Rattle.flip_image.specs.declared.half.Half.{Half}
 use Rattle.flip_image.specs.declared.half.Half.TheVariants.{A, B}
 use Rattle.flip_image.specs.Layout.{HalvesValue, header_sector, heads_sector, page_sector, log_first, InLog}
@@ -18,11 +18,11 @@ front_room One g = omega arith
 front_room Two g = omega arith
 
 -- an image is of a store of one geometry at most
-pub one_geometry : (v : Version) (g h : GeometryValue) (a b : Half) (image : Image) → IsStoreIn v g a image → IsStoreIn v h b image → g ≡ h
+pub one_geometry : (v : Version) (g h : GeometryValue) (a b : Half) (image : CrashState) → IsStoreIn v g a image → IsStoreIn v h b image → g ≡ h
 one_geometry v g h a b image first second = spelled.one_geometry v g h (sector image 0) first.limits second.limits first.superblock-is second.superblock-is
 
 -- no reader refuses it
-pub accepted : (v : Version) (g : GeometryValue) (half : Half) (image : Image) (e : Error) → IsStoreIn v g half image → ¬ IsRefusedIn v image e
+pub accepted : (v : Version) (g : GeometryValue) (half : Half) (image : CrashState) (e : Error) → IsStoreIn v g half image → ¬ IsRefusedIn v image e
 accepted v g half image e store (inl (is, (inl small))) = omega (arith, small, front_room v g, store.room)
 accepted v g half image e store (inl (is, (inr (h, limits, there, small)))) =
     let same = spelled.one_geometry v g h (sector image 0) store.limits limits store.superblock-is there in
@@ -31,25 +31,25 @@ accepted v g half image e store (inr (inl (is, untitled))) = untitled.other (spe
 accepted v g half image e store (inr (inr (inl (is, older)))) = spelled.not_older v g (sector image 0) store.superblock-is older.older
 accepted v g half image e store (inr (inr (inr (is, damaged)))) = damaged.none g store.limits store.superblock-is
 
-small_not_untitled : (v : Version) (image : Image) → IsTooSmallIn v image → ¬ IsUntitled image
+small_not_untitled : (v : Version) (image : CrashState) → IsTooSmallIn v image → ¬ IsUntitled image
 small_not_untitled v image (inl small) other = omega (arith, small, other.room)
 small_not_untitled v image (inr (g, limits, there, small)) other = other.other (spelled.titled v g (sector image 0) there)
 
-small_not_older : (v : Version) (image : Image) → IsTooSmallIn v image → ¬ IsOlder v image
+small_not_older : (v : Version) (image : CrashState) → IsTooSmallIn v image → ¬ IsOlder v image
 small_not_older v image (inl small) other = omega (arith, small, other.room)
 small_not_older v image (inr (g, limits, there, small)) other = spelled.not_older v g (sector image 0) there other.older
 
-small_not_damaged : (v : Version) (image : Image) → IsTooSmallIn v image → ¬ IsSuperblockDamagedIn v image
+small_not_damaged : (v : Version) (image : CrashState) → IsTooSmallIn v image → ¬ IsSuperblockDamagedIn v image
 small_not_damaged v image (inl small) other = omega (arith, small, other.room)
 small_not_damaged v image (inr (g, limits, there, small)) other = other.none g limits there
 
-small_not_refused : (v : Version) (image : Image) (e : Error) → IsTooSmallIn v image → ¬ IsSuperblockRefused v image e
+small_not_refused : (v : Version) (image : CrashState) (e : Error) → IsTooSmallIn v image → ¬ IsSuperblockRefused v image e
 small_not_refused v image e small (inl p) = small_not_untitled v image small p.1
 small_not_refused v image e small (inr (inl p)) = small_not_older v image small p.1
 small_not_refused v image e small (inr (inr p)) = small_not_damaged v image small p.1
 
 -- its superblock is refused in one way at most
-one_superblock : (v : Version) (image : Image) (d e : Error) → IsSuperblockRefused v image d → IsSuperblockRefused v image e → d ≡ e
+one_superblock : (v : Version) (image : CrashState) (d e : Error) → IsSuperblockRefused v image d → IsSuperblockRefused v image e → d ≡ e
 one_superblock v image d e (inl p) (inl q) = p.0 ∙ sym q.0
 one_superblock v image d e (inl p) (inr (inl q)) = absurd (p.1.other q.1.titled)
 one_superblock v image d e (inl p) (inr (inr q)) = absurd (p.1.other q.1.titled)
@@ -61,14 +61,14 @@ one_superblock v image d e (inr (inr p)) (inr (inl q)) = absurd (p.1.not_older q
 one_superblock v image d e (inr (inr p)) (inr (inr q)) = p.0 ∙ sym q.0
 
 -- so it is refused in one way at most
-pub one_refusal : (v : Version) (image : Image) (d e : Error) → IsRefusedIn v image d → IsRefusedIn v image e → d ≡ e
+pub one_refusal : (v : Version) (image : CrashState) (d e : Error) → IsRefusedIn v image d → IsRefusedIn v image e → d ≡ e
 one_refusal v image d e (inl p) (inl q) = p.0 ∙ sym q.0
 one_refusal v image d e (inl p) (inr q) = absurd (small_not_refused v image e p.1 q)
 one_refusal v image d e (inr p) (inl q) = absurd (small_not_refused v image d q.1 p)
 one_refusal v image d e (inr p) (inr q) = one_superblock v image d e p q
 
 -- a store of version 1 is refused as one
-pub refused_older : (g : GeometryValue) (half : Half) (image : Image) → IsStoreIn One g half image → IsRefusedIn Two image OldVersion
+pub refused_older : (g : GeometryValue) (half : Half) (image : CrashState) → IsStoreIn One g half image → IsRefusedIn Two image OldVersion
 refused_older g half image store = inr (inr (inl (
   refl,
   record {
@@ -79,21 +79,21 @@ refused_older g half image store = inr (inr (inl (
 )))
 
 -- one half of it is current
-pub one_half : (v : Version) (g h : GeometryValue) (a b : Half) (image : Image) → IsStoreIn v g a image → IsStoreIn v h b image → a ≡ b
+pub one_half : (v : Version) (g h : GeometryValue) (a b : Half) (image : CrashState) → IsStoreIn v g a image → IsStoreIn v h b image → a ≡ b
 one_half v g h A A image first second = refl
 one_half v g h A B image first second = absurd (first.current second.current)
 one_half v g h B A image first second = absurd (second.current first.current)
 one_half v g h B B image first second = refl
 
 -- so a reader gives one value
-pub one_value : (v : Version) (g : GeometryValue) (half : Half) (halves : HalvesValue) (image : Image) → IsStoreIn v halves.geometry halves.current image
+pub one_value : (v : Version) (g : GeometryValue) (half : Half) (halves : HalvesValue) (image : CrashState) → IsStoreIn v halves.geometry halves.current image
     → IsStoreIn v g half image → halves ≡ record { geometry = g; current = half }
 one_value v g half halves image first second =
     ap (λ (x : GeometryValue). record { geometry = x; current = halves.current }) (one_geometry v halves.geometry g halves.current half image first second)
     ∙ ap (λ (x : Half). record { geometry = g; current = x }) (one_half v halves.geometry g halves.current half image first second)
 
 -- a reader of its superblock can only fail with the device
-pub superblock_accepted : (v : Version) (g : GeometryValue) (half : Half) (image : Image) (a b : ℕ) (e : Error) → IsStoreIn v g half image
+pub superblock_accepted : (v : Version) (g : GeometryValue) (half : Half) (image : CrashState) (a b : ℕ) (e : Error) → IsStoreIn v g half image
     → IsDeviceFailure a b e ⊎ IsSuperblockRefused v image e → IsDeviceFailure a b e
 superblock_accepted v g half image a b e store (inl failed) = failed
 superblock_accepted v g half image a b e store (inr refused) = absurd (accepted v g half image e store (inr refused))
@@ -101,7 +101,8 @@ superblock_accepted v g half image a b e store (inr refused) = absurd (accepted 
 -- ---- sectors apart from a log
 
 -- a store depends on no sector of the log
-pub store_apart : (g : GeometryValue) (half : Half) (image other : Image) → SameOutside (InLog g half) image other → IsStore g half image → IsStore g half other
+pub store_apart : (g : GeometryValue) (half : Half) (image other : CrashState) → SameOutside (InLog g half) image other → IsStore g half image
+    → IsStore g half other
 store_apart g half image other same store = record {
   limits = store.limits;
   room = omega (arith, store.room, same.sectors);
@@ -117,7 +118,8 @@ store_apart g half image other same store = record {
     front n below is = omega (arith, below, is.0, low half)
 
 -- nor does it make a half other than fresh
-pub fresh_apart : (g : GeometryValue) (half : Half) (image other : Image) → SameOutside (InLog g half) image other → IsFresh g half image → IsFresh g half other
+pub fresh_apart : (g : GeometryValue) (half : Half) (image other : CrashState) → SameOutside (InLog g half) image other → IsFresh g half image
+    → IsFresh g half other
 fresh_apart g half image other same fresh = record {
   header = stay (header_sector g half) 1 (omega arith) fresh.header;
   heads = stay (heads_sector g half) 1 (omega arith) fresh.heads;
@@ -128,7 +130,7 @@ fresh_apart g half image other same fresh = record {
     stay first count before zeros i below = subst (All (λ b. b ≡ 0)) (sym (same.same (first + i) (λ is. omega (arith, before, below, is.0)))) (zeros i below)
 
 -- so what `format` leaves stays while only the log is written
-pub formatted_apart : (g : GeometryValue) (image other : Image) → SameOutside (InLog g A) image other → IsFormatted g image → IsFormatted g other
+pub formatted_apart : (g : GeometryValue) (image other : CrashState) → SameOutside (InLog g A) image other → IsFormatted g image → IsFormatted g other
 formatted_apart g image other same formatted = record {
   store = store_apart g A image other same formatted.store;
   fresh = fresh_apart g A image other same formatted.fresh;

@@ -1,11 +1,12 @@
 -- Where the parts of a half lie: header, transaction heads, undo items, pages, entries, log.
 use Rattle.std.specs.Prelude.{◌≡◌, ℕ, ◌+◌, ◌*◌, ◌<◌, ◌≤◌}
-use Rattle.records.specs.declared.geometry.TheConstants.{FRONT_SECTORS, HEADER_SECTORS, HEADS_SECTORS, UNDO_SECTORS}
-use Rattle.records.specs.declared.geometry.TheConstants.{PAGE_SECTORS, SLOT_SECTORS}
-use Rattle.records.specs.declared.version.Version.{Version}
-use Rattle.records.specs.declared.version.Version.TheVariants.{Two}
-use Rattle.records.specs.GeometryValue.{GeometryValue, half_sectors_in, half_sectors_of}
-use Rattle.image_half.specs.Layout.{image_end_in}
+use Rattle.record_values.specs.declared.geometry.TheConstants.{FRONT_SECTORS, HEADER_SECTORS, HEADS_SECTORS}
+use Rattle.record_values.specs.declared.geometry.TheConstants.{UNDO_SECTORS}
+use Rattle.record_values.specs.declared.geometry.TheConstants.{PAGE_SECTORS, SLOT_SECTORS}
+use Rattle.record_values.specs.declared.version.Version.{Version}
+use Rattle.record_values.specs.declared.version.Version.TheVariants.{Two}
+use Rattle.record_values.specs.GeometryValue.{GeometryValue, half_sectors_in, half_sectors_of}
+use Rattle.store_image_half.specs.Layout.{image_end_in}
 use Rattle.flip_image.specs.declared.half.Half.{Half}
 use Rattle.flip_image.specs.declared.half.Half.TheVariants.{A, B}
 

@@ -1,7 +1,7 @@
 -- Words for the private steps of reading a superblock. No public clause cites them.
 use Rattle.std.specs.Prelude.{◌≡◌, ℕ}
-use Rattle.records.specs.declared.version.Version.{Version}
-use Rattle.records.specs.declared.version.Version.TheVariants.{One, Two}
+use Rattle.record_values.specs.declared.version.Version.{Version}
+use Rattle.record_values.specs.declared.version.Version.TheVariants.{One, Two}
 use Rattle.flip_image.specs.declared.superblock.TheConstants.{OLD_VERSION}
 
 -- the number of a version older than this one

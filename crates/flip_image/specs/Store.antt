@@ -1,18 +1,19 @@
 -- What a store holds where it begins, and what a reader refuses.
 use Rattle.std.specs.Prelude.{◌≡◌, ◌⊎◌, true, ℕ, ◌+◌, ◌<◌, ◌≤◌, List, ◌++◌, length, take, drop, All, codes}
-use Rattle.sector_device.specs.Disk.{Image, Disk, sector, SameOutside}
-use Rattle.sector_device.specs.History.{Rises}
+use Rattle.sector_device.specs.Disk.{CrashState, Disk, sector, SameOutside}
+use Rattle.sector_device.specs.DevicePast.{Rises}
 use Rattle.sector_device.specs.Values.{zero_sector, marked_sector, IsMarked}
-use Rattle.records.specs.declared.geometry.TheConstants.{FRONT_SECTORS, HEADER_SECTORS, HEADS_SECTORS, PAGE_SECTORS}
-use Rattle.records.specs.declared.error.Error.{Error}
-use Rattle.records.specs.declared.error.Error.TheVariants.{DeviceFailed, NotFormatted, Damaged, DeviceTooSmall}
-use Rattle.records.specs.declared.error.Error.TheVariants.{OldVersion}
-use Rattle.records.specs.GeometryValue.{GeometryValue, IsGeometry, sectors_in}
-use Rattle.records.specs.declared.version.Version.{Version}
-use Rattle.records.specs.declared.version.Version.TheVariants.{One, Two}
+use Rattle.record_values.specs.declared.geometry.TheConstants.{FRONT_SECTORS, HEADER_SECTORS, HEADS_SECTORS}
+use Rattle.record_values.specs.declared.geometry.TheConstants.{PAGE_SECTORS}
+use Rattle.record_values.specs.declared.error.Error.{Error}
+use Rattle.record_values.specs.declared.error.Error.TheVariants.{DeviceFailed, NotFormatted, Damaged, DeviceTooSmall}
+use Rattle.record_values.specs.declared.error.Error.TheVariants.{OldVersion}
+use Rattle.record_values.specs.GeometryValue.{GeometryValue, IsGeometry, sectors_in}
+use Rattle.record_values.specs.declared.version.Version.{Version}
+use Rattle.record_values.specs.declared.version.Version.TheVariants.{One, Two}
 use Rattle.records.specs.Spelling.{u32}
 use Rattle.model.specs.Cells.{Cells}
-use Rattle.image_half.specs.Image.{IsImageIn}
+use Rattle.store_image_half.specs.Image.{IsImageIn}
 use Rattle.flip_image.specs.declared.half.Half.{Half}
 use Rattle.flip_image.specs.declared.half.Half.TheVariants.{A, B}
 use Rattle.flip_image.specs.declared.half.TheConstants.{FLIP_SECTOR}
@@ -56,14 +57,14 @@ flip_sector A = zero_sector
 flip_sector B = marked_sector
 
 -- the content is of a store of this version and geometry, whose current half is this one
-pub record IsStoreIn (v : Version) (g : GeometryValue) (half : Half) (image : Image) : Type 0 where
+pub record IsStoreIn (v : Version) (g : GeometryValue) (half : Half) (image : CrashState) : Type 0 where
   pub limits : IsGeometry g
   pub room : sectors_in v g ≤ length image
   pub superblock-is : IsSuperblockIn v g (sector image SUPERBLOCK_SECTOR)
   pub current : Names (sector image FLIP_SECTOR) half
 
 -- the half holds the image of these cells, which record `base` left
-abbrev pub HoldsImageIn : Version → GeometryValue → Half → Image → ℕ → Cells → Type 0
+abbrev pub HoldsImageIn : Version → GeometryValue → Half → CrashState → ℕ → Cells → Type 0
 HoldsImageIn v g half image base cells = IsImageIn v g (header_sector_in v g half) image base cells
 
 -- ---- in version 2, which is written
@@ -71,41 +72,41 @@ HoldsImageIn v g half image base cells = IsImageIn v g (header_sector_in v g hal
 abbrev pub IsSuperblock : GeometryValue → List ℕ → Type 0
 IsSuperblock g bytes = IsSuperblockIn Two g bytes
 
-abbrev pub IsStore : GeometryValue → Half → Image → Type 0
+abbrev pub IsStore : GeometryValue → Half → CrashState → Type 0
 IsStore g half image = IsStoreIn Two g half image
 
-abbrev pub HoldsImage : GeometryValue → Half → Image → ℕ → Cells → Type 0
+abbrev pub HoldsImage : GeometryValue → Half → CrashState → ℕ → Cells → Type 0
 HoldsImage g half image base cells = HoldsImageIn Two g half image base cells
 
 -- What a crash leaves while another half is named current: what it might leave before, or, once all is synced, that
 -- with any bytes in the flip sector.
-abbrev pub IsFlipping : Disk → Image → Type 0
+abbrev pub IsFlipping : Disk → CrashState → Type 0
 IsFlipping old image = SameOutside (λ n. old.unsynced n ≡ true) old.content image
     ⊎ SameOutside (λ n. n ≡ FLIP_SECTOR) old.content image
 
 -- ---- a half as `format` leaves it
 
 -- these sectors are all zeros, from the first on, this many
-abbrev pub AreZeros : Image → ℕ → ℕ → Type 0
+abbrev pub AreZeros : CrashState → ℕ → ℕ → Type 0
 AreZeros image first count = (i : ℕ) → i < count → All (λ b. b ≡ 0) (sector image (first + i))
 
 -- Header, transaction heads and pages are zeros: no index, base 0, no entry, no transaction, no row.
-pub record IsFresh (g : GeometryValue) (half : Half) (image : Image) : Type 0 where
+pub record IsFresh (g : GeometryValue) (half : Half) (image : CrashState) : Type 0 where
   pub header : AreZeros image (header_sector g half) HEADER_SECTORS
   pub heads : AreZeros image (heads_sector g half) HEADS_SECTORS
   pub pages : (page : ℕ) → page < g.pages → AreZeros image (page_sector g half page) PAGE_SECTORS
 
 -- what `format` leaves, but for the log: a store whose half A is current and fresh
-pub record IsFormatted (g : GeometryValue) (image : Image) : Type 0 where
+pub record IsFormatted (g : GeometryValue) (image : CrashState) : Type 0 where
   pub store : IsStore g A image
   pub fresh : IsFresh g A image
 
 -- each gate of the log is closed
-abbrev pub AreGatesClosed : GeometryValue → Half → Image → Type 0
+abbrev pub AreGatesClosed : GeometryValue → Half → CrashState → Type 0
 AreGatesClosed g half image = (slot : ℕ) → slot < g.slots → ¬ IsMarked (sector image (gate_sector g half slot))
 
 -- each gate of the log is a sector of zeros
-abbrev pub AreLogGatesZero : GeometryValue → Half → Image → Type 0
+abbrev pub AreLogGatesZero : GeometryValue → Half → CrashState → Type 0
 AreLogGatesZero g half image = (slot : ℕ) → slot < g.slots → sector image (gate_sector g half slot) ≡ zero_sector
 
 -- a sector that `format` writes: superblock, flip sector, and in half A header, transaction heads, a page, or a gate
@@ -115,42 +116,42 @@ IsFormatSector g n = (n < undo_first g A) ⊎ (((pages_first g A ≤ n) × (n < 
 -- ---- what a reader of a version refuses
 
 -- the content has too few sectors for a superblock and a flip sector, or for the geometry in its superblock
-abbrev pub IsTooSmallIn : Version → Image → Type 0
+abbrev pub IsTooSmallIn : Version → CrashState → Type 0
 IsTooSmallIn v image =
     (length image < FRONT_SECTORS)
     ⊎ ((g : GeometryValue) × IsGeometry g × IsSuperblockIn v g (sector image SUPERBLOCK_SECTOR)
     × (length image < sectors_in v g))
 
 -- it has other bytes where the title should be
-pub record IsUntitled (image : Image) : Type 0 where
+pub record IsUntitled (image : CrashState) : Type 0 where
   pub room : FRONT_SECTORS ≤ length image
   pub other : ¬ (take TITLE_SIZE (sector image SUPERBLOCK_SECTOR) ≡ title)
 
 -- behind the title stands an older version, whatever follows it, and however many sectors there are
-pub record IsOlder (v : Version) (image : Image) : Type 0 where
+pub record IsOlder (v : Version) (image : CrashState) : Type 0 where
   pub room : FRONT_SECTORS ≤ length image
   pub titled : take TITLE_SIZE (sector image SUPERBLOCK_SECTOR) ≡ title
   pub older : HasOlderNumber v (sector image SUPERBLOCK_SECTOR)
 
 -- behind the title is no older version, and no superblock of any geometry within its limits
-pub record IsSuperblockDamagedIn (v : Version) (image : Image) : Type 0 where
+pub record IsSuperblockDamagedIn (v : Version) (image : CrashState) : Type 0 where
   pub room : FRONT_SECTORS ≤ length image
   pub titled : take TITLE_SIZE (sector image SUPERBLOCK_SECTOR) ≡ title
   pub not_older : ¬ HasOlderNumber v (sector image SUPERBLOCK_SECTOR)
   pub none : (g : GeometryValue) → IsGeometry g → ¬ IsSuperblockIn v g (sector image SUPERBLOCK_SECTOR)
 
 -- why the superblock is refused
-abbrev pub IsSuperblockRefused : Version → Image → Error → Type 0
+abbrev pub IsSuperblockRefused : Version → CrashState → Error → Type 0
 IsSuperblockRefused v image e =
     ((e ≡ NotFormatted) × IsUntitled image)
     ⊎ (((e ≡ OldVersion) × IsOlder v image) ⊎ ((e ≡ Damaged SUPERBLOCK_SECTOR) × IsSuperblockDamagedIn v image))
 
 -- why the content is refused: each refusal in its state, in which no other one is answered
-abbrev pub IsRefusedIn : Version → Image → Error → Type 0
+abbrev pub IsRefusedIn : Version → CrashState → Error → Type 0
 IsRefusedIn v image e = ((e ≡ DeviceTooSmall) × IsTooSmallIn v image) ⊎ IsSuperblockRefused v image e
 
 -- of a reader of version 2
-abbrev pub IsRefused : Image → Error → Type 0
+abbrev pub IsRefused : CrashState → Error → Type 0
 IsRefused image e = IsRefusedIn Two image e
 
 -- the device failed
@@ -159,7 +160,7 @@ IsDeviceFailure before now e = (e ≡ DeviceFailed) × Rises before now
 
 -- The first part of a half that is not as `format` leaves it: its header, its transaction heads, or a page, named by
 -- its first sector.
-abbrev pub IsFirstUsed : GeometryValue → Half → Image → ℕ → Type 0
+abbrev pub IsFirstUsed : GeometryValue → Half → CrashState → ℕ → Type 0
 IsFirstUsed g half image n =
     ((n ≡ header_sector g half) × (¬ AreZeros image n HEADER_SECTORS))
     ⊎ (((n ≡ heads_sector g half) × (¬ AreZeros image n HEADS_SECTORS)

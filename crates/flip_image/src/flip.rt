@@ -1,7 +1,7 @@
 //! The flip sector: which half is current.
 ghost use Rattle.std.specs.Prelude.{◌≡◌, ◌≤◌, length, OnOk};
 ghost use Rattle.sector_device.specs.Disk.{sector, IsSynced, SameOutside};
-ghost use Rattle.sector_device.specs.History.{LeavesOnly, CountsFailure};
+ghost use Rattle.sector_device.specs.DevicePast.{LeavesOnly, CountsFailure};
 ghost use Rattle.flip_image.specs.Store.{Names, IsFlipping, flip_sector};
 
 use crate::half::{FLIP_SECTOR, Half};
@@ -10,14 +10,14 @@ use sector_device::{Device, Failed, SECTOR_SIZE, marked_sector, zero_sector};
 
 /// Syncs, names this half current, and syncs.
 pub(crate) fn write_flip_sector<D: Device>(device: &mut D, to: Half) -> Result<(), Failed>
-    requires { FRONT_SECTORS ≤ length (D.history device.old).disk.content }
-    ensures sector { OnOk result (sector (D.history device.new).disk.content FLIP_SECTOR ≡ flip_sector to) }
-    ensures named { OnOk result (Names (sector (D.history device.new).disk.content FLIP_SECTOR) to) }
-    ensures synced { OnOk result (IsSynced (D.history device.new).disk) }
-    ensures outside { SameOutside (λ n. n ≡ FLIP_SECTOR) (D.history device.old).disk.content
-        (D.history device.new).disk.content }
-    ensures any_moment { LeavesOnly (D.history device.old) (D.history device.new)
-        (IsFlipping (D.history device.old).disk) }
+    requires { FRONT_SECTORS ≤ length (D.past_of device.old).disk.content }
+    ensures sector { OnOk result (sector (D.past_of device.new).disk.content FLIP_SECTOR ≡ flip_sector to) }
+    ensures named { OnOk result (Names (sector (D.past_of device.new).disk.content FLIP_SECTOR) to) }
+    ensures synced { OnOk result (IsSynced (D.past_of device.new).disk) }
+    ensures outside { SameOutside (λ n. n ≡ FLIP_SECTOR) (D.past_of device.old).disk.content
+        (D.past_of device.new).disk.content }
+    ensures any_moment { LeavesOnly (D.past_of device.old) (D.past_of device.new)
+        (IsFlipping (D.past_of device.old).disk) }
     ensures counts { CountsFailure (D.failures device.old) (D.failures device.new) result }
 {
     let bytes = flip_sector(to);

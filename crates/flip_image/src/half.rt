@@ -1,9 +1,9 @@
 //! The halves of a store, and where their parts lie.
 ghost use Rattle.std.specs.Prelude.{◌≡◌, ◌+◌, ◌*◌, ◌^◌, ◌<◌, ◌≤◌};
-ghost use Rattle.records.specs.GeometryValue.{sectors_in, sectors_of};
+ghost use Rattle.record_values.specs.GeometryValue.{sectors_in, sectors_of};
 ghost use Rattle.flip_image.specs.Layout.{other, header_sector_in, header_sector, heads_sector, pages_first};
 ghost use Rattle.flip_image.specs.Layout.{log_first_in, log_first};
-ghost use Rattle.image_half.specs.Layout.{image_end_in};
+ghost use Rattle.store_image_half.specs.Layout.{image_end_in};
 
 use records::{
     ENTRIES_PER_SECTOR, FRONT_SECTORS, Geometry, HEADER_SECTORS, HEADS_SECTORS,

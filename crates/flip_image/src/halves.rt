@@ -1,12 +1,12 @@
 //! A store on a device: formatted, opened, and checked to be fresh.
 ghost use Rattle.std.specs.Prelude.{◌≡◌, ◌≢◌, ◌⊎◌, ◌↔◌, ◌+◌, ◌*◌, ◌^◌, ◌≤◌, ◌<◌, ℕ, length, OnOk, OnErr, IfOk, IfErr};
 ghost use Rattle.sector_device.specs.Disk.{sector, IsSynced, SameOutside};
-ghost use Rattle.sector_device.specs.History.{OnlyReads, LeavesOnly, CountsFailure};
+ghost use Rattle.sector_device.specs.DevicePast.{OnlyReads, LeavesOnly, CountsFailure};
 ghost use Rattle.sector_device.specs.Values.{zero_sector};
-ghost use Rattle.records.specs.GeometryValue.{GeometryValue, IsGeometry, sectors_in, sectors_of};
-ghost use Rattle.image_half.specs.Image.{no_cells};
-ghost use Rattle.image_half.specs.Layout.{image_end, image_end_in};
-ghost use Rattle.image_half.specs.Damage.{IsSoundIn, TheHeader, IsUnreadIn};
+ghost use Rattle.record_values.specs.GeometryValue.{GeometryValue, IsGeometry, sectors_in, sectors_of};
+ghost use Rattle.store_image_half.specs.Image.{no_cells};
+ghost use Rattle.store_image_half.specs.Layout.{image_end, image_end_in};
+ghost use Rattle.store_image_half.specs.Damage.{IsSoundIn, TheHeader, IsUnreadIn};
 ghost use Rattle.flip_image.specs.Layout.{other, header_sector_in, header_sector, log_first_in, log_first};
 ghost use Rattle.flip_image.specs.Store.{Names, flip_sector, IsFlipping, IsSuperblockIn, IsStore, IsStoreIn, IsFresh};
 ghost use Rattle.flip_image.specs.Store.{HoldsImageIn, IsFormatted, AreGatesClosed, AreLogGatesZero, IsFormatSector};
@@ -17,7 +17,6 @@ use crate::flip::write_flip_sector;
 use crate::half::{FLIP_SECTOR, Half};
 use crate::superblock::{SUPERBLOCK_SECTOR, geometry_of, superblock};
 use crate::zeros::read_zeros;
-use image_half::{CellSink, read_image};
 use records::{
     Error, FRONT_SECTORS, Geometry, HEADER_SECTORS, HEADS_SECTORS, PAGE_SECTORS, SLOT_SECTORS,
     Version,
@@ -25,6 +24,7 @@ use records::{
 use sector_device::{Device, Failed, SECTOR_SIZE, is_marked, write_zeros, zero_sector};
 use std::alloc::Allocator;
 use std::marker::Model;
+use store_image_half::{CellSink, read_image};
 
 /// The two halves of a store, as its superblock and its flip sector say: how large they are, and which one is current.
 #[derive(Clone, Copy, Debug, PartialEq, Eq)]
@@ -51,15 +51,15 @@ impl Halves {
     /// `DeviceTooSmall` means that nothing was written. After `DeviceFailed`, and after a crash within the call, the
     /// device must be formatted again.
     pub fn format<D: Device>(device: &mut D, geometry: Geometry) -> Result<(), Error>
-        ensures formatted { OnOk result (IsFormatted geometry (D.history device.new).disk.content) }
-        ensures closed { OnOk result (AreGatesClosed geometry Half.A (D.history device.new).disk.content) }
-        ensures flip { OnOk result (sector (D.history device.new).disk.content FLIP_SECTOR ≡ zero_sector) }
-        ensures gates { OnOk result (AreLogGatesZero geometry Half.A (D.history device.new).disk.content) }
-        ensures synced { OnOk result (IsSynced (D.history device.new).disk) }
-        ensures outside { SameOutside (IsFormatSector geometry) (D.history device.old).disk.content
-            (D.history device.new).disk.content }
+        ensures formatted { OnOk result (IsFormatted geometry (D.past_of device.new).disk.content) }
+        ensures closed { OnOk result (AreGatesClosed geometry Half.A (D.past_of device.new).disk.content) }
+        ensures flip { OnOk result (sector (D.past_of device.new).disk.content FLIP_SECTOR ≡ zero_sector) }
+        ensures gates { OnOk result (AreLogGatesZero geometry Half.A (D.past_of device.new).disk.content) }
+        ensures synced { OnOk result (IsSynced (D.past_of device.new).disk) }
+        ensures outside { SameOutside (IsFormatSector geometry) (D.past_of device.old).disk.content
+            (D.past_of device.new).disk.content }
         ensures too_small { (result ≡ Err Error.DeviceTooSmall)
-            ↔ (length (D.history device.old).disk.content < sectors_of geometry) }
+            ↔ (length (D.past_of device.old).disk.content < sectors_of geometry) }
         ensures unchanged { result ≡ Err Error.DeviceTooSmall → device.new ≡ device.old }
         ensures refused { IfErr result (λ e. (e ≡ Error.DeviceTooSmall)
             ⊎ IsDeviceFailure (D.failures device.old) (D.failures device.new) e) }
@@ -84,15 +84,15 @@ impl Halves {
     /// has fewer sectors than the geometry needs. `DeviceFailed` where the device failed in the call, and only then.
     pub fn open_in<D: Device>(version: Version, device: &mut D) -> Result<Self, Error>
         ensures opened { IfOk result (λ halves. IsStoreIn version halves.geometry halves.current
-            (D.history device.old).disk.content) }
-        ensures store { (g : GeometryValue) (half : Half) → IsStoreIn version g half (D.history device.old).disk.content
+            (D.past_of device.old).disk.content) }
+        ensures store { (g : GeometryValue) (half : Half) → IsStoreIn version g half (D.past_of device.old).disk.content
             → IfOk result (λ halves. halves ≡ record { geometry = g; current = half }) }
         ensures accepted { (g : GeometryValue) (half : Half)
-            → IsStoreIn version g half (D.history device.old).disk.content
+            → IsStoreIn version g half (D.past_of device.old).disk.content
             → IfErr result (IsDeviceFailure (D.failures device.old) (D.failures device.new)) }
-        ensures refused { IfErr result (λ e. IsRefusedIn version (D.history device.old).disk.content e
+        ensures refused { IfErr result (λ e. IsRefusedIn version (D.past_of device.old).disk.content e
             ⊎ IsDeviceFailure (D.failures device.old) (D.failures device.new) e) }
-        ensures reads { OnlyReads (D.history device.old) (D.history device.new) }
+        ensures reads { OnlyReads (D.past_of device.old) (D.past_of device.new) }
         ensures quiet { OnOk result (D.failures device.new ≡ D.failures device.old) }
         ensures told { IfErr result (λ e. e ≢ Error.DeviceFailed → D.failures device.new ≡ D.failures device.old) }
         ensures later { D.failures device.old ≤ D.failures device.new }
@@ -111,14 +111,14 @@ impl Halves {
     /// The halves of the store of version 2 on the device, as `open_in` answers them.
     pub fn open<D: Device>(device: &mut D) -> Result<Self, Error>
         ensures opened { IfOk result (λ halves. IsStore halves.geometry halves.current
-            (D.history device.old).disk.content) }
-        ensures store { (g : GeometryValue) (half : Half) → IsStore g half (D.history device.old).disk.content
+            (D.past_of device.old).disk.content) }
+        ensures store { (g : GeometryValue) (half : Half) → IsStore g half (D.past_of device.old).disk.content
             → IfOk result (λ halves. halves ≡ record { geometry = g; current = half }) }
-        ensures accepted { (g : GeometryValue) (half : Half) → IsStore g half (D.history device.old).disk.content
+        ensures accepted { (g : GeometryValue) (half : Half) → IsStore g half (D.past_of device.old).disk.content
             → IfErr result (IsDeviceFailure (D.failures device.old) (D.failures device.new)) }
-        ensures refused { IfErr result (λ e. IsRefused (D.history device.old).disk.content e
+        ensures refused { IfErr result (λ e. IsRefused (D.past_of device.old).disk.content e
             ⊎ IsDeviceFailure (D.failures device.old) (D.failures device.new) e) }
-        ensures reads { OnlyReads (D.history device.old) (D.history device.new) }
+        ensures reads { OnlyReads (D.past_of device.old) (D.past_of device.new) }
         ensures quiet { OnOk result (D.failures device.new ≡ D.failures device.old) }
         ensures told { IfErr result (λ e. e ≢ Error.DeviceFailed → D.failures device.new ≡ D.failures device.old) }
         ensures later { D.failures device.old ≤ D.failures device.new }
@@ -131,14 +131,14 @@ impl Halves {
     /// `Damaged` names the first part that is not: the sector of the header, the sector of the transaction heads, or
     /// the first sector of a page. `DeviceFailed` where the device failed in the call, and only then.
     pub fn check_fresh<D: Device>(&self, device: &mut D) -> Result<(), Error>
-        requires inside { sectors_of self.now.geometry ≤ length (D.history device.old).disk.content }
-        ensures fresh { OnOk result (IsFresh self.now.geometry self.now.current (D.history device.old).disk.content) }
-        ensures accepted { IsFresh self.now.geometry self.now.current (D.history device.old).disk.content
+        requires inside { sectors_of self.now.geometry ≤ length (D.past_of device.old).disk.content }
+        ensures fresh { OnOk result (IsFresh self.now.geometry self.now.current (D.past_of device.old).disk.content) }
+        ensures accepted { IsFresh self.now.geometry self.now.current (D.past_of device.old).disk.content
             → IfErr result (IsDeviceFailure (D.failures device.old) (D.failures device.new)) }
         ensures refused { IfErr result (λ e. IsDeviceFailure (D.failures device.old) (D.failures device.new) e
             ⊎ ((sector : ℕ) × (e ≡ Error.Damaged sector)
-            × IsFirstUsed self.now.geometry self.now.current (D.history device.old).disk.content sector)) }
-        ensures reads { OnlyReads (D.history device.old) (D.history device.new) }
+            × IsFirstUsed self.now.geometry self.now.current (D.past_of device.old).disk.content sector)) }
+        ensures reads { OnlyReads (D.past_of device.old) (D.past_of device.new) }
         ensures quiet { OnOk result (D.failures device.new ≡ D.failures device.old) }
         ensures told { IfErr result (λ e. e ≢ Error.DeviceFailed → D.failures device.new ≡ D.failures device.old) }
         ensures later { D.failures device.old ≤ D.failures device.new }
@@ -160,18 +160,18 @@ impl Halves {
         sink: &mut S,
     ) -> Result<u64, Error>
         requires empty { S.cells sink.old ≡ no_cells }
-        requires inside { sectors_in version self.now.geometry ≤ length (D.history device.old).disk.content }
+        requires inside { sectors_in version self.now.geometry ≤ length (D.past_of device.old).disk.content }
         ensures read { IfOk result (λ base. HoldsImageIn version self.now.geometry self.now.current
-            (D.history device.old).disk.content base (S.cells sink.new)) }
+            (D.past_of device.old).disk.content base (S.cells sink.new)) }
         ensures refused { IfErr result (IsUnreadIn version self.now.geometry
-            (header_sector_in version self.now.geometry self.now.current) (D.history device.old).disk.content
+            (header_sector_in version self.now.geometry self.now.current) (D.past_of device.old).disk.content
             (D.failures device.old) (D.failures device.new)) }
-        ensures reads { OnlyReads (D.history device.old) (D.history device.new) }
+        ensures reads { OnlyReads (D.past_of device.old) (D.past_of device.new) }
         ensures quiet { OnOk result (D.failures device.new ≡ D.failures device.old) }
         ensures told { IfErr result (λ e. e ≢ Error.DeviceFailed → D.failures device.new ≡ D.failures device.old) }
         ensures memory { IfErr result (λ e. e ≡ Error.NoMemory
             → IsSoundIn version self.now.geometry (header_sector_in version self.now.geometry self.now.current)
-            (D.history device.old).disk.content TheHeader) }
+            (D.past_of device.old).disk.content TheHeader) }
         ensures later { D.failures device.old ≤ D.failures device.new }
     {
         let first = self.header_sector_in(version);
@@ -185,19 +185,19 @@ impl Halves {
     /// sector, so with one of the halves current. After `DeviceFailed` either may be, and may change at a crash until
     /// the device is synced and opened again.
     pub fn flip<D: Device>(&mut self, device: &mut D) -> Result<(), Error>
-        requires inside { FRONT_SECTORS ≤ length (D.history device.old).disk.content }
+        requires inside { FRONT_SECTORS ≤ length (D.past_of device.old).disk.content }
         ensures flipped { OnOk result (self.new ≡ record {
           geometry = self.old.geometry;
           current = other self.old.current;
         }) }
-        ensures sector { OnOk result (sector (D.history device.new).disk.content FLIP_SECTOR
+        ensures sector { OnOk result (sector (D.past_of device.new).disk.content FLIP_SECTOR
             ≡ flip_sector self.new.current) }
-        ensures named { OnOk result (Names (sector (D.history device.new).disk.content FLIP_SECTOR) self.new.current) }
-        ensures synced { OnOk result (IsSynced (D.history device.new).disk) }
-        ensures outside { SameOutside (λ n. n ≡ FLIP_SECTOR) (D.history device.old).disk.content
-            (D.history device.new).disk.content }
-        ensures any_moment { LeavesOnly (D.history device.old) (D.history device.new)
-            (IsFlipping (D.history device.old).disk) }
+        ensures named { OnOk result (Names (sector (D.past_of device.new).disk.content FLIP_SECTOR) self.new.current) }
+        ensures synced { OnOk result (IsSynced (D.past_of device.new).disk) }
+        ensures outside { SameOutside (λ n. n ≡ FLIP_SECTOR) (D.past_of device.old).disk.content
+            (D.past_of device.new).disk.content }
+        ensures any_moment { LeavesOnly (D.past_of device.old) (D.past_of device.new)
+            (IsFlipping (D.past_of device.old).disk) }
         ensures err { OnErr result (self.new ≡ self.old) }
         ensures refused { IfErr result (IsDeviceFailure (D.failures device.old) (D.failures device.new)) }
         ensures quiet { OnOk result (D.failures device.new ≡ D.failures device.old) }
@@ -270,14 +270,14 @@ impl Halves {
 
 // Writes what `format` writes, and syncs.
 fn write_store<D: Device>(device: &mut D, geometry: Geometry) -> Result<(), Failed>
-    requires { sectors_of geometry ≤ length (D.history device.old).disk.content }
-    ensures formatted { OnOk result (IsFormatted geometry (D.history device.new).disk.content) }
-    ensures closed { OnOk result (AreGatesClosed geometry Half.A (D.history device.new).disk.content) }
-    ensures flip { OnOk result (sector (D.history device.new).disk.content FLIP_SECTOR ≡ zero_sector) }
-    ensures gates { OnOk result (AreLogGatesZero geometry Half.A (D.history device.new).disk.content) }
-    ensures synced { OnOk result (IsSynced (D.history device.new).disk) }
-    ensures outside { SameOutside (IsFormatSector geometry) (D.history device.old).disk.content
-        (D.history device.new).disk.content }
+    requires { sectors_of geometry ≤ length (D.past_of device.old).disk.content }
+    ensures formatted { OnOk result (IsFormatted geometry (D.past_of device.new).disk.content) }
+    ensures closed { OnOk result (AreGatesClosed geometry Half.A (D.past_of device.new).disk.content) }
+    ensures flip { OnOk result (sector (D.past_of device.new).disk.content FLIP_SECTOR ≡ zero_sector) }
+    ensures gates { OnOk result (AreLogGatesZero geometry Half.A (D.past_of device.new).disk.content) }
+    ensures synced { OnOk result (IsSynced (D.past_of device.new).disk) }
+    ensures outside { SameOutside (IsFormatSector geometry) (D.past_of device.old).disk.content
+        (D.past_of device.new).disk.content }
     ensures counts { CountsFailure (D.failures device.old) (D.failures device.new) result }
 {
     let zeros = zero_sector();
@@ -294,13 +294,13 @@ fn write_store<D: Device>(device: &mut D, geometry: Geometry) -> Result<(), Fail
 
 // The geometry in the superblock.
 fn read_superblock<D: Device>(version: Version, device: &mut D) -> Result<Geometry, Error>
-    requires { FRONT_SECTORS ≤ length (D.history device.old).disk.content }
+    requires { FRONT_SECTORS ≤ length (D.past_of device.old).disk.content }
     ensures limits { IfOk result IsGeometry }
     ensures found { IfOk result (λ geometry. IsSuperblockIn version geometry
-        (sector (D.history device.old).disk.content SUPERBLOCK_SECTOR)) }
+        (sector (D.past_of device.old).disk.content SUPERBLOCK_SECTOR)) }
     ensures refused { IfErr result (λ e. IsDeviceFailure (D.failures device.old) (D.failures device.new) e
-        ⊎ IsSuperblockRefused version (D.history device.old).disk.content e) }
-    ensures reads { OnlyReads (D.history device.old) (D.history device.new) }
+        ⊎ IsSuperblockRefused version (D.past_of device.old).disk.content e) }
+    ensures reads { OnlyReads (D.past_of device.old) (D.past_of device.new) }
     ensures quiet { OnOk result (D.failures device.new ≡ D.failures device.old) }
     ensures told { IfErr result (λ e. e ≢ Error.DeviceFailed → D.failures device.new ≡ D.failures device.old) }
     ensures later { D.failures device.old ≤ D.failures device.new }
@@ -314,10 +314,10 @@ fn read_superblock<D: Device>(version: Version, device: &mut D) -> Result<Geomet
 
 // The half that the flip sector names.
 fn read_flip_sector<D: Device>(device: &mut D) -> Result<Half, Error>
-    requires { FRONT_SECTORS ≤ length (D.history device.old).disk.content }
-    ensures found { IfOk result (Names (sector (D.history device.old).disk.content FLIP_SECTOR)) }
+    requires { FRONT_SECTORS ≤ length (D.past_of device.old).disk.content }
+    ensures found { IfOk result (Names (sector (D.past_of device.old).disk.content FLIP_SECTOR)) }
     ensures refused { IfErr result (IsDeviceFailure (D.failures device.old) (D.failures device.new)) }
-    ensures reads { OnlyReads (D.history device.old) (D.history device.new) }
+    ensures reads { OnlyReads (D.past_of device.old) (D.past_of device.new) }
     ensures quiet { OnOk result (D.failures device.new ≡ D.failures device.old) }
     ensures told { IfErr result (λ e. e ≢ Error.DeviceFailed → D.failures device.new ≡ D.failures device.old) }
     ensures later { D.failures device.old ≤ D.failures device.new }
@@ -335,12 +335,12 @@ fn read_flip_sector<D: Device>(device: &mut D) -> Result<Half, Error>
 
 // Refuses with the first of these sectors where they are not all zeros.
 fn check_zeros<D: Device>(device: &mut D, first: u64, count: u64) -> Result<(), Error>
-    requires inside { first + count ≤ length (D.history device.old).disk.content }
+    requires inside { first + count ≤ length (D.past_of device.old).disk.content }
     requires number { first + count < 2 ^ 64 }
-    ensures zeros { OnOk result (AreZeros (D.history device.old).disk.content first count) }
+    ensures zeros { OnOk result (AreZeros (D.past_of device.old).disk.content first count) }
     ensures refused { IfErr result (λ e. IsDeviceFailure (D.failures device.old) (D.failures device.new) e
-        ⊎ ((e ≡ Error.Damaged first) × (¬ AreZeros (D.history device.old).disk.content first count))) }
-    ensures reads { OnlyReads (D.history device.old) (D.history device.new) }
+        ⊎ ((e ≡ Error.Damaged first) × (¬ AreZeros (D.past_of device.old).disk.content first count))) }
+    ensures reads { OnlyReads (D.past_of device.old) (D.past_of device.new) }
     ensures quiet { OnOk result (D.failures device.new ≡ D.failures device.old) }
     ensures told { IfErr result (λ e. e ≢ Error.DeviceFailed → D.failures device.new ≡ D.failures device.old) }
     ensures later { D.failures device.old ≤ D.failures device.new }
@@ -354,16 +354,16 @@ fn check_zeros<D: Device>(device: &mut D, first: u64, count: u64) -> Result<(), 
 
 // Refuses with the first of these pages that is not all zeros.
 fn check_pages<D: Device>(device: &mut D, first: u64, pages: u64) -> Result<(), Error>
-    requires inside { first + PAGE_SECTORS * pages ≤ length (D.history device.old).disk.content }
+    requires inside { first + PAGE_SECTORS * pages ≤ length (D.past_of device.old).disk.content }
     requires number { first + PAGE_SECTORS * pages < 2 ^ 64 }
     ensures zeros { OnOk result ((page : ℕ) → page < pages
-        → AreZeros (D.history device.old).disk.content (first + PAGE_SECTORS * page) PAGE_SECTORS) }
+        → AreZeros (D.past_of device.old).disk.content (first + PAGE_SECTORS * page) PAGE_SECTORS) }
     ensures refused { IfErr result (λ e. IsDeviceFailure (D.failures device.old) (D.failures device.new) e
         ⊎ ((page : ℕ) × (page < pages) × (e ≡ Error.Damaged (first + PAGE_SECTORS * page))
-        × (¬ AreZeros (D.history device.old).disk.content (first + PAGE_SECTORS * page) PAGE_SECTORS)
+        × (¬ AreZeros (D.past_of device.old).disk.content (first + PAGE_SECTORS * page) PAGE_SECTORS)
         × ((earlier : ℕ) → earlier < page
-        → AreZeros (D.history device.old).disk.content (first + PAGE_SECTORS * earlier) PAGE_SECTORS))) }
-    ensures reads { OnlyReads (D.history device.old) (D.history device.new) }
+        → AreZeros (D.past_of device.old).disk.content (first + PAGE_SECTORS * earlier) PAGE_SECTORS))) }
+    ensures reads { OnlyReads (D.past_of device.old) (D.past_of device.new) }
     ensures quiet { OnOk result (D.failures device.new ≡ D.failures device.old) }
     ensures told { IfErr result (λ e. e ≢ Error.DeviceFailed → D.failures device.new ≡ D.failures device.old) }
     ensures later { D.failures device.old ≤ D.failures device.new }
@@ -376,12 +376,12 @@ fn check_pages<D: Device>(device: &mut D, first: u64, pages: u64) -> Result<(), 
 
 // What `check_fresh` does, for a half of a store.
 fn check_half<D: Device>(device: &mut D, geometry: Geometry, half: Half) -> Result<(), Error>
-    requires inside { sectors_of geometry ≤ length (D.history device.old).disk.content }
-    ensures fresh { OnOk result (IsFresh geometry half (D.history device.old).disk.content) }
+    requires inside { sectors_of geometry ≤ length (D.past_of device.old).disk.content }
+    ensures fresh { OnOk result (IsFresh geometry half (D.past_of device.old).disk.content) }
     ensures refused { IfErr result (λ e. IsDeviceFailure (D.failures device.old) (D.failures device.new) e
         ⊎ ((sector : ℕ) × (e ≡ Error.Damaged sector)
-        × IsFirstUsed geometry half (D.history device.old).disk.content sector)) }
-    ensures reads { OnlyReads (D.history device.old) (D.history device.new) }
+        × IsFirstUsed geometry half (D.past_of device.old).disk.content sector)) }
+    ensures reads { OnlyReads (D.past_of device.old) (D.past_of device.new) }
     ensures quiet { OnOk result (D.failures device.new ≡ D.failures device.old) }
     ensures told { IfErr result (λ e. e ≢ Error.DeviceFailed → D.failures device.new ≡ D.failures device.old) }
     ensures later { D.failures device.old ≤ D.failures device.new }

@@ -5,6 +5,8 @@
 //! change (`outside`). Of a flip and of the writes, what a crash leaves at any moment (`any_moment`, `within`). A value
 //! that was kept from before a flip writes nothing (`current`). Only tested: the superblock byte by byte. Neither: a
 //! crash within `format`, after which the device must be formatted again.
+//!
+//! Lemmas about its public words that crates above may cite, in `proofs`: `Sides` and `Stores`.
 #![tactic(auto)]
 
 mod flip;
@@ -17,7 +19,5 @@ mod zeros;
 
 pub use half::{FLIP_SECTOR, Half};
 pub use halves::Halves;
-pub use laws::{
-    fresh_image, halves_apart, image_told, log_apart, one_store, one_used_part, store_in_front,
-};
+pub use laws::{fresh_image, halves_apart, log_apart, one_store, one_used_part};
 pub use superblock::{SUPERBLOCK_SECTOR, VERSION};

@@ -1,10 +1,10 @@
 //! The superblock: which format a device has, and for which geometry.
 ghost use Rattle.std.specs.Prelude.{◌≡◌, ◌⊎◌, ◌↔◌, ◌≤◌, ◌++◌, length, take, drop, All, IsTrue, IfOk, IfErr};
-ghost use Rattle.records.specs.GeometryValue.{GeometryValue, IsGeometry};
+ghost use Rattle.record_values.specs.GeometryValue.{GeometryValue, IsGeometry};
 ghost use Rattle.records.specs.Spelling.{u32, u64};
 ghost use Rattle.flip_image.specs.Store.{title, number_of, superblock_in, IsSuperblock, IsSuperblockIn, HasOlderNumber};
 ghost use Rattle.flip_image.specs.Steps.{IsOlderNumber};
-ghost use Rattle.records.specs.declared.version.Version.TheVariants.{Two};
+ghost use Rattle.record_values.specs.declared.version.Version.TheVariants.{Two};
 
 use byteorder::{BigEndian, ByteOrder};
 use records::{Error, Geometry, Version};

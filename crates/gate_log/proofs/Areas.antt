@@ -4,29 +4,29 @@ use Rattle.std.proofs.Common.{slice_index_or, take, refl, sym, ap, subst, ◌∙
 use Rattle.std.specs.List.{concat}
 use Rattle.std.proofs.lemmas.Bool.{cases_eq, cases_lt}
 use Rattle.std.proofs.lemmas.List.{get_or_at, get_or_append_left, ext_get_or, take_more, flat_map_more}
-use Rattle.sector_device.specs.Disk.{Image, sector}
+use Rattle.sector_device.specs.Disk.{CrashState, sector}
 use Rattle.sector_device.proofs.Sectors.{same_part}
 use Rattle.sector_device.specs.Values.{IsMarked}
 use Rattle.sector_device.proofs.KnownSectors.{zero_not_marked}
 use Rattle.records.specs.RecordValue.{RecordValue}
-use Rattle.records.specs.declared.version.Version.{Version}
-use Rattle.records.specs.declared.version.Version.TheVariants.{Two}
+use Rattle.record_values.specs.declared.version.Version.{Version}
+use Rattle.record_values.specs.declared.version.Version.TheVariants.{Two}
 use Rattle.gate_log.specs.Group.{IsGroup, IsGroupIn}
 use Rattle.gate_log.proofs.Groups.{one_group}
 use Rattle.gate_log.specs.Area.{Area, gate, body, InArea, IsOpen, AreGatesZero, HoldsGroups, HoldsGroupsIn, records_of, IsDamagedIn, IsFirstDamagedSlotIn}
 
 -- two images have the same sectors in a slot
-abbrev SameSlot : Area → Image → Image → ℕ → Type 0
+abbrev SameSlot : Area → CrashState → CrashState → ℕ → Type 0
 SameSlot area a b i = (k : ℕ) → gate area i ≤ k → k < gate area i + 8 → sector b k ≡ sector a k
 
-same_gate : (area : Area) (a b : Image) (i : ℕ) → SameSlot area a b i → sector b (gate area i) ≡ sector a (gate area i)
+same_gate : (area : Area) (a b : CrashState) (i : ℕ) → SameSlot area a b i → sector b (gate area i) ≡ sector a (gate area i)
 same_gate area a b i same = same (gate area i) (omega arith) (omega arith)
 
-same_body : (area : Area) (a b : Image) (i : ℕ) → length b ≡ length a → SameSlot area a b i → body b (gate area i) ≡ body a (gate area i)
+same_body : (area : Area) (a b : CrashState) (i : ℕ) → length b ≡ length a → SameSlot area a b i → body b (gate area i) ≡ body a (gate area i)
 same_body area a b i long same =
     ap concat (same_part b a (gate area i + 1) (gate area i + 8) long (λ k low high. same k (omega arith) high))
 
-module _ (area : Area) (image c : Image) (groups : List (List RecordValue)) (long : length c ≡ length image) (held : HoldsGroups area image groups)
+module _ (area : Area) (image c : CrashState) (groups : List (List RecordValue)) (long : length c ≡ length image) (held : HoldsGroups area image groups)
     (others : (i : ℕ) → i < area.slots → i ≢ length groups → SameSlot area image c i) where
   opened_there : (i : ℕ) → i < length groups → IsOpen c (gate area i) × IsGroup (slice_index_or groups i []) (body c (gate area i))
   opened_there i lt =
@@ -75,7 +75,7 @@ module _ (area : Area) (image c : Image) (groups : List (List RecordValue)) (lon
       size = omega (arith, length-append {A = List RecordValue} groups (records ∷ []))
 
 -- where each gate is a sector of zeros, there is no group
-pub holds_none : (area : Area) (image : Image) → AreGatesZero area image → HoldsGroups area image []
+pub holds_none : (area : Area) (image : CrashState) → AreGatesZero area image → HoldsGroups area image []
 holds_none area image zeros = record {
   room = omega arith;
   opened = λ slot below. absurd (omega (arith, below));
@@ -83,7 +83,7 @@ holds_none area image zeros = record {
 }
 
 -- what an image holds is told by the sectors of the area
-pub holds_same : (area : Area) (image c : Image) (groups : List (List RecordValue)) → length c ≡ length image
+pub holds_same : (area : Area) (image c : CrashState) (groups : List (List RecordValue)) → length c ≡ length image
     → ((n : ℕ) → InArea area n → sector c n ≡ sector image n) → HoldsGroups area image groups → HoldsGroups area c groups
 holds_same area image c groups long same held =
     holds_before area image c groups long held
@@ -92,7 +92,7 @@ holds_same area image c groups long same held =
     (ap (λ (b : List ℕ). slice_index b 0) (sym (same (gate area (length groups)) (omega arith, omega (arith, lt)))) ∙ is_open))
 
 -- an image holds one list of groups at most
-pub one_list : (v : Version) (area : Area) (image : Image) (a b : List (List RecordValue)) → HoldsGroupsIn v area image a → HoldsGroupsIn v area image b
+pub one_list : (v : Version) (area : Area) (image : CrashState) (a b : List (List RecordValue)) → HoldsGroupsIn v area image a → HoldsGroupsIn v area image b
     → length a ≡ length b
 one_list v area image a b p q =
     ⊎_elim
@@ -106,7 +106,7 @@ one_list v area image a b p q =
 -- ---- reading
 
 -- one slot more, whose gate is closed
-pub one_closed : (v : Version) (first slot : ℕ) (image : Image) (groups : List (List RecordValue))
+pub one_closed : (v : Version) (first slot : ℕ) (image : CrashState) (groups : List (List RecordValue))
     → HoldsGroupsIn v (record { first = first; slots = slot }) image groups → ¬ IsOpen image (first + 8 * slot)
     → HoldsGroupsIn v (record { first = first; slots = slot + 1 }) image groups
 one_closed v first slot image groups held shut = record {
@@ -117,7 +117,7 @@ one_closed v first slot image groups held shut = record {
 }
 
 -- one slot more, with a group, where all before it are open
-pub one_open : (v : Version) (first slot : ℕ) (image : Image) (groups : List (List RecordValue)) (records : List RecordValue)
+pub one_open : (v : Version) (first slot : ℕ) (image : CrashState) (groups : List (List RecordValue)) (records : List RecordValue)
     → HoldsGroupsIn v (record { first = first; slots = slot }) image groups → length groups ≡ slot
     → IsOpen image (first + 8 * slot) → IsGroupIn v records (body image (first + 8 * slot))
     → HoldsGroupsIn v (record { first = first; slots = slot + 1 }) image (groups ++ records ∷ [])
@@ -142,7 +142,7 @@ one_open v first slot image groups records held all is_open group = record {
     size = omega (arith, length-append {A = List RecordValue} groups (records ∷ []))
 
 -- an open slot that so many open ones are before: the first one is open
-pub first_open : (v : Version) (first slot slots : ℕ) (image : Image) (groups : List (List RecordValue)) → slot < slots
+pub first_open : (v : Version) (first slot slots : ℕ) (image : CrashState) (groups : List (List RecordValue)) → slot < slots
     → HoldsGroupsIn v (record { first = first; slots = slot }) image groups → length groups ≡ slot → IsOpen image (first + 8 * slot) → (0 < slots)
     × IsOpen image first
 first_open v first slot slots image groups inside held all opened = (
@@ -154,7 +154,7 @@ first_open v first slot slots image groups inside held all opened = (
 )
 
 -- no slot so far is damaged
-pub undamaged : (v : Version) (first slot slots : ℕ) (image : Image) (groups : List (List RecordValue))
+pub undamaged : (v : Version) (first slot slots : ℕ) (image : CrashState) (groups : List (List RecordValue))
     → HoldsGroupsIn v (record { first = first; slots = slot }) image groups → (i : ℕ) → i < slot
     → ¬ IsDamagedIn v (record { first = first; slots = slots }) image i
 undamaged v first slot slots image groups held i lt damaged = ⊎_elim
@@ -166,7 +166,7 @@ undamaged v first slot slots image groups held i lt damaged = ⊎_elim
     (cases_lt i (length groups))
 
 -- the first damaged slot
-pub first_damaged : (v : Version) (first slot slots : ℕ) (image : Image) (groups : List (List RecordValue)) → slot < slots
+pub first_damaged : (v : Version) (first slot slots : ℕ) (image : CrashState) (groups : List (List RecordValue)) → slot < slots
     → HoldsGroupsIn v (record { first = first; slots = slot }) image groups → IsDamagedIn v (record { first = first; slots = slots }) image slot
     → IsFirstDamagedSlotIn v (record { first = first; slots = slots }) image (first + 8 * slot)
 first_damaged v first slot slots image groups inside held damaged =
@@ -179,7 +179,7 @@ pub some_here : {T : Type 0} (o : Option T) (x : T) (P : Type 0) (Q : T → Type
 some_here o x P Q is h = subst (λ y. MatchOption y P Q) is h
 
 -- a group that is read in a slot is the one that is held there
-pub held_there : (v : Version) (area : Area) (image : Image) (groups : List (List RecordValue)) (slot : ℕ) (records : List RecordValue)
+pub held_there : (v : Version) (area : Area) (image : CrashState) (groups : List (List RecordValue)) (slot : ℕ) (records : List RecordValue)
     → HoldsGroupsIn v area image groups → slot < length groups → IsGroupIn v records (body image (gate area slot))
     → length records ≡ length (slice_index_or groups slot [])
 held_there v area image groups slot records held lt group =
@@ -195,18 +195,18 @@ records_more groups slot lt =
 
 -- ---- laws
 
-pub one_reading : (v : Version) (area : Area) (image : Image) (a b : List (List RecordValue)) → HoldsGroupsIn v area image a → HoldsGroupsIn v area image b
+pub one_reading : (v : Version) (area : Area) (image : CrashState) (a b : List (List RecordValue)) → HoldsGroupsIn v area image a → HoldsGroupsIn v area image b
     → a ≡ b
 one_reading v area image a b p q =
     let long = one_list v area image a b p q in
     ext_get_or [] a b long (λ i lt. one_group v (slice_index_or a i []) (slice_index_or b i []) (body image (gate area i)) (p.opened i lt).1
     (q.opened i (omega (arith, lt, long))).1)
 
-pub not_damaged : (v : Version) (area : Area) (image : Image) (sector : ℕ) (groups : List (List RecordValue)) → IsFirstDamagedSlotIn v area image sector
+pub not_damaged : (v : Version) (area : Area) (image : CrashState) (sector : ℕ) (groups : List (List RecordValue)) → IsFirstDamagedSlotIn v area image sector
     → ¬ HoldsGroupsIn v area image groups
 not_damaged v area image sector groups first held = undamaged v area.first area.slots area.slots image groups held first.slot first.inside first.damaged
 
-pub one_damage : (v : Version) (area : Area) (image : Image) (a b : ℕ) → IsFirstDamagedSlotIn v area image a → IsFirstDamagedSlotIn v area image b → a ≡ b
+pub one_damage : (v : Version) (area : Area) (image : CrashState) (a b : ℕ) → IsFirstDamagedSlotIn v area image a → IsFirstDamagedSlotIn v area image b → a ≡ b
 one_damage v area image a b p q = p.gate-is ∙ ap (gate area) same ∙ sym q.gate-is
   where
     same : p.slot ≡ q.slot

@@ -8,11 +8,11 @@ use Rattle.std.proofs.lemmas.List.{get_or_append_left, get_or-append_right, drop
 use Rattle.std.proofs.lemmas.List.Elements.{All-nil, All-cons, All-head, All-tail}
 use Rattle.byteorder.specs.Endian.{big_number}
 use Rattle.byteorder.specs.Numbers.{big_from-lt}
-use Rattle.sector_device.specs.Disk.{Image, sector, IsDiskWhole}
+use Rattle.sector_device.specs.Disk.{CrashState, sector, IsDiskWhole}
 use Rattle.sector_device.specs.declared.values.TheConstants.{MARK}
 use Rattle.sector_device.proofs.Sectors.{part_more}
 use Rattle.records.specs.RecordValue.{RecordValue}
-use Rattle.records.specs.declared.version.Version.TheVariants.{Two}
+use Rattle.record_values.specs.declared.version.Version.TheVariants.{Two}
 use Rattle.records.specs.Spelling.{spelling, Fits, IsBytes}
 use Rattle.records.proofs.Spellings.{one_spelling, begins_or_not}
 use Rattle.records.proofs.Numbers.{IsBytes-drop, IsBytes-take}
@@ -122,7 +122,7 @@ record AreJoined (bytes : List ℕ) (n : ℕ) : Type 0 where
   pub size : length bytes ≡ 512 * n
   pub fits : IsBytes bytes
 
-joined : (image : Image) (low : ℕ) → IsDiskWhole image → (n : ℕ) → low + n ≤ length image → AreJoined (concat (slice_range image low (low + n))) n
+joined : (image : CrashState) (low : ℕ) → IsDiskWhole image → (n : ℕ) → low + n ≤ length image → AreJoined (concat (slice_range image low (low + n))) n
 joined image low whole zero room =
     let none : (low + 0) - low ≡ 0 = omega arith in
     subst (λ (m : ℕ). AreJoined (concat (take m (drop low image))) 0) (sym none) (record { size = refl; fits = λ i. omega arith })
@@ -137,14 +137,14 @@ joined image low whole (suc n) room =
       fits = IsBytes-append front (sector image (low + n)) before.fits last.are_bytes;
     })
 
-joined_body : (image : Image) (n : ℕ) → IsDiskWhole image → n + 8 ≤ length image → AreJoined (body image n) 7
+joined_body : (image : CrashState) (n : ℕ) → IsDiskWhole image → n + 8 ≤ length image → AreJoined (body image n) 7
 joined_body image n whole room =
     let same : (n + 1) + 7 ≡ n + 8 = omega arith in
     subst (λ (high : ℕ). AreJoined (concat (slice_range image (n + 1) high)) 7) same (joined image (n + 1) whole 7 (omega (arith, room)))
 
 -- ---- areas
 
-module _ (area : Area) (image : Image) (whole : IsDiskWhole image) (inside : IsAreaInside area image) where
+module _ (area : Area) (image : CrashState) (whole : IsDiskWhole image) (inside : IsAreaInside area image) where
   -- the first slots hold groups, or the area is damaged
   abbrev ReadOr : ℕ → Type 0
   ReadOr n = ((groups : List (List RecordValue)) × HoldsGroups (record { first = area.first; slots = n }) image groups)
@@ -188,6 +188,6 @@ module _ (area : Area) (image : Image) (whole : IsDiskWhole image) (inside : IsA
       (read_or n (omega (arith, le)))
 
 -- the area holds groups, or it is damaged
-pub some_reading : (area : Area) (image : Image) → IsDiskWhole image → IsAreaInside area image
+pub some_reading : (area : Area) (image : CrashState) → IsDiskWhole image → IsAreaInside area image
     → ((groups : List (List RecordValue)) × HoldsGroups area image groups) ⊎ ((n : ℕ) × IsFirstDamagedSlot area image n)
 some_reading area image whole inside = read_or area image whole inside area.slots (omega arith)

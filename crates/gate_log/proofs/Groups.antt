@@ -8,8 +8,8 @@ use Rattle.std.proofs.lemmas.List.Concat.{flat_map-append}
 use Rattle.std.proofs.lemmas.List.Elements.{All-head, All-tail, All-same, All-replicate}
 use Rattle.byteorder.specs.Endian.{big_number}
 use Rattle.records.specs.RecordValue.{RecordValue}
-use Rattle.records.specs.declared.version.Version.{Version}
-use Rattle.records.specs.declared.version.Version.TheVariants.{Two}
+use Rattle.record_values.specs.declared.version.Version.{Version}
+use Rattle.record_values.specs.declared.version.Version.TheVariants.{Two}
 use Rattle.records.specs.Spelling.{spelling, u16, Fits, FitsIn, IsBytes}
 use Rattle.records.proofs.Wide.{wide}
 use Rattle.records.proofs.Spellings.{one_spelling, spelling_least}

@@ -5,7 +5,7 @@ use Rattle.std.proofs.Common.{zero, suc}
 use Rattle.std.specs.List.{concat}
 use Rattle.std.specs.Simd.{first_chunks}
 use Rattle.std.proofs.lemmas.List.{take-append-drop, nil_from_length, length-drop}
-use Rattle.sector_device.specs.Disk.{Image, sector}
+use Rattle.sector_device.specs.Disk.{CrashState, sector}
 use Rattle.sector_device.proofs.Sectors.{part_is}
 
 -- sectors joined give back the bytes that were cut into them
@@ -15,7 +15,8 @@ first_chunks-all (suc k) xs long =
     ap (λ (t : List ℕ). take 512 xs ++ t) (first_chunks-all k (drop 512 xs) (omega (arith, length-drop 512 xs))) ∙ take-append-drop 512 xs
 
 -- seven sectors that were written hold the body
-pub body_written : (image rows : Image) (bytes : List ℕ) (n gate : ℕ) → gate + 8 ≤ length image → length bytes ≡ 3584 → n ≡ 7 → rows ≡ first_chunks 512 n bytes
+pub body_written : (image rows : CrashState) (bytes : List ℕ) (n gate : ℕ) → gate + 8 ≤ length image → length bytes ≡ 3584 → n ≡ 7
+    → rows ≡ first_chunks 512 n bytes
     → length rows ≡ 7
     → ((k : ℕ) → k < 7 → sector image (gate + 1 + k) ≡ sector rows k) → concat (slice_range image (gate + 1) (gate + 8)) ≡ bytes
 body_written image rows bytes n gate room long seven rows-is size each =

@@ -4,11 +4,11 @@ use Rattle.std.proofs.Common.{◌∙◌, arith, length-append, replicate}
 use Rattle.std.specs.List.{concat}
 use Rattle.std.proofs.lemmas.Bool.{cases_eq, false≢true}
 use Rattle.std.proofs.lemmas.List.{length-replicate}
-use Rattle.sector_device.specs.Disk.{Image, sector, Disk, IsCrashImage, SameOutside}
-use Rattle.sector_device.specs.History.{History, LeavesOnly}
+use Rattle.sector_device.specs.Disk.{CrashState, sector, Disk, IsCrashState, SameOutside}
+use Rattle.sector_device.specs.DevicePast.{DevicePast, LeavesOnly}
 use Rattle.sector_device.proofs.Moments.{weaker, started}
 use Rattle.sector_device.proofs.Sectors.{same_part, crash_outside, outside_unsynced, same_outside_wider}
-use Rattle.sector_device.specs.History.{RunsWithin}
+use Rattle.sector_device.specs.DevicePast.{RunsWithin}
 use Rattle.records.specs.RecordValue.{RecordValue}
 use Rattle.gate_log.specs.Group.{spellings, header, IsGroup}
 use Rattle.gate_log.specs.Area.{Log, gate, body, InArea, IsOpen, HoldsGroups, Stands, IsAppended}
@@ -17,7 +17,7 @@ use Rattle.gate_log.proofs.Groups.{length-header}
 use Rattle.gate_log.proofs.Areas.{holds_before, holds_after, holds_same}
 
 -- until the body is on the disk
-pub partly_before : (old mid : History) (n : ℕ) (bytes : List ℕ) → old.disk.unsynced n ≡ false
+pub partly_before : (old mid : DevicePast) (n : ℕ) (bytes : List ℕ) → old.disk.unsynced n ≡ false
     → RunsWithin (MayDiffer old.disk (n + 1) (n + 8)) old.disk.content old mid → LeavesOnly old mid (IsPartlyWritten old.disk n bytes)
 partly_before old mid n bytes all_synced run = weaker old mid (SameOutside (MayDiffer old.disk (n + 1) (n + 8)) old.disk.content)
     (IsPartlyWritten old.disk n bytes) so run.run
@@ -30,19 +30,19 @@ partly_before old mid n bytes all_synced run = weaker old mid (SameOutside (MayD
     wide k (inl within) = inl (omega (arith, within.0), within.1)
     wide k (inr unsynced) = inr unsynced
 
-    so : (c : Image) → SameOutside (MayDiffer old.disk (n + 1) (n + 8)) old.disk.content c → IsPartlyWritten old.disk n bytes c
+    so : (c : CrashState) → SameOutside (MayDiffer old.disk (n + 1) (n + 8)) old.disk.content c → IsPartlyWritten old.disk n bytes c
     so c same = record {
       outside = same_outside_wider (MayDiffer old.disk (n + 1) (n + 8)) (MayDiffer old.disk n (n + 8)) old.disk.content c wide same;
       either = inl (same.same n untouched);
     }
 
 -- from then on
-pub partly_after : (old mid new : History) (n : ℕ) (bytes : List ℕ) → SameOutside (λ k. (n + 1 ≤ k) × (k < n + 8)) old.disk.content mid.disk.content
+pub partly_after : (old mid new : DevicePast) (n : ℕ) (bytes : List ℕ) → SameOutside (λ k. (n + 1 ≤ k) × (k < n + 8)) old.disk.content mid.disk.content
     → concat (slice_range mid.disk.content (n + 1) (n + 8)) ≡ bytes
     → RunsWithin (λ k. k ≡ n) mid.disk.content mid new → LeavesOnly mid new (IsPartlyWritten old.disk n bytes)
 partly_after old mid new n bytes first there run = weaker mid new (SameOutside (λ k. k ≡ n) mid.disk.content) (IsPartlyWritten old.disk n bytes) so run.run
   where
-    so : (c : Image) → SameOutside (λ k. k ≡ n) mid.disk.content c → IsPartlyWritten old.disk n bytes c
+    so : (c : CrashState) → SameOutside (λ k. k ≡ n) mid.disk.content c → IsPartlyWritten old.disk n bytes c
     so c same = record {
       outside = record {
         sectors = same.sectors ∙ first.sectors;
@@ -68,7 +68,7 @@ length-group records bytes group =
 module _ (log : Log) (old : Disk) (records : List RecordValue) (all_synced : (n : ℕ) → InArea log.area n
     → old.unsynced n ≡ false) (room : log.open_slots < log.area.slots) where
   -- the other slots are as they were
-  others : (c : Image) (groups : List (List RecordValue)) → Stands log old.content groups
+  others : (c : CrashState) (groups : List (List RecordValue)) → Stands log old.content groups
       → SameOutside (MayDiffer old (gate log.area log.open_slots) (gate log.area log.open_slots + 8)) old.content c
       → (i : ℕ) → i < log.area.slots → i ≢ length groups → (k : ℕ) → gate log.area i ≤ k → k < gate log.area i + 8 → sector c k ≡ sector old.content k
   others c groups stands same i lt other k low high = same.same k outside
@@ -78,7 +78,7 @@ module _ (log : Log) (old : Disk) (records : List RecordValue) (all_synced : (n 
       outside (inr unsynced) = false≢true (sym (all_synced k (omega (arith, low), omega (arith, high, lt))) ∙ unsynced)
 
   -- with an open gate it is
-  pub is_appended : (bytes : List ℕ) (c : Image) (groups : List (List RecordValue)) → IsGroup records bytes
+  pub is_appended : (bytes : List ℕ) (c : CrashState) (groups : List (List RecordValue)) → IsGroup records bytes
       → SameOutside (MayDiffer old (gate log.area log.open_slots) (gate log.area log.open_slots + 8)) old.content c → Stands log old.content groups
       → IsOpen c (gate log.area log.open_slots) → body c (gate log.area log.open_slots) ≡ bytes → HoldsGroups log.area c (groups ++ records ∷ [])
   is_appended bytes c groups group same stands is_open there =
@@ -87,7 +87,7 @@ module _ (log : Log) (old : Disk) (records : List RecordValue) (all_synced : (n 
       (subst (λ m. IsGroup records (body c (gate log.area m))) stands.counted (subst (IsGroup records) (sym there) group))
 
   -- with a closed gate it is not
-  not_appended : (c : Image) (groups : List (List RecordValue))
+  not_appended : (c : CrashState) (groups : List (List RecordValue))
       → SameOutside (MayDiffer old (gate log.area log.open_slots) (gate log.area log.open_slots + 8)) old.content c → Stands log old.content groups
       → ¬ IsOpen c (gate log.area log.open_slots) → HoldsGroups log.area c groups
   not_appended c groups same stands shut =
@@ -98,7 +98,7 @@ module _ (log : Log) (old : Disk) (records : List RecordValue) (all_synced : (n 
   was_shut groups stands = stands.held.closed log.open_slots (omega (arith, stands.counted)) room
 
   -- what was partly written is appended or not
-  pub appended : (bytes : List ℕ) (c : Image) → IsGroup records bytes → IsPartlyWritten old (gate log.area log.open_slots) bytes c
+  pub appended : (bytes : List ℕ) (c : CrashState) → IsGroup records bytes → IsPartlyWritten old (gate log.area log.open_slots) bytes c
       → IsAppended log old records c
   appended bytes c group partly = record {
     outside = partly.outside;
@@ -112,11 +112,11 @@ module _ (log : Log) (old : Disk) (records : List RecordValue) (all_synced : (n 
   }
 
 -- nothing was written
-pub nothing_appended : (log : Log) (h : History) (records : List RecordValue) → ((n : ℕ) → InArea log.area n → h.disk.unsynced n ≡ false)
+pub nothing_appended : (log : Log) (h : DevicePast) (records : List RecordValue) → ((n : ℕ) → InArea log.area n → h.disk.unsynced n ≡ false)
     → LeavesOnly h h (IsAppended log h.disk records)
 nothing_appended log h records all_synced = started h (IsAppended log h.disk records) here
   where
-    here : (c : Image) → IsCrashImage h.disk c → IsAppended log h.disk records c
+    here : (c : CrashState) → IsCrashState h.disk c → IsAppended log h.disk records c
     here c crash = record {
       outside = crash_outside (MayDiffer h.disk (gate log.area log.open_slots) (gate log.area log.open_slots + 8)) h.disk.content h.disk c
           (outside_unsynced (λ k. (gate log.area log.open_slots ≤ k) × (k < gate log.area log.open_slots + 8)) h.disk) crash;

@@ -2,8 +2,8 @@
 use Rattle.std.specs.Prelude.{◌≡◌, ℕ, ◌≤◌, ◌-◌, List, ◌++◌, length, replicate, All}
 use Rattle.std.specs.List.{flat_map}
 use Rattle.records.specs.RecordValue.{RecordValue}
-use Rattle.records.specs.declared.version.Version.{Version}
-use Rattle.records.specs.declared.version.Version.TheVariants.{Two}
+use Rattle.record_values.specs.declared.version.Version.{Version}
+use Rattle.record_values.specs.declared.version.Version.TheVariants.{Two}
 use Rattle.records.specs.Spelling.{spelling, u16, FitsIn}
 use Rattle.gate_log.specs.declared.group.TheConstants.{GROUP_MAX}
 

@@ -1,9 +1,9 @@
 -- Words for the private steps of reading and writing one slot. No public clause cites them.
 use Rattle.std.specs.Prelude.{◌≡◌, ◌⊎◌, ℕ, ◌+◌, ◌<◌, ◌≤◌, true, List, length, All}
-use Rattle.sector_device.specs.Disk.{Image, sector, Disk, SameOutside}
-use Rattle.records.specs.declared.geometry.TheConstants.{SLOT_SECTORS}
+use Rattle.sector_device.specs.Disk.{CrashState, sector, Disk, SameOutside}
+use Rattle.record_values.specs.declared.geometry.TheConstants.{SLOT_SECTORS}
 use Rattle.records.specs.RecordValue.{RecordValue}
-use Rattle.records.specs.declared.version.Version.{Version}
+use Rattle.record_values.specs.declared.version.Version.{Version}
 use Rattle.records.specs.Spelling.{FitsIn}
 use Rattle.gate_log.specs.Group.{spellings}
 use Rattle.gate_log.specs.Area.{body}
@@ -20,6 +20,6 @@ MayDiffer disk low high n = ((low ≤ n) × (n < high)) ⊎ (disk.unsynced n ≡
 
 -- What a crash leaves while the slot with its gate in sector n is written: nothing outside it has changed but what was
 -- unsynced, and its gate is as it was, or its body is whole.
-pub record IsPartlyWritten (old : Disk) (n : ℕ) (bytes : List ℕ) (image : Image) : Type 0 where
+pub record IsPartlyWritten (old : Disk) (n : ℕ) (bytes : List ℕ) (image : CrashState) : Type 0 where
   pub outside : SameOutside (MayDiffer old n (n + SLOT_SECTORS)) old.content image
   pub either : (sector image n ≡ sector old.content n) ⊎ (body image n ≡ bytes)

@@ -1,8 +1,8 @@
 //! The area of a log.
 ghost use Rattle.std.specs.Prelude.{◌≡◌, ◌≢◌, ◌⊎◌, ◌↔◌, ◌+◌, ◌*◌, ◌^◌, ◌≤◌, ◌<◌, ◌++◌, ◌∷◌, [], ℕ, List, false, true};
 ghost use Rattle.std.specs.Prelude.{length, OnOk, OnErr, IfOk, IfErr, MatchOption};
-ghost use Rattle.sector_device.specs.Disk.{Image, sector, IsSynced, IsCrashImage, SameOutside};
-ghost use Rattle.sector_device.specs.History.{RunsWithin, OnlyReads, LeavesOnly, CountsFailure, Rises};
+ghost use Rattle.sector_device.specs.Disk.{CrashState, sector, IsSynced, IsCrashState, SameOutside};
+ghost use Rattle.sector_device.specs.DevicePast.{RunsWithin, OnlyReads, LeavesOnly, CountsFailure, Rises};
 ghost use Rattle.sector_device.specs.Values.{marked_sector};
 ghost use Rattle.records.specs.RecordValue.{RecordValue};
 ghost use Rattle.gate_log.specs.Group.{FitsGroup, IsGroup, IsSpelledGroup};
@@ -40,7 +40,7 @@ pub struct LogArea {
 
 impl Model for LogArea {
     ghost use Rattle.std.specs.Prelude.{◌≤◌, ◌+◌, ◌*◌, ◌<◌, ◌^◌};
-    ghost use Rattle.records.specs.declared.geometry.TheConstants.{SLOT_SECTORS};
+    ghost use Rattle.record_values.specs.declared.geometry.TheConstants.{SLOT_SECTORS};
     ghost use Rattle.gate_log.specs.Area.{Log};
 
     ghost Value = { Log };
@@ -81,30 +81,30 @@ impl LogArea {
         records: &[Record],
     ) -> Result<Appended, Error>
         requires fits { FitsGroup records.now }
-        requires inside { IsAreaInside self.old.area (D.history device.old).disk.content }
-        requires synced { (n : ℕ) → InArea self.old.area n → (D.history device.old).disk.unsynced n ≡ false }
+        requires inside { IsAreaInside self.old.area (D.past_of device.old).disk.content }
+        requires synced { (n : ℕ) → InArea self.old.area n → (D.past_of device.old).disk.unsynced n ≡ false }
         requires stands { (groups : List (List RecordValue))
-            × Stands self.old (D.history device.old).disk.content groups }
+            × Stands self.old (D.past_of device.old).disk.content groups }
 
         // The groups are those that the log stands for at the call.
         ensures done { result ≡ Ok Appended.Done → (groups : List (List RecordValue))
-            → Stands self.old (D.history device.old).disk.content groups
-            → Stands self.new (D.history device.new).disk.content (groups ++ records.now ∷ []) }
+            → Stands self.old (D.past_of device.old).disk.content groups
+            → Stands self.new (D.past_of device.new).disk.content (groups ++ records.now ∷ []) }
         ensures marked { result ≡ Ok Appended.Done
-            → sector (D.history device.new).disk.content (gate self.old.area self.old.open_slots) ≡ marked_sector }
-        ensures synced { result ≡ Ok Appended.Done → IsSynced (D.history device.new).disk }
-        ensures survives { result ≡ Ok Appended.Done → (groups : List (List RecordValue)) (image : Image)
-            → Stands self.old (D.history device.old).disk.content groups
-            → IsCrashImage (D.history device.new).disk image
+            → sector (D.past_of device.new).disk.content (gate self.old.area self.old.open_slots) ≡ marked_sector }
+        ensures synced { result ≡ Ok Appended.Done → IsSynced (D.past_of device.new).disk }
+        ensures survives { result ≡ Ok Appended.Done → (groups : List (List RecordValue)) (image : CrashState)
+            → Stands self.old (D.past_of device.old).disk.content groups
+            → IsCrashState (D.past_of device.new).disk image
             → HoldsGroups self.new.area image (groups ++ records.now ∷ []) }
         ensures full { (result ≡ Ok Appended.Full) ↔ (self.old.open_slots ≡ self.old.area.slots) }
 
         // A crash at any moment of the call, whatever it answers.
-        ensures any_moment { LeavesOnly (D.history device.old) (D.history device.new)
-            (IsAppended self.old (D.history device.old).disk records.now) }
+        ensures any_moment { LeavesOnly (D.past_of device.old) (D.past_of device.new)
+            (IsAppended self.old (D.past_of device.old).disk records.now) }
 
-        ensures outside { SameOutside (InSlot self.old.area self.old.open_slots) (D.history device.old).disk.content
-            (D.history device.new).disk.content }
+        ensures outside { SameOutside (InSlot self.old.area self.old.open_slots) (D.past_of device.old).disk.content
+            (D.past_of device.new).disk.content }
         ensures area { self.new.area ≡ self.old.area }
         ensures err { OnErr result (self.new ≡ self.old) }
         ensures unchanged { (result ≡ Ok Appended.Full) ⊎ (result ≡ Err Error.NoMemory) → (self.new ≡ self.old)
@@ -128,33 +128,34 @@ impl LogArea {
         body: &[u8],
     ) -> Result<Appended, Error>
         requires spelled { IsSpelledGroup body.now }
-        requires inside { IsAreaInside self.old.area (D.history device.old).disk.content }
-        requires synced { (n : ℕ) → InArea self.old.area n → (D.history device.old).disk.unsynced n ≡ false }
+        requires inside { IsAreaInside self.old.area (D.past_of device.old).disk.content }
+        requires synced { (n : ℕ) → InArea self.old.area n → (D.past_of device.old).disk.unsynced n ≡ false }
         requires stands { (groups : List (List RecordValue))
-            × Stands self.old (D.history device.old).disk.content groups }
+            × Stands self.old (D.past_of device.old).disk.content groups }
 
         // The records are those that the body spells.
         ensures done { result ≡ Ok Appended.Done → (records : List RecordValue) (groups : List (List RecordValue))
             → IsGroup records body.now
-            → Stands self.old (D.history device.old).disk.content groups
-            → Stands self.new (D.history device.new).disk.content (groups ++ records ∷ []) }
+            → Stands self.old (D.past_of device.old).disk.content groups
+            → Stands self.new (D.past_of device.new).disk.content (groups ++ records ∷ []) }
         ensures marked { result ≡ Ok Appended.Done
-            → sector (D.history device.new).disk.content (gate self.old.area self.old.open_slots) ≡ marked_sector }
-        ensures synced { result ≡ Ok Appended.Done → IsSynced (D.history device.new).disk }
+            → sector (D.past_of device.new).disk.content (gate self.old.area self.old.open_slots) ≡ marked_sector }
+        ensures synced { result ≡ Ok Appended.Done → IsSynced (D.past_of device.new).disk }
         ensures survives { result ≡ Ok Appended.Done
-            → (records : List RecordValue) (groups : List (List RecordValue)) (image : Image) → IsGroup records body.now
-            → Stands self.old (D.history device.old).disk.content groups
-            → IsCrashImage (D.history device.new).disk image
+            → (records : List RecordValue) (groups : List (List RecordValue)) (image : CrashState)
+            → IsGroup records body.now
+            → Stands self.old (D.past_of device.old).disk.content groups
+            → IsCrashState (D.past_of device.new).disk image
             → HoldsGroups self.new.area image (groups ++ records ∷ []) }
         ensures full { (result ≡ Ok Appended.Full) ↔ (self.old.open_slots ≡ self.old.area.slots) }
 
         // A crash at any moment of the call, whatever it answers.
         ensures any_moment { (records : List RecordValue) → IsGroup records body.now
-            → LeavesOnly (D.history device.old) (D.history device.new)
-            (IsAppended self.old (D.history device.old).disk records) }
+            → LeavesOnly (D.past_of device.old) (D.past_of device.new)
+            (IsAppended self.old (D.past_of device.old).disk records) }
 
-        ensures outside { SameOutside (InSlot self.old.area self.old.open_slots) (D.history device.old).disk.content
-            (D.history device.new).disk.content }
+        ensures outside { SameOutside (InSlot self.old.area self.old.open_slots) (D.past_of device.old).disk.content
+            (D.past_of device.new).disk.content }
         ensures area { self.new.area ≡ self.old.area }
         ensures err { OnErr result (self.new ≡ self.old) }
         ensures unchanged { result ≡ Ok Appended.Full → (self.new ≡ self.old) × (device.new ≡ device.old) }
@@ -186,22 +187,22 @@ impl LogArea {
         version: Version,
         device: &mut D,
     ) -> Result<Vec<Record, A>, Error>
-        requires inside { IsAreaInside self.old.area (D.history device.old).disk.content }
+        requires inside { IsAreaInside self.old.area (D.past_of device.old).disk.content }
 
         // These are the only groups, by the law `one_reading`, and where there are such no sector is damaged.
         ensures read { IfOk result (λ records. (groups : List (List RecordValue))
-            × StandsIn version self.new (D.history device.old).disk.content groups
+            × StandsIn version self.new (D.past_of device.old).disk.content groups
             × (records.items ≡ records_of groups)) }
         ensures refused { IfErr result (λ e. Refuses (D.failures device.old) (D.failures device.new) e
             ⊎ ((sector : ℕ) × (e ≡ Error.Damaged sector)
-            × IsFirstDamagedSlotIn version self.old.area (D.history device.old).disk.content sector)) }
+            × IsFirstDamagedSlotIn version self.old.area (D.past_of device.old).disk.content sector)) }
         ensures area { self.new.area ≡ self.old.area }
         ensures err { OnErr result (self.new ≡ self.old) }
-        ensures reads { OnlyReads (D.history device.old) (D.history device.new) }
+        ensures reads { OnlyReads (D.past_of device.old) (D.past_of device.new) }
         ensures quiet { OnOk result (D.failures device.new ≡ D.failures device.old) }
         ensures told { IfErr result (λ e. e ≢ Error.DeviceFailed → D.failures device.new ≡ D.failures device.old) }
         ensures memory { IfErr result (λ e. e ≡ Error.NoMemory → (0 < self.old.area.slots)
-            × IsOpen (D.history device.old).disk.content self.old.area.first) }
+            × IsOpen (D.past_of device.old).disk.content self.old.area.first) }
         ensures later { D.failures device.old ≤ D.failures device.new }
     {
         let (records, open_slots) = read_slots(alloc, version, device, self.first, self.slots)?;
@@ -220,12 +221,12 @@ impl LogArea {
         device: &mut D,
         index: usize,
     ) -> Result<Option<u64>, Error>
-        requires inside { IsAreaInside self.now.area (D.history device.old).disk.content }
+        requires inside { IsAreaInside self.now.area (D.past_of device.old).disk.content }
         ensures found { IfOk result (λ found. (groups : List (List RecordValue))
-            → StandsIn version self.now (D.history device.old).disk.content groups
+            → StandsIn version self.now (D.past_of device.old).disk.content groups
             → MatchOption found (length (records_of groups) ≤ index) (IsGateOf self.now.area groups index)) }
         ensures refused { IfErr result (Refuses (D.failures device.old) (D.failures device.new)) }
-        ensures reads { OnlyReads (D.history device.old) (D.history device.new) }
+        ensures reads { OnlyReads (D.past_of device.old) (D.past_of device.new) }
         ensures quiet { OnOk result (D.failures device.new ≡ D.failures device.old) }
         ensures told { IfErr result (λ e. e ≢ Error.DeviceFailed → D.failures device.new ≡ D.failures device.old) }
         ensures memory { IfErr result (λ e. e ≡ Error.NoMemory → 0 < self.now.open_slots) }
@@ -237,15 +238,15 @@ impl LogArea {
     /// Closes every gate, by a sector of zeros, and syncs. Until then the area may hold anything, and after
     /// `DeviceFailed` it may too.
     pub fn clear<D: Device>(&mut self, device: &mut D) -> Result<(), Error>
-        requires inside { IsAreaInside self.old.area (D.history device.old).disk.content }
-        ensures cleared { OnOk result (Stands self.new (D.history device.new).disk.content []) }
-        ensures zeros { OnOk result (AreGatesZero self.old.area (D.history device.new).disk.content) }
-        ensures synced { OnOk result (IsSynced (D.history device.new).disk) }
-        ensures outside { SameOutside (IsGate self.old.area) (D.history device.old).disk.content
-            (D.history device.new).disk.content }
-        ensures any_moment { LeavesOnly (D.history device.old) (D.history device.new)
-            (SameOutside (λ n. IsGate self.old.area n ⊎ ((D.history device.old).disk.unsynced n ≡ true))
-            (D.history device.old).disk.content) }
+        requires inside { IsAreaInside self.old.area (D.past_of device.old).disk.content }
+        ensures cleared { OnOk result (Stands self.new (D.past_of device.new).disk.content []) }
+        ensures zeros { OnOk result (AreGatesZero self.old.area (D.past_of device.new).disk.content) }
+        ensures synced { OnOk result (IsSynced (D.past_of device.new).disk) }
+        ensures outside { SameOutside (IsGate self.old.area) (D.past_of device.old).disk.content
+            (D.past_of device.new).disk.content }
+        ensures any_moment { LeavesOnly (D.past_of device.old) (D.past_of device.new)
+            (SameOutside (λ n. IsGate self.old.area n ⊎ ((D.past_of device.old).disk.unsynced n ≡ true))
+            (D.past_of device.old).disk.content) }
         ensures area { self.new.area ≡ self.old.area }
         ensures err { OnErr result (self.new ≡ self.old) }
         ensures refused { IfErr result (λ e. (e ≡ Error.DeviceFailed)
@@ -277,20 +278,20 @@ fn read_slots<D: Device, A: Allocator + Copy>(
     first: u64,
     slots: u64,
 ) -> Result<(Vec<Record, A>, u64), Error>
-    requires inside { first + SLOT_SECTORS * slots ≤ length (D.history device.old).disk.content }
+    requires inside { first + SLOT_SECTORS * slots ≤ length (D.past_of device.old).disk.content }
     requires number { first + SLOT_SECTORS * slots < 2 ^ 64 }
     ensures read { IfOk result (λ found. (groups : List (List RecordValue))
-        × HoldsGroupsIn version (record { first = first; slots = slots }) (D.history device.old).disk.content groups
+        × HoldsGroupsIn version (record { first = first; slots = slots }) (D.past_of device.old).disk.content groups
         × (found.1 ≡ length groups) × (found.0.items ≡ records_of groups)) }
     ensures refused { IfErr result (λ e. Refuses (D.failures device.old) (D.failures device.new) e
         ⊎ ((sector : ℕ) × (e ≡ Error.Damaged sector)
         × IsFirstDamagedSlotIn version (record { first = first; slots = slots })
-        (D.history device.old).disk.content sector)) }
-    ensures reads { OnlyReads (D.history device.old) (D.history device.new) }
+        (D.past_of device.old).disk.content sector)) }
+    ensures reads { OnlyReads (D.past_of device.old) (D.past_of device.new) }
     ensures quiet { OnOk result (D.failures device.new ≡ D.failures device.old) }
     ensures told { IfErr result (λ e. e ≢ Error.DeviceFailed → D.failures device.new ≡ D.failures device.old) }
     ensures memory { IfErr result (λ e. e ≡ Error.NoMemory → (0 < slots)
-        × IsOpen (D.history device.old).disk.content first) }
+        × IsOpen (D.past_of device.old).disk.content first) }
     ensures later { D.failures device.old ≤ D.failures device.new }
 {
     let mut count = 0;
@@ -322,15 +323,15 @@ fn gate_of_record<D: Device, A: Allocator + Copy>(
     slots: u64,
     index: usize,
 ) -> Result<Option<u64>, Error>
-    requires inside { first + SLOT_SECTORS * slots ≤ length (D.history device.old).disk.content }
+    requires inside { first + SLOT_SECTORS * slots ≤ length (D.past_of device.old).disk.content }
     requires number { first + SLOT_SECTORS * slots < 2 ^ 64 }
     ensures found { IfOk result (λ found. (groups : List (List RecordValue))
-        → HoldsGroupsIn version (record { first = first; slots = slots }) (D.history device.old).disk.content groups
+        → HoldsGroupsIn version (record { first = first; slots = slots }) (D.past_of device.old).disk.content groups
         → length groups ≡ slots
         → MatchOption found (length (records_of groups) ≤ index)
         (IsGateOf (record { first = first; slots = slots }) groups index)) }
     ensures refused { IfErr result (Refuses (D.failures device.old) (D.failures device.new)) }
-    ensures reads { OnlyReads (D.history device.old) (D.history device.new) }
+    ensures reads { OnlyReads (D.past_of device.old) (D.past_of device.new) }
     ensures quiet { OnOk result (D.failures device.new ≡ D.failures device.old) }
     ensures told { IfErr result (λ e. e ≢ Error.DeviceFailed → D.failures device.new ≡ D.failures device.old) }
     ensures memory { IfErr result (λ e. e ≡ Error.NoMemory → 0 < slots) }
@@ -352,16 +353,16 @@ fn gate_of_record<D: Device, A: Allocator + Copy>(
 
 // Closes these gates, by sectors of zeros, and syncs.
 fn close_gates<D: Device>(device: &mut D, first: u64, slots: u64) -> Result<(), Failed>
-    requires inside { first + SLOT_SECTORS * slots ≤ length (D.history device.old).disk.content }
+    requires inside { first + SLOT_SECTORS * slots ≤ length (D.past_of device.old).disk.content }
     requires number { first + SLOT_SECTORS * slots < 2 ^ 64 }
     ensures zeros { OnOk result (AreGatesZero (record { first = first; slots = slots })
-        (D.history device.new).disk.content) }
-    ensures outside { SameOutside (IsGate (record { first = first; slots = slots })) (D.history device.old).disk.content
-        (D.history device.new).disk.content }
-    ensures synced { OnOk result (IsSynced (D.history device.new).disk) }
+        (D.past_of device.new).disk.content) }
+    ensures outside { SameOutside (IsGate (record { first = first; slots = slots })) (D.past_of device.old).disk.content
+        (D.past_of device.new).disk.content }
+    ensures synced { OnOk result (IsSynced (D.past_of device.new).disk) }
     ensures within { RunsWithin (λ n. IsGate (record { first = first; slots = slots }) n
-        ⊎ ((D.history device.old).disk.unsynced n ≡ true)) (D.history device.old).disk.content (D.history device.old)
-        (D.history device.new) }
+        ⊎ ((D.past_of device.old).disk.unsynced n ≡ true)) (D.past_of device.old).disk.content (D.past_of device.old)
+        (D.past_of device.new) }
     ensures counts { CountsFailure (D.failures device.old) (D.failures device.new) result }
 {
     write_zeros(device, first, SLOT_SECTORS, slots)?;

@@ -5,6 +5,8 @@
 //! crash leaves the old groups, or them with the whole new one (`any_moment`). `Full` comes just where each slot is
 //! open (`full`). Reading gives just the records that are there (`read`), or names the first damaged gate (`refused`).
 //! Only tested, through a store: a group byte by byte. Neither: time, and how many calls the device gets.
+//!
+//! Lemmas about its public words that crates above may cite, in `proofs`: `Readings`.
 #![tactic(auto)]
 
 mod area;

@@ -2,7 +2,7 @@
 ghost use Rattle.std.specs.Prelude.{◌≡◌, ◌≢◌, ◌↔◌, ◌+◌, ◌^◌, ◌≤◌, ◌<◌, List, false, length, OnOk, IfOk, IfErr, IsTrue};
 ghost use Rattle.std.specs.Prelude.{MatchOption};
 ghost use Rattle.sector_device.specs.Disk.{sector, IsSynced, SameOutside};
-ghost use Rattle.sector_device.specs.History.{RunsWithin, OnlyReads, LeavesOnly, CountsFailure};
+ghost use Rattle.sector_device.specs.DevicePast.{RunsWithin, OnlyReads, LeavesOnly, CountsFailure};
 ghost use Rattle.sector_device.specs.Values.{marked_sector};
 ghost use Rattle.records.specs.RecordValue.{RecordValue};
 ghost use Rattle.gate_log.specs.Group.{IsGroupIn};
@@ -17,14 +17,14 @@ use std::alloc::Allocator;
 // Writes the body behind a gate, and syncs. Until then the body's sectors may hold anything.
 fn write_body<D: Device>(device: &mut D, gate: u64, bytes: &[u8]) -> Result<(), Failed>
     requires size { length bytes.now ≡ BODY_SIZE }
-    requires inside { gate + SLOT_SECTORS ≤ length (D.history device.old).disk.content }
+    requires inside { gate + SLOT_SECTORS ≤ length (D.past_of device.old).disk.content }
     requires number { gate + SLOT_SECTORS < 2 ^ 64 }
-    ensures written { OnOk result (body (D.history device.new).disk.content gate ≡ bytes.now) }
+    ensures written { OnOk result (body (D.past_of device.new).disk.content gate ≡ bytes.now) }
     ensures outside { SameOutside (λ n. (gate + 1 ≤ n)
-        × (n < gate + SLOT_SECTORS)) (D.history device.old).disk.content (D.history device.new).disk.content }
-    ensures synced { OnOk result (IsSynced (D.history device.new).disk) }
-    ensures within { RunsWithin (MayDiffer (D.history device.old).disk (gate + 1) (gate + SLOT_SECTORS))
-        (D.history device.old).disk.content (D.history device.old) (D.history device.new) }
+        × (n < gate + SLOT_SECTORS)) (D.past_of device.old).disk.content (D.past_of device.new).disk.content }
+    ensures synced { OnOk result (IsSynced (D.past_of device.new).disk) }
+    ensures within { RunsWithin (MayDiffer (D.past_of device.old).disk (gate + 1) (gate + SLOT_SECTORS))
+        (D.past_of device.old).disk.content (D.past_of device.old) (D.past_of device.new) }
     ensures counts { CountsFailure (D.failures device.old) (D.failures device.new) result }
 {
     let (sectors, _) = bytes.as_chunks::<SECTOR_SIZE>();
@@ -36,12 +36,12 @@ fn write_body<D: Device>(device: &mut D, gate: u64, bytes: &[u8]) -> Result<(), 
 
 // Opens a gate whose body is synced, and syncs. Until then the gate may hold anything.
 fn open_gate<D: Device>(device: &mut D, gate: u64) -> Result<(), Failed>
-    requires inside { gate < length (D.history device.old).disk.content }
-    requires synced { IsSynced (D.history device.old).disk }
-    ensures opened { OnOk result (sector (D.history device.new).disk.content gate ≡ marked_sector) }
-    ensures synced { OnOk result (IsSynced (D.history device.new).disk) }
-    ensures within { RunsWithin (λ n. n ≡ gate) (D.history device.old).disk.content (D.history device.old)
-        (D.history device.new) }
+    requires inside { gate < length (D.past_of device.old).disk.content }
+    requires synced { IsSynced (D.past_of device.old).disk }
+    ensures opened { OnOk result (sector (D.past_of device.new).disk.content gate ≡ marked_sector) }
+    ensures synced { OnOk result (IsSynced (D.past_of device.new).disk) }
+    ensures within { RunsWithin (λ n. n ≡ gate) (D.past_of device.old).disk.content (D.past_of device.old)
+        (D.past_of device.new) }
     ensures counts { CountsFailure (D.failures device.old) (D.failures device.new) result }
 {
     let opened = marked_sector();
@@ -52,16 +52,16 @@ fn open_gate<D: Device>(device: &mut D, gate: u64) -> Result<(), Failed>
 /// Writes a slot: its body, a sync, its gate, a sync.
 pub(crate) fn write_group<D: Device>(device: &mut D, gate: u64, bytes: &[u8]) -> Result<(), Failed>
     requires size { length bytes.now ≡ BODY_SIZE }
-    requires inside { gate + SLOT_SECTORS ≤ length (D.history device.old).disk.content }
+    requires inside { gate + SLOT_SECTORS ≤ length (D.past_of device.old).disk.content }
     requires number { gate + SLOT_SECTORS < 2 ^ 64 }
-    requires synced { (D.history device.old).disk.unsynced gate ≡ false }
-    ensures opened { OnOk result (sector (D.history device.new).disk.content gate ≡ marked_sector) }
-    ensures written { OnOk result (body (D.history device.new).disk.content gate ≡ bytes.now) }
-    ensures outside { SameOutside (λ n. (gate ≤ n) × (n < gate + SLOT_SECTORS)) (D.history device.old).disk.content
-        (D.history device.new).disk.content }
-    ensures synced { OnOk result (IsSynced (D.history device.new).disk) }
-    ensures any_moment { LeavesOnly (D.history device.old) (D.history device.new)
-        (IsPartlyWritten (D.history device.old).disk gate bytes.now) }
+    requires synced { (D.past_of device.old).disk.unsynced gate ≡ false }
+    ensures opened { OnOk result (sector (D.past_of device.new).disk.content gate ≡ marked_sector) }
+    ensures written { OnOk result (body (D.past_of device.new).disk.content gate ≡ bytes.now) }
+    ensures outside { SameOutside (λ n. (gate ≤ n) × (n < gate + SLOT_SECTORS)) (D.past_of device.old).disk.content
+        (D.past_of device.new).disk.content }
+    ensures synced { OnOk result (IsSynced (D.past_of device.new).disk) }
+    ensures any_moment { LeavesOnly (D.past_of device.old) (D.past_of device.new)
+        (IsPartlyWritten (D.past_of device.old).disk gate bytes.now) }
     ensures counts { CountsFailure (D.failures device.old) (D.failures device.new) result }
 {
     write_body(device, gate, bytes)?;
@@ -70,9 +70,9 @@ pub(crate) fn write_group<D: Device>(device: &mut D, gate: u64, bytes: &[u8]) ->
 
 /// Whether the gate is open.
 pub(crate) fn is_open<D: Device>(device: &mut D, gate: u64) -> Result<bool, Error>
-    requires { gate < length (D.history device.old).disk.content }
-    ensures value { IfOk result (λ opened. IsTrue opened ↔ IsOpen (D.history device.old).disk.content gate) }
-    ensures reads { OnlyReads (D.history device.old) (D.history device.new) }
+    requires { gate < length (D.past_of device.old).disk.content }
+    ensures value { IfOk result (λ opened. IsTrue opened ↔ IsOpen (D.past_of device.old).disk.content gate) }
+    ensures reads { OnlyReads (D.past_of device.old) (D.past_of device.new) }
     ensures quiet { OnOk result (D.failures device.new ≡ D.failures device.old) }
     ensures told { IfErr result (λ e. e ≢ Error.DeviceFailed → D.failures device.new ≡ D.failures device.old) }
     ensures later { D.failures device.old ≤ D.failures device.new }
@@ -92,11 +92,11 @@ fn read_body<D: Device, A: Allocator>(
     device: &mut D,
     gate: u64,
 ) -> Result<Vec<u8, A>, Error>
-    requires inside { gate + SLOT_SECTORS ≤ length (D.history device.old).disk.content }
+    requires inside { gate + SLOT_SECTORS ≤ length (D.past_of device.old).disk.content }
     requires number { gate + SLOT_SECTORS < 2 ^ 64 }
-    ensures value { IfOk result (λ bytes. bytes.items ≡ body (D.history device.old).disk.content gate) }
+    ensures value { IfOk result (λ bytes. bytes.items ≡ body (D.past_of device.old).disk.content gate) }
     ensures size { IfOk result (λ bytes. length bytes.items ≡ BODY_SIZE) }
-    ensures reads { OnlyReads (D.history device.old) (D.history device.new) }
+    ensures reads { OnlyReads (D.past_of device.old) (D.past_of device.new) }
     ensures quiet { OnOk result (D.failures device.new ≡ D.failures device.old) }
     ensures told { IfErr result (λ e. e ≢ Error.DeviceFailed → D.failures device.new ≡ D.failures device.old) }
     ensures later { D.failures device.old ≤ D.failures device.new }
@@ -120,12 +120,12 @@ pub(crate) fn read_group<D: Device, A: Allocator + Copy>(
     device: &mut D,
     gate: u64,
 ) -> Result<Option<Vec<Record, A>>, Error>
-    requires inside { gate + SLOT_SECTORS ≤ length (D.history device.old).disk.content }
+    requires inside { gate + SLOT_SECTORS ≤ length (D.past_of device.old).disk.content }
     requires number { gate + SLOT_SECTORS < 2 ^ 64 }
     ensures found { IfOk result (λ found. MatchOption found
-        ((records : List RecordValue) → ¬ IsGroupIn version records (body (D.history device.old).disk.content gate))
-        (λ records. IsGroupIn version records.items (body (D.history device.old).disk.content gate))) }
-    ensures reads { OnlyReads (D.history device.old) (D.history device.new) }
+        ((records : List RecordValue) → ¬ IsGroupIn version records (body (D.past_of device.old).disk.content gate))
+        (λ records. IsGroupIn version records.items (body (D.past_of device.old).disk.content gate))) }
+    ensures reads { OnlyReads (D.past_of device.old) (D.past_of device.new) }
     ensures quiet { OnOk result (D.failures device.new ≡ D.failures device.old) }
     ensures told { IfErr result (λ e. e ≢ Error.DeviceFailed → D.failures device.new ≡ D.failures device.old) }
     ensures later { D.failures device.old ≤ D.failures device.new }

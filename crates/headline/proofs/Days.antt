@@ -5,18 +5,18 @@ use Rattle.std.specs.List.{All}
 use Rattle.std.specs.declared.vec.Vec.{Vec}
 use Rattle.std.proofs.lemmas.Bool.{false≢true}
 use Rattle.std.proofs.lemmas.List.Elements.{All-nil, All-weaker}
-use Rattle.records.specs.declared.error.Error.{Error}
-use Rattle.records.specs.GeometryValue.{GeometryValue}
+use Rattle.record_values.specs.declared.error.Error.{Error}
+use Rattle.record_values.specs.GeometryValue.{GeometryValue}
 use Rattle.model.specs.Given.{Given}
 use Rattle.model.specs.History.{AreRising, Item, up_to}
 use Rattle.core_model.specs.Histories.{no_writes}
-use Rattle.core_contracts.specs.Events as core
-use Rattle.core_contracts.specs.Events.{standing_at}
-use Rattle.core_contracts.specs.Served.{ServesAll, items_of}
+use Rattle.core_model.specs.Events as core
+use Rattle.core_model.specs.Events.{standing_at}
+use Rattle.core_model.specs.Served.{ServesAll, items_of}
 use Rattle.core_model.specs.Histories.{Opened, opened}
 use Rattle.core_model.specs.States.{State}
-use Rattle.sector_device.specs.Disk.{Image}
-use Rattle.sector_device.specs.History.{History}
+use Rattle.sector_device.specs.Disk.{CrashState}
+use Rattle.sector_device.specs.DevicePast.{DevicePast}
 use Rattle.restart.specs.declared.event.Event.{Event}
 use Rattle.restart.specs.declared.event.Reply.{Reply}
 use Rattle.restart.specs.declared.parts.Parts.{Parts}
@@ -87,8 +87,8 @@ abbrev pub Rise : Type 0
 Rise = (o : Opened) (last : ℕ) (pairs : List (core.Event × core.Reply)) (s : State) (k : core.Standing) → ServesAll (opened o) (standing_at last) pairs s k
     → AreRising last (items_of no_writes pairs)
 
-module _ {D M : Type 0} (history : D → History) (g : GeometryValue) (given : Given) (day : Day M) (replies : Vec (Reply M) M) (engine : Parts D M)
-    (rise : Rise) (at : IsAt history (and_then (opening g given) day.requests.items replies.items) engine) (horizon j : ℕ) (image : Image)
+module _ {D M : Type 0} (past_of : D → DevicePast) (g : GeometryValue) (given : Given) (day : Day M) (replies : Vec (Reply M) M) (engine : Parts D M)
+    (rise : Rise) (at : IsAt past_of (and_then (opening g given) day.requests.items replies.items) engine) (horizon j : ℕ) (image : CrashState)
     (left : SurvivesAt (opening g given) day.requests.items replies.items horizon j image) where
   abbrev items : List Item
   items = told_over no_writes (take (j + 1) day.requests.items) (take (j + 1) replies.items)

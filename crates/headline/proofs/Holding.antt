@@ -2,19 +2,19 @@
 use Rattle.std.proofs.Common.{IfErr, IfOk, ◌≡◌, ◌⊎◌, IfSome, Option, ◌↔◌, Result, Ok, Err, inl, inr, ℕ, Bool, true, false, List, [], None, Some, refl, sym, ap}
 use Rattle.std.proofs.Common.{subst, ◌∙◌}
 use Rattle.std.specs.FinMap as map
-use Rattle.records.specs.GeometryValue.{GeometryValue}
-use Rattle.records.specs.declared.error.Error.{Error}
-use Rattle.records.specs.declared.error.Error.TheVariants.{DeviceFailed, DeviceTooSmall, NoMemory}
-use Rattle.records.specs.declared.pair.Mark.TheVariants.{Live}
-use Rattle.records.specs.declared.pair.Pair.{Pair}
+use Rattle.record_values.specs.GeometryValue.{GeometryValue}
+use Rattle.record_values.specs.declared.error.Error.{Error}
+use Rattle.record_values.specs.declared.error.Error.TheVariants.{DeviceFailed, DeviceTooSmall, NoMemory}
+use Rattle.record_values.specs.declared.pair.Mark.TheVariants.{Live}
+use Rattle.record_values.specs.declared.pair.Pair.{Pair}
 use Rattle.model.specs.Given.{Given}
 use Rattle.model.specs.Table.{IsPairOf}
 use Rattle.model.specs.declared.life.Life.{Life}
 use Rattle.model.specs.declared.life.Life.TheVariants.{Absent, Building, Complete}
 use Rattle.core_model.specs.Histories.{CanOpen, IsCovered, highest_of}
-use Rattle.nsf_core.specs.View.{CoreValue}
-use Rattle.sector_device.specs.Disk.{Image, IsCrashImage, IsSynced}
-use Rattle.sector_device.specs.History.{History}
+use Rattle.core_parts.specs.View.{CoreValue}
+use Rattle.sector_device.specs.Disk.{CrashState, IsCrashState, IsSynced}
+use Rattle.sector_device.specs.DevicePast.{DevicePast}
 use Rattle.sector_device.proofs.Sectors.{crash_synced}
 use Rattle.store_reader.specs.Contents.{Gives}
 use Rattle.restart.specs.declared.parts.Parts.{Parts}
@@ -52,15 +52,15 @@ never_both life none complete = cc
 
 -- ---- a store that begins with this
 
-pub begun : {D : Type 0} (M : Type 0) (history : D → History) (g : GeometryValue) (given : Given) (old found : D) → Gives (history old).disk.content g given
-    → CanOpen (over g given) → IsSynced (history old).disk → IsFoundAs (history old).disk (history found)
-    → KeepsDays {M = M} history g given [] [] found
-begun M history g given old found gives opens synced is = record { anew = is.anew; each = each }
+pub begun : {D : Type 0} (M : Type 0) (past_of : D → DevicePast) (g : GeometryValue) (given : Given) (old found : D) → Gives (past_of old).disk.content g given
+    → CanOpen (over g given) → IsSynced (past_of old).disk → IsFoundAs (past_of old).disk (past_of found)
+    → KeepsDays {M = M} past_of g given [] [] found
+begun M past_of g given old found gives opens synced is = record { anew = is.anew; each = each }
   where
-    each : (image : Image) → IsCrashImage (history found).disk image → GivesDays {M = M} g given [] [] image
+    each : (image : CrashState) → IsCrashState (past_of found).disk image → GivesDays {M = M} g given [] [] image
     each image crash = record {
       given = given;
-      gives = subst (λ (i : Image). Gives i g given) (sym (crash_synced (history old).disk image synced (is.left image crash))) gives;
+      gives = subst (λ (i : CrashState). Gives i g given) (sym (crash_synced (past_of old).disk image synced (is.left image crash))) gives;
       kept = [];
       days-are = refl;
       table = refl;
@@ -70,20 +70,20 @@ begun M history g given old found gives opens synced is = record { anew = is.ane
 
 -- ---- a store that was opened
 
-module _ {D M : Type 0} (history : D → History) (g : GeometryValue) (began : Given) (days : List (Day M)) (answers : List (Answer M)) (before : D)
-    (keeps : KeepsDays history g began days answers before) (images : Images) (engine : Parts D M) (is : IsOpened history before engine) where
-  abbrev gives : GivesDays g began days answers (history before).disk.content
-  gives = now_gives history g began days answers before keeps
+module _ {D M : Type 0} (past_of : D → DevicePast) (g : GeometryValue) (began : Given) (days : List (Day M)) (answers : List (Answer M)) (before : D)
+    (keeps : KeepsDays past_of g began days answers before) (images : Images) (engine : Parts D M) (is : IsOpened past_of before engine) where
+  abbrev gives : GivesDays g began days answers (past_of before).disk.content
+  gives = now_gives past_of g began days answers before keeps
 
   sound : CanOpen (over is.geometry is.given)
-  sound = can history g began days answers before keeps images engine is
+  sound = can past_of g began days answers before keeps images engine is
 
   held : Holds began days answers false (core_of engine)
   held = record {
     kept = gives.kept;
     days-are = gives.days-are;
-    rows = ap (λ (v : CoreValue). v.heap.rows) is.core ∙ table_is history g began days answers before keeps images engine is;
-    life = ap (λ (v : CoreValue). v.life) is.core ∙ life_is history g began days answers before keeps images engine is;
+    rows = ap (λ (v : CoreValue). v.heap.rows) is.core ∙ table_is past_of g began days answers before keeps images engine is;
+    life = ap (λ (v : CoreValue). v.life) is.core ∙ life_is past_of g began days answers before keeps images engine is;
     index = subst (λ (v : CoreValue). IsIndexOf v.heap.rows v.life v.index.entries) (sym is.core) (index_of is.geometry is.given sound);
   }
 

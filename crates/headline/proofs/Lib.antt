@@ -5,3 +5,4 @@ mod Stopped
 mod Holding
 mod Torn
 mod Moving
+mod Opened

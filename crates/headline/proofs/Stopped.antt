@@ -4,17 +4,17 @@ use Rattle.std.proofs.Common.{get_or, take, sym, refl, ap, subst, ◌∙◌, app
 use Rattle.std.proofs.lemmas.Bool.{false≢true}
 use Rattle.std.proofs.lemmas.List.{take_all, take_more}
 use Rattle.std.specs.declared.vec.Vec.{Vec}
-use Rattle.records.specs.GeometryValue.{GeometryValue}
-use Rattle.records.specs.declared.error.Error.{Error}
-use Rattle.records.specs.declared.error.Error.TheVariants.{NoMemory, DeviceFailed}
+use Rattle.record_values.specs.GeometryValue.{GeometryValue}
+use Rattle.record_values.specs.declared.error.Error.{Error}
+use Rattle.record_values.specs.declared.error.Error.TheVariants.{NoMemory, DeviceFailed}
 use Rattle.model.specs.Given.{Given}
 use Rattle.model.specs.History.{life_after, table_after}
 use Rattle.model.specs.Table.{Table}
 use Rattle.model.specs.declared.life.Life.{Life}
 use Rattle.model.proofs.HistoryLaws.{life_after-append, table_after-append}
 use Rattle.core_model.specs.Histories.{CanOpen}
-use Rattle.sector_device.specs.Disk.{Image}
-use Rattle.sector_device.specs.History.{History, LeavesOnly}
+use Rattle.sector_device.specs.Disk.{CrashState}
+use Rattle.sector_device.specs.DevicePast.{DevicePast, LeavesOnly}
 use Rattle.sector_device.proofs.Moments.{joined, weaker}
 use Rattle.sector_device.proofs.Sectors.{content_is_image}
 use Rattle.store_opener.specs.Reopening.{ReopeningLeaves, IsWrittenBack}
@@ -34,15 +34,15 @@ use Rattle.headline.proofs.Days.{Rise, day_last, kept_of, kept_told, quiet_day, 
 
 -- what the laws of images say
 pub record Images : Type 0 where
-  pub geometry : (image : Image) (g h : GeometryValue) (x y : Given) → Gives image g x → Gives image h y → g ≡ h
-  pub given : (image : Image) (g h : GeometryValue) (x y : Given) → Gives image g x → Gives image h y → x ≡ y
-  pub readable : (image : Image) (g : GeometryValue) (given : Given) (e : Error) → Gives image g given → ¬ IsUnreadable image e
+  pub geometry : (image : CrashState) (g h : GeometryValue) (x y : Given) → Gives image g x → Gives image h y → g ≡ h
+  pub given : (image : CrashState) (g h : GeometryValue) (x y : Given) → Gives image g x → Gives image h y → x ≡ y
+  pub readable : (image : CrashState) (g : GeometryValue) (given : Given) (e : Error) → Gives image g given → ¬ IsUnreadable image e
 
 abbrev pub GivesBack : Type 0
-GivesBack = (old image : Image) → IsWrittenBack old image → (g : GeometryValue) (given : Given) → Gives old g given → Gives image g given
+GivesBack = (old image : CrashState) → IsWrittenBack old image → (g : GeometryValue) (given : Given) → Gives old g given → Gives image g given
 
 -- what all of the requests leave is what the last border leaves
-survives_all : {M : Type 0} (past : Past M) (horizon : ℕ) (events : List Event) (replies : List (Reply M)) (image : Image) → length replies ≡ length events
+survives_all : {M : Type 0} (past : Past M) (horizon : ℕ) (events : List Event) (replies : List (Reply M)) (image : CrashState) → length replies ≡ length events
     → acknowledged_by (and_then past events replies) ≤ horizon
     → Survives (and_then past events replies) horizon image → SurvivesAt past events replies horizon (length events) image
 survives_all past horizon events replies image even safe it =
@@ -56,24 +56,24 @@ survives_all past horizon events replies image even safe it =
     (sym (take_all (j + 1) events (omega arith)))
     (subst (λ (floor : ℕ). Survives (and_then past events replies) floor image) same it)))
 
-module _ {D M : Type 0} (history : D → History) (g : GeometryValue) (began : Given) (days : List (Day M)) (answers : List (Answer M)) (before : D)
-    (keeps : KeepsDays history g began days answers before) where
+module _ {D M : Type 0} (past_of : D → DevicePast) (g : GeometryValue) (began : Given) (days : List (Day M)) (answers : List (Answer M)) (before : D)
+    (keeps : KeepsDays past_of g began days answers before) where
   -- what the device gives now
-  pub now_gives : GivesDays g began days answers (history before).disk.content
-  now_gives = keeps.each (history before).disk.content (content_is_image (history before).disk (history before).whole)
+  pub now_gives : GivesDays g began days answers (past_of before).disk.content
+  now_gives = keeps.each (past_of before).disk.content (content_is_image (past_of before).disk (past_of before).whole)
 
   -- ---- while it is opened
 
-  pub between : GivesBack → (after : D) → IsTurned history before after → LeavesOnly (history before) (history after) (GivesDays g began days answers)
-  between back after turned = weaker (history before) (history after) (ReopeningLeaves (history before).disk)
+  pub between : GivesBack → (after : D) → IsTurned past_of before after → LeavesOnly (past_of before) (past_of after) (GivesDays g began days answers)
+  between back after turned = weaker (past_of before) (past_of after) (ReopeningLeaves (past_of before).disk)
       (GivesDays g began days answers) each turned.images
     where
-      each : (image : Image) → ReopeningLeaves (history before).disk image → GivesDays g began days answers image
+      each : (image : CrashState) → ReopeningLeaves (past_of before).disk image → GivesDays g began days answers image
       each image = ⊎_elim
           (λ crash. keeps.each image crash)
           (λ written. record {
             given = now_gives.given;
-            gives = back (history before).disk.content image written g now_gives.given now_gives.gives;
+            gives = back (past_of before).disk.content image written g now_gives.given now_gives.gives;
             kept = now_gives.kept;
             days-are = now_gives.days-are;
             table = now_gives.table;
@@ -81,25 +81,25 @@ module _ {D M : Type 0} (history : D → History) (g : GeometryValue) (began : G
             opens = now_gives.opens;
           })
 
-  pub refused_so : Images → (failures : D → ℕ) (after : D) (e : Error) → IsNotOpened history failures before after e → (e ≡ NoMemory) ⊎ (e ≡ DeviceFailed)
+  pub refused_so : Images → (failures : D → ℕ) (after : D) (e : Error) → IsNotOpened past_of failures before after e → (e ≡ NoMemory) ⊎ (e ≡ DeviceFailed)
   refused_so images failures after e not = ⊎_elim
       (λ refuses. ⊎_elim (λ memory. inl memory) (λ failed. inr failed.0) refuses)
-      (λ unreadable. absurd (images.readable (history before).disk.content g now_gives.given e now_gives.gives unreadable))
+      (λ unreadable. absurd (images.readable (past_of before).disk.content g now_gives.given e now_gives.gives unreadable))
       not.why
 
-  module _ (images : Images) (engine : Parts D M) (is : IsOpened history before engine) where
+  module _ (images : Images) (engine : Parts D M) (is : IsOpened past_of before engine) where
     size : is.geometry ≡ g
-    size = images.geometry (history before).disk.content is.geometry g is.given now_gives.given is.gives now_gives.gives
+    size = images.geometry (past_of before).disk.content is.geometry g is.given now_gives.given is.gives now_gives.gives
 
     same : is.given ≡ now_gives.given
-    same = images.given (history before).disk.content is.geometry g is.given now_gives.given is.gives now_gives.gives
+    same = images.given (past_of before).disk.content is.geometry g is.given now_gives.given is.gives now_gives.gives
 
     pub can : CanOpen (over is.geometry is.given)
     can = subst (λ (x : GeometryValue). CanOpen (over x is.given)) (sym size) (subst (λ (x : Given). CanOpen (over g x)) (sym same) now_gives.opens)
 
-    pub begins : IsAt history (opening g now_gives.given) engine
-    begins = subst (λ (x : Given). IsAt history (opening g x) engine) same
-        (subst (λ (x : GeometryValue). IsAt history (opening x is.given) engine) size (is.begins can))
+    pub begins : IsAt past_of (opening g now_gives.given) engine
+    begins = subst (λ (x : Given). IsAt past_of (opening g x) engine) same
+        (subst (λ (x : GeometryValue). IsAt past_of (opening x is.given) engine) size (is.begins can))
 
     pub table_is : is.given.table ≡ table_after began.table now_gives.kept
     table_is = ap (λ (x : Given). x.table) same ∙ now_gives.table
@@ -110,11 +110,11 @@ module _ {D M : Type 0} (history : D → History) (g : GeometryValue) (began : G
   -- ---- a day more
 
   module _ (today : Day M) (answer : Answer M) where
-    abbrev Then : Image → Type 0
+    abbrev Then : CrashState → Type 0
     Then = GivesDays g began (days ++ today ∷ []) (answers ++ answer ∷ [])
 
     -- of which nothing was kept
-    quiet : IsDay today answer [] → (image : Image) → GivesDays g began days answers image → Then image
+    quiet : IsDay today answer [] → (image : CrashState) → GivesDays g began days answers image → Then image
     quiet is image gives = record {
       given = gives.given;
       gives = gives.gives;
@@ -127,38 +127,38 @@ module _ {D M : Type 0} (history : D → History) (g : GeometryValue) (began : G
     }
 
     -- the device stopped
-    stopped : (after found : D) → LeavesOnly (history before) (history after) Then → HasStopped (history after) (history found)
-        → KeepsDays history g began (days ++ today ∷ []) (answers ++ answer ∷ []) found
+    stopped : (after found : D) → LeavesOnly (past_of before) (past_of after) Then → HasStopped (past_of after) (past_of found)
+        → KeepsDays past_of g began (days ++ today ∷ []) (answers ++ answer ∷ []) found
     stopped after found leaves stop = record {
       anew = stop.found-as.anew;
       each = λ image crash. leaves.each stop.moment image (omega (arith, keeps.anew)) stop.until (stop.found-as.left image crash);
     }
 
   -- nothing was served
-  pub day_passed : (today : Day M) (e : Error) → IsAnswered {M = M} today.requests.items (Err e) → GivesBack → (after found : D) → IsTurned history before after
-      → HasStopped (history after) (history found) → KeepsDays history g began (days ++ today ∷ []) (answers ++ Err e ∷ []) found
+  pub day_passed : (today : Day M) (e : Error) → IsAnswered {M = M} today.requests.items (Err e) → GivesBack → (after found : D) → IsTurned past_of before after
+      → HasStopped (past_of after) (past_of found) → KeepsDays past_of g began (days ++ today ∷ []) (answers ++ Err e ∷ []) found
   day_passed today e is back after found turned stop =
       stopped today (Err e) after found
-      (weaker (history before) (history after) (GivesDays g began days answers) (GivesDays g began (days ++ today ∷ []) (answers ++ Err e ∷ []))
+      (weaker (past_of before) (past_of after) (GivesDays g began days answers) (GivesDays g began (days ++ today ∷ []) (answers ++ Err e ∷ []))
       (quiet today (Err e) (refused_day today e is)) (between back after turned)) stop
 
   -- ---- a day that is served
 
-  module _ (images : Images) (back : GivesBack) (rise : Rise) (today : Day M) (engine : Parts D M) (is : IsOpened history before engine) where
+  module _ (images : Images) (back : GivesBack) (rise : Rise) (today : Day M) (engine : Parts D M) (is : IsOpened past_of before engine) where
     module _ (replies : Vec (Reply M) M) (after : Parts D M)
-        (at : IsAt history (and_then (opening g now_gives.given) today.requests.items replies.items) after) where
-      survived : (horizon : ℕ) (image : Image) (j : ℕ) → (today.within ≡ false → j ≡ length today.requests.items)
+        (at : IsAt past_of (and_then (opening g now_gives.given) today.requests.items replies.items) after) where
+      survived : (horizon : ℕ) (image : CrashState) (j : ℕ) → (today.within ≡ false → j ≡ length today.requests.items)
           → SurvivesAt (opening g now_gives.given) today.requests.items replies.items horizon j image
           → GivesDays g began (days ++ today ∷ []) (answers ++ Ok replies ∷ []) image
       survived horizon image j all left =
-          let kept = kept_of history g now_gives.given today replies after rise at horizon j image left in
-          let told = kept_told history g now_gives.given today replies after rise at horizon j image left in
+          let kept = kept_of past_of g now_gives.given today replies after rise at horizon j image left in
+          let told = kept_told past_of g now_gives.given today replies after rise at horizon j image left in
           record {
             given = left.given;
             gives = left.gives;
             kept = now_gives.kept ++ kept;
             days-are = day_last days answers now_gives.kept today (Ok replies) kept now_gives.days-are
-                (served_day history g now_gives.given today replies after rise at horizon j image left all);
+                (served_day past_of g now_gives.given today replies after rise at horizon j image left all);
             table =
                 left.beginning.table ∙ sym (ap (table_after now_gives.given.table) told)
                 ∙ ap (λ (t : Table). table_after t kept) now_gives.table ∙ sym (table_after-append began.table now_gives.kept kept);
@@ -169,28 +169,28 @@ module _ {D M : Type 0} (history : D → History) (g : GeometryValue) (began : G
           }
 
       -- it stopped within the day
-      within : today.within ≡ true → SurvivesAnyCrash history today.requests.items replies.items engine after → (found : D)
-          → HasStopped (history (device_of after)) (history found)
-          → KeepsDays history g began (days ++ today ∷ []) (answers ++ Ok replies ∷ []) found
+      within : today.within ≡ true → SurvivesAnyCrash past_of today.requests.items replies.items engine after → (found : D)
+          → HasStopped (past_of (device_of after)) (past_of found)
+          → KeepsDays past_of g began (days ++ today ∷ []) (answers ++ Ok replies ∷ []) found
       within so run found stop =
-          let opened : LeavesOnly (history before) (history (device_of engine)) (GivesDays g began (days ++ today ∷ []) (answers ++ Ok replies ∷ [])) =
-          weaker (history before) (history (device_of engine)) (GivesDays g began days answers)
+          let opened : LeavesOnly (past_of before) (past_of (device_of engine)) (GivesDays g began (days ++ today ∷ []) (answers ++ Ok replies ∷ [])) =
+          weaker (past_of before) (past_of (device_of engine)) (GivesDays g began days answers)
           (GivesDays g began (days ++ today ∷ []) (answers ++ Ok replies ∷ [])) (quiet today (Ok replies) (quiet_day today (Ok replies) so at.answered))
           (between back (device_of engine) is.device) in
-          let served : LeavesOnly (history (device_of engine)) (history (device_of after))
+          let served : LeavesOnly (past_of (device_of engine)) (past_of (device_of after))
           (GivesDays g began (days ++ today ∷ []) (answers ++ Ok replies ∷ [])) =
-          weaker (history (device_of engine)) (history (device_of after)) (λ image. (j : ℕ) × (j ≤ length today.requests.items)
+          weaker (past_of (device_of engine)) (past_of (device_of after)) (λ image. (j : ℕ) × (j ≤ length today.requests.items)
           × SurvivesAt (opening g now_gives.given) today.requests.items replies.items (horizon_of engine) j image)
           (GivesDays g began (days ++ today ∷ []) (answers ++ Ok replies ∷ []))
           (λ image it. survived (horizon_of engine) image it.0 (λ behind. absurd (false≢true (sym behind ∙ so))) it.2)
           (run (opening g now_gives.given) (begins images engine is)) in
           stopped today (Ok replies) (device_of after) found
-          (joined (history before) (history (device_of engine)) (history (device_of after))
+          (joined (past_of before) (past_of (device_of engine)) (past_of (device_of after))
           (GivesDays g began (days ++ today ∷ []) (answers ++ Ok replies ∷ [])) opened served) stop
 
       -- it stopped behind the last reply
-      behind : KeepsWholeRun history today.requests.items replies.items engine after → (found : D) → IsFoundAs (history (device_of after)).disk (history found)
-          → KeepsDays history g began (days ++ today ∷ []) (answers ++ Ok replies ∷ []) found
+      behind : KeepsWholeRun past_of today.requests.items replies.items engine after → (found : D) → IsFoundAs (past_of (device_of after)).disk (past_of found)
+          → KeepsDays past_of g began (days ++ today ∷ []) (answers ++ Ok replies ∷ []) found
       behind whole found stop = record {
         anew = stop.anew;
         each = λ image crash.
@@ -199,35 +199,35 @@ module _ {D M : Type 0} (history : D → History) (g : GeometryValue) (began : G
             (whole (opening g now_gives.given) (begins images engine is) image (stop.left image crash)));
       }
 
-      ended : (b : Bool) → today.within ≡ b → SurvivesAnyCrash history today.requests.items replies.items engine after
-          → KeepsWholeRun history today.requests.items replies.items engine after → (found : D)
-          → HasStopped (history (device_of after)) (history found) → (b ≡ false → IsFoundAs (history (device_of after)).disk (history found))
-          → KeepsDays history g began (days ++ today ∷ []) (answers ++ Ok replies ∷ []) found
+      ended : (b : Bool) → today.within ≡ b → SurvivesAnyCrash past_of today.requests.items replies.items engine after
+          → KeepsWholeRun past_of today.requests.items replies.items engine after → (found : D)
+          → HasStopped (past_of (device_of after)) (past_of found) → (b ≡ false → IsFoundAs (past_of (device_of after)).disk (past_of found))
+          → KeepsDays past_of g began (days ++ today ∷ []) (answers ++ Ok replies ∷ []) found
       ended true so run whole found stop now = within so run found stop
       ended false so run whole found stop now = behind whole found (now refl)
 
     -- the answer of the run, and the engine behind it
     pub day_served : (answer : Answer M) (after : Parts D M) (device found : D)
-        → IfOk answer (λ replies. SurvivesAnyCrash history today.requests.items replies.items engine after)
-        → IfOk answer (λ replies. KeepsWholeRun history today.requests.items replies.items engine after)
-        → IfOk answer (λ replies. RunsOn history today.requests.items replies.items engine after)
-        → OnErr answer (after ≡ engine) → IfErr answer (λ e. e ≡ NoMemory) → device ≡ device_of after → HasStopped (history device) (history found)
-        → (today.within ≡ false → IsFoundAs (history device).disk (history found))
-        → KeepsDays history g began (days ++ today ∷ []) (answers ++ answer ∷ []) found
+        → IfOk answer (λ replies. SurvivesAnyCrash past_of today.requests.items replies.items engine after)
+        → IfOk answer (λ replies. KeepsWholeRun past_of today.requests.items replies.items engine after)
+        → IfOk answer (λ replies. RunsOn past_of today.requests.items replies.items engine after)
+        → OnErr answer (after ≡ engine) → IfErr answer (λ e. e ≡ NoMemory) → device ≡ device_of after → HasStopped (past_of device) (past_of found)
+        → (today.within ≡ false → IsFoundAs (past_of device).disk (past_of found))
+        → KeepsDays past_of g began (days ++ today ∷ []) (answers ++ answer ∷ []) found
     day_served (Ok replies) after device found crash whole ran unmoved memory out stop now =
         ended replies after (ran (opening g now_gives.given) (begins images engine is)).at today.within refl crash whole found
-        (subst (λ (d : D). HasStopped (history d) (history found)) out stop)
-        (λ so. subst (λ (d : D). IsFoundAs (history d).disk (history found)) out (now so))
+        (subst (λ (d : D). HasStopped (past_of d) (past_of found)) out stop)
+        (λ so. subst (λ (d : D). IsFoundAs (past_of d).disk (past_of found)) out (now so))
     day_served (Err e) after device found crash whole ran unmoved memory out stop now =
         day_passed today e (inl memory) back (device_of engine) found is.device
-        (subst (λ (d : D). HasStopped (history d) (history found)) (out ∙ ap device_of unmoved) stop)
+        (subst (λ (d : D). HasStopped (past_of d) (past_of found)) (out ∙ ap device_of unmoved) stop)
 
 -- ---- the days so far
 
-pub day_more : {D M : Type 0} (history : D → History) (g : GeometryValue) (began : Given) (days : List (Day M)) (i : ℕ) (day : Day M)
+pub day_more : {D M : Type 0} (past_of : D → DevicePast) (g : GeometryValue) (began : Given) (days : List (Day M)) (i : ℕ) (day : Day M)
     (answers new : List (Answer M)) (answer : Answer M) (found : D) → i < length days → day ≡ get_or days i day → new ≡ answers ++ answer ∷ []
-    → KeepsDays history g began (take i days ++ day ∷ []) (answers ++ answer ∷ []) found → KeepsDays history g began (take (i + 1) days) new found
-day_more history g began days i day answers new answer found below is made keeps =
-    subst (λ (ds : List (Day _)). KeepsDays history g began ds new found) (sym (take_more days i day below))
-    (subst (λ (d : Day _). KeepsDays history g began (take i days ++ d ∷ []) new found) is
-    (subst (λ (rs : List (Answer _)). KeepsDays history g began (take i days ++ day ∷ []) rs found) (sym made) keeps))
+    → KeepsDays past_of g began (take i days ++ day ∷ []) (answers ++ answer ∷ []) found → KeepsDays past_of g began (take (i + 1) days) new found
+day_more past_of g began days i day answers new answer found below is made keeps =
+    subst (λ (ds : List (Day _)). KeepsDays past_of g began ds new found) (sym (take_more days i day below))
+    (subst (λ (d : Day _). KeepsDays past_of g began (take i days ++ d ∷ []) new found) is
+    (subst (λ (rs : List (Answer _)). KeepsDays past_of g began (take i days ++ day ∷ []) rs found) (sym made) keeps))

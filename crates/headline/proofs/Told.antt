@@ -1,13 +1,13 @@
 -- What requests and their replies tell is the history that the core's calls tell.
 use Rattle.std.proofs.Common.{◌≡◌, ◌≢◌, ℕ, ◌≤◌, List, [], ◌∷◌, ◌++◌, None, Option, Some, max, refl, sym, ap, ◌∙◌, append_assoc, take, zero, suc, arith}
-use Rattle.records.specs.Values.{Place}
+use Rattle.record_values.specs.Values.{Place}
 use Rattle.model.specs.History.{Checkpointed, Completed, Deed, Item}
-use Rattle.core_contracts.specs.Events as core
-use Rattle.core_contracts.specs.Served as served
-use Rattle.core_contracts.specs.Served.{asked_after, asked_by, commit_of, items_at, items_of}
-use Rattle.nsf_core.specs.Replies.{ticket_by}
-use Rattle.nsf_core.specs.declared.reply.BuildReply.TheVariants as build
-use Rattle.nsf_core.specs.declared.reply.CleanReply.TheVariants as clean
+use Rattle.core_model.specs.Events as core
+use Rattle.core_model.specs.Served as served
+use Rattle.core_model.specs.Served.{asked_after, asked_by, commit_of, items_at, items_of}
+use Rattle.core_parts.specs.Replies.{ticket_by}
+use Rattle.core_parts.specs.declared.reply.BuildReply.TheVariants as build
+use Rattle.core_parts.specs.declared.reply.CleanReply.TheVariants as clean
 use Rattle.restart.specs.declared.event.Event.{Event}
 use Rattle.restart.specs.declared.event.Event.TheVariants as event
 use Rattle.restart.specs.declared.event.Reply.{Reply}

@@ -2,18 +2,18 @@
 use Rattle.std.specs.FinMap as map
 use Rattle.std.specs.Ordering.{is_lt}
 use Rattle.std.specs.Prelude.{◌≡◌, ◌≢◌, ◌⊎◌, ◌≤◌, Bool, false, if◌then◌else◌, List, None, Some}
-use Rattle.records.specs.Orders.{pair_cmp}
-use Rattle.records.specs.declared.error.Error.{Error}
-use Rattle.records.specs.declared.error.Error.TheVariants.{Exhausted, IndexFull, NoIndex, NoMemory}
-use Rattle.records.specs.declared.number.TheConstants.{LAST_NUMBER}
-use Rattle.records.specs.declared.pair.Mark.TheVariants.{Live}
-use Rattle.records.specs.declared.pair.Pair.{Pair}
+use Rattle.record_values.specs.Orders.{pair_cmp}
+use Rattle.record_values.specs.declared.error.Error.{Error}
+use Rattle.record_values.specs.declared.error.Error.TheVariants.{Exhausted, IndexFull, NoIndex, NoMemory}
+use Rattle.record_values.specs.declared.number.TheConstants.{LAST_NUMBER}
+use Rattle.record_values.specs.declared.pair.Mark.TheVariants.{Live}
+use Rattle.record_values.specs.declared.pair.Pair.{Pair}
 use Rattle.model.specs.Given.{Given}
 use Rattle.model.specs.History.{Item, life_after, table_after}
 use Rattle.model.specs.Table.{Index, IsPairOf, Table}
 use Rattle.model.specs.declared.life.Life.{Life}
 use Rattle.model.specs.declared.life.Life.TheVariants.{Absent, Building, Complete}
-use Rattle.nsf_core.specs.View.{CoreValue}
+use Rattle.core_parts.specs.View.{CoreValue}
 use Rattle.restart.specs.Building.{IsIndexFull}
 use Rattle.headline.specs.declared.day.Day.{Day}
 use Rattle.headline.specs.Days.{Answer, AreDays}

@@ -4,3 +4,4 @@ pub mod Held
 pub mod Stops
 pub mod Kept
 pub mod Moved
+pub mod Seats

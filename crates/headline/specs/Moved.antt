@@ -1,14 +1,14 @@
 -- What a store holds, behind the days since it was moved from an older device.
 use Rattle.std.specs.Prelude.{◌≡◌, ◌≢◌, ◌⊎◌, ◌<◌, Bool, true, ℕ, List, length, None, Option, IfSome}
-use Rattle.records.specs.GeometryValue.{GeometryValue, sectors_of}
-use Rattle.records.specs.declared.error.Error.{Error}
-use Rattle.records.specs.declared.error.Error.TheVariants.{DeviceFailed, DeviceTooSmall}
-use Rattle.records.specs.declared.error.Error.TheVariants as errors
-use Rattle.records.specs.declared.version.Version.TheVariants.{One}
+use Rattle.record_values.specs.GeometryValue.{GeometryValue, sectors_of}
+use Rattle.record_values.specs.declared.error.Error.{Error}
+use Rattle.record_values.specs.declared.error.Error.TheVariants.{DeviceFailed, DeviceTooSmall}
+use Rattle.record_values.specs.declared.error.Error.TheVariants as errors
+use Rattle.record_values.specs.declared.version.Version.TheVariants.{One}
 use Rattle.model.specs.Given.{Given}
 use Rattle.core_model.specs.Histories.{CanOpen}
-use Rattle.nsf_core.specs.View.{CoreValue}
-use Rattle.sector_device.specs.Disk.{Image}
+use Rattle.core_parts.specs.View.{CoreValue}
+use Rattle.sector_device.specs.Disk.{CrashState}
 use Rattle.store_reader.specs.Contents.{GivesIn}
 use Rattle.restart.specs.declared.migration.MigrateError.{MigrateError}
 use Rattle.restart.specs.declared.migration.MigrateError.TheVariants.{New, NoMemory, Old}
@@ -20,7 +20,7 @@ use Rattle.headline.specs.Held.{Holds, IsUnbuilt}
 
 -- The old device gives something by version 1. Where a core may begin with that, the store began with it, and holds
 -- what its days have made of it; or the build of its index, which was to be carried on, was refused.
-pub record HoldsMoved {M : Type 0} (old : Image) (days : List (Day M)) (answers : List (Answer M)) (built : Bool)
+pub record HoldsMoved {M : Type 0} (old : CrashState) (days : List (Day M)) (answers : List (Answer M)) (built : Bool)
     (unbuilt : Option Error) (core : CoreValue) : Type 0 where
   pub geometry : GeometryValue
   pub given : Given
@@ -31,7 +31,7 @@ pub record HoldsMoved {M : Type 0} (old : Image) (days : List (Day M)) (answers 
 
 -- The old device gives something by version 1. The new one has too few sectors for it; or, where a core may begin with
 -- that, it failed.
-pub record IsNewNotLived (old new : Image) (e : Error) : Type 0 where
+pub record IsNewNotLived (old new : CrashState) (e : Error) : Type 0 where
   pub geometry : GeometryValue
   pub given : Given
   pub gave : GivesIn One old geometry given
@@ -39,7 +39,7 @@ pub record IsNewNotLived (old new : Image) (e : Error) : Type 0 where
       ⊎ (CanOpen (over geometry given) → e ≡ DeviceFailed)
 
 -- why a store wasn't moved, or not opened behind its days
-abbrev pub IsNotLived : (old new : Image) → (old_before old_after : ℕ) → MigrateError → Type 0
+abbrev pub IsNotLived : (old new : CrashState) → (old_before old_after : ℕ) → MigrateError → Type 0
 IsNotLived old new old_before old_after (Old e) = IsOldRefused old old_before old_after e
 IsNotLived old new old_before old_after (New e) = IsNewNotLived old new e
 IsNotLived old new old_before old_after NoMemory = Unit {0}

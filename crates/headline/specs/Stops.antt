@@ -1,15 +1,15 @@
 -- What a device is found as that stopped.
 use Rattle.std.specs.Prelude.{◌≡◌, ◌≤◌, ℕ}
-use Rattle.sector_device.specs.Disk.{Disk, Image, IsCrashImage}
-use Rattle.sector_device.specs.History.{History}
+use Rattle.sector_device.specs.Disk.{Disk, CrashState, IsCrashState}
+use Rattle.sector_device.specs.DevicePast.{DevicePast}
 
 -- Its moments count from now on; and a crash of it leaves nothing that one of this disk couldn't.
-pub record IsFoundAs (disk : Disk) (found : History) : Type 0 where
+pub record IsFoundAs (disk : Disk) (found : DevicePast) : Type 0 where
   pub anew : found.moment ≡ 0
-  pub left : (image : Image) → IsCrashImage found.disk image → IsCrashImage disk image
+  pub left : (image : CrashState) → IsCrashState found.disk image → IsCrashState disk image
 
 -- it stopped at one of its moments, and is found as it was then, or as a crash left it
-pub record HasStopped (old found : History) : Type 0 where
+pub record HasStopped (old found : DevicePast) : Type 0 where
   pub moment : ℕ
   pub until : moment ≤ old.moment
   pub found-as : IsFoundAs (old.disk_at moment) found

@@ -1,12 +1,12 @@
 -- What requests and their replies tell: the commits, what became of the index, and what is safe.
 use Rattle.std.specs.Ordering.{nat_cmp}
 use Rattle.std.specs.Prelude.{List, None, Option, Some, [], map, max, ℕ, ◌++◌, ◌∷◌}
-use Rattle.records.specs.Values.{Place}
-use Rattle.records.specs.declared.row.Row.{Row}
+use Rattle.record_values.specs.Values.{Place}
+use Rattle.record_values.specs.declared.row.Row.{Row}
 use Rattle.model.specs.History.{Checkpointed, Committed, Completed, Created, Deed, Dropped, Item}
 use Rattle.model.specs.declared.write.Write.{Write}
 use Rattle.core_model.specs.Steps.{update}
-use Rattle.nsf_core.specs.declared.reply.BuildReply.TheVariants as build
+use Rattle.core_parts.specs.declared.reply.BuildReply.TheVariants as build
 use Rattle.restart.specs.declared.event.Event.{Event}
 use Rattle.restart.specs.declared.event.Event.TheVariants as event
 use Rattle.restart.specs.declared.event.Reply.{Reply}

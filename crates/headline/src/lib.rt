@@ -4,15 +4,24 @@
 //! Proved: `live_through` (`holds`, `unbuilt`, `refused`, `too_small`), and of a store that is moved from version 1
 //! `live_on` (`holds`, `kept`, `refused`, `room`, `too_small`, `told`, `quiet`). They are composed of public contracts
 //! alone. A day ends within, at any moment, or behind its last reply; of the second kind each acknowledged record is
-//! kept. Only tested (`headline_tests`): days over a disk in memory. Neither: that a request is accepted, or anything
+//! kept. Only tested (`test_headline`): days over a disk in memory. Neither: that a request is accepted, or anything
 //! acknowledged.
+//!
+//! What many threads leave, as the contract of one call: every seat is taken back, the power fails behind that, and the
+//! store is opened again.
+//!
+//! Proved: `finish_and_open` (`holds`). The store has the rows that the threads began with and the first commits of all
+//! seats by number, each among them whose acknowledgement is handed in. It says nothing of the index. Neither: that it
+//! is ever called.
 #![tactic(auto)]
 
+mod closed;
 mod day;
 mod lives;
 mod mortal;
 mod moved;
 
+pub use closed::finish_and_open;
 pub use day::Day;
 pub use lives::{Answer, Lived, live_through};
 pub use mortal::Mortal;

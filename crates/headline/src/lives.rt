@@ -1,7 +1,7 @@
 //! A store is formatted, and lives through days of requests.
 ghost use Rattle.std.specs.Prelude.{◌≡◌, ◌⊎◌, ◌<◌, ◌↔◌, ◌++◌, [], ◌∷◌, List, length, true, false, Err, None, IfErr};
 ghost use Rattle.std.specs.Prelude.{IfOk, IfSome};
-ghost use Rattle.records.specs.GeometryValue.{GeometryValue, sectors_of};
+ghost use Rattle.record_values.specs.GeometryValue.{GeometryValue, sectors_of};
 ghost use Rattle.model.specs.Given.{Given, nothing};
 ghost use Rattle.restart.specs.Building.{BuildsWhole, HasCome};
 ghost use Rattle.restart.specs.Parts.{core_of};
@@ -12,7 +12,7 @@ ghost use Rattle.headline.specs.Kept.{KeepsDays};
 ghost use Rattle.headline.specs.Stops.{HasStopped, IsFoundAs};
 
 use crate::{Day, Mortal};
-use core_contracts::all_replies;
+use core_model::service::all_replies;
 use flip_image::Halves;
 use records::{Error, Geometry};
 use restart::{Engine, Reply, nothing_opens, restart};
@@ -34,8 +34,8 @@ pub struct Lived<D: Mortal, A: Allocator> {
 
 // The device stops: at one of its moments, or where it is now.
 fn end_day<D: Mortal>(device: &mut D, within: bool)
-    ensures stopped { HasStopped (D.history device.old) (D.history device.new) }
-    ensures now { within ≡ false → IsFoundAs (D.history device.old).disk (D.history device.new) }
+    ensures stopped { HasStopped (D.past_of device.old) (D.past_of device.new) }
+    ensures now { within ≡ false → IsFoundAs (D.past_of device.old).disk (D.past_of device.new) }
 {
     if within {
         device.stop();
@@ -48,8 +48,8 @@ fn end_day<D: Mortal>(device: &mut D, within: bool)
 // the last reply. Where the store can't be opened it stops at any moment of that.
 fn live_one_day<D: Mortal, A: Allocator + Copy>(alloc: A, device: D, day: &Day<A>) -> (Answer<A>, D)
     ensures { (g : GeometryValue) (began : Given) (days : List (DayValue A)) (answers : List (AnswerValue A))
-        → KeepsDays D.history g began days answers device
-        → KeepsDays D.history g began (days ++ day.now ∷ []) (answers ++ result.0 ∷ []) result.1 }
+        → KeepsDays D.past_of g began days answers device
+        → KeepsDays D.past_of g began (days ++ day.now ∷ []) (answers ++ result.0 ∷ []) result.1 }
 {
     one_answer();
     written_back();
@@ -74,7 +74,7 @@ fn live_each_day<D: Mortal, A: Allocator + Copy>(
     days: &[Day<A>],
 ) -> Result<(Vec<Answer<A>, A>, D), Error>
     ensures days { IfOk result (λ r. (g : GeometryValue) (began : Given)
-        → KeepsDays {M = A} D.history g began [] [] device → KeepsDays D.history g began days.now r.0.items r.1) }
+        → KeepsDays {M = A} D.past_of g began [] [] device → KeepsDays D.past_of g began days.now r.0.items r.1) }
     ensures no_memory { IfErr result (λ e. e ≡ Error.NoMemory) }
 {
     let mut answers = Vec::with_capacity(alloc, days.len())?;
@@ -116,14 +116,14 @@ pub(crate) fn live_behind<D: Mortal, A: Allocator + Copy>(
     build: bool,
 ) -> Result<Lived<D, A>, Error>
     ensures holds { IfOk result (λ lived. (g : GeometryValue) (began : Given)
-        → KeepsDays {M = A} D.history g began [] [] device
+        → KeepsDays {M = A} D.past_of g began [] [] device
         → lived.unbuilt ≡ None → Holds began days.now lived.answers.items build (core_of lived.engine)) }
     ensures unbuilt { IfOk result (λ lived. (g : GeometryValue) (began : Given)
-        → KeepsDays {M = A} D.history g began [] [] device
+        → KeepsDays {M = A} D.past_of g began [] [] device
         → IfSome lived.unbuilt (λ e. (build ≡ true)
         × IsUnbuilt began days.now lived.answers.items e (core_of lived.engine))) }
     ensures refused { IfErr result (λ e. (g : GeometryValue) (began : Given)
-        → KeepsDays {M = A} D.history g began [] [] device
+        → KeepsDays {M = A} D.past_of g began [] [] device
         → (e ≡ Error.NoMemory) ⊎ (e ≡ Error.DeviceFailed)) }
 {
     one_answer();
@@ -174,7 +174,7 @@ pub fn live_through<D: Mortal, A: Allocator + Copy>(
         × IsUnbuilt nothing days.now lived.answers.items e (core_of lived.engine))) }
     ensures refused { IfErr result (λ e. (e ≡ Error.DeviceTooSmall) ⊎ (e ≡ Error.DeviceFailed) ⊎ (e ≡ Error.NoMemory)) }
     ensures too_small { (result ≡ Err Error.DeviceTooSmall)
-        ↔ (length (D.history device).disk.content < sectors_of geometry) }
+        ↔ (length (D.past_of device).disk.content < sectors_of geometry) }
 {
     format_gives_nothing();
     nothing_opens();

@@ -1,6 +1,6 @@
 //! A store of version 1 is moved to a device, and lives through days of requests.
 ghost use Rattle.std.specs.Prelude.{◌≡◌, ◌≢◌, IfErr, IfOk, OnOk};
-ghost use Rattle.sector_device.specs.History.{OnlyReads};
+ghost use Rattle.sector_device.specs.DevicePast.{OnlyReads};
 ghost use Rattle.restart.specs.Migrating.{IsSmallAnswer, IsTooSmall};
 ghost use Rattle.restart.specs.Parts.{core_of};
 ghost use Rattle.headline.specs.Moved.{HoldsMoved, IsToldLater, IsNotLived};
@@ -41,13 +41,13 @@ pub fn live_on<O: Device, D: Mortal, A: Allocator + Copy>(
     build: bool,
 ) -> Result<Lived<D, A>, MigrateError>
     ensures holds { IfOk result (λ lived.
-        HoldsMoved (O.history old.old).disk.content days.now lived.answers.items build lived.unbuilt
+        HoldsMoved (O.past_of old.old).disk.content days.now lived.answers.items build lived.unbuilt
         (core_of lived.engine)) }
-    ensures kept { OnlyReads (O.history old.old) (O.history old.new) }
-    ensures refused { IfErr result (IsNotLived (O.history old.old).disk.content (D.history device).disk.content
+    ensures kept { OnlyReads (O.past_of old.old) (O.past_of old.new) }
+    ensures refused { IfErr result (IsNotLived (O.past_of old.old).disk.content (D.past_of device).disk.content
         (O.failures old.old) (O.failures old.new)) }
-    ensures room { OnOk result (IsTooSmall (O.history old.old).disk.content (D.history device).disk.content → ⊥) }
-    ensures too_small { IsTooSmall (O.history old.old).disk.content (D.history device).disk.content
+    ensures room { OnOk result (IsTooSmall (O.past_of old.old).disk.content (D.past_of device).disk.content → ⊥) }
+    ensures too_small { IsTooSmall (O.past_of old.old).disk.content (D.past_of device).disk.content
         → IfErr result IsSmallAnswer }
     ensures quiet { OnOk result (O.failures old.new ≡ O.failures old.old) }
     ensures told { IfErr result (λ e. e ≢ MigrateError.Old Error.DeviceFailed

@@ -6,9 +6,9 @@ use Rattle.std.specs.Ordering.{is_lt}
 use Rattle.std.specs.FinMap as map
 use Rattle.std.specs.FinMap.{find, is_sorted}
 use Rattle.std.specs.FinMap.Entries.{below_all}
-use Rattle.records.specs.Values.{Place}
-use Rattle.records.specs.declared.row.Row.{Row}
-use Rattle.records.specs.Orders.{rid_cmp}
+use Rattle.record_values.specs.Values.{Place}
+use Rattle.record_values.specs.declared.row.Row.{Row}
+use Rattle.record_values.specs.Orders.{rid_cmp}
 use Rattle.heap_pages.specs.Pages.{page_entries, heap_entries, rows_of}
 use Rattle.heap_pages.proofs.SlotLists.{cell}
 use Rattle.heap_pages.proofs.RidOrder.{less_page, less_slot, tied, untied}

@@ -2,9 +2,9 @@
 use Rattle.std.proofs.Common.{◌≡◌, ℕ, zero, suc, ◌+◌, List, [], ◌∷◌, ◌++◌, map, length, None, replicate, refl, sym, ap, ◌∙◌}
 use Rattle.std.specs.FinMap as map_of
 use Rattle.std.specs.FinMap.{empty}
-use Rattle.records.specs.Orders.{rid_cmp}
-use Rattle.records.specs.Maps.{rid_exact, alike}
-use Rattle.records.specs.declared.rid.TheConstants.{SLOTS_PER_PAGE}
+use Rattle.record_values.specs.Orders.{rid_cmp}
+use Rattle.record_values.specs.Maps.{rid_exact, alike}
+use Rattle.record_values.specs.declared.rid.TheConstants.{SLOTS_PER_PAGE}
 use Rattle.heap_pages.specs.Slots.{Slots, slots_of}
 use Rattle.heap_pages.specs.Pages.{HeapValue, page_entries, heap_entries, rows_of}
 use Rattle.heap_pages.proofs.SlotLists.{slots_of-empty}

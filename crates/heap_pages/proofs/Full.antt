@@ -5,8 +5,8 @@ use Rattle.std.proofs.lemmas.Bool.Decides.{eqb_tells}
 use Rattle.std.proofs.lemmas.Option.{slice_get_within}
 use Rattle.std.specs.Ordering.{nat_cmp, eq_by_cmp}
 use Rattle.std.specs.FinMap.{get}
-use Rattle.records.specs.Maps.{nat_exact, set_at, get-set_at}
-use Rattle.records.specs.declared.row.Row.{Row}
+use Rattle.record_values.specs.Maps.{nat_exact, set_at, get-set_at}
+use Rattle.record_values.specs.declared.row.Row.{Row}
 use Rattle.heap_pages.specs.Slots.{Slots}
 use Rattle.heap_pages.specs.Pages.{AreFull}
 use Rattle.heap_pages.proofs.Writes.{get-set, get-set_other}

@@ -5,9 +5,9 @@ use Rattle.std.specs.List.{All}
 use Rattle.std.specs.List.Sorted.{IsStrictlyIncreasing}
 use Rattle.std.proofs.lemmas.List.Elements.{All-nil, All-cons}
 use Rattle.std.specs.FinMap as map_of
-use Rattle.records.specs.Values.{Place}
-use Rattle.records.specs.declared.row.Row.{Row}
-use Rattle.records.specs.declared.pair.Pair.{Pair}
+use Rattle.record_values.specs.Values.{Place}
+use Rattle.record_values.specs.declared.row.Row.{Row}
+use Rattle.record_values.specs.declared.pair.Pair.{Pair}
 use Rattle.heap_pages.specs.Pages.{HeapValue, page_entries, row_pair, IsPairOnPage}
 use Rattle.heap_pages.proofs.SlotLists.{cell}
 use Rattle.heap_pages.proofs.Cells.{at, row_at, get-rows_of}

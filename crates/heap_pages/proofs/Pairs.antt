@@ -7,10 +7,10 @@ use Rattle.std.proofs.lemmas.Option.{slice_get_within, get_or_from_slice_get}
 use Rattle.std.proofs.lemmas.List.{take_more, map-append, length-take}
 use Rattle.std.specs.FinMap as map_of
 use Rattle.std.specs.FinMap.{find, is_sorted}
-use Rattle.records.specs.Values.{Place}
-use Rattle.records.specs.declared.row.Row.{Row}
-use Rattle.records.specs.declared.pair.Pair.{Pair}
-use Rattle.records.specs.Orders.{rid_cmp, rid_cmp_total, rid_cmp-IsAntisymmetric}
+use Rattle.record_values.specs.Values.{Place}
+use Rattle.record_values.specs.declared.row.Row.{Row}
+use Rattle.record_values.specs.declared.pair.Pair.{Pair}
+use Rattle.record_values.specs.Orders.{rid_cmp, rid_cmp_total, rid_cmp-IsAntisymmetric}
 use Rattle.heap_pages.specs.Pages.{HeapValue, page_rows, page_entries, rows_of, row_pair, pairs_of}
 use Rattle.heap_pages.proofs.SlotLists.{cell}
 use Rattle.heap_pages.proofs.Cells.{at, get-rows_of, sorted-page, find_page, find_other}

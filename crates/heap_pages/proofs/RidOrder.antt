@@ -5,9 +5,9 @@ use Rattle.std.proofs.lemmas.Bool.Decides.{eqb_tells}
 use Rattle.std.specs.declared.cmp.Ordering.TheVariants.{Less, Equal, Greater}
 use Rattle.std.specs.Ordering.{nat_cmp, ordering_then, eq_by_cmp}
 use Rattle.std.specs.Cmp.{nat_cmp_is}
-use Rattle.records.specs.Values.{Place}
-use Rattle.records.specs.Orders.{rid_cmp}
-use Rattle.records.specs.Maps.{rid_exact, same_key, other_key}
+use Rattle.record_values.specs.Values.{Place}
+use Rattle.record_values.specs.Orders.{rid_cmp}
+use Rattle.record_values.specs.Maps.{rid_exact, same_key, other_key}
 
 pub less_page : (q r : Place) → q.page < r.page → rid_cmp q r ≡ Less
 less_page q r h = ap (λ o. ordering_then o (nat_cmp q.slot r.slot)) (sym (nat_cmp_is q.page r.page Less h))

@@ -11,9 +11,9 @@ use Rattle.std.specs.Cmp.{nat_cmp_is}
 use Rattle.std.specs.FinMap as map_of
 use Rattle.std.specs.FinMap.{find, is_sorted, empty}
 use Rattle.std.specs.FinMap.Entries.{below_all}
-use Rattle.records.specs.Maps.{nat_exact, set_at, get-set_at, get-set_at_same, get-set_at_other, alike, same_key, other_key}
-use Rattle.records.specs.declared.rid.TheConstants.{SLOTS_PER_PAGE}
-use Rattle.records.specs.declared.row.Row.{Row}
+use Rattle.record_values.specs.Maps.{nat_exact, set_at, get-set_at, get-set_at_same, get-set_at_other, alike, same_key, other_key}
+use Rattle.record_values.specs.declared.rid.TheConstants.{SLOTS_PER_PAGE}
+use Rattle.record_values.specs.declared.row.Row.{Row}
 use Rattle.heap_pages.specs.Slots.{Slots, slot_entries, page_of, slots_from, slots_of}
 
 -- the row in slot s of these slots

@@ -3,12 +3,12 @@ use Rattle.std.specs.Prelude.{◌≡◌, ℕ, ◌+◌, ◌<◌, List, [], ◌∷
 use Rattle.std.specs.Prelude.{slice_get, ◌==◌, refl}
 use Rattle.std.specs.FinMap.{FinMap, code, entries, get, retain_keys, from_sorted}
 use Rattle.std.specs.Coded.{Coded, code_by, coded×, coded_ℕ}
-use Rattle.records.specs.Values.{Place}
-use Rattle.records.specs.Orders.{rid_cmp}
+use Rattle.record_values.specs.Values.{Place}
+use Rattle.record_values.specs.Orders.{rid_cmp}
 use Rattle.records.specs.Codes.{coded_rid, coded_row}
-use Rattle.records.specs.declared.rid.TheConstants.{SLOTS_PER_PAGE}
-use Rattle.records.specs.declared.row.Row.{Row}
-use Rattle.records.specs.declared.pair.Pair.{Pair}
+use Rattle.record_values.specs.declared.rid.TheConstants.{SLOTS_PER_PAGE}
+use Rattle.record_values.specs.declared.row.Row.{Row}
+use Rattle.record_values.specs.declared.pair.Pair.{Pair}
 use Rattle.heap_pages.specs.Slots.{Slots}
 
 -- the rows of a table, each at its place

@@ -4,11 +4,11 @@ ghost use Rattle.std.specs.Prelude.{IfSome, IfOk, IfErr, IsErr, IsSome};
 ghost use Rattle.std.specs.List.Sorted.{IsStrictlyIncreasing};
 ghost use Rattle.std.specs.declared.cmp.Ordering.{Ordering};
 ghost use Rattle.std.specs.FinMap.{get, empty};
-ghost use Rattle.records.specs.Values.{Place};
-ghost use Rattle.records.specs.Orders.{rid_cmp};
-ghost use Rattle.records.specs.Maps.{set_at};
-ghost use Rattle.records.specs.declared.pair.Pair.{Pair};
-ghost use Rattle.records.specs.declared.rid.TheConstants.{SLOTS_PER_PAGE};
+ghost use Rattle.record_values.specs.Values.{Place};
+ghost use Rattle.record_values.specs.Orders.{rid_cmp};
+ghost use Rattle.record_values.specs.Maps.{set_at};
+ghost use Rattle.record_values.specs.declared.pair.Pair.{Pair};
+ghost use Rattle.record_values.specs.declared.rid.TheConstants.{SLOTS_PER_PAGE};
 ghost use Rattle.heap_pages.specs.Pages.{AreFull, IsPlaceInside, IsEmptyAndUnheld, IsPairOnPage, page_rows, pairs_of};
 
 use crate::page::{HeapPage, SLOTS, held_slots};

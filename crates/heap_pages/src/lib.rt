@@ -3,7 +3,7 @@
 //! Proved: a heap is a map from place to row. `get` and `set` are exact, and take no memory. `least_free` answers the
 //! least place that is empty and not held (`free`, `least`), and `HeapFull` just where there is none (`full`).
 //! `page_pairs` answers the pair of each row of a page once, in slot order (`pairs`, `each`, `in_slot_order`).
-//! `page_slots` answers a page's rows by slot. Only tested (`table_tests`): that calls succeed where there is memory.
+//! `page_slots` answers a page's rows by slot. Only tested (`test_tables`): that calls succeed where there is memory.
 #![tactic(auto)]
 
 mod heap;

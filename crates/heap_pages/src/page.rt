@@ -2,7 +2,7 @@
 ghost use Rattle.std.specs.Prelude.{◌≡◌, ◌<◌, ◌↔◌, ℕ, Some, None, IsTrue, IsSome, IfSome, MatchOption, slice_get, ◌+◌};
 ghost use Rattle.std.specs.Prelude.{if◌then◌else◌};
 ghost use Rattle.std.specs.FinMap.{get, empty};
-ghost use Rattle.records.specs.Maps.{set_at};
+ghost use Rattle.record_values.specs.Maps.{set_at};
 ghost use Rattle.heap_pages.specs.Slots.{is_among, IsFirstFree, NoneFree};
 
 use records::{Rid, Row, SLOTS_PER_PAGE};
@@ -21,7 +21,7 @@ pub struct HeapPage {
 
 impl Model for HeapPage {
     ghost use Rattle.std.specs.Prelude.{◌≡◌, length, count_by, is_some};
-    ghost use Rattle.records.specs.declared.rid.TheConstants.{SLOTS_PER_PAGE};
+    ghost use Rattle.record_values.specs.declared.rid.TheConstants.{SLOTS_PER_PAGE};
     ghost use Rattle.heap_pages.specs.Slots.{Slots, coded_slots, page_of};
 
     ghost Value = { Slots };

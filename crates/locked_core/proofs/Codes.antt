@@ -4,7 +4,7 @@ use Rattle.std.specs.Coded.{Coded, code_by, coded_bool, coded_option, coded_ℕ,
 use Rattle.records.specs.ChangeValue.{ChangeValue}
 use Rattle.records.specs.Codes.{coded_change, coded_pair}
 use Rattle.records.specs.RecordValue.{RecordValue}
-use Rattle.records.specs.declared.pair.Pair.{Pair}
+use Rattle.record_values.specs.declared.pair.Pair.{Pair}
 use Rattle.records.specs.declared.record.Action.{Action}
 use Rattle.records.specs.declared.record.Action.TheVariants.{OfIndex, OfTxn}
 use Rattle.records.specs.declared.record.IndexAction.{IndexAction}

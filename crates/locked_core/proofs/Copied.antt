@@ -8,10 +8,10 @@ use Rattle.std.specs.Ordering.{nat_cmp}
 use Rattle.std.specs.Prelude.{Err, IfOk, Ok, Result, unwrap_or}
 use Rattle.records.specs.ChangeValue.{ChangeValue}
 use Rattle.records.specs.Codes.{coded_change, coded_mark, coded_pair, coded_rid, coded_row}
-use Rattle.records.specs.GeometryValue.{GeometryValue}
+use Rattle.record_values.specs.GeometryValue.{GeometryValue}
 use Rattle.records.specs.RecordValue.{RecordValue}
-use Rattle.records.specs.declared.error.Error.{Error}
-use Rattle.records.specs.declared.pair.Pair.{Pair}
+use Rattle.record_values.specs.declared.error.Error.{Error}
+use Rattle.record_values.specs.declared.pair.Pair.{Pair}
 use Rattle.model.specs.Cells.{Cells, cells_after}
 use Rattle.model.specs.Following.{AreFollowing, ArePlaced}
 use Rattle.model.specs.Given.{opening_cells}
@@ -20,21 +20,21 @@ use Rattle.model.specs.declared.life.Life.{Life}
 use Rattle.model.specs.declared.life.Life.TheVariants.{Absent, Building, Complete}
 use Rattle.txn_table.specs.Sound.{IsSound}
 use Rattle.core_model.specs.Histories.{Opened, no_writes}
-use Rattle.core_contracts.specs.Events.{Event, Reply}
-use Rattle.core_contracts.specs.Served.{items_of}
-use Rattle.image_model.specs.Run.{IsRun, Run, cells_at, end_of}
-use Rattle.image_model.specs.declared.chunk.Chunk.{Chunk}
-use Rattle.image_model.specs.declared.chunk.CopyPlace.{CopyPlace}
-use Rattle.image_model.specs.declared.chunk.Piece.{Piece}
-use Rattle.image_model.specs.declared.chunk.Piece.TheVariants.{Entries, Page, Start, Whole}
-use Rattle.nsf_core.specs.View.{CoreValue}
+use Rattle.core_model.specs.Events.{Event, Reply}
+use Rattle.core_model.specs.Served.{items_of}
+use Rattle.store_image_model.specs.Run.{IsRun, Run, cells_at, end_of}
+use Rattle.store_image_model.specs.declared.chunk.Chunk.{Chunk}
+use Rattle.store_image_model.specs.declared.chunk.CopyPlace.{CopyPlace}
+use Rattle.store_image_model.specs.declared.chunk.Piece.{Piece}
+use Rattle.store_image_model.specs.declared.chunk.Piece.TheVariants.{Entries, Page, Start, Whole}
+use Rattle.core_parts.specs.View.{CoreValue}
 use Rattle.core_copies.proofs.Cited.{made_shown, one_cells, store_kept}
 use Rattle.core_copies.specs.Pieces.{IsPieceOf, IsWholeOf}
 use Rattle.core_copies.specs.Shown.{FitsStoreOf, IsCellsOf, IsOfGeometry}
 use Rattle.core_laws.proofs.Laws.{holds, numbered}
 use Rattle.core_laws.specs.Calls.{HasReplied}
 use Rattle.core_laws.specs.Holds.{HoldsHistory}
-use Rattle.sessions.specs.Values.{SessionValue}
+use Rattle.threads_sessions.specs.Values.{SessionValue}
 use Rattle.locked_core.specs.Locked.{LockedValue}
 use Rattle.locked_core.specs.Made.{IsAllOf, run_of}
 use Rattle.locked_core.specs.Names.{IsShared}

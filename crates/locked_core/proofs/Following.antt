@@ -10,7 +10,7 @@ use mathlib.Core.HLevel.{⊥_prop}
 use Rattle.records.specs.ChangeValue.{ChangeValue}
 use Rattle.records.specs.RecordValue.{RecordValue}
 use Rattle.records.specs.Codes.{coded_change}
-use Rattle.records.specs.declared.txn.TheConstants.{TXNS_MAX}
+use Rattle.record_values.specs.declared.txn.TheConstants.{TXNS_MAX}
 use Rattle.records.specs.declared.record.Part.{Part}
 use Rattle.records.specs.declared.record.Part.TheVariants.{Slot, OldEntry, NewEntry}
 use Rattle.records.specs.declared.record.TxnAction.{TxnAction}

@@ -1,39 +1,46 @@
 -- What is shared, after a step of a seat.
 use Rattle.std.proofs.Common.{◌≡◌, ◌⊎◌, ◌+◌, ℕ, zero, suc, Bool, true, false, List, [], ◌∷◌, map, Option, None, Some, Result, Ok, Err, IfOk, OnOk, OnErr, inl}
 use Rattle.std.proofs.Common.{inr, refl, sym, ap, ◌∙◌, subst, arith}
-use Rattle.std.proofs.Math.Logic.{∥∥₁_elim}
+use Rattle.std.proofs.Math.Logic.{∥∥₁_elim, ∥∥₁_map}
 use mathlib.Core.HLevel.{⊥_prop}
 use Rattle.std.specs.Prelude.{slice_get, slice_set}
 use Rattle.records.specs.RecordValue.{RecordValue}
-use Rattle.records.specs.Values.{Place}
-use Rattle.records.specs.declared.error.Error.{Error}
-use Rattle.records.specs.declared.error.Error.TheVariants.{NoSuchTxn}
-use Rattle.records.specs.declared.row.Row.{Row}
+use Rattle.record_values.specs.Values.{Place}
+use Rattle.record_values.specs.declared.error.Error.{Error}
+use Rattle.record_values.specs.declared.error.Error.TheVariants.{NoSuchTxn}
+use Rattle.record_values.specs.declared.row.Row.{Row}
 use Rattle.atomic_table.specs.Seated.{TableId}
 use Rattle.core_laws.specs.Calls.{BeginsWith}
 use Rattle.core_model.specs.Histories.{CanOpen, Opened}
-use Rattle.core_contracts.specs.Events.{Event, Refused, Reply}
+use Rattle.core_model.specs.Events.{Event, Refused, Reply}
 use Rattle.txn_table.specs.Table.{TxnState}
 use Rattle.txn_table.specs.declared.progress.Progress.{Progress}
 use Rattle.txn_table.specs.declared.progress.Progress.TheVariants.{OwesEntry, OwesRow, Ready, Rolling, UndoesEntry, UndoesRow}
 use Rattle.nsf_core.specs.Outbox.{HandsOn}
-use Rattle.nsf_core.specs.Replies.{reply_by, reply_of_detached, reply_of_ticket}
-use Rattle.nsf_core.specs.View.{CoreValue, Serves}
-use Rattle.nsf_core.specs.Moves.{IsReadyOrNone, txn_shown}
-use Rattle.nsf_core.specs.Undoing.{undone_reply}
-use Rattle.nsf_core.specs.declared.parts.Detached.{Detached}
-use Rattle.nsf_core.specs.declared.parts.Ticket.{Ticket}
-use Rattle.nsf_core.specs.declared.reply.Undone.{Undone}
-use Rattle.session_halves.specs.Halves.{HalfValue, IsBook, IsNew, shown}
-use Rattle.sessions.specs.declared.turn.Turn.{Turn}
-use Rattle.sessions.specs.Steps.{begun, changed, committed, ended, rolling_back, with_turn}
-use Rattle.sessions.specs.Values.{empty_session, is_active, is_ready, SessionValue}
-use Rattle.register.proofs.Laws.{begin_agreed, commit_agreed, create_agreed, delete_agreed, drop_agreed, end_agreed, insert_agreed, opened_agreed}
-use Rattle.register.proofs.Laws.{others_agreed, pushed_agreed, ready_seen, refused_agreed, tables_shown, undo_agreed, update_agreed}
-use Rattle.register.specs.Agreement.{IsOfNoSeat, IsRegister}
-use Rattle.register.specs.Register.{AreEmpty}
-use Rattle.locked_core.proofs.Book.{set_itself, some_is}
+use Rattle.core_parts.specs.Replies.{reply_by, reply_of_detached, reply_of_ticket}
+use Rattle.core_parts.specs.View.{CoreValue, Serves}
+use Rattle.core_parts.specs.Moves.{IsReadyOrNone, txn_shown}
+use Rattle.core_parts.specs.Undoing.{undone_reply}
+use Rattle.core_parts.specs.declared.parts.Detached.{Detached}
+use Rattle.core_parts.specs.declared.parts.Ticket.{Ticket}
+use Rattle.core_parts.specs.declared.reply.Undone.{Undone}
+use Rattle.threads_sessions.specs.Halves.{HalfValue, IsBook, IsNew, shown}
+use Rattle.threads_sessions.specs.declared.turn.Turn.{Turn}
+use Rattle.threads_sessions.specs.Steps.{begun, changed, committed, ended, rolling_back, with_turn}
+use Rattle.threads_sessions.specs.Values.{empty_session, is_active, is_ready, SessionValue}
+use Rattle.threads_register.proofs.Laws.{begin_agreed, commit_agreed, create_agreed, delete_agreed, drop_agreed, end_agreed, insert_agreed, opened_agreed}
+use Rattle.threads_register.proofs.Laws.{others_agreed, pushed_agreed, ready_seen, refused_agreed, tables_shown, undo_agreed, update_agreed}
+use Rattle.threads_register.specs.Agreement.{IsOfNoSeat, IsRegister}
+use Rattle.threads_register.specs.Register.{AreEmpty}
+use Rattle.threads_register.proofs.Laws.{some_is}
+use Rattle.locked_core.proofs.Book.{set_itself}
 use Rattle.locked_core.specs.Names.{IsShared}
+
+-- the book, where it is told with the session after the step
+pub kept_in : (o : Opened) (core new : CoreValue) (pushed : List RecordValue) (book after : List SessionValue) (k : ℕ) (q : SessionValue)
+    → after ≡ slice_set book k q → ∥ IsShared o core pushed book ∥₁ → (IsShared o core pushed book → IsShared o new pushed (slice_set book k q))
+    → ∥ IsShared o new pushed after ∥₁
+kept_in o core new pushed book after k q is shared step = ∥∥₁_map shared (λ (s : IsShared o core pushed book). subst (IsShared o new pushed) (sym is) (step s))
 
 module _ (o : Opened) (core new : CoreValue) (pushed : List RecordValue) (book : List SessionValue) (k : ℕ) (p q : SessionValue)
     (there : slice_get book k ≡ Some p) (shared : IsShared o core pushed book) where

@@ -4,20 +4,20 @@ use Rattle.std.proofs.Math.Logic.{∥∥₁_elim}
 use mathlib.Core.HLevel.{⊥_prop}
 use Rattle.std.specs.Prelude.{false, slice_get, slice_set}
 use Rattle.records.specs.RecordValue.{RecordValue}
-use Rattle.records.specs.declared.error.Error.{Error}
-use Rattle.records.specs.declared.error.Error.TheVariants.{NoSuchTxn}
+use Rattle.record_values.specs.declared.error.Error.{Error}
+use Rattle.record_values.specs.declared.error.Error.TheVariants.{NoSuchTxn}
 use Rattle.model.specs.declared.write.Write.{Write}
 use Rattle.core_model.specs.Histories.{Opened}
-use Rattle.core_contracts.specs.Events.{Event, Reply}
+use Rattle.core_model.specs.Events.{Event, Reply}
 use Rattle.txn_table.specs.Table.{TxnState}
 use Rattle.txn_table.specs.declared.progress.Progress.{Progress}
 use Rattle.txn_table.specs.declared.progress.Progress.TheVariants.{OwesEntry, OwesRow, Ready, Rolling, UndoesEntry, UndoesRow}
-use Rattle.nsf_core.specs.Replies.{reply_by}
-use Rattle.nsf_core.specs.View.{CoreValue, Serves}
-use Rattle.nsf_core.specs.Moves.{OwesOrNone, txn_shown}
-use Rattle.sessions.specs.Steps.{stepped}
-use Rattle.sessions.specs.Values.{active_of, ActiveValue, has_unfinished, is_active, is_unfinished, SessionValue}
-use Rattle.register.proofs.Laws.{next_agreed, unfinished_seen}
+use Rattle.core_parts.specs.Replies.{reply_by}
+use Rattle.core_parts.specs.View.{CoreValue, Serves}
+use Rattle.core_parts.specs.Moves.{OwesOrNone, txn_shown}
+use Rattle.threads_sessions.specs.Steps.{stepped}
+use Rattle.threads_sessions.specs.Values.{active_of, ActiveValue, has_unfinished, is_active, is_unfinished, SessionValue}
+use Rattle.threads_register.proofs.Laws.{next_agreed, unfinished_seen}
 use Rattle.locked_core.proofs.Kept.{txn_kept}
 use Rattle.locked_core.specs.Names.{IsShared}
 

@@ -9,9 +9,9 @@ use Rattle.model.proofs.FollowingLaws.{following-take, following_front}
 use Rattle.model.specs.Following.{AreFollowing}
 use Rattle.model.specs.Given.{given_after, opening_cells}
 use Rattle.core_model.specs.Histories.{Opened}
-use Rattle.core_contracts.proofs.Laws.{served_crashed}
-use Rattle.nsf_core.specs.View.{CoreValue}
-use Rattle.sessions.specs.Values.{SessionValue}
+use Rattle.core_model.proofs.ReplyLaws.{served_crashed}
+use Rattle.core_parts.specs.View.{CoreValue}
+use Rattle.threads_sessions.specs.Values.{SessionValue}
 use Rattle.locked_core.proofs.Following.{following_whole}
 use Rattle.locked_core.specs.Following.{FitPlaces, FollowOpening}
 use Rattle.locked_core.specs.Names.{IsShared}

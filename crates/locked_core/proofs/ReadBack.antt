@@ -7,20 +7,20 @@ use Rattle.std.specs.Option.{option_map}
 use Rattle.std.specs.Prelude.{slice_get, unwrap_or}
 use Rattle.records.specs.Codes.{coded_row}
 use Rattle.records.specs.RecordValue.{RecordValue}
-use Rattle.records.specs.Values.{Place}
-use Rattle.records.specs.declared.error.Error.{Error}
-use Rattle.records.specs.declared.error.Error.TheVariants.{NoSuchTxn}
-use Rattle.records.specs.declared.row.Row.{Row}
+use Rattle.record_values.specs.Values.{Place}
+use Rattle.record_values.specs.declared.error.Error.{Error}
+use Rattle.record_values.specs.declared.error.Error.TheVariants.{NoSuchTxn}
+use Rattle.record_values.specs.declared.row.Row.{Row}
 use Rattle.model.specs.declared.write.Write.{Write}
 use Rattle.core_model.specs.Histories.{Opened}
-use Rattle.core_contracts.specs.Events.{Event, Reply}
-use Rattle.nsf_core.specs.Replies.{reply_by}
-use Rattle.nsf_core.specs.View.{CoreValue, Serves}
-use Rattle.sessions.specs.Steps.{changed, stepped}
-use Rattle.sessions.specs.Values.{active_of, ActiveValue, is_active, SessionValue}
-use Rattle.register.proofs.Laws.{delete_reads, insert_reads, rows_seen, step_reads, update_reads}
-use Rattle.register.specs.Agreement.{row_at}
-use Rattle.register.specs.Reading.{ReadsBack, ShowsRow, unfinished_of}
+use Rattle.core_model.specs.Events.{Event, Reply}
+use Rattle.core_parts.specs.Replies.{reply_by}
+use Rattle.core_parts.specs.View.{CoreValue, Serves}
+use Rattle.threads_sessions.specs.Steps.{changed, stepped}
+use Rattle.threads_sessions.specs.Values.{active_of, ActiveValue, is_active, SessionValue}
+use Rattle.threads_register.proofs.Laws.{delete_reads, insert_reads, rows_seen, step_reads, update_reads}
+use Rattle.threads_register.specs.Agreement.{row_at}
+use Rattle.threads_register.specs.Reading.{ReadsBack, ShowsRow, unfinished_of}
 use Rattle.locked_core.specs.Names.{IsShared}
 
 module _ (o : Opened) (core new : CoreValue) (pushed : List RecordValue) (book : List SessionValue) (k : ℕ) (p q : SessionValue)
@@ -69,7 +69,7 @@ module _ (o : Opened) (core new : CoreValue) (pushed : List RecordValue) (book :
 
   pub step_row : (result : Result (Unit {0}) Error) → (is_active p txn ≡ false → (result ≡ Err NoSuchTxn) × (new ≡ core))
       → (is_active p txn ≡ true → Serves core (Event.Step txn) (reply_by (λ _. Reply.Stepped) result) new)
-      → OnOk result (q ≡ stepped p new txn) → OnOk result ((change : Write) → unfinished_of txn p ≡ Some change → ShowsRow txn change q)
+      → OnOk result (q ≡ stepped p new txn) → OnOk result ((change : Write) → unfinished_of p txn ≡ Some change → ShowsRow txn change q)
   step_row (Ok x) foreign serves ok = λ change finish.
       let mine = own x foreign in
       subst (ShowsRow txn change) (sym ok)

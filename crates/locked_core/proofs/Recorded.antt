@@ -3,17 +3,17 @@ use Rattle.std.proofs.Common.{◌≡◌, Bool, true, false, List, [], ◌∷◌,
 use Rattle.std.proofs.Math.Logic.{∥∥₁_elim}
 use Rattle.std.specs.Coded.{Coded-set, coded_list}
 use Rattle.records.specs.RecordValue.{RecordValue}
-use Rattle.records.specs.declared.error.Error.{Error}
-use Rattle.records.specs.declared.error.Error.TheVariants.{NoSuchTxn}
+use Rattle.record_values.specs.declared.error.Error.{Error}
+use Rattle.record_values.specs.declared.error.Error.TheVariants.{NoSuchTxn}
 use Rattle.records.specs.declared.record.Action.{Action}
-use Rattle.core_contracts.specs.Events.{Event}
+use Rattle.core_model.specs.Events.{Event}
 use Rattle.core_model.specs.Histories.{Opened}
-use Rattle.nsf_core.specs.Replies.{reply_by, reply_of_detached, reply_of_ticket}
-use Rattle.nsf_core.specs.View.{CoreValue, Serves}
-use Rattle.nsf_core.specs.declared.parts.Detached.{Detached}
-use Rattle.nsf_core.specs.declared.parts.Ticket.{Ticket}
-use Rattle.sessions.specs.Values.{SessionValue}
-use Rattle.register.specs.Register.{IsRegisterKept}
+use Rattle.core_parts.specs.Replies.{reply_by, reply_of_detached, reply_of_ticket}
+use Rattle.core_parts.specs.View.{CoreValue, Serves}
+use Rattle.core_parts.specs.declared.parts.Detached.{Detached}
+use Rattle.core_parts.specs.declared.parts.Ticket.{Ticket}
+use Rattle.threads_sessions.specs.Values.{SessionValue}
+use Rattle.threads_register.specs.Register.{IsRegisterKept}
 use Rattle.locked_core.proofs.Codes.{coded_record}
 use Rattle.locked_core.specs.Names.{IsShared}
 

@@ -2,7 +2,7 @@
 use Rattle.std.specs.FinMap.{len}
 use Rattle.std.specs.Prelude.{List, length, take, ℕ, ◌+◌, ◌≤◌}
 use Rattle.records.specs.RecordValue.{RecordValue}
-use Rattle.records.specs.declared.number.TheConstants.{LAST_NUMBER}
+use Rattle.record_values.specs.declared.number.TheConstants.{LAST_NUMBER}
 use Rattle.model.specs.Following.{AreFollowing}
 use Rattle.model.specs.Given.{given_after, opening_cells}
 use Rattle.core_model.specs.Histories.{Opened}

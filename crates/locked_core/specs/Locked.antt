@@ -2,9 +2,9 @@
 use Rattle.std.specs.Prelude.{List, map}
 use Rattle.records.specs.RecordValue.{RecordValue}
 use Rattle.nsf_core.specs.Value.{value_of}
-use Rattle.nsf_core.specs.View.{CoreValue}
-use Rattle.session_halves.specs.Halves.{shown}
-use Rattle.sessions.specs.Values.{SessionValue}
+use Rattle.core_parts.specs.View.{CoreValue}
+use Rattle.threads_sessions.specs.Halves.{shown}
+use Rattle.threads_sessions.specs.Values.{SessionValue}
 use Rattle.locked_core.specs.declared.locked.Locked.{Locked}
 
 -- the core, the records that were pushed, and the session of each seat

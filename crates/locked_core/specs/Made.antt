@@ -1,14 +1,14 @@
 -- What was made since the opening, under the lock.
 use Rattle.std.specs.Prelude.{◌≡◌, ◌++◌}
-use Rattle.records.specs.GeometryValue.{GeometryValue}
+use Rattle.record_values.specs.GeometryValue.{GeometryValue}
 use Rattle.model.specs.Cells.{Cells}
 use Rattle.model.specs.Given.{opening_cells}
 use Rattle.model.specs.Redo.{cells_of}
 use Rattle.core_model.specs.Histories.{Opened}
-use Rattle.image_model.specs.Run.{Run}
-use Rattle.image_model.specs.declared.chunk.Piece.{Piece}
-use Rattle.image_model.specs.declared.chunk.Piece.TheVariants.{Whole, Start, Page, Entries}
-use Rattle.nsf_core.specs.View.{CoreValue}
+use Rattle.store_image_model.specs.Run.{Run}
+use Rattle.store_image_model.specs.declared.chunk.Piece.{Piece}
+use Rattle.store_image_model.specs.declared.chunk.Piece.TheVariants.{Whole, Start, Page, Entries}
+use Rattle.core_parts.specs.View.{CoreValue}
 use Rattle.core_copies.specs.Shown.{FitsStoreOf}
 use Rattle.locked_core.specs.Locked.{LockedValue}
 

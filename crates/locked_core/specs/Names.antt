@@ -6,11 +6,11 @@ use Rattle.atomic_table.specs.Seated.{TableId}
 use Rattle.records.specs.RecordValue.{RecordValue}
 use Rattle.model.specs.declared.life.Life.TheVariants.{Absent}
 use Rattle.core_model.specs.Histories.{CanOpen, Opened}
-use Rattle.nsf_core.specs.View.{CoreValue}
-use Rattle.sessions.specs.Values.{SessionValue}
-use Rattle.tail.specs.Ends.{QueueName}
-use Rattle.register.specs.Agreement.{IsRegister}
-use Rattle.register.specs.History.{ShowsCommits}
+use Rattle.core_parts.specs.View.{CoreValue}
+use Rattle.threads_sessions.specs.Values.{SessionValue}
+use Rattle.threads_queue.specs.Ends.{QueueName}
+use Rattle.threads_register.specs.Agreement.{IsRegister}
+use Rattle.threads_register.specs.History.{ShowsCommits}
 
 -- the queue to the flusher, the registry of the sessions, the board, how many seats there are, and what the core began
 -- with

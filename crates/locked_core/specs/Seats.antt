@@ -1,6 +1,6 @@
 -- What contracts see of a seat.
 use Rattle.std.specs.Prelude.{ℕ}
-use Rattle.sessions.specs.Values.{SessionValue}
+use Rattle.threads_sessions.specs.Values.{SessionValue}
 
 -- its number, and its session
 pub record SeatValue : Type 0 where

@@ -20,4 +20,4 @@ mod seat;
 pub use group::Group;
 pub use locked::Locked;
 pub use seat::SeatPart;
-pub use tail::Memory;
+pub use threads_queue::Memory;

@@ -2,55 +2,54 @@
 ghost use Rattle.std.specs.FinMap as table;
 ghost use Rattle.std.specs.Prelude.{◌≡◌, ◌↔◌, ◌++◌, ◌∷◌, [], IsTrue, false, true, Err, None, Option, Some, IfErr, IfOk};
 ghost use Rattle.std.specs.Prelude.{List, OnErr, OnOk, length, map, slice_get, slice_set, take, ℕ};
-ghost use Rattle.records.specs.GeometryValue.{GeometryValue};
-ghost use Rattle.core_contracts.specs.Events.{Event, Reply};
-ghost use Rattle.records.specs.declared.error.Error.TheVariants.{NoMemory, NoSuchTxn};
+ghost use Rattle.record_values.specs.GeometryValue.{GeometryValue};
+ghost use Rattle.core_model.specs.Events.{Event, Reply};
+ghost use Rattle.record_values.specs.declared.error.Error.TheVariants.{NoMemory, NoSuchTxn};
 ghost use Rattle.records.specs.declared.record.Action.TheVariants.{OfIndex, OfTxn};
 ghost use Rattle.records.specs.declared.record.IndexAction.{IndexAction};
 ghost use Rattle.records.specs.declared.record.TxnAction.{TxnAction};
-ghost use Rattle.image_model.specs.Run.{IsRun, cells_at, end_of};
+ghost use Rattle.store_image_model.specs.Run.{IsRun, cells_at, end_of};
 ghost use Rattle.core_copies.specs.Pieces.{IsPieceOf};
 ghost use Rattle.core_copies.specs.Shown.{IsCellsOf, IsOfGeometry};
 ghost use Rattle.core_laws.specs.Holds.{HoldsHistory};
 ghost use Rattle.core_laws.specs.Calls.{BeginsWith, HasReplied};
 ghost use Rattle.core_model.specs.Histories.{CanOpen, no_writes};
-ghost use Rattle.core_contracts.specs.Served.{items_of};
-ghost use Rattle.nsf_core.specs.Builds.{built};
-ghost use Rattle.nsf_core.specs.Cleaning.{cleaner};
+ghost use Rattle.core_model.specs.Served.{items_of};
+ghost use Rattle.core_parts.specs.Builds.{built};
+ghost use Rattle.core_parts.specs.Cleaning.{cleaner};
 ghost use Rattle.nsf_core.specs.Loading.{IsQuiet};
-ghost use Rattle.nsf_core.specs.Moves.{HasNoChange, txn_shown};
+ghost use Rattle.core_parts.specs.Moves.{HasNoChange, txn_shown};
 ghost use Rattle.nsf_core.specs.Outbox.{HandsOn};
-ghost use Rattle.nsf_core.specs.Replies.{reply_by, reply_of_detached, reply_of_ticket};
-ghost use Rattle.nsf_core.specs.Detached.{entries_of};
-ghost use Rattle.nsf_core.specs.Undoing.{undone_reply};
-ghost use Rattle.nsf_core.specs.View.{Serves};
+ghost use Rattle.core_parts.specs.Replies.{reply_by, reply_of_detached, reply_of_ticket};
+ghost use Rattle.core_parts.specs.Detached.{entries_of};
+ghost use Rattle.core_parts.specs.Undoing.{undone_reply};
+ghost use Rattle.core_parts.specs.View.{Serves};
 ghost use Rattle.nsf_core.specs.Value.{value_of};
-ghost use Rattle.records.specs.declared.row.Row.{Row as RowValue};
+ghost use Rattle.record_values.specs.declared.row.Row.{Row as RowValue};
 ghost use Rattle.model.specs.declared.write.Write.{Write};
-ghost use Rattle.register.specs.Reading.{ReadsBack, ShowsRow, unfinished_of};
-ghost use Rattle.register.specs.Register.{AreEmpty};
-ghost use Rattle.sessions.specs.Steps.{begun, changed, committed, ended, rolling_back, stepped, with_turn};
-ghost use Rattle.sessions.specs.declared.turn.Turn.TheVariants.{Created, Dropped};
-ghost use Rattle.sessions.specs.Values.{SessionValue, is_active, is_ready, is_unfinished};
+ghost use Rattle.threads_register.specs.Reading.{ReadsBack, ShowsRow, unfinished_of};
+ghost use Rattle.threads_register.specs.Register.{AreEmpty};
+ghost use Rattle.threads_sessions.specs.Steps.{begun, changed, committed, ended, rolling_back, stepped, with_turn};
+ghost use Rattle.threads_sessions.specs.declared.turn.Turn.TheVariants.{Created, Dropped};
+ghost use Rattle.threads_sessions.specs.Values.{SessionValue, is_active, is_ready, is_unfinished};
 ghost use Rattle.locked_core.specs.Following.{FitPlaces, FollowOpening};
 ghost use Rattle.locked_core.specs.Names.{IsShared};
-ghost use Rattle.session_halves.specs.Halves.{IsBook, IsNew, shown};
-ghost use Rattle.tail.specs.Ends.{name_prop};
+ghost use Rattle.threads_sessions.specs.Halves.{IsBook, IsNew, shown};
+ghost use Rattle.threads_queue.specs.Ends.{name_prop};
 
 use crate::group::Group;
 use crate::outbox::QueueSink;
 use crate::seat::SeatPart;
 use core_copies::Copies;
-use image_model::{Chunk, CopyPlace};
 use model::Life;
 use nsf_core::{BuildReply, CleanReply, Core, Detached, Ticket, Undone};
 use records::{Body, Error, Key, Rid, Row, Txn};
-use register::each_number;
-use session_halves::{Half, Registry};
 use std::alloc::Global;
 use std::marker::PhantomData;
 use std::sync::Wait;
-use tail::{Memory, Popper, Pusher, RecordQueue};
+use store_image_model::{Chunk, CopyPlace};
+use threads_queue::{Memory, Popper, Pusher, RecordQueue};
+use threads_sessions::{Half, Registry};
 
 /// What lies under the lock: the core, the end of the queue that its records go to, and a half of each seat's session.
 /// To a contract it is a `LockedValue`.
@@ -152,7 +151,7 @@ impl<B: Group, A: Memory> Locked<B, A> {
         ensures seat { seat.new ≡ seat.old }
         ensures same { locked_of self.new ≡ locked_of self.old }
     {
-        registry.change(&mut seat.half, &mut self.book[seat.number], &seat.session);
+        registry.compare(&mut seat.half, &mut self.book[seat.number]);
     }
 
     /// Begins a transaction of the seat.
@@ -204,9 +203,10 @@ impl<B: Group, A: Memory> Locked<B, A> {
             (locked_of self.old).book seat.old.number seat.new.session }
         ensures pushed { (locked_of self.new).pushed ≡ (locked_of self.old).pushed }
     {
-        registry.change(&mut seat.half, &mut self.book[seat.number], &seat.session);
+        let theirs = &mut self.book[seat.number];
+        registry.compare(&mut seat.half, theirs);
         let inserted = seat.session.insert(&mut self.core, txn, key, body);
-        registry.change(&mut seat.half, &mut self.book[seat.number], &seat.session);
+        registry.change(&mut seat.half, theirs, &seat.session);
         inserted
     }
 
@@ -238,9 +238,10 @@ impl<B: Group, A: Memory> Locked<B, A> {
             (locked_of self.old).book seat.old.number seat.new.session }
         ensures pushed { (locked_of self.new).pushed ≡ (locked_of self.old).pushed }
     {
-        registry.change(&mut seat.half, &mut self.book[seat.number], &seat.session);
+        let theirs = &mut self.book[seat.number];
+        registry.compare(&mut seat.half, theirs);
         let deleted = seat.session.delete(&mut self.core, txn, rid);
-        registry.change(&mut seat.half, &mut self.book[seat.number], &seat.session);
+        registry.change(&mut seat.half, theirs, &seat.session);
         deleted
     }
 
@@ -274,9 +275,10 @@ impl<B: Group, A: Memory> Locked<B, A> {
             (locked_of self.old).book seat.old.number seat.new.session }
         ensures pushed { (locked_of self.new).pushed ≡ (locked_of self.old).pushed }
     {
-        registry.change(&mut seat.half, &mut self.book[seat.number], &seat.session);
+        let theirs = &mut self.book[seat.number];
+        registry.compare(&mut seat.half, theirs);
         let updated = seat.session.update(&mut self.core, txn, rid, key, body);
-        registry.change(&mut seat.half, &mut self.book[seat.number], &seat.session);
+        registry.change(&mut seat.half, theirs, &seat.session);
         updated
     }
 
@@ -330,7 +332,6 @@ impl<B: Group, A: Memory> Locked<B, A> {
             (locked_of self.old).book seat.old.number seat.new.session }
         ensures pushed { (locked_of self.new).pushed ≡ (locked_of self.old).pushed }
     {
-        each_number();
         let created = seat.session.create_index(&mut self.core);
         registry.change(&mut seat.half, &mut self.book[seat.number], &seat.session);
         created
@@ -360,7 +361,6 @@ impl<B: Group, A: Memory> Locked<B, A> {
             (locked_of self.old).book seat.old.number seat.new.session }
         ensures pushed { (locked_of self.new).pushed ≡ (locked_of self.old).pushed }
     {
-        each_number();
         let dropped = seat.session.drop_index(&mut self.core);
         registry.change(&mut seat.half, &mut self.book[seat.number], &seat.session);
         dropped
@@ -384,7 +384,7 @@ impl<B: Group, A: Memory> Locked<B, A> {
             → Serves (locked_of self.old).core (Event.Step txn) (reply_by (λ _. Reply.Stepped) result)
             (locked_of self.new).core }
         ensures ok { OnOk result (seat.new.session ≡ stepped seat.old.session (locked_of self.new).core txn) }
-        ensures row { OnOk result ((change : Write) → unfinished_of txn seat.old.session ≡ Some change
+        ensures row { OnOk result ((change : Write) → unfinished_of seat.old.session txn ≡ Some change
             → ShowsRow txn change seat.new.session) }
         ensures refused { OnErr result (seat.new.session ≡ seat.old.session) }
         ensures number { seat.new.number ≡ seat.old.number }
@@ -392,9 +392,10 @@ impl<B: Group, A: Memory> Locked<B, A> {
             (locked_of self.old).book seat.old.number seat.new.session }
         ensures pushed { (locked_of self.new).pushed ≡ (locked_of self.old).pushed }
     {
-        registry.change(&mut seat.half, &mut self.book[seat.number], &seat.session);
+        let theirs = &mut self.book[seat.number];
+        registry.compare(&mut seat.half, theirs);
         let stepped = seat.session.next_step(&mut self.core, txn);
-        registry.change(&mut seat.half, &mut self.book[seat.number], &seat.session);
+        registry.change(&mut seat.half, theirs, &seat.session);
         stepped
     }
 
@@ -455,10 +456,10 @@ impl<B: Group, A: Memory> Locked<B, A> {
             (locked_of self.old).book seat.old.number seat.new.session }
         ensures pushed { (locked_of self.new).pushed ≡ (locked_of self.old).pushed }
     {
-        each_number();
-        registry.change(&mut seat.half, &mut self.book[seat.number], &seat.session);
+        let theirs = &mut self.book[seat.number];
+        registry.compare(&mut seat.half, theirs);
         let committed = seat.session.commit(&mut self.core, txn);
-        registry.change(&mut seat.half, &mut self.book[seat.number], &seat.session);
+        registry.change(&mut seat.half, theirs, &seat.session);
         committed
     }
 

@@ -1,12 +1,12 @@
 //! The sink that pushes to the queue.
 ghost use Rattle.std.specs.Prelude.{◌≡◌};
-ghost use Rattle.tail.specs.Ends.{name_prop};
+ghost use Rattle.threads_queue.specs.Ends.{name_prop};
 
 use crate::group::Group;
 use records::{Record, Sink};
 use std::marker::PhantomData;
 use std::sync::Wait;
-use tail::{Memory, Pusher, RecordQueue};
+use threads_queue::{Memory, Pusher, RecordQueue};
 
 // Pushes what it takes to the queue of the seats.
 #[derive(Drop)]

@@ -1,14 +1,13 @@
 //! A seat's part of what is shared.
 ghost use Rattle.std.specs.Prelude.{◌≡◌, ◌<◌};
-ghost use Rattle.sessions.specs.Values.{empty_session, is_active, is_ready, is_unfinished};
+ghost use Rattle.threads_sessions.specs.Values.{empty_session, is_active, is_ready, is_unfinished};
 
 use crate::group::Group;
 use records::Txn;
-use session_halves::Half;
-use sessions::Session;
 use std::alloc::Global;
 use std::marker::{Model, PhantomData};
-use tail::Memory;
+use threads_queue::Memory;
+use threads_sessions::{Half, Session};
 
 /// A seat's session, with the half of it that is tied to the one under the lock. To a contract it is a `SeatValue`.
 #[derive(Drop)]

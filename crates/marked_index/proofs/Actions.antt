@@ -3,16 +3,16 @@ use Rattle.std.proofs.Common.{Result, Ok, Err, OnOk, OnErr, ◌<◌, ◌≡◌, 
 use Rattle.std.proofs.Common.{subst, ◌∙◌, arith}
 use Rattle.std.specs.FinMap as map
 use Rattle.std.specs.Prelude.{IsTrue, ◌↔◌}
-use Rattle.records.specs.Maps.{set_at, set_at-get, pair_exact}
-use Rattle.records.specs.Orders.{pair_cmp_total}
-use Rattle.records.specs.declared.pair.Pair.{Pair}
-use Rattle.records.specs.declared.pair.Mark.{Mark}
-use Rattle.records.specs.declared.pair.Mark.TheVariants.{Live, Marked}
+use Rattle.record_values.specs.Maps.{set_at, set_at-get, pair_exact}
+use Rattle.record_values.specs.Orders.{pair_cmp_total}
+use Rattle.record_values.specs.declared.pair.Pair.{Pair}
+use Rattle.record_values.specs.declared.pair.Mark.{Mark}
+use Rattle.record_values.specs.declared.pair.Mark.TheVariants.{Live, Marked}
 use Rattle.model.specs.declared.key_action.KeyAction.TheVariants.{BuildPut, Clean}
 use Rattle.model.specs.KeyActions.{after_action}
 use Rattle.model.specs.Table.{Index}
-use Rattle.records.specs.declared.geometry.TheConstants.{ENTRIES_MAX}
-use Rattle.records.specs.declared.error.Error.{Error}
+use Rattle.record_values.specs.declared.geometry.TheConstants.{ENTRIES_MAX}
+use Rattle.record_values.specs.declared.error.Error.{Error}
 use Rattle.marked_index.specs.Index.{IndexValue, IsFull, IsWithinCapacity, entries_after}
 
 -- to set what is there changes nothing

@@ -9,11 +9,11 @@ use Rattle.std.specs.List.{AllPairs}
 use Rattle.std.specs.declared.cmp.Ordering.{Ordering}
 use Rattle.std.specs.declared.cmp.Ordering.TheVariants.{Less, Equal, Greater}
 use Rattle.std.specs.Ordering.{is_lt, is_eq, ordering_reverse}
-use Rattle.records.specs.Values.{Place}
-use Rattle.records.specs.Orders.{rid_cmp, rid_cmp_total, rid_cmp-IsAntisymmetric, pair_cmp, pair_cmp_total, pair_cmp-IsAntisymmetric}
-use Rattle.records.specs.declared.pair.Pair.{Pair}
-use Rattle.records.specs.declared.pair.Mark.{Mark}
-use Rattle.records.specs.declared.pair.Mark.TheVariants.{Live}
+use Rattle.record_values.specs.Values.{Place}
+use Rattle.record_values.specs.Orders.{rid_cmp, rid_cmp_total, rid_cmp-IsAntisymmetric, pair_cmp, pair_cmp_total, pair_cmp-IsAntisymmetric}
+use Rattle.record_values.specs.declared.pair.Pair.{Pair}
+use Rattle.record_values.specs.declared.pair.Mark.{Mark}
+use Rattle.record_values.specs.declared.pair.Mark.TheVariants.{Live}
 use Rattle.model.specs.Table.{Index}
 use Rattle.marked_index.specs.Shown.{mark_at, IsAfter, IsNextOf}
 use Rattle.marked_index.proofs.Places.{pair_at, pair_cmp-one_key}

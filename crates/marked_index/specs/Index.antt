@@ -3,10 +3,10 @@ use Rattle.std.specs.Prelude.{◌≡◌, ℕ, ◌+◌, ◌-◌, ◌≤◌, Optio
 use Rattle.std.specs.Coded.{Coded, code_by, coded×, coded_ℕ}
 use Rattle.std.specs.FinMap as map
 use Rattle.records.specs.Codes.{coded_pair, coded_mark}
-use Rattle.records.specs.Maps.{set_at}
-use Rattle.records.specs.declared.geometry.TheConstants.{ENTRIES_MAX}
-use Rattle.records.specs.declared.pair.Pair.{Pair}
-use Rattle.records.specs.declared.pair.Mark.{Mark}
+use Rattle.record_values.specs.Maps.{set_at}
+use Rattle.record_values.specs.declared.geometry.TheConstants.{ENTRIES_MAX}
+use Rattle.record_values.specs.declared.pair.Pair.{Pair}
+use Rattle.record_values.specs.declared.pair.Mark.{Mark}
 use Rattle.model.specs.declared.key_action.KeyAction.{KeyAction}
 use Rattle.model.specs.KeyActions.{after_action}
 use Rattle.model.specs.Table.{Index}

@@ -2,9 +2,9 @@
 use Rattle.std.specs.Prelude.{◌≡◌, ℕ, List, Option, Some, None}
 use Rattle.std.specs.FinMap as map
 use Rattle.std.specs.declared.cmp.Ordering.TheVariants.{Less}
-use Rattle.records.specs.Values.{Place}
-use Rattle.records.specs.Orders.{rid_cmp}
-use Rattle.records.specs.declared.pair.Mark.{Mark}
+use Rattle.record_values.specs.Values.{Place}
+use Rattle.record_values.specs.Orders.{rid_cmp}
+use Rattle.record_values.specs.declared.pair.Mark.{Mark}
 use Rattle.model.specs.Table.{Index}
 
 -- the mark of the key at a place

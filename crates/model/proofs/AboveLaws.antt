@@ -11,7 +11,7 @@ use Rattle.std.specs.declared.ops.Bound.TheVariants.{Excluded, Unbounded}
 use Rattle.std.specs.declared.vec.Vec.{Vec}
 use Rattle.std.specs.BTreeMap.Range.{entries_between}
 use Rattle.records.specs.ChangeValue.{ChangeValue}
-use Rattle.records.specs.Maps.{IsExact}
+use Rattle.record_values.specs.Maps.{IsExact}
 use Rattle.model.specs.Above.{entries_above}
 use Rattle.model.specs.Cells.{Pending}
 use Rattle.model.specs.Lists.{listed}

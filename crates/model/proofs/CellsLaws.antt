@@ -5,7 +5,7 @@ use Rattle.std.specs.FinMap as map
 use Rattle.records.specs.ChangeValue.{ChangeValue}
 use Rattle.records.specs.RecordValue.{RecordValue}
 use Rattle.records.specs.Spelling.{old_row, new_row}
-use Rattle.records.specs.Maps.{set_at, rid_exact, nat_exact, get-set_at_same, get-set_at_other, set_at-again, set_at-get}
+use Rattle.record_values.specs.Maps.{set_at, rid_exact, nat_exact, get-set_at_same, get-set_at_other, set_at-again, set_at-get}
 use Rattle.model.specs.Table.{Table}
 use Rattle.model.specs.Cells.{Cells, cells_after, rows_after, set_by, Pending, list_of, with_list, reverted, noted, taken_off}
 

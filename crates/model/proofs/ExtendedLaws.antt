@@ -10,7 +10,7 @@ use Rattle.std.specs.BTreeMap.{is_at}
 use Rattle.std.specs.FinMap.{FinMap, get, insert, from_entries, get-insert}
 use Rattle.std.proofs.lemmas.Map.Keys.{IsDistinct-from_sorted}
 use Rattle.std.proofs.lemmas.Map.Made.{update_all_distinct}
-use Rattle.records.specs.Maps.{IsExact, alike}
+use Rattle.record_values.specs.Maps.{IsExact, alike}
 use Rattle.model.specs.Extended.{extended}
 use Rattle.model.proofs.MapLaws.{get-entries}
 

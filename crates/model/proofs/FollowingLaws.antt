@@ -8,7 +8,7 @@ use Rattle.std.proofs.Math.ListN.{get_or-append}
 use Rattle.records.specs.ChangeValue.{ChangeValue}
 use Rattle.records.specs.RecordValue.{RecordValue}
 use Rattle.std.specs.FinMap as map
-use Rattle.records.specs.declared.txn.TheConstants.{TXNS_MAX}
+use Rattle.record_values.specs.declared.txn.TheConstants.{TXNS_MAX}
 use Rattle.model.specs.Cells.{Cells, Pending, set_by, cells_after}
 use Rattle.model.proofs.CellsLaws.{cells_after_one_more}
 use Rattle.model.specs.Following.{IsLastOf, IsAdmitted, CanFollow, AreFollowing, IsFirstUnfit}

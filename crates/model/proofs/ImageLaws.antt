@@ -5,14 +5,14 @@ use Rattle.std.specs.Ordering.{eq_by_cmp}
 use Rattle.std.specs.declared.cmp.Ordering.{Ordering}
 use Rattle.std.specs.FinMap as map
 use Rattle.std.specs.FinMap.{FinMap}
-use Rattle.records.specs.Values.{Place}
+use Rattle.record_values.specs.Values.{Place}
 use Rattle.records.specs.RecordValue.{RecordValue}
 use Rattle.records.specs.Spelling.{old_row, new_row}
-use Rattle.records.specs.Maps.{IsExact, set_at, alike, rid_exact, pair_exact, key_is, same_key, get-set_at_same, get-set_at_other}
-use Rattle.records.specs.declared.row.Row.{Row}
-use Rattle.records.specs.declared.pair.Mark.{Mark}
-use Rattle.records.specs.declared.pair.Mark.TheVariants.{Live, Marked}
-use Rattle.records.specs.declared.pair.Pair.{Pair}
+use Rattle.record_values.specs.Maps.{IsExact, set_at, alike, rid_exact, pair_exact, key_is, same_key, get-set_at_same, get-set_at_other}
+use Rattle.record_values.specs.declared.row.Row.{Row}
+use Rattle.record_values.specs.declared.pair.Mark.{Mark}
+use Rattle.record_values.specs.declared.pair.Mark.TheVariants.{Live, Marked}
+use Rattle.record_values.specs.declared.pair.Pair.{Pair}
 use Rattle.records.specs.declared.record.Part.TheVariants.{Slot, OldEntry, NewEntry}
 use Rattle.records.specs.declared.record.TxnAction.{TxnAction}
 use Rattle.records.specs.declared.record.TxnAction.TheVariants.{Forward, Undo, Commit, End}

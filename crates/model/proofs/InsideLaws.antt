@@ -4,16 +4,16 @@ use Rattle.std.proofs.lemmas.List.Elements.{All-head, All-tail, All-same, All-ni
 use Rattle.std.specs.List.{AllByRecursion}
 use Rattle.std.specs.Ordering.{eq_by_cmp, nat_cmp}
 use Rattle.std.specs.FinMap as map
-use Rattle.records.specs.Values.{Place}
+use Rattle.record_values.specs.Values.{Place}
 use Rattle.records.specs.ChangeValue.{ChangeValue}
 use Rattle.records.specs.RecordValue.{RecordValue}
 use Rattle.records.specs.Spelling.{old_row, new_row}
-use Rattle.records.specs.Orders.{pair_cmp, rid_cmp}
-use Rattle.records.specs.Maps.{set_at, pair_exact, key_is, get-set_at}
-use Rattle.records.specs.declared.row.Row.{Row}
-use Rattle.records.specs.declared.pair.Pair.{Pair}
-use Rattle.records.specs.declared.pair.Mark.{Mark}
-use Rattle.records.specs.declared.pair.Mark.TheVariants.{Live, Marked}
+use Rattle.record_values.specs.Orders.{pair_cmp, rid_cmp}
+use Rattle.record_values.specs.Maps.{set_at, pair_exact, key_is, get-set_at}
+use Rattle.record_values.specs.declared.row.Row.{Row}
+use Rattle.record_values.specs.declared.pair.Pair.{Pair}
+use Rattle.record_values.specs.declared.pair.Mark.{Mark}
+use Rattle.record_values.specs.declared.pair.Mark.TheVariants.{Live, Marked}
 use Rattle.records.specs.declared.record.Part.TheVariants.{Slot, OldEntry, NewEntry}
 use Rattle.records.specs.declared.record.TxnAction.{TxnAction}
 use Rattle.records.specs.declared.record.TxnAction.TheVariants.{Forward, Undo, Commit, End}

@@ -3,14 +3,14 @@ pub mod PairLaws
 pub mod TableLaws
 pub mod CellsLaws
 pub mod HistoryLaws
-pub mod MapUses
+mod MapUses
 pub mod RecoveryLaws
 pub mod FollowingLaws
-pub mod PlacesLaws
+mod PlacesLaws
 pub mod PlacedLaws
 pub mod ImageLaws
 pub mod GivenLaws
 pub mod InsideLaws
-pub mod AboveLaws
+mod AboveLaws
 pub mod ExtendedLaws
-pub mod PageLaws
+mod PageLaws

@@ -16,10 +16,10 @@ use Rattle.std.proofs.lemmas.List.{get_or-replicate, get_or-set_other}
 use Rattle.std.proofs.lemmas.Grind.{get_or-set_at}
 use Rattle.std.proofs.lemmas.Map.Entries.{lookup-filter-keys}
 use Rattle.std.proofs.lemmas.Map.Keys.{le_from_not_gt}
-use Rattle.records.specs.Values.{Place}
-use Rattle.records.specs.Orders.{rid_cmp}
-use Rattle.records.specs.Maps.{rid_exact, key_is, other_key}
-use Rattle.records.specs.declared.row.Row.{Row}
+use Rattle.record_values.specs.Values.{Place}
+use Rattle.record_values.specs.Orders.{rid_cmp}
+use Rattle.record_values.specs.Maps.{rid_exact, key_is, other_key}
+use Rattle.record_values.specs.declared.row.Row.{Row}
 use Rattle.model.specs.Table.{Table}
 use Rattle.model.proofs.MapLaws.{get-entries}
 

@@ -1,7 +1,7 @@
 -- What the test of two keys says.
 use Rattle.std.specs.Prelude.{nat_eq, ◌≡◌}
 use Rattle.std.specs.Cmp.Lexicographic.{pointwise, texts_ties}
-use Rattle.records.specs.declared.row.Row.{Row}
+use Rattle.record_values.specs.declared.row.Row.{Row}
 use Rattle.model.specs.Pairs.{same_key}
 
 pub key_test : (a b : Row) → pointwise nat_eq a.key b.key ≡ same_key a b

@@ -5,12 +5,12 @@ use Rattle.std.proofs.lemmas.List.Elements.{All-nil, All-head, All-tail, All-app
 use Rattle.std.specs.List.{AllByRecursion}
 use Rattle.std.specs.Ordering.{eq_by_cmp}
 use Rattle.std.specs.FinMap as map
-use Rattle.records.specs.Values.{Place}
+use Rattle.record_values.specs.Values.{Place}
 use Rattle.records.specs.ChangeValue.{ChangeValue}
 use Rattle.records.specs.Spelling.{old_row, new_row}
-use Rattle.records.specs.Orders.{rid_cmp}
-use Rattle.records.specs.Maps.{set_at, rid_exact, key_is, get-set_at}
-use Rattle.records.specs.declared.row.Row.{Row}
+use Rattle.record_values.specs.Orders.{rid_cmp}
+use Rattle.record_values.specs.Maps.{set_at, rid_exact, key_is, get-set_at}
+use Rattle.record_values.specs.declared.row.Row.{Row}
 use Rattle.records.specs.declared.record.Part.TheVariants.{Slot, OldEntry, NewEntry}
 use Rattle.records.specs.declared.record.TxnAction.{TxnAction}
 use Rattle.records.specs.declared.record.TxnAction.TheVariants.{Forward, Undo, Commit, End}

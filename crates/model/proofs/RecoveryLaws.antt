@@ -7,7 +7,7 @@ use Rattle.std.specs.Cmp.{nat_cmp_total, tied_itself}
 use Rattle.std.specs.FinMap as map
 use Rattle.std.specs.FinMap.Entries.{find, is_sorted, below_all}
 use Rattle.records.specs.ChangeValue.{ChangeValue}
-use Rattle.records.specs.Maps.{nat_exact, same_key, other_key}
+use Rattle.record_values.specs.Maps.{nat_exact, same_key, other_key}
 use Rattle.model.specs.Cells.{Pending, list_of}
 
 abbrev Lists : Type 0

@@ -1,11 +1,11 @@
 -- Which records can follow one another on a log: a reader refuses any other.
 use Rattle.std.specs.Prelude.{◌≡◌, ◌≢◌, ◌⊎◌, ℕ, ◌+◌, ◌<◌, List, [], ◌∷◌, ◌++◌, length, Option, Some, None}
 use Rattle.std.specs.FinMap as finite
-use Rattle.records.specs.Values.{Place}
+use Rattle.record_values.specs.Values.{Place}
 use Rattle.records.specs.ChangeValue.{ChangeValue}
 use Rattle.records.specs.RecordValue.{RecordValue}
-use Rattle.records.specs.declared.txn.TheConstants.{TXNS_MAX}
-use Rattle.records.specs.declared.pair.Pair.{Pair}
+use Rattle.record_values.specs.declared.txn.TheConstants.{TXNS_MAX}
+use Rattle.record_values.specs.declared.pair.Pair.{Pair}
 use Rattle.records.specs.declared.record.Part.{Part}
 use Rattle.records.specs.declared.record.Part.TheVariants.{Slot, OldEntry, NewEntry}
 use Rattle.records.specs.declared.record.TxnAction.{TxnAction}
@@ -17,7 +17,7 @@ use Rattle.records.specs.declared.record.Action.{Action}
 use Rattle.records.specs.declared.record.Action.TheVariants.{OfTxn, OfIndex}
 use Rattle.model.specs.declared.life.Life.{Life}
 use Rattle.model.specs.declared.life.Life.TheVariants.{Absent, Building}
-use Rattle.records.specs.declared.row.Row.{Row}
+use Rattle.record_values.specs.declared.row.Row.{Row}
 use Rattle.model.specs.Table.{Table}
 use Rattle.model.specs.Cells.{Cells, Pending, list_of, set_by, cells_after}
 

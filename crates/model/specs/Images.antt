@@ -2,8 +2,8 @@
 use Rattle.std.specs.Prelude.{◌≡◌, ◌≤◌, List, take, ℕ}
 use Rattle.std.specs.FinMap as map
 use Rattle.records.specs.RecordValue.{RecordValue}
-use Rattle.records.specs.Values.{Place}
-use Rattle.records.specs.declared.pair.Pair.{Pair}
+use Rattle.record_values.specs.Values.{Place}
+use Rattle.record_values.specs.declared.pair.Pair.{Pair}
 use Rattle.model.specs.Cells.{Cells, cells_after}
 
 -- Since these cells stood the records of the log were made. The image has the lists and the life of these cells, and

@@ -2,33 +2,24 @@
 ghost use Rattle.std.specs.Prelude.{◌≡◌, ◌<◌, ◌≤◌, ◌+◌, ◌++◌, [], ◌∷◌, ℕ, List, take, length};
 ghost use Rattle.std.specs.FinMap as map;
 ghost use Rattle.std.specs.Prelude.{Option, Some, true};
-ghost use Rattle.records.specs.Values.{Place};
-ghost use Rattle.records.specs.declared.row.Row.{Row};
+ghost use Rattle.record_values.specs.Values.{Place};
+ghost use Rattle.record_values.specs.declared.row.Row.{Row};
 ghost use Rattle.records.specs.ChangeValue.{ChangeValue};
 ghost use Rattle.records.specs.RecordValue.{RecordValue};
-ghost use Rattle.records.specs.Spelling.{old_row, new_row};
-ghost use Rattle.records.specs.Maps.{set_at};
+ghost use Rattle.record_values.specs.Maps.{set_at};
 ghost use Rattle.model.specs.declared.write.Write.{Write};
 ghost use Rattle.model.specs.declared.life.Life.{Life};
 ghost use Rattle.model.specs.Table.{Table, applied};
 ghost use Rattle.model.specs.Images.{IsCopied};
 ghost use Rattle.model.specs.Given.{Given, IsBeginning, given_after, opening_cells, recovered};
-ghost use Rattle.records.specs.declared.pair.Pair.{Pair};
-ghost use Rattle.records.specs.declared.pair.Mark.TheVariants.{Live};
+ghost use Rattle.record_values.specs.declared.pair.Pair.{Pair};
+ghost use Rattle.record_values.specs.declared.pair.Mark.TheVariants.{Live};
 ghost use Rattle.model.specs.Table.{IsPairOf};
-ghost use Rattle.model.specs.Cells.{Cells, cells_after, rows_after, set_by, reverted, list_of, noted, taken_off};
+ghost use Rattle.model.specs.Cells.{Cells, cells_after, set_by, list_of, noted, taken_off};
 ghost use Rattle.records.specs.declared.record.Action.{Action};
 ghost use Rattle.model.specs.Inside.{AreInside, IsGivenInside};
 ghost use Rattle.model.specs.Following.{CanFollow, CanFollowBy, AreFollowing, ArePlaced, IsFirstUnfit};
 ghost use Rattle.model.specs.History.{Item, table_after, table_with, life_after, life_with, up_to, AreRising};
-
-/// A record after others sets its cells last.
-pub fn one_more_record()
-    ensures rows { (cells : Cells) (records : List RecordValue)
-        → (cells_after cells records).rows ≡ rows_after cells.rows records }
-    ensures all { (cells : Cells) (records : List RecordValue) (r : RecordValue)
-        → cells_after cells (records ++ r ∷ []) ≡ set_by (cells_after cells records) r.action }
-{}
 
 /// An item after others counts last.
 pub fn one_more_item()
@@ -41,14 +32,6 @@ pub fn one_more_item()
     ensures later { (n : ℕ) (items : List Item) (item : Item) → n < item.number
         → up_to n (items ++ item ∷ []) ≡ up_to n items }
     ensures prefix { (n m : ℕ) (items : List Item) → AreRising m items → (k : ℕ) × (up_to n items ≡ take k items) }
-{}
-
-/// To take back a change that was just made leaves the rows as they were.
-pub fn one_more_change()
-    ensures taken { (rows : Table) (changes : List ChangeValue) (c : ChangeValue)
-        → reverted rows (changes ++ c ∷ []) ≡ reverted (set_at rows c.rid (old_row c.rows)) changes }
-    ensures made { (rows : Table) (changes : List ChangeValue) (c : ChangeValue) → map.get rows c.rid ≡ old_row c.rows
-        → reverted (set_at rows c.rid (new_row c.rows)) (changes ++ c ∷ []) ≡ reverted rows changes }
 {}
 
 /// The first record of a change puts it at the end of its transaction's list,

@@ -4,6 +4,10 @@
 //! Proved: each function of the plain program has the definition as its exact contract (`CellMaps::redo`, `follow`,
 //! `recover`, `RowMap::redo_all`); want of memory leaves a map as it was (`err`). Laws: `beginnings` (what a store
 //! gives is a prefix of a history, and stays one), `copied_image`, `following_records`, `inside_pages`.
+//!
+//! Lemmas about its public words that crates above may cite, in `proofs`: `CellsLaws`, `ExtendedLaws`, `FollowingLaws`,
+//! `GivenLaws`, `HistoryLaws`, `ImageLaws`, `InsideLaws`, `MapLaws`, `PairLaws`, `PlacedLaws`, `RecoveryLaws` and
+//! `TableLaws`.
 #![tactic(auto)]
 
 mod cell_maps;
@@ -21,7 +25,7 @@ pub use entry_map::EntryMap;
 pub use key_action::KeyAction;
 pub use laws::{
     beginnings, commit_order, copied_image, following_records, inside_pages, listed_changes,
-    one_more_change, one_more_item, one_more_record, set_is_there,
+    one_more_item, set_is_there,
 };
 pub use life::Life;
 pub use list_map::ListMap;

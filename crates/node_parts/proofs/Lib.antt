@@ -2,7 +2,7 @@
 pub mod Order
 pub mod Children
 pub mod Local
-pub mod DescentLemmas
+mod DescentLemmas
 pub mod Balance
 pub mod RowLemmas
 pub mod Neighbours

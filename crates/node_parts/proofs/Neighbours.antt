@@ -2,7 +2,7 @@
 use Rattle.std.proofs.Common.{inl, inr, ◌≡◌, ℕ, ◌+◌, ◌-◌, ◌<◌, ◌≤◌, List, [], ◌∷◌, ◌++◌, length, Some, refl, sym, ap, subst, ◌∙◌, arith, suc}
 use Rattle.std.proofs.lemmas.List.{append-nil}
 use Rattle.std.proofs.lemmas.Bool.{cases_lt}
-use Rattle.records.specs.declared.pair.Pair.{Pair}
+use Rattle.record_values.specs.declared.pair.Pair.{Pair}
 use Rattle.node_parts.specs.declared.Entry.{Entry}
 use Rattle.node_parts.specs.declared.Child.{Child}
 use Rattle.node_parts.specs.Tree.{Tree, leaf, branch, none, more, entries, forest_of, trees_of, count}

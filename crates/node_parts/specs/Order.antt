@@ -2,9 +2,9 @@
 use Rattle.std.specs.Prelude.{◌≡◌, Bool, true, cond, List, [], ◌∷◌, Option, Some, None}
 use Rattle.std.specs.Ordering.{is_lt, is_eq}
 use Rattle.std.specs.declared.cmp.Ordering.{Ordering}
-use Rattle.records.specs.Orders.{pair_cmp}
-use Rattle.records.specs.declared.pair.Pair.{Pair}
-use Rattle.records.specs.declared.pair.Mark.{Mark}
+use Rattle.record_values.specs.Orders.{pair_cmp}
+use Rattle.record_values.specs.declared.pair.Pair.{Pair}
+use Rattle.record_values.specs.declared.pair.Mark.{Mark}
 use Rattle.node_parts.specs.declared.Entry.{Entry}
 
 -- the order of pairs, by key and then by place. It is closed here, so that no proof looks into keys

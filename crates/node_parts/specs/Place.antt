@@ -1,7 +1,7 @@
 -- Where a pair belongs in a node.
 use Rattle.std.specs.Prelude.{ℕ, ◌-◌, Bool, false, not, List, [], ◌∷◌}
 use Rattle.std.specs.List.{prefix_len}
-use Rattle.records.specs.declared.pair.Pair.{Pair}
+use Rattle.record_values.specs.declared.pair.Pair.{Pair}
 use Rattle.node_parts.specs.declared.Entry.{Entry}
 use Rattle.node_parts.specs.Order.{is_below}
 use Rattle.node_parts.specs.Tree.{Tree, leaf, branch, entries, trees_of}

@@ -1,7 +1,7 @@
 -- What a node is seen as.
 use Rattle.std.specs.Prelude.{◌≡◌, ◌≤◌, List, [], ◌∷◌, map, vec_len, vec_capacity, Option, Some, None}
 use Rattle.node_parts.specs.Tree.{Tree, leaf, branch, forest_of, entries}
-use Rattle.records.specs.declared.pair.Pair.{Pair}
+use Rattle.record_values.specs.declared.pair.Pair.{Pair}
 use Rattle.node_parts.specs.declared.Entry.{Entry}
 use Rattle.node_parts.specs.declared.Parts.{Parts}
 use Rattle.node_parts.specs.declared.Parts.TheVariants.{Leaf, Inner}

@@ -4,8 +4,8 @@ use Rattle.std.proofs.Common.{ap}
 use Rattle.std.specs.Coded.{Coded, code_by, coded×, coded_list}
 use Rattle.records.specs.Codes.{coded_pair, coded_mark}
 use base.Stored.{Gv, gnil, gnum, gcons}
-use Rattle.records.specs.declared.pair.Pair.{Pair}
-use Rattle.records.specs.declared.pair.Mark.{Mark}
+use Rattle.record_values.specs.declared.pair.Pair.{Pair}
+use Rattle.record_values.specs.declared.pair.Mark.{Mark}
 use Rattle.node_parts.specs.declared.Entry.{Entry}
 
 mutual

@@ -1,8 +1,8 @@
 //! Ways down from a node, on which each node counts as it is visited.
-ghost use Rattle.std.specs.Prelude.{◌≡◌, ◌+◌, ◌-◌, ◌^◌, ◌<◌, ◌==◌, Some, false, length, slice_get, IsTrue};
+ghost use Rattle.std.specs.Prelude.{◌≡◌, ◌+◌, ◌-◌, ◌^◌, ◌<◌, ◌==◌, Some, None, false, slice_get, IsTrue};
 ghost use Rattle.std.specs.Prelude.{if◌then◌else◌};
 ghost use Rattle.node_parts.specs.Descents.{Reached};
-ghost use Rattle.node_parts.specs.Order.{IsAscending, mark_in};
+ghost use Rattle.node_parts.specs.Order.{IsAscending};
 ghost use Rattle.node_parts.specs.Place.{place_in};
 ghost use Rattle.node_parts.specs.Rows.{branches};
 ghost use Rattle.node_parts.specs.Tree.{count, entries, IsLeaf};
@@ -13,8 +13,8 @@ use records::Pair;
 use std::alloc::Allocator;
 use std::marker::Model;
 
-/// A way down from a node. It shows no node but by a visit, and counts those: each is to a child of the node that it
-/// visited last, and there is no way back.
+/// A way down from a node. It shows its callers no node but by a visit, and counts those: each is to a child of the
+/// node that it visited last, and there is no way back.
 #[derive(Drop)]
 pub struct Descent<'a, A: Allocator> {
     node: &'a Node<A>,
@@ -53,28 +53,33 @@ impl<'a, A: Allocator> Descent<'a, A> {
         self.node.count() == FULL
     }
 
-    /// Finds the place of a pair in the node that was visited last, and visits the child there. Answers the place, and
-    /// whether there is a child: a leaf has none.
-    pub fn descend(&mut self, pair: &Pair) -> (usize, bool)
-        requires ascending { IsAscending (entries self.old.node) }
-        requires some { 0 < length (entries self.old.node) }
+    /// Where a pair belongs in the node that was visited last, as `Node::place` says it. This visits nothing.
+    pub fn place(&self, pair: &Pair) -> usize
+        requires ascending { IsAscending (entries self.now.node) }
+        ensures { result ≡ place_in self.now.node pair.now }
+    {
+        self.node.place(pair)
+    }
+
+    /// Visits the child at a place of the node that was visited last, and counts it. Answers whether there is one: a
+    /// leaf has none, and the way then stays where it is.
+    pub fn descend_to(&mut self, at: usize) -> bool
         requires few { self.old.visits < 2 ^ 32 - 1 }
-        ensures place { result.0 ≡ place_in self.old.node pair.now }
-        ensures child { IsTrue result.1 → slice_get (branches self.old.node) (place_in self.old.node pair.now)
-            ≡ Some self.new.node }
-        ensures mark { mark_in (entries self.new.node) pair.now ≡ mark_in (entries self.old.node) pair.now }
-        ensures visits { self.new.visits ≡ self.old.visits + (if result.1 then 1 else 0) }
-        ensures leaf { result.1 ≡ false → IsLeaf self.old.node }
-        ensures unchanged { result.1 ≡ false → self.new ≡ self.old }
+        ensures child { IsTrue result → slice_get (branches self.old.node) at ≡ Some self.new.node }
+        ensures no_child { result ≡ false → slice_get (branches self.old.node) at ≡ None }
+        ensures visits { self.new.visits ≡ self.old.visits + (if result then 1 else 0) }
+        ensures unchanged { result ≡ false → self.new ≡ self.old }
     {
         let node = self.node;
-        let at = node.place(pair);
         let Parts::Inner(row) = &node.parts else {
-            return (at, false);
+            return false;
         };
-        self.node = &row[at].node;
+        let Some(child) = row.get(at) else {
+            return false;
+        };
+        self.node = &child.node;
         self.visits += 1;
-        (at, true)
+        true
     }
 
     /// The entries of the leaf where the way ends.

@@ -1,3 +1,3 @@
 mod Orders
 mod Refusals
-pub use Rattle.loops.proofs.Crosses
+pub use Rattle.threads_loops.proofs.Crosses

@@ -5,7 +5,7 @@ use Rattle.std.proofs.lemmas.Option.{get_or_from_slice_get, slice_get_within}
 use Rattle.std.specs.Prelude.{slice_get, slice_index_or}
 use Rattle.std.specs.declared.vec.Vec.{Vec}
 use Rattle.atomic_table.specs.Seated.{TableId}
-use Rattle.closing.specs.Gathered.{AreAllSeats}
+use Rattle.threads_lifetime.specs.Gathered.{AreAllSeats}
 use Rattle.shared.specs.Seats.{AreNewSeats, SeatValue}
 
 -- what is at a place of a list

@@ -1,8 +1,8 @@
 pub mod Serving
 pub use Rattle.sector_device.specs.Disk
-pub use Rattle.sector_device.specs.History
+pub use Rattle.sector_device.specs.DevicePast
 pub use Rattle.sector_device.specs.MemDisk
-pub use Rattle.records.specs.GeometryValue
+pub use Rattle.record_values.specs.GeometryValue
 pub use Rattle.core_model.specs.Histories
 pub use Rattle.nsf_core.specs.Value
 pub use Rattle.restart.specs.Building
@@ -11,15 +11,15 @@ pub use Rattle.restart.specs.Migrating
 pub use Rattle.restart.specs.Reopening
 pub use Rattle.restart.specs.Store
 pub use Rattle.restart.specs.Story
-pub use Rattle.moving.specs.Moved
+pub use Rattle.store_moving.specs.Moved
 pub use Rattle.shared.specs.Changed
 pub use Rattle.shared.specs.Seats
 pub use Rattle.shared.specs.Served
 pub use Rattle.shared.specs.Waits
-pub use Rattle.flusher.specs.Going
-pub use Rattle.flusher.specs.Part
-pub use Rattle.loops.specs.Building as Builds
-pub use Rattle.loops.specs.Through
-pub use Rattle.closing.specs.Closing
-pub use Rattle.closing.specs.Gathered
-pub use Rattle.opening.specs.Openings
+pub use Rattle.threads_flusher.specs.Going
+pub use Rattle.threads_flusher.specs.Part
+pub use Rattle.threads_loops.specs.Building as Builds
+pub use Rattle.threads_loops.specs.Through
+pub use Rattle.threads_lifetime.specs.Closing
+pub use Rattle.threads_lifetime.specs.Gathered
+pub use Rattle.threads_lifetime.specs.Openings

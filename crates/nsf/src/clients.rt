@@ -1,19 +1,15 @@
 //! Clients of a store, each in a thread of its own.
 ghost use Rattle.std.specs.Prelude.{◌≡◌, ◌<◌, IfErr, IfOk, ℕ, map, slice_index_or, vec_len};
-ghost use Rattle.records.specs.declared.error.Error.TheVariants.{NoMemory};
+ghost use Rattle.record_values.specs.declared.error.Error.TheVariants.{NoMemory};
 ghost use Rattle.core_model.specs.Histories.{Opened};
 ghost use Rattle.store_writer.specs.Parts.{device_of};
 ghost use Rattle.shared.specs.Seats.{AreNewSeats};
-ghost use Rattle.closing.specs.Gathered.{AreAllSeats};
-ghost use Rattle.opening.specs.Openings.{IsNotShared, Opens};
-ghost use Rattle.opening.specs.declared.refusal.OpenError.TheVariants.{Refused};
+ghost use Rattle.threads_lifetime.specs.Gathered.{AreAllSeats};
+ghost use Rattle.threads_lifetime.specs.Openings.{IsNotShared, Opens};
+ghost use Rattle.threads_lifetime.specs.declared.refusal.OpenError.TheVariants.{Refused};
 ghost use Rattle.nsf.specs.Serving.{HasRoom, KeepsSeat, LeavesCommits};
 
-use closing::finish;
-use flusher::FlushPart;
-use loops::{BuilderEnd, Ended, NoGate, NotRun, run_beside};
 use nsf_core::Ticket;
-use opening::{OpenError, OpenStore, Parts, open_store};
 use records::Error;
 use sector_device::Device;
 use shared::{BuildPart, CleanPart, Group, Seat, Shared};
@@ -21,6 +17,9 @@ use std::alloc::{AllocError, Global};
 use std::marker::Brand;
 use std::sync::Wait;
 use std::thread::{Threads, for_each_mut};
+use threads_flusher::FlushPart;
+use threads_lifetime::{OpenError, OpenStore, Parts, finish, open_store};
+use threads_loops::{BuilderEnd, Ended, NoGate, NotRun, run_beside};
 
 /// Something that uses a store beside others, in a thread of its own with a seat of its own.
 pub trait Client {
@@ -67,10 +66,10 @@ pub fn serve<C: Client + Send + Drop, D: Device + Send + Drop, R: Threads + Wait
     device: D,
     clients: Vec<C>,
 ) -> Result<Served<C, D>, (OpenError, D)>
-    ensures leaves { IfOk result (λ s. (o : Opened) × Opens (D.history device).disk.content o
-        × LeavesCommits D.history o s.device s.written) }
+    ensures leaves { IfOk result (λ s. (o : Opened) × Opens (D.past_of device).disk.content o
+        × LeavesCommits D.past_of o s.device s.written) }
     ensures clients { IfOk result (λ s. vec_len s.clients ≡ vec_len clients) }
-    ensures refused { IfErr result (λ r. IsNotShared D.history D.failures device (vec_len clients) r.1 r.0) }
+    ensures refused { IfErr result (λ r. IsNotShared D.past_of D.failures device (vec_len clients) r.1 r.0) }
 {
     match open_store(alloc, device, clients.len()) {
         Ok(store) => begin::<Brand, C, D, R>(rt, alloc, store, clients),
@@ -91,7 +90,7 @@ fn begin<
     clients: Vec<C>,
 ) -> Result<Served<C, D>, (OpenError, D)>
     requires { store.site ≡ B.site }
-    ensures leaves { IfOk result (λ s. LeavesCommits D.history B.site.opened s.device s.written) }
+    ensures leaves { IfOk result (λ s. LeavesCommits D.past_of B.site.opened s.device s.written) }
     ensures clients { IfOk result (λ s. vec_len s.clients ≡ vec_len clients) }
     ensures no_memory { IfErr result (λ r. (r.0 ≡ Refused NoMemory) × (r.1 ≡ store.device)) }
 {
@@ -258,7 +257,7 @@ fn close<B: Group, D: Device, R: Wait>(
     parts: Parts<B, D>,
 ) -> (D, Result<(), Error>)
     requires seats { AreAllSeats B.site.seats parts.seats.items }
-    ensures { LeavesCommits D.history B.site.opened result.0 result.1 }
+    ensures { LeavesCommits D.past_of B.site.opened result.0 result.1 }
 {
     parts.flush.stands();
     match finish(rt, alloc, shared, parts, Vec::new(alloc)) {
@@ -278,7 +277,7 @@ fn end<B: Group, C: Drop, D: Device, R: Wait>(
     requires seats { AreAllSeats B.site.seats (map (λ d. d.seat) ended.clients.items) }
     requires room { HasRoom room.clients (vec_len ended.clients) }
     requires places { HasRoom room.seats (vec_len ended.clients) }
-    ensures leaves { LeavesCommits D.history B.site.opened result.device result.written }
+    ensures leaves { LeavesCommits D.past_of B.site.opened result.device result.written }
     ensures clients { vec_len result.clients ≡ vec_len ended.clients }
 {
     let Ended {
@@ -335,7 +334,7 @@ fn seat_all<
     clients: Vec<C>,
 ) -> Result<Served<C, D>, D>
     requires { AreNewSeats B.site.board B.site.seats parts.seats.items }
-    ensures leaves { IfOk result (λ s. LeavesCommits D.history B.site.opened s.device s.written) }
+    ensures leaves { IfOk result (λ s. LeavesCommits D.past_of B.site.opened s.device s.written) }
     ensures clients { IfOk result (λ s. vec_len s.clients ≡ vec_len clients) }
     ensures back { IfErr result (λ d. d ≡ device_of parts.flush.writer) }
 {

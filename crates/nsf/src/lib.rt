@@ -119,30 +119,29 @@
 //! Of one thread: the contracts of `restart`, and above them `live_through` and `live_on` of `headline`. Of many: when
 //! all clients of `serve` have ended, a crash leaves what was opened with commits of some seats set over it, up to a
 //! record; all of them where nothing was refused (`leaves`). So it may be opened again (the law `left_by_threads`). As
-//! many clients come back as went in (`clients`). Only tested (`nsf_tests`): both examples. Neither: that a client is
+//! many clients come back as went in (`clients`). Only tested (`test_nsf`): both examples. Neither: that a client is
 //! called, or that the commits are those of these clients.
 #![tactic(auto)]
 
 mod clients;
 
 pub use clients::{Client, Served, serve};
-pub use closing::{Closed, finish};
-pub use file_disk as file;
-pub use flusher::FlushPart;
-pub use loops::{
-    BuilderEnd, Ended, Gate, NoGate, NotRun, Point, build_loop, clean_loop, flush_loop, run_beside,
-};
 pub use model::Life;
-pub use moving::{NotVersionOne, old_geometry};
 pub use nsf_core::{BuildReply, CleanReply, Core, Ticket};
-pub use opening::{
-    OpenError, OpenStore, Parts, format_store, left_by_a_run, left_by_an_opening, left_by_threads,
-    open_engine, open_store, sound_or_not,
-};
 pub use records::{
     BODY_MAX, Body, Error, Geometry, KEY_MAX, Key, Mark, Pair, Rid, Row, SLOTS_PER_PAGE, Txn,
 };
 pub use restart::{Engine, Event, MigrateError, Reply, every_story, migrate, restart};
 pub use sector_device::{Device, Failed, Fate, FaultDisk, MemDisk, Which};
-pub use sessions::Commit;
 pub use shared::{Ack, BuildPart, Change, CleanPart, Group, GroupView, Seat, Shared, each_refusal};
+pub use store_file as file;
+pub use store_moving::{NotVersionOne, old_geometry};
+pub use threads_flusher::FlushPart;
+pub use threads_lifetime::{
+    Closed, OpenError, OpenStore, Parts, finish, format_store, left_by_a_run, left_by_an_opening,
+    left_by_threads, open_engine, open_store, sound_or_not,
+};
+pub use threads_loops::{
+    BuilderEnd, Ended, Gate, NoGate, NotRun, Point, build_loop, clean_loop, flush_loop, run_beside,
+};
+pub use threads_sessions::Commit;

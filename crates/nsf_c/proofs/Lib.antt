@@ -1,5 +1,5 @@
-pub mod Values
-pub mod Fields
-pub mod Spots
-pub mod Opened
-pub mod Saved
+mod Values
+mod Fields
+mod Spots
+mod Opened
+mod Saved

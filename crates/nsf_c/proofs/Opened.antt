@@ -1,11 +1,11 @@
 -- What was opened is put under the handle, or its refusal told.
 use Rattle.std.proofs.Common.{◌≡◌, ℕ, ◌≤◌, Option, Some, None, Result, Ok, Err, IfOk, IfErr, sym, ◌∙◌, arith}
 use Rattle.std.specs.Global.{Box}
-use Rattle.records.specs.declared.error.Error.{Error}
-use Rattle.records.specs.declared.error.Error.TheVariants.{NoMemory, DeviceFailed, NotFormatted, Damaged, DeviceTooSmall, BadGeometry, TooManyTxns}
-use Rattle.records.specs.declared.error.Error.TheVariants.{TooManyChanges, NoSuchTxn, NoSuchRow, RowBusy, HeapFull, IndexFull, KeyTooLong, BodyTooLong}
-use Rattle.records.specs.declared.error.Error.TheVariants.{TxnsActive, IndexExists, NoIndex, NotBuilt, Stopped, Exhausted, BadScript, OldVersion}
-use Rattle.records.specs.Refusals.{number_of}
+use Rattle.record_values.specs.declared.error.Error.{Error}
+use Rattle.record_values.specs.declared.error.Error.TheVariants.{NoMemory, DeviceFailed, NotFormatted, Damaged, DeviceTooSmall, BadGeometry, TooManyTxns}
+use Rattle.record_values.specs.declared.error.Error.TheVariants.{TooManyChanges, NoSuchTxn, NoSuchRow, RowBusy, HeapFull, IndexFull, KeyTooLong, BodyTooLong}
+use Rattle.record_values.specs.declared.error.Error.TheVariants.{TxnsActive, IndexExists, NoIndex, NotBuilt, Stopped, Exhausted, BadScript, OldVersion}
+use Rattle.record_values.specs.Refusals.{number_of}
 use Rattle.nsf_c.specs.Handles.{Opened}
 use Rattle.nsf_c.specs.declared.held.Held.{Held}
 

@@ -1,8 +1,8 @@
 -- What C asks for, as an event of the engine.
 use Rattle.std.specs.Prelude.{◌≡◌, ◌⊎◌, ◌<◌, ◌≤◌, ℕ, List, length}
-use Rattle.records.specs.Values.{Place}
-use Rattle.records.specs.declared.rid.TheConstants.{SLOTS_PER_PAGE}
-use Rattle.records.specs.declared.key.TheConstants.{KEY_MAX, BODY_MAX}
+use Rattle.record_values.specs.Values.{Place}
+use Rattle.record_values.specs.declared.rid.TheConstants.{SLOTS_PER_PAGE}
+use Rattle.record_values.specs.declared.key.TheConstants.{KEY_MAX, BODY_MAX}
 use Rattle.restart.specs.declared.event.Event.{Event}
 use Rattle.restart.specs.declared.event.Event.TheVariants.{Begin, Insert, Delete, Update, Step, Undo, End, Commit}
 use Rattle.restart.specs.declared.event.Event.TheVariants.{Create, Drop, Build, Clean, Flush, Copy, Get, Find, Life}

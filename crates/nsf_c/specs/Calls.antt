@@ -2,23 +2,23 @@
 use Rattle.std.specs.Prelude.{◌≡◌, ◌⊎◌, ℕ, false, ◌-◌, ◌/◌, ◌++◌, List, length, take, drop, min}
 use Rattle.std.specs.Simd.{first_chunks}
 use Rattle.std.specs.declared.alloc.Global.{Global}
-use Rattle.records.specs.GeometryValue.{GeometryValue, IsGeometry}
-use Rattle.records.specs.GeometryValue as geometry
-use Rattle.records.specs.Refusals.{number_of}
-use Rattle.records.specs.declared.error.Error.{Error}
-use Rattle.records.specs.declared.error.Error.TheVariants.{NoMemory, DeviceFailed, BadGeometry}
-use Rattle.sector_device.specs.Disk.{Image, sector, IsSynced}
-use Rattle.file_disk.specs.FileDisk.{history_of, failures_of}
+use Rattle.record_values.specs.GeometryValue.{GeometryValue, IsGeometry}
+use Rattle.record_values.specs.GeometryValue as geometry
+use Rattle.record_values.specs.Refusals.{number_of}
+use Rattle.record_values.specs.declared.error.Error.{Error}
+use Rattle.record_values.specs.declared.error.Error.TheVariants.{NoMemory, DeviceFailed, BadGeometry}
+use Rattle.sector_device.specs.Disk.{CrashState, sector, IsSynced}
+use Rattle.store_file.specs.FileDisk.{past_of, failures_of}
 use Rattle.flip_image.specs.declared.half.Half.TheVariants.{A}
 use Rattle.flip_image.specs.Store.{AreGatesClosed, IsFormatted}
 use Rattle.core_model.specs.Histories.{CanOpen}
-use Rattle.nsf_core.specs.Opening.{opened_of}
+use Rattle.core_parts.specs.Opening.{opened_of}
 use Rattle.restart.specs.Parts.{core_of}
 use Rattle.restart.specs.Store.{Past, IsAt, Survives}
 use Rattle.restart.specs.declared.event.Event.{Event}
 use Rattle.restart.specs.declared.event.Reply.{Reply}
-use Rattle.serving.specs.Guarded.{ServesGuarded, FlushesGuarded, TakesImageGuarded, knows_failure, store_of}
-use Rattle.serving.specs.Store as serving
+use Rattle.program_commands.specs.Guarded.{ServesGuarded, FlushesGuarded, TakesImageGuarded, knows_failure, store_of}
+use Rattle.program_commands.specs.Store as serving
 use Rattle.nsf_c.specs.declared.asked.Asked.{Asked}
 use Rattle.nsf_c.specs.declared.handle.Handle.{Handle}
 use Rattle.nsf_c.specs.declared.spot.Spot.{Spot}
@@ -34,15 +34,15 @@ use Rattle.nsf_c.specs.Told.{plain, life_told, told_of, status_of}
 -- The event had this lawful reply, and the store's device has as many sectors as before (`sectors`). A commit behind a
 -- known failure of the device is refused by 2 instead, and nothing was done.
 abbrev pub Serves : Event → Reply Global → Opened → Opened → Type 0
-Serves event reply old new = ServesGuarded history_of failures_of event reply old new
+Serves event reply old new = ServesGuarded past_of failures_of event reply old new
 
 -- Records were flushed up to the last one made, or a refusal came.
 abbrev pub Flushes : Reply Global → Opened → Opened → Type 0
-Flushes reply old new = FlushesGuarded history_of failures_of reply old new
+Flushes reply old new = FlushesGuarded past_of failures_of reply old new
 
 -- An image was taken and made current, or a refusal came.
 abbrev pub TakesImage : Reply Global → Opened → Opened → Type 0
-TakesImage reply old new = TakesImageGuarded history_of failures_of reply old new
+TakesImage reply old new = TakesImageGuarded past_of failures_of reply old new
 
 -- the reply is told, and the call answers its number
 abbrev pub Tells : Reply Global → ℕ → Told → Type 0
@@ -90,19 +90,19 @@ stat_of s = record {
 -- ---- saving
 
 -- what its device holds
-abbrev pub content_of : Opened → Image
-content_of s = (history_of (serving.device_of (store_of s))).disk.content
+abbrev pub content_of : Opened → CrashState
+content_of s = (past_of (serving.device_of (store_of s))).disk.content
 
 -- So many sectors from the first on, as many as there are and as there is room for, stand in front; behind them stays
 -- what was there.
-pub record CopiesOut (content : Image) (first count : ℕ) (old new : Image) : Type 0 where
+pub record CopiesOut (content : CrashState) (first count : ℕ) (old new : CrashState) : Type 0 where
   pub count_is : count ≡ min (length content - first) (length old)
   pub new_is : new ≡ take count (drop first content) ++ drop count old
 
 -- Whatever run left the store where it is: a device of these sectors holds a beginning of it, with every record up to
 -- the horizon, and so with all that a reply has told to be safe.
-abbrev pub IsStoreKept : Opened → Image → Type 0
-IsStoreKept s image = (past : Past Global) → IsAt history_of past (serving.engine_of (store_of s))
+abbrev pub IsStoreKept : Opened → CrashState → Type 0
+IsStoreKept s image = (past : Past Global) → IsAt past_of past (serving.engine_of (store_of s))
     → Survives past (serving.horizon_of (store_of s)) image
 
 -- ---- opening
@@ -112,28 +112,28 @@ abbrev pub IsNeeded : GeometryValue → ℕ → Type 0
 IsNeeded g sectors = (IsGeometry g × (sectors ≡ geometry.sectors_of g)) ⊎ ((¬ IsGeometry g) × (sectors ≡ 0))
 
 -- the whole sectors of these bytes
-abbrev pub sectors_of : List ℕ → Image
+abbrev pub sectors_of : List ℕ → CrashState
 sectors_of bytes = first_chunks 512 (length bytes / 512) bytes
 
 -- a disk whose content has P, all of it safe, and of which no call has failed
-pub record IsDisk (P : Image → Type 0) (disk : Disk) : Type 0 where
-  pub content : P (history_of disk).disk.content
-  pub synced : IsSynced (history_of disk).disk
+pub record IsDisk (P : CrashState → Type 0) (disk : Disk) : Type 0 where
+  pub content : P (past_of disk).disk.content
+  pub synced : IsSynced (past_of disk).disk
   pub failures : failures_of disk ≡ 0
 
 -- A store was opened on such a disk, of which no failure is known.
-pub record IsOpenedOn (P : Image → Type 0) (s : Opened) : Type 0 where
+pub record IsOpenedOn (P : CrashState → Type 0) (s : Opened) : Type 0 where
   pub disk : Disk
   pub is_disk : IsDisk P disk
-  pub opens : serving.OpensOn history_of disk (store_of s)
+  pub opens : serving.OpensOn past_of disk (store_of s)
   pub sound : knows_failure s ≡ false
 
 -- Nothing was opened on this disk, for this reason.
 abbrev pub IsRefused : Disk → Error → Type 0
-IsRefused disk e = (after : Disk) × serving.IsRefusedOn history_of failures_of disk after e
+IsRefused disk e = (after : Disk) × serving.IsRefusedOn past_of failures_of disk after e
 
 -- No store was opened on such a disk, for the reason that a restart gives.
-pub record IsRefusedOn (P : Image → Type 0) (status : ℕ) : Type 0 where
+pub record IsRefusedOn (P : CrashState → Type 0) (status : ℕ) : Type 0 where
   pub disk : Disk
   pub error : Error
   pub is_disk : IsDisk P disk
@@ -141,15 +141,15 @@ pub record IsRefusedOn (P : Image → Type 0) (status : ℕ) : Type 0 where
   pub status_is : status ≡ number_of error
 
 -- a store of this geometry as it is made, in as many sectors as it needs
-abbrev pub IsMade : GeometryValue → Image → Type 0
+abbrev pub IsMade : GeometryValue → CrashState → Type 0
 IsMade g content = IsFormatted g content × AreGatesClosed g A content × (length content ≡ geometry.sectors_of g)
 
 -- a content of just these sectors
-abbrev pub Is : Image → Image → Type 0
+abbrev pub Is : CrashState → CrashState → Type 0
 Is sectors content = content ≡ sectors
 
 -- why no store was opened on these sectors: there was no memory for the disk or the store, or a restart refused
-abbrev pub IsNotOpened : Image → ℕ → Type 0
+abbrev pub IsNotOpened : CrashState → ℕ → Type 0
 IsNotOpened sectors status = (status ≡ number_of NoMemory) ⊎ IsRefusedOn (Is sectors) status
 
 -- why no store was made: the numbers are no geometry; or they are, and there was no memory, or a call of the device

@@ -1,8 +1,8 @@
 -- A handle, and the store that is open under it.
 use Rattle.std.specs.Prelude.{◌≡◌, Option, Some, None}
 use Rattle.std.specs.declared.alloc.Global.{Global}
-use Rattle.file_disk.specs.declared.mirror.FileDisk.{FileDisk}
-use Rattle.serving.specs.declared.guarded.GuardedStore.{GuardedStore}
+use Rattle.store_file.specs.declared.mirror.FileDisk.{FileDisk}
+use Rattle.program_commands.specs.declared.guarded.GuardedStore.{GuardedStore}
 use Rattle.nsf_c.specs.Full.{IsFull}
 use Rattle.nsf_c.specs.declared.below.Below.{Below}
 use Rattle.nsf_c.specs.declared.held.Held.{Held}

@@ -1,7 +1,7 @@
 -- Places of rows, as C has them.
 use Rattle.std.specs.Prelude.{◌≡◌, ◌<◌, ◌≤◌, ℕ, List, length, slice_index_or}
 use Rattle.std.specs.declared.alloc.Global.{Global}
-use Rattle.records.specs.Values.{Place}
+use Rattle.record_values.specs.Values.{Place}
 use Rattle.restart.specs.declared.event.Reply.{Reply}
 use Rattle.restart.specs.declared.event.Reply.TheVariants.{Found}
 use Rattle.nsf_c.specs.declared.spot.Spot.{Spot}

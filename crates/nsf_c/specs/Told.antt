@@ -1,19 +1,19 @@
 -- What C is told for a reply of the engine.
 use Rattle.std.specs.Prelude.{ℕ, ◌++◌, List, [], length, drop, replicate, Option, Some, None}
 use Rattle.std.specs.declared.alloc.Global.{Global}
-use Rattle.records.specs.Values.{Place}
-use Rattle.records.specs.Refusals.{number_of}
-use Rattle.records.specs.declared.key.TheConstants.{KEY_MAX, BODY_MAX}
-use Rattle.records.specs.declared.error.Error.{Error}
-use Rattle.records.specs.declared.error.Error.TheVariants.{Damaged}
-use Rattle.records.specs.declared.pair.Pair.{Pair}
-use Rattle.records.specs.declared.row.Row.{Row}
+use Rattle.record_values.specs.Values.{Place}
+use Rattle.record_values.specs.Refusals.{number_of}
+use Rattle.record_values.specs.declared.key.TheConstants.{KEY_MAX, BODY_MAX}
+use Rattle.record_values.specs.declared.error.Error.{Error}
+use Rattle.record_values.specs.declared.error.Error.TheVariants.{Damaged}
+use Rattle.record_values.specs.declared.pair.Pair.{Pair}
+use Rattle.record_values.specs.declared.row.Row.{Row}
 use Rattle.model.specs.declared.life.Life.{Life}
 use Rattle.model.specs.declared.life.Life.TheVariants as life
-use Rattle.nsf_core.specs.declared.reply.BuildReply.{BuildReply}
-use Rattle.nsf_core.specs.declared.reply.BuildReply.TheVariants as build
-use Rattle.nsf_core.specs.declared.reply.CleanReply.{CleanReply}
-use Rattle.nsf_core.specs.declared.reply.CleanReply.TheVariants as clean
+use Rattle.core_parts.specs.declared.reply.BuildReply.{BuildReply}
+use Rattle.core_parts.specs.declared.reply.BuildReply.TheVariants as build
+use Rattle.core_parts.specs.declared.reply.CleanReply.{CleanReply}
+use Rattle.core_parts.specs.declared.reply.CleanReply.TheVariants as clean
 use Rattle.restart.specs.declared.event.Reply.{Reply}
 use Rattle.restart.specs.declared.event.Reply.TheVariants as reply
 use Rattle.nsf_c.specs.declared.told.Told.{Told}

@@ -1,7 +1,7 @@
 //! What is below the disk of a store that C opened.
-use file_disk::Backing;
 use sector_device::SECTOR_SIZE;
 use std::io::{Error, ErrorKind};
+use store_file::Backing;
 
 /// What is below the disk of a store.
 #[derive(Drop)]

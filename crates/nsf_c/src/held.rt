@@ -1,8 +1,8 @@
 //! A store, as a handle holds it.
 use crate::below::Below;
-use file_disk::FileDisk;
-use serving::GuardedStore;
+use program_commands::GuardedStore;
 use std::alloc::Global;
+use store_file::FileDisk;
 
 /// A store on a disk of C's.
 #[derive(Drop)]

@@ -1,21 +1,21 @@
 //! A store is made, opened and closed.
 ghost use Rattle.std.specs.Prelude.{◌≡◌, ◌≢◌, ◌⊎◌, Some, IfOk, IfErr, false};
-ghost use Rattle.records.specs.Refusals.{number_of};
-ghost use Rattle.file_disk.specs.FileDisk.{history_of};
-ghost use Rattle.serving.specs.Guarded.{knows_failure, store_of};
-ghost use Rattle.serving.specs.Store.{OpensOn};
+ghost use Rattle.record_values.specs.Refusals.{number_of};
+ghost use Rattle.store_file.specs.FileDisk.{past_of};
+ghost use Rattle.program_commands.specs.Guarded.{knows_failure, store_of};
+ghost use Rattle.program_commands.specs.Store.{OpensOn};
 ghost use Rattle.nsf_c.specs.Calls.{Is, IsMade, IsNeeded, IsNotMade, IsNotOpened, IsOpenedOn, IsRefused, sectors_of};
 ghost use Rattle.nsf_c.specs.Handles.{Holds, IsOpen, IsVacant};
 
 use crate::below::Below;
 use crate::handle::Handle;
 use crate::held::Held;
-use file_disk::FileDisk;
 use flip_image::Halves;
+use program_commands::{GuardedStore, Store};
 use records::{Error, Geometry};
 use sector_device::{Device, SECTOR_SIZE};
-use serving::{GuardedStore, Store};
 use std::alloc::Global;
+use store_file::FileDisk;
 
 // What is below, where the descriptor is of a line, or is none.
 fn below(line: i32) -> Below {
@@ -39,7 +39,7 @@ pub extern "C" fn nsf_sectors(pages: u32, entries: u32, slots: u32) -> u64
 
 // Opens the store on the disk.
 fn open_on(alloc: Global, disk: FileDisk<Below, Global>) -> Result<Box<Held>, Error>
-    ensures ok { IfOk result (λ held. OpensOn history_of disk (store_of held.value.store)) }
+    ensures ok { IfOk result (λ held. OpensOn past_of disk (store_of held.value.store)) }
     ensures sound { IfOk result (λ held. knows_failure held.value.store ≡ false) }
     ensures err { IfErr result (λ e. (e ≡ Error.NoMemory) ⊎ IsRefused disk e) }
 {

@@ -6,15 +6,15 @@ use Rattle.std.specs.Ordering.{nat_cmp}
 use Rattle.std.specs.Option.{option_map}
 use Rattle.std.specs.Prelude.{IfOk, IsOkUnless, OnErr, OnOk}
 use Rattle.std.proofs.lemmas.List.{length-append}
-use Rattle.records.specs.GeometryValue.{GeometryValue}
-use Rattle.records.specs.Maps.{get-set_at_other, get-set_at_same, nat_exact, rid_exact, set_at}
-use Rattle.records.specs.Orders.{pair_cmp}
-use Rattle.records.specs.Values.{Place}
-use Rattle.records.specs.declared.error.Error.{Error}
-use Rattle.records.specs.declared.number.TheConstants.{LAST_NUMBER}
-use Rattle.records.specs.declared.pair.Mark.{Mark}
-use Rattle.records.specs.declared.row.Row.{Row}
-use Rattle.records.specs.declared.txn.TheConstants.{TXNS_MAX}
+use Rattle.record_values.specs.GeometryValue.{GeometryValue}
+use Rattle.record_values.specs.Maps.{get-set_at_other, get-set_at_same, nat_exact, rid_exact, set_at}
+use Rattle.record_values.specs.Orders.{pair_cmp}
+use Rattle.record_values.specs.Values.{Place}
+use Rattle.record_values.specs.declared.error.Error.{Error}
+use Rattle.record_values.specs.declared.number.TheConstants.{LAST_NUMBER}
+use Rattle.record_values.specs.declared.pair.Mark.{Mark}
+use Rattle.record_values.specs.declared.row.Row.{Row}
+use Rattle.record_values.specs.declared.txn.TheConstants.{TXNS_MAX}
 use Rattle.model.specs.declared.life.Life.TheVariants.{Absent}
 use Rattle.txn_table.specs.Table as table
 use Rattle.txn_table.specs.Table.{TableValue, TxnState, with_next}
@@ -24,18 +24,18 @@ use Rattle.core_model.specs.Histories.{FitsStore, Opened, opened}
 use Rattle.core_model.specs.States.{State}
 use Rattle.core_model.specs.Steps as core
 use Rattle.core_model.specs.Steps.{Begin, MachineStep, after, all_reserved, reserved}
-use Rattle.core_contracts.proofs.Laws.{opened_standing}
-use Rattle.core_contracts.specs.Events.{Event, Refused, Reply, Standing, Txn, standing_at}
-use Rattle.core_contracts.specs.Replies.{accepted, refused}
+use Rattle.core_model.proofs.ReplyLaws.{opened_standing}
+use Rattle.core_model.specs.Events.{Event, Refused, Reply, Standing, Txn, standing_at}
+use Rattle.core_model.specs.Replies.{accepted, refused}
 use Rattle.sorted_scan.specs.Scans.{HasRun, begun, begun_run}
-use Rattle.nsf_core.specs.Asked.{IsFine, IsRefused}
-use Rattle.nsf_core.specs.View.{Answers, AreOne, CoreValue, IsSafe, IsState, Serves, Shows}
-use Rattle.nsf_core.specs.Moves.{fresh}
-use Rattle.nsf_core.specs.Replies.{reply_by}
+use Rattle.core_parts.specs.Asked.{IsFine, IsRefused}
+use Rattle.core_parts.specs.View.{Answers, AreOne, CoreValue, IsSafe, IsState, Serves, Shows}
+use Rattle.core_parts.specs.Moves.{fresh}
+use Rattle.core_parts.specs.Replies.{reply_by}
 use Rattle.core_model.specs.Invariants.{IsWellFormed}
 use Rattle.std.proofs.lemmas.Bool.{cases_lt}
-use Rattle.nsf_core.proofs.Due.{made, refusal, still, wants_memory}
-use Rattle.nsf_core.proofs.Moved.{other_number, same_number}
+use Rattle.core_parts.proofs.Due.{made, refusal, still, wants_memory}
+use Rattle.core_parts.proofs.Moved.{other_number, same_number}
 
 -- ---- a core as it is made
 module _ (g : GeometryValue) (base : ℕ) (le : base ≤ LAST_NUMBER) where

@@ -2,7 +2,7 @@
 use Rattle.std.proofs.Common.{Err, List, None, Ok, Result, Some, [], ap, cond, false, inl, inr, refl, subst, sym, true, true≢false, ℕ, ◌+◌, ◌∙◌, ◌∷◌, ◌≡◌, ◌≢◌}
 use Rattle.std.proofs.Common.{◌≤◌}
 use Rattle.std.specs.Prelude.{IfErr, IfOk, OnErr, OnOk}
-use Rattle.records.specs.declared.error.Error.{Error}
+use Rattle.record_values.specs.declared.error.Error.{Error}
 use Rattle.model.specs.Pairs.{is_indexed}
 use Rattle.txn_table.specs.Table as table
 use Rattle.txn_table.specs.Table.{TxnState}
@@ -10,16 +10,16 @@ use Rattle.sorted_scan.specs.Scans.{HasRun, begun, begun_run}
 use Rattle.core_model.proofs.Laws.{not_none}
 use Rattle.core_model.specs.States.{State}
 use Rattle.core_model.specs.Steps.{MachineStep, after}
-use Rattle.core_contracts.specs.Events.{Event, Refused, Reply, Standing, standing_after}
-use Rattle.core_contracts.specs.Replies.{IsStepDue, IsFirst, refusals, refused}
-use Rattle.nsf_core.specs.Asked.{IsFine, IsRefused}
-use Rattle.records.specs.declared.number.TheConstants.{LAST_NUMBER}
-use Rattle.nsf_core.specs.View.{Answers, AreOne, CoreValue, IsState, Serves, Shows}
-use Rattle.nsf_core.specs.Replies.{reply_by, reply_of_ticket}
-use Rattle.nsf_core.specs.Private.{HasNextNumber, IsUnrecorded, IsUncreatable, index_created}
-use Rattle.nsf_core.specs.declared.parts.Ticket.{Ticket}
-use Rattle.nsf_core.proofs.Due.{made, no_number, refusal, ticket_answers, wants_memory}
-use Rattle.nsf_core.proofs.Moved.{same_number}
+use Rattle.core_model.specs.Events.{Event, Refused, Reply, Standing, standing_after}
+use Rattle.core_model.specs.Replies.{IsStepDue, IsFirst, refusals, refused}
+use Rattle.core_parts.specs.Asked.{IsFine, IsRefused}
+use Rattle.record_values.specs.declared.number.TheConstants.{LAST_NUMBER}
+use Rattle.core_parts.specs.View.{Answers, AreOne, CoreValue, IsState, Serves, Shows}
+use Rattle.core_parts.specs.Replies.{reply_by, reply_of_ticket}
+use Rattle.core_parts.specs.Private.{HasNextNumber, IsUnrecorded, IsUncreatable, index_created}
+use Rattle.core_parts.specs.declared.parts.Ticket.{Ticket}
+use Rattle.core_parts.proofs.Due.{made, no_number, refusal, ticket_answers, wants_memory}
+use Rattle.core_parts.proofs.Moved.{same_number}
 
 -- a table with a transaction has its state
 pub some_state : (es : List (ℕ × TxnState)) → es ≢ [] → (t : ℕ) × (x : TxnState) × (table.state_of t es ≡ Some x)

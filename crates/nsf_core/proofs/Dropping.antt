@@ -1,7 +1,7 @@
 -- The dropping of the index: the reply that is due, and what the core shows after it.
-use Rattle.std.proofs.Common.{Err, List, None, Ok, Result, Some, [], ap, inl, inr, refl, subst, sym, ℕ, ◌+◌, ◌∙◌, ◌≡◌, ◌≢◌, ◌≤◌}
+use Rattle.std.proofs.Common.{Err, None, Ok, Result, Some, [], ap, inl, inr, refl, subst, sym, ℕ, ◌+◌, ◌∙◌, ◌≡◌, ◌≢◌, ◌≤◌}
 use Rattle.std.specs.Prelude.{IfErr, IfOk, OnErr, OnOk}
-use Rattle.records.specs.declared.error.Error.{Error}
+use Rattle.record_values.specs.declared.error.Error.{Error}
 use Rattle.model.specs.declared.life.Life.TheVariants.{Absent}
 use Rattle.txn_table.specs.Table as table
 use Rattle.txn_table.specs.Table.{TxnState}
@@ -9,16 +9,16 @@ use Rattle.sorted_scan.specs.Scans.{HasRun, begun, begun_run}
 use Rattle.core_model.proofs.Laws.{not_none}
 use Rattle.core_model.specs.States.{State}
 use Rattle.core_model.specs.Steps.{MachineStep, after}
-use Rattle.core_contracts.specs.Events.{Event, Refused, Reply, Standing, standing_after}
-use Rattle.core_contracts.specs.Replies.{IsStepDue, IsFirst, refusals, refused}
-use Rattle.nsf_core.specs.Asked.{IsFine, IsRefused}
-use Rattle.records.specs.declared.number.TheConstants.{LAST_NUMBER}
-use Rattle.nsf_core.specs.View.{Answers, AreOne, CoreValue, IsState, Serves, Shows}
-use Rattle.nsf_core.specs.Replies.{reply_by, reply_of_detached}
-use Rattle.nsf_core.specs.Private.{HasNextNumber, IsUnrecorded, IsUndroppable, index_dropped}
-use Rattle.nsf_core.specs.declared.parts.Detached.{Detached}
+use Rattle.core_model.specs.Events.{Event, Refused, Reply, Standing, standing_after}
+use Rattle.core_model.specs.Replies.{IsStepDue, IsFirst, refusals, refused}
+use Rattle.core_parts.specs.Asked.{IsFine, IsRefused}
+use Rattle.record_values.specs.declared.number.TheConstants.{LAST_NUMBER}
+use Rattle.core_parts.specs.View.{Answers, AreOne, CoreValue, IsState, Serves, Shows}
+use Rattle.core_parts.specs.Replies.{reply_by, reply_of_detached}
+use Rattle.core_parts.specs.Private.{HasNextNumber, IsUnrecorded, IsUndroppable, index_dropped}
+use Rattle.core_parts.specs.declared.parts.Detached.{Detached}
 use Rattle.nsf_core.proofs.Creating.{some_state}
-use Rattle.nsf_core.proofs.Due.{made, no_number, refusal, ticket_answers, wants_memory}
+use Rattle.core_parts.proofs.Due.{made, no_number, refusal, ticket_answers, wants_memory}
 
 module _ (v : CoreValue) (s : State) (k : Standing) (st : IsState v s k) where
   abbrev h : Shows v s k

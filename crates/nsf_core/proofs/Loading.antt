@@ -1,9 +1,9 @@
 -- A core into which an entry or a life is loaded stands for some state.
 use Rattle.std.proofs.Common.{None, Option, Some, ap, arith, false, inl, inr, refl, subst, sym, true≢false, ℕ, ◌+◌, ◌<◌, ◌∙◌, ◌≡◌, ◌≢◌, ◌≤◌}
 use Rattle.std.specs.FinMap.{get, len}
-use Rattle.records.specs.Maps.{get-set_at_other, pair_exact, set_at}
-use Rattle.records.specs.declared.pair.Mark.{Mark}
-use Rattle.records.specs.declared.pair.Pair.{Pair}
+use Rattle.record_values.specs.Maps.{get-set_at_other, pair_exact, set_at}
+use Rattle.record_values.specs.declared.pair.Mark.{Mark}
+use Rattle.record_values.specs.declared.pair.Pair.{Pair}
 use Rattle.model.specs.declared.life.Life.{Life}
 use Rattle.model.specs.declared.life.Life.TheVariants.{Building}
 use Rattle.txn_table.specs.Table as table
@@ -13,8 +13,8 @@ use Rattle.core_model.specs.Histories.{highest_of}
 use Rattle.core_model.specs.Invariants.{IsWellFormed}
 use Rattle.core_model.specs.States.{State}
 use Rattle.core_model.specs.Steps.{all_reserved}
-use Rattle.core_contracts.specs.Events.{Standing}
-use Rattle.nsf_core.specs.View.{AreOne, CoreValue, IsSafe, Shows}
+use Rattle.core_model.specs.Events.{Standing}
+use Rattle.core_parts.specs.View.{AreOne, CoreValue, IsSafe, Shows}
 use Rattle.nsf_core.specs.Loading.{IsLifeInside, IsQuiet, IsPairInside, entry_loaded, life_loaded}
 
 module _ (v : CoreValue) (quiet : IsQuiet v) (safe : IsSafe v) where

@@ -1,12 +1,12 @@
 -- A call that is refused makes no step, and leaves the core as it was.
 use Rattle.std.proofs.Common.{None, Option, inl, inr, refl, sym, ◌+◌, ◌∙◌, ◌≡◌}
 use Rattle.std.specs.FinMap.{get}
-use Rattle.records.specs.declared.error.Error.{Error}
+use Rattle.record_values.specs.declared.error.Error.{Error}
 use Rattle.core_model.specs.States.{State}
 use Rattle.core_model.specs.Steps.{MachineStep}
-use Rattle.core_contracts.specs.Events.{Built, Cleaner, Empty, Ended, Event, Found, LifeIs, Refused, Reply, RowIs, Standing, Stepped, Txn, Undone}
-use Rattle.core_contracts.specs.Replies.{IsAllowed, IsStepDue, accepted, no_memory, refused, refused_last, skipped, unknown}
-use Rattle.nsf_core.specs.View.{Answers, CoreValue, IsSafe, Serves}
+use Rattle.core_model.specs.Events.{Built, Cleaner, Empty, Ended, Event, Found, LifeIs, Refused, Reply, RowIs, Standing, Stepped, Txn, Undone}
+use Rattle.core_model.specs.Replies.{IsAllowed, IsStepDue, accepted, no_memory, refused, refused_last, skipped, unknown}
+use Rattle.core_parts.specs.View.{Answers, CoreValue, IsSafe, Serves}
 
 module _ (s : State) (k : Standing) (error : Error) where
   -- what is due is no refusal

@@ -1,19 +1,19 @@
 -- Events that are to be skipped.
 use Rattle.core_model.specs.Changes.{as_list}
 use Rattle.std.proofs.Common.{None, Option, Some, [], ap, inl, inr, refl, subst, sym, ℕ, ◌∙◌, ◌≡◌, ◌≢◌}
-use Rattle.records.specs.Values.{Place}
-use Rattle.records.specs.declared.row.Row.{Row}
+use Rattle.record_values.specs.Values.{Place}
+use Rattle.record_values.specs.declared.row.Row.{Row}
 use Rattle.txn_table.specs.Table.{TxnState, rolls}
 use Rattle.txn_table.specs.declared.progress.Progress.{Progress}
 use Rattle.txn_table.specs.declared.progress.Progress.TheVariants.{OwesEntry, OwesRow, Ready, Rolling, UndoesEntry, UndoesRow}
 use Rattle.core_model.specs.States.{Active, State}
 use Rattle.core_model.specs.Steps.{IsReady, txn_at}
-use Rattle.core_contracts.specs.Events.{Event, Skipped, Standing}
-use Rattle.core_contracts.specs.Replies.{IsOfNone, IsProper, Owes, skipped}
-use Rattle.nsf_core.specs.View.{CoreValue, IsProgressOf, Serves, Shows}
-use Rattle.nsf_core.specs.Moves.{IsUnready, OwesNone, txn_shown}
-use Rattle.nsf_core.proofs.Due.{still}
-use Rattle.nsf_core.proofs.Moved.{at, known, listed, one}
+use Rattle.core_model.specs.Events.{Event, Skipped, Standing}
+use Rattle.core_model.specs.Replies.{IsOfNone, IsProper, Owes, skipped}
+use Rattle.core_parts.specs.View.{CoreValue, IsProgressOf, Serves, Shows}
+use Rattle.core_parts.specs.Moves.{IsUnready, OwesNone, txn_shown}
+use Rattle.core_parts.proofs.Due.{still}
+use Rattle.core_parts.proofs.Moved.{at, known, listed, one}
 
 -- a machine's transaction that is ready shows a progress that is
 ready_by : (p : Progress) (a : Active) → IsProgressOf p a.phase → a.rolling ≡ rolls p → IsReady a → p ≡ Ready

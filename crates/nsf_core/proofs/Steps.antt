@@ -3,8 +3,8 @@ use Rattle.std.proofs.Common.{Bool, List, None, Option, Some, ap, arith, false, 
 use Rattle.std.proofs.lemmas.Option.{slice_get_past}
 use Rattle.std.specs.Prelude.{is_none, slice_get}
 use Rattle.records.specs.ChangeValue.{ChangeValue}
-use Rattle.records.specs.declared.pair.Mark.TheVariants.{Live, Marked}
-use Rattle.records.specs.declared.pair.Pair.{Pair}
+use Rattle.record_values.specs.declared.pair.Mark.TheVariants.{Live, Marked}
+use Rattle.record_values.specs.declared.pair.Pair.{Pair}
 use Rattle.records.specs.declared.record.Part.TheVariants.{NewEntry, OldEntry, Slot}
 use Rattle.records.specs.declared.record.TxnAction.TheVariants as action
 use Rattle.model.specs.Pairs.{is_indexed}
@@ -16,7 +16,7 @@ use Rattle.core_model.specs.Records.{action_of, begun_action, first_action, forw
 use Rattle.core_model.specs.States.{Made, NewMarked, OldMarked, OldSet, Phase, RowSet, State}
 use Rattle.core_model.specs.Steps.{IsActive, Next, Start, Undo, txn_at}
 use Rattle.nsf_core.specs.Steps.{forward_made, forward_record, said_by, undo_made, undo_record}
-use Rattle.nsf_core.proofs.Pairs.{new_moves, old_moves}
+use Rattle.core_parts.proofs.Pairs.{new_moves, old_moves}
 
 -- ---- the steps of a change that moves these pairs
 module _ (c : ChangeValue) (old new : Option Pair) where

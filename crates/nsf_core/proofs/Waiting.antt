@@ -2,7 +2,7 @@
 use Rattle.std.proofs.Common.{◌≡◌, ◌<◌, List, [], ◌∷◌, ◌++◌, Result, Ok, Err, false, length, drop, sym, ap, ◌∙◌, append_assoc, arith, subst}
 use Rattle.std.specs.Prelude.{slice_index_or, MatchResult, is_err}
 use Rattle.records.specs.RecordValue.{RecordValue}
-use Rattle.nsf_core.specs.View.{CoreValue, IsSafe, Shows}
+use Rattle.core_parts.specs.View.{CoreValue, IsSafe, Shows}
 use Rattle.nsf_core.specs.Outbox.{HandsOn}
 
 head_is : (xs : List RecordValue) (x : RecordValue) → 0 < length xs → x ≡ slice_index_or xs 0 x → xs ≡ x ∷ drop 1 xs

@@ -1,15 +1,4 @@
-pub mod View
-pub mod Moves
-pub mod Parts
-pub mod Replies
-pub mod Detached
 pub mod Value
-pub mod Builds
-pub mod Cleaning
 pub mod Loading
-pub mod Opening
-pub mod Asked
 pub mod Outbox
-pub mod Undoing
 pub mod Steps
-pub mod Private

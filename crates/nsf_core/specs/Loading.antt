@@ -1,13 +1,13 @@
 -- What is loaded into a core before its first event.
 use Rattle.std.specs.Prelude.{Option, Some, [], ◌<◌, ◌≡◌}
-use Rattle.records.specs.Maps.{set_at}
-use Rattle.records.specs.declared.pair.Mark.{Mark}
-use Rattle.records.specs.declared.pair.Pair.{Pair}
+use Rattle.record_values.specs.Maps.{set_at}
+use Rattle.record_values.specs.declared.pair.Mark.{Mark}
+use Rattle.record_values.specs.declared.pair.Pair.{Pair}
 use Rattle.model.specs.declared.life.Life.{Life}
 use Rattle.model.specs.declared.life.Life.TheVariants.{Building}
 use Rattle.sorted_scan.specs.Scans.{begun}
 use Rattle.core_model.specs.Histories.{highest_of}
-use Rattle.nsf_core.specs.View.{CoreValue}
+use Rattle.core_parts.specs.View.{CoreValue}
 
 -- no transaction is active
 abbrev pub IsQuiet : CoreValue → Type 0

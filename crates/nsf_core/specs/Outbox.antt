@@ -1,7 +1,7 @@
 -- What is handed on of the records that wait.
 use Rattle.std.specs.Prelude.{List, ◌++◌, ◌≡◌}
 use Rattle.records.specs.RecordValue.{RecordValue}
-use Rattle.nsf_core.specs.View.{CoreValue}
+use Rattle.core_parts.specs.View.{CoreValue}
 
 -- the first of the waiting records were handed on, in order, behind those that were taken before; the others still
 -- wait, and nothing else changed

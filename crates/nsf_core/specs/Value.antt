@@ -1,6 +1,6 @@
 -- What contracts see of a core.
-use Rattle.nsf_core.specs.View.{CoreValue}
-use Rattle.nsf_core.specs.Parts.{parts_of}
+use Rattle.core_parts.specs.View.{CoreValue}
+use Rattle.core_parts.specs.Parts.{parts_of}
 use Rattle.nsf_core.specs.declared.store.Core.{Core}
 
 -- what contracts see of it

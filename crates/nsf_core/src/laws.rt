@@ -1,8 +1,8 @@
 //! Laws of what calls leave.
 ghost use Rattle.std.specs.Prelude.{◌≡◌, ◌≢◌, Some, [], ℕ};
-ghost use Rattle.records.specs.Values.{Place};
-ghost use Rattle.records.specs.declared.error.Error.{Error};
-ghost use Rattle.records.specs.declared.row.Row.{Row};
+ghost use Rattle.record_values.specs.Values.{Place};
+ghost use Rattle.record_values.specs.declared.error.Error.{Error};
+ghost use Rattle.record_values.specs.declared.row.Row.{Row};
 ghost use Rattle.txn_table.specs.Table.{TxnState};
 ghost use Rattle.records.specs.ChangeValue.{ChangeValue};
 ghost use Rattle.model.specs.Pairs.{is_indexed};
@@ -12,10 +12,10 @@ ghost use Rattle.core_model.specs.Records.{action_of};
 ghost use Rattle.core_model.specs.States.{State};
 ghost use Rattle.core_model.specs.Steps.{IsActive, Next, Start, Undo, txn_at};
 ghost use Rattle.nsf_core.specs.Steps.{forward_made, forward_record, undo_made, undo_record};
-ghost use Rattle.core_contracts.specs.Events.{Event, Refused, Reply, Standing, standing_after};
-ghost use Rattle.core_contracts.specs.Replies.{after_any};
-ghost use Rattle.nsf_core.specs.View.{Answers, CoreValue, IsSafe, IsState, Serves};
-ghost use Rattle.nsf_core.specs.Moves.{IsUnready, OwesNone, txn_shown};
+ghost use Rattle.core_model.specs.Events.{Event, Refused, Reply, Standing, standing_after};
+ghost use Rattle.core_model.specs.Replies.{after_any};
+ghost use Rattle.core_parts.specs.View.{Answers, CoreValue, IsSafe, IsState, Serves};
+ghost use Rattle.core_parts.specs.Moves.{IsUnready, OwesNone, txn_shown};
 
 /// A law: whatever state a core stands for, an answer leaves it standing for the state after its step.
 pub fn each_answer()

@@ -1,33 +1,20 @@
 //! The core with its index: transactions, the index's builder and its cleaner, in memory. Each
 //! accepted step makes at most one record of the log.
 //!
-//! Proved of each call: its reply is one that `core_contracts` allows, its step the abstract core's, and its record
-//! waits behind the others (`Serves`). A refusal leaves the value as it was (`refused_calls`). `take_outbox` hands
+//! Proved of each call: its reply is one that `core_model` allows, its step the abstract core's, and its record waits
+//! behind the others (`Serves`). A refusal leaves the value as it was (`refused_calls`). `take_outbox` hands
 //! records on in order (`handed`, `most`). `can_open` is true just where a core may begin with what this one holds
 //! (`opened_of`). `detach_index` drops the index and answers its entries (`taken`). `page_slots` and `run_above` read a
-//! page's rows and the entries, some at once. Only tested (`store_tests`, `replay_rows`): that calls succeed where
+//! page's rows and the entries, some at once. Only tested (`test_stores`, `test_replay_rows`): that calls succeed where
 //! there is memory, and worked examples. Neither: when memory is freed.
+//!
+//! Lemmas about its public words that crates above may cite, in `proofs`: `Offered`.
 #![tactic(auto)]
 
-mod build;
-mod change_steps;
-mod clean;
-mod create;
-mod drop;
-mod find;
 mod laws;
-mod load;
-mod opening;
-mod outbox;
-mod owed;
-mod parts;
-mod reply;
-mod step;
 mod store;
-mod undo;
 
 pub use btree_node::Cleared;
+pub use core_parts::{BuildReply, CleanReply, Detached, Owed, Ticket, Undone};
 pub use laws::{each_answer, each_change, refused_calls, skipped_events};
-pub use parts::{Detached, Ticket};
-pub use reply::{BuildReply, CleanReply, Owed, Undone};
 pub use store::Core;

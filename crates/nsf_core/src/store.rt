@@ -4,38 +4,55 @@ ghost use Rattle.std.specs.Prelude.{option_and_then, option_map, slice_get, ℕ,
 ghost use Rattle.std.specs.Prelude.{OnOk, OnErr};
 ghost use Rattle.std.specs.FinMap as map;
 ghost use Rattle.std.specs.Option.{option_copied};
-ghost use Rattle.records.specs.Maps.{set_at};
-ghost use Rattle.records.specs.declared.rid.TheConstants.{SLOTS_PER_PAGE};
-ghost use Rattle.records.specs.declared.row.Row.{Row};
+ghost use Rattle.record_values.specs.Maps.{set_at};
+ghost use Rattle.record_values.specs.declared.rid.TheConstants.{SLOTS_PER_PAGE};
+ghost use Rattle.record_values.specs.declared.row.Row.{Row};
 ghost use Rattle.btree_node.specs.Above.{IsLeastAbove};
 ghost use Rattle.btree_node.specs.Runs.{IsRunAbove};
-ghost use Rattle.core_contracts.specs.Events.{Event, Reply};
-ghost use Rattle.nsf_core.specs.View.{IsSafe, Serves};
-ghost use Rattle.nsf_core.specs.Moves.{OwesOrNone, HasNoChange, IsReadyOrNone, fresh, txn_shown};
-ghost use Rattle.nsf_core.specs.Replies.{reply_by, reply_of_detached, reply_of_ticket};
-ghost use Rattle.nsf_core.specs.Detached.{entries_of};
-ghost use Rattle.nsf_core.specs.Parts.{parts_of};
+ghost use Rattle.core_model.specs.Events.{Event, Reply};
+ghost use Rattle.core_parts.specs.View.{IsSafe, Serves};
+ghost use Rattle.core_parts.specs.Moves.{OwesOrNone, HasNoChange, IsReadyOrNone, fresh, txn_shown};
+ghost use Rattle.core_parts.specs.Replies.{reply_by, reply_of_detached, reply_of_ticket};
+ghost use Rattle.core_parts.specs.Detached.{entries_of};
+ghost use Rattle.core_parts.specs.Parts.{parts_of};
 ghost use Rattle.nsf_core.specs.Loading.{IsLifeInside, IsQuiet, IsPairInside, entry_loaded, life_loaded};
 ghost use Rattle.marked_index.specs.Index.{IsAbsent, IsFull};
-ghost use Rattle.nsf_core.specs.Asked.{IsFine, IsRefused, owed, progress_of};
-ghost use Rattle.nsf_core.specs.Opening.{opened_of};
+ghost use Rattle.core_parts.specs.Asked.{IsFine, IsRefused, owed, progress_of};
+ghost use Rattle.core_parts.specs.Opening.{opened_of};
 ghost use Rattle.nsf_core.specs.Outbox.{HandsOn};
+ghost use Rattle.core_model.specs.Histories as opening;
 ghost use Rattle.core_model.specs.Histories.{CanOpen};
-ghost use Rattle.nsf_core.specs.Builds.{built};
-ghost use Rattle.nsf_core.specs.Cleaning.{cleaner};
-ghost use Rattle.nsf_core.specs.Undoing.{undone_reply};
+ghost use Rattle.core_parts.specs.Builds.{built};
+ghost use Rattle.core_parts.specs.Cleaning.{cleaner};
+ghost use Rattle.core_parts.specs.Undoing.{undone_reply};
 ghost use Rattle.txn_table.specs.Sound.{IsSound};
 ghost use Rattle.txn_table.specs.Table.{holds_rows};
 ghost use Rattle.heap_pages.specs.Pages.{IsPlaceInside};
-ghost use Rattle.records.specs.Values.{Place};
+ghost use Rattle.record_values.specs.Values.{Place};
 
-use crate::parts::{Detached, Parts, Ticket};
-use crate::reply::{BuildReply, CleanReply, Owed, Undone};
 use btree_node::Entry;
+use core_parts::{BuildReply, CleanReply, Detached, Owed, Parts, Ticket, Undone};
+use heap_pages::Heap;
+use marked_index::MarkedIndex;
 use model::{Life, ROWS_PER_PAGE};
-use records::{Body, Change, Error, Geometry, Key, LAST_NUMBER, Mark, Pair, Rid, Row, Sink, Txn};
+use records::{
+    Body, Change, Error, Geometry, Key, LAST_NUMBER, Mark, Pair, Rid, Row, Rows, Sink, Txn,
+    TxnAction,
+};
+use sorted_scan::Scan;
 use std::alloc::Allocator;
-use txn_table::Progress;
+use std::collections::VecDeque;
+use txn_table::{Progress, TxnTable};
+
+// The pair checkpointed last, while the index is built.
+fn highest_of(life: &Life) -> Option<Pair>
+    ensures { result ≡ opening.highest_of life.now }
+{
+    match life {
+        Life::Building { highest } => *highest,
+        Life::Absent | Life::Complete => None,
+    }
+}
 
 /// The rows, the active transactions, the index with its builder and cleaner, and the records that
 /// wait.
@@ -56,7 +73,20 @@ impl<A: Allocator + Copy> Core<A> {
         ensures made { IfOk result (λ core. value_of core ≡ fresh geometry base) }
         ensures no_memory { IfErr result (λ e. e ≡ Error.NoMemory) }
     {
-        let parts = Parts::new(alloc, geometry, base)?;
+        let parts = Parts {
+            alloc,
+            heap: Heap::new(alloc, geometry.pages)?,
+            txns: TxnTable::new(alloc),
+            index: MarkedIndex::new(alloc, geometry),
+            life: Life::Absent,
+            scan: Scan::new(alloc, None, geometry.pages),
+            cleaned: None,
+            last: base,
+            tried: 0,
+            attempts: 0,
+            commits: 0,
+            outbox: VecDeque::new(alloc),
+        };
         Ok(Core { parts })
     }
 
@@ -68,7 +98,7 @@ impl<A: Allocator + Copy> Core<A> {
           heap = record (value_of self.old).heap { rows = set_at (value_of self.old).heap.rows rid row };
         } }
     {
-        self.parts.load_row(rid, row);
+        self.parts.heap.set(rid, row);
     }
 
     /// Leaves this entry of the pair, or none, while no transaction is active. It makes no record.
@@ -85,7 +115,7 @@ impl<A: Allocator + Copy> Core<A> {
             × ((e ≡ Error.IndexFull) ⊎ (e ≡ Error.NoMemory))) }
         ensures unchanged { OnErr result (value_of self.new ≡ value_of self.old) }
     {
-        self.parts.load_entry(pair, mark)
+        self.parts.index.load(pair, mark)
     }
 
     /// Leaves the index this far while no transaction is active; a build goes on above the pair checkpointed
@@ -95,7 +125,9 @@ impl<A: Allocator + Copy> Core<A> {
         requires inside { IsLifeInside (value_of self.old) life }
         ensures { value_of self.new ≡ life_loaded (value_of self.old) life }
     {
-        self.parts.load_life(life);
+        self.parts.scan = Scan::new(self.parts.alloc, highest_of(&life), self.parts.heap.pages());
+        self.parts.tried = 0;
+        self.parts.life = life;
     }
 
     /// The row at the place, as it is now, also before its transaction's commit.
@@ -137,7 +169,7 @@ impl<A: Allocator + Copy> Core<A> {
     pub fn can_open(&self) -> bool
         ensures { IsTrue result ↔ CanOpen (opened_of (value_of self.now)) }
     {
-        self.parts.can_open()
+        self.parts.entries_may_stand() && self.parts.rows_are_shown()
     }
 
     /// The number of the last record made, or of the last one before the core was made.
@@ -163,7 +195,11 @@ impl<A: Allocator + Copy> Core<A> {
         ensures { Serves (value_of self.now) (Event.Find key) (reply_by (λ rids. Reply.Found rids.items) result)
             (value_of self.now) }
     {
-        self.parts.find(key)
+        match self.parts.life {
+            Life::Absent => Err(Error::NoIndex),
+            Life::Building { .. } => Err(Error::NotBuilt),
+            Life::Complete => self.parts.live_of(key),
+        }
     }
 
     /// The least entry whose pair comes after the given one, or the least of all.
@@ -226,7 +262,7 @@ impl<A: Allocator + Copy> Core<A> {
         ensures refused { IfErr result (IsRefused (value_of self.now) Event.Begin) }
         ensures fine { OnOk result (IsFine (value_of self.now) Event.Begin) }
     {
-        let _txn = self.parts.txns.may_begin()?;
+        self.parts.txns.may_begin()?;
         Ok(())
     }
 
@@ -238,7 +274,7 @@ impl<A: Allocator + Copy> Core<A> {
         ensures refused { IfErr result (λ e. (row : Row) → IsRefused (value_of self.now) (Event.Insert txn row) e) }
         ensures fine { OnOk result ((row : Row) → IsFine (value_of self.now) (Event.Insert txn row)) }
     {
-        let _place = self.parts.place_for(txn)?;
+        self.parts.place_for(txn)?;
         Ok(())
     }
 
@@ -254,7 +290,7 @@ impl<A: Allocator + Copy> Core<A> {
         ensures fine_delete { OnOk result (IsFine (value_of self.now) (Event.Delete txn rid)) }
         ensures fine_update { OnOk result ((row : Row) → IsFine (value_of self.now) (Event.Update txn rid row)) }
     {
-        let _found = self.parts.row_for(txn, rid)?;
+        self.parts.row_for(txn, rid)?;
         Ok(())
     }
 
@@ -264,7 +300,7 @@ impl<A: Allocator + Copy> Core<A> {
         ensures refused { IfErr result (IsRefused (value_of self.now) (Event.Commit txn)) }
         ensures fine { OnOk result (IsFine (value_of self.now) (Event.Commit txn)) }
     {
-        let _number = self.parts.number_for(txn)?;
+        self.parts.number_for(txn)?;
         Ok(())
     }
 
@@ -274,7 +310,9 @@ impl<A: Allocator + Copy> Core<A> {
         ensures refused { IfErr result (IsRefused (value_of self.now) Event.Create) }
         ensures fine { OnOk result (IsFine (value_of self.now) Event.Create) }
     {
-        self.parts.check_create()
+        self.parts.may_create()?;
+        self.parts.next_number()?;
+        Ok(())
     }
 
     /// Why `drop_index` would be refused, but for want of memory: `NoIndex`, then `TxnsActive`, and `Exhausted`.
@@ -282,7 +320,9 @@ impl<A: Allocator + Copy> Core<A> {
         ensures refused { IfErr result (IsRefused (value_of self.now) Event.Drop) }
         ensures fine { OnOk result (IsFine (value_of self.now) Event.Drop) }
     {
-        self.parts.check_drop()
+        self.parts.may_drop()?;
+        self.parts.next_number()?;
+        Ok(())
     }
 
     /// How many pages there are for rows. Each row is at a place of them.
@@ -338,7 +378,7 @@ impl<A: Allocator + Copy> Core<A> {
     pub fn begin(&mut self) -> Result<Txn, Error>
         ensures { Serves (value_of self.old) Event.Begin (reply_by Reply.Txn result) (value_of self.new) }
     {
-        self.parts.begin()
+        self.parts.txns.begin()
     }
 
     /// Inserts a row at the least place that is empty and held by nobody, and answers the place: the
@@ -352,7 +392,11 @@ impl<A: Allocator + Copy> Core<A> {
         ensures { Serves (value_of self.old) (Event.Insert txn (record { key = key; body = body }))
             (reply_by Reply.Rid result) (value_of self.new) }
     {
-        self.parts.start_insert(txn, key, body)
+        let (rid, number) = self.parts.place_for(txn)?;
+        let new = Row { key, body };
+        let change = self.parts.next_change(txn, rid, Rows::Inserted { new });
+        self.parts.set_first(number, txn, change)?;
+        Ok(rid)
     }
 
     /// Deletes the row at the place: the first step, which marks the row's entry, and without an index
@@ -367,7 +411,10 @@ impl<A: Allocator + Copy> Core<A> {
         ensures { Serves (value_of self.old) (Event.Delete txn rid) (reply_by (λ _. Reply.Stepped) result)
             (value_of self.new) }
     {
-        self.parts.start_delete(txn, rid)
+        let (old, number) = self.parts.row_for(txn, rid)?;
+        let change = self.parts.next_change(txn, rid, Rows::Deleted { old });
+        self.parts.start(number, txn, change)?;
+        Ok(())
     }
 
     /// Puts another row in place of the row at the place: the first step. With an index and another
@@ -380,7 +427,11 @@ impl<A: Allocator + Copy> Core<A> {
         ensures { Serves (value_of self.old) (Event.Update txn rid (record { key = key; body = body }))
             (reply_by (λ _. Reply.Stepped) result) (value_of self.new) }
     {
-        self.parts.start_update(txn, rid, key, body)
+        let (old, number) = self.parts.row_for(txn, rid)?;
+        let new = Row { key, body };
+        let change = self.parts.next_change(txn, rid, Rows::Updated { old, new });
+        self.parts.start(number, txn, change)?;
+        Ok(())
     }
 
     /// Makes the step that the transaction owes: it sets the row, or puts the new row's entry.
@@ -391,7 +442,9 @@ impl<A: Allocator + Copy> Core<A> {
         ensures { Serves (value_of self.old) (Event.Step txn) (reply_by (λ _. Reply.Stepped) result)
             (value_of self.new) }
     {
-        self.parts.next_step(txn)
+        let number = self.parts.number_for(txn)?;
+        let change = self.parts.owed_change(txn);
+        self.parts.carry_on(number, txn, change)
     }
 
     /// Makes the next step that takes the transaction's newest change back, or answers that no change
@@ -405,7 +458,12 @@ impl<A: Allocator + Copy> Core<A> {
     pub fn undo_step(&mut self, txn: Txn) -> Result<Undone, Error>
         ensures { Serves (value_of self.old) (Event.Undo txn) (reply_by undone_reply result) (value_of self.new) }
     {
-        self.parts.undo_step(txn)
+        let Some(change) = self.parts.txns.newest(txn) else {
+            return self.parts.undo_nothing(txn);
+        };
+        let number = self.parts.number_for(txn)?;
+        self.parts.take_back(number, txn, change)?;
+        Ok(Undone::Step)
     }
 
     /// Ends a transaction that has no change left, which is then no longer active, and holds no row.
@@ -416,7 +474,9 @@ impl<A: Allocator + Copy> Core<A> {
         requires { HasNoChange (txn_shown (value_of self.old) txn) }
         ensures { Serves (value_of self.old) (Event.End txn) (reply_by (λ _. Reply.Ended) result) (value_of self.new) }
     {
-        self.parts.end(txn)
+        let number = self.parts.number_for(txn)?;
+        self.parts.leave(number, txn, TxnAction::End)?;
+        Ok(())
     }
 
     /// Commits the transaction, which is then no longer active, and holds no row. The ticket has the
@@ -430,7 +490,14 @@ impl<A: Allocator + Copy> Core<A> {
         ensures record_number { IfOk result (λ t. t.record ≡ (value_of self.old).last + 1) }
         ensures commit_number { IfOk result (λ t. t.commit ≡ Some ((value_of self.old).commits + 1)) }
     {
-        self.parts.commit(txn)
+        let record = self.parts.number_for(txn)?;
+        let commit = self.parts.next_commit();
+        self.parts.leave(record, txn, TxnAction::Commit)?;
+        self.parts.commits = commit;
+        Ok(Ticket {
+            record,
+            commit: Some(commit),
+        })
     }
 
     /// Creates the index, of which nothing is there yet: it is to be built.
@@ -440,7 +507,8 @@ impl<A: Allocator + Copy> Core<A> {
     pub fn create_index(&mut self) -> Result<Ticket, Error>
         ensures { Serves (value_of self.old) Event.Create (reply_by reply_of_ticket result) (value_of self.new) }
     {
-        self.parts.create_index()
+        self.parts.may_create()?;
+        self.parts.create()
     }
 
     /// Drops the index, be it complete or not: no entry is left, and nothing of its builder and its cleaner. It may be
@@ -460,7 +528,8 @@ impl<A: Allocator + Copy> Core<A> {
         ensures serves { Serves (value_of self.old) Event.Drop (reply_by reply_of_detached result) (value_of self.new) }
         ensures taken { IfOk result (λ d. entries_of d ≡ (value_of self.old).index.entries) }
     {
-        self.parts.drop_index()
+        self.parts.may_drop()?;
+        self.parts.take_away()
     }
 
     /// Makes a step of the builder, the first of these that applies. Where the index is complete:
@@ -475,7 +544,11 @@ impl<A: Allocator + Copy> Core<A> {
     pub fn build_step(&mut self) -> Result<BuildReply, Error>
         ensures { Serves (value_of self.old) Event.Build (reply_by built result) (value_of self.new) }
     {
-        self.parts.build_step()
+        match self.parts.life {
+            Life::Absent => Err(Error::NoIndex),
+            Life::Complete => Ok(BuildReply::Idle),
+            Life::Building { .. } => self.parts.build_on(),
+        }
     }
 
     /// Makes a step of the cleaner, which looks at the least entry above its place. Where there is none,
@@ -488,7 +561,14 @@ impl<A: Allocator + Copy> Core<A> {
     pub fn clean_step(&mut self) -> Result<CleanReply, Error>
         ensures { Serves (value_of self.old) Event.Clean (reply_by cleaner result) (value_of self.new) }
     {
-        self.parts.clean_step()
+        if !self.parts.indexed() {
+            return Err(Error::NoIndex);
+        }
+        let Some(entry) = self.parts.next_entry() else {
+            self.parts.cleaned = None;
+            return Ok(CleanReply::Wrapped);
+        };
+        self.parts.clean_at(entry)
     }
 
     /// Hands the records that wait on to the sink, in the order of their making. One that the sink
@@ -500,6 +580,11 @@ impl<A: Allocator + Copy> Core<A> {
         ensures most { length (value_of self.new).outbox ≤ length (value_of self.old).outbox - S.room sink.old }
         ensures place { S.place sink.new ≡ S.place sink.old }
     {
-        self.parts.take_outbox(sink);
+        while let Some(&next) = self.parts.outbox.front() {
+            if sink.take(next).is_err() {
+                return;
+            }
+            self.parts.outbox.pop_front();
+        }
     }
 }

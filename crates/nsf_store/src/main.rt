@@ -1,6 +1,6 @@
 //! Keeps a store in a file: makes it, serves it, builds its index, and shows it.
 //!
-//! All that it does is in `shell`.
+//! All that it does is in `program_shell`.
 #![tactic(auto)]
 
 use std::io::BufReader;
@@ -16,11 +16,11 @@ fn main(rt: HostRuntime) -> io::Result<ExitCode> {
     let words = match words(&rt) {
         Ok(words) => words,
         Err(error) => {
-            let status = shell::refuse_words("nsf-store", error, &mut rt.stderr());
+            let status = program_shell::refuse_words("nsf-store", error, &mut rt.stderr());
             return Ok(ExitCode::from(status));
         }
     };
-    let status = shell::run(
+    let status = program_shell::run(
         &rt,
         words.as_slice(),
         &mut BufReader::new(rt.alloc(), rt.reader())?,

@@ -1,10 +1,10 @@
 //! Lets writers, a builder, a cleaner and a flusher run side by side on a store in memory, cuts its power, and says
 //! what is found behind that.
 //!
-//! All that it does is in `demonstration`.
+//! All that it does is in `program_demonstration`.
 #![tactic(auto)]
 
-use demonstration::Progress;
+use program_demonstration::Progress;
 use std::io::IsTerminal;
 use std::process::ExitCode;
 use std::{env, io};
@@ -18,7 +18,7 @@ fn main(rt: HostRuntime) -> io::Result<ExitCode> {
     let words = match words(&rt) {
         Ok(words) => words,
         Err(error) => {
-            let status = shell::refuse_words("nsf-threads", error, &mut rt.stderr());
+            let status = program_shell::refuse_words("nsf-threads", error, &mut rt.stderr());
             return Ok(ExitCode::from(status));
         }
     };
@@ -26,7 +26,7 @@ fn main(rt: HostRuntime) -> io::Result<ExitCode> {
         errors: rt.stderr(),
         is_terminal: rt.stderr().is_terminal(),
     };
-    let status = demonstration::run(
+    let status = program_demonstration::run(
         &rt,
         rt.alloc(),
         words.as_slice(),

@@ -1,12 +1,12 @@
 -- How long spellings are at least and at most.
 use Rattle.std.proofs.Common.{◌≡◌, ◌≤◌, ◌+◌, ◌*◌, Some, None, ◌++◌, length, arith, length-append}
-use Rattle.records.specs.declared.key.TheConstants.{KEY_MAX, BODY_MAX}
+use Rattle.record_values.specs.declared.key.TheConstants.{KEY_MAX, BODY_MAX}
 use Rattle.records.specs.declared.record.TheConstants.{RECORD_MAX, RECORD_MIN}
-use Rattle.records.specs.Values.{Place}
+use Rattle.record_values.specs.Values.{Place}
 use Rattle.records.specs.ChangeValue.{ChangeValue}
 use Rattle.records.specs.RecordValue.{RecordValue}
-use Rattle.records.specs.declared.row.Row.{Row}
-use Rattle.records.specs.declared.pair.Pair.{Pair}
+use Rattle.record_values.specs.declared.row.Row.{Row}
+use Rattle.record_values.specs.declared.pair.Pair.{Pair}
 use Rattle.records.specs.declared.change.Rows.{Rows}
 use Rattle.records.specs.declared.change.Rows.TheVariants.{Inserted, Deleted, Updated}
 use Rattle.records.specs.declared.record.TxnAction.{TxnAction}

@@ -1,7 +1,6 @@
 pub mod Spellings
 pub mod Numbers
 pub mod Steps
-mod Words
 pub mod Fields
 mod Records
 mod Sizes

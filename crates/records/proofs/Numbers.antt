@@ -4,16 +4,16 @@ use Rattle.std.proofs.lemmas.Bool.{le-ltb}
 use Rattle.byteorder.specs.Endian.{big_number}
 use Rattle.records.specs.Spelling.{u16, u32, u64, IsBytes}
 use Rattle.records.specs.Reading.{number_at, u16_at, u32_at, u64_at}
-use Rattle.records.proofs.Steps as steps
+use Rattle.record_values.proofs.Bytes as bytes
 use Rattle.records.proofs.Steps.{some_is}
 use Rattle.records.proofs.Fields.{u16_takes, u32_takes, u64_takes, u16_again, u32_again, u64_again}
 use Rattle.records.proofs.Sizes as sizes
 
 pub IsBytes-drop : (n : ℕ) (bytes : List ℕ) → IsBytes bytes → IsBytes (drop n bytes)
-IsBytes-drop = steps.IsBytes-drop
+IsBytes-drop = bytes.IsBytes-drop
 
 pub IsBytes-take : (n : ℕ) (bytes : List ℕ) → IsBytes bytes → IsBytes (take n bytes)
-IsBytes-take = steps.IsBytes-take
+IsBytes-take = bytes.IsBytes-take
 
 -- ---- how long they are
 

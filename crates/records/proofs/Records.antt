@@ -6,11 +6,11 @@ use Rattle.std.specs.Option.{option_map}
 use Rattle.std.proofs.lemmas.Bool.{ltb-false, le-ltb, ltb-true, lt-ltb, eqb-true}
 use Rattle.std.proofs.lemmas.List.{take_at}
 use Rattle.records.specs.declared.change.TheConstants.{CHANGES_MAX}
-use Rattle.records.specs.declared.number.TheConstants.{LAST_NUMBER}
+use Rattle.record_values.specs.declared.number.TheConstants.{LAST_NUMBER}
 use Rattle.records.specs.ChangeValue.{ChangeValue}
 use Rattle.records.specs.RecordValue.{RecordValue, has_part, txn_has_rows, has_rows}
-use Rattle.records.specs.declared.row.Row.{Row}
-use Rattle.records.specs.declared.pair.Pair.{Pair}
+use Rattle.record_values.specs.declared.row.Row.{Row}
+use Rattle.record_values.specs.declared.pair.Pair.{Pair}
 use Rattle.records.specs.declared.change.Rows.{Rows}
 use Rattle.records.specs.declared.change.Rows.TheVariants.{Inserted, Deleted, Updated}
 use Rattle.records.specs.declared.record.Part.{Part}
@@ -25,7 +25,8 @@ use Rattle.records.specs.Spelling.{rid, row, change, pair, u64, old_row, new_row
 use Rattle.records.specs.Spelling.{flag, forward_kind, undo_kind, txn_fields, index_fields, txn_of, fields_of, spelling, Fits}
 use Rattle.records.specs.Reading.{◌>>=◌, u64_at, byte_at, rid_at, row_at, rows_of, change_at, pair_at, flag_at, part_at, forward_at, undo_at, txn_action_at}
 use Rattle.records.specs.Reading.{index_action_at, action_at, numbered, record_at}
-use Rattle.records.proofs.Steps.{IsBytes, IsBytes-rest, bind_some, passed_not, passed, chosen, some, some_is, by_kind, Takes, Takes-then, Takes-cons}
+use Rattle.records.proofs.Steps.{bind_some, passed_not, passed, chosen, some, some_is, by_kind, Takes, Takes-then, Takes-cons}
+use Rattle.record_values.proofs.Bytes.{IsBytes, IsBytes-rest}
 use Rattle.records.proofs.Fields.{u64_takes, u64_again, rid_takes, rid_again, RowFitsIfSome, row_takes, row_again, pair_takes, pair_again}
 
 -- ---- changes

@@ -1,13 +1,13 @@
 -- What is within the limits of a version is within those of the latest.
 use Rattle.std.proofs.Common.{◌≡◌, ◌≤◌, ℕ, List, ◌++◌, take, drop, sym, ap, subst, ◌∙◌, arith, take-append-drop}
-use Rattle.records.specs.declared.key.TheConstants.{KEY_MAX, BODY_MAX}
-use Rattle.records.specs.declared.version.Version.{Version}
-use Rattle.records.specs.declared.version.Version.TheVariants.{One, Two}
-use Rattle.records.specs.Version.{key_max, body_max}
+use Rattle.record_values.specs.declared.key.TheConstants.{KEY_MAX, BODY_MAX}
+use Rattle.record_values.specs.declared.version.Version.{Version}
+use Rattle.record_values.specs.declared.version.Version.TheVariants.{One, Two}
+use Rattle.record_values.specs.Version.{key_max, body_max}
 use Rattle.records.specs.ChangeValue.{ChangeValue}
 use Rattle.records.specs.RecordValue.{RecordValue}
-use Rattle.records.specs.declared.row.Row.{Row}
-use Rattle.records.specs.declared.pair.Pair.{Pair}
+use Rattle.record_values.specs.declared.row.Row.{Row}
+use Rattle.record_values.specs.declared.pair.Pair.{Pair}
 use Rattle.records.specs.declared.change.Rows.{Rows}
 use Rattle.records.specs.declared.change.Rows.TheVariants.{Inserted, Deleted, Updated}
 use Rattle.records.specs.declared.record.TxnAction.{TxnAction}

@@ -1,10 +1,3 @@
-pub mod Refusals
-pub mod GeometryValue
-pub mod Padded
-pub mod Values
-pub mod Version
-pub mod Orders
-pub mod Maps
 pub mod ChangeValue
 pub mod RecordValue
 pub mod Spelling

@@ -2,15 +2,15 @@
 use Rattle.std.specs.Prelude.{ℕ, zero, suc, List, [], ◌∷◌, length, take, drop, Option, Some, None, Bool, true, false}
 use Rattle.std.specs.Prelude.{nat_lt, ◌==◌, if◌then◌else◌}
 use Rattle.byteorder.specs.Endian.{big_number}
-use Rattle.records.specs.declared.key.TheConstants.{KEY_MAX, BODY_MAX}
-use Rattle.records.specs.declared.rid.TheConstants.{SLOTS_PER_PAGE}
+use Rattle.record_values.specs.declared.key.TheConstants.{KEY_MAX, BODY_MAX}
+use Rattle.record_values.specs.declared.rid.TheConstants.{SLOTS_PER_PAGE}
 use Rattle.records.specs.declared.change.TheConstants.{CHANGES_MAX}
-use Rattle.records.specs.declared.number.TheConstants.{LAST_NUMBER}
-use Rattle.records.specs.Values.{Place}
+use Rattle.record_values.specs.declared.number.TheConstants.{LAST_NUMBER}
+use Rattle.record_values.specs.Values.{Place}
 use Rattle.records.specs.ChangeValue.{ChangeValue}
 use Rattle.records.specs.RecordValue.{RecordValue, has_part}
-use Rattle.records.specs.declared.row.Row.{Row}
-use Rattle.records.specs.declared.pair.Pair.{Pair}
+use Rattle.record_values.specs.declared.row.Row.{Row}
+use Rattle.record_values.specs.declared.pair.Pair.{Pair}
 use Rattle.records.specs.declared.change.Rows.{Rows}
 use Rattle.records.specs.declared.change.Rows.TheVariants.{Inserted, Deleted, Updated}
 use Rattle.records.specs.declared.record.Part.{Part}

@@ -2,17 +2,17 @@
 use Rattle.std.specs.Prelude.{ℕ, ◌<◌, ◌≤◌, ◌^◌, List, [], ◌∷◌, ◌++◌, length, Option, Some, None, IsTrue, Bool, true}
 use Rattle.std.specs.Prelude.{false, slice_index}
 use Rattle.byteorder.specs.Endian.{big_bytes}
-use Rattle.records.specs.Version.{key_max, body_max, HasDrop}
-use Rattle.records.specs.declared.version.Version.{Version}
-use Rattle.records.specs.declared.version.Version.TheVariants.{Two}
-use Rattle.records.specs.declared.rid.TheConstants.{SLOTS_PER_PAGE}
+use Rattle.record_values.specs.Version.{key_max, body_max, HasDrop}
+use Rattle.record_values.specs.declared.version.Version.{Version}
+use Rattle.record_values.specs.declared.version.Version.TheVariants.{Two}
+use Rattle.record_values.specs.declared.rid.TheConstants.{SLOTS_PER_PAGE}
 use Rattle.records.specs.declared.change.TheConstants.{CHANGES_MAX}
-use Rattle.records.specs.declared.number.TheConstants.{LAST_NUMBER}
-use Rattle.records.specs.Values.{Place}
+use Rattle.record_values.specs.declared.number.TheConstants.{LAST_NUMBER}
+use Rattle.record_values.specs.Values.{Place}
 use Rattle.records.specs.ChangeValue.{ChangeValue}
 use Rattle.records.specs.RecordValue.{RecordValue, has_rows}
-use Rattle.records.specs.declared.row.Row.{Row}
-use Rattle.records.specs.declared.pair.Pair.{Pair}
+use Rattle.record_values.specs.declared.row.Row.{Row}
+use Rattle.record_values.specs.declared.pair.Pair.{Pair}
 use Rattle.records.specs.declared.change.Rows.{Rows}
 use Rattle.records.specs.declared.change.Rows.TheVariants.{Inserted, Deleted, Updated}
 use Rattle.records.specs.declared.record.Part.{Part}

@@ -8,14 +8,11 @@ ghost use Rattle.records.specs.Reading.{rows_of, change_at, pair_at, flag_at, pa
 ghost use Rattle.records.specs.Reading.{txn_action_at, index_action_at, action_at, record_at};
 
 use crate::change::{CHANGES_MAX, Change, Rows};
-use crate::key::{BODY_MAX, Body, KEY_MAX, Key};
-use crate::number::RecordNumber;
-use crate::pair::Pair;
 use crate::record::{Action, IndexAction, Part, Record, TxnAction};
-use crate::rid::{Rid, SLOTS_PER_PAGE};
-use crate::row::Row;
-use crate::txn::Txn;
 use byteorder::{BigEndian, ByteOrder};
+use record_values::{
+    BODY_MAX, Body, KEY_MAX, Key, Pair, RecordNumber, Rid, Row, SLOTS_PER_PAGE, Txn,
+};
 
 #[tactic(auto, unfolding(crate::specs::Reading::u16_at))]
 fn u16_of(bytes: &[u8]) -> Option<(u16, &[u8])>

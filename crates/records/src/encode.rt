@@ -4,12 +4,9 @@ ghost use Rattle.records.specs.Spelling as as_bytes;
 ghost use Rattle.records.specs.Spelling.{spelling, Fits};
 
 use crate::change::{Change, Rows};
-use crate::error::Error;
-use crate::pair::Pair;
 use crate::record::{Action, IndexAction, Record, TxnAction};
-use crate::rid::Rid;
-use crate::row::Row;
 use byteorder::{BigEndian, ByteOrder};
+use record_values::{Error, Pair, Rid, Row};
 use std::alloc::{AllocError, Allocator};
 
 #[tactic(auto, unfolding(crate::specs::Spelling::u16))]

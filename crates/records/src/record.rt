@@ -4,10 +4,7 @@ ghost use Rattle.records.specs.RecordValue.{RecordValue, has_part};
 ghost use Rattle.records.specs.Spelling.{spelling, Fits, forward_kind, undo_kind};
 
 use crate::change::{Change, Rows};
-use crate::key::{BODY_MAX, KEY_MAX};
-use crate::number::RecordNumber;
-use crate::pair::Pair;
-use crate::txn::Txn;
+use record_values::{BODY_MAX, KEY_MAX, Pair, RecordNumber, Txn};
 use std::marker::Model;
 
 /// The fewest bytes of a record: its number, its transaction, its kind.

@@ -5,11 +5,8 @@ ghost use Rattle.records.specs.Spelling.{spelling, old_row, new_row, RidFits, Ro
 ghost use Rattle.records.specs.Spelling.{TxnActionFits, IndexActionFits, ActionFits, Fits};
 
 use crate::change::{Change, Rows};
-use crate::key::{BODY_MAX, KEY_MAX};
-use crate::pair::Pair;
 use crate::record::{Action, IndexAction, RECORD_MAX, Record, TxnAction};
-use crate::rid::Rid;
-use crate::row::Row;
+use record_values::{BODY_MAX, KEY_MAX, Pair, Rid, Row};
 
 fn row_size(row: &Row) -> usize
     ensures size { result ≡ length (as_bytes.row (Some row.now)) }

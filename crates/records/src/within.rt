@@ -5,11 +5,8 @@ ghost use Rattle.records.specs.Spelling.{spelling, RowFitsIn, RowsFitIn, ChangeF
 ghost use Rattle.records.specs.Spelling.{IndexActionFitsIn, ActionFitsIn, FitsIn, RidFits, IsTxn};
 
 use crate::change::{Change, Rows};
-use crate::pair::Pair;
 use crate::record::{Action, IndexAction, Record, TxnAction};
-use crate::rid::Rid;
-use crate::row::Row;
-use crate::version::Version;
+use record_values::{Pair, Rid, Row, Version};
 
 fn row_fits(version: Version, row: &Row) -> bool
     ensures { IsTrue result ↔ RowFitsIn version row.now }

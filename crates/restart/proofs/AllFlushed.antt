@@ -4,7 +4,7 @@ use Rattle.std.proofs.Common.{slice_index, refl, sym, ap, subst, inl, inr, ⊎_e
 use Rattle.std.specs.List.Sorted.{IsStrictlyIncreasing}
 use Rattle.std.specs.Option.{option_map_or}
 use Rattle.std.proofs.lemmas.List.Elements.{All-nil, All-cons}
-use Rattle.sector_device.specs.History.{History}
+use Rattle.sector_device.specs.DevicePast.{DevicePast}
 use Rattle.restart.specs.Copies.{IsCopyAnswer}
 use Rattle.restart.specs.Lawful.{IsFlushAnswer}
 use Rattle.restart.specs.Parts.{horizon_of, log_of, unwritten}
@@ -45,7 +45,7 @@ empty_where : {X : Type 0} (xs : List X) → (xs ≢ [] → ⊥) → xs ≡ []
 empty_where [] none = refl
 empty_where (x ∷ xs) none = absurd (none (λ e. cc))
 
-module _ {D M : Type 0} (history : D → History) (failures : D → ℕ) where
+module _ {D M : Type 0} (past_of : D → DevicePast) (failures : D → ℕ) where
   -- ---- how far the records are synced
 
   -- no copy lets it fall
@@ -70,18 +70,18 @@ module _ {D M : Type 0} (history : D → History) (failures : D → ℕ) where
   copy_rises reply.Skipped old new is = absurd is
   copy_rises (reply.Refused e) old new is = ⊎_elim (λ none. none.1.succeeds.keeps.horizon) (λ failed. failed.4.horizon) is
 
-  copies_rise : (replies : List (Reply M)) (old new : Parts D M) → AreCopied history failures replies old new → horizon_of old ≤ horizon_of new
+  copies_rise : (replies : List (Reply M)) (old new : Parts D M) → AreCopied past_of failures replies old new → horizon_of old ≤ horizon_of new
   copies_rise [] old new same = omega (arith, ap (λ (s : Parts D M). horizon_of s) same)
   copies_rise (r ∷ replies) old new (mid, wrote, on) = omega (arith, copy_rises r old mid wrote.lawful, copies_rise replies mid new on)
 
-  image_rises : (final : Reply M) (old new : Parts D M) → TakesImage history failures final old new → horizon_of old ≤ horizon_of new
+  image_rises : (final : Reply M) (old new : Parts D M) → TakesImage past_of failures final old new → horizon_of old ≤ horizon_of new
   image_rises final old new taken = omega (arith, copies_rise taken.replies old taken.mid taken.copied, copy_rises final taken.mid new taken.final_copy.lawful)
 
   -- what a flush tells is how far they are
-  told_by : (n : ℕ) (old new : Parts D M) → Serves history failures Flush (reply.Horizon n) old new → horizon_of new ≡ n
+  told_by : (n : ℕ) (old new : Parts D M) → Serves past_of failures Flush (reply.Horizon n) old new → horizon_of new ≡ n
   told_by n old new wrote = sym wrote.lawful.2
 
-  pub synced_by : (n : ℕ) (old new : Parts D M) → FlushesOnce history failures (reply.Horizon n) old new → horizon_of new ≡ n
+  pub synced_by : (n : ℕ) (old new : Parts D M) → FlushesOnce past_of failures (reply.Horizon n) old new → horizon_of new ≡ n
   synced_by n old new (inl flushed) = told_by n old new flushed.1
   synced_by n old new (inr (mid, full, inl (k, current, taken, wrote))) = told_by n current new wrote
   synced_by n old new (inr (mid, full, inr (no_flip, taken))) = absurd taken.final_copy.lawful
@@ -89,7 +89,7 @@ module _ {D M : Type 0} (history : D → History) (failures : D → ℕ) where
   -- ---- one flush behind another
 
   -- an engine that has not flushed
-  pub none_flushed : (last : ℕ) (told : Option ℕ) (engine : Parts D M) → FlushesOn history failures last told engine engine
+  pub none_flushed : (last : ℕ) (told : Option ℕ) (engine : Parts D M) → FlushesOn past_of failures last told engine engine
   none_flushed last told engine = record {
     horizons = [];
     flushed = refl;
@@ -98,8 +98,8 @@ module _ {D M : Type 0} (history : D → History) (failures : D → ℕ) where
   }
 
   -- a reply that asks for another flush, before those that follow
-  pub one_more : (last : ℕ) (told : Option ℕ) (old next new : Parts D M) (r : Reply M) → asks_again last told r ≡ true → FlushesOnce history failures r old next
-      → FlushesOn history failures last (Some (horizon_of next)) next new → FlushesOn history failures last told old new
+  pub one_more : (last : ℕ) (told : Option ℕ) (old next new : Parts D M) (r : Reply M) → asks_again last told r ≡ true → FlushesOnce past_of failures r old next
+      → FlushesOn past_of failures last (Some (horizon_of next)) next new → FlushesOn past_of failures last told old new
   one_more last told old next new (reply.Txn t) again flushed on = cc
   one_more last told old next new (reply.Rid r) again flushed on = cc
   one_more last told old next new reply.Stepped again flushed on = cc
@@ -129,7 +129,7 @@ module _ {D M : Type 0} (history : D → History) (failures : D → ℕ) where
   one_more last told old next new (reply.Refused e) again flushed on = cc
 
   -- a reply that asks for another flush tells of more than were told before, and not yet of all up to the last
-  pub rises : (last : ℕ) (told : Option ℕ) (old new : Parts D M) (r : Reply M) → asks_again last told r ≡ true → FlushesOnce history failures r old new
+  pub rises : (last : ℕ) (told : Option ℕ) (old new : Parts D M) (r : Reply M) → asks_again last told r ≡ true → FlushesOnce past_of failures r old new
       → (is_further told (horizon_of new) ≡ true) × (horizon_of new < last)
   rises last told old new (reply.Txn t) again flushed = cc
   rises last told old new (reply.Rid r) again flushed = cc
@@ -157,14 +157,14 @@ module _ {D M : Type 0} (history : D → History) (failures : D → ℕ) where
   -- ---- the final flush
 
   -- a flush that synced none had none to sync
-  none_left : (n : ℕ) (old new : Parts D M) → Serves history failures Flush (reply.Horizon n) old new → n ≤ horizon_of old → unwritten new ≡ []
+  none_left : (n : ℕ) (old new : Parts D M) → Serves past_of failures Flush (reply.Horizon n) old new → n ≤ horizon_of old → unwritten new ≡ []
   none_left n old new wrote no_further =
       let answer : IsFlushAnswer failures (reply.Horizon n) old new = wrote.lawful in
       let none : unwritten old ≡ [] = empty_where (unwritten old) (λ some. absurd (omega (arith, answer.3 some, no_further))) in
       (answer.5 none).none.left ∙ ap (drop 0) none
 
   -- a final flush that told no more than the one before had none to sync
-  none_waits : (n : ℕ) (old new : Parts D M) → n ≤ horizon_of old → FlushesOnce history failures (reply.Horizon n) old new → unwritten new ≡ []
+  none_waits : (n : ℕ) (old new : Parts D M) → n ≤ horizon_of old → FlushesOnce past_of failures (reply.Horizon n) old new → unwritten new ≡ []
   none_waits n old new no_further (inl flushed) = none_left n old new flushed.1 no_further
   none_waits n old new no_further (inr (mid, full, inl (k, current, taken, wrote))) =
       none_left n current new wrote (omega (arith, no_further, full.lawful.4.keeps.horizon, image_rises (reply.Flipped k) mid current taken))
@@ -172,7 +172,7 @@ module _ {D M : Type 0} (history : D → History) (failures : D → ℕ) where
 
   pub is_final : (last : ℕ) (told : Option ℕ) (old new : Parts D M) (r : Reply M) → asks_again last told r ≡ false
       → ((m : ℕ) → told ≡ Some m → horizon_of old ≡ m)
-      → FlushesOnce history failures r old new → (n : ℕ) → r ≡ reply.Horizon n → (last ≤ n) ⊎ (unwritten new ≡ [])
+      → FlushesOnce past_of failures r old new → (n : ℕ) → r ≡ reply.Horizon n → (last ≤ n) ⊎ (unwritten new ≡ [])
   is_final last told old new r settled known flushed n is =
       by told known (one_fails (nat_lt n last) (is_further told n) (subst (λ x. asks_again last told x ≡ false) is settled))
     where
@@ -181,13 +181,13 @@ module _ {D M : Type 0} (history : D → History) (failures : D → ℕ) where
       by before was (inr e) = inl (ltb-false n last e)
       by None was (inl e) = cc
       by (Some m) was (inl e) = inr (none_waits n old new (omega (arith, ltb-false m n e, was m refl))
-          (subst (λ x. FlushesOnce history failures x old new) is flushed))
+          (subst (λ x. FlushesOnce past_of failures x old new) is flushed))
 
   -- behind an image the log has room
-  pub has_room : (old new : Parts D M) (r : Reply M) → FlushesOnce history failures r old new → r ≡ reply.LogFull → (log_of new).open_slots ≡ 0
-  has_room old new r flushed is = by (subst (λ x. FlushesOnce history failures x old new) is flushed)
+  pub has_room : (old new : Parts D M) (r : Reply M) → FlushesOnce past_of failures r old new → r ≡ reply.LogFull → (log_of new).open_slots ≡ 0
+  has_room old new r flushed is = by (subst (λ x. FlushesOnce past_of failures x old new) is flushed)
     where
-      by : FlushesOnce history failures reply.LogFull old new → (log_of new).open_slots ≡ 0
+      by : FlushesOnce past_of failures reply.LogFull old new → (log_of new).open_slots ≡ 0
       by (inl flushed) = absurd (flushed.0 refl)
       by (inr (mid, full, inl (k, current, taken, wrote))) =
           omega (arith, ap (λ l. l.open_slots) wrote.lawful.4.keeps.log, wrote.lawful.2, taken.final_copy.lawful.2.room)

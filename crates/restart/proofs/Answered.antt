@@ -1,11 +1,11 @@
 -- What the core answered is what the engine answers.
 use Rattle.std.proofs.Common.{Bool, Err, IsTrue, None, Ok, Option, Result, Some, [], false, refl, subst, sym, true, ◌↔◌, ◌≡◌, ◌≢◌}
-use Rattle.records.specs.declared.error.Error.{Error}
-use Rattle.core_contracts.specs.Events as core
+use Rattle.record_values.specs.declared.error.Error.{Error}
+use Rattle.core_model.specs.Events as core
 use Rattle.txn_table.specs.Table.{TxnState}
-use Rattle.nsf_core.specs.Moves.{HasNoChange}
-use Rattle.nsf_core.specs.Replies.{reply_by}
-use Rattle.nsf_core.specs.View as view
+use Rattle.core_parts.specs.Moves.{HasNoChange}
+use Rattle.core_parts.specs.Replies.{reply_by}
+use Rattle.core_parts.specs.View as view
 use Rattle.restart.specs.declared.parts.Parts.{Parts}
 use Rattle.restart.specs.declared.event.Event.{Event}
 use Rattle.restart.specs.declared.event.Reply.{Reply}

@@ -1,10 +1,10 @@
 -- An engine that is taken apart.
 use Rattle.std.proofs.Common.{◌≡◌, ◌≢◌, ◌≤◌, ℕ, List, [], ◌∷◌, ◌++◌, sym, ◌∙◌, ap, subst, arith, append-nil}
 use Rattle.records.specs.RecordValue.{RecordValue}
-use Rattle.core_contracts.specs.Events.{Standing, standing_at}
+use Rattle.core_model.specs.Events.{Standing, standing_at}
 use Rattle.core_model.specs.Histories.{opened}
-use Rattle.image_model.specs.Run.{end_of}
-use Rattle.sector_device.specs.History.{History}
+use Rattle.store_image_model.specs.Run.{end_of}
+use Rattle.sector_device.specs.DevicePast.{DevicePast}
 use Rattle.store_writer.specs.Parts as writer
 use Rattle.store_writer.specs.Writer.{IsWriter}
 use Rattle.restart.specs.declared.parts.Parts.{Parts}
@@ -21,12 +21,12 @@ both_none : (a b : List RecordValue) → a ++ b ≡ [] → b ≡ []
 both_none [] b none = none
 both_none (x ∷ a) b none = absurd cc
 
-module _ {D M : Type 0} (history : D → History) (old new : Parts D M) (hands : HandsOver history old new) where
-  module _ (past : Past M) (is : IsAt history past old) where
-    moved : (later : ℕ) × (is.handed ≤ later) × StandsAt history (run_of past is.made) later is.state is.standing new
+module _ {D M : Type 0} (past_of : D → DevicePast) (old new : Parts D M) (hands : HandsOver past_of old new) where
+  module _ (past : Past M) (is : IsAt past_of past old) where
+    moved : (later : ℕ) × (is.handed ≤ later) × StandsAt past_of (run_of past is.made) later is.state is.standing new
     moved = hands.moves.stands (run_of past is.made) is.handed is.state is.standing is.stands
 
-    pub at_over : IsAt history past new
+    pub at_over : IsAt past_of past new
     at_over = record {
       answered = is.answered;
       kinds = is.kinds;
@@ -41,7 +41,7 @@ module _ {D M : Type 0} (history : D → History) (old new : Parts D M) (hands :
     }
 
     -- where all was handed over
-    pub leaves_parts : unhanded new ≡ [] → LeavesParts history past (core_of new) (writer_of new)
+    pub leaves_parts : unhanded new ≡ [] → LeavesParts past_of past (core_of new) (writer_of new)
     leaves_parts all = record {
       opens = is.opens;
       made = is.made;
@@ -56,12 +56,12 @@ module _ {D M : Type 0} (history : D → History) (old new : Parts D M) (hands :
           (stands_over (opened (over past.geometry past.given)) (standing_at past.given.last)
           (core_calls past.events past.replies) is.state is.standing is.served.served) in
           omega (arith, told, is.served.number);
-      writer = subst (λ n. IsWriter history (run_of past is.made) n (writer_of new)) (to_the_end all) moved.2.writer;
+      writer = subst (λ n. IsWriter past_of (run_of past is.made) n (writer_of new)) (to_the_end all) moved.2.writer;
       safe = omega (arith, is.safe, hands.horizon);
     }
       where
         to_the_end : unhanded new ≡ [] → moved.0 ≡ end_of (run_of past is.made)
-        to_the_end all = omega (arith, moved.2.writer.made, all_handed history (run_of past is.made) moved.0 is.state is.standing new moved.2 all)
+        to_the_end all = omega (arith, moved.2.writer.made, all_handed past_of (run_of past is.made) moved.0 is.state is.standing new moved.2 all)
 
   pub are_parts : unhanded new ≡ [] → ArePartsOf old (core_of new) (writer_of new)
   are_parts all = record {
@@ -76,13 +76,13 @@ module _ {D M : Type 0} (history : D → History) (old new : Parts D M) (hands :
     failed = hands.failed;
   }
 
-  pub given_back : unhanded new ≢ [] → IsGivenBack history old new
+  pub given_back : unhanded new ≢ [] → IsGivenBack past_of old new
   given_back some = record {
     some = some;
     at = at_over;
     core = hands.moves.core;
     unwritten-are = hands.unwritten-are;
-    keeps = keeps_over history old new hands;
+    keeps = keeps_over past_of old new hands;
     failed = hands.failed;
     geometry = hands.geometry;
     copying = hands.copying;

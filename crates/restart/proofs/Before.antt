@@ -1,17 +1,17 @@
 -- What is said of a piece before the records are handed over holds behind it too.
 use Rattle.std.proofs.Common.{◌≡◌, ℕ, List, Option, sym, subst}
-use Rattle.records.specs.GeometryValue.{GeometryValue}
+use Rattle.record_values.specs.GeometryValue.{GeometryValue}
 use Rattle.records.specs.RecordValue.{RecordValue}
 use Rattle.model.specs.Cells.{Cells}
 use Rattle.core_copies.specs.Pieces.{IsPieceOf}
 use Rattle.core_copies.specs.Shown.{IsCellsOf, IsOfGeometry}
 use Rattle.flip_image.specs.Layout.{HalvesValue}
 use Rattle.gate_log.specs.Area.{Log}
-use Rattle.image_model.specs.declared.chunk.CopyPlace.{CopyPlace}
-use Rattle.image_model.specs.declared.chunk.CopyPlace.TheVariants as at
-use Rattle.image_model.specs.declared.chunk.Piece.{Piece}
-use Rattle.image_model.specs.declared.chunk.Piece.TheVariants.{Entries, Page, Start, Whole}
-use Rattle.nsf_core.specs.View.{CoreValue}
+use Rattle.store_image_model.specs.declared.chunk.CopyPlace.{CopyPlace}
+use Rattle.store_image_model.specs.declared.chunk.CopyPlace.TheVariants as at
+use Rattle.store_image_model.specs.declared.chunk.Piece.{Piece}
+use Rattle.store_image_model.specs.declared.chunk.Piece.TheVariants.{Entries, Page, Start, Whole}
+use Rattle.core_parts.specs.View.{CoreValue}
 use Rattle.store_writer.specs.Writer.{HasPiece, MustStartAgain}
 use Rattle.store_writer.specs.declared.image.NewImage.{NewImage}
 use Rattle.store_writer.specs.declared.writer.Writer.{Writer}

@@ -3,23 +3,23 @@ use Rattle.std.proofs.Common.{List, Option, Some, [], ap, arith, length, refl, s
 use Rattle.std.specs.Prelude.{◌↔◌}
 use Rattle.std.proofs.lemmas.List.{nil_from_length}
 use Rattle.std.specs.FinMap.{get}
-use Rattle.records.specs.declared.pair.Mark.TheVariants.{Live}
-use Rattle.records.specs.declared.pair.Pair.{Pair}
+use Rattle.record_values.specs.declared.pair.Mark.TheVariants.{Live}
+use Rattle.record_values.specs.declared.pair.Pair.{Pair}
 use Rattle.model.specs.Table.{IsPairOf, Table, Index}
 use Rattle.model.specs.declared.life.Life.TheVariants.{Complete}
 use Rattle.core_model.proofs.Laws.{made_holds, whole}
 use Rattle.core_model.specs.States.{State}
 use Rattle.core_model.specs.Steps.{MachineStep}
-use Rattle.core_contracts.specs.Events as core
-use Rattle.core_contracts.specs.Events.{Standing, standing_after}
-use Rattle.core_contracts.specs.Replies.{IsAllowed, accepted, after_any, build_step, no_memory, refused, refused_last, skipped, unknown}
-use Rattle.core_contracts.specs.Served.{records_by}
-use Rattle.core_contracts.proofs.Laws.{served_allowed}
-use Rattle.nsf_core.specs.Moves.{txn_shown}
-use Rattle.nsf_core.specs.View as view
-use Rattle.nsf_core.specs.View.{Answers, AreOne, CoreValue, IsSafe, IsState}
+use Rattle.core_model.specs.Events as core
+use Rattle.core_model.specs.Events.{Standing, standing_after}
+use Rattle.core_model.specs.Replies.{IsAllowed, accepted, after_any, build_step, no_memory, refused, refused_last, skipped, unknown}
+use Rattle.core_model.specs.Served.{records_by}
+use Rattle.core_model.proofs.ReplyLaws.{served_allowed}
+use Rattle.core_parts.specs.Moves.{txn_shown}
+use Rattle.core_parts.specs.View as view
+use Rattle.core_parts.specs.View.{Answers, AreOne, CoreValue, IsSafe, IsState}
 use Rattle.nsf_core.proofs.Offered.{stands}
-use Rattle.sector_device.specs.History.{History, LeavesOnly}
+use Rattle.sector_device.specs.DevicePast.{DevicePast, LeavesOnly}
 use Rattle.sector_device.proofs.Moments.{started}
 use Rattle.store_writer.specs.Parts as writer
 use Rattle.restart.specs.declared.parts.Parts.{Parts}
@@ -127,34 +127,34 @@ module _ {D M : Type 0} where
   writer_on [] old new same = ap (λ (e : Parts D M). writer_of e) same
   writer_on (r ∷ replies) old new built = writer_on replies built.0 new built.2 ∙ ap (λ (e : Parts D M). writer_of e) built.1.rest
 
-  module _ (history : D → History) (failures : D → ℕ) where
-    laws_on : (old mid : Parts D M) → mid ≡ record old { core = mid.core } → Laws history (writer_of old) → Laws history (writer_of mid)
-    laws_on old mid rest laws = subst (Laws history) (sym (ap (λ (e : Parts D M). writer_of e) rest)) laws
+  module _ (past_of : D → DevicePast) (failures : D → ℕ) where
+    laws_on : (old mid : Parts D M) → mid ≡ record old { core = mid.core } → Laws past_of (writer_of old) → Laws past_of (writer_of mid)
+    laws_on old mid rest laws = subst (Laws past_of) (sym (ap (λ (e : Parts D M). writer_of e) rest)) laws
 
-    pub at_built : (replies : List (Reply M)) (old new : Parts D M) → AreBuilt replies old new → Laws history (writer_of old) → (past : Past M)
-        → IsAt history past old → IsAt history (and_then past (builds replies) replies) new
-    at_built [] old new same laws past is = subst (λ (p : Past M). IsAt history p new) (sym (and_then_none past)) (subst (IsAt history past) (sym same) is)
+    pub at_built : (replies : List (Reply M)) (old new : Parts D M) → AreBuilt replies old new → Laws past_of (writer_of old) → (past : Past M)
+        → IsAt past_of past old → IsAt past_of (and_then past (builds replies) replies) new
+    at_built [] old new same laws past is = subst (λ (p : Past M). IsAt past_of p new) (sym (and_then_none past)) (subst (IsAt past_of past) (sym same) is)
     at_built (r ∷ replies) old new built laws past is =
-        subst (λ (p : Past M). IsAt history p new) (and_then_both past (event.Build ∷ []) (builds replies) (r ∷ []) replies)
+        subst (λ (p : Past M). IsAt past_of p new) (and_then_both past (event.Build ∷ []) (builds replies) (r ∷ []) replies)
         (at_built replies built.0 new built.2 (laws_on old built.0 built.1.rest laws) (and_then past (event.Build ∷ []) (r ∷ []))
-        (served_by_core history failures event.Build r old built.0 built.1 laws past is).0)
+        (served_by_core past_of failures event.Build r old built.0 built.1 laws past is).0)
 
-    pub can_run_built : (replies : List (Reply M)) (old new : Parts D M) → AreBuilt replies old new → Laws history (writer_of old) → CanRun history old
-        → CanRun history new
-    can_run_built [] old new same laws can = subst (CanRun history) (sym same) can
+    pub can_run_built : (replies : List (Reply M)) (old new : Parts D M) → AreBuilt replies old new → Laws past_of (writer_of old) → CanRun past_of old
+        → CanRun past_of new
+    can_run_built [] old new same laws can = subst (CanRun past_of) (sym same) can
     can_run_built (r ∷ replies) old new built laws can =
         can_run_built replies built.0 new built.2 (laws_on old built.0 built.1.rest laws)
-        (can_run_by_core history failures event.Build r old built.0 built.1 laws can)
+        (can_run_by_core past_of failures event.Build r old built.0 built.1 laws can)
 
-    pub survives_built : (replies : List (Reply M)) (old new : Parts D M) → AreBuilt replies old new → Laws history (writer_of old) → (past : Past M)
-        → IsAt history past old
-        → LeavesOnly (history (device_of old)) (history (device_of new)) (Survives (and_then past (builds replies) replies) (horizon_of old))
+    pub survives_built : (replies : List (Reply M)) (old new : Parts D M) → AreBuilt replies old new → Laws past_of (writer_of old) → (past : Past M)
+        → IsAt past_of past old
+        → LeavesOnly (past_of (device_of old)) (past_of (device_of new)) (Survives (and_then past (builds replies) replies) (horizon_of old))
     survives_built replies old new built laws past is =
         let same : writer_of new ≡ writer_of old = writer_on replies old new built in
-        subst (λ w. LeavesOnly (history (writer.device_of w)) (history (device_of new)) (Survives (and_then past (builds replies) replies) (horizon_of old)))
+        subst (λ w. LeavesOnly (past_of (writer.device_of w)) (past_of (device_of new)) (Survives (and_then past (builds replies) replies) (horizon_of old)))
         same
-        (started (history (device_of new)) (Survives (and_then past (builds replies) replies) (horizon_of old))
-        (crash_since history (and_then past (builds replies) replies) new (at_built replies old new built laws past is) (horizon_of old)
+        (started (past_of (device_of new)) (Survives (and_then past (builds replies) replies) (horizon_of old))
+        (crash_since past_of (and_then past (builds replies) replies) new (at_built replies old new built laws past is) (horizon_of old)
         (omega (arith, ap (λ w. writer.synced_of w) same))))
 
 -- ---- what is built

@@ -3,7 +3,7 @@ use Rattle.std.proofs.Common.{◌≡◌, ◌⊎◌, ⊎_elim, inl, inr, ℕ, ◌
 use Rattle.std.proofs.lemmas.Bool.{le-leb, lt-leb, cases_lt}
 use Rattle.std.proofs.lemmas.List.Elements.{All-cons}
 use Rattle.std.specs.List.{All}
-use Rattle.records.specs.declared.pair.Pair.{Pair}
+use Rattle.record_values.specs.declared.pair.Pair.{Pair}
 use Rattle.model.specs.Given.{Given}
 use Rattle.model.specs.History.{Checkpointed, Committed, Completed, Created, Deed, Dropped, Item, life_after, life_with, up_to}
 use Rattle.model.specs.declared.life.Life.{Life}

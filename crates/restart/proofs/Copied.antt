@@ -2,35 +2,37 @@
 use Rattle.std.proofs.Common.{[], ◌≡◌, ◌≢◌, ◌⊎◌, false, inl, inr, ℕ, ◌-◌, ◌/◌, ◌≤◌, ◌<◌, List, ◌++◌, Option, None, Some, IfSome, length, take, sym, ◌∙◌, ap}
 use Rattle.std.proofs.Common.{subst, arith, append-nil, ⊎_elim}
 use Rattle.std.proofs.lemmas.List.{take_all}
-use Rattle.records.specs.GeometryValue.{GeometryValue}
+use Rattle.record_values.specs.GeometryValue.{GeometryValue}
 use Rattle.records.specs.RecordValue.{RecordValue}
-use Rattle.records.specs.declared.number.TheConstants.{LAST_NUMBER}
-use Rattle.records.specs.declared.pair.Mark.{Mark}
-use Rattle.records.specs.declared.pair.Pair.{Pair}
+use Rattle.record_values.specs.declared.number.TheConstants.{LAST_NUMBER}
+use Rattle.record_values.specs.declared.pair.Mark.{Mark}
+use Rattle.record_values.specs.declared.pair.Pair.{Pair}
 use Rattle.model.specs.Cells.{Cells, cells_after}
 use Rattle.model.specs.Inside.{AreInside}
 use Rattle.model.specs.Redo.{cells_of}
 use Rattle.model.specs.Table.{Table}
 use Rattle.core_model.specs.Records.{HasCells}
 use Rattle.core_model.specs.States.{State}
-use Rattle.core_contracts.specs.Events.{Standing}
+use Rattle.core_model.specs.Events.{Standing}
 use Rattle.core_copies.specs.Lists.{HasLists}
 use Rattle.core_copies.specs.Pieces.{IsPieceOf, IsWholeOf}
 use Rattle.core_copies.specs.Shown.{IsCellsOf, IsOfGeometry}
 use Rattle.flip_image.specs.Layout.{other}
 use Rattle.gate_log.specs.Area.{Log}
-use Rattle.image_model.specs.Run.{Run, cells_at, end_of, records_above}
-use Rattle.image_model.specs.declared.chunk.CopyPlace.{CopyPlace}
-use Rattle.image_model.specs.declared.chunk.CopyPlace.TheVariants as at
-use Rattle.image_model.specs.declared.chunk.Piece.{Piece}
-use Rattle.image_model.specs.declared.chunk.Piece.TheVariants.{Entries, Page, Start, Whole}
-use Rattle.nsf_core.specs.View.{CoreValue, IsState}
-use Rattle.sector_device.specs.History.{History}
+use Rattle.store_image_model.specs.Run.{Run, cells_at, end_of, records_above}
+use Rattle.store_image_model.specs.declared.chunk.CopyPlace.{CopyPlace}
+use Rattle.store_image_model.specs.declared.chunk.CopyPlace.TheVariants as at
+use Rattle.store_image_model.specs.declared.chunk.Piece.{Piece}
+use Rattle.store_image_model.specs.declared.chunk.Piece.TheVariants.{Entries, Page, Start, Whole}
+use Rattle.core_parts.specs.View.{CoreValue, IsState}
+use Rattle.sector_device.specs.DevicePast.{DevicePast}
+use Rattle.store_writer.specs.Copying.{IsCopying, IsPieceDue, next_place}
 use Rattle.store_writer.specs.Image.{IsUnderway}
 use Rattle.store_writer.specs.Parts as writer
 use Rattle.store_writer.specs.Places.{AreEntriesNow, AreRowsNow, IsAtPiece, IsAtPlace}
 use Rattle.store_writer.specs.Writer.{CanFlip, HasBegun, HasPiece, IsChunk, IsFlipReply, IsLogFull, IsEntriesChunk, IsPageChunk, IsStepReply, IsWholeChunk}
 use Rattle.store_writer.specs.Writer.{IsWriter, MustStartAgain}
+use Rattle.store_writer.specs.declared.copying.Copying.TheVariants.{GivenUp, Idle, Steps}
 use Rattle.store_writer.specs.declared.image.Stage.TheVariants as stage
 use Rattle.store_writer.specs.declared.writer.FlipReply.TheVariants.{Flipped}
 use Rattle.store_writer.specs.declared.writer.StepReply.TheVariants.{StartAgain, Taken}
@@ -38,15 +40,14 @@ use Rattle.store_writer.specs.declared.image.NewImage.{NewImage}
 use Rattle.store_writer.specs.declared.writer.Writer.{Writer}
 use Rattle.txn_table.specs.Sound.{IsSound}
 use Rattle.restart.specs.declared.parts.Parts.{Parts}
-use Rattle.restart.specs.Copies.{CannotFlip, CannotTake, IsCopying, IsPieceDue, IsHalfOpen, IsPieceNow, MakesCurrent, MayFlip, TakesPiece, copies_left}
-use Rattle.restart.specs.Copies.{copies_to_flip, left_at, next_place}
-use Rattle.image_model.specs.Places.{place_behind}
+use Rattle.restart.specs.Copies.{CannotFlip, CannotTake, IsHalfOpen, IsPieceNow, MakesCurrent, MayFlip, TakesPiece, copies_left}
+use Rattle.restart.specs.Copies.{copies_to_flip, left_at}
+use Rattle.store_image_model.specs.Places.{place_behind}
 use Rattle.restart.proofs.Fewer.{fewer_taken, flip_bounds, two_left}
 use Rattle.restart.proofs.Keeping.{keeps_same}
 use Rattle.restart.proofs.Moving.{StaysAtPlace}
 use Rattle.restart.proofs.Numbers.{count_to_end}
 use Rattle.restart.specs.Parts.{core_of, has_failed, horizon_of, unhanded, unwritten, writer_of}
-use Rattle.restart.specs.declared.copying.Copying.TheVariants.{GivenUp, Idle, Steps}
 use Rattle.restart.specs.Store.{CanRun, StandsAt}
 
 -- a piece of an image that is there, at its place
@@ -57,15 +58,15 @@ there pages place image some either = ⊎_elim (λ none. absurd (some none)) (λ
 not_none : (image : Option NewImage) (i : NewImage) → image ≡ Some i → image ≢ None
 not_none image i is none = cc
 
-module _ {D M : Type 0} (history : D → History) (run : Run) (handed : ℕ) (s : State) (k : Standing) (engine : Parts D M)
-    (is : StandsAt history run handed s k engine) (sound : has_failed engine ≡ false) (txns : IsSound (core_of engine).txns)
+module _ {D M : Type 0} (past_of : D → DevicePast) (run : Run) (handed : ℕ) (s : State) (k : Standing) (engine : Parts D M)
+    (is : StandsAt past_of run handed s k engine) (sound : has_failed engine ≡ false) (txns : IsSound (core_of engine).txns)
     (shown : (v : CoreValue) (s : State) (k : Standing) (cells : Cells) → IsSound v.txns → IsState v s k → HasCells s cells → HasLists s cells
     → IsCellsOf v cells)
     (one : (v : CoreValue) (a b : Cells) → IsCellsOf v a → IsCellsOf v b → a ≡ b)
-    (page_next : (run : Run) (handed page : ℕ) (rows : Table) → IsWriter history run handed (writer_of engine) → has_failed engine ≡ false
+    (page_next : (run : Run) (handed page : ℕ) (rows : Table) → IsWriter past_of run handed (writer_of engine) → has_failed engine ≡ false
     → end_of run ≤ LAST_NUMBER → IsAtPlace run.geometry.pages (Some (at.Page page)) (writer.image_of (writer_of engine))
     → AreRowsNow run page rows → (i : NewImage) → writer.image_of (writer_of engine) ≡ Some i → IsPageChunk run i (end_of run) page rows)
-    (entries_next : (run : Run) (handed : ℕ) (above : Option Pair) (entries : List (Pair × Mark)) → IsWriter history run handed (writer_of engine)
+    (entries_next : (run : Run) (handed : ℕ) (above : Option Pair) (entries : List (Pair × Mark)) → IsWriter past_of run handed (writer_of engine)
     → has_failed engine ≡ false → end_of run ≤ LAST_NUMBER → IsAtPlace run.geometry.pages (Some (at.Entries above)) (writer.image_of (writer_of engine))
     → AreEntriesNow run above entries → (i : NewImage) → writer.image_of (writer_of engine) ≡ Some i → IsEntriesChunk run i (end_of run) entries) where
   abbrev v : CoreValue
@@ -166,10 +167,10 @@ due_there pages at.Start image is = tt
 due_there pages (at.Page page) image is = is
 due_there pages (at.Entries above) image is = is
 
-pub due_now : {D M : Type 0} (history : D → History) (engine : Parts D M) (place : CopyPlace) → CanRun history engine → has_failed engine ≡ false
+pub due_now : {D M : Type 0} (past_of : D → DevicePast) (engine : Parts D M) (place : CopyPlace) → CanRun past_of engine → has_failed engine ≡ false
     → engine.copying ≡ Steps (Some place) → IsPieceDue engine.geometry.pages place (writer.image_of (writer_of engine))
-due_now history engine place can sound copying =
-    let is : StandsAt history can.0 can.1 can.2 can.3 engine = can.4 in
+due_now past_of engine place can sound copying =
+    let is : StandsAt past_of can.0 can.1 can.2 can.3 engine = can.4 in
     due_there engine.geometry.pages place (writer.image_of (writer_of engine))
     (subst (λ c. IsCopying engine.geometry.pages c (writer.image_of (writer_of engine))) copying
     (subst (λ (x : GeometryValue). IsCopying x.pages engine.copying (writer.image_of (writer_of engine))) (sym is.geometry) (is.copying sound)))
@@ -194,15 +195,15 @@ at_piece v cells w pages (at.Entries above) (Start life lists) of due taken = ab
 at_piece v cells w pages (at.Entries above) (Page page rows) of due taken = absurd of
 
 -- what the layers below say of a copy of this core and of this writer
-pub record CopyLaws {D M : Type 0} (history : D → History) (engine : Parts D M) : Type 0 where
+pub record CopyLaws {D M : Type 0} (past_of : D → DevicePast) (engine : Parts D M) : Type 0 where
   pub txns : IsSound (core_of engine).txns
   pub shown : (v : CoreValue) (s : State) (k : Standing) (cells : Cells) → IsSound v.txns → IsState v s k → HasCells s cells → HasLists s cells
       → IsCellsOf v cells
   pub one : (v : CoreValue) (a b : Cells) → IsCellsOf v a → IsCellsOf v b → a ≡ b
-  pub page : (run : Run) (handed page : ℕ) (rows : Table) → IsWriter history run handed (writer_of engine) → has_failed engine ≡ false
+  pub page : (run : Run) (handed page : ℕ) (rows : Table) → IsWriter past_of run handed (writer_of engine) → has_failed engine ≡ false
       → end_of run ≤ LAST_NUMBER → IsAtPlace run.geometry.pages (Some (at.Page page)) (writer.image_of (writer_of engine))
       → AreRowsNow run page rows → (i : NewImage) → writer.image_of (writer_of engine) ≡ Some i → IsPageChunk run i (end_of run) page rows
-  pub entries : (run : Run) (handed : ℕ) (above : Option Pair) (entries : List (Pair × Mark)) → IsWriter history run handed (writer_of engine)
+  pub entries : (run : Run) (handed : ℕ) (above : Option Pair) (entries : List (Pair × Mark)) → IsWriter past_of run handed (writer_of engine)
       → has_failed engine ≡ false → end_of run ≤ LAST_NUMBER → IsAtPlace run.geometry.pages (Some (at.Entries above)) (writer.image_of (writer_of engine))
       → AreEntriesNow run above entries → (i : NewImage) → writer.image_of (writer_of engine) ≡ Some i → IsEntriesChunk run i (end_of run) entries
 
@@ -223,16 +224,16 @@ taken_open slots number (Entries entries) old new (may, (image, kept, (from, pag
     omega (arith, level, was from from_is)
 
 -- the next piece, whatever run the engine is of
-module _ {A D M : Type 0} (history : D → History) (engine : Parts D M) (laws : CopyLaws history engine) (sound : has_failed engine ≡ false) (number : ℕ)
+module _ {A D M : Type 0} (past_of : D → DevicePast) (engine : Parts D M) (laws : CopyLaws past_of engine) (sound : has_failed engine ≡ false) (number : ℕ)
     (place : CopyPlace) (piece : Piece A) (told : number ≡ (core_of engine).last)
     (due : IsPieceDue engine.geometry.pages place (writer.image_of (writer_of engine))) (of : (cells : Cells) → IsCellsOf (core_of engine) cells
     → IsPieceOf (core_of engine) cells place piece) where
-  pub piece_is : (run : Run) (handed : ℕ) (s : State) (k : Standing) → StandsAt history run handed s k engine → IsChunk run (writer_of engine) number piece
-  piece_is run handed s k is = next_of history run handed s k engine is sound laws.txns laws.shown laws.one laws.page laws.entries number place piece told due
+  pub piece_is : (run : Run) (handed : ℕ) (s : State) (k : Standing) → StandsAt past_of run handed s k engine → IsChunk run (writer_of engine) number piece
+  piece_is run handed s k is = next_of past_of run handed s k engine is sound laws.txns laws.shown laws.one laws.page laws.entries number place piece told due
       of
 
   -- and where the copying goes on behind it
-  module _ (new : Parts D M) (size : new.geometry ≡ engine.geometry) (can : CanRun history engine) (behind : Option CopyPlace)
+  module _ (new : Parts D M) (size : new.geometry ≡ engine.geometry) (can : CanRun past_of engine) (behind : Option CopyPlace)
       (copying : new.copying ≡ Steps behind) (behind_is : behind ≡ place_behind engine.geometry.pages piece)
       (told_taken : IsStepReply number piece Taken (writer_of engine) (writer_of new))
       (goes : (pages : ℕ) → pages ≡ (writer.halves_of (writer_of engine)).geometry.pages → IsAtPiece pages piece (writer.image_of (writer_of engine))
@@ -247,21 +248,21 @@ module _ {A D M : Type 0} (history : D → History) (engine : Parts D M) (laws :
       carried = λ was _. taken_open engine.geometry.slots number piece (writer_of engine) (writer_of new) told_taken (was sound);
     }
       where
-        is : StandsAt history can.0 can.1 can.2 can.3 engine
+        is : StandsAt past_of can.0 can.1 can.2 can.3 engine
         is = can.4
 
         of_now : IsPieceOf (core_of engine) (cells_at can.0 (end_of can.0)) place piece
         of_now = of (cells_at can.0 (end_of can.0))
-            (cells_now history can.0 can.1 can.2 can.3 engine is sound laws.txns laws.shown laws.one laws.page laws.entries)
+            (cells_now past_of can.0 can.1 can.2 can.3 engine is sound laws.txns laws.shown laws.one laws.page laws.entries)
 
         pages_same : engine.geometry.pages ≡ (writer.halves_of (writer_of engine)).geometry.pages
         pages_same = ap (λ (x : GeometryValue). x.pages) (is.geometry ∙ sym is.writer.geometry-is)
 
 -- all at once, whatever run the engine is of
-module _ {A D M : Type 0} (history : D → History) (engine : Parts D M) (laws : CopyLaws history engine) (sound : has_failed engine ≡ false) (number : ℕ)
+module _ {A D M : Type 0} (past_of : D → DevicePast) (engine : Parts D M) (laws : CopyLaws past_of engine) (sound : has_failed engine ≡ false) (number : ℕ)
     (piece : Piece A) (told : number ≡ (core_of engine).last) (of : IsWholeOf (core_of engine) piece) where
-  pub whole_is : (run : Run) (handed : ℕ) (s : State) (k : Standing) → StandsAt history run handed s k engine → IsChunk run (writer_of engine) number piece
-  whole_is run handed s k is = whole_chunk history run handed s k engine is sound laws.txns laws.shown laws.one laws.page laws.entries number piece told of
+  pub whole_is : (run : Run) (handed : ℕ) (s : State) (k : Standing) → StandsAt past_of run handed s k engine → IsChunk run (writer_of engine) number piece
+  whole_is run handed s k is = whole_chunk past_of run handed s k engine is sound laws.txns laws.shown laws.one laws.page laws.entries number piece told of
 
 -- ---- what is answered where a piece was due
 
@@ -299,23 +300,23 @@ module _ {D M : Type 0} (old new : Parts D M) (number : ℕ) (place : CopyPlace)
   }
 
 -- fewer copies are left behind a piece
-pub fewer_now : {D M : Type 0} (history : D → History) (old new : Parts D M) (laws : CopyLaws history old) (sound : has_failed old ≡ false) (number : ℕ)
+pub fewer_now : {D M : Type 0} (past_of : D → DevicePast) (old new : Parts D M) (laws : CopyLaws past_of old) (sound : has_failed old ≡ false) (number : ℕ)
     (place : CopyPlace) (piece : Piece M) → number ≡ (core_of old).last → IsPieceDue old.geometry.pages place (writer.image_of (writer_of old))
-    → IsPieceNow (core_of old) place piece → next_place old.copying ≡ Some place → (can : CanRun history old)
+    → IsPieceNow (core_of old) place piece → next_place old.copying ≡ Some place → (can : CanRun past_of old)
     → IsStepReply number piece Taken (writer_of old) (writer_of new) → new.copying ≡ Steps (place_behind old.geometry.pages piece)
     → new.geometry ≡ old.geometry → core_of new ≡ core_of old → copies_left new < copies_left old
-fewer_now history old new laws sound number place piece told due of next can is behind size same =
+fewer_now past_of old new laws sound number place piece told due of next can is behind size same =
     subst (λ n. n < copies_left old) (sym now) (fewer_taken old.geometry (core_of old).last number is.1.0 (writer_of old) size_is
     (core_of old) cells old.copying place piece next (of cells cells_are) told due is.0 is.1.2)
   where
-    stands : StandsAt history can.0 can.1 can.2 can.3 old
+    stands : StandsAt past_of can.0 can.1 can.2 can.3 old
     stands = can.4
 
     cells : Cells
     cells = cells_at can.0 (end_of can.0)
 
     cells_are : IsCellsOf (core_of old) cells
-    cells_are = cells_now history can.0 can.1 can.2 can.3 old stands sound laws.txns laws.shown laws.one laws.page laws.entries
+    cells_are = cells_now past_of can.0 can.1 can.2 can.3 old stands sound laws.txns laws.shown laws.one laws.page laws.entries
 
     size_is : (writer.halves_of (writer_of old)).geometry ≡ old.geometry
     size_is = stands.writer.geometry-is ∙ sym stands.geometry
@@ -328,9 +329,9 @@ fewer_now history old new laws sound number place piece told due of next can is 
         ∙ ap (left_at old.geometry (core_of old).last (Some is.1.0)) behind
 
 -- where the writer has every record, they are all handed in
-pub all_handed : {D M : Type 0} (history : D → History) (run : Run) (handed : ℕ) (s : State) (k : Standing) (engine : Parts D M)
-    → StandsAt history run handed s k engine → unhanded engine ≡ [] → end_of run ≤ handed
-all_handed history run handed s k engine is all =
+pub all_handed : {D M : Type 0} (past_of : D → DevicePast) (run : Run) (handed : ℕ) (s : State) (k : Standing) (engine : Parts D M)
+    → StandsAt past_of run handed s k engine → unhanded engine ≡ [] → end_of run ≤ handed
+all_handed past_of run handed s k engine is all =
     omega (arith, is.writer.made, count_to_end run handed (omega (arith, is.writer.opened, is.writer.reached)), ap length (is.rest ∙ all))
 
 -- a whole image that was just taken may be made current
@@ -371,16 +372,16 @@ whole_base v number (Entries entries) old mid of is = absurd of
 
 -- ---- an image that can't be made current
 
-module _ {D M : Type 0} (history : D → History) (run : Run) (handed : ℕ) (s : State) (k : Standing) (engine : Parts D M)
-    (is : StandsAt history run handed s k engine) (sound : has_failed engine ≡ false) (all : unhanded engine ≡ [])
+module _ {D M : Type 0} (past_of : D → DevicePast) (run : Run) (handed : ℕ) (s : State) (k : Standing) (engine : Parts D M)
+    (is : StandsAt past_of run handed s k engine) (sound : has_failed engine ≡ false) (all : unhanded engine ≡ [])
     (cannot : ¬ CanFlip handed (writer_of engine)) where
   -- its number is of a record that was made
   made_up_to : (i : NewImage) → writer.image_of (writer_of engine) ≡ Some i → i.number ≤ end_of run
   made_up_to i there_is =
-      let under : IsUnderway run (other (writer.halves_of (writer_of engine)).current) (history (writer.device_of (writer_of engine))).disk.content
+      let under : IsUnderway run (other (writer.halves_of (writer_of engine)).current) (past_of (writer.device_of (writer_of engine))).disk.content
       (horizon_of engine) i =
       subst (λ (o : Option NewImage).
-      IfSome o (IsUnderway run (other (writer.halves_of (writer_of engine)).current) (history (writer.device_of (writer_of engine))).disk.content
+      IfSome o (IsUnderway run (other (writer.halves_of (writer_of engine)).current) (past_of (writer.device_of (writer_of engine))).disk.content
       (horizon_of engine))) there_is (is.writer.holds sound).image in
       under.made
 
@@ -389,7 +390,7 @@ module _ {D M : Type 0} (history : D → History) (run : Run) (handed : ℕ) (s 
     i,
     there_is,
     whole,
-    omega (arith, made_up_to i there_is, all_handed history run handed s k engine is all),
+    omega (arith, made_up_to i there_is, all_handed past_of run handed s k engine is all),
     reached,
   )
 
@@ -485,9 +486,9 @@ module _ {D M : Type 0} (old new : Parts D M) where
     whole_synced = omega (arith, flipped.0, flipped.3 taken.1.0 taken.1.1.0, whole_base v number piece (writer_of old) mid of taken)
 
 -- where all records are synced, none waits
-pub none_unwritten : {D M : Type 0} (history : D → History) (run : Run) (handed : ℕ) (engine : Parts D M) → IsWriter history run handed (writer_of engine)
+pub none_unwritten : {D M : Type 0} (past_of : D → DevicePast) (run : Run) (handed : ℕ) (engine : Parts D M) → IsWriter past_of run handed (writer_of engine)
     → handed ≤ horizon_of engine → unhanded engine ≡ [] → unwritten engine ≡ []
-none_unwritten history run handed engine is reached all =
+none_unwritten past_of run handed engine is reached all =
     let none : handed - horizon_of engine ≡ 0 = omega (arith, reached) in
     ap (λ (l : List RecordValue). writer.waiting_of (writer_of engine) ++ l) all ∙ append-nil (writer.waiting_of (writer_of engine)) ∙ is.waits
     ∙ ap (λ n. take n (records_above run (horizon_of engine))) none

@@ -1,7 +1,7 @@
 -- Which sectors a copy writes.
 use Rattle.std.proofs.Common.{◌≡◌, inl, inr, ⊎_elim, ℕ, false, true, sym, subst}
-use Rattle.records.specs.GeometryValue.{GeometryValue}
-use Rattle.sector_device.specs.History.{History}
+use Rattle.record_values.specs.GeometryValue.{GeometryValue}
+use Rattle.sector_device.specs.DevicePast.{DevicePast}
 use Rattle.flip_image.specs.Layout.{HalvesValue, InHalf, other}
 use Rattle.flip_image.specs.declared.half.TheConstants.{FLIP_SECTOR}
 use Rattle.flip_image.proofs.Sides.{image_inside, log_inside}
@@ -16,22 +16,22 @@ use Rattle.restart.specs.Store.{CanRun, CopiesAround, InCopy, StandsAt}
 
 -- ---- the writer's calls
 
-module _ {D : Type 0} (history : D → History) where
+module _ {D : Type 0} (past_of : D → DevicePast) where
   -- one that writes the other half
-  pub half_copied : (halves : HalvesValue) (old new : D) → WritesOnly history (InHalf halves.geometry (other halves.current)) old new
-      → WritesOnly history (InCopy halves) old new
-  half_copied halves old new wrote = alone_wider history (InHalf halves.geometry (other halves.current)) (InCopy halves) (λ n inside.
+  pub half_copied : (halves : HalvesValue) (old new : D) → WritesOnly past_of (InHalf halves.geometry (other halves.current)) old new
+      → WritesOnly past_of (InCopy halves) old new
+  half_copied halves old new wrote = alone_wider past_of (InHalf halves.geometry (other halves.current)) (InCopy halves) (λ n inside.
       inr (inl inside)) old new wrote
 
   -- a flip
-  pub flip_copied : (halves : HalvesValue) (old new : D) → WritesOnly history (λ n. n ≡ FLIP_SECTOR) old new → WritesOnly history (InCopy halves) old new
-  flip_copied halves old new wrote = alone_wider history (λ n. n ≡ FLIP_SECTOR) (InCopy halves) (λ n is. inr (inr is)) old new wrote
+  pub flip_copied : (halves : HalvesValue) (old new : D) → WritesOnly past_of (λ n. n ≡ FLIP_SECTOR) old new → WritesOnly past_of (InCopy halves) old new
+  flip_copied halves old new wrote = alone_wider past_of (λ n. n ≡ FLIP_SECTOR) (InCopy halves) (λ n is. inr (inr is)) old new wrote
 
-module _ {D M : Type 0} (history : D → History) where
+module _ {D M : Type 0} (past_of : D → DevicePast) where
   -- one that writes the logs alone
-  pub logs_copied : (old new : Writer D M) → WritesLogsAlone history old new
-      → WritesOnly history (InCopy (writer.halves_of old)) (writer.device_of old) (writer.device_of new)
-  logs_copied old new wrote = alone_wider history (InLogs old) (InCopy (writer.halves_of old)) in_copy (writer.device_of old) (writer.device_of new)
+  pub logs_copied : (old new : Writer D M) → WritesLogsAlone past_of old new
+      → WritesOnly past_of (InCopy (writer.halves_of old)) (writer.device_of old) (writer.device_of new)
+  logs_copied old new wrote = alone_wider past_of (InLogs old) (InCopy (writer.halves_of old)) in_copy (writer.device_of old) (writer.device_of new)
       (record { now = wrote.now; images = wrote.images })
     where
       in_copy : (n : ℕ) → InLogs old n → InCopy (writer.halves_of old) n
@@ -39,32 +39,32 @@ module _ {D M : Type 0} (history : D → History) where
           inr (inl (log_inside (writer.halves_of old).geometry (other (writer.halves_of old).current) n there.1))) logs
 
   -- none
-  pub none_copied_around : (engine : Parts D M) → CopiesAround history engine engine
-  none_copied_around engine = none_alone history (InCopy (writer.halves_of (writer_of engine))) (device_of engine)
+  pub none_copied_around : (engine : Parts D M) → CopiesAround past_of engine engine
+  none_copied_around engine = none_alone past_of (InCopy (writer.halves_of (writer_of engine))) (device_of engine)
 
-  pub device_copied : (old new : Parts D M) → device_of new ≡ device_of old → CopiesAround history old new
-  device_copied old new same = subst (λ d. WritesOnly history (InCopy (writer.halves_of (writer_of old))) (device_of old) d) (sym same) (none_copied_around old)
+  pub device_copied : (old new : Parts D M) → device_of new ≡ device_of old → CopiesAround past_of old new
+  device_copied old new same = subst (λ d. WritesOnly past_of (InCopy (writer.halves_of (writer_of old))) (device_of old) d) (sym same) (none_copied_around old)
 
 -- ---- of an engine
 
-module _ {D M : Type 0} (history : D → History) (old mid new : Parts D M) (can : CanRun history mid) (sound : has_failed mid ≡ false)
+module _ {D M : Type 0} (past_of : D → DevicePast) (old mid new : Parts D M) (can : CanRun past_of mid) (sound : has_failed mid ≡ false)
     (same : writer.halves_of (writer_of mid) ≡ writer.halves_of (writer_of old)) where
-  stands : StandsAt history can.0 can.1 can.2 can.3 mid
+  stands : StandsAt past_of can.0 can.1 can.2 can.3 mid
   stands = can.4
 
   -- what is unsynced between two calls lies in the half that isn't current
-  loose : (n : ℕ) → (history (device_of mid)).disk.unsynced n ≡ true → InCopy (writer.halves_of (writer_of old)) n
+  loose : (n : ℕ) → (past_of (device_of mid)).disk.unsynced n ≡ true → InCopy (writer.halves_of (writer_of old)) n
   loose n unsynced = subst (λ (h : HalvesValue). InCopy h n) same (inr (inl
       (subst (λ (g : GeometryValue). InHalf g (other (writer.halves_of (writer_of mid)).current) n) (sym stands.writer.geometry-is)
       (image_inside can.0.geometry (other (writer.halves_of (writer_of mid)).current) n ((stands.writer.holds sound).loose n unsynced)))))
 
-  pub copies_then : CopiesAround history old mid → CopiesAround history mid new → CopiesAround history old new
-  copies_then first second = alone_then history (InCopy (writer.halves_of (writer_of old))) (device_of old) (device_of mid) (device_of new) loose first
-      (subst (λ (h : HalvesValue). WritesOnly history (InCopy h) (device_of mid) (device_of new)) same second)
+  pub copies_then : CopiesAround past_of old mid → CopiesAround past_of mid new → CopiesAround past_of old new
+  copies_then first second = alone_then past_of (InCopy (writer.halves_of (writer_of old))) (device_of old) (device_of mid) (device_of new) loose first
+      (subst (λ (h : HalvesValue). WritesOnly past_of (InCopy h) (device_of mid) (device_of new)) same second)
 
 -- behind a handing over
-pub copied_over : {D M : Type 0} (history : D → History) (old mid new : Parts D M) → HandsOver history old mid → CopiesAround history mid new
-    → CopiesAround history old new
-copied_over history old mid new over wrote =
-    subst (λ (h : HalvesValue). WritesOnly history (InCopy h) (device_of old) (device_of new)) over.halves
-    (subst (λ d. WritesOnly history (InCopy (writer.halves_of (writer_of mid))) d (device_of new)) over.device wrote)
+pub copied_over : {D M : Type 0} (past_of : D → DevicePast) (old mid new : Parts D M) → HandsOver past_of old mid → CopiesAround past_of mid new
+    → CopiesAround past_of old new
+copied_over past_of old mid new over wrote =
+    subst (λ (h : HalvesValue). WritesOnly past_of (InCopy h) (device_of old) (device_of new)) over.halves
+    (subst (λ d. WritesOnly past_of (InCopy (writer.halves_of (writer_of mid))) d (device_of new)) over.device wrote)

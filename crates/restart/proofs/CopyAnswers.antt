@@ -4,25 +4,26 @@ use Rattle.std.proofs.Common.{arith, append-nil, ⊎_elim}
 use Rattle.std.proofs.lemmas.Bool.{false≢true}
 use Rattle.std.proofs.lemmas.List.{drop-drop, drop-take}
 use Rattle.records.specs.RecordValue.{RecordValue}
-use Rattle.records.specs.declared.error.Error.{Error}
-use Rattle.records.specs.declared.error.Error.TheVariants.{NoMemory, DeviceFailed}
-use Rattle.image_model.specs.Run.{Run, records_above, records_between}
-use Rattle.image_model.specs.declared.chunk.CopyPlace.{CopyPlace}
-use Rattle.nsf_core.specs.View.{CoreValue}
-use Rattle.sector_device.specs.History.{History, Rises}
+use Rattle.record_values.specs.declared.error.Error.{Error}
+use Rattle.record_values.specs.declared.error.Error.TheVariants.{NoMemory, DeviceFailed}
+use Rattle.store_image_model.specs.Run.{Run, records_above, records_between}
+use Rattle.store_image_model.specs.declared.chunk.CopyPlace.{CopyPlace}
+use Rattle.core_parts.specs.View.{CoreValue}
+use Rattle.sector_device.specs.DevicePast.{DevicePast, Rises}
+use Rattle.store_writer.specs.Copying.{next_place}
 use Rattle.store_writer.specs.Image.{reach}
 use Rattle.store_writer.specs.Parts as writer
 use Rattle.store_writer.specs.Writer.{HasFailed, HasPiece, IsWriter}
+use Rattle.store_writer.specs.declared.copying.Copying.TheVariants.{GivenUp, Steps}
 use Rattle.store_writer.specs.declared.image.NewImage.{NewImage}
 use Rattle.flip_image.specs.Layout.{other}
-use Rattle.image_model.specs.declared.chunk.Piece.{Piece}
-use Rattle.image_model.specs.Places.{place_behind}
-use Rattle.restart.specs.declared.copying.Copying.TheVariants.{GivenUp, Steps}
+use Rattle.store_image_model.specs.declared.chunk.Piece.{Piece}
+use Rattle.store_image_model.specs.Places.{place_behind}
 use Rattle.restart.specs.declared.event.Reply.{Reply}
 use Rattle.restart.specs.declared.event.Reply.TheVariants as reply
 use Rattle.restart.specs.declared.parts.Parts.{Parts}
 use Rattle.restart.specs.Copies.{CannotFlip, CannotTake, IsCopyAnswer, IsFlippedAtOnce, IsPieceNow, IsPutOff, KeepsAll, MakesCurrent, MayFlip, Succeeds}
-use Rattle.restart.specs.Copies.{TakesPiece, copies_left, left_at, next_place}
+use Rattle.restart.specs.Copies.{TakesPiece, copies_left, left_at}
 use Rattle.restart.specs.Handing.{HandsOver}
 use Rattle.restart.specs.History.{IsOfCopy, acknowledged}
 use Rattle.restart.specs.Parts.{core_of, device_of, has_failed, horizon_of, unhanded, unwritten, writer_of}
@@ -38,9 +39,9 @@ between_later run m n handed low le high = sym
     ∙ drop-take (n - m) (handed - n) (records_above run m)
     ∙ ap (take (handed - n)) (drop-drop (n - m) (m - run.last) run.records ∙ ap (λ k. drop k run.records) (omega (arith, low, le))))
 
-module _ {D M : Type 0} (history : D → History) (failures : D
-    → ℕ) (old new : Parts D M) (all : unhanded old ≡ []) (can : CanRun history old) (core_is : core_of new ≡ core_of old) (rest : unhanded new ≡ unhanded old)
-    (after : IsWriter history can.0 can.1 (writer_of new)) (grows : horizon_of old ≤ horizon_of new)
+module _ {D M : Type 0} (past_of : D → DevicePast) (failures : D
+    → ℕ) (old new : Parts D M) (all : unhanded old ≡ []) (can : CanRun past_of old) (core_is : core_of new ≡ core_of old) (rest : unhanded new ≡ unhanded old)
+    (after : IsWriter past_of can.0 can.1 (writer_of new)) (grows : horizon_of old ≤ horizon_of new)
     (later : failures (device_of old) ≤ failures (device_of new)) where
   -- no record is lost by the writer's calls
   pub all_kept : KeepsAll failures old new
@@ -56,7 +57,7 @@ module _ {D M : Type 0} (history : D → History) (failures : D
     later = later;
   }
     where
-      before : IsWriter history can.0 can.1 (writer_of old)
+      before : IsWriter past_of can.0 can.1 (writer_of old)
       before = can.4.writer
 
   pub all_well : has_failed old ≡ false → has_failed new ≡ false → failures (device_of new) ≡ failures (device_of old) → Succeeds failures old new
@@ -67,26 +68,26 @@ module _ {D M : Type 0} (history : D → History) (failures : D
   copy_failed e sound failed = inr (failed.0, failed.1, failed.2, (λ before. absurd (false≢true (sym sound ∙ before))), all_kept)
 
 -- the device fails at a call behind those that did not
-pub failed_later : {D M : Type 0} (history : D → History) (failures : D → ℕ) (old mid new : Parts D M) → unhanded old ≡ [] → (can : CanRun history old)
+pub failed_later : {D M : Type 0} (past_of : D → DevicePast) (failures : D → ℕ) (old mid new : Parts D M) → unhanded old ≡ [] → (can : CanRun past_of old)
     → core_of new ≡ core_of old → unhanded new ≡ unhanded old
-    → IsWriter history can.0 can.1 (writer_of new) → horizon_of old ≤ horizon_of new → failures (device_of old) ≤ failures (device_of new) → (e : Error)
+    → IsWriter past_of can.0 can.1 (writer_of new) → horizon_of old ≤ horizon_of new → failures (device_of old) ≤ failures (device_of new) → (e : Error)
     → has_failed old ≡ false → has_failed mid ≡ false → failures (device_of mid) ≡ failures (device_of old)
     → HasFailed failures e (writer_of mid) (writer_of new) → IsCopyAnswer failures (reply.Refused e) old new
-failed_later history failures old mid new all can core_is rest after grows later e sound between quiet failed =
+failed_later past_of failures old mid new all can core_is rest after grows later e sound between quiet failed =
     inr (
       failed.0,
       failed.1,
       (λ _. subst (λ n. Rises n (failures (device_of new))) quiet (failed.2 between)),
       (λ before. absurd (false≢true (sym sound ∙ before))),
-      all_kept history failures old new all can core_is rest after grows later,
+      all_kept past_of failures old new all can core_is rest after grows later,
     )
 
 -- ---- behind a group that was flushed
 
 -- how many records are not synced, where the writer has all
-pub count_left : {D M : Type 0} (history : D → History) (run : Run) (handed : ℕ) (engine : Parts D M) → IsWriter history run handed (writer_of engine)
+pub count_left : {D M : Type 0} (past_of : D → DevicePast) (run : Run) (handed : ℕ) (engine : Parts D M) → IsWriter past_of run handed (writer_of engine)
     → unhanded engine ≡ [] → length (unwritten engine) ≡ handed - horizon_of engine
-count_left history run handed engine is all =
+count_left past_of run handed engine is all =
     ap length (ap (λ (l : List RecordValue). writer.waiting_of (writer_of engine) ++ l) all ∙ append-nil (writer.waiting_of (writer_of engine)) ∙ is.waits)
     ∙ count_between run (horizon_of engine) handed is.opened is.made
 
@@ -196,7 +197,7 @@ keeps_none failures old =
     let none : 0 ≡ horizon_of old - horizon_of old = omega arith in
     record { horizon = omega arith; left = ap (λ n. drop n (unwritten old)) none; core = refl; later = omega arith }
 
-module _ {D M : Type 0} (history : D → History) (failures : D → ℕ) (old mid : Parts D M) (over : HandsOver history old mid) where
+module _ {D M : Type 0} (past_of : D → DevicePast) (failures : D → ℕ) (old mid : Parts D M) (over : HandsOver past_of old mid) where
   over_keeps : (new : Parts D M) → KeepsAll failures mid new → KeepsAll failures old new
   over_keeps new keeps = record {
     horizon = omega (arith, over.horizon, keeps.horizon);
@@ -253,7 +254,7 @@ module _ {D M : Type 0} (history : D → History) (failures : D → ℕ) (old mi
         piece = cannot.piece;
         piece-is = piece_over cannot.place cannot.piece cannot.piece-is;
         must = must_as cannot.piece (writer_of mid) (writer_of old) (sym over.image) (sym over.log) (sym over.halves) cannot.must;
-        keeps = keeps_both old mid new (keeps_over history old mid over) cannot.keeps;
+        keeps = keeps_both old mid new (keeps_over past_of old mid over) cannot.keeps;
       }))
       (λ cannot. inr (record {
         whole = sym over.copying ∙ cannot.whole;
@@ -283,7 +284,7 @@ module _ {D M : Type 0} (history : D → History) (failures : D → ℕ) (old mi
     copying = off.copying ∙ over.copying;
     left = omega (arith, off.left, left_same);
     halves = off.halves ∙ over.halves;
-    keeps = λ other. keeps_both old mid new (keeps_over history old mid over) (off.keeps (λ stepped. other (sym over.copying ∙ stepped)));
+    keeps = λ other. keeps_both old mid new (keeps_over past_of old mid over) (off.keeps (λ stepped. other (sym over.copying ∙ stepped)));
   }
 
   pub answer_over : (new : Parts D M) (r : Reply M) → IsCopyAnswer failures r mid new → has_failed mid ≡ false → IsCopyAnswer failures r old new
@@ -325,7 +326,7 @@ module _ {D M : Type 0} (history : D → History) (failures : D → ℕ) (old mi
       copying = over.copying;
       left = omega (arith, left_same);
       halves = over.halves;
-      keeps = λ _. keeps_over history old mid over;
+      keeps = λ _. keeps_over past_of old mid over;
     },
   )
 

@@ -5,22 +5,22 @@ use Rattle.std.proofs.Math.Bridge.{le_prop}
 use Rattle.std.proofs.Math.Logic.{∥∥₁_elim, ∥∥₁_map}
 use Rattle.std.proofs.lemmas.List.Elements.{All-push}
 use mathlib.Core.HLevel.{⊥_prop}
-use Rattle.records.specs.declared.error.Error.{Error}
-use Rattle.records.specs.declared.pair.Pair.{Pair}
+use Rattle.record_values.specs.declared.error.Error.{Error}
+use Rattle.record_values.specs.declared.pair.Pair.{Pair}
 use Rattle.model.specs.declared.life.Life.TheVariants.{Absent, Complete}
 use Rattle.core_model.specs.States.{State}
 use Rattle.core_model.specs.Steps.{MachineStep}
-use Rattle.core_contracts.specs.Events as core
-use Rattle.core_contracts.specs.Events.{Standing}
-use Rattle.core_contracts.specs.Replies.{IsAllowed, accepted, no_memory, refused, refused_last, skipped, unknown}
-use Rattle.nsf_core.specs.Builds.{built}
-use Rattle.nsf_core.specs.Replies.{ticket_by}
-use Rattle.nsf_core.specs.View as view
-use Rattle.nsf_core.specs.View.{Answers, CoreValue, IsSafe, IsState}
-use Rattle.nsf_core.specs.declared.parts.Ticket.{Ticket}
-use Rattle.nsf_core.specs.declared.reply.BuildReply.{BuildReply}
-use Rattle.nsf_core.specs.declared.reply.BuildReply.TheVariants as build
-use Rattle.sector_device.specs.History.{History}
+use Rattle.core_model.specs.Events as core
+use Rattle.core_model.specs.Events.{Standing}
+use Rattle.core_model.specs.Replies.{IsAllowed, accepted, no_memory, refused, refused_last, skipped, unknown}
+use Rattle.core_parts.specs.Builds.{built}
+use Rattle.core_parts.specs.Replies.{ticket_by}
+use Rattle.core_parts.specs.View as view
+use Rattle.core_parts.specs.View.{Answers, CoreValue, IsSafe, IsState}
+use Rattle.core_parts.specs.declared.parts.Ticket.{Ticket}
+use Rattle.core_parts.specs.declared.reply.BuildReply.{BuildReply}
+use Rattle.core_parts.specs.declared.reply.BuildReply.TheVariants as build
+use Rattle.sector_device.specs.DevicePast.{DevicePast}
 use Rattle.restart.specs.declared.parts.Parts.{Parts}
 use Rattle.restart.specs.declared.event.Reply.{Reply}
 use Rattle.restart.specs.declared.event.Reply.TheVariants as reply
@@ -173,19 +173,19 @@ module _ {D M : Type 0} (old mid new : Parts D M) (scanned : ℕ) (so_far : HasB
     ends_with : EndsWith r (so_far.replies ++ r ∷ [])
     ends_with = record { before = so_far.replies; all = refl; underway = so_far.underway }
 
-  module _ (history : D → History) (failures : D → ℕ) (laws : Laws history (writer_of old)) where
-    pub refused_ends : (e : Error) → view.Serves (core_of mid) core.Build (core.Refused e) (core_of new) → IsBuiltToEnd history (Err e) old new
+  module _ (past_of : D → DevicePast) (failures : D → ℕ) (laws : Laws past_of (writer_of old)) where
+    pub refused_ends : (e : Error) → view.Serves (core_of mid) core.Build (core.Refused e) (core_of new) → IsBuiltToEnd past_of (Err e) old new
     refused_ends e serves = record {
       replies = so_far.replies ++ reply.Refused e ∷ [];
       each = all_built (reply.Refused e) (core.Refused e) refl serves;
       ends = (so_far.began, ends_with (reply.Refused e) (core.Refused e) refl serves);
-      at = at_built history failures (so_far.replies ++ reply.Refused e ∷ []) old new (all_built (reply.Refused e) (core.Refused e) refl serves) laws;
-      survives = survives_built history failures (so_far.replies ++ reply.Refused e ∷ []) old new
+      at = at_built past_of failures (so_far.replies ++ reply.Refused e ∷ []) old new (all_built (reply.Refused e) (core.Refused e) refl serves) laws;
+      survives = survives_built past_of failures (so_far.replies ++ reply.Refused e ∷ []) old new
           (all_built (reply.Refused e) (core.Refused e) refl serves) laws;
     }
 
     pub done_ends : (ticket : Ticket) (number : ℕ) → number ≡ ticket.record → view.Serves (core_of mid) core.Build (built (build.Done ticket)) (core_of new)
-        → IsBuiltToEnd history (Ok number) old new
+        → IsBuiltToEnd past_of (Ok number) old new
     done_ends ticket number told serves = record {
       replies = so_far.replies ++ reply.Built (build.Done ticket) ∷ [];
       each = all_built (reply.Built (build.Done ticket)) (built (build.Done ticket)) refl serves;
@@ -195,9 +195,9 @@ module _ {D M : Type 0} (old mid new : Parts D M) (scanned : ℕ) (so_far : HasB
         ends = ends_with (reply.Built (build.Done ticket)) (built (build.Done ticket)) refl serves;
         told = told;
       });
-      at = at_built history failures (so_far.replies ++ reply.Built (build.Done ticket) ∷ []) old new
+      at = at_built past_of failures (so_far.replies ++ reply.Built (build.Done ticket) ∷ []) old new
           (all_built (reply.Built (build.Done ticket)) (built (build.Done ticket)) refl serves) laws;
-      survives = survives_built history failures (so_far.replies ++ reply.Built (build.Done ticket) ∷ []) old new
+      survives = survives_built past_of failures (so_far.replies ++ reply.Built (build.Done ticket) ∷ []) old new
           (all_built (reply.Built (build.Done ticket)) (built (build.Done ticket)) refl serves) laws;
     }
 
@@ -221,15 +221,15 @@ is_done build.Idle ticket is = absurd cc
 
 -- ---- where the index was complete
 
-module _ {D M : Type 0} (history : D → History) (failures : D → ℕ) (old : Parts D M) (laws : Laws history (writer_of old)) where
+module _ {D M : Type 0} (past_of : D → DevicePast) (failures : D → ℕ) (old : Parts D M) (laws : Laws past_of (writer_of old)) where
   module _ (complete : (core_of old).life ≡ Complete) where
-    pub complete_ends : (number : ℕ) → number ≡ (core_of old).last → IsBuiltToEnd history (Ok number) old old
+    pub complete_ends : (number : ℕ) → number ≡ (core_of old).last → IsBuiltToEnd past_of (Ok number) old old
     complete_ends number last = record {
       replies = [];
       each = refl;
       ends = inl (record { complete = complete; none = refl; last = last });
-      at = at_built history failures [] old old refl laws;
-      survives = survives_built history failures [] old old refl laws;
+      at = at_built past_of failures [] old old refl laws;
+      survives = survives_built past_of failures [] old old refl laws;
     }
 
     pub complete_whole : BuildsWhole (core_of old) (core_of old)

@@ -3,26 +3,27 @@ use Rattle.std.proofs.Common.{◌≡◌, inl, inr, ⊎_elim, ℕ, ◌+◌, ◌-�
 use Rattle.std.proofs.Common.{slice_get, refl, sym, ◌∙◌, ap, subst, arith, ltb-true, ltb-false, le-ltb}
 use Rattle.std.specs.Option.{option_map, option_map_or}
 use Rattle.std.proofs.lemmas.Option.{slice_get_within}
-use Rattle.records.specs.GeometryValue.{GeometryValue}
-use Rattle.records.specs.declared.pair.Mark.{Mark}
-use Rattle.records.specs.declared.pair.Pair.{Pair}
+use Rattle.record_values.specs.GeometryValue.{GeometryValue}
+use Rattle.record_values.specs.declared.pair.Mark.{Mark}
+use Rattle.record_values.specs.declared.pair.Pair.{Pair}
 use Rattle.model.specs.Cells.{Cells}
 use Rattle.model.specs.declared.life.Life.{Life}
 use Rattle.core_copies.specs.Pieces.{IsPieceOf}
-use Rattle.image_model.specs.declared.chunk.TheConstants.{CHUNK_ENTRIES}
-use Rattle.image_model.specs.declared.chunk.CopyPlace.{CopyPlace}
-use Rattle.image_model.specs.declared.chunk.CopyPlace.TheVariants as at
-use Rattle.image_model.specs.declared.chunk.Piece.{Piece}
-use Rattle.image_model.specs.declared.chunk.Piece.TheVariants.{Entries, Page, Start, Whole}
-use Rattle.image_model.specs.Places.{place_behind}
-use Rattle.nsf_core.specs.View.{CoreValue}
+use Rattle.store_image_model.specs.declared.chunk.TheConstants.{CHUNK_ENTRIES}
+use Rattle.store_image_model.specs.declared.chunk.CopyPlace.{CopyPlace}
+use Rattle.store_image_model.specs.declared.chunk.CopyPlace.TheVariants as at
+use Rattle.store_image_model.specs.declared.chunk.Piece.{Piece}
+use Rattle.store_image_model.specs.declared.chunk.Piece.TheVariants.{Entries, Page, Start, Whole}
+use Rattle.store_image_model.specs.Places.{place_behind}
+use Rattle.core_parts.specs.View.{CoreValue}
+use Rattle.store_writer.specs.Copying.{IsPieceDue, next_place}
 use Rattle.store_writer.specs.Writer.{HasPiece, MustStartAgain}
+use Rattle.store_writer.specs.declared.copying.Copying.{Copying}
+use Rattle.store_writer.specs.declared.copying.Copying.TheVariants.{GivenUp, Idle, Steps}
 use Rattle.store_writer.specs.declared.image.NewImage.{NewImage}
 use Rattle.store_writer.specs.declared.image.Stage.TheVariants as stage
 use Rattle.store_writer.specs.declared.writer.Writer.{Writer}
-use Rattle.restart.specs.declared.copying.Copying.{Copying}
-use Rattle.restart.specs.declared.copying.Copying.TheVariants.{GivenUp, Idle, Steps}
-use Rattle.restart.specs.Copies.{IsPieceDue, copies_to_flip, entries_at, entries_copied, left_at, most_copies, next_place}
+use Rattle.restart.specs.Copies.{copies_to_flip, entries_at, entries_copied, left_at, most_copies}
 
 -- ---- from a whole image on
 

@@ -4,12 +4,12 @@ use Rattle.std.proofs.Common.{append-nil, ⊎_elim, length-drop}
 use Rattle.std.proofs.lemmas.Bool.{false≢true}
 use Rattle.std.proofs.lemmas.List.{length-take-le}
 use Rattle.records.specs.RecordValue.{RecordValue}
-use Rattle.records.specs.declared.error.Error.{Error}
-use Rattle.records.specs.declared.error.Error.TheVariants.{NoMemory, DeviceFailed}
+use Rattle.record_values.specs.declared.error.Error.{Error}
+use Rattle.record_values.specs.declared.error.Error.TheVariants.{NoMemory, DeviceFailed}
 use Rattle.flip_image.specs.Layout.{HalvesValue}
 use Rattle.gate_log.specs.Area.{Log}
-use Rattle.image_model.specs.Run.{Run, end_of, records_between}
-use Rattle.sector_device.specs.History.{History, LeavesOnly, Rises}
+use Rattle.store_image_model.specs.Run.{Run, end_of, records_between}
+use Rattle.sector_device.specs.DevicePast.{DevicePast, LeavesOnly, Rises}
 use Rattle.sector_device.proofs.Moments.{started}
 use Rattle.store_writer.specs.Contents.{LeftBy}
 use Rattle.store_writer.specs.Image.{BecomesImage}
@@ -36,10 +36,10 @@ one_slot n old new some same = record { one = λ _. same; none = λ none. absurd
 
 -- ---- where the device had failed
 
-module _ {D M : Type 0} (history : D → History) (failures : D → ℕ) (old : Parts D M) where
-  pub stays : MovesOn history old old
-  stays = moves_by history old old refl refl (λ run handed w. w) (λ run handed w.
-      started (history (device_of old)) (LeftBy run (horizon_of old) handed) w.images) (omega arith)
+module _ {D M : Type 0} (past_of : D → DevicePast) (failures : D → ℕ) (old : Parts D M) where
+  pub stays : MovesOn past_of old old
+  stays = moves_by past_of old old refl refl (λ run handed w. w) (λ run handed w.
+      started (past_of (device_of old)) (LeftBy run (horizon_of old) handed) w.images) (omega arith)
       (record { geometry = refl; place = λ was. was; carried = λ was. was })
 
   pub failed_before : has_failed old ≡ true → IsFlushAnswer failures (reply.Refused DeviceFailed) old old
@@ -53,7 +53,7 @@ module _ {D M : Type 0} (history : D → History) (failures : D → ℕ) (old : 
 
 -- ---- where not all records could be handed over
 
-module _ {D M : Type 0} (history : D → History) (failures : D → ℕ) (old mid : Parts D M) (over : HandsOver history old mid) where
+module _ {D M : Type 0} (past_of : D → DevicePast) (failures : D → ℕ) (old mid : Parts D M) (over : HandsOver past_of old mid) where
   pub nothing_written : WritesNothing failures old mid
   nothing_written = record {
     none = record {
@@ -66,7 +66,7 @@ module _ {D M : Type 0} (history : D → History) (failures : D → ℕ) (old mi
       copying = over.copying;
       image = λ some. absurd (omega (arith, some));
     };
-    keeps = keeps_over history old mid over;
+    keeps = keeps_over past_of old mid over;
   }
 
   append_none : (a b : List RecordValue) → a ++ b ≡ [] → b ≡ []
@@ -83,12 +83,12 @@ module _ {D M : Type 0} (history : D → History) (failures : D → ℕ) (old mi
 
   module _ (new : Parts D M) (all : unhanded mid ≡ []) (sound : has_failed old ≡ false) (core_is : core_of new ≡ core_of mid)
       (rest : unhanded new ≡ unhanded mid) (copying : new.copying ≡ mid.copying)
-      (can : CanRun history mid) (keeps : (run : Run) (handed : ℕ) → IsWriter history run handed (writer_of mid) → IsWriter history run handed (writer_of new))
-      (images : (run : Run) (handed : ℕ) → IsWriter history run handed (writer_of mid)
-      → LeavesOnly (history (device_of mid)) (history (device_of new)) (LeftBy run (horizon_of mid) handed))
+      (can : CanRun past_of mid) (keeps : (run : Run) (handed : ℕ) → IsWriter past_of run handed (writer_of mid) → IsWriter past_of run handed (writer_of new))
+      (images : (run : Run) (handed : ℕ) → IsWriter past_of run handed (writer_of mid)
+      → LeavesOnly (past_of (device_of mid)) (past_of (device_of new)) (LeftBy run (horizon_of mid) handed))
       (later : failures (device_of mid) ≤ failures (device_of new)) (place : StaysAtPlace mid new) where
-    pub moves : horizon_of mid ≤ horizon_of new → MovesOn history old new
-    moves grows = moves_then history old mid new over.moves (moves_by history mid new core_is rest keeps images grows place)
+    pub moves : horizon_of mid ≤ horizon_of new → MovesOn past_of old new
+    moves grows = moves_then past_of old mid new over.moves (moves_by past_of mid new core_is rest keeps images grows place)
 
     waited : unwritten old ≡ writer.waiting_of (writer_of mid)
     waited = sym over.unwritten-are ∙ ap (λ (l : List RecordValue). writer.waiting_of (writer_of mid) ++ l) all ∙ append-nil (writer.waiting_of (writer_of mid))
@@ -134,7 +134,7 @@ module _ {D M : Type 0} (history : D → History) (failures : D → ℕ) (old mi
     wrote_none same = record {
       none = wrote 0 (omega (arith, ap (λ w. writer.synced_of w) same)) (ap (λ w. writer.waiting_of w) same)
           (no_slot (log_of mid) (log_of new) (ap (λ w. writer.log_of w) same)) (λ some. absurd (omega (arith, some)));
-      keeps = keeps_both old mid new (keeps_over history old mid over) (keeps_same mid new same);
+      keeps = keeps_both old mid new (keeps_over past_of old mid over) (keeps_same mid new same);
     }
 
     -- a group was written
@@ -201,10 +201,10 @@ module _ {D M : Type 0} (history : D → History) (failures : D → ℕ) (old mi
       image = ap (λ w. writer.image_of w) left.rest ∙ over.image;
     }
       where
-        before : IsWriter history can.0 can.1 (writer_of mid)
+        before : IsWriter past_of can.0 can.1 (writer_of mid)
         before = can.4.writer
 
-        after : IsWriter history can.0 can.1 (writer_of new)
+        after : IsWriter past_of can.0 can.1 (writer_of new)
         after = keeps can.0 can.1 before
 
     pub not_flushed : (e : Error) → IsNotFlushed failures e (writer_of mid) (writer_of new) → horizon_of new ≡ horizon_of mid

@@ -1,12 +1,12 @@
 -- What a copy leaves behind the groups that it writes.
 use Rattle.std.proofs.Common.{◌≡◌, inl, inr, ℕ, true, List, [], ◌++◌, None, append-nil, refl, sym, ap, ◌∙◌}
 use Rattle.records.specs.RecordValue.{RecordValue}
-use Rattle.sector_device.specs.History.{History}
+use Rattle.sector_device.specs.DevicePast.{DevicePast}
 use Rattle.store_writer.specs.Parts as writer
 use Rattle.store_writer.specs.Writer.{IsFlipReply}
+use Rattle.store_writer.specs.declared.copying.Copying.TheVariants.{Steps}
 use Rattle.store_writer.specs.declared.writer.FlipReply.TheVariants.{Flipped}
 use Rattle.store_writer.specs.declared.writer.Writer.{Writer}
-use Rattle.restart.specs.declared.copying.Copying.TheVariants.{Steps}
 use Rattle.restart.specs.declared.parts.Parts.{Parts}
 use Rattle.restart.specs.Groups.{CopiesByGroups, HasAll, WritesByGroups, WritesGroups, no_more, one_more}
 use Rattle.restart.specs.Handing.{FlushesFirst, HandsOver}
@@ -56,9 +56,9 @@ kept_store engine whole = inl (record { device = refl; halves = refl; log = refl
 
 -- ---- where the writer took records first
 
-module _ {D M : Type 0} (history : D → History) (old mid : Parts D M) (over : HandsOver history old mid) where
+module _ {D M : Type 0} (past_of : D → DevicePast) (old mid : Parts D M) (over : HandsOver past_of old mid) where
   pub not_over_kept : CopiesByGroups old mid
-  not_over_kept whole = inl (keeps_over history old mid over)
+  not_over_kept whole = inl (keeps_over past_of old mid over)
 
   has_all : unhanded mid ≡ [] → HasAll old (writer_of mid)
   has_all all = record {

@@ -2,32 +2,32 @@
 use Rattle.std.proofs.Common.{◌≡◌, ℕ, ◌+◌, ◌≤◌, List, [], ◌++◌, length, sym, ◌∙◌, ap, subst, arith, append_assoc}
 use Rattle.records.specs.RecordValue.{RecordValue}
 use Rattle.core_model.specs.States.{State}
-use Rattle.core_contracts.specs.Events.{Standing}
-use Rattle.image_model.specs.Run.{Run, end_of, records_between}
+use Rattle.core_model.specs.Events.{Standing}
+use Rattle.store_image_model.specs.Run.{Run, end_of, records_between}
 use Rattle.nsf_core.specs.Outbox.{HandsOn}
-use Rattle.nsf_core.specs.View.{CoreValue}
-use Rattle.sector_device.specs.Disk.{Image}
-use Rattle.sector_device.specs.History.{History, LeavesOnly}
+use Rattle.core_parts.specs.View.{CoreValue}
+use Rattle.sector_device.specs.Disk.{CrashState}
+use Rattle.sector_device.specs.DevicePast.{DevicePast, LeavesOnly}
 use Rattle.sector_device.proofs.Moments.{started}
 use Rattle.store_writer.specs.Contents.{LeftBy}
+use Rattle.store_writer.specs.Copying.{IsCopying}
 use Rattle.store_writer.specs.Parts as writer
 use Rattle.store_writer.specs.Writer.{AreNext, IsWriter}
 use Rattle.restart.specs.declared.parts.Parts.{Parts}
-use Rattle.restart.specs.Copies.{IsCopying}
 use Rattle.restart.specs.Handing.{HandsOver}
 use Rattle.restart.specs.Parts.{core_of, device_of, horizon_of, unhanded, writer_of}
 use Rattle.restart.specs.Store.{StandsAt}
 use Rattle.restart.proofs.Moving.{StaysAtPlace, stands_with}
 use Rattle.restart.proofs.Numbers.{first_behind, rest_behind, within_end}
 
-module _ {D M : Type 0} (history : D → History) (old : Parts D M) (core_then : CoreValue) (taken : List RecordValue)
+module _ {D M : Type 0} (past_of : D → DevicePast) (old : Parts D M) (core_then : CoreValue) (taken : List RecordValue)
     (hands : HandsOn (core_of old) core_then old.outgoing.items taken) where
   was : unhanded old ≡ taken ++ core_then.outbox
   was =
       ap (λ (o : List RecordValue). old.outgoing.items ++ o) hands.split ∙ sym (append_assoc old.outgoing.items hands.handed core_then.outbox)
       ∙ ap (λ (o : List RecordValue). o ++ core_then.outbox) (sym hands.taken)
 
-  module _ (run : Run) (handed : ℕ) (s : State) (k : Standing) (is : StandsAt history run handed s k old) where
+  module _ (run : Run) (handed : ℕ) (s : State) (k : Standing) (is : StandsAt past_of run handed s k old) where
     low : run.last ≤ handed
     low = omega (arith, is.writer.opened, is.writer.reached)
 
@@ -64,28 +64,28 @@ module _ {D M : Type 0} (history : D → History) (old : Parts D M) (core_then :
     others : core_of new ≡ record (core_of old) { outbox = (core_of new).outbox }
     others = core_is ∙ hands.others ∙ ap (λ (v : CoreValue). record (core_of old) { outbox = v.outbox }) (sym core_is)
 
-    images : (run : Run) (handed : ℕ) (s : State) (k : Standing) → StandsAt history run handed s k old
-        → LeavesOnly (history (device_of old)) (history (device_of new)) (λ (image : Image). (later : ℕ) × (later ≤ end_of run)
+    images : (run : Run) (handed : ℕ) (s : State) (k : Standing) → StandsAt past_of run handed s k old
+        → LeavesOnly (past_of (device_of old)) (past_of (device_of new)) (λ (image : CrashState). (later : ℕ) × (later ≤ end_of run)
         × LeftBy run (horizon_of old) later image)
-    images run handed s k is = subst (λ d. LeavesOnly (history (device_of old)) (history d) (λ (image : Image). (later : ℕ) × (later ≤ end_of run)
+    images run handed s k is = subst (λ d. LeavesOnly (past_of (device_of old)) (past_of d) (λ (image : CrashState). (later : ℕ) × (later ≤ end_of run)
         × LeftBy run (horizon_of old) later image)) (sym device)
-        (started (history (device_of old)) (λ (image : Image). (later : ℕ) × (later ≤ end_of run)
+        (started (past_of (device_of old)) (λ (image : CrashState). (later : ℕ) × (later ≤ end_of run)
         × LeftBy run (horizon_of old) later image) (λ c crash. (handed, is.writer.made, is.writer.images c crash)))
 
     outbox_is : (core_of new).outbox ≡ core_then.outbox
     outbox_is = ap (λ (v : CoreValue). v.outbox) core_is
 
     -- the writer took them
-    pub all_over : ((run : Run) (handed : ℕ) → IsWriter history run handed (writer_of old) → AreNext run handed taken
-        → IsWriter history run (handed + length taken) (writer_of new)) → writer.waiting_of (writer_of new) ≡ writer.waiting_of (writer_of old) ++ taken
+    pub all_over : ((run : Run) (handed : ℕ) → IsWriter past_of run handed (writer_of old) → AreNext run handed taken
+        → IsWriter past_of run (handed + length taken) (writer_of new)) → writer.waiting_of (writer_of new) ≡ writer.waiting_of (writer_of old) ++ taken
         → new.outgoing.items ≡ []
-        → HandsOver history old new
+        → HandsOver past_of old new
     all_over takes waits none = record {
       moves = record {
         stands = λ run handed s k is. (
           handed + length taken,
           omega arith,
-          stands_with history run handed (handed + length taken) s k old new is others (takes run handed is.writer (next run handed s k is))
+          stands_with past_of run handed (handed + length taken) s k old new is others (takes run handed is.writer (next run handed s k is))
               (left run handed s k is ∙ sym (ap (λ (l : List RecordValue). l ++ (core_of new).outbox) none ∙ outbox_is)) stays,
         );
         images = images;
@@ -108,15 +108,15 @@ module _ {D M : Type 0} (history : D → History) (old : Parts D M) (core_then :
     }
 
     -- the writer gave them back
-    pub none_over : ((run : Run) (handed : ℕ) → IsWriter history run handed (writer_of old) → IsWriter history run handed (writer_of new))
+    pub none_over : ((run : Run) (handed : ℕ) → IsWriter past_of run handed (writer_of old) → IsWriter past_of run handed (writer_of new))
         → writer.waiting_of (writer_of new) ≡ writer.waiting_of (writer_of old) → new.outgoing.items ≡ taken
-        → HandsOver history old new
+        → HandsOver past_of old new
     none_over keeps waits back = record {
       moves = record {
         stands = λ run handed s k is. (
           handed,
           omega arith,
-          stands_with history run handed handed s k old new is others (keeps run handed is.writer) (is.rest ∙ sym now) stays,
+          stands_with past_of run handed handed s k old new is others (keeps run handed is.writer) (is.rest ∙ sym now) stays,
         );
         images = images;
         grows = omega (arith, horizon);

@@ -1,6 +1,6 @@
 -- What leaves the store as it is.
 use Rattle.std.proofs.Common.{◌≡◌, ap, ◌∙◌}
-use Rattle.sector_device.specs.History.{History}
+use Rattle.sector_device.specs.DevicePast.{DevicePast}
 use Rattle.store_writer.specs.Parts as writer
 use Rattle.restart.specs.declared.parts.Parts.{Parts}
 use Rattle.restart.specs.Handing.{HandsOver}
@@ -18,8 +18,8 @@ module _ {D M : Type 0} where
   }
 
   -- it took records
-  pub keeps_over : (history : D → History) (old new : Parts D M) → HandsOver history old new → KeepsStore old new
-  keeps_over history old new over = record { device = over.device; halves = over.halves; log = over.log; image = over.image; horizon = over.horizon }
+  pub keeps_over : (past_of : D → DevicePast) (old new : Parts D M) → HandsOver past_of old new → KeepsStore old new
+  keeps_over past_of old new over = record { device = over.device; halves = over.halves; log = over.log; image = over.image; horizon = over.horizon }
 
   -- one after another
   pub keeps_both : (old mid new : Parts D M) → KeepsStore old mid → KeepsStore mid new → KeepsStore old new

@@ -28,7 +28,6 @@ mod Fewer
 mod CopyAnswers
 mod Apart
 mod Flips
-mod Between
 mod Reopened
 mod Migrated
 mod Storied

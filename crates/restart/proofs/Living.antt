@@ -1,9 +1,9 @@
 -- A store that holds nothing, and what replies acknowledge.
 use Rattle.std.proofs.Common.{◌≡◌, ℕ, None, Option, Some, max, ◌≤◌, List, [], ◌∷◌, arith}
 use Rattle.std.specs.FinMap as map
-use Rattle.records.specs.GeometryValue.{GeometryValue}
-use Rattle.records.specs.Orders.{pair_cmp, rid_cmp}
-use Rattle.records.specs.declared.pair.Mark.{Mark}
+use Rattle.record_values.specs.GeometryValue.{GeometryValue}
+use Rattle.record_values.specs.Orders.{pair_cmp, rid_cmp}
+use Rattle.record_values.specs.declared.pair.Mark.{Mark}
 use Rattle.core_model.specs.Histories.{CanOpen}
 use Rattle.model.specs.Given.{nothing}
 use Rattle.restart.specs.declared.event.Reply.{Reply}

@@ -1,27 +1,27 @@
 -- What is moved to another device, and why nothing is.
 use Rattle.std.proofs.Common.{◌≡◌, ◌⊎◌, ℕ, ◌<◌, length, Result, Ok, Err, OnOk, IfOk, IfErr, inl, inr, refl, sym, ap, subst, ◌∙◌, ⊎_elim, arith}
-use Rattle.sector_device.specs.Disk.{Image}
-use Rattle.sector_device.specs.History.{History}
-use Rattle.records.specs.GeometryValue.{GeometryValue, sectors_of}
-use Rattle.records.specs.declared.version.Version.TheVariants.{One}
-use Rattle.records.specs.declared.error.Error.{Error}
-use Rattle.records.specs.declared.error.Error.TheVariants.{DeviceFailed, NoMemory}
+use Rattle.sector_device.specs.Disk.{CrashState}
+use Rattle.sector_device.specs.DevicePast.{DevicePast}
+use Rattle.record_values.specs.GeometryValue.{GeometryValue, sectors_of}
+use Rattle.record_values.specs.declared.version.Version.TheVariants.{One}
+use Rattle.record_values.specs.declared.error.Error.{Error}
+use Rattle.record_values.specs.declared.error.Error.TheVariants.{DeviceFailed, NoMemory}
 use Rattle.model.specs.Given.{Given}
 use Rattle.gate_log.specs.Area.{Log, Refuses}
-use Rattle.image_half.specs.Image.{header_of}
+use Rattle.store_image_half.specs.Image.{header_of}
 use Rattle.flip_image.specs.declared.half.Half.{Half}
 use Rattle.flip_image.specs.declared.half.Half.TheVariants.{A, B}
 use Rattle.flip_image.specs.Layout.{HalvesValue}
 use Rattle.flip_image.specs.Store.{IsFormatSector}
 use Rattle.store_opener.specs.Reopening.{IsSpare}
 use Rattle.store_reader.specs.Contents.{GivesIn, HasHeaderIn, IsUnreadableIn}
-use Rattle.nsf_core.specs.View.{CoreValue}
+use Rattle.core_parts.specs.View.{CoreValue}
 use Rattle.restart.specs.declared.migration.MigrateError.{MigrateError}
 use Rattle.restart.specs.declared.migration.MigrateError.TheVariants as refusals
 use Rattle.restart.specs.Migrating.{IsOldRefused, IsNotMigrated, IsNotFilled, IsMigratedCore, IsFilled, IsSmallAnswer, IsToldOfOld, IsTooSmall}
 
 -- what the old device gives fills the new one
-pub moved : (old : Image) (geometry : GeometryValue) (given : Given) (after : History) (halves : HalvesValue) (log : Log) (core : CoreValue)
+pub moved : (old : CrashState) (geometry : GeometryValue) (given : Given) (after : DevicePast) (halves : HalvesValue) (log : Log) (core : CoreValue)
     → GivesIn One old geometry given → IsFilled geometry given after halves log core → IsMigratedCore old after halves log core
 moved old geometry given after halves log core gave filled = record {
   moved = filled.filled;
@@ -30,42 +30,42 @@ moved old geometry given after halves log core gave filled = record {
 }
 
 -- the new device isn't filled with it
-module _ {E : Type 0} (old : Image) (old_before old_after : ℕ) (history : E → History) (failures : E → ℕ) (before after : E)
+module _ {E : Type 0} (old : CrashState) (old_before old_after : ℕ) (past_of : E → DevicePast) (failures : E → ℕ) (before after : E)
     (geometry : GeometryValue) (given : Given) (gave : GivesIn One old geometry given) where
-  pub not_filled : (e : MigrateError) → IsNotFilled geometry history failures before after e
-      → IsNotMigrated old old_before old_after history failures before after e
+  pub not_filled : (e : MigrateError) → IsNotFilled geometry past_of failures before after e
+      → IsNotMigrated old old_before old_after past_of failures before after e
   not_filled (refusals.Old e) why = absurd why
   not_filled (refusals.New e) why = record { geometry = geometry; given = given; gave = gave; why = why }
   not_filled refusals.NoMemory why = why.1
 
   -- where it has too few sectors, that is told
-  pub told_small : (IsTooSmall old (history before).disk.content → length (history before).disk.content < sectors_of geometry) → (e : MigrateError)
-      → IsNotFilled geometry history failures before after e
-      → IsTooSmall old (history before).disk.content → IsSmallAnswer e
+  pub told_small : (IsTooSmall old (past_of before).disk.content → length (past_of before).disk.content < sectors_of geometry) → (e : MigrateError)
+      → IsNotFilled geometry past_of failures before after e
+      → IsTooSmall old (past_of before).disk.content → IsSmallAnswer e
   told_small few (refusals.Old e) why small = absurd why
   told_small few (refusals.New e) why small = ⊎_elim (λ is. inl (ap refusals.New is.0)) (λ failed. absurd (omega (arith, failed.1, few small))) why
   told_small few refusals.NoMemory why small = absurd (omega (arith, why.0, few small))
 
 -- the old device is refused, and memory wasn't wanting
-pub old_refused : (old : Image) (before after : ℕ) (e : Error) → ¬ (e ≡ NoMemory) → Refuses before after e ⊎ IsUnreadableIn One old e
+pub old_refused : (old : CrashState) (before after : ℕ) (e : Error) → ¬ (e ≡ NoMemory) → Refuses before after e ⊎ IsUnreadableIn One old e
     → IsOldRefused old before after e
 old_refused old before after e other refused = ⊎_elim (λ why. ⊎_elim (λ none. absurd (other none)) (λ failed. inl failed) why) (λ unreadable.
     inr unreadable) refused
 
 -- so it is not moved
-pub old_not_moved : {E : Type 0} (old : Image) (old_before old_after : ℕ) (history : E → History) (failures : E
+pub old_not_moved : {E : Type 0} (old : CrashState) (old_before old_after : ℕ) (past_of : E → DevicePast) (failures : E
     → ℕ) (new : E) (e : Error) (refusal : MigrateError) → IsToldOfOld e refusal → Refuses old_before old_after e ⊎ IsUnreadableIn One old e
-    → IsNotMigrated old old_before old_after history failures new new refusal
-old_not_moved old old_before old_after history failures new e refusal told refused = ⊎_elim
-    (λ none. subst (IsNotMigrated old old_before old_after history failures new new) (sym none.1) refl)
-    (λ other. subst (IsNotMigrated old old_before old_after history failures new new) (sym other.1) (
+    → IsNotMigrated old old_before old_after past_of failures new new refusal
+old_not_moved old old_before old_after past_of failures new e refusal told refused = ⊎_elim
+    (λ none. subst (IsNotMigrated old old_before old_after past_of failures new new) (sym none.1) refl)
+    (λ other. subst (IsNotMigrated old old_before old_after past_of failures new new) (sym other.1) (
       old_refused old old_before old_after e other.0 refused,
       refl,
     ))
     told
 
 -- what gives something has a header
-pub has_header : (old : Image) (geometry : GeometryValue) (given : Given) → GivesIn One old geometry given → HasHeaderIn One old
+pub has_header : (old : CrashState) (geometry : GeometryValue) (given : Given) → GivesIn One old geometry given → HasHeaderIn One old
 has_header old geometry given gave = (geometry, gave.half, gave.holds.store, (header_of gave.base gave.cells, gave.holds.imaged.header-is))
 
 -- want of memory is told of want of memory alone

@@ -2,18 +2,19 @@
 use Rattle.std.proofs.Common.{◌≡◌, ◌⊎◌, ⊎_elim, inl, false, true, ℕ, ◌+◌, ◌/◌, ◌≤◌, ◌<◌, List, Option, None, Some, [], ◌∷◌, ◌++◌, refl, sym, ◌∙◌, ap, subst}
 use Rattle.std.proofs.Common.{arith, append-nil}
 use Rattle.std.proofs.lemmas.Bool.{cases_lt, false≢true}
-use Rattle.records.specs.GeometryValue.{GeometryValue}
+use Rattle.record_values.specs.GeometryValue.{GeometryValue}
 use Rattle.records.specs.RecordValue.{RecordValue}
 use Rattle.core_model.specs.States.{State}
-use Rattle.core_contracts.specs.Events as core
-use Rattle.core_contracts.specs.Events.{Standing}
-use Rattle.core_contracts.specs.Served.{HasServed}
-use Rattle.image_model.specs.Run.{Run, end_of, records_between}
-use Rattle.nsf_core.specs.View.{CoreValue, IsState}
-use Rattle.sector_device.specs.Disk.{Image}
-use Rattle.sector_device.specs.History.{History, LeavesOnly}
+use Rattle.core_model.specs.Events as core
+use Rattle.core_model.specs.Events.{Standing}
+use Rattle.core_model.specs.Served.{HasServed}
+use Rattle.store_image_model.specs.Run.{Run, end_of, records_between}
+use Rattle.core_parts.specs.View.{CoreValue, IsState}
+use Rattle.sector_device.specs.Disk.{CrashState}
+use Rattle.sector_device.specs.DevicePast.{DevicePast, LeavesOnly}
 use Rattle.sector_device.proofs.Moments.{joined, weaker}
 use Rattle.store_writer.specs.Contents.{LeftBy}
+use Rattle.store_writer.specs.Copying.{IsCopying}
 use Rattle.store_writer.specs.Parts as writer
 use Rattle.store_writer.specs.Writer.{IsWriter}
 use Rattle.restart.specs.declared.event.Event.{Event}
@@ -23,11 +24,11 @@ use Rattle.restart.specs.History.{IsOfKind, acknowledged, answered, asked, both,
 use Rattle.store_writer.specs.Image.{BecomesImage}
 use Rattle.store_writer.specs.Parts.{image_of}
 use Rattle.store_writer.specs.Places.{IsAtPlace}
+use Rattle.store_writer.specs.declared.copying.Copying.{Copying}
+use Rattle.store_writer.specs.declared.copying.Copying.TheVariants.{GivenUp, Idle, Steps}
 use Rattle.store_writer.specs.declared.image.NewImage.{NewImage}
-use Rattle.image_model.specs.declared.chunk.CopyPlace.{CopyPlace}
-use Rattle.restart.specs.declared.copying.Copying.{Copying}
-use Rattle.restart.specs.declared.copying.Copying.TheVariants.{GivenUp, Idle, Steps}
-use Rattle.restart.specs.Copies.{IsCopying, IsHalfOpen}
+use Rattle.store_image_model.specs.declared.chunk.CopyPlace.{CopyPlace}
+use Rattle.restart.specs.Copies.{IsHalfOpen}
 use Rattle.restart.specs.Handing.{MovesOn}
 use Rattle.restart.specs.Parts.{core_of, device_of, has_failed, horizon_of, unhanded, writer_of}
 use Rattle.restart.specs.Store.{CanRun, IsAt, StandsAt, Survives, ServesOn, acknowledged_by, and_then, over, run_of}
@@ -62,7 +63,7 @@ same_state v kept s k is = record {
   counted = is.counted;
 }
 
-lower : (run : Run) (n m handed : ℕ) (image : Image) → n ≤ m → LeftBy run m handed image → LeftBy run n handed image
+lower : (run : Run) (n m handed : ℕ) (image : CrashState) → n ≤ m → LeftBy run m handed image → LeftBy run n handed image
 lower run n m handed image le left = record {
   number = left.number;
   least = omega (arith, le, left.least);
@@ -83,12 +84,12 @@ pub record StaysAtPlace {D M : Type 0} (old new : Parts D M) : Type 0 where
 pub none_open : (slots : ℕ) (image : Option NewImage) → image ≡ None → IsHalfOpen slots image
 none_open slots image none i there = absurd cc
 
-module _ {D M : Type 0} (history : D → History) where
+module _ {D M : Type 0} (past_of : D → DevicePast) where
   -- the writer has gone on, and holds more of the records
-  pub stands_with : (run : Run) (handed later : ℕ) (s : State) (k : Standing) (old new : Parts D M) → StandsAt history run handed s k old
+  pub stands_with : (run : Run) (handed later : ℕ) (s : State) (k : Standing) (old new : Parts D M) → StandsAt past_of run handed s k old
       → core_of new ≡ record (core_of old) { outbox = (core_of new).outbox }
-      → IsWriter history run later (writer_of new) → records_between run later (end_of run) ≡ unhanded new → StaysAtPlace old new
-      → StandsAt history run later s k new
+      → IsWriter past_of run later (writer_of new) → records_between run later (end_of run) ≡ unhanded new → StaysAtPlace old new
+      → StandsAt past_of run later s k new
   stands_with run handed later s k old new is others w rest stays = record {
     writer = w;
     rest = rest;
@@ -108,17 +109,17 @@ module _ {D M : Type 0} (history : D → History) where
 
   -- a call of the writer that takes no record
   pub moves_by : (old new : Parts D M) → core_of new ≡ core_of old → unhanded new ≡ unhanded old
-      → ((run : Run) (handed : ℕ) → IsWriter history run handed (writer_of old) → IsWriter history run handed (writer_of new))
-      → ((run : Run) (handed : ℕ) → IsWriter history run handed (writer_of old)
-      → LeavesOnly (history (device_of old)) (history (device_of new)) (LeftBy run (horizon_of old) handed))
-      → horizon_of old ≤ horizon_of new → StaysAtPlace old new → MovesOn history old new
+      → ((run : Run) (handed : ℕ) → IsWriter past_of run handed (writer_of old) → IsWriter past_of run handed (writer_of new))
+      → ((run : Run) (handed : ℕ) → IsWriter past_of run handed (writer_of old)
+      → LeavesOnly (past_of (device_of old)) (past_of (device_of new)) (LeftBy run (horizon_of old) handed))
+      → horizon_of old ≤ horizon_of new → StaysAtPlace old new → MovesOn past_of old new
   moves_by old new same rest keeps images grows stays = record {
     stands = λ run handed s k is. (
       handed,
       omega arith,
       stands_with run handed handed s k old new is others (keeps run handed is.writer) (is.rest ∙ sym rest) stays,
     );
-    images = λ run handed s k is. weaker (history (device_of old)) (history (device_of new)) (LeftBy run (horizon_of old) handed) (λ (image : Image).
+    images = λ run handed s k is. weaker (past_of (device_of old)) (past_of (device_of new)) (LeftBy run (horizon_of old) handed) (λ (image : CrashState).
         (later : ℕ) × (later ≤ end_of run) × LeftBy run (horizon_of old) later image)
         (λ c left. (handed, is.writer.made, left)) (images run handed is.writer);
     grows = grows;
@@ -130,17 +131,17 @@ module _ {D M : Type 0} (history : D → History) where
 
   -- a call of the writer that takes no record, of whatever the state of the core allows
   pub moves_at : (old new : Parts D M) → core_of new ≡ core_of old → unhanded new ≡ unhanded old
-      → ((run : Run) (handed : ℕ) (s : State) (k : Standing) → StandsAt history run handed s k old → IsWriter history run handed (writer_of new))
-      → ((run : Run) (handed : ℕ) → IsWriter history run handed (writer_of old)
-      → LeavesOnly (history (device_of old)) (history (device_of new)) (LeftBy run (horizon_of old) handed))
-      → horizon_of old ≤ horizon_of new → StaysAtPlace old new → MovesOn history old new
+      → ((run : Run) (handed : ℕ) (s : State) (k : Standing) → StandsAt past_of run handed s k old → IsWriter past_of run handed (writer_of new))
+      → ((run : Run) (handed : ℕ) → IsWriter past_of run handed (writer_of old)
+      → LeavesOnly (past_of (device_of old)) (past_of (device_of new)) (LeftBy run (horizon_of old) handed))
+      → horizon_of old ≤ horizon_of new → StaysAtPlace old new → MovesOn past_of old new
   moves_at old new same rest keeps images grows stays = record {
     stands = λ run handed s k is. (
       handed,
       omega arith,
       stands_with run handed handed s k old new is others (keeps run handed s k is) (is.rest ∙ sym rest) stays,
     );
-    images = λ run handed s k is. weaker (history (device_of old)) (history (device_of new)) (LeftBy run (horizon_of old) handed) (λ (image : Image).
+    images = λ run handed s k is. weaker (past_of (device_of old)) (past_of (device_of new)) (LeftBy run (horizon_of old) handed) (λ (image : CrashState).
         (later : ℕ) × (later ≤ end_of run) × LeftBy run (horizon_of old) later image)
         (λ c left. (handed, is.writer.made, left)) (images run handed is.writer);
     grows = grows;
@@ -151,7 +152,7 @@ module _ {D M : Type 0} (history : D → History) where
       others = same ∙ ap (λ (o : List RecordValue). record (core_of old) { outbox = o }) (ap (λ (v : CoreValue). v.outbox) (sym same))
 
   -- one after another
-  pub moves_then : (old mid new : Parts D M) → MovesOn history old mid → MovesOn history mid new → MovesOn history old new
+  pub moves_then : (old mid new : Parts D M) → MovesOn past_of old mid → MovesOn past_of mid new → MovesOn past_of old new
   moves_then old mid new first second = record {
     stands = λ run handed s k is.
         let a = first.stands run handed s k is in
@@ -159,38 +160,38 @@ module _ {D M : Type 0} (history : D → History) where
         (b.0, omega (arith, a.1, b.1), b.2);
     images = λ run handed s k is.
         let a = first.stands run handed s k is in
-        joined (history (device_of old)) (history (device_of mid)) (history (device_of new)) (λ (image : Image). (later : ℕ) × (later ≤ end_of run)
+        joined (past_of (device_of old)) (past_of (device_of mid)) (past_of (device_of new)) (λ (image : CrashState). (later : ℕ) × (later ≤ end_of run)
         × LeftBy run (horizon_of old) later image) (first.images run handed s k is)
-        (weaker (history (device_of mid)) (history (device_of new)) (λ (image : Image). (later : ℕ) × (later ≤ end_of run)
-        × LeftBy run (horizon_of mid) later image) (λ (image : Image). (later : ℕ) × (later ≤ end_of run) × LeftBy run (horizon_of old) later image)
+        (weaker (past_of (device_of mid)) (past_of (device_of new)) (λ (image : CrashState). (later : ℕ) × (later ≤ end_of run)
+        × LeftBy run (horizon_of mid) later image) (λ (image : CrashState). (later : ℕ) × (later ≤ end_of run) × LeftBy run (horizon_of old) later image)
         (λ c left. (left.0, left.1, lower run (horizon_of old) (horizon_of mid) left.0 c first.grows left.2)) (second.images run a.0 s k a.2));
     grows = omega (arith, first.grows, second.grows);
     core = second.core ∙ ap (λ (v : CoreValue). record v { outbox = (core_of new).outbox }) first.core;
   }
 
-  pub can_run_on : (old new : Parts D M) → MovesOn history old new → CanRun history old → CanRun history new
+  pub can_run_on : (old new : Parts D M) → MovesOn past_of old new → CanRun past_of old → CanRun past_of new
   can_run_on old new moves can = let a = moves.stands can.0 can.1 can.2 can.3 can.4 in (can.0, a.0, can.2, can.3, a.2)
 
   -- a request that asks the core for nothing
-  pub serves_by : (old new : Parts D M) (x : Event) (r : Reply M) → MovesOn history old new → asked x ≡ None → IsOfKind x r
-      → ((n : ℕ) → n ≤ horizon_of new → acknowledged n (r ∷ []) ≤ horizon_of new) → ServesOn history x r old new
+  pub serves_by : (old new : Parts D M) (x : Event) (r : Reply M) → MovesOn past_of old new → asked x ≡ None → IsOfKind x r
+      → ((n : ℕ) → n ≤ horizon_of new → acknowledged n (r ∷ []) ≤ horizon_of new) → ServesOn past_of x r old new
   serves_by old new x r moves none kind safe past is = (at, leaves, moves.grows)
     where
       has : HasServed (over past.geometry past.given) is.made (core_calls past.events past.replies ++ both (asked x) (answered r)) is.state is.standing
       has = subst (λ (l : List (core.Event × core.Reply)). HasServed (over past.geometry past.given) is.made l is.state is.standing)
           (sym (ap (λ o. core_calls past.events past.replies ++ both o (answered r)) none ∙ append-nil (core_calls past.events past.replies))) is.served
 
-      moved : (later : ℕ) × (is.handed ≤ later) × StandsAt history (run_of past is.made) later is.state is.standing new
+      moved : (later : ℕ) × (is.handed ≤ later) × StandsAt past_of (run_of past is.made) later is.state is.standing new
       moved = moves.stands (run_of past is.made) is.handed is.state is.standing is.stands
 
-      at : IsAt history (and_then past (x ∷ []) (r ∷ [])) new
-      at = at_next history past old new x r kind is is.made moved.0 is.state is.standing has moved.2
+      at : IsAt past_of (and_then past (x ∷ []) (r ∷ [])) new
+      at = at_next past_of past old new x r kind is is.made moved.0 is.state is.standing has moved.2
           (safe (acknowledged_by past) (omega (arith, is.safe, moves.grows)))
 
-      leaves : LeavesOnly (history (device_of old)) (history (device_of new)) (Survives (and_then past (x ∷ []) (r ∷ [])) (horizon_of old))
-      leaves = weaker (history (device_of old)) (history (device_of new)) (λ (image : Image). (later : ℕ) × (later ≤ end_of (run_of past is.made))
+      leaves : LeavesOnly (past_of (device_of old)) (past_of (device_of new)) (Survives (and_then past (x ∷ []) (r ∷ [])) (horizon_of old))
+      leaves = weaker (past_of (device_of old)) (past_of (device_of new)) (λ (image : CrashState). (later : ℕ) × (later ≤ end_of (run_of past is.made))
           × LeftBy (run_of past is.made) (horizon_of old) later image) (Survives (and_then past (x ∷ []) (r ∷ [])) (horizon_of old))
-          (λ c left. left_then history past old new x r kind is is.made left.0 is.state is.standing has
+          (λ c left. left_then past_of past old new x r kind is is.made left.0 is.state is.standing has
           (horizon_of old) is.stands.writer.opened left.1 c left.2)
           (moves.images (run_of past is.made) is.handed is.state is.standing is.stands)
 
@@ -219,14 +220,14 @@ still_open slots synced count (Some old) new becomes all same was i there = ⊎_
     half_of less = subst (λ n. old.log.open_slots < n / 2) same less
 
 -- what the type keeps of an image's log
-pub open_now : {D M : Type 0} (history : D → History) (engine : Parts D M) → CanRun history engine → has_failed engine ≡ false
+pub open_now : {D M : Type 0} (past_of : D → DevicePast) (engine : Parts D M) → CanRun past_of engine → has_failed engine ≡ false
     → IsHalfOpen engine.geometry.slots (image_of (writer_of engine))
-open_now history engine can sound = subst (λ (x : GeometryValue). IsHalfOpen x.slots (image_of (writer_of engine))) (sym can.4.geometry) (can.4.carried sound)
+open_now past_of engine can sound = subst (λ (x : GeometryValue). IsHalfOpen x.slots (image_of (writer_of engine))) (sym can.4.geometry) (can.4.carried sound)
 
 -- so many slots as the engine's geometry has
-pub slots_are : {D M : Type 0} (history : D → History) (engine : Parts D M) → CanRun history engine
+pub slots_are : {D M : Type 0} (past_of : D → DevicePast) (engine : Parts D M) → CanRun past_of engine
     → (writer.halves_of (writer_of engine)).geometry.slots ≡ engine.geometry.slots
-slots_are history engine can = ap (λ (x : GeometryValue). x.slots) (can.4.writer.geometry-is ∙ sym can.4.geometry)
+slots_are past_of engine can = ap (λ (x : GeometryValue). x.slots) (can.4.writer.geometry-is ∙ sym can.4.geometry)
 
 module _ {D M : Type 0} (mid new : Parts D M) (size : new.geometry ≡ mid.geometry) (copying : new.copying ≡ mid.copying) where
   same_open : writer_of new ≡ writer_of mid → (has_failed mid ≡ false → IsHalfOpen mid.geometry.slots (image_of (writer_of mid))) → has_failed new ≡ false

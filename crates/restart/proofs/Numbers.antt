@@ -3,7 +3,7 @@ use Rattle.std.proofs.Common.{◌≡◌, ℕ, ◌+◌, ◌-◌, ◌≤◌, List,
 use Rattle.std.proofs.lemmas.List.{take_all, drop-append-le, drop-drop, length-take-le}
 use Rattle.std.proofs.Math.Seq.{take-append_seam, drop-append_seam}
 use Rattle.records.specs.RecordValue.{RecordValue}
-use Rattle.image_model.specs.Run.{Run, end_of, records_above, records_between}
+use Rattle.store_image_model.specs.Run.{Run, end_of, records_above, records_between}
 use Rattle.store_writer.specs.Writer.{longer}
 
 pub to_end : (run : Run) (m : ℕ) → run.last ≤ m → records_between run m (end_of run) ≡ records_above run m

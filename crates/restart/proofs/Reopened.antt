@@ -4,10 +4,10 @@ use Rattle.std.proofs.lemmas.List.{nil_from_length}
 use Rattle.std.specs.FinMap as map
 use Rattle.std.specs.Ordering.{nat_cmp}
 use Rattle.records.specs.ChangeValue.{ChangeValue}
-use Rattle.records.specs.GeometryValue.{GeometryValue}
+use Rattle.record_values.specs.GeometryValue.{GeometryValue}
 use Rattle.records.specs.RecordValue.{RecordValue}
-use Rattle.records.specs.declared.error.Error.{Error}
-use Rattle.records.specs.declared.error.Error.TheVariants.{IndexFull, NoMemory}
+use Rattle.record_values.specs.declared.error.Error.{Error}
+use Rattle.record_values.specs.declared.error.Error.TheVariants.{IndexFull, NoMemory}
 use Rattle.model.specs.Cells.{Cells}
 use Rattle.model.specs.Given.{Given, IsBeginning, opening_cells}
 use Rattle.core_model.specs.Histories.{CanOpen, Opened, opened}
@@ -15,26 +15,26 @@ use Rattle.core_copies.specs.Lists.{HasLists}
 use Rattle.core_model.specs.Logs.{IsLogOf}
 use Rattle.core_model.specs.Records.{HasCells, IsListOf}
 use Rattle.core_model.specs.States.{State}
-use Rattle.core_contracts.specs.Events.{standing_at}
-use Rattle.core_contracts.proofs.Laws.{served_nothing}
-use Rattle.nsf_core.specs.View.{CoreValue}
+use Rattle.core_model.specs.Events.{standing_at}
+use Rattle.core_model.proofs.ReplyLaws.{served_nothing}
+use Rattle.core_parts.specs.View.{CoreValue}
 use Rattle.core_loader.specs.Loaded.{holding}
-use Rattle.sector_device.specs.Disk.{Disk, Image, IsCrashImage, IsSynced}
-use Rattle.sector_device.specs.History.{History, LeavesOnly}
+use Rattle.sector_device.specs.Disk.{Disk, CrashState, IsCrashState, IsSynced}
+use Rattle.sector_device.specs.DevicePast.{DevicePast, LeavesOnly}
 use Rattle.sector_device.proofs.Moments.{weaker}
 use Rattle.gate_log.specs.Area.{Log, Refuses}
 use Rattle.flip_image.specs.Layout.{HalvesValue}
-use Rattle.image_model.specs.Run.{end_of, records_between}
+use Rattle.store_image_model.specs.Run.{end_of, records_between}
 use Rattle.store_opener.specs.Reopening.{ReopeningLeaves}
 use Rattle.store_reader.specs.Contents.{Gives, GivesIn}
-use Rattle.records.specs.declared.version.Version.TheVariants.{One, Two}
+use Rattle.record_values.specs.declared.version.Version.TheVariants.{One, Two}
 use Rattle.store_reader.proofs.Readings.{one_geometry, one_given}
+use Rattle.store_writer.specs.Copying.{IsCopying}
 use Rattle.store_writer.specs.Parts as writer
 use Rattle.store_writer.specs.Writer.{IsOpenedAt, IsWriter, opened_run}
+use Rattle.store_writer.specs.declared.copying.Copying.TheVariants.{Idle}
 use Rattle.restart.specs.declared.parts.Parts.{Parts}
 use Rattle.restart.specs.Building.{HasCome}
-use Rattle.restart.specs.Copies.{IsCopying}
-use Rattle.restart.specs.declared.copying.Copying.TheVariants.{Idle}
 use Rattle.restart.specs.Parts.{core_of, device_of, horizon_of, writer_of}
 use Rattle.restart.specs.Reopening.{IsCoreOf, IsOpened, IsTurned, Recovers, opening}
 use Rattle.restart.specs.Migrating.{IsMigrated}
@@ -53,13 +53,13 @@ begins_with pages places given = record {
 
 -- ---- the engine
 
-module _ {D M : Type 0} (history : D → History) (before : Image) (engine : Parts D M) (halves : HalvesValue) (log : Log)
-    (is : IsCoreOf before (history (device_of engine)) halves log (core_of engine))
+module _ {D M : Type 0} (past_of : D → DevicePast) (before : CrashState) (engine : Parts D M) (halves : HalvesValue) (log : Log)
+    (is : IsCoreOf before (past_of (device_of engine)) halves log (core_of engine))
     (half : (pages base : ℕ) (cells : Cells) (s : State) → HasCells s cells → IsLogOf pages base cells [] s)
     (lists : (o : Opened) → HasLists (opened o) (opening_cells o.given))
     (size : engine.geometry ≡ halves.geometry) (idle : engine.copying ≡ Idle) (no_image : writer.image_of (writer_of engine) ≡ None)
-    (takes : (cells : Cells) → IsOpenedAt (history (device_of engine)) halves log is.given.last cells
-    → IsWriter history (opened_run halves is.given.last cells) is.given.last (writer_of engine))
+    (takes : (cells : Cells) → IsOpenedAt (past_of (device_of engine)) halves log is.given.last cells
+    → IsWriter past_of (opened_run halves is.given.last cells) is.given.last (writer_of engine))
     (none : engine.outgoing.items ≡ []) (reached : horizon_of engine ≡ is.given.last) (sound : writer.has_failed (writer_of engine) ≡ false) where
   abbrev g : GeometryValue
   g = halves.geometry
@@ -68,7 +68,7 @@ module _ {D M : Type 0} (history : D → History) (before : Image) (engine : Par
   none_made = nil_from_length (records_between (run_of (opening {M = M} g is.given) []) is.given.last (end_of (run_of (opening {M = M} g is.given) [])))
       (omega (arith, count_to_end (run_of (opening {M = M} g is.given) []) is.given.last (omega arith)))
 
-  begun : StandsAt history (run_of (opening {M = M} g is.given) []) is.given.last (opened (over g is.given)) (standing_at is.given.last) engine
+  begun : StandsAt past_of (run_of (opening {M = M} g is.given) []) is.given.last (opened (over g is.given)) (standing_at is.given.last) engine
   begun = record {
     writer = takes (opening_cells is.given) is.opened-at;
     rest = none_made ∙ sym (ap (λ (l : List RecordValue). l ++ (core_of engine).outbox) none ∙ ap (λ (v : CoreValue). v.outbox) is.holds);
@@ -83,11 +83,11 @@ module _ {D M : Type 0} (history : D → History) (before : Image) (engine : Par
     carried = λ _. none_open g.slots (writer.image_of (writer_of engine)) no_image;
   }
 
-  pub can_run_opened : CanRun history engine
+  pub can_run_opened : CanRun past_of engine
   can_run_opened = (run_of (opening {M = M} g is.given) [], is.given.last, opened (over g is.given), standing_at is.given.last, begun)
 
   module _ (opens : CanOpen (over g is.given)) where
-    pub begins_at : IsAt history (opening g is.given) engine
+    pub begins_at : IsAt past_of (opening g is.given) engine
     begins_at = record {
       answered = refl;
       kinds = tt;
@@ -114,14 +114,14 @@ module _ {D M : Type 0} (history : D → History) (before : Image) (engine : Par
     }
 
   -- the run that left it
-  pub recovers_run : (past : Past M) (floor : ℕ) → Survives past floor before → Recovers history past floor engine
+  pub recovers_run : (past : Past M) (floor : ℕ) → Survives past floor before → Recovers past_of past floor engine
   recovers_run past floor left = record {
     given = is.given;
     beginning = subst (λ (x : Given). IsBeginning past.given (items_told past) floor x) (sym same) left.beginning;
     within = omega (arith, left.within, ap (λ (x : Given). x.last) same);
     core = is.holds ∙ ap (λ (x : GeometryValue). holding x is.given) same_size;
     opens = can_past;
-    begins = subst (λ (x : GeometryValue). IsAt history (opening x is.given) engine) same_size (begins_at can);
+    begins = subst (λ (x : GeometryValue). IsAt past_of (opening x is.given) engine) same_size (begins_at can);
     come = come_to can;
   }
     where
@@ -139,37 +139,37 @@ module _ {D M : Type 0} (history : D → History) (before : Image) (engine : Par
 
 -- ---- what is made of what was opened
 
-module _ {D M : Type 0} (history : D → History) (before after : D) (engine : Parts D M) (halves : HalvesValue) (log : Log)
-    (found : IsCoreOf (history before).disk.content (history after) halves log (core_of engine)) (device : device_of engine ≡ after)
+module _ {D M : Type 0} (past_of : D → DevicePast) (before after : D) (engine : Parts D M) (halves : HalvesValue) (log : Log)
+    (found : IsCoreOf (past_of before).disk.content (past_of after) halves log (core_of engine)) (device : device_of engine ≡ after)
     (half : (pages base : ℕ) (cells : Cells) (s : State) → HasCells s cells → IsLogOf pages base cells [] s) (lists : (o : Opened)
     → HasLists (opened o) (opening_cells o.given)) (size : engine.geometry ≡ halves.geometry) (idle : engine.copying ≡ Idle)
     (no_image : writer.image_of (writer_of engine) ≡ None)
-    (synced : ℕ) (synced_is : synced ≡ (core_of engine).last) (writes : (cells : Cells) → IsOpenedAt (history after) halves log synced cells
-    → IsWriter history (opened_run halves synced cells) synced (writer_of engine))
+    (synced : ℕ) (synced_is : synced ≡ (core_of engine).last) (writes : (cells : Cells) → IsOpenedAt (past_of after) halves log synced cells
+    → IsWriter past_of (opened_run halves synced cells) synced (writer_of engine))
     (none : engine.outgoing.items ≡ []) (reached_is : horizon_of engine ≡ synced) (sound : writer.has_failed (writer_of engine) ≡ false) where
   number : synced ≡ found.given.last
   number = synced_is ∙ ap (λ (v : CoreValue). v.last) found.holds
 
-  abbrev moved : IsCoreOf (history before).disk.content (history (device_of engine)) halves log (core_of engine)
+  abbrev moved : IsCoreOf (past_of before).disk.content (past_of (device_of engine)) halves log (core_of engine)
   moved = record {
     given = found.given;
     gives = found.gives;
     holds = found.holds;
     shown = found.shown;
-    opened-at = subst (λ d. IsOpenedAt (history d) halves log found.given.last (opening_cells found.given)) (sym device) found.opened-at;
+    opened-at = subst (λ d. IsOpenedAt (past_of d) halves log found.given.last (opening_cells found.given)) (sym device) found.opened-at;
   }
 
-  takes : (cells : Cells) → IsOpenedAt (history (device_of engine)) halves log found.given.last cells
-      → IsWriter history (opened_run halves found.given.last cells) found.given.last (writer_of engine)
-  takes cells at = subst (λ n. IsWriter history (opened_run halves n cells) n (writer_of engine)) number
-      (writes cells (subst (λ n. IsOpenedAt (history after) halves log n cells) (sym number)
-      (subst (λ d. IsOpenedAt (history d) halves log found.given.last cells) device at)))
+  takes : (cells : Cells) → IsOpenedAt (past_of (device_of engine)) halves log found.given.last cells
+      → IsWriter past_of (opened_run halves found.given.last cells) found.given.last (writer_of engine)
+  takes cells at = subst (λ n. IsWriter past_of (opened_run halves n cells) n (writer_of engine)) number
+      (writes cells (subst (λ n. IsOpenedAt (past_of after) halves log n cells) (sym number)
+      (subst (λ d. IsOpenedAt (past_of d) halves log found.given.last cells) device at)))
 
-  pub can_run_made : CanRun history engine
-  can_run_made = can_run_opened history (history before).disk.content engine halves log moved half lists size idle no_image takes none (reached_is
+  pub can_run_made : CanRun past_of engine
+  can_run_made = can_run_opened past_of (past_of before).disk.content engine halves log moved half lists size idle no_image takes none (reached_is
       ∙ number) sound
 
-  pub opened_made : IsTurned history before after → IsOpened history before engine
+  pub opened_made : IsTurned past_of before after → IsOpened past_of before engine
   opened_made turned = record {
     geometry = halves.geometry;
     given = found.given;
@@ -177,78 +177,73 @@ module _ {D M : Type 0} (history : D → History) (before after : D) (engine : P
     core = found.holds;
     horizon = reached_is ∙ number;
     sound = sound;
-    device = subst (IsTurned history before) (sym device) turned;
+    device = subst (IsTurned past_of before) (sym device) turned;
     synced = moved.opened-at.all_synced;
-    begins = λ opens. begins_at history (history before).disk.content engine halves log moved half lists size idle no_image takes none (reached_is
+    begins = λ opens. begins_at past_of (past_of before).disk.content engine halves log moved half lists size idle no_image takes none (reached_is
         ∙ number) sound opens;
-    come = λ opens. come_to history (history before).disk.content engine halves log moved half lists size idle no_image takes none (reached_is
+    come = λ opens. come_to past_of (past_of before).disk.content engine halves log moved half lists size idle no_image takes none (reached_is
         ∙ number) sound opens;
   }
 
-  pub recovers_made : (past : Past M) (floor : ℕ) → Survives past floor (history before).disk.content → Recovers history past floor engine
-  recovers_made past floor left = recovers_run history (history before).disk.content engine halves log moved half lists size idle no_image takes none
+  pub recovers_made : (past : Past M) (floor : ℕ) → Survives past floor (past_of before).disk.content → Recovers past_of past floor engine
+  recovers_made past floor left = recovers_run past_of (past_of before).disk.content engine halves log moved half lists size idle no_image takes none
       (reached_is ∙ number) sound past floor left
 
 -- ---- what is moved from another device
 
 -- a device that stays as it is
-still : {D : Type 0} (history : D → History) (d : D) → IsTurned history d d
-still history d = record {
+still : {D : Type 0} (past_of : D → DevicePast) (d : D) → IsTurned past_of d d
+still past_of d = record {
   images = record {
     later = omega arith;
     kept = λ t le. refl;
     each = λ t image from to crash.
-        inl (subst (λ (x : Disk). IsCrashImage x image) (ap (history d).disk_at (let e : t ≡ (history d).moment = omega (arith, from, to) in e)
-        ∙ (history d).now) crash);
+        inl (subst (λ (x : Disk). IsCrashState x image) (ap (past_of d).disk_at (let e : t ≡ (past_of d).moment = omega (arith, from, to) in e)
+        ∙ (past_of d).now) crash);
   };
   now = inl refl;
 }
 
-module _ {D M : Type 0} (history : D → History) (new : D) (engine : Parts D M) (halves : HalvesValue) (log : Log)
-    (found : IsCoreOf (history new).disk.content (history new) halves log (core_of engine)) (device : device_of engine ≡ new)
+module _ {D M : Type 0} (past_of : D → DevicePast) (new : D) (engine : Parts D M) (halves : HalvesValue) (log : Log)
+    (found : IsCoreOf (past_of new).disk.content (past_of new) halves log (core_of engine)) (device : device_of engine ≡ new)
     (half : (pages base : ℕ) (cells : Cells) (s : State) → HasCells s cells → IsLogOf pages base cells [] s) (lists : (o : Opened)
     → HasLists (opened o) (opening_cells o.given)) (size : engine.geometry ≡ halves.geometry) (idle : engine.copying ≡ Idle)
     (no_image : writer.image_of (writer_of engine) ≡ None)
-    (synced : ℕ) (synced_is : synced ≡ (core_of engine).last) (writes : (cells : Cells) → IsOpenedAt (history new) halves log synced cells
-    → IsWriter history (opened_run halves synced cells) synced (writer_of engine))
+    (synced : ℕ) (synced_is : synced ≡ (core_of engine).last) (writes : (cells : Cells) → IsOpenedAt (past_of new) halves log synced cells
+    → IsWriter past_of (opened_run halves synced cells) synced (writer_of engine))
     (none : engine.outgoing.items ≡ []) (reached_is : horizon_of engine ≡ synced) (sound : writer.has_failed (writer_of engine) ≡ false) where
-  abbrev there : IsCoreOf (history (device_of engine)).disk.content (history (device_of engine)) halves log (core_of engine)
+  abbrev there : IsCoreOf (past_of (device_of engine)).disk.content (past_of (device_of engine)) halves log (core_of engine)
   there = record {
     given = found.given;
-    gives = subst (λ d. Gives (history d).disk.content halves.geometry found.given) (sym device) found.gives;
+    gives = subst (λ d. Gives (past_of d).disk.content halves.geometry found.given) (sym device) found.gives;
     holds = found.holds;
     shown = found.shown;
-    opened-at = subst (λ d. IsOpenedAt (history d) halves log found.given.last (opening_cells found.given)) (sym device) found.opened-at;
+    opened-at = subst (λ d. IsOpenedAt (past_of d) halves log found.given.last (opening_cells found.given)) (sym device) found.opened-at;
   }
 
-  pub migrated : (old : Image) → GivesIn One old halves.geometry found.given → IsMigrated old history engine
+  pub migrated : (old : CrashState) → GivesIn One old halves.geometry found.given → IsMigrated old past_of engine
   unfolding opened_made
   migrated old gave = record {
-    opened = opened_made history (device_of engine) (device_of engine) engine halves log there refl half lists size idle no_image synced synced_is (λ cells at.
-        writes cells (subst (λ d. IsOpenedAt (history d) halves log synced cells) device at)) none reached_is sound (still history (device_of engine));
+    opened = opened_made past_of (device_of engine) (device_of engine) engine halves log there refl half lists size idle no_image synced synced_is (λ cells at.
+        writes cells (subst (λ d. IsOpenedAt (past_of d) halves log synced cells) device at)) none reached_is sound (still past_of (device_of engine));
     gave = gave;
   }
 
 -- ---- the device
 
-module _ {M D : Type 0} (history : D → History) (before after : D) (turned : IsTurned history before after)
-    (same : (old : Disk) (image : Image) → IsSynced old → ReopeningLeaves old image → (g : GeometryValue) (given : Given) → Gives old.content g given
+module _ {M D : Type 0} (past_of : D → DevicePast) (before after : D) (turned : IsTurned past_of before after)
+    (same : (old : Disk) (image : CrashState) → IsSynced old → ReopeningLeaves old image → (g : GeometryValue) (given : Given) → Gives old.content g given
     → Gives image g given) where
   -- what a run left on a synced device stays
-  pub stays_left : IsSynced (history before).disk → (past : Past M) (floor : ℕ) → Survives past floor (history before).disk.content
-      → LeavesOnly (history before) (history after) (Survives past floor)
-  stays_left synced past floor left = weaker (history before) (history after) (ReopeningLeaves (history before).disk) (Survives past floor)
+  pub stays_left : IsSynced (past_of before).disk → (past : Past M) (floor : ℕ) → Survives past floor (past_of before).disk.content
+      → LeavesOnly (past_of before) (past_of after) (Survives past floor)
+  stays_left synced past floor left = weaker (past_of before) (past_of after) (ReopeningLeaves (past_of before).disk) (Survives past floor)
       (λ c was. record {
         given = left.given;
-        gives = same (history before).disk c synced was past.geometry left.given left.gives;
+        gives = same (past_of before).disk c synced was past.geometry left.given left.gives;
         beginning = left.beginning;
         within = left.within;
         opens = left.opens;
       }) turned.images
 
 -- ---- what is loaded
-
--- there is room for each entry of what was found, so that a core over it is refused for want of memory alone
-pub load_refuses : (image : Image) (g : GeometryValue) (given : Given) → Gives image g given → (e : Error) → (e ≡ IndexFull → g.entries < map.len given.entries)
-    → (e ≡ IndexFull) ⊎ (e ≡ NoMemory) → (before now : ℕ) → Refuses before now e
-load_refuses image g given gives e crowded why before now = ⊎_elim (λ full. absurd (omega (arith, crowded full, gives.room))) (λ none. inl none) why

@@ -1,12 +1,12 @@
 -- A request that the core serves leaves the engine where the run says.
 use Rattle.std.proofs.Common.{◌≡◌, ℕ, ◌≤◌, List, Option, Some, [], ◌∷◌, ◌++◌, sym, ◌∙◌, ap, subst, arith}
-use Rattle.core_contracts.specs.Events as core
-use Rattle.core_contracts.specs.Events.{standing_after}
-use Rattle.core_contracts.specs.Replies.{after_any}
-use Rattle.core_contracts.specs.Served.{HasServed, records_by}
-use Rattle.core_contracts.proofs.Laws.{served_allowed}
-use Rattle.nsf_core.specs.View.{Answers}
-use Rattle.sector_device.specs.History.{History, LeavesOnly}
+use Rattle.core_model.specs.Events as core
+use Rattle.core_model.specs.Events.{standing_after}
+use Rattle.core_model.specs.Replies.{after_any}
+use Rattle.core_model.specs.Served.{HasServed, records_by}
+use Rattle.core_model.proofs.ReplyLaws.{served_allowed}
+use Rattle.core_parts.specs.View.{Answers}
+use Rattle.sector_device.specs.DevicePast.{DevicePast, LeavesOnly}
 use Rattle.sector_device.proofs.Moments.{started}
 use Rattle.store_writer.specs.Parts.{device_of}
 use Rattle.restart.specs.declared.event.Event.{Event}
@@ -44,15 +44,15 @@ of_kind (event.Get rid) r e told p q = λ none. cc
 of_kind (event.Find key) r e told p q = λ none. cc
 of_kind event.Life r e told p q = λ none. cc
 
-module _ {D M : Type 0} (history : D → History) (x : Event) (e : core.Event) (r : Reply M) (old new : Parts D M) (asks : asked x ≡ Some e)
-    (in_core : ServesInCore e r old new) (laws : Laws history (writer_of old)) where
-  pub can_run_then : CanRun history old → CanRun history new
+module _ {D M : Type 0} (past_of : D → DevicePast) (x : Event) (e : core.Event) (r : Reply M) (old new : Parts D M) (asks : asked x ≡ Some e)
+    (in_core : ServesInCore e r old new) (laws : Laws past_of (writer_of old)) where
+  pub can_run_then : CanRun past_of old → CanRun past_of new
   can_run_then can =
-      let is : StandsAt history can.0 can.1 can.2 can.3 old = can.4 in
+      let is : StandsAt past_of can.0 can.1 can.2 can.3 old = can.4 in
       let a : Answers (core_of old) can.2 can.3 e in_core.reply (core_of new) = in_core.serves can.2 can.3 is.shown in
-      (_, _, _, _, stands_then history can.0 can.1 can.2 can.3 old is laws new e in_core.reply a in_core.rest)
+      (_, _, _, _, stands_then past_of can.0 can.1 can.2 can.3 old is laws new e in_core.reply a in_core.rest)
 
-  module _ (quiet : (n : ℕ) → acknowledged n (r ∷ []) ≡ n) (past : Past M) (is : IsAt history past old) where
+  module _ (quiet : (n : ℕ) → acknowledged n (r ∷ []) ≡ n) (past : Past M) (is : IsAt past_of past old) where
     abbrev answer : Answers (core_of old) is.state is.standing e in_core.reply (core_of new)
     answer = in_core.serves is.state is.standing is.stands.shown
 
@@ -68,20 +68,20 @@ module _ {D M : Type 0} (history : D → History) (x : Event) (e : core.Event) (
     same_horizon : horizon_of new ≡ horizon_of old
     same_horizon = ap (λ (e : Parts D M). horizon_of e) in_core.rest
 
-    pub at_then : IsAt history (and_then past (x ∷ []) (r ∷ [])) new
-    at_then = at_next history past old new x r (of_kind x r e in_core.reply asks in_core.reply_is) is
+    pub at_then : IsAt past_of (and_then past (x ∷ []) (r ∷ [])) new
+    at_then = at_next past_of past old new x r (of_kind x r e in_core.reply asks in_core.reply_is) is
         (is.made ++ records_by is.state is.standing.made answer.step) is.handed (after_any is.state answer.step) (standing_after is.standing in_core.reply) has
-        (stands_then history (run_of past is.made) is.handed is.state is.standing old is.stands laws new e in_core.reply answer in_core.rest)
+        (stands_then past_of (run_of past is.made) is.handed is.state is.standing old is.stands laws new e in_core.reply answer in_core.rest)
         (omega (arith, quiet (acknowledged_by past), is.safe, same_horizon))
 
-    pub leaves_then : LeavesOnly (history (device_of (writer_of old))) (history (device_of (writer_of new)))
+    pub leaves_then : LeavesOnly (past_of (device_of (writer_of old))) (past_of (device_of (writer_of new)))
         (Survives (and_then past (x ∷ []) (r ∷ [])) (horizon_of old))
-    leaves_then = subst (λ w. LeavesOnly (history (device_of w)) (history (device_of (writer_of new)))
+    leaves_then = subst (λ w. LeavesOnly (past_of (device_of w)) (past_of (device_of (writer_of new)))
         (Survives (and_then past (x ∷ []) (r ∷ [])) (horizon_of old))) (ap (λ (e : Parts D M). writer_of e) in_core.rest)
-        (started (history (device_of (writer_of new))) (Survives (and_then past (x ∷ []) (r ∷ [])) (horizon_of old))
-        (λ image crash. crash_since history (and_then past (x ∷ []) (r ∷ [])) new at_then (horizon_of old) (omega (arith, same_horizon)) image crash))
+        (started (past_of (device_of (writer_of new))) (Survives (and_then past (x ∷ []) (r ∷ [])) (horizon_of old))
+        (λ image crash. crash_since past_of (and_then past (x ∷ []) (r ∷ [])) new at_then (horizon_of old) (omega (arith, same_horizon)) image crash))
 
-    pub served : IsAt history (and_then past (x ∷ []) (r ∷ [])) new
-        × LeavesOnly (history (device_of (writer_of old))) (history (device_of (writer_of new))) (Survives (and_then past (x ∷ []) (r ∷ [])) (horizon_of old))
+    pub served : IsAt past_of (and_then past (x ∷ []) (r ∷ [])) new
+        × LeavesOnly (past_of (device_of (writer_of old))) (past_of (device_of (writer_of new))) (Survives (and_then past (x ∷ []) (r ∷ [])) (horizon_of old))
         × (horizon_of old ≤ horizon_of new)
     served = (at_then, leaves_then, omega (arith, same_horizon))

@@ -1,7 +1,7 @@
 -- A request is served by the core, or is a flush.
 use Rattle.std.proofs.Common.{None, Option, Some, refl, subst, sym, ℕ, [], ◌∷◌, ◌≡◌, ◌≢◌}
-use Rattle.core_contracts.specs.Events as core
-use Rattle.sector_device.specs.History.{History}
+use Rattle.core_model.specs.Events as core
+use Rattle.sector_device.specs.DevicePast.{DevicePast}
 use Rattle.restart.specs.declared.parts.Parts.{Parts}
 use Rattle.restart.specs.declared.event.Event.{Event}
 use Rattle.restart.specs.declared.event.Event.TheVariants as event
@@ -56,20 +56,20 @@ module _ {D M : Type 0} (failures : D → ℕ) (r : Reply M) (old new : Parts D 
   lawful_in_core (event.Find key) is = is
   lawful_in_core event.Life is = is
 
-module _ {D M : Type 0} (history : D → History) (failures : D → ℕ) (x : Event) (r : Reply M) (old new : Parts D M) (in_core : IsInCore x r old new) where
+module _ {D M : Type 0} (past_of : D → DevicePast) (failures : D → ℕ) (x : Event) (r : Reply M) (old new : Parts D M) (in_core : IsInCore x r old new) where
   by_core : (o : Option core.Event) → asked x ≡ o → IsInCoreBy o r old new → (e : core.Event) × (asked x ≡ Some e) × ServesInCore e r old new
   by_core None is given = absurd given
   by_core (Some e) is given = (e, is, given)
 
-  pub served_by_core : Laws history (writer_of old) → ServesOn history x r old new
+  pub served_by_core : Laws past_of (writer_of old) → ServesOn past_of x r old new
   served_by_core laws past is = let by = by_core (asked x) refl in_core in
-      served history x by.0 r old new by.1 by.2 laws (quiet r by.2.reply by.2.reply_is) past is
+      served past_of x by.0 r old new by.1 by.2 laws (quiet r by.2.reply by.2.reply_is) past is
 
   pub answered_by_core : IsLawful failures x r old new
   answered_by_core = lawful_in_core failures r old new x in_core
 
-  pub can_run_by_core : Laws history (writer_of old) → CanRun history old → CanRun history new
-  can_run_by_core laws can = let by = by_core (asked x) refl in_core in can_run_then history x by.0 r old new by.1 by.2 laws can
+  pub can_run_by_core : Laws past_of (writer_of old) → CanRun past_of old → CanRun past_of new
+  can_run_by_core laws can = let by = by_core (asked x) refl in_core in can_run_then past_of x by.0 r old new by.1 by.2 laws can
 
 -- a request that the core answers nothing to, and that is no copy, is a flush
 pub is_flush : (x : Event) → asked x ≡ None → x ≢ event.Copy → x ≡ event.Flush
@@ -93,8 +93,8 @@ is_flush event.Life none other = absurd cc
 
 -- what is answered to a request, where it is known which one it is
 module _ {D M : Type 0} (x y : Event) (r : Reply M) (old mid new : Parts D M) (is : x ≡ y) (same : mid ≡ old) where
-  pub serves_as : (history : D → History) → ServesOn history y r mid new → ServesOn history x r old new
-  serves_as history serves = subst (λ e. ServesOn history e r old new) (sym is) (subst (λ e. ServesOn history y r e new) same serves)
+  pub serves_as : (past_of : D → DevicePast) → ServesOn past_of y r mid new → ServesOn past_of x r old new
+  serves_as past_of serves = subst (λ e. ServesOn past_of e r old new) (sym is) (subst (λ e. ServesOn past_of y r e new) same serves)
 
   pub lawful_as : (failures : D → ℕ) → IsLawful failures y r mid new → IsLawful failures x r old new
   lawful_as failures lawful = subst (λ e. IsLawful failures e r old new) (sym is) (subst (λ e. IsLawful failures y r e new) same lawful)

@@ -5,11 +5,11 @@ use Rattle.std.proofs.lemmas.List.{nil_from_length, take_all}
 use Rattle.std.specs.FinMap as map
 use Rattle.std.specs.Ordering.{nat_cmp}
 use Rattle.records.specs.ChangeValue.{ChangeValue}
-use Rattle.records.specs.GeometryValue.{GeometryValue}
+use Rattle.record_values.specs.GeometryValue.{GeometryValue}
 use Rattle.records.specs.RecordValue.{RecordValue}
-use Rattle.records.specs.declared.error.Error.{Error}
-use Rattle.records.specs.declared.error.Error.TheVariants.{IndexFull, NoMemory}
-use Rattle.records.specs.declared.number.TheConstants.{LAST_NUMBER}
+use Rattle.record_values.specs.declared.error.Error.{Error}
+use Rattle.record_values.specs.declared.error.Error.TheVariants.{IndexFull, NoMemory}
+use Rattle.record_values.specs.declared.number.TheConstants.{LAST_NUMBER}
 use Rattle.model.specs.Cells.{Cells, cells_after, list_of}
 use Rattle.model.specs.Following.{ArePlaced}
 use Rattle.model.specs.Given.{Given, IsBeginning, opening_cells, recovered}
@@ -18,9 +18,9 @@ use Rattle.model.specs.Redo.{cells_of}
 use Rattle.model.specs.declared.cell_maps.CellMaps.{CellMaps}
 use Rattle.model.specs.Table.{Index, Table}
 use Rattle.model.proofs.GivenLaws.{given_again}
-use Rattle.core_contracts.specs.Events as core
-use Rattle.core_contracts.specs.Events.{Standing, standing_at}
-use Rattle.core_contracts.specs.Served as told
+use Rattle.core_model.specs.Events as core
+use Rattle.core_model.specs.Events.{Standing, standing_at}
+use Rattle.core_model.specs.Served as told
 use Rattle.core_copies.specs.Lists.{HasLists}
 use Rattle.core_copies.specs.Pieces.{IsWholeOf}
 use Rattle.core_copies.specs.Shown.{IsCellsOf, list_shown}
@@ -29,14 +29,14 @@ use Rattle.core_model.specs.Histories.{Opened, no_writes, opened}
 use Rattle.core_model.specs.Records.{HasCells}
 use Rattle.core_model.specs.States.{State}
 use Rattle.flip_image.specs.Layout.{other}
-use Rattle.image_model.specs.declared.chunk.Piece.{Piece}
-use Rattle.image_model.specs.declared.chunk.Piece.TheVariants.{Entries, Page, Start, Whole}
-use Rattle.image_model.specs.Run.{Run, cells_at, end_of, records_between}
+use Rattle.store_image_model.specs.declared.chunk.Piece.{Piece}
+use Rattle.store_image_model.specs.declared.chunk.Piece.TheVariants.{Entries, Page, Start, Whole}
+use Rattle.store_image_model.specs.Run.{Run, cells_at, end_of, records_between}
 use Rattle.nsf_core.specs.Loading.{IsQuiet}
-use Rattle.nsf_core.specs.Opening.{opened_of}
-use Rattle.nsf_core.specs.View.{CoreValue, IsState}
-use Rattle.sector_device.specs.Disk.{Image, IsCrashImage}
-use Rattle.sector_device.specs.History.{History}
+use Rattle.core_parts.specs.Opening.{opened_of}
+use Rattle.core_parts.specs.View.{CoreValue, IsState}
+use Rattle.sector_device.specs.Disk.{CrashState, IsCrashState}
+use Rattle.sector_device.specs.DevicePast.{DevicePast}
 use Rattle.sector_device.proofs.Moments.{weaker}
 use Rattle.store_reader.specs.Contents.{Gives}
 use Rattle.store_writer.specs.Contents.{HalfHas, LeftBy, StoreHas}
@@ -62,9 +62,9 @@ use Rattle.restart.proofs.Told.{pairs_last}
 
 -- ---- an image under way is given up
 
-module _ {D M : Type 0} (history : D → History) (engine : Parts D M) where
-  stands_giving_up : (run : Run) (handed : ℕ) (s : State) (k : Standing) → StandsAt history run handed s k engine
-      → StandsAt history run handed s k (giving_up engine)
+module _ {D M : Type 0} (past_of : D → DevicePast) (engine : Parts D M) where
+  stands_giving_up : (run : Run) (handed : ℕ) (s : State) (k : Standing) → StandsAt past_of run handed s k engine
+      → StandsAt past_of run handed s k (giving_up engine)
   stands_giving_up run handed s k is = record {
     writer = is.writer;
     rest = is.rest;
@@ -79,10 +79,10 @@ module _ {D M : Type 0} (history : D → History) (engine : Parts D M) where
     carried = is.carried;
   }
 
-  pub can_give_up : CanRun history engine → CanRun history (giving_up engine)
+  pub can_give_up : CanRun past_of engine → CanRun past_of (giving_up engine)
   can_give_up can = (can.0, can.1, can.2, can.3, stands_giving_up can.0 can.1 can.2 can.3 can.4)
 
-  at_giving_up : (past : Past M) → IsAt history past engine → IsAt history past (giving_up engine)
+  at_giving_up : (past : Past M) → IsAt past_of past engine → IsAt past_of past (giving_up engine)
   at_giving_up past is = record {
     answered = is.answered;
     kinds = is.kinds;
@@ -96,7 +96,7 @@ module _ {D M : Type 0} (history : D → History) (engine : Parts D M) where
     safe = is.safe;
   }
 
-  pub serves_anew : (r : Reply M) (new : Parts D M) → ServesOn history Copy r (giving_up engine) new → ServesOn history Copy r engine new
+  pub serves_anew : (r : Reply M) (new : Parts D M) → ServesOn past_of Copy r (giving_up engine) new → ServesOn past_of Copy r engine new
   serves_anew r new serves past is = serves past (at_giving_up past is)
 
 -- such a copy takes the whole image, or is refused
@@ -129,7 +129,7 @@ module _ {M : Type 0} (past : Past M) (r : Reply M) (even : length past.replies 
   no_call_more : core_calls (past.events ++ Copy ∷ []) (past.replies ++ r ∷ []) ≡ core_calls past.events past.replies
   no_call_more = pairs_last past.events past.replies Copy r even ∙ append-nil (core_calls past.events past.replies)
 
-  pub survives_without : (floor : ℕ) (image : Image) → Survives (and_then past (Copy ∷ []) (r ∷ [])) floor image → Survives past floor image
+  pub survives_without : (floor : ℕ) (image : CrashState) → Survives (and_then past (Copy ∷ []) (r ∷ [])) floor image → Survives past floor image
   survives_without floor image left = record {
     given = left.given;
     gives = left.gives;
@@ -190,11 +190,11 @@ given_held x = ap (recovered (opening_cells x)) (let more : x.last ≡ x.last + 
 
 -- ---- a core made anew
 
-module _ {D M : Type 0} (history : D → History) (engine : Parts D M) (can : CanRun history engine) where
+module _ {D M : Type 0} (past_of : D → DevicePast) (engine : Parts D M) (can : CanRun past_of engine) where
   abbrev v : CoreValue
   v = core_of engine
 
-  stands : StandsAt history can.0 can.1 can.2 can.3 engine
+  stands : StandsAt past_of can.0 can.1 can.2 can.3 engine
   stands = can.4
 
   pages_are : (can.2).pages ≡ engine.geometry.pages
@@ -250,7 +250,7 @@ module _ {D M : Type 0} (history : D → History) (engine : Parts D M) (can : Ca
     held = (opened_of v).given
 
     all_made : end_of run ≤ can.1
-    all_made = all_handed history run can.1 can.2 can.3 engine stands (second_none (writer.waiting_of w) (unhanded engine) all)
+    all_made = all_handed past_of run can.1 can.2 can.3 engine stands (second_none (writer.waiting_of w) (unhanded engine) all)
 
     all_synced : can.1 ≤ horizon_of engine
     all_synced = omega (
@@ -293,10 +293,10 @@ module _ {D M : Type 0} (history : D → History) (engine : Parts D M) (can : Ca
     none_listed : (txn : ℕ) → list_of (opening_cells held).pending txn ≡ []
     none_listed txn = ap (λ (list : Option (List ChangeValue)). unwrap_or list []) (map.get-empty nat_cmp txn)
 
-    number_is : (image : Image) (left : LeftBy run (horizon_of engine) can.1 image) → left.number ≡ end_of run
+    number_is : (image : CrashState) (left : LeftBy run (horizon_of engine) can.1 image) → left.number ≡ end_of run
     number_is image left = omega (arith, left.least, left.most, all_made, all_synced, stands.writer.made)
 
-    left_there : (image : Image) → LeftBy run (horizon_of engine) can.1 image → LeftBy (begun run.geometry) (horizon_of engine) v.last image
+    left_there : (image : CrashState) → LeftBy run (horizon_of engine) can.1 image → LeftBy (begun run.geometry) (horizon_of engine) v.last image
     left_there image left =
         let here = cells_there left.number (number_is image left) in
         record {
@@ -308,21 +308,21 @@ module _ {D M : Type 0} (history : D → History) (engine : Parts D M) (can : Ca
               → Gives image run.geometry (recovered cells left.number)) here left.gives;
         }
 
-    stands_there : writer.has_failed w ≡ false → StandsFor history (begun run.geometry) w
+    stands_there : writer.has_failed w ≡ false → StandsFor past_of (begun run.geometry) w
     stands_there works =
         let now = stands.writer.holds works in
         record {
           store = now.store;
-          has = subst (HalfHas run.geometry w.halves.current (history w.device).disk.content w.synced) (cells_there w.synced (synced_is ∙ last_is)) now.has;
+          has = subst (HalfHas run.geometry w.halves.current (past_of w.device).disk.content w.synced) (cells_there w.synced (synced_is ∙ last_is)) now.has;
           area-is = now.area-is;
           groups = now.groups;
           stands = now.stands;
           loose = now.loose;
-          image = subst (λ (i : Option NewImage). IfSome i (IsUnderway (begun run.geometry) (other w.halves.current) (history w.device).disk.content w.synced))
+          image = subst (λ (i : Option NewImage). IfSome i (IsUnderway (begun run.geometry) (other w.halves.current) (past_of w.device).disk.content w.synced))
               (sym none) tt;
         }
 
-    writes : IsWriter history (begun run.geometry) v.last w
+    writes : IsWriter past_of (begun run.geometry) v.last w
     writes = record {
       run-is = record { following = tt; placed = λ txn. subst (λ (list : List ChangeValue). ArePlaced run.geometry.pages 0 list) (sym (none_listed txn)) tt };
       geometry-is = stands.writer.geometry-is;
@@ -337,7 +337,7 @@ module _ {D M : Type 0} (history : D → History) (engine : Parts D M) (can : Ca
       images = λ image crash. left_there image (stands.writer.images image crash);
     }
 
-    given_there : (image : Image) → IsCrashImage (history (device_of engine)).disk image → Gives image run.geometry held
+    given_there : (image : CrashState) → IsCrashState (past_of (device_of engine)).disk image → Gives image run.geometry held
     given_there image crash =
         let left = stands.writer.images image crash in
         let is = number_is image left in
@@ -347,9 +347,9 @@ module _ {D M : Type 0} (history : D → History) (engine : Parts D M) (can : Ca
         omega (arith, ap (λ (x : Given). map.len x.entries) same, held_fits, ap (λ (g : GeometryValue). g.entries) stands.geometry) in
         subst (Gives image run.geometry) same (left.gives room)
 
-    pub settled : IsSettled history (opened_of v) w
+    pub settled : IsSettled past_of (opened_of v) w
     settled = record {
-      writer = subst (λ (g : GeometryValue). IsWriter history (begun g) v.last w) (sym stands.writer.geometry-is) writes;
+      writer = subst (λ (g : GeometryValue). IsWriter past_of (begun g) v.last w) (sym stands.writer.geometry-is) writes;
       gives = λ image crash. subst (λ (g : GeometryValue). Gives image g held) (sym stands.writer.geometry-is) (given_there image crash);
       pages = ap (λ (g : GeometryValue). g.pages) stands.writer.geometry-is ∙ stands.pages ∙ stands.shown.shown.pages;
       places = ap (λ (g : GeometryValue). g.entries) stands.writer.geometry-is ∙ stands.places ∙ stands.shown.shown.places;
@@ -361,22 +361,22 @@ module _ {D M : Type 0} (history : D → History) (engine : Parts D M) (can : Ca
     }
 
 -- a copy that was answered so leaves the writer with everything
-pub written_whole : {D M : Type 0} (history : D → History) (failures : D → ℕ) (r : Reply M) (n : ℕ) (old new : Parts D M) → r ≡ reply.Flipped n
-    → CopiesAnew history failures r old new → CanRun history new → IsQuiet (core_of old) → IsSound (core_of old).txns
+pub written_whole : {D M : Type 0} (past_of : D → DevicePast) (failures : D → ℕ) (r : Reply M) (n : ℕ) (old new : Parts D M) → r ≡ reply.Flipped n
+    → CopiesAnew past_of failures r old new → CanRun past_of new → IsQuiet (core_of old) → IsSound (core_of old).txns
     → ((v : CoreValue) (s : State) (k : Standing) (cells : Cells) → IsSound v.txns → IsState v s k → HasCells s cells → HasLists s cells → IsCellsOf v cells)
     → ((v : CoreValue) (a b : Cells) → IsCellsOf v a → IsCellsOf v b → a ≡ b)
-    → WritesWhole history failures old (writer_of new)
-written_whole history failures r n old new is told can quiet txns shown one =
-    let copies : CopiesAnew history failures (reply.Flipped n) old new = subst (λ (x : Reply _). CopiesAnew history failures x old new) is told in
+    → WritesWhole past_of failures old (writer_of new)
+written_whole past_of failures r n old new is told can quiet txns shown one =
+    let copies : CopiesAnew past_of failures (reply.Flipped n) old new = subst (λ (x : Reply _). CopiesAnew past_of failures x old new) is told in
     let well = copies.answer.0 in
     let current = copies.answer.2 in
     let core_is : core_of new ≡ record (core_of old) { outbox = (core_of new).outbox } = well.keeps.core in
     record {
-      settled = subst (λ (o : Opened). IsSettled history o (writer_of new)) (ap opened_of core_is)
-          (settled history new can (ap (λ (v : CoreValue). v.txns.active) core_is ∙ quiet) (current.all refl) well.sound (current.emptied refl) current.none
+      settled = subst (λ (o : Opened). IsSettled past_of o (writer_of new)) (ap opened_of core_is)
+          (settled past_of new can (ap (λ (v : CoreValue). v.txns.active) core_is ∙ quiet) (current.all refl) well.sound (current.emptied refl) current.none
           (subst IsSound (sym (ap (λ (v : CoreValue). v.txns) core_is)) txns) shown one);
       quiet = well.quiet;
-      survives = λ past is. weaker (history (device_of old)) (history (device_of new)) _ (Survives past (horizon_of old))
+      survives = λ past is. weaker (past_of (device_of old)) (past_of (device_of new)) _ (Survives past (horizon_of old))
           (survives_without past (reply.Flipped n) is.answered (horizon_of old)) (copies.runs past is).1;
       around = copies.around;
     }

@@ -1,12 +1,12 @@
 -- No step changes how large the store is.
 use Rattle.std.proofs.Common.{◌≡◌, ℕ, Bool, true, false, Option, None, Some, refl}
 use Rattle.records.specs.ChangeValue.{ChangeValue}
-use Rattle.records.specs.declared.pair.Pair.{Pair}
+use Rattle.record_values.specs.declared.pair.Pair.{Pair}
 use Rattle.core_model.specs.Changes.{Changes, Unchanged, new_pair, old_pair, ◌▹◌}
 use Rattle.core_model.specs.States.{Active, Made, NewMarked, OldMarked, OldSet, Phase, RowSet, State}
 use Rattle.core_model.specs.Steps.{Attempt, Begin, Checkpoint, Clean, Commit, Create, Drop, End, Finish, Keep, MachineStep, Next, Start, Take, Undo, Wrap}
 use Rattle.core_model.specs.Steps.{after, carried_on, is_indexed, started, txn_at, undone, undone_first}
-use Rattle.core_contracts.specs.Replies.{after_any}
+use Rattle.core_model.specs.Replies.{after_any}
 
 -- of the same pages, with as many places for entries
 pub record AreOfOneSize (s new : State) : Type 0 where

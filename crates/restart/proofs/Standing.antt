@@ -4,7 +4,7 @@ use Rattle.std.proofs.Common.{length-append}
 use Rattle.std.specs.FinMap.{len}
 use Rattle.records.specs.RecordValue.{RecordValue}
 use Rattle.records.specs.declared.record.Action.{Action}
-use Rattle.records.specs.declared.txn.TheConstants.{TXNS_MAX}
+use Rattle.record_values.specs.declared.txn.TheConstants.{TXNS_MAX}
 use Rattle.model.specs.Cells.{Cells, cells_after}
 use Rattle.model.proofs.CellsLaws.{cells_after-append}
 use Rattle.core_model.specs.Invariants.{IsWellFormed}
@@ -13,34 +13,35 @@ use Rattle.core_model.specs.Records.{action_of, set_by_any}
 use Rattle.core_copies.specs.Lists.{HasLists}
 use Rattle.core_model.specs.States.{State}
 use Rattle.core_model.specs.Steps.{IsEnabled, MachineStep, after}
-use Rattle.core_contracts.specs.Events as core
-use Rattle.core_contracts.specs.Events.{Standing, standing_after}
-use Rattle.core_contracts.specs.Replies.{after_any}
-use Rattle.core_contracts.specs.Served.{IsEnabledAny, IsMove, number_after, records_by}
-use Rattle.core_contracts.proofs.Laws.{is_move}
-use Rattle.image_model.specs.Run.{IsRun, Run}
-use Rattle.nsf_core.specs.View.{Answers}
+use Rattle.core_model.specs.Events as core
+use Rattle.core_model.specs.Events.{Standing, standing_after}
+use Rattle.core_model.specs.Replies.{after_any}
+use Rattle.core_model.specs.Served.{IsEnabledAny, IsMove, number_after, records_by}
+use Rattle.core_model.proofs.ReplyLaws.{is_move}
+use Rattle.store_image_model.specs.Run.{IsRun, Run}
+use Rattle.core_parts.specs.View.{Answers}
 use Rattle.nsf_core.proofs.Offered.{stands}
-use Rattle.sector_device.specs.History.{History}
+use Rattle.sector_device.specs.DevicePast.{DevicePast}
+use Rattle.store_writer.specs.Copying.{IsCopying}
 use Rattle.store_writer.specs.Writer.{IsWriter, longer}
 use Rattle.store_writer.specs.declared.writer.Writer.{Writer}
 use Rattle.restart.specs.declared.parts.Parts.{Parts}
 use Rattle.restart.specs.Parts.{core_of, has_failed, unhanded, writer_of}
 use Rattle.store_writer.specs.Parts.{image_of}
-use Rattle.restart.specs.Copies.{IsCopying, IsHalfOpen}
+use Rattle.restart.specs.Copies.{IsHalfOpen}
 use Rattle.restart.specs.Store.{StandsAt}
 use Rattle.restart.proofs.Numbers.{with_more}
 use Rattle.restart.proofs.Sizes.{of_one_size}
 
 -- what the layers below say of a step: its record can follow the log, and a writer stands as before where more is made
-pub record Laws {D M : Type 0} (history : D → History) (w : Writer D M) : Type 0 where
+pub record Laws {D M : Type 0} (past_of : D → DevicePast) (w : Writer D M) : Type 0 where
   pub half : (base : ℕ) (cells : Cells) (log : List RecordValue) (s : State) → IsWellFormed s → IsLogOf s.pages base cells log s → (e : MachineStep)
       → IsEnabled s e → len s.pledges ≤ TXNS_MAX
       → IsLogOf s.pages base cells (log ++ one_record (base + length log) (action_of s e)) (after s e)
   pub lists : (s : State) (e : MachineStep) (cells : Cells) → IsWellFormed s → IsEnabled s e → HasLists s cells
       → HasLists (after s e) (set_by_any cells (action_of s e))
-  pub goes : (run : Run) (handed : ℕ) (more : List RecordValue) → IsWriter history run handed w → IsRun (longer run more)
-      → IsWriter history (longer run more) handed w
+  pub goes : (run : Run) (handed : ℕ) (more : List RecordValue) → IsWriter past_of run handed w → IsRun (longer run more)
+      → IsWriter past_of (longer run more) handed w
 
 -- the cells after a step's record, if it makes one
 cells_one : (cells : Cells) (log : List RecordValue) (last : ℕ) (action : Option Action)
@@ -56,8 +57,9 @@ count_any : (s : State) (last : ℕ) (step : Option MachineStep) → number_afte
 count_any s last None = omega arith
 count_any s last (Some e) = count_one last (action_of s e)
 
-module _ {D M : Type 0} (history : D → History) (run : Run) (handed : ℕ) (s : State) (k : Standing) (old : Parts D M) (is : StandsAt history run handed s k old)
-    (laws : Laws history (writer_of old)) where
+module _ {D M : Type 0} (past_of : D → DevicePast) (run : Run) (handed : ℕ) (s : State) (k : Standing) (old : Parts D M)
+    (is : StandsAt past_of run handed s k old)
+    (laws : Laws past_of (writer_of old)) where
   log_any : (step : Option MachineStep) → IsEnabledAny s step
       → IsLogOf run.geometry.pages run.last run.cells (run.records ++ records_by s k.made step) (after_any s step)
   log_any None enabled = subst (λ (l : List RecordValue). IsLogOf run.geometry.pages run.last run.cells l s) (sym (append-nil run.records)) is.log
@@ -83,8 +85,8 @@ module _ {D M : Type 0} (history : D → History) (run : Run) (handed : ℕ) (s 
     log_then : IsLogOf run.geometry.pages run.last run.cells (run.records ++ more) (after_any s a.step)
     log_then = log_any a.step move.enabled
 
-    writer_then : IsWriter history (longer run more) handed (writer_of new)
-    writer_then = subst (IsWriter history (longer run more) handed) (sym (ap (λ (e : Parts D M). writer_of e) rest))
+    writer_then : IsWriter past_of (longer run more) handed (writer_of new)
+    writer_then = subst (IsWriter past_of (longer run more) handed) (sym (ap (λ (e : Parts D M). writer_of e) rest))
         (laws.goes run handed more is.writer (record { following = log_then.in_order; placed = is.writer.run-is.placed }))
 
     outbox_then : unhanded new ≡ unhanded old ++ more
@@ -92,7 +94,7 @@ module _ {D M : Type 0} (history : D → History) (run : Run) (handed : ℕ) (s 
         ap (λ (e : Parts D M). e.outgoing.items ++ (core_of new).outbox) rest ∙ ap (λ (l : List RecordValue). old.outgoing.items ++ l) a.outbox
         ∙ sym (append_assoc old.outgoing.items (core_of old).outbox (records_by s k.made a.step))
 
-    pub stands_then : StandsAt history (longer run (records_by s k.made a.step)) handed (after_any s a.step) (standing_after k reply) new
+    pub stands_then : StandsAt past_of (longer run (records_by s k.made a.step)) handed (after_any s a.step) (standing_after k reply) new
     stands_then = record {
       writer = writer_then;
       rest = with_more run (records_by s k.made a.step) handed (omega (arith, is.writer.opened, is.writer.reached)) is.writer.made

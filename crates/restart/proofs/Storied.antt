@@ -2,19 +2,19 @@
 use Rattle.std.proofs.Common.{◌≡◌, ⊎_elim, ℕ, ◌≤◌, List, [], ◌∷◌, ◌++◌, None, Some, refl, sym, ap, subst, ◌∙◌, arith}
 use Rattle.std.proofs.lemmas.Bool.{le-leb, lt-leb, cases_lt}
 use Rattle.std.specs.FinMap as map
-use Rattle.records.specs.GeometryValue.{GeometryValue}
-use Rattle.records.specs.Orders.{pair_cmp}
-use Rattle.records.specs.declared.error.Error.{Error}
-use Rattle.records.specs.declared.pair.Mark.TheVariants.{Live}
-use Rattle.records.specs.declared.pair.Pair.{Pair}
+use Rattle.record_values.specs.GeometryValue.{GeometryValue}
+use Rattle.record_values.specs.Orders.{pair_cmp}
+use Rattle.record_values.specs.declared.error.Error.{Error}
+use Rattle.record_values.specs.declared.pair.Mark.TheVariants.{Live}
+use Rattle.record_values.specs.declared.pair.Pair.{Pair}
 use Rattle.model.specs.Given.{Given, nothing}
 use Rattle.model.specs.History.{Item, life_after, table_after, up_to}
 use Rattle.model.specs.Table.{Table}
 use Rattle.model.specs.declared.life.Life.{Life}
 use Rattle.model.proofs.HistoryLaws.{life_after-append, table_after-append, up_to-append}
 use Rattle.core_model.specs.Histories.{CanOpen}
-use Rattle.sector_device.specs.Disk.{Image, IsSynced}
-use Rattle.sector_device.specs.History.{History, LeavesOnly}
+use Rattle.sector_device.specs.Disk.{CrashState, IsSynced}
+use Rattle.sector_device.specs.DevicePast.{DevicePast, LeavesOnly}
 use Rattle.sector_device.proofs.Moments.{at_end, weaker}
 use Rattle.sector_device.proofs.Sectors.{content_is_image, crash_synced}
 use Rattle.gate_log.specs.Area.{Refuses}
@@ -47,7 +47,7 @@ up_to_both low high items more le = up_to-append high (up_to low items) more ∙
 
 -- ---- a device that was just formatted
 
-pub begins_untold : (g : GeometryValue) → CanOpen (over g nothing) → (image : Image) → Gives image g nothing → GivesStory (untold g) image
+pub begins_untold : (g : GeometryValue) → CanOpen (over g nothing) → (image : CrashState) → Gives image g nothing → GivesStory (untold g) image
 begins_untold g can image gives = record {
   given = nothing;
   gives = gives;
@@ -63,7 +63,8 @@ begins_untold g can image gives = record {
 
 -- ---- a device to which a store was moved
 
-pub begins_so : (g : GeometryValue) (given : Given) → CanOpen (over g given) → (image : Image) → Gives image g given → GivesStory (begun_with g given) image
+pub begins_so : (g : GeometryValue) (given : Given) → CanOpen (over g given) → (image : CrashState) → Gives image g given
+    → GivesStory (begun_with g given) image
 begins_so g given can image gives = record {
   given = given;
   gives = gives;
@@ -73,60 +74,60 @@ begins_so g given can image gives = record {
 
 -- ---- a device whose power fails
 
-pub kept_synced : {D : Type 0} (history : D → History) (story : Story) (device : D) → IsSynced (history device).disk
-    → GivesStory story (history device).disk.content → KeepsStory history story device
-kept_synced history story device all gives image crash = subst (GivesStory story) (sym (crash_synced (history device).disk image all crash)) gives
+pub kept_synced : {D : Type 0} (past_of : D → DevicePast) (story : Story) (device : D) → IsSynced (past_of device).disk
+    → GivesStory story (past_of device).disk.content → KeepsStory past_of story device
+kept_synced past_of story device all gives image crash = subst (GivesStory story) (sym (crash_synced (past_of device).disk image all crash)) gives
 
 -- ---- a restart
 
 -- an image gives one thing at most
 pub record OneAnswer : Type 0 where
-  pub geometry : (image : Image) (g h : GeometryValue) (x y : Given) → Gives image g x → Gives image h y → g ≡ h
-  pub given : (image : Image) (g h : GeometryValue) (x y : Given) → Gives image g x → Gives image h y → x ≡ y
+  pub geometry : (image : CrashState) (g h : GeometryValue) (x y : Given) → Gives image g x → Gives image h y → g ≡ h
+  pub given : (image : CrashState) (g h : GeometryValue) (x y : Given) → Gives image g x → Gives image h y → x ≡ y
 
-module _ {D : Type 0} (history : D → History) (story : Story) (before : D) (kept : KeepsStory history story before) where
+module _ {D : Type 0} (past_of : D → DevicePast) (story : Story) (before : D) (kept : KeepsStory past_of story before) where
   -- what the device gives now
-  pub now_gives : GivesStory story (history before).disk.content
-  now_gives = kept (history before).disk.content (content_is_image (history before).disk (history before).whole)
+  pub now_gives : GivesStory story (past_of before).disk.content
+  now_gives = kept (past_of before).disk.content (content_is_image (past_of before).disk (past_of before).whole)
 
-  module _ (back : (old image : Image) → IsWrittenBack old image → (g : GeometryValue) (given : Given) → Gives old g given
-      → Gives image g given) (after : D) (turned : IsTurned history before after) where
-    each_left : (image : Image) → ReopeningLeaves (history before).disk image → GivesStory story image
+  module _ (back : (old image : CrashState) → IsWrittenBack old image → (g : GeometryValue) (given : Given) → Gives old g given
+      → Gives image g given) (after : D) (turned : IsTurned past_of before after) where
+    each_left : (image : CrashState) → ReopeningLeaves (past_of before).disk image → GivesStory story image
     each_left image = ⊎_elim
         (λ crash. kept image crash)
         (λ written. record {
           given = now_gives.given;
-          gives = back (history before).disk.content image written story.geometry now_gives.given now_gives.gives;
+          gives = back (past_of before).disk.content image written story.geometry now_gives.given now_gives.gives;
           left = now_gives.left;
           opens = now_gives.opens;
         })
 
-    pub kept_between : LeavesOnly (history before) (history after) (GivesStory story)
-    kept_between = weaker (history before) (history after) (ReopeningLeaves (history before).disk) (GivesStory story) each_left turned.images
+    pub kept_between : LeavesOnly (past_of before) (past_of after) (GivesStory story)
+    kept_between = weaker (past_of before) (past_of after) (ReopeningLeaves (past_of before).disk) (GivesStory story) each_left turned.images
 
-    pub kept_behind : KeepsStory history story after
-    kept_behind = at_end (history before) (history after) (GivesStory story) kept_between
+    pub kept_behind : KeepsStory past_of story after
+    kept_behind = at_end (past_of before) (past_of after) (GivesStory story) kept_between
 
   pub refused_well : (failures : D → ℕ) (after : D) (e : Error)
-      → ((image : Image) (g : GeometryValue) (given : Given) (e : Error) → Gives image g given → ¬ IsUnreadable image e)
-      → IsNotOpened history failures before after e → Refuses (failures before) (failures after) e
+      → ((image : CrashState) (g : GeometryValue) (given : Given) (e : Error) → Gives image g given → ¬ IsUnreadable image e)
+      → IsNotOpened past_of failures before after e → Refuses (failures before) (failures after) e
   refused_well failures after e readable not = ⊎_elim (λ refuses. refuses) (λ unreadable.
-      absurd (readable (history before).disk.content story.geometry now_gives.given e now_gives.gives unreadable)) not.why
+      absurd (readable (past_of before).disk.content story.geometry now_gives.given e now_gives.gives unreadable)) not.why
 
-  pub begins_over : {M : Type 0} (engine : Parts D M) → OneAnswer → IsOpened history before engine → BeginsOver history story engine
+  pub begins_over : {M : Type 0} (engine : Parts D M) → OneAnswer → IsOpened past_of before engine → BeginsOver past_of story engine
   begins_over engine one is = record {
     given = now_gives.given;
     left = now_gives.left;
-    at = subst (λ (x : Given). IsAt history (opening story.geometry x) engine) same
-        (subst (λ (x : GeometryValue). IsAt history (opening x is.given) engine) size (is.begins can));
+    at = subst (λ (x : Given). IsAt past_of (opening story.geometry x) engine) same
+        (subst (λ (x : GeometryValue). IsAt past_of (opening x is.given) engine) size (is.begins can));
     come = is.come can;
   }
     where
       size : is.geometry ≡ story.geometry
-      size = one.geometry (history before).disk.content is.geometry story.geometry is.given now_gives.given is.gives now_gives.gives
+      size = one.geometry (past_of before).disk.content is.geometry story.geometry is.given now_gives.given is.gives now_gives.gives
 
       same : is.given ≡ now_gives.given
-      same = one.given (history before).disk.content is.geometry story.geometry is.given now_gives.given is.gives now_gives.gives
+      same = one.given (past_of before).disk.content is.geometry story.geometry is.given now_gives.given is.gives now_gives.gives
 
       can : CanOpen (over is.geometry is.given)
       can = subst (λ (x : GeometryValue). CanOpen (over x is.given)) (sym size)
@@ -134,7 +135,7 @@ module _ {D : Type 0} (history : D → History) (story : Story) (before : D) (ke
 
 -- ---- a run
 
-module _ {M : Type 0} (story : Story) (past : Past M) (floor : ℕ) (image : Image) (size : past.geometry ≡ story.geometry) (is : IsLeftOf story past.given)
+module _ {M : Type 0} (story : Story) (past : Past M) (floor : ℕ) (image : CrashState) (size : past.geometry ≡ story.geometry) (is : IsLeftOf story past.given)
     (low : past.given.last ≤ floor) (left : Survives past floor image) where
   both : up_to left.given.last (up_to past.given.last story.items ++ items_told past) ≡ up_to past.given.last story.items
       ++ up_to left.given.last (items_told past)
@@ -164,8 +165,8 @@ module _ {M : Type 0} (story : Story) (past : Past M) (floor : ℕ) (image : Ima
 
 -- ---- the core of an engine that a run left
 
-pub come_by : {D M : Type 0} (history : D → History) (past : Past M) (engine : Parts D M) → IsAt history past engine → HasCome (core_of engine)
-come_by history past engine is = record {
+pub come_by : {D M : Type 0} (past_of : D → DevicePast) (past : Past M) (engine : Parts D M) → IsAt past_of past engine → HasCome (core_of engine)
+come_by past_of past engine is = record {
   opening = over past.geometry past.given;
   opens = is.opens;
   made = is.made;

@@ -7,13 +7,13 @@ use Rattle.model.specs.Given.{Given, IsBeginning, given_after, recovered}
 use Rattle.model.proofs.GivenLaws.{lower_floor}
 use Rattle.core_model.specs.Histories.{CanOpen, opened}
 use Rattle.core_model.specs.States.{State}
-use Rattle.core_contracts.specs.Events as core
-use Rattle.core_contracts.specs.Events.{Standing, standing_at}
-use Rattle.core_contracts.specs.Served.{HasServed}
-use Rattle.core_contracts.proofs.Laws.{served_recovers}
-use Rattle.image_model.specs.Run.{cells_at, end_of, records_to}
-use Rattle.sector_device.specs.Disk.{Image, IsCrashImage}
-use Rattle.sector_device.specs.History.{History}
+use Rattle.core_model.specs.Events as core
+use Rattle.core_model.specs.Events.{Standing, standing_at}
+use Rattle.core_model.specs.Served.{HasServed}
+use Rattle.core_model.proofs.ReplyLaws.{served_recovers}
+use Rattle.store_image_model.specs.Run.{cells_at, end_of, records_to}
+use Rattle.sector_device.specs.Disk.{CrashState, IsCrashState}
+use Rattle.sector_device.specs.DevicePast.{DevicePast}
 use Rattle.store_writer.specs.Contents.{LeftBy}
 use Rattle.store_writer.specs.Parts.{device_of}
 use Rattle.restart.specs.declared.event.Event.{Event}
@@ -52,7 +52,7 @@ module _ {M : Type 0} (past : Past M) (made : List RecordValue) (s : State) (k :
         (stands_over (opened (over past.geometry past.given)) (standing_at past.given.last) (core_calls past.events past.replies) s k has.served) in
         omega (arith, high, told, has.number)
 
-  pub survives : (handed n floor : ℕ) (image : Image) → handed ≤ end_of (run_of past made) → past.given.last ≤ n → floor ≤ n
+  pub survives : (handed n floor : ℕ) (image : CrashState) → handed ≤ end_of (run_of past made) → past.given.last ≤ n → floor ≤ n
       → LeftBy (run_of past made) n handed image → Survives past floor image
   survives handed n floor image within low reached left = record {
     given = recovered (cells_at (run_of past made) left.number) left.number;
@@ -74,8 +74,8 @@ module _ {M : Type 0} (past : Past M) (made : List RecordValue) (s : State) (k :
 
 -- ---- one request more
 
-module _ {D M : Type 0} (history : D → History) (past : Past M) (old new : Parts D M) (x : Event) (r : Reply M) (kind : IsOfKind x r)
-    (is : IsAt history past old) where
+module _ {D M : Type 0} (past_of : D → DevicePast) (past : Past M) (old new : Parts D M) (x : Event) (r : Reply M) (kind : IsOfKind x r)
+    (is : IsAt past_of past old) where
   abbrev later : Past M
   later = and_then past (x ∷ []) (r ∷ [])
 
@@ -88,7 +88,7 @@ module _ {D M : Type 0} (history : D → History) (past : Past M) (old new : Par
         (sym (pairs_last past.events past.replies x r is.answered)) has
 
     -- what a request leaves, put together
-    pub at_next : StandsAt history (run_of past made) handed s k new → acknowledged (acknowledged_by past) (r ∷ []) ≤ horizon_of new → IsAt history later new
+    pub at_next : StandsAt past_of (run_of past made) handed s k new → acknowledged (acknowledged_by past) (r ∷ []) ≤ horizon_of new → IsAt past_of later new
     at_next stands safe = record {
       answered = omega (arith, is.answered, length-append past.replies (r ∷ []), length-append past.events (x ∷ []));
       kinds = kinds_last past.events past.replies x r is.kinds kind;
@@ -103,22 +103,22 @@ module _ {D M : Type 0} (history : D → History) (past : Past M) (old new : Par
     }
 
     -- what a crash leaves while it is served, where the writer has all records up to number `handed`, and those up to `n` are synced
-    pub left_then : (n : ℕ) → past.given.last ≤ n → handed ≤ end_of (run_of past made) → (image : Image) → LeftBy (run_of past made) n handed image
+    pub left_then : (n : ℕ) → past.given.last ≤ n → handed ≤ end_of (run_of past made) → (image : CrashState) → LeftBy (run_of past made) n handed image
         → Survives later n image
     left_then n low within image left = survives later made s k is.opens told_then handed n n image within low (omega arith) left
 
 -- ---- at any time
 
 -- what a crash leaves of an engine as it is, with all up to what is safe
-pub crash_since : {D M : Type 0} (history : D → History) (past : Past M) (engine : Parts D M) → IsAt history past engine → (floor : ℕ)
-    → floor ≤ horizon_of engine → (image : Image) → IsCrashImage (history (device_of (writer_of engine))).disk image
+pub crash_since : {D M : Type 0} (past_of : D → DevicePast) (past : Past M) (engine : Parts D M) → IsAt past_of past engine → (floor : ℕ)
+    → floor ≤ horizon_of engine → (image : CrashState) → IsCrashState (past_of (device_of (writer_of engine))).disk image
     → Survives past floor image
-crash_since history past engine is floor safe image crash =
+crash_since past_of past engine is floor safe image crash =
     survives past is.made is.state is.standing is.opens is.served is.handed (horizon_of engine) floor image is.stands.writer.made is.stands.writer.opened safe
     (is.stands.writer.images image crash)
 
 -- what has every item up to a floor has those up to a lower one
-pub survives_lower : {M : Type 0} (past : Past M) (floor lower : ℕ) (image : Image) → Survives past floor image → lower ≤ floor → Survives past lower image
+pub survives_lower : {M : Type 0} (past : Past M) (floor lower : ℕ) (image : CrashState) → Survives past floor image → lower ≤ floor → Survives past lower image
 survives_lower past floor lower image left le = record {
   given = left.given;
   gives = left.gives;

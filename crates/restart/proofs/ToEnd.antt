@@ -1,16 +1,16 @@
 -- What the steps of a build leave, and that they come to an end.
 use Rattle.std.proofs.Common.{Option, Some, ap, arith, refl, subst, sym, ℕ, ◌+◌, ◌<◌, ◌∙◌, ◌≡◌, ◌≢◌, ◌≤◌}
-use Rattle.records.specs.declared.pair.Pair.{Pair}
+use Rattle.record_values.specs.declared.pair.Pair.{Pair}
 use Rattle.model.specs.declared.life.Life.{Life}
 use Rattle.model.specs.declared.life.Life.TheVariants.{Absent, Building, Complete}
 use Rattle.core_model.specs.States.{State}
 use Rattle.core_model.specs.Steps.{CanAttempt, IsBuilding, MachineStep, attempted}
-use Rattle.core_contracts.specs.Events as core
-use Rattle.core_contracts.specs.Events.{Standing, standing_after}
-use Rattle.core_contracts.specs.Replies.{IsAllowed, IsBuildDue, accepted, after_any, build_step, no_memory, refused, refused_last, skipped, unknown}
-use Rattle.core_contracts.specs.Served.{IsEnabledAny}
-use Rattle.core_contracts.proofs.Laws.{is_move}
-use Rattle.nsf_core.specs.View.{Answers, CoreValue, IsState, Shows}
+use Rattle.core_model.specs.Events as core
+use Rattle.core_model.specs.Events.{Standing, standing_after}
+use Rattle.core_model.specs.Replies.{IsAllowed, IsBuildDue, accepted, after_any, build_step, no_memory, refused, refused_last, skipped, unknown}
+use Rattle.core_model.specs.Served.{IsEnabledAny}
+use Rattle.core_model.proofs.ReplyLaws.{is_move}
+use Rattle.core_parts.specs.View.{Answers, CoreValue, IsState, Shows}
 use Rattle.nsf_core.proofs.Offered.{stands}
 use Rattle.restart.proofs.Climbing.{attempt_falls, mark_falls, scan_falls, work}
 

@@ -1,9 +1,9 @@
 -- A run goes on by a request and its reply.
 use Rattle.std.proofs.Common.{◌≡◌, ℕ, max, List, [], ◌∷◌, ◌++◌, length, refl, sym, ap, ◌∙◌, append-nil, append_assoc, arith}
-use Rattle.core_contracts.specs.Events as core
-use Rattle.core_contracts.specs.Events.{Standing, standing_after}
-use Rattle.core_contracts.specs.Replies.{after_any}
-use Rattle.core_contracts.specs.Served.{ServesAll, nothing, served}
+use Rattle.core_model.specs.Events as core
+use Rattle.core_model.specs.Events.{Standing, standing_after}
+use Rattle.core_model.specs.Replies.{after_any}
+use Rattle.core_model.specs.Served.{ServesAll, nothing, served}
 use Rattle.core_model.specs.States.{State}
 use Rattle.restart.specs.declared.event.Event.{Event}
 use Rattle.restart.specs.declared.event.Reply.{Reply}

@@ -4,21 +4,23 @@ use Rattle.std.specs.FinMap.{len}
 use Rattle.std.proofs.Math.Bridge.{le_prop}
 use Rattle.std.proofs.Math.Logic.{∥∥₁_elim}
 use mathlib.Core.HLevel.{⊥_prop}
-use Rattle.records.specs.declared.error.Error.{Error}
-use Rattle.records.specs.declared.error.Error.TheVariants.{BadGeometry, BadScript, BodyTooLong, Damaged, DeviceFailed, DeviceTooSmall, Exhausted, HeapFull}
-use Rattle.records.specs.declared.error.Error.TheVariants.{IndexExists, IndexFull, KeyTooLong, NoIndex, NoMemory, NoSuchRow, NoSuchTxn, NotBuilt, NotFormatted}
-use Rattle.records.specs.declared.error.Error.TheVariants.{OldVersion, RowBusy, Stopped, TooManyChanges, TooManyTxns, TxnsActive}
-use Rattle.records.specs.declared.number.TheConstants.{LAST_NUMBER}
+use Rattle.record_values.specs.declared.error.Error.{Error}
+use Rattle.record_values.specs.declared.error.Error.TheVariants.{BadGeometry, BadScript, BodyTooLong, Damaged, DeviceFailed, DeviceTooSmall, Exhausted}
+use Rattle.record_values.specs.declared.error.Error.TheVariants.{HeapFull}
+use Rattle.record_values.specs.declared.error.Error.TheVariants.{IndexExists, IndexFull, KeyTooLong, NoIndex, NoMemory, NoSuchRow, NoSuchTxn, NotBuilt}
+use Rattle.record_values.specs.declared.error.Error.TheVariants.{NotFormatted}
+use Rattle.record_values.specs.declared.error.Error.TheVariants.{OldVersion, RowBusy, Stopped, TooManyChanges, TooManyTxns, TxnsActive}
+use Rattle.record_values.specs.declared.number.TheConstants.{LAST_NUMBER}
 use Rattle.model.specs.declared.life.Life.{Life}
 use Rattle.model.specs.declared.life.Life.TheVariants.{Absent, Building, Complete}
 use Rattle.restart.specs.Building.{IsIndexFull}
 use Rattle.core_model.specs.States.{State}
 use Rattle.core_model.specs.Steps.{MachineStep, all_reserved}
-use Rattle.core_contracts.specs.Events as core
-use Rattle.core_contracts.specs.Events.{Standing}
-use Rattle.core_contracts.specs.Replies.{HasNoPlace, IsAllowed, IsFirst, accepted, build_step, no_memory, refusals, refusals_of, refused, refused_last, skipped}
-use Rattle.core_contracts.specs.Replies.{unknown}
-use Rattle.nsf_core.specs.View.{CoreValue, IsSafe, Serves}
+use Rattle.core_model.specs.Events as core
+use Rattle.core_model.specs.Events.{Standing}
+use Rattle.core_model.specs.Replies.{HasNoPlace, IsAllowed, IsFirst, accepted, build_step, no_memory, refusals, refusals_of, refused, refused_last, skipped}
+use Rattle.core_model.specs.Replies.{unknown}
+use Rattle.core_parts.specs.View.{CoreValue, IsSafe, Serves}
 
 abbrev pub IsWhy : Error → Type 0
 IsWhy e = (e ≡ NoIndex) ⊎ (e ≡ IndexFull) ⊎ (e ≡ Exhausted) ⊎ (e ≡ NoMemory)

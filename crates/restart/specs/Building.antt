@@ -3,21 +3,21 @@ use Rattle.std.specs.List.{All}
 use Rattle.std.specs.Prelude.{Err, List, None, Ok, Option, Result, Some, ℕ, ◌+◌, [], ◌++◌, ◌↔◌, ◌∷◌, ◌≡◌, ◌≢◌, ◌≤◌, ◌⊎◌}
 use Rattle.std.specs.FinMap.{get, len}
 use Rattle.records.specs.RecordValue.{RecordValue}
-use Rattle.records.specs.declared.error.Error.{Error}
-use Rattle.records.specs.declared.pair.Mark.TheVariants.{Live}
-use Rattle.records.specs.declared.pair.Pair.{Pair}
+use Rattle.record_values.specs.declared.error.Error.{Error}
+use Rattle.record_values.specs.declared.pair.Mark.TheVariants.{Live}
+use Rattle.record_values.specs.declared.pair.Pair.{Pair}
 use Rattle.model.specs.Table.{IsPairOf}
 use Rattle.model.specs.declared.life.Life.TheVariants.{Complete}
 use Rattle.core_model.specs.Histories.{CanOpen, Opened}
 use Rattle.core_model.specs.States.{State}
-use Rattle.core_contracts.specs.Events as core
-use Rattle.core_contracts.specs.Events.{Standing}
-use Rattle.core_contracts.specs.Served.{HasServed}
-use Rattle.sector_device.specs.History.{History, LeavesOnly}
-use Rattle.nsf_core.specs.View.{CoreValue, IsState}
-use Rattle.nsf_core.specs.declared.parts.Ticket.{Ticket}
-use Rattle.nsf_core.specs.declared.reply.BuildReply.{BuildReply}
-use Rattle.nsf_core.specs.declared.reply.BuildReply.TheVariants as build
+use Rattle.core_model.specs.Events as core
+use Rattle.core_model.specs.Events.{Standing}
+use Rattle.core_model.specs.Served.{HasServed}
+use Rattle.sector_device.specs.DevicePast.{DevicePast, LeavesOnly}
+use Rattle.core_parts.specs.View.{CoreValue, IsState}
+use Rattle.core_parts.specs.declared.parts.Ticket.{Ticket}
+use Rattle.core_parts.specs.declared.reply.BuildReply.{BuildReply}
+use Rattle.core_parts.specs.declared.reply.BuildReply.TheVariants as build
 use Rattle.restart.specs.declared.parts.Parts.{Parts}
 use Rattle.restart.specs.declared.event.Event.{Event}
 use Rattle.restart.specs.declared.event.Event.TheVariants as event
@@ -117,14 +117,14 @@ IsEnd (Err e) replies old = (old.life ≢ Complete) × EndsWith (reply.Refused e
 -- The engine went on by steps of the builder alone, to the end that is answered. Where some run had left it, that run
 -- goes on with these requests. A crash at any moment leaves a prefix of the history with them, with every record up to
 -- the horizon before, and so what was acknowledged.
-pub record IsBuiltToEnd {D M : Type 0} (history : D
-    → History) (result : Result ℕ Error) (old new : Parts D M) : Type 0 where
+pub record IsBuiltToEnd {D M : Type 0} (past_of : D
+    → DevicePast) (result : Result ℕ Error) (old new : Parts D M) : Type 0 where
   pub replies : List (Reply M)
   pub each : AreBuilt replies old new
   pub ends : IsEnd result replies (core_of old)
-  pub at : (past : Past M) → IsAt history past old → IsAt history (and_then past (builds replies) replies) new
-  pub survives : (past : Past M) → IsAt history past old
-      → LeavesOnly (history (device_of old)) (history (device_of new))
+  pub at : (past : Past M) → IsAt past_of past old → IsAt past_of (and_then past (builds replies) replies) new
+  pub survives : (past : Past M) → IsAt past_of past old
+      → LeavesOnly (past_of (device_of old)) (past_of (device_of new))
       (Survives (and_then past (builds replies) replies) (horizon_of old))
 
 -- each place of the index is taken by an entry, or reserved by a transaction

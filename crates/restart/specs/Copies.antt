@@ -1,30 +1,30 @@
 -- What is answered to a copy.
 use Rattle.std.specs.Prelude.{◌≡◌, ◌≢◌, ◌⊎◌, ◌≤◌, ◌<◌, ◌+◌, ◌-◌, ◌/◌, ℕ, nat_lt, if◌then◌else◌, true, false, drop, List}
 use Rattle.std.specs.Prelude.{[], ◌∷◌, Option, Some, None}
-use Rattle.records.specs.GeometryValue.{GeometryValue}
-use Rattle.records.specs.declared.error.Error.{Error}
-use Rattle.records.specs.declared.error.Error.TheVariants.{NoMemory, DeviceFailed}
+use Rattle.record_values.specs.GeometryValue.{GeometryValue}
+use Rattle.record_values.specs.declared.error.Error.{Error}
+use Rattle.record_values.specs.declared.error.Error.TheVariants.{NoMemory, DeviceFailed}
 use Rattle.model.specs.Cells.{Cells}
 use Rattle.core_copies.specs.Pieces.{IsPieceOf}
 use Rattle.core_copies.specs.Shown.{IsCellsOf}
 use Rattle.flip_image.specs.Layout.{other}
-use Rattle.image_model.specs.declared.chunk.TheConstants.{CHUNK_ENTRIES}
-use Rattle.image_model.specs.declared.chunk.CopyPlace.{CopyPlace}
-use Rattle.image_model.specs.declared.chunk.CopyPlace.TheVariants as at
-use Rattle.image_model.specs.declared.chunk.Piece.{Piece}
-use Rattle.image_model.specs.Places.{place_behind}
-use Rattle.nsf_core.specs.View.{CoreValue}
-use Rattle.sector_device.specs.History.{Rises}
+use Rattle.store_image_model.specs.declared.chunk.TheConstants.{CHUNK_ENTRIES}
+use Rattle.store_image_model.specs.declared.chunk.CopyPlace.{CopyPlace}
+use Rattle.store_image_model.specs.declared.chunk.CopyPlace.TheVariants as at
+use Rattle.store_image_model.specs.declared.chunk.Piece.{Piece}
+use Rattle.store_image_model.specs.Places.{place_behind}
+use Rattle.core_parts.specs.View.{CoreValue}
+use Rattle.sector_device.specs.DevicePast.{Rises}
+use Rattle.store_writer.specs.Copying.{next_place, steps_of_image}
 use Rattle.store_writer.specs.Image.{reach}
 use Rattle.store_writer.specs.Parts.{halves_of, image_of}
-use Rattle.store_writer.specs.Places.{IsAtPlace}
 use Rattle.store_writer.specs.Writer.{HasPiece, IsLogFull, MustStartAgain}
+use Rattle.store_writer.specs.declared.copying.Copying.{Copying}
+use Rattle.store_writer.specs.declared.copying.Copying.TheVariants.{Idle, Steps, GivenUp}
 use Rattle.store_writer.specs.declared.image.NewImage.{NewImage}
 use Rattle.store_writer.specs.declared.image.Stage.{Stage}
 use Rattle.store_writer.specs.declared.image.Stage.TheVariants as stage
 use Rattle.store_writer.specs.declared.writer.Writer.{Writer}
-use Rattle.restart.specs.declared.copying.Copying.{Copying}
-use Rattle.restart.specs.declared.copying.Copying.TheVariants.{Idle, Steps, GivenUp}
 use Rattle.restart.specs.declared.event.Event.{Event}
 use Rattle.restart.specs.declared.event.Event.TheVariants as event
 use Rattle.restart.specs.declared.event.Reply.{Reply}
@@ -32,29 +32,9 @@ use Rattle.restart.specs.declared.event.Reply.TheVariants as reply
 use Rattle.restart.specs.declared.parts.Parts.{Parts}
 use Rattle.restart.specs.Parts.{KeepsStore, core_of, device_of, has_failed, horizon_of, log_of, unwritten, writer_of}
 
--- ---- where the copying is
-
--- an image that is copied in steps is at its place, unless a flush gave it up
-abbrev pub IsCopying : (pages : ℕ) → Copying → Option NewImage → Type 0
-IsCopying pages Idle image = Unit {0}
-IsCopying pages (Steps place) image = (image ≡ None) ⊎ IsAtPlace pages place image
-IsCopying pages GivenUp image = Unit {0}
-
--- the piece of this place is due: the start always, and another as an image that is copied in steps is there
-abbrev pub IsPieceDue : (pages : ℕ) → CopyPlace → Option NewImage → Type 0
-IsPieceDue pages at.Start image = Unit {0}
-IsPieceDue pages (at.Page page) image = IsCopying pages (Steps (Some (at.Page page))) image
-IsPieceDue pages (at.Entries above) image = IsCopying pages (Steps (Some (at.Entries above))) image
-
 -- the log of an image under way has groups in half its slots at most
 abbrev pub IsHalfOpen : (slots : ℕ) → Option NewImage → Type 0
 IsHalfOpen slots image = (i : NewImage) → image ≡ Some i → i.log.open_slots ≤ slots / 2
-
--- The place of the piece that comes next. There is none where the image is whole, and where it was given up.
-abbrev pub next_place : Copying → Option CopyPlace
-next_place Idle = Some at.Start
-next_place (Steps place) = place
-next_place GivenUp = None
 
 -- ---- how many copies are left
 
@@ -74,10 +54,9 @@ abbrev pub copies_to_flip : (last : ℕ) → Option NewImage → ℕ
 copies_to_flip last None = 2
 copies_to_flip last (Some image) = if nat_lt image.base last then 2 else 1
 
--- the most copies that an image takes: its start, its pages, its entries by chunks of which the last one isn't full,
--- and the flip
+-- the most copies that an image takes: one for each of its steps
 abbrev pub most_copies : GeometryValue → ℕ
-most_copies g = g.pages + g.entries / CHUNK_ENTRIES + 3
+most_copies g = steps_of_image g
 
 -- at most so many are left
 abbrev pub left_at : GeometryValue → (last : ℕ) → Option NewImage → Copying → ℕ

@@ -3,12 +3,12 @@ use Rattle.std.specs.Prelude.{◌≡◌, ◌⊎◌, ◌-◌, ℕ, None, true, So
 use Rattle.store_writer.specs.Image.{BecomesImage, reach}
 use Rattle.store_writer.specs.Parts.{has_failed, halves_of, image_of, log_of, synced_of, waiting_of}
 use Rattle.store_writer.specs.Writer.{HasFlipped, IsFlushReply}
+use Rattle.store_writer.specs.declared.copying.Copying.TheVariants.{Steps}
 use Rattle.store_writer.specs.declared.image.NewImage.{NewImage}
 use Rattle.store_writer.specs.declared.writer.FlushReply.TheVariants.{Flushed}
 use Rattle.store_writer.specs.declared.writer.Writer.{Writer}
 use Rattle.restart.specs.Copies.{MayFlip}
 use Rattle.restart.specs.Parts.{KeepsStore, horizon_of, unwritten, writer_of}
-use Rattle.restart.specs.declared.copying.Copying.TheVariants.{Steps}
 use Rattle.restart.specs.declared.parts.Parts.{Parts}
 
 -- Groups were written one after another, each of as many of the records that waited as fill one, and only where the

@@ -2,16 +2,16 @@
 -- this.
 use Rattle.std.specs.Prelude.{◌≡◌, ◌≤◌, ◌<◌, ◌-◌, ℕ, [], None, length}
 use Rattle.core_model.specs.States.{State}
-use Rattle.core_contracts.specs.Events.{Standing}
-use Rattle.image_model.specs.Run.{Run, end_of}
-use Rattle.sector_device.specs.Disk.{Image}
-use Rattle.sector_device.specs.History.{History, LeavesOnly}
+use Rattle.core_model.specs.Events.{Standing}
+use Rattle.store_image_model.specs.Run.{Run, end_of}
+use Rattle.sector_device.specs.Disk.{CrashState}
+use Rattle.sector_device.specs.DevicePast.{DevicePast, LeavesOnly}
 use Rattle.store_writer.specs.Contents.{LeftBy}
 use Rattle.store_writer.specs.Image.{BecomesImage}
 use Rattle.store_writer.specs.Parts.{halves_of, log_of, has_failed, image_of}
 use Rattle.store_writer.specs.Writer.{IsFlushReply}
+use Rattle.store_writer.specs.declared.copying.Copying.TheVariants.{Steps}
 use Rattle.store_writer.specs.declared.writer.FlushReply.TheVariants.{Flushed}
-use Rattle.restart.specs.declared.copying.Copying.TheVariants.{Steps}
 use Rattle.restart.specs.declared.parts.Parts.{Parts}
 use Rattle.restart.specs.Copies.{MayFlip, Succeeds, copies_left}
 use Rattle.restart.specs.Parts.{core_of, device_of, horizon_of, unhanded, unwritten, writer_of}
@@ -19,18 +19,18 @@ use Rattle.restart.specs.Store.{StandsAt}
 
 -- The core is in the state that it was in, and the writer may have more of the records made. A crash at any moment
 -- leaves what some of those that the writer has made, with all that were synced at first.
-pub record MovesOn {D M : Type 0} (history : D → History) (old new : Parts D M) : Type 0 where
-  pub stands : (run : Run) (handed : ℕ) (s : State) (k : Standing) → StandsAt history run handed s k old → (later : ℕ)
-      × (handed ≤ later) × StandsAt history run later s k new
-  pub images : (run : Run) (handed : ℕ) (s : State) (k : Standing) → StandsAt history run handed s k old
-      → LeavesOnly (history (device_of old)) (history (device_of new)) (λ (image : Image). (later : ℕ)
+pub record MovesOn {D M : Type 0} (past_of : D → DevicePast) (old new : Parts D M) : Type 0 where
+  pub stands : (run : Run) (handed : ℕ) (s : State) (k : Standing) → StandsAt past_of run handed s k old → (later : ℕ)
+      × (handed ≤ later) × StandsAt past_of run later s k new
+  pub images : (run : Run) (handed : ℕ) (s : State) (k : Standing) → StandsAt past_of run handed s k old
+      → LeavesOnly (past_of (device_of old)) (past_of (device_of new)) (λ (image : CrashState). (later : ℕ)
       × (later ≤ end_of run) × LeftBy run (horizon_of old) later image)
   pub grows : horizon_of old ≤ horizon_of new
   pub core : core_of new ≡ record (core_of old) { outbox = (core_of new).outbox }
 
 -- The writer has some more of the records that were made, and nothing else changed.
-pub record HandsOver {D M : Type 0} (history : D → History) (old new : Parts D M) : Type 0 where
-  pub moves : MovesOn history old new
+pub record HandsOver {D M : Type 0} (past_of : D → DevicePast) (old new : Parts D M) : Type 0 where
+  pub moves : MovesOn past_of old new
   pub unwritten-are : unwritten new ≡ unwritten old
   pub device : device_of new ≡ device_of old
   pub halves : halves_of (writer_of new) ≡ halves_of (writer_of old)

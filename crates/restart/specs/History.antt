@@ -1,10 +1,10 @@
 -- What was asked and answered, in the words of the core.
 use Rattle.std.specs.Prelude.{List, None, Option, Some, [], max, ℕ, ◌++◌, ◌∷◌, ◌≢◌}
-use Rattle.core_contracts.specs.Events as core
-use Rattle.core_contracts.specs.Events.{Standing, standing_after}
-use Rattle.nsf_core.specs.Builds.{built}
-use Rattle.nsf_core.specs.Cleaning.{cleaner}
-use Rattle.nsf_core.specs.Replies.{reply_of_ticket}
+use Rattle.core_model.specs.Events as core
+use Rattle.core_model.specs.Events.{Standing, standing_after}
+use Rattle.core_parts.specs.Builds.{built}
+use Rattle.core_parts.specs.Cleaning.{cleaner}
+use Rattle.core_parts.specs.Replies.{reply_of_ticket}
 use Rattle.restart.specs.declared.event.Event.{Event}
 use Rattle.restart.specs.declared.event.Event.TheVariants as event
 use Rattle.restart.specs.declared.event.Reply.{Reply}

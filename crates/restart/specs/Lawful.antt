@@ -2,13 +2,13 @@
 use Rattle.std.specs.Prelude.{◌≡◌, ◌≢◌, ◌⊎◌, ◌<◌, ◌≤◌, ◌+◌, ℕ, Bool, true, false, List, [], ◌∷◌, length, take, drop}
 use Rattle.std.specs.Prelude.{Option, None, Some}
 use Rattle.records.specs.RecordValue.{RecordValue}
-use Rattle.records.specs.declared.error.Error.TheVariants.{NoMemory, DeviceFailed}
-use Rattle.sector_device.specs.History.{Rises}
+use Rattle.record_values.specs.declared.error.Error.TheVariants.{NoMemory, DeviceFailed}
+use Rattle.sector_device.specs.DevicePast.{Rises}
 use Rattle.gate_log.specs.Area.{Log}
 use Rattle.gate_log.specs.Group.{FitsGroup, spellings}
 use Rattle.gate_log.specs.declared.group.TheConstants.{GROUP_MAX}
-use Rattle.core_contracts.specs.Events as core
-use Rattle.nsf_core.specs.View as view
+use Rattle.core_model.specs.Events as core
+use Rattle.core_parts.specs.View as view
 use Rattle.store_writer.specs.Image.{BecomesImage}
 use Rattle.store_writer.specs.Parts.{halves_of, image_of}
 use Rattle.store_writer.specs.Writer.{IsLogFull}

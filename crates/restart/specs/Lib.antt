@@ -1,7 +1,6 @@
 pub mod Parts
 pub mod History
 pub mod Copies
-pub mod Between
 pub mod Store
 pub mod Handing
 pub mod Parted

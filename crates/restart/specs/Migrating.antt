@@ -1,30 +1,30 @@
 -- What becomes of a store of version 1 that is moved to another device, and why it isn't moved.
 use Rattle.std.specs.Prelude.{◌≡◌, ◌≢◌, ◌⊎◌, ℕ, ◌<◌, ◌≤◌, length, None}
-use Rattle.sector_device.specs.Disk.{Image, SameOutside}
-use Rattle.sector_device.specs.History.{History, Rises}
-use Rattle.records.specs.GeometryValue.{GeometryValue, sectors_of}
-use Rattle.records.specs.declared.version.Version.TheVariants.{One}
-use Rattle.records.specs.declared.error.Error.{Error}
-use Rattle.records.specs.declared.error.Error.TheVariants.{DeviceFailed, DeviceTooSmall}
-use Rattle.records.specs.declared.error.Error.TheVariants as errors
+use Rattle.sector_device.specs.Disk.{CrashState, SameOutside}
+use Rattle.sector_device.specs.DevicePast.{DevicePast, Rises}
+use Rattle.record_values.specs.GeometryValue.{GeometryValue, sectors_of}
+use Rattle.record_values.specs.declared.version.Version.TheVariants.{One}
+use Rattle.record_values.specs.declared.error.Error.{Error}
+use Rattle.record_values.specs.declared.error.Error.TheVariants.{DeviceFailed, DeviceTooSmall}
+use Rattle.record_values.specs.declared.error.Error.TheVariants as errors
 use Rattle.model.specs.Given.{Given}
 use Rattle.gate_log.specs.Area.{Log}
 use Rattle.flip_image.specs.Layout.{HalvesValue}
 use Rattle.store_reader.specs.Contents.{GivesIn, IsUnreadableIn}
-use Rattle.nsf_core.specs.View.{CoreValue}
-use Rattle.restart.specs.declared.copying.Copying.TheVariants.{Idle}
+use Rattle.core_parts.specs.View.{CoreValue}
 use Rattle.restart.specs.declared.parts.Parts.{Parts}
 use Rattle.restart.specs.declared.migration.MigrateError.{MigrateError}
 use Rattle.restart.specs.declared.migration.MigrateError.TheVariants.{Old, New, NoMemory}
 use Rattle.store_writer.specs.Parts.{image_of}
+use Rattle.store_writer.specs.declared.copying.Copying.TheVariants.{Idle}
 use Rattle.restart.specs.Parts.{device_of, log_of, writer_of}
 use Rattle.restart.specs.Reopening.{IsCoreOf, IsOpened}
 
 -- The engine is as one that was opened over its own device, which gives what the old device gives by version 1: the
 -- same rows, the same entries with their states, the same life with its highest pair, and the same number of the last
 -- record. Its device is synced, so that each crash of it gives the same.
-pub record IsMigrated {E M : Type 0} (old : Image) (history : E → History) (engine : Parts E M) : Type 0 where
-  pub opened : IsOpened history (device_of engine) engine
+pub record IsMigrated {E M : Type 0} (old : CrashState) (past_of : E → DevicePast) (engine : Parts E M) : Type 0 where
+  pub opened : IsOpened past_of (device_of engine) engine
   pub gave : GivesIn One old opened.geometry opened.given
 
 -- the engine's log is empty, and no image is under way, nor is a whole one to be taken
@@ -32,28 +32,28 @@ abbrev pub BeginsEmpty : {D M : Type 0} → Parts D M → Type 0
 BeginsEmpty engine = ((log_of engine).open_slots ≡ 0) × (image_of (writer_of engine) ≡ None) × (engine.copying ≡ Idle)
 
 -- no sector of the new device changed but those of the store
-abbrev pub WritesTheStoreAlone : {E : Type 0} → Image → (E → History) → E → E → Type 0
-WritesTheStoreAlone old history before after = (geometry : GeometryValue) (given : Given)
+abbrev pub WritesTheStoreAlone : {E : Type 0} → CrashState → (E → DevicePast) → E → E → Type 0
+WritesTheStoreAlone old past_of before after = (geometry : GeometryValue) (given : Given)
     → GivesIn One old geometry given
-    → SameOutside (λ n. n < sectors_of geometry) (history before).disk.content (history after).disk.content
+    → SameOutside (λ n. n < sectors_of geometry) (past_of before).disk.content (past_of after).disk.content
 
 -- the old device failed in the call, or it gives nothing by version 1
-abbrev pub IsOldRefused : Image → ℕ → ℕ → Error → Type 0
+abbrev pub IsOldRefused : CrashState → ℕ → ℕ → Error → Type 0
 IsOldRefused old before now e = ((e ≡ DeviceFailed) × Rises before now) ⊎ IsUnreadableIn One old e
 
 -- The old device gives something by version 1; and the new one has too few sectors for a store of its geometry, and is
 -- as it was, or it has enough of them, and failed in the call.
-pub record IsNewRefused {E : Type 0} (old : Image) (history : E → History) (failures : E → ℕ) (before after : E)
+pub record IsNewRefused {E : Type 0} (old : CrashState) (past_of : E → DevicePast) (failures : E → ℕ) (before after : E)
     (e : Error) : Type 0 where
   pub geometry : GeometryValue
   pub given : Given
   pub gave : GivesIn One old geometry given
-  pub why : ((e ≡ DeviceTooSmall) × (length (history before).disk.content < sectors_of geometry) × (after ≡ before))
-      ⊎ ((e ≡ DeviceFailed) × (sectors_of geometry ≤ length (history before).disk.content)
+  pub why : ((e ≡ DeviceTooSmall) × (length (past_of before).disk.content < sectors_of geometry) × (after ≡ before))
+      ⊎ ((e ≡ DeviceFailed) × (sectors_of geometry ≤ length (past_of before).disk.content)
       × Rises (failures before) (failures after))
 
 -- The old device gives something by version 1, and the new one has too few sectors for it.
-pub record IsTooSmall (old new : Image) : Type 0 where
+pub record IsTooSmall (old new : CrashState) : Type 0 where
   pub geometry : GeometryValue
   pub given : Given
   pub gave : GivesIn One old geometry given
@@ -64,36 +64,36 @@ abbrev pub IsSmallAnswer : MigrateError → Type 0
 IsSmallAnswer e = (e ≡ New DeviceTooSmall) ⊎ (e ≡ Old DeviceFailed) ⊎ (e ≡ NoMemory)
 
 -- Why nothing was moved. Where the old device is to blame, or memory was wanting, the new one is as it was.
-abbrev pub IsNotMigrated : {E : Type 0} → Image → (old_before old_after : ℕ) → (E → History) → (E → ℕ) → E → E
+abbrev pub IsNotMigrated : {E : Type 0} → CrashState → (old_before old_after : ℕ) → (E → DevicePast) → (E → ℕ) → E → E
     → MigrateError → Type 0
-IsNotMigrated old old_before old_after history failures before after (Old e) = IsOldRefused old old_before old_after e
+IsNotMigrated old old_before old_after past_of failures before after (Old e) = IsOldRefused old old_before old_after e
     × (after ≡ before)
-IsNotMigrated old old_before old_after history failures before after (New e) =
-    IsNewRefused old history failures before after e
-IsNotMigrated old old_before old_after history failures before after NoMemory = after ≡ before
+IsNotMigrated old old_before old_after past_of failures before after (New e) =
+    IsNewRefused old past_of failures before after e
+IsNotMigrated old old_before old_after past_of failures before after NoMemory = after ≡ before
 
 -- The core of what the old device gives, which the new one now gives. (No public clause cites this.)
-pub record IsMigratedCore (old : Image) (after : History) (halves : HalvesValue) (log : Log)
+pub record IsMigratedCore (old : CrashState) (after : DevicePast) (halves : HalvesValue) (log : Log)
     (core : CoreValue) : Type 0 where
   pub moved : IsCoreOf after.disk.content after halves log core
   pub gave : GivesIn One old halves.geometry moved.given
 
 -- The core of these cells, which the device now gives, in a store of this geometry. (No public clause cites this.)
-pub record IsFilled (geometry : GeometryValue) (given : Given) (after : History) (halves : HalvesValue) (log : Log)
+pub record IsFilled (geometry : GeometryValue) (given : Given) (after : DevicePast) (halves : HalvesValue) (log : Log)
     (core : CoreValue) : Type 0 where
   pub filled : IsCoreOf after.disk.content after halves log core
   pub geometry-is : halves.geometry ≡ geometry
   pub given-is : filled.given ≡ given
 
 -- why a device of so many sectors wasn't filled (no public clause cites this)
-abbrev pub IsNotFilled : {E : Type 0} → GeometryValue → (E → History) → (E → ℕ) → E → E → MigrateError → Type 0
-IsNotFilled geometry history failures before after (Old e) = ⊥
-IsNotFilled geometry history failures before after (New e) =
-    ((e ≡ DeviceTooSmall) × (length (history before).disk.content < sectors_of geometry) × (after ≡ before))
-    ⊎ ((e ≡ DeviceFailed) × (sectors_of geometry ≤ length (history before).disk.content)
+abbrev pub IsNotFilled : {E : Type 0} → GeometryValue → (E → DevicePast) → (E → ℕ) → E → E → MigrateError → Type 0
+IsNotFilled geometry past_of failures before after (Old e) = ⊥
+IsNotFilled geometry past_of failures before after (New e) =
+    ((e ≡ DeviceTooSmall) × (length (past_of before).disk.content < sectors_of geometry) × (after ≡ before))
+    ⊎ ((e ≡ DeviceFailed) × (sectors_of geometry ≤ length (past_of before).disk.content)
     × Rises (failures before) (failures after))
-IsNotFilled geometry history failures before after NoMemory =
-    (sectors_of geometry ≤ length (history before).disk.content) × (after ≡ before)
+IsNotFilled geometry past_of failures before after NoMemory =
+    (sectors_of geometry ≤ length (past_of before).disk.content) × (after ≡ before)
 
 -- what a refusal of the old device is told as (no public clause cites this)
 abbrev pub IsToldOfOld : Error → MigrateError → Type 0

@@ -7,11 +7,11 @@ use Rattle.core_model.specs.Histories.{CanOpen}
 use Rattle.core_model.specs.Logs.{IsLogOf}
 use Rattle.core_model.specs.States.{State}
 use Rattle.core_copies.specs.Lists.{HasLists}
-use Rattle.core_contracts.specs.Events.{Standing}
-use Rattle.core_contracts.specs.Served.{HasServed}
-use Rattle.image_model.specs.Run.{end_of}
-use Rattle.nsf_core.specs.View.{CoreValue, IsState}
-use Rattle.sector_device.specs.History.{History}
+use Rattle.core_model.specs.Events.{Standing}
+use Rattle.core_model.specs.Served.{HasServed}
+use Rattle.store_image_model.specs.Run.{end_of}
+use Rattle.core_parts.specs.View.{CoreValue, IsState}
+use Rattle.sector_device.specs.DevicePast.{DevicePast}
 use Rattle.store_writer.specs.Parts.{halves_of, image_of, log_of, synced_of, waiting_of}
 use Rattle.store_writer.specs.Parts as writer
 use Rattle.store_writer.specs.Writer.{IsWriter}
@@ -37,8 +37,8 @@ pub record ArePartsOf {D M : Type 0} (engine : Parts D M) (core : CoreValue) (w 
 -- handed to the writer; those that were acknowledged are synced. The records, each of which could follow the one
 -- before, make of what the store gave as it was opened the rows, the entries, the index's life and the transactions'
 -- lists that the core has.
-pub record LeavesParts {D M : Type 0} (history : D
-    → History) (past : Past M) (core : CoreValue) (w : Writer D M) : Type 0 where
+pub record LeavesParts {D M : Type 0} (past_of : D
+    → DevicePast) (past : Past M) (core : CoreValue) (w : Writer D M) : Type 0 where
   pub opens : CanOpen (over past.geometry past.given)
   pub made : List RecordValue
   pub state : State
@@ -48,19 +48,19 @@ pub record LeavesParts {D M : Type 0} (history : D
   pub log : IsLogOf past.geometry.pages past.given.last (opening_cells past.given) made state
   pub lists : HasLists state (cells_after (opening_cells past.given) made)
   pub many : end_of (run_of past made) ≡ last_made past
-  pub writer : IsWriter history (run_of past made) (end_of (run_of past made)) w
+  pub writer : IsWriter past_of (run_of past made) (end_of (run_of past made)) w
   pub safe : acknowledged_by past ≤ synced_of w
 
 -- whatever run left the engine so
-abbrev pub LeavesPartsOf : {D M : Type 0} → (D → History) → Parts D M → CoreValue → Writer D M → Type 0
-LeavesPartsOf {D} {M} history engine core w = (past : Past M) → IsAt history past engine
-    → LeavesParts history past core w
+abbrev pub LeavesPartsOf : {D M : Type 0} → (D → DevicePast) → Parts D M → CoreValue → Writer D M → Type 0
+LeavesPartsOf {D} {M} past_of engine core w = (past : Past M) → IsAt past_of past engine
+    → LeavesParts past_of past core w
 
 -- There was no memory to hand all records over. The engine is where the run left it, and has every record that wasn't
 -- synced; nothing was written, and the copying is where it was.
-pub record IsGivenBack {D M : Type 0} (history : D → History) (old new : Parts D M) : Type 0 where
+pub record IsGivenBack {D M : Type 0} (past_of : D → DevicePast) (old new : Parts D M) : Type 0 where
   pub some : unhanded new ≢ []
-  pub at : (past : Past M) → IsAt history past old → IsAt history past new
+  pub at : (past : Past M) → IsAt past_of past old → IsAt past_of past new
   pub core : core_of new ≡ record (core_of old) { outbox = (core_of new).outbox }
   pub unwritten-are : unwritten new ≡ unwritten old
   pub keeps : KeepsStore old new

@@ -1,11 +1,11 @@
 -- What a restart makes of what a device holds.
 use Rattle.std.specs.Prelude.{◌≡◌, ◌≢◌, ◌⊎◌, ℕ, ◌≤◌, false, [], None}
-use Rattle.records.specs.GeometryValue.{GeometryValue}
-use Rattle.records.specs.declared.error.Error.{Error}
-use Rattle.records.specs.declared.error.Error.TheVariants.{DeviceFailed}
+use Rattle.record_values.specs.GeometryValue.{GeometryValue}
+use Rattle.record_values.specs.declared.error.Error.{Error}
+use Rattle.record_values.specs.declared.error.Error.TheVariants.{DeviceFailed}
 use Rattle.model.specs.Given.{Given, IsBeginning, opening_cells}
-use Rattle.sector_device.specs.Disk.{Image, IsCrashImage, IsSynced}
-use Rattle.sector_device.specs.History.{History, LeavesOnly}
+use Rattle.sector_device.specs.Disk.{CrashState, IsCrashState, IsSynced}
+use Rattle.sector_device.specs.DevicePast.{DevicePast, LeavesOnly}
 use Rattle.gate_log.specs.Area.{Log, Refuses}
 use Rattle.flip_image.specs.Layout.{HalvesValue, other}
 use Rattle.flip_image.specs.Store.{IsStore}
@@ -13,12 +13,12 @@ use Rattle.store_reader.specs.Contents.{Gives, IsUnreadable}
 use Rattle.store_opener.specs.Reopening.{ReopeningLeaves, IsWrittenBack}
 use Rattle.core_loader.specs.Loaded.{holding}
 use Rattle.core_model.specs.Histories.{CanOpen, opened}
-use Rattle.core_contracts.specs.Events.{standing_at}
-use Rattle.nsf_core.specs.View.{CoreValue, IsState}
+use Rattle.core_model.specs.Events.{standing_at}
+use Rattle.core_parts.specs.View.{CoreValue, IsState}
 use Rattle.store_writer.specs.Writer.{IsOpenedAt}
-use Rattle.restart.specs.declared.copying.Copying.TheVariants.{Idle}
 use Rattle.restart.specs.declared.parts.Parts.{Parts}
 use Rattle.store_writer.specs.Parts.{halves_of, image_of}
+use Rattle.store_writer.specs.declared.copying.Copying.TheVariants.{Idle}
 use Rattle.restart.specs.Parts.{core_of, device_of, log_of, horizon_of, has_failed, writer_of}
 use Rattle.restart.specs.Building.{HasCome}
 use Rattle.restart.specs.Store.{Past, items_told, last_made, over, Survives, IsAt}
@@ -30,78 +30,78 @@ opening geometry given = record { geometry = geometry; given = given; events = [
 -- What the device gives was written back into the half of its store that wasn't current, and that half made current, or
 -- part of this was done: a crash at any moment leaves what one before could, or what gives the same as the device did;
 -- and so does the device, now.
-pub record IsTurned {D : Type 0} (history : D → History) (before after : D) : Type 0 where
-  pub images : LeavesOnly (history before) (history after) (ReopeningLeaves (history before).disk)
-  pub now : ((history after).disk.content ≡ (history before).disk.content)
-      ⊎ IsWrittenBack (history before).disk.content (history after).disk.content
+pub record IsTurned {D : Type 0} (past_of : D → DevicePast) (before after : D) : Type 0 where
+  pub images : LeavesOnly (past_of before) (past_of after) (ReopeningLeaves (past_of before).disk)
+  pub now : ((past_of after).disk.content ≡ (past_of before).disk.content)
+      ⊎ IsWrittenBack (past_of before).disk.content (past_of after).disk.content
 
 -- Nothing was written: the device holds what it held, and a crash at any moment leaves what one before could.
-pub record IsUnwritten {D : Type 0} (history : D → History) (before after : D) : Type 0 where
-  pub content : (history after).disk.content ≡ (history before).disk.content
-  pub images : LeavesOnly (history before) (history after) (IsCrashImage (history before).disk)
+pub record IsUnwritten {D : Type 0} (past_of : D → DevicePast) (before after : D) : Type 0 where
+  pub content : (past_of after).disk.content ≡ (past_of before).disk.content
+  pub images : LeavesOnly (past_of before) (past_of after) (IsCrashState (past_of before).disk)
 
 -- The engine holds what its device gave, and no transaction. Where what was given is something that a core may begin
 -- with, a run begins over it; and the core has come to where it is, so that a build that goes on to its end leaves the
 -- index whole.
-pub record IsOpened {D M : Type 0} (history : D → History) (before : D) (engine : Parts D M) : Type 0 where
+pub record IsOpened {D M : Type 0} (past_of : D → DevicePast) (before : D) (engine : Parts D M) : Type 0 where
   pub geometry : GeometryValue
   pub given : Given
-  pub gives : Gives (history before).disk.content geometry given
+  pub gives : Gives (past_of before).disk.content geometry given
   pub core : core_of engine ≡ holding geometry given
   pub horizon : horizon_of engine ≡ given.last
   pub sound : has_failed engine ≡ false
-  pub device : IsTurned history before (device_of engine)
-  pub synced : IsSynced (history (device_of engine)).disk
-  pub begins : CanOpen (over geometry given) → IsAt history (opening geometry given) engine
+  pub device : IsTurned past_of before (device_of engine)
+  pub synced : IsSynced (past_of (device_of engine)).disk
+  pub begins : CanOpen (over geometry given) → IsAt past_of (opening geometry given) engine
   pub come : CanOpen (over geometry given) → HasCome (core_of engine)
 
 -- the half that wasn't current now is, its log is empty, and no image is under way, nor is a whole one to be taken
-abbrev pub IsEmptied : {D M : Type 0} → (D → History) → D → Parts D M → Type 0
-IsEmptied history before engine = IsStore (halves_of (writer_of engine)).geometry
-    (other (halves_of (writer_of engine)).current) (history before).disk.content × ((log_of engine).open_slots ≡ 0)
+abbrev pub IsEmptied : {D M : Type 0} → (D → DevicePast) → D → Parts D M → Type 0
+IsEmptied past_of before engine = IsStore (halves_of (writer_of engine)).geometry
+    (other (halves_of (writer_of engine)).current) (past_of before).disk.content × ((log_of engine).open_slots ≡ 0)
     × (image_of (writer_of engine) ≡ None) × (engine.copying ≡ Idle)
 
 -- Why nothing was opened: there was no memory, the device failed in the call, or it gives nothing. With any answer but
 -- `DeviceFailed` no call of the device failed, and the device is synced.
-pub record IsNotOpened {D : Type 0} (history : D → History) (failures : D
+pub record IsNotOpened {D : Type 0} (past_of : D → DevicePast) (failures : D
     → ℕ) (before after : D) (e : Error) : Type 0 where
-  pub device : IsTurned history before after
-  pub why : Refuses (failures before) (failures after) e ⊎ IsUnreadable (history before).disk.content e
+  pub device : IsTurned past_of before after
+  pub why : Refuses (failures before) (failures after) e ⊎ IsUnreadable (past_of before).disk.content e
   pub told : e ≢ DeviceFailed → failures after ≡ failures before
-  pub synced : e ≢ DeviceFailed → IsSynced (history after).disk
+  pub synced : e ≢ DeviceFailed → IsSynced (past_of after).disk
 
 -- The engine holds a prefix of the run's history, which has every item up to the floor and no record past the last that
 -- the run made, and no transaction; and what it holds is something that a core may begin with: as far as the index is
 -- built, it shows the pair of each row, and no other. A run begins over it; and the core has come to where it is, so
 -- that a build that goes on to its end leaves the index whole.
-pub record Recovers {D M : Type 0} (history : D → History) (past : Past M) (floor : ℕ)
+pub record Recovers {D M : Type 0} (past_of : D → DevicePast) (past : Past M) (floor : ℕ)
     (engine : Parts D M) : Type 0 where
   pub given : Given
   pub beginning : IsBeginning past.given (items_told past) floor given
   pub within : given.last ≤ last_made past
   pub core : core_of engine ≡ holding past.geometry given
   pub opens : CanOpen (over past.geometry given)
-  pub begins : IsAt history (opening past.geometry given) engine
+  pub begins : IsAt past_of (opening past.geometry given) engine
   pub come : HasCome (core_of engine)
 
 -- Whatever run left the device so, the engine holds a prefix of its history, with all up to the floor.
-abbrev pub RecoversAnyRun : {D M : Type 0} → (D → History) → D → Parts D M → Type 0
-RecoversAnyRun {D} {M} history before engine = (past : Past M) (floor : ℕ)
-    → Survives past floor (history before).disk.content → Recovers history past floor engine
+abbrev pub RecoversAnyRun : {D M : Type 0} → (D → DevicePast) → D → Parts D M → Type 0
+RecoversAnyRun {D} {M} past_of before engine = (past : Past M) (floor : ℕ)
+    → Survives past floor (past_of before).disk.content → Recovers past_of past floor engine
 
 -- What a run left is refused only for want of memory, or where the device failed in the call.
-abbrev pub RefusesNoRun : (M : Type 0) → {D : Type 0} → (D → History) → (D → ℕ) → D → D → Error → Type 0
-RefusesNoRun M history failures before after e = (past : Past M) (floor : ℕ)
-    → Survives past floor (history before).disk.content → Refuses (failures before) (failures after) e
+abbrev pub RefusesNoRun : (M : Type 0) → {D : Type 0} → (D → DevicePast) → (D → ℕ) → D → D → Error → Type 0
+RefusesNoRun M past_of failures before after e = (past : Past M) (floor : ℕ)
+    → Survives past floor (past_of before).disk.content → Refuses (failures before) (failures after) e
 
 -- Whatever run left a synced device so, with all up to the floor, a crash at any moment since leaves such a prefix too.
-abbrev pub StaysOfAnyRun : (M : Type 0) → {D : Type 0} → (D → History) → D → D → Type 0
-StaysOfAnyRun M history before after = IsSynced (history before).disk → (past : Past M) (floor : ℕ)
-    → Survives past floor (history before).disk.content
-    → LeavesOnly (history before) (history after) (Survives past floor)
+abbrev pub StaysOfAnyRun : (M : Type 0) → {D : Type 0} → (D → DevicePast) → D → D → Type 0
+StaysOfAnyRun M past_of before after = IsSynced (past_of before).disk → (past : Past M) (floor : ℕ)
+    → Survives past floor (past_of before).disk.content
+    → LeavesOnly (past_of before) (past_of after) (Survives past floor)
 
 -- The core of what a store gives, whose half with an empty log was made current. (No public clause cites this.)
-pub record IsCoreOf (before : Image) (after : History) (halves : HalvesValue) (log : Log)
+pub record IsCoreOf (before : CrashState) (after : DevicePast) (halves : HalvesValue) (log : Log)
     (core : CoreValue) : Type 0 where
   pub given : Given
   pub gives : Gives before halves.geometry given

@@ -2,7 +2,7 @@
 use Rattle.std.specs.Prelude.{◌≡◌, ◌≢◌, ◌⊎◌, ◌<◌, ◌≤◌, ◌&&◌, ℕ, nat_lt, Bool, true, false, List, [], ◌∷◌, map, All}
 use Rattle.std.specs.Prelude.{Option, Some, None}
 use Rattle.std.specs.List.Sorted.{IsStrictlyIncreasing}
-use Rattle.sector_device.specs.History.{History}
+use Rattle.sector_device.specs.DevicePast.{DevicePast}
 use Rattle.restart.specs.Lawful.{IsLawful}
 use Rattle.restart.specs.Parts.{log_of, unwritten}
 use Rattle.restart.specs.Store.{KeepsSectors, ServesOn}
@@ -33,15 +33,15 @@ abbrev pub behind : Option ℕ → List ℕ → List ℕ
 behind None numbers = numbers
 behind (Some before) numbers = before ∷ numbers
 
-module _ {D M : Type 0} (history : D → History) (failures : D → ℕ) where
+module _ {D M : Type 0} (past_of : D → DevicePast) (failures : D → ℕ) where
   -- The request had this lawful reply. At whatever run the engine was, it now is at that run with the request and the
   -- reply behind it. A crash of the device at any moment of it leaves what a prefix of the run left, with every record
   -- up to the horizon before, and so with all that an earlier reply has told to be safe. The device has as many sectors
   -- as before.
   pub record Serves (event : Event) (reply : Reply M) (old new : Parts D M) : Type 0 where
     pub lawful : IsLawful failures event reply old new
-    pub runs : ServesOn history event reply old new
-    pub sectors : KeepsSectors history old new
+    pub runs : ServesOn past_of event reply old new
+    pub sectors : KeepsSectors past_of old new
 
   -- One copy after another had these replies.
   abbrev pub AreCopied : List (Reply M) → Parts D M → Parts D M → Type 0

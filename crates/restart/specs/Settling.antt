@@ -1,24 +1,24 @@
 -- An engine that is left as a restart would leave it.
 use Rattle.std.specs.FinMap.{len}
 use Rattle.std.specs.Prelude.{◌≡◌, ◌⊎◌, ◌≤◌, ℕ, false, None}
-use Rattle.records.specs.GeometryValue.{GeometryValue}
-use Rattle.records.specs.declared.error.Error.{Error}
-use Rattle.records.specs.declared.error.Error.TheVariants.{NoMemory, TxnsActive}
+use Rattle.record_values.specs.GeometryValue.{GeometryValue}
+use Rattle.record_values.specs.declared.error.Error.{Error}
+use Rattle.record_values.specs.declared.error.Error.TheVariants.{NoMemory, TxnsActive}
 use Rattle.model.specs.Given.{opening_cells}
-use Rattle.core_contracts.specs.Events.{standing_at}
+use Rattle.core_model.specs.Events.{standing_at}
 use Rattle.core_loader.specs.Loaded.{holding}
 use Rattle.core_model.specs.Histories.{Opened, opened}
 use Rattle.nsf_core.specs.Loading.{IsQuiet}
-use Rattle.nsf_core.specs.Opening.{opened_of}
-use Rattle.nsf_core.specs.View.{CoreValue, IsState}
-use Rattle.sector_device.specs.Disk.{Image, IsCrashImage}
-use Rattle.sector_device.specs.History.{History, LeavesOnly}
+use Rattle.core_parts.specs.Opening.{opened_of}
+use Rattle.core_parts.specs.View.{CoreValue, IsState}
+use Rattle.sector_device.specs.Disk.{CrashState, IsCrashState}
+use Rattle.sector_device.specs.DevicePast.{DevicePast, LeavesOnly}
 use Rattle.store_reader.specs.Contents.{Gives}
 use Rattle.store_writer.specs.Parts as parts
 use Rattle.store_writer.specs.Parts.{halves_of, image_of, log_of, synced_of}
 use Rattle.store_writer.specs.Writer.{IsWriter, WritesOnly, opened_run}
+use Rattle.store_writer.specs.declared.copying.Copying.TheVariants.{GivenUp}
 use Rattle.store_writer.specs.declared.writer.Writer.{Writer}
-use Rattle.restart.specs.declared.copying.Copying.TheVariants.{GivenUp}
 use Rattle.restart.specs.declared.event.Event.TheVariants.{Copy}
 use Rattle.restart.specs.declared.event.Reply.{Reply}
 use Rattle.restart.specs.declared.event.Reply.TheVariants.{Refused}
@@ -37,9 +37,9 @@ pub record IsFresh (old new : CoreValue) : Type 0 where
 
 -- A writer that has got no record since its store held this, all of which is synced: a crash of the device leaves what
 -- gives it. No slot of the log is open, and no image is under way.
-pub record IsSettled {D M : Type 0} (history : D → History) (o : Opened) (w : Writer D M) : Type 0 where
-  pub writer : IsWriter history (opened_run (halves_of w) o.given.last (opening_cells o.given)) o.given.last w
-  pub gives : (image : Image) → IsCrashImage (history (parts.device_of w)).disk image
+pub record IsSettled {D M : Type 0} (past_of : D → DevicePast) (o : Opened) (w : Writer D M) : Type 0 where
+  pub writer : IsWriter past_of (opened_run (halves_of w) o.given.last (opening_cells o.given)) o.given.last w
+  pub gives : (image : CrashState) → IsCrashState (past_of (parts.device_of w)).disk image
       → Gives image (halves_of w).geometry o.given
   pub pages : (halves_of w).geometry.pages ≡ o.pages
   pub places : (halves_of w).geometry.entries ≡ o.places
@@ -55,30 +55,30 @@ giving_up engine = record engine { copying = GivenUp }
 
 -- An image under way was given up, and the copy that takes a whole one at once had this reply, and wrote no sector but
 -- those that a copy writes.
-pub record CopiesAnew {D M : Type 0} (history : D → History) (failures : D
+pub record CopiesAnew {D M : Type 0} (past_of : D → DevicePast) (failures : D
     → ℕ) (reply : Reply M) (old new : Parts D M) : Type 0 where
   pub answer : IsCopyAnswer failures reply (giving_up old) new
-  pub runs : ServesOn history Copy reply old new
-  pub around : CopiesAround history old new
+  pub runs : ServesOn past_of Copy reply old new
+  pub around : CopiesAround past_of old new
 
 -- All that the engine holds was written as a whole image, which is current: its records that weren't synced are in it.
 -- No call of the device failed, and a crash at any moment leaves a prefix of whatever run the engine served, with every
 -- record up to its horizon, and so with everything acknowledged. No sector was written but those that a copy writes.
-pub record WritesWhole {D M : Type 0} (history : D → History) (failures : D
+pub record WritesWhole {D M : Type 0} (past_of : D → DevicePast) (failures : D
     → ℕ) (engine : Parts D M) (w : Writer D M) : Type 0 where
-  pub settled : IsSettled history (opened_of (core_of engine)) w
+  pub settled : IsSettled past_of (opened_of (core_of engine)) w
   pub quiet : failures (parts.device_of w) ≡ failures (device_of engine)
-  pub survives : (past : Past M) → IsAt history past engine
-      → LeavesOnly (history (device_of engine)) (history (parts.device_of w)) (Survives past (horizon_of engine))
-  pub around : WritesOnly history (InCopy (halves_of (writer_of engine))) (device_of engine) (parts.device_of w)
+  pub survives : (past : Past M) → IsAt past_of past engine
+      → LeavesOnly (past_of (device_of engine)) (past_of (parts.device_of w)) (Survives past (horizon_of engine))
+  pub around : WritesOnly past_of (InCopy (halves_of (writer_of engine))) (device_of engine) (parts.device_of w)
 
 -- there was no memory for it, or the device failed: the engine's run goes on, by a copy that was refused so
-abbrev pub IsNotWritten : {D M : Type 0} → (D → History) → (D → ℕ) → Parts D M → Parts D M → Error → Type 0
-IsNotWritten history failures old new e = CopiesAnew history failures (Refused e) old new
+abbrev pub IsNotWritten : {D M : Type 0} → (D → DevicePast) → (D → ℕ) → Parts D M → Parts D M → Error → Type 0
+IsNotWritten past_of failures old new e = CopiesAnew past_of failures (Refused e) old new
 
 -- A transaction is active, and the engine is as it was. Or none is: then there was no memory for a core, and it is as
 -- it was; or what it holds could not be written, and its run goes on.
-abbrev pub IsNotParted : {D M : Type 0} → (D → History) → (D → ℕ) → Parts D M → Parts D M → Error → Type 0
-IsNotParted history failures old new e =
+abbrev pub IsNotParted : {D M : Type 0} → (D → DevicePast) → (D → ℕ) → Parts D M → Parts D M → Error → Type 0
+IsNotParted past_of failures old new e =
     ((e ≡ TxnsActive) × (IsQuiet (core_of old) → ⊥) × (new ≡ old))
-    ⊎ (IsQuiet (core_of old) × (((e ≡ NoMemory) × (new ≡ old)) ⊎ IsNotWritten history failures old new e))
+    ⊎ (IsQuiet (core_of old) × (((e ≡ NoMemory) × (new ≡ old)) ⊎ IsNotWritten past_of failures old new e))

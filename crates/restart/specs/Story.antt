@@ -1,14 +1,14 @@
 -- The story of a store from its beginning on, in words that know no allocator.
 use Rattle.std.specs.List.{All}
 use Rattle.std.specs.Prelude.{◌≡◌, ◌≤◌, ℕ, List, [], ◌∷◌, ◌++◌, Some}
-use Rattle.records.specs.GeometryValue.{GeometryValue}
-use Rattle.records.specs.declared.pair.Pair.{Pair}
+use Rattle.record_values.specs.GeometryValue.{GeometryValue}
+use Rattle.record_values.specs.declared.pair.Pair.{Pair}
 use Rattle.model.specs.Given.{Given, IsBeginning, nothing}
 use Rattle.model.specs.History.{Checkpointed, Committed, Completed, Created, Deed, Dropped, Item, up_to}
 use Rattle.model.specs.declared.life.Life.TheVariants.{Building}
 use Rattle.core_model.specs.Histories.{CanOpen}
-use Rattle.sector_device.specs.Disk.{Image, IsCrashImage}
-use Rattle.sector_device.specs.History.{History}
+use Rattle.sector_device.specs.Disk.{CrashState, IsCrashState}
+use Rattle.sector_device.specs.DevicePast.{DevicePast}
 use Rattle.store_reader.specs.Contents.{Gives}
 use Rattle.restart.specs.declared.parts.Parts.{Parts}
 use Rattle.restart.specs.Building.{HasCome}
@@ -40,21 +40,22 @@ pub record IsLeftOf (story : Story) (given : Given) : Type 0 where
   pub within : given.last ≤ story.made
 
 -- Such a thing is what the content gives, and a core may begin with it.
-pub record GivesStory (story : Story) (image : Image) : Type 0 where
+pub record GivesStory (story : Story) (image : CrashState) : Type 0 where
   pub given : Given
   pub gives : Gives image story.geometry given
   pub left : IsLeftOf story given
   pub opens : CanOpen (over story.geometry given)
 
 -- whatever a crash leaves of the device gives it
-abbrev pub KeepsStory : {D : Type 0} → (D → History) → Story → D → Type 0
-KeepsStory history story device = (image : Image) → IsCrashImage (history device).disk image → GivesStory story image
+abbrev pub KeepsStory : {D : Type 0} → (D → DevicePast) → Story → D → Type 0
+KeepsStory past_of story device = (image : CrashState) → IsCrashState (past_of device).disk image
+    → GivesStory story image
 
 -- A run begins at the engine over what was left of the story, and the core has come to where it is.
-pub record BeginsOver {D M : Type 0} (history : D → History) (story : Story) (engine : Parts D M) : Type 0 where
+pub record BeginsOver {D M : Type 0} (past_of : D → DevicePast) (story : Story) (engine : Parts D M) : Type 0 where
   pub given : Given
   pub left : IsLeftOf story given
-  pub at : IsAt history (opening story.geometry given) engine
+  pub at : IsAt past_of (opening story.geometry given) engine
   pub come : HasCome (core_of engine)
 
 -- The story goes on with a run: behind what was left of its history comes what the run's replies tell, and records up

@@ -1,7 +1,7 @@
 //! What the core is asked.
 ghost use Rattle.std.specs.Prelude.{◌≡◌, IfSome, IfNone, None};
-ghost use Rattle.core_contracts.specs.Events as events;
-ghost use Rattle.nsf_core.specs.Moves.{IsReadyOrNone, IsUnready, OwesNone, OwesOrNone, txn_shown};
+ghost use Rattle.core_model.specs.Events as events;
+ghost use Rattle.core_parts.specs.Moves.{IsReadyOrNone, IsUnready, OwesNone, OwesOrNone, txn_shown};
 
 use crate::parts::Parts;
 use crate::{Event, Reply};

@@ -1,32 +1,18 @@
 //! An image of the store is taken from the core, and made current.
 ghost use Rattle.std.specs.Prelude.{◌≡◌, ◌≤◌, ◌<◌, List, [], length, false, None, Some, IfSome, IfNone};
-ghost use Rattle.restart.specs.declared.event.Event.{Event as EventValue};
 ghost use Rattle.restart.specs.declared.event.Reply.{Reply as ReplyValue};
 ghost use Rattle.restart.specs.declared.parts.Parts.{Parts as PartsValue};
-ghost use Rattle.restart.specs.Between.{HaveNoRefusedCopy, copies_among};
 ghost use Rattle.restart.specs.Copies.{HaveFlip, HaveNoRefusal, copies, most_copies};
 ghost use Rattle.restart.specs.Lawful.{AreLawful};
-ghost use Rattle.restart.specs.Store.{AreServed, IsAt, Past};
 
 use crate::Reply;
 use crate::parts::Parts;
 use core_copies::{Copies, each_list, one_copy};
-use image_model::{Chunk, CopyPlace};
 use records::Error;
 use sector_device::Device;
 use std::alloc::Allocator;
-use store_writer::{FlipReply, FlushReply, StepReply, kept_place};
-
-/// How far the copying of an image has come.
-#[derive(Clone, Copy, Debug, PartialEq, Eq)]
-pub(crate) enum Copying {
-    /// No image is under way.
-    Idle,
-    /// An image is copied in steps, and goes on here; or it is whole, and is to be made current.
-    Steps(Option<CopyPlace>),
-    /// An image was given up, and a whole one is to be taken at once.
-    GivenUp,
-}
+use store_image_model::{Chunk, CopyPlace};
+use store_writer::{Copying, FlipReply, FlushReply, StepReply, kept_place};
 
 /// A law: of as many copies in a row as an image takes at most, none of them refused, one makes an image current: its
 /// start, its pages, its entries by chunks, and the flip.
@@ -36,35 +22,26 @@ pub fn copies_flip<D: Device, A: Allocator>()
         → most_copies old.geometry ≤ length replies → HaveFlip replies }
 {}
 
-/// A law: with any other requests between them, of one copy more than an image takes at most one makes an image
-/// current, where none of the copies was refused.
-pub fn copies_flip_between<D: Device, A: Allocator>()
-    ensures { (past : Past A) (events : List EventValue) (replies : List (ReplyValue A)) (old new : PartsValue D A)
-        → IsAt D.history past old → AreServed D.history D.failures past events replies old new
-        → HaveNoRefusedCopy events replies → most_copies past.geometry < copies_among events → HaveFlip replies }
-{}
-
 impl<D: Device, A: Allocator + Copy> Parts<D, A> {
-    ghost use Rattle.image_model.specs.declared.chunk.CopyPlace.{CopyPlace};
+    ghost use Rattle.store_image_model.specs.declared.chunk.CopyPlace.{CopyPlace};
+    ghost use Rattle.store_writer.specs.Copying.{IsPieceDue, next_place};
     ghost use Rattle.store_writer.specs.Parts.{image_of};
-    ghost use Rattle.store_writer.specs.Writer.{IsChunk};
-    ghost use Rattle.image_model.specs.Run.{Run};
-    ghost use Rattle.restart.specs.declared.copying.Copying.TheVariants.{Steps, GivenUp};
+    ghost use Rattle.store_writer.specs.declared.copying.Copying.TheVariants.{Steps, GivenUp};
     ghost use Rattle.restart.specs.declared.event.Event.TheVariants as event;
-    ghost use Rattle.restart.specs.Copies.{IsCopyAnswer, IsPieceDue, next_place};
+    ghost use Rattle.restart.specs.Copies.{IsCopyAnswer};
     ghost use Rattle.restart.specs.Groups.{CopiesByGroups, WritesByGroups};
     ghost use Rattle.restart.specs.Handing.{FlushesFirst, MovesOn};
     ghost use Rattle.restart.specs.Parts.{has_failed, unhanded, writer_of};
-    ghost use Rattle.restart.specs.Store.{CanRun, CopiesAround, ServesOn, StandsAt};
+    ghost use Rattle.restart.specs.Store.{CanRun, CopiesAround, ServesOn};
 
     /// Takes the next piece of an image, or makes it current.
     pub(crate) fn copy(&mut self) -> Reply<A>
-        requires { CanRun D.history self.old }
-        ensures serves { ServesOn D.history event.Copy result self.old self.new }
+        requires { CanRun D.past_of self.old }
+        ensures serves { ServesOn D.past_of event.Copy result self.old self.new }
         ensures answer { IsCopyAnswer D.failures result self.old self.new }
         ensures groups { CopiesByGroups self.old self.new }
-        ensures around { CopiesAround D.history self.old self.new }
-        ensures can_run { CanRun D.history self.new }
+        ensures around { CopiesAround D.past_of self.old self.new }
+        ensures can_run { CanRun D.past_of self.new }
     {
         if self.writer.has_failed() {
             return Reply::Refused(Error::DeviceFailed);
@@ -77,13 +54,13 @@ impl<D: Device, A: Allocator + Copy> Parts<D, A> {
 
     // So it does where the writer has all records.
     fn copy_handed(&mut self) -> Reply<A>
-        requires runs { CanRun D.history self.old }
+        requires runs { CanRun D.past_of self.old }
         requires all { unhanded self.old ≡ [] }
         requires sound { has_failed self.old ≡ false }
-        ensures moves { MovesOn D.history self.old self.new }
+        ensures moves { MovesOn D.past_of self.old self.new }
         ensures answer { IsCopyAnswer D.failures result self.old self.new }
         ensures groups { self.old.copying ≡ Steps None → WritesByGroups (writer_of self.old) (writer_of self.new) }
-        ensures around { CopiesAround D.history self.old self.new }
+        ensures around { CopiesAround D.past_of self.old self.new }
     {
         match self.copying {
             Copying::Idle => self.copy_piece(CopyPlace::Start),
@@ -97,14 +74,14 @@ impl<D: Device, A: Allocator + Copy> Parts<D, A> {
 
     // Takes the piece of this place.
     fn copy_piece(&mut self, place: CopyPlace) -> Reply<A>
-        requires runs { CanRun D.history self.old }
+        requires runs { CanRun D.past_of self.old }
         requires all { unhanded self.old ≡ [] }
         requires sound { has_failed self.old ≡ false }
         requires due { IsPieceDue self.old.geometry.pages place (image_of (writer_of self.old)) }
         requires next { next_place self.old.copying ≡ Some place }
-        ensures moves { MovesOn D.history self.old self.new }
+        ensures moves { MovesOn D.past_of self.old self.new }
         ensures answer { IsCopyAnswer D.failures result self.old self.new }
-        ensures around { CopiesAround D.history self.old self.new }
+        ensures around { CopiesAround D.past_of self.old self.new }
     {
         each_list();
         one_copy();
@@ -129,13 +106,13 @@ impl<D: Device, A: Allocator + Copy> Parts<D, A> {
 
     // Takes all at once, and makes it current.
     fn copy_all(&mut self) -> Reply<A>
-        requires runs { CanRun D.history self.old }
+        requires runs { CanRun D.past_of self.old }
         requires all { unhanded self.old ≡ [] }
         requires sound { has_failed self.old ≡ false }
         requires given_up { self.old.copying ≡ GivenUp }
-        ensures moves { MovesOn D.history self.old self.new }
+        ensures moves { MovesOn D.past_of self.old self.new }
         ensures answer { IsCopyAnswer D.failures result self.old self.new }
-        ensures around { CopiesAround D.history self.old self.new }
+        ensures around { CopiesAround D.past_of self.old self.new }
     {
         each_list();
         one_copy();
@@ -161,14 +138,14 @@ impl<D: Device, A: Allocator + Copy> Parts<D, A> {
 
     // Makes the image current, as soon as enough groups are written.
     fn flip(&mut self) -> Reply<A>
-        requires runs { CanRun D.history self.old }
+        requires runs { CanRun D.past_of self.old }
         requires all { unhanded self.old ≡ [] }
         requires sound { has_failed self.old ≡ false }
         requires whole { self.old.copying ≡ Steps None }
-        ensures moves { MovesOn D.history self.old self.new }
+        ensures moves { MovesOn D.past_of self.old self.new }
         ensures answer { IsCopyAnswer D.failures result self.old self.new }
         ensures groups { WritesByGroups (writer_of self.old) (writer_of self.new) }
-        ensures around { CopiesAround D.history self.old self.new }
+        ensures around { CopiesAround D.past_of self.old self.new }
     {
         'groups: loop {
             match self.flip_or_flush() {
@@ -180,15 +157,15 @@ impl<D: Device, A: Allocator + Copy> Parts<D, A> {
 
     // Makes the image current; or writes one group more, and then there is no answer yet.
     fn flip_or_flush(&mut self) -> Option<Reply<A>>
-        requires runs { CanRun D.history self.old }
+        requires runs { CanRun D.past_of self.old }
         requires all { unhanded self.old ≡ [] }
         requires sound { has_failed self.old ≡ false }
         requires whole { self.old.copying ≡ Steps None }
-        ensures moves { MovesOn D.history self.old self.new }
+        ensures moves { MovesOn D.past_of self.old self.new }
         ensures answer { IfSome result (λ reply. IsCopyAnswer D.failures reply self.old self.new) }
         ensures flushed { IfNone result (FlushesFirst D.failures self.old self.new) }
         ensures groups { IfSome result (λ reply. WritesByGroups (writer_of self.old) (writer_of self.new)) }
-        ensures around { CopiesAround D.history self.old self.new }
+        ensures around { CopiesAround D.past_of self.old self.new }
     {
         kept_place();
         match self.writer.checkpoint_flip() {

@@ -1,8 +1,12 @@
 //! The engine: a store that serves requests, whatever was asked of it before.
 ghost use Rattle.std.specs.Prelude.{◌≡◌, ◌≢◌, ◌⊎◌, ◌≤◌, [], OnErr, OnOk, IfOk, IfErr};
 
+use crate::build::{end_of, in_a_row};
 use crate::parts::Parts;
 use crate::{Event, Reply};
+use core_copies::each_list;
+use core_model::each_half;
+use model::Life;
 use nsf_core::Core;
 use records::Error;
 use sector_device::Device;
@@ -31,13 +35,13 @@ impl<D: Device, A: Allocator> Model for Engine<D, A> {
 
     ghost view = { λ engine. engine.parts };
 
-    ghost invariant = { λ engine. CanRun D.history engine.parts };
+    ghost invariant = { λ engine. CanRun D.past_of engine.parts };
 }
 
 impl<D: Device, A: Allocator + Copy> Engine<D, A> {
     ghost use Rattle.model.specs.declared.life.Life.TheVariants.{Absent};
     ghost use Rattle.nsf_core.specs.Value.{value_of};
-    ghost use Rattle.records.specs.declared.number.TheConstants.{LAST_NUMBER};
+    ghost use Rattle.record_values.specs.declared.number.TheConstants.{LAST_NUMBER};
     ghost use Rattle.restart.specs.Parts.{core_of, device_of, horizon_of};
     ghost use Rattle.restart.specs.Groups.{CopiesByGroups};
     ghost use Rattle.restart.specs.Lawful.{IsLawful, AreLawful};
@@ -56,15 +60,24 @@ impl<D: Device, A: Allocator + Copy> Engine<D, A> {
     /// none where the image could be made current at once (`groups`). The device has as many sectors as before
     /// (`sectors`).
     pub fn serve(&mut self, event: Event) -> Reply<A>
-        ensures serves { ServesOn D.history event result self.old self.new }
+        ensures serves { ServesOn D.past_of event result self.old self.new }
         ensures lawful { IsLawful D.failures event result self.old self.new }
-        ensures around { event ≢ Event.Copy → KeepsAround D.history self.old self.new }
-        ensures slot { event ≡ Event.Flush → OpensSlotsAlone D.history self.old self.new }
-        ensures copied { event ≡ Event.Copy → CopiesAround D.history self.old self.new }
+        ensures around { event ≢ Event.Copy → KeepsAround D.past_of self.old self.new }
+        ensures slot { event ≡ Event.Flush → OpensSlotsAlone D.past_of self.old self.new }
+        ensures copied { event ≡ Event.Copy → CopiesAround D.past_of self.old self.new }
         ensures groups { event ≡ Event.Copy → CopiesByGroups self.old self.new }
-        ensures sectors { KeepsSectors D.history self.old self.new }
+        ensures sectors { KeepsSectors D.past_of self.old self.new }
     {
-        self.parts.serve(event)
+        each_half();
+        each_list();
+        self.parts.writer.goes_on();
+        if let Event::Copy = event {
+            return self.parts.copy();
+        }
+        match self.parts.ask_core(event) {
+            Some(reply) => reply,
+            None => self.parts.flush(),
+        }
     }
 
     /// Serves requests in order, one reply for each. The one error is
@@ -78,14 +91,14 @@ impl<D: Device, A: Allocator + Copy> Engine<D, A> {
     /// horizon then (`at_end`). The device has as many sectors as before (`sectors`).
     pub fn run(&mut self, events: &[Event]) -> Result<Vec<Reply<A>, A>, Error>
         ensures any_crash { IfOk result (λ replies.
-            SurvivesAnyCrash D.history events.now replies.items self.old self.new) }
-        ensures at_end { IfOk result (λ replies. KeepsWholeRun D.history events.now replies.items self.old self.new) }
-        ensures ran { IfOk result (λ replies. RunsOn D.history events.now replies.items self.old self.new) }
+            SurvivesAnyCrash D.past_of events.now replies.items self.old self.new) }
+        ensures at_end { IfOk result (λ replies. KeepsWholeRun D.past_of events.now replies.items self.old self.new) }
+        ensures ran { IfOk result (λ replies. RunsOn D.past_of events.now replies.items self.old self.new) }
         ensures served { IfOk result (λ replies.
-            RunsLawfully D.history D.failures events.now replies.items self.old self.new) }
+            RunsLawfully D.past_of D.failures events.now replies.items self.old self.new) }
         ensures lawful { IfOk result (λ replies. AreLawful D.failures events.now replies.items self.old self.new) }
-        ensures around { OnOk result (HaveNoCopy events.now → KeepsAround D.history self.old self.new) }
-        ensures sectors { OnOk result (KeepsSectors D.history self.old self.new) }
+        ensures around { OnOk result (HaveNoCopy events.now → KeepsAround D.past_of self.old self.new) }
+        ensures sectors { OnOk result (KeepsSectors D.past_of self.old self.new) }
         ensures refused { OnErr result (self.new ≡ self.old) }
         ensures no_memory { IfErr result (λ e. e ≡ Error.NoMemory) }
         ensures some { OnErr result (events.now ≢ []) }
@@ -116,7 +129,7 @@ impl<D: Device, A: Allocator + Copy> Engine<D, A> {
     /// there was no entry (`CanOpen`): a builder leaves a marked entry as it is. It stays so whatever the answer is
     /// (`come`), so that a build may be gone on with; and no row changes (`rows`).
     pub fn build_to_end(&mut self) -> Result<u64, Error>
-        ensures built { IsBuiltToEnd D.history result self.old self.new }
+        ensures built { IsBuiltToEnd D.past_of result self.old self.new }
         ensures whole { OnOk result (BuildsWhole (core_of self.old) (core_of self.new)) }
         ensures why { IfErr result (λ e. (e ≡ Error.NoIndex) ⊎ (e ≡ Error.IndexFull) ⊎ (e ≡ Error.Exhausted)
             ⊎ (e ≡ Error.NoMemory)) }
@@ -126,7 +139,20 @@ impl<D: Device, A: Allocator + Copy> Engine<D, A> {
         ensures come { HasCome (core_of self.old) → HasCome (core_of self.new) }
         ensures rows { HasCome (core_of self.old) → (core_of self.new).heap.rows ≡ (core_of self.old).heap.rows }
     {
-        self.parts.build_to_end()
+        each_half();
+        each_list();
+        self.parts.writer.goes_on();
+        if let Life::Complete = self.parts.core.life() {
+            return Ok(self.parts.core.last());
+        }
+        let mut scanned = 0;
+        'steps: loop {
+            let reply = self.parts.core.build_step()?;
+            match end_of(&reply) {
+                Some(ticket) => return Ok(ticket.record.get()),
+                None => scanned = in_a_row(scanned, &reply),
+            }
+        }
     }
 
     /// The core: rows, transactions and index as they are now.
@@ -149,7 +175,7 @@ impl<D: Device, A: Allocator + Copy> Engine<D, A> {
     /// prefix of the history, with every record up to the horizon, and so with everything that was acknowledged.
     pub fn device(&self) -> &D
         ensures device { result.now ≡ device_of self.now }
-        ensures survives { KeepsRun D.history self.now result.now }
+        ensures survives { KeepsRun D.past_of self.now result.now }
     {
         self.parts.writer.device()
     }
@@ -162,12 +188,17 @@ impl<D: Device, A: Allocator + Copy> Engine<D, A> {
     /// on (`back`).
     pub fn take_apart(self) -> Result<(Core<A>, StoreWriter<D, A>), Self>
         ensures parts { IfOk result (λ r. ArePartsOf self (value_of r.0) r.1) }
-        ensures left { IfOk result (λ r. LeavesPartsOf D.history self (value_of r.0) r.1) }
-        ensures back { IfErr result (IsGivenBack D.history self) }
+        ensures left { IfOk result (λ r. LeavesPartsOf D.past_of self (value_of r.0) r.1) }
+        ensures back { IfErr result (IsGivenBack D.past_of self) }
     {
-        match self.parts.take_apart() {
-            Ok(parts) => Ok(parts),
-            Err(parts) => Err(Engine { parts }),
+        let Engine { mut parts } = self;
+        let all = parts.hand_over();
+        if all {
+            let Parts { core, writer, .. } = parts;
+            Ok((core, writer))
+        } else {
+            let engine = Engine { parts };
+            Err(engine)
         }
     }
 
@@ -176,8 +207,10 @@ impl<D: Device, A: Allocator + Copy> Engine<D, A> {
     /// with everything that was.
     pub fn into_device(self) -> D
         ensures device { result ≡ device_of self }
-        ensures survives { KeepsRun D.history self result }
+        ensures survives { KeepsRun D.past_of self result }
     {
-        self.parts.into_device()
+        let Engine { parts } = self;
+        let Parts { writer, .. } = parts;
+        writer.into_device()
     }
 }

@@ -4,12 +4,13 @@
 //! each record up to the horizon before, and all that was acknowledged (`any_crash`, `at_end`: of an engine that is
 //! where a run left it). Each reply is lawful (`lawful`). `restart` opens what a crash of such a run left, and is
 //! refused there only for want of memory or by a device that fails (`recovers`, `readable`). With no transaction
-//! active, an `Ok` of `build_to_end` over such a store leaves the visible entries just the pairs of the rows (`whole`).
+//! active, an `Ok` of `build_to_end` over such a store leaves the visible entries just the pairs of the rows (`whole`;
+//! `come_by_a_run`: every run leaves such a store). `last_checkpoint`: which pair a build goes on above.
 //! `copies_flip`: so many copies make an image current. With none active an engine that served is left as a restart
 //! would leave it: `into_writer` gives the writer, with all that the engine holds synced (`written`), and `fresh_core`
 //! a core over it (`fresh`); `into_parts` gives both. `migrate` opens over a new device what an old one gives by
 //! version 1, and writes nothing on the old one (`migrated`, `kept`); a new device that is too small is told
-//! (`too_small`). Only tested (`store_tests`): each allocation refused, and each call of the device
+//! (`too_small`). Only tested (`test_stores`): each allocation refused, and each call of the device
 //! failing, in turn; that calls succeed where there is memory. Neither: time; that an engine is left so without its
 //! device being read, or with each sector written once at most.
 #![tactic(auto)]
@@ -28,7 +29,7 @@ mod settling;
 mod sound;
 mod story;
 
-pub use copying::{copies_flip, copies_flip_between};
+pub use copying::copies_flip;
 pub use engine::Engine;
 pub use event::{Event, Reply};
 pub use lives::nothing_opens;

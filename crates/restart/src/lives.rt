@@ -1,5 +1,5 @@
 //! A law of a store that holds nothing.
-ghost use Rattle.records.specs.GeometryValue.{GeometryValue};
+ghost use Rattle.record_values.specs.GeometryValue.{GeometryValue};
 ghost use Rattle.model.specs.Given.{nothing};
 ghost use Rattle.core_model.specs.Histories.{CanOpen};
 ghost use Rattle.restart.specs.Store.{over};

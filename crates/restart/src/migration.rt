@@ -1,21 +1,20 @@
 //! A store of version 1 is moved to another device.
 ghost use Rattle.std.specs.Prelude.{◌≡◌, ◌≢◌, ◌<◌, ◌≤◌, length, OnOk, IfOk, IfErr};
-ghost use Rattle.sector_device.specs.History.{OnlyReads};
+ghost use Rattle.sector_device.specs.DevicePast.{OnlyReads};
 ghost use Rattle.sector_device.specs.Disk.{IsSynced, SameOutside};
-ghost use Rattle.records.specs.GeometryValue.{GeometryValue, sectors_of};
-ghost use Rattle.records.specs.declared.version.Version.TheVariants.{One};
-ghost use Rattle.model.specs.Given.{Given, opening_cells};
-ghost use Rattle.image_half.specs.Source.{FitsImage};
+ghost use Rattle.record_values.specs.GeometryValue.{sectors_of};
+ghost use Rattle.record_values.specs.declared.version.Version.TheVariants.{One};
+ghost use Rattle.model.specs.Given.{opening_cells};
+ghost use Rattle.store_image_half.specs.Source.{FitsImage};
 ghost use Rattle.flip_image.specs.Store.{IsDeviceFailure, IsStore};
-ghost use Rattle.redo.specs.Restored.{given_in};
-ghost use Rattle.store_reader.specs.Contents.{GivesIn, HasHeaderIn};
+ghost use Rattle.store_reader.specs.Restored.{given_in};
+ghost use Rattle.store_reader.specs.Contents.{HasHeaderIn};
 ghost use Rattle.nsf_core.specs.Value.{value_of};
 ghost use Rattle.restart.specs.Parts.{device_of};
 ghost use Rattle.restart.specs.Migrating.{BeginsEmpty, IsFilled, IsMigrated, IsMigratedCore, IsNotFilled};
 ghost use Rattle.restart.specs.Migrating.{IsNotMigrated, IsSmallAnswer, IsToldOfOld, IsTooSmall, WritesTheStoreAlone};
 
 use crate::Engine;
-use crate::copying::Copying;
 use crate::parts::Parts;
 use core_copies::each_list;
 use core_loader::load;
@@ -24,12 +23,11 @@ use flip_image::Halves;
 use gate_log::LogArea;
 use nsf_core::Core;
 use records::{Error, Geometry, Version};
-use redo::Restored;
 use sector_device::Device;
 use std::alloc::Allocator;
 use store_opener::write_over;
-use store_reader::{one_old_answer, read_store_in, room_for_given};
-use store_writer::StoreWriter;
+use store_reader::{Restored, one_old_answer, read_store_in, room_for_given};
+use store_writer::{Copying, StoreWriter};
 
 /// Why a store wasn't moved.
 #[derive(Clone, Copy, Debug, PartialEq, Eq, thiserror::Error)]
@@ -69,17 +67,17 @@ pub fn migrate<O: Device, N: Device, A: Allocator + Copy>(
     old: &mut O,
     mut new: N,
 ) -> Result<Engine<N, A>, (MigrateError, N)>
-    ensures migrated { IfOk result (λ engine. IsMigrated (O.history old.old).disk.content N.history engine) }
+    ensures migrated { IfOk result (λ engine. IsMigrated (O.past_of old.old).disk.content N.past_of engine) }
     ensures emptied { IfOk result (λ engine. BeginsEmpty engine) }
-    ensures around { IfOk result (λ engine. WritesTheStoreAlone (O.history old.old).disk.content N.history new
+    ensures around { IfOk result (λ engine. WritesTheStoreAlone (O.past_of old.old).disk.content N.past_of new
         (device_of engine)) }
-    ensures kept { OnlyReads (O.history old.old) (O.history old.new) }
-    ensures refused { IfErr result (λ r. IsNotMigrated (O.history old.old).disk.content (O.failures old.old)
-        (O.failures old.new) N.history N.failures new r.1 r.0) }
+    ensures kept { OnlyReads (O.past_of old.old) (O.past_of old.new) }
+    ensures refused { IfErr result (λ r. IsNotMigrated (O.past_of old.old).disk.content (O.failures old.old)
+        (O.failures old.new) N.past_of N.failures new r.1 r.0) }
     ensures memory { IfErr result (λ r. r.0 ≡ MigrateError.NoMemory
-        → HasHeaderIn One (O.history old.old).disk.content) }
-    ensures room { OnOk result (IsTooSmall (O.history old.old).disk.content (N.history new).disk.content → ⊥) }
-    ensures too_small { IsTooSmall (O.history old.old).disk.content (N.history new).disk.content
+        → HasHeaderIn One (O.past_of old.old).disk.content) }
+    ensures room { OnOk result (IsTooSmall (O.past_of old.old).disk.content (N.past_of new).disk.content → ⊥) }
+    ensures too_small { IsTooSmall (O.past_of old.old).disk.content (N.past_of new).disk.content
         → IfErr result (λ r. IsSmallAnswer r.0) }
     ensures told { IfErr result (λ r. r.0 ≢ MigrateError.Old Error.DeviceFailed
         → O.failures old.new ≡ O.failures old.old) }
@@ -114,16 +112,16 @@ fn move_store<O: Device, N: Device, A: Allocator + Copy>(
     old: &mut O,
     new: &mut N,
 ) -> Result<(Core<A>, Halves, LogArea), MigrateError>
-    ensures moved { IfOk result (λ r. IsMigratedCore (O.history old.old).disk.content (N.history new.new) r.1 r.2
+    ensures moved { IfOk result (λ r. IsMigratedCore (O.past_of old.old).disk.content (N.past_of new.new) r.1 r.2
         (value_of r.0)) }
     ensures empty { IfOk result (λ r. r.2.open_slots ≡ 0) }
-    ensures around { OnOk result (WritesTheStoreAlone (O.history old.old).disk.content N.history new.old new.new) }
-    ensures kept { OnlyReads (O.history old.old) (O.history old.new) }
-    ensures refused { IfErr result (IsNotMigrated (O.history old.old).disk.content (O.failures old.old)
-        (O.failures old.new) N.history N.failures new.old new.new) }
-    ensures memory { IfErr result (λ e. e ≡ MigrateError.NoMemory → HasHeaderIn One (O.history old.old).disk.content) }
-    ensures room { OnOk result (IsTooSmall (O.history old.old).disk.content (N.history new.old).disk.content → ⊥) }
-    ensures too_small { IsTooSmall (O.history old.old).disk.content (N.history new.old).disk.content
+    ensures around { OnOk result (WritesTheStoreAlone (O.past_of old.old).disk.content N.past_of new.old new.new) }
+    ensures kept { OnlyReads (O.past_of old.old) (O.past_of old.new) }
+    ensures refused { IfErr result (IsNotMigrated (O.past_of old.old).disk.content (O.failures old.old)
+        (O.failures old.new) N.past_of N.failures new.old new.new) }
+    ensures memory { IfErr result (λ e. e ≡ MigrateError.NoMemory → HasHeaderIn One (O.past_of old.old).disk.content) }
+    ensures room { OnOk result (IsTooSmall (O.past_of old.old).disk.content (N.past_of new.old).disk.content → ⊥) }
+    ensures too_small { IsTooSmall (O.past_of old.old).disk.content (N.past_of new.old).disk.content
         → IfErr result IsSmallAnswer }
     ensures told { IfErr result (λ e. e ≢ MigrateError.Old Error.DeviceFailed
         → O.failures old.new ≡ O.failures old.old) }
@@ -150,12 +148,12 @@ fn refusal_of_old(error: Error) -> MigrateError
 
 // Makes the device a store of this geometry, and opens it.
 fn format<D: Device>(device: &mut D, geometry: Geometry) -> Result<Halves, Error>
-    requires { sectors_of geometry ≤ length (D.history device.old).disk.content }
+    requires { sectors_of geometry ≤ length (D.past_of device.old).disk.content }
     ensures geometry { IfOk result (λ halves. halves.geometry ≡ geometry) }
-    ensures store { IfOk result (λ halves. IsStore halves.geometry halves.current (D.history device.new).disk.content) }
-    ensures synced { OnOk result (IsSynced (D.history device.new).disk) }
-    ensures around { OnOk result (SameOutside (λ n. n < sectors_of geometry) (D.history device.old).disk.content
-        (D.history device.new).disk.content) }
+    ensures store { IfOk result (λ halves. IsStore halves.geometry halves.current (D.past_of device.new).disk.content) }
+    ensures synced { OnOk result (IsSynced (D.past_of device.new).disk) }
+    ensures around { OnOk result (SameOutside (λ n. n < sectors_of geometry) (D.past_of device.old).disk.content
+        (D.past_of device.new).disk.content) }
     ensures refused { IfErr result (IsDeviceFailure (D.failures device.old) (D.failures device.new)) }
     ensures quiet { OnOk result (D.failures device.new ≡ D.failures device.old) }
 {
@@ -170,13 +168,13 @@ fn fill<D: Device, A: Allocator + Copy>(
     restored: Restored<A>,
 ) -> Result<(Core<A>, Halves, LogArea), MigrateError>
     requires { FitsImage restored.geometry (opening_cells (given_in restored)) }
-    ensures filled { IfOk result (λ r. IsFilled restored.geometry (given_in restored) (D.history device.new) r.1 r.2
+    ensures filled { IfOk result (λ r. IsFilled restored.geometry (given_in restored) (D.past_of device.new) r.1 r.2
         (value_of r.0)) }
     ensures empty { IfOk result (λ r. r.2.open_slots ≡ 0) }
-    ensures room { OnOk result (sectors_of restored.geometry ≤ length (D.history device.old).disk.content) }
+    ensures room { OnOk result (sectors_of restored.geometry ≤ length (D.past_of device.old).disk.content) }
     ensures around { OnOk result (SameOutside (λ n. n < sectors_of restored.geometry)
-        (D.history device.old).disk.content (D.history device.new).disk.content) }
-    ensures refused { IfErr result (IsNotFilled restored.geometry D.history D.failures device.old device.new) }
+        (D.past_of device.old).disk.content (D.past_of device.new).disk.content) }
+    ensures refused { IfErr result (IsNotFilled restored.geometry D.past_of D.failures device.old device.new) }
     ensures quiet { OnOk result (D.failures device.new ≡ D.failures device.old) }
 {
     if device.sectors() < restored.geometry.sectors() {

@@ -1,7 +1,7 @@
 //! A store is opened, after `format` or after a crash.
-ghost use Rattle.std.specs.Prelude.{◌≡◌, ◌≢◌, ◌⊎◌, ◌≤◌, List, OnOk, IfOk, IfErr};
+ghost use Rattle.std.specs.Prelude.{◌≡◌, ◌≢◌, ◌⊎◌, OnOk, IfOk, IfErr};
 ghost use Rattle.sector_device.specs.Disk.{IsSynced};
-ghost use Rattle.records.specs.GeometryValue.{GeometryValue};
+ghost use Rattle.record_values.specs.GeometryValue.{GeometryValue};
 ghost use Rattle.model.specs.Given.{Given};
 ghost use Rattle.gate_log.specs.Area.{Refuses};
 ghost use Rattle.store_reader.specs.Contents.{Gives, HasHeader, IsUnreadable};
@@ -13,7 +13,6 @@ ghost use Rattle.restart.specs.Reopening.{IsCoreOf, IsTurned, IsOpened, IsEmptie
 ghost use Rattle.restart.specs.Reopening.{RecoversAnyRun, RefusesNoRun, StaysOfAnyRun};
 
 use crate::Engine;
-use crate::copying::Copying;
 use crate::parts::Parts;
 use core_copies::each_list;
 use core_loader::load;
@@ -25,7 +24,7 @@ use records::Error;
 use sector_device::Device;
 use std::alloc::Allocator;
 use store_opener::{reopen, written_back};
-use store_writer::StoreWriter;
+use store_writer::{Copying, StoreWriter};
 
 /// Opens the store on the device: syncs it, reads it, and takes back what the transactions did that neither committed
 /// nor ended. What is left is written into the half that wasn't current, with an empty log, and that half is made
@@ -44,16 +43,16 @@ pub fn restart<D: Device, A: Allocator + Copy>(
     alloc: A,
     mut device: D,
 ) -> Result<Engine<D, A>, (Error, D)>
-    ensures opened { IfOk result (λ engine. IsOpened D.history device engine) }
-    ensures emptied { IfOk result (λ engine. IsEmptied D.history device engine) }
-    ensures refused { IfErr result (λ r. IsNotOpened D.history D.failures device r.1 r.0) }
-    ensures recovers { IfOk result (λ engine. RecoversAnyRun D.history device engine) }
-    ensures readable { IfErr result (λ r. RefusesNoRun A D.history D.failures device r.1 r.0) }
-    ensures stays { IfOk result (λ engine. StaysOfAnyRun A D.history device (device_of engine)) }
-    ensures stays_refused { IfErr result (λ r. StaysOfAnyRun A D.history device r.1) }
-    ensures memory { IfErr result (λ r. r.0 ≡ Error.NoMemory → HasHeader (D.history device).disk.content) }
+    ensures opened { IfOk result (λ engine. IsOpened D.past_of device engine) }
+    ensures emptied { IfOk result (λ engine. IsEmptied D.past_of device engine) }
+    ensures refused { IfErr result (λ r. IsNotOpened D.past_of D.failures device r.1 r.0) }
+    ensures recovers { IfOk result (λ engine. RecoversAnyRun D.past_of device engine) }
+    ensures readable { IfErr result (λ r. RefusesNoRun A D.past_of D.failures device r.1 r.0) }
+    ensures stays { IfOk result (λ engine. StaysOfAnyRun A D.past_of device (device_of engine)) }
+    ensures stays_refused { IfErr result (λ r. StaysOfAnyRun A D.past_of device r.1) }
+    ensures memory { IfErr result (λ r. r.0 ≡ Error.NoMemory → HasHeader (D.past_of device).disk.content) }
     ensures unwritten { IfErr result (λ r. r.0 ≢ Error.DeviceFailed → r.0 ≢ Error.NoMemory
-        → IsUnwritten D.history device r.1) }
+        → IsUnwritten D.past_of device r.1) }
     ensures quiet { IfOk result (λ engine. D.failures (device_of engine) ≡ D.failures device) }
 {
     each_half();
@@ -84,22 +83,22 @@ fn open_core<D: Device, A: Allocator + Copy>(
     alloc: A,
     device: &mut D,
 ) -> Result<(Core<A>, Halves, LogArea), Error>
-    ensures found { IfOk result (λ r. IsCoreOf (D.history device.old).disk.content (D.history device.new) r.1 r.2
+    ensures found { IfOk result (λ r. IsCoreOf (D.past_of device.old).disk.content (D.past_of device.new) r.1 r.2
         (value_of r.0)) }
-    ensures turned { IsTurned D.history device.old device.new }
-    ensures flipped { IfOk result (λ r. IsStore r.1.geometry (other r.1.current) (D.history device.old).disk.content) }
+    ensures turned { IsTurned D.past_of device.old device.new }
+    ensures flipped { IfOk result (λ r. IsStore r.1.geometry (other r.1.current) (D.past_of device.old).disk.content) }
     ensures empty { IfOk result (λ r. r.2.open_slots ≡ 0) }
-    ensures settled { IfErr result (λ e. e ≢ Error.DeviceFailed → IsSynced (D.history device.new).disk) }
+    ensures settled { IfErr result (λ e. e ≢ Error.DeviceFailed → IsSynced (D.past_of device.new).disk) }
     ensures unwritten { IfErr result (λ e. e ≢ Error.DeviceFailed → e ≢ Error.NoMemory
-        → IsUnwritten D.history device.old device.new) }
+        → IsUnwritten D.past_of device.old device.new) }
     ensures quiet { OnOk result (D.failures device.new ≡ D.failures device.old) }
     ensures told { IfErr result (λ e. e ≢ Error.DeviceFailed → D.failures device.new ≡ D.failures device.old) }
     ensures refused { IfErr result (λ e. Refuses (D.failures device.old) (D.failures device.new) e
-        ⊎ IsUnreadable (D.history device.old).disk.content e) }
+        ⊎ IsUnreadable (D.past_of device.old).disk.content e) }
     ensures accepted { (geometry : GeometryValue) (given : Given)
-        → Gives (D.history device.old).disk.content geometry given
+        → Gives (D.past_of device.old).disk.content geometry given
         → IfErr result (Refuses (D.failures device.old) (D.failures device.new)) }
-    ensures memory { IfErr result (λ e. e ≡ Error.NoMemory → HasHeader (D.history device.old).disk.content) }
+    ensures memory { IfErr result (λ e. e ≡ Error.NoMemory → HasHeader (D.past_of device.old).disk.content) }
 {
     let found = reopen(alloc, device)?;
     let core = load(alloc, &found.restored)?;

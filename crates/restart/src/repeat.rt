@@ -45,7 +45,7 @@ impl<D: Device, A: Allocator + Copy> Engine<D, A> {
     /// where an image is under way already. The reply is that of the last one, `Flipped` or `Refused`. A crash at any
     /// moment leaves what one within a copy of these leaves.
     pub fn take_image(&mut self) -> Reply<A>
-        ensures { TakesImage D.history D.failures result self.old self.new }
+        ensures { TakesImage D.past_of D.failures result self.old self.new }
     {
         'copies: loop {
             let reply = self.serve(Event::Copy);
@@ -57,7 +57,7 @@ impl<D: Device, A: Allocator + Copy> Engine<D, A> {
 
     // Takes an image, and flushes once behind it.
     fn flush_behind_image(&mut self) -> Reply<A>
-        ensures { FlushesBehindImage D.history D.failures result self.old self.new }
+        ensures { FlushesBehindImage D.past_of D.failures result self.old self.new }
     {
         match self.take_image() {
             Reply::Flipped(_) => self.serve(Event::Flush),
@@ -67,7 +67,7 @@ impl<D: Device, A: Allocator + Copy> Engine<D, A> {
 
     // Flushes once, behind an image where the log is full.
     fn flush_once(&mut self) -> Reply<A>
-        ensures { FlushesOnce D.history D.failures result self.old self.new }
+        ensures { FlushesOnce D.past_of D.failures result self.old self.new }
     {
         match self.serve(Event::Flush) {
             Reply::LogFull => self.flush_behind_image(),
@@ -79,7 +79,7 @@ impl<D: Device, A: Allocator + Copy> Engine<D, A> {
     /// taken and made current, and it goes on. The reply is that of the last flush, or of the copy that was refused. A
     /// crash at any moment leaves what one within a flush or a copy of these leaves.
     pub fn flush_all(&mut self) -> Reply<A>
-        ensures { FlushesAll D.history D.failures (core_of self.old).last result self.old self.new }
+        ensures { FlushesAll D.past_of D.failures (core_of self.old).last result self.old self.new }
     {
         let last = self.core().last();
         let mut told = None;

@@ -8,77 +8,28 @@ ghost use Rattle.restart.specs.Settling.{CopiesAnew, IsFresh, IsNotParted, IsNot
 ghost use Rattle.restart.specs.Store.{CanRun};
 ghost use Rattle.store_writer.specs.Parts.{image_of};
 
-use crate::copying::Copying;
 use crate::parts::Parts;
 use crate::{Engine, Reply};
 use core_copies::{Copies, each_list, one_copy};
 use core_loader::load;
-use image_model::{Chunk, Piece};
 use model::CellMaps;
 use nsf_core::Core;
 use records::Error;
-use redo::Restored;
 use sector_device::Device;
 use std::alloc::Allocator;
-use store_writer::StoreWriter;
+use store_image_model::{Chunk, Piece};
+use store_reader::Restored;
+use store_writer::{Copying, StoreWriter};
 
 impl<D: Device, A: Allocator + Copy> Parts<D, A> {
-    // A core over what this engine's core holds, as a restart makes one.
-    fn fresh_core(&self) -> Result<Core<A>, Error>
-        requires can_run { CanRun D.history self.now }
-        requires quiet { IsQuiet (core_of self.now) }
-        ensures fresh { IfOk result (λ core. IsFresh (core_of self.now) (value_of core)) }
-        ensures no_memory { IfErr result (λ e. e ≡ Error.NoMemory) }
-    {
-        let Chunk { number, piece } = self.core.copy_whole(self.alloc)?;
-        let Piece::Whole { cells } = piece else {
-            unreachable!()
-        };
-        let CellMaps {
-            rows,
-            entries,
-            life,
-            ..
-        } = cells;
-        let found = Restored {
-            geometry: self.geometry,
-            rows,
-            entries,
-            life,
-            last: number,
-        };
-        load(self.alloc, &found)
-    }
-
     // Gives an image under way up, and takes a whole one at once.
     fn copy_anew(&mut self) -> Reply<A>
-        requires { CanRun D.history self.old }
-        ensures copies { CopiesAnew D.history D.failures result self.old self.new }
-        ensures can_run { CanRun D.history self.new }
+        requires { CanRun D.past_of self.old }
+        ensures copies { CopiesAnew D.past_of D.failures result self.old self.new }
+        ensures can_run { CanRun D.past_of self.new }
     {
         self.copying = Copying::GivenUp;
         self.copy()
-    }
-
-    // The writer, behind a whole image.
-    fn into_writer(mut self) -> Result<StoreWriter<D, A>, (Error, Self)>
-        requires can_run { CanRun D.history self }
-        requires quiet { IsQuiet (core_of self) }
-        ensures written { IfOk result (WritesWhole D.history D.failures self) }
-        ensures refused { IfErr result (λ r. IsNotWritten D.history D.failures self r.1 r.0) }
-        ensures can_run { IfErr result (λ r. CanRun D.history r.1) }
-    {
-        each_list();
-        one_copy();
-        let _txns = self.core.active_txns();
-        match self.copy_anew() {
-            Reply::Flipped(_) => {
-                let Parts { writer, .. } = self;
-                Ok(writer)
-            }
-            Reply::Refused(error) => Err((error, self)),
-            _ => unreachable!(),
-        }
     }
 }
 
@@ -92,7 +43,24 @@ impl<D: Device, A: Allocator + Copy> Engine<D, A> {
         ensures fresh { IfOk result (λ core. IsFresh (core_of self.now) (value_of core)) }
         ensures no_memory { IfErr result (λ e. e ≡ Error.NoMemory) }
     {
-        self.parts.fresh_core()
+        let Chunk { number, piece } = self.parts.core.copy_whole(self.parts.alloc)?;
+        let Piece::Whole { cells } = piece else {
+            unreachable!()
+        };
+        let CellMaps {
+            rows,
+            entries,
+            life,
+            ..
+        } = cells;
+        let found = Restored {
+            geometry: self.parts.geometry,
+            rows,
+            entries,
+            life,
+            last: number,
+        };
+        load(self.parts.alloc, &found)
     }
 
     /// The writer that owns the device, once all that the engine holds was written to it as a whole image, while no
@@ -103,12 +71,20 @@ impl<D: Device, A: Allocator + Copy> Engine<D, A> {
     /// `NoMemory` the next copy takes a whole image, and after `DeviceFailed` each is refused so (`refused`).
     pub fn into_writer(self) -> Result<StoreWriter<D, A>, (Error, Self)>
         requires { IsQuiet (core_of self) }
-        ensures written { IfOk result (WritesWhole D.history D.failures self) }
-        ensures refused { IfErr result (λ r. IsNotWritten D.history D.failures self r.1 r.0) }
+        ensures written { IfOk result (WritesWhole D.past_of D.failures self) }
+        ensures refused { IfErr result (λ r. IsNotWritten D.past_of D.failures self r.1 r.0) }
     {
-        match self.parts.into_writer() {
-            Ok(writer) => Ok(writer),
-            Err((error, parts)) => Err((error, Engine { parts })),
+        each_list();
+        one_copy();
+        let Engine { mut parts } = self;
+        let _txns = parts.core.active_txns();
+        match parts.copy_anew() {
+            Reply::Flipped(_) => {
+                let Parts { writer, .. } = parts;
+                Ok(writer)
+            }
+            Reply::Refused(error) => Err((error, Engine { parts })),
+            _ => unreachable!(),
         }
     }
 
@@ -125,8 +101,8 @@ impl<D: Device, A: Allocator + Copy> Engine<D, A> {
         ensures fresh { IfOk result (λ r. IsFresh (core_of self) (value_of r.0)) }
         ensures counted { IfOk result (λ r. (value_of r.0).commits ≡ 0) }
         ensures given_up { IfOk result (λ r. image_of r.1 ≡ None) }
-        ensures written { IfOk result (λ r. WritesWhole D.history D.failures self r.1) }
-        ensures refused { IfErr result (λ r. IsNotParted D.history D.failures self r.1 r.0) }
+        ensures written { IfOk result (λ r. WritesWhole D.past_of D.failures self r.1) }
+        ensures refused { IfErr result (λ r. IsNotParted D.past_of D.failures self r.1 r.0) }
     {
         if self.core().active_txns() > 0 {
             return Err((Error::TxnsActive, self));

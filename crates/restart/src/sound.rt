@@ -1,7 +1,7 @@
 //! Whether what an engine holds is sound.
 ghost use Rattle.std.specs.Prelude.{◌↔◌, IsTrue};
 ghost use Rattle.core_model.specs.Histories.{CanOpen};
-ghost use Rattle.nsf_core.specs.Opening.{opened_of};
+ghost use Rattle.core_parts.specs.Opening.{opened_of};
 
 use crate::Engine;
 use sector_device::Device;

@@ -1,10 +1,10 @@
 //! Laws of a store from its beginning on.
 ghost use Rattle.std.specs.Prelude.{◌≡◌, ◌⊎◌, ◌≤◌, ℕ, Some};
-ghost use Rattle.sector_device.specs.Disk.{Image, IsCrashImage, IsSynced};
-ghost use Rattle.sector_device.specs.History.{LeavesOnly};
-ghost use Rattle.records.specs.GeometryValue.{GeometryValue};
-ghost use Rattle.records.specs.declared.error.Error.{Error};
-ghost use Rattle.records.specs.declared.pair.Pair.{Pair};
+ghost use Rattle.sector_device.specs.Disk.{CrashState, IsCrashState, IsSynced};
+ghost use Rattle.sector_device.specs.DevicePast.{LeavesOnly};
+ghost use Rattle.record_values.specs.GeometryValue.{GeometryValue};
+ghost use Rattle.record_values.specs.declared.error.Error.{Error};
+ghost use Rattle.record_values.specs.declared.pair.Pair.{Pair};
 ghost use Rattle.model.specs.Given.{Given};
 ghost use Rattle.model.specs.declared.life.Life.TheVariants.{Building};
 ghost use Rattle.gate_log.specs.Area.{Refuses};
@@ -36,28 +36,28 @@ use store_reader::{format_gives_nothing, one_answer};
 /// device that is synced keeps what it gives (`again`), so that all of this holds of it anew. Each opening may have an
 /// allocator of another type: the story doesn't name it.
 pub fn every_story<D: Device, A: Allocator>()
-    ensures formatted { (g : GeometryValue) (d : D) → IsFormatted g (D.history d).disk.content
-        → AreGatesClosed g half.A (D.history d).disk.content → IsSynced (D.history d).disk
-        → KeepsStory D.history (untold g) d }
-    ensures moved { (old : Image) (engine : PartsValue D A) (is : IsMigrated old D.history engine)
+    ensures formatted { (g : GeometryValue) (d : D) → IsFormatted g (D.past_of d).disk.content
+        → AreGatesClosed g half.A (D.past_of d).disk.content → IsSynced (D.past_of d).disk
+        → KeepsStory D.past_of (untold g) d }
+    ensures moved { (old : CrashState) (engine : PartsValue D A) (is : IsMigrated old D.past_of engine)
         → CanOpen (over is.opened.geometry is.opened.given)
-        → KeepsStory D.history (begun_with is.opened.geometry is.opened.given) (device_of engine) }
-    ensures crashed { (story : Story) (before after : D) → KeepsStory D.history story before
-        → IsCrashImage (D.history before).disk (D.history after).disk.content → IsSynced (D.history after).disk
-        → KeepsStory D.history story after }
-    ensures cut_short { (story : Story) (before after : D) → KeepsStory D.history story before
-        → IsTurned D.history before after → LeavesOnly (D.history before) (D.history after) (GivesStory story) }
-    ensures behind { (story : Story) (before after : D) → KeepsStory D.history story before
-        → IsTurned D.history before after → KeepsStory D.history story after }
-    ensures readable { (story : Story) (before after : D) (e : Error) → KeepsStory D.history story before
-        → IsNotOpened D.history D.failures before after e → Refuses (D.failures before) (D.failures after) e }
-    ensures opened { (story : Story) (before : D) (engine : PartsValue D A) → KeepsStory D.history story before
-        → IsOpened D.history before engine → BeginsOver D.history story engine }
-    ensures ran { (story : Story) (past : Past A) (floor : ℕ) (image : Image) → past.geometry ≡ story.geometry
+        → KeepsStory D.past_of (begun_with is.opened.geometry is.opened.given) (device_of engine) }
+    ensures crashed { (story : Story) (before after : D) → KeepsStory D.past_of story before
+        → IsCrashState (D.past_of before).disk (D.past_of after).disk.content → IsSynced (D.past_of after).disk
+        → KeepsStory D.past_of story after }
+    ensures cut_short { (story : Story) (before after : D) → KeepsStory D.past_of story before
+        → IsTurned D.past_of before after → LeavesOnly (D.past_of before) (D.past_of after) (GivesStory story) }
+    ensures behind { (story : Story) (before after : D) → KeepsStory D.past_of story before
+        → IsTurned D.past_of before after → KeepsStory D.past_of story after }
+    ensures readable { (story : Story) (before after : D) (e : Error) → KeepsStory D.past_of story before
+        → IsNotOpened D.past_of D.failures before after e → Refuses (D.failures before) (D.failures after) e }
+    ensures opened { (story : Story) (before : D) (engine : PartsValue D A) → KeepsStory D.past_of story before
+        → IsOpened D.past_of before engine → BeginsOver D.past_of story engine }
+    ensures ran { (story : Story) (past : Past A) (floor : ℕ) (image : CrashState) → past.geometry ≡ story.geometry
         → IsLeftOf story past.given → past.given.last ≤ floor → Survives past floor image
         → GivesStory (and_run story past floor) image }
-    ensures again { (story : Story) (d : D) → GivesStory story (D.history d).disk.content → IsSynced (D.history d).disk
-        → KeepsStory D.history story d }
+    ensures again { (story : Story) (d : D) → GivesStory story (D.past_of d).disk.content → IsSynced (D.past_of d).disk
+        → KeepsStory D.past_of story d }
     ensures safe { (past : Past A) → past.given.last ≤ acknowledged_by past }
 {
     format_gives_nothing();
@@ -77,5 +77,5 @@ pub fn last_checkpoint()
 /// A law: the core of an engine that a run left has come to where it is, so that a build that goes on to its end leaves
 /// the index whole (`build_to_end`).
 pub fn come_by_a_run<D: Device, A: Allocator>()
-    ensures { (past : Past A) (engine : PartsValue D A) → IsAt D.history past engine → HasCome (core_of engine) }
+    ensures { (past : Past A) (engine : PartsValue D A) → IsAt D.past_of past engine → HasCome (core_of engine) }
 {}

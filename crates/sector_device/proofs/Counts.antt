@@ -1,11 +1,7 @@
 -- The count of failures over several calls.
 use Rattle.std.proofs.Common.{Result, Ok, Err, ◌≡◌, ⊎_elim, ℕ, ◌-◌, ◌^◌, ◌<◌, ◌≤◌, refl, ◌∙◌, arith}
 use Rattle.std.proofs.lemmas.Bool.{cases_lt}
-use Rattle.sector_device.specs.History.{Rises, CountsFailure}
-
--- before the first call
-pub counts_none : {T E : Type 0} (a : ℕ) (x : T) → CountsFailure {E = E} a a (Ok x)
-counts_none a x = record { later = omega arith; none = refl; failed = tt }
+use Rattle.sector_device.specs.DevicePast.{Rises, CountsFailure}
 
 -- a failure after other calls
 pub rises_later : (a b c : ℕ) → a ≤ b → b ≤ c → Rises b c → Rises a c

@@ -2,6 +2,6 @@ pub mod Counts
 pub mod Moments
 pub mod Record
 pub mod Sectors
-pub mod Tear
+mod Tear
 pub mod Within
 pub mod KnownSectors

@@ -12,10 +12,10 @@ use Rattle.std.proofs.lemmas.Grind.{get_or-set_at}
 use Rattle.std.proofs.Math.ListN.{length-replicate, get_or-replicate}
 use Rattle.sector_device.specs.declared.call.Call.{Call}
 use Rattle.sector_device.specs.declared.call.Call.TheVariants.{Write, Sync}
-use Rattle.sector_device.specs.Disk.{Image, sector, IsSector, IsDiskWhole, Disk, after_write, after_sync}
-use Rattle.sector_device.specs.History.{Elapses}
+use Rattle.sector_device.specs.Disk.{CrashState, sector, IsSector, IsDiskWhole, Disk, after_write, after_sync}
+use Rattle.sector_device.specs.DevicePast.{Elapses}
 use Rattle.sector_device.specs.Values.{zero_sector}
-use Rattle.sector_device.specs.Memory.{MemoryState, initial_state, step, state_after, disk_of, memory_history, unsynced_since, Represents}
+use Rattle.sector_device.specs.Memory.{MemoryState, initial_state, step, state_after, disk_of, memory_past, unsynced_since, Represents}
 
 -- ---- the record
 
@@ -23,13 +23,13 @@ pub state_after-push : (s : MemoryState) (calls : List Call) (call : Call) → s
 state_after-push s [] call = refl
 state_after-push s (c ∷ calls) call = state_after-push (step s c) calls call
 
-past : Image → List Call → Disk
+past : CrashState → List Call → Disk
 past first calls = disk_of (state_after (initial_state first) calls)
 
-module _ (first : Image) (calls later : List Call) (whole : IsDiskWhole (state_after (initial_state first) calls).content)
+module _ (first : CrashState) (calls later : List Call) (whole : IsDiskWhole (state_after (initial_state first) calls).content)
     (later_whole : IsDiskWhole (state_after (initial_state first) later).content) where
   -- no time passes
-  pub elapses_same : later ≡ calls → Elapses (memory_history first calls whole) (memory_history first later later_whole)
+  pub elapses_same : later ≡ calls → Elapses (memory_past first calls whole) (memory_past first later later_whole)
   elapses_same is = record {
     later = omega (arith, ap length is);
     kept = λ t le. ap (λ (l : List Call). disk_of (state_after (initial_state first) (take t l))) is;
@@ -38,7 +38,7 @@ module _ (first : Image) (calls later : List Call) (whole : IsDiskWhole (state_a
   }
 
   -- time goes on by a call
-  pub elapses_push : (call : Call) → later ≡ calls ++ call ∷ [] → Elapses (memory_history first calls whole) (memory_history first later later_whole)
+  pub elapses_push : (call : Call) → later ≡ calls ++ call ∷ [] → Elapses (memory_past first calls whole) (memory_past first later later_whole)
   elapses_push call is = record {
     later = omega (arith, size);
     kept = earlier;
@@ -126,7 +126,7 @@ synced_count-set synced_at (at ∷ written_at) (suc n) now below own after =
 
 -- ---- one call more
 
-module _ (s : MemoryState) (calls : ℕ) (content before : Image) (written_at : List ℕ) (synced_at : ℕ)
+module _ (s : MemoryState) (calls : ℕ) (content before : CrashState) (written_at : List ℕ) (synced_at : ℕ)
     (represents : Represents s calls content before written_at synced_at) where
   sizes : length s.content ≡ length content
   sizes = ap length represents.content_is
@@ -137,7 +137,7 @@ module _ (s : MemoryState) (calls : ℕ) (content before : Image) (written_at : 
   pub represents_write : (n : ℕ) (bytes old : List ℕ) (now : ℕ) → n < length content → IsSector bytes → old ≡ sector s.synced n → now ≡ calls + 1
       → Represents (step s (Write n bytes)) (calls + 1) (slice_set content n bytes) (slice_set before n old) (slice_set written_at n now) synced_at
   represents_write n bytes old now below all_bytes is_old is_now = record {
-    content_is = ap (λ (c : Image). slice_set c n bytes) represents.content_is;
+    content_is = ap (λ (c : CrashState). slice_set c n bytes) represents.content_is;
     unsynced_is = ap (λ (f : List Bool). slice_set f n true) represents.unsynced_is
         ∙ sym (unsynced-set synced_at written_at n now (omega (arith, represents.last_sync, is_now)));
     before_is = kept;
@@ -181,7 +181,7 @@ module _ (s : MemoryState) (calls : ℕ) (content before : Image) (written_at : 
     unsynced_is = sym (none_unsynced now written_at (λ k. omega (arith, represents.last_writes k, is_now))
         ∙ ap (λ (n : ℕ). replicate n false) (represents.written_size ∙ sym sizes));
     before_is = λ k is. absurd (let none = no_flag (length s.content) k in cc (none, is));
-    same = λ k is. ap (λ (c : Image). sector c k) represents.content_is;
+    same = λ k is. ap (λ (c : CrashState). sector c k) represents.content_is;
     before_size = represents.before_size;
     written_size = represents.written_size;
     last_sync = omega (arith, is_now);
@@ -203,11 +203,11 @@ module _ (s : MemoryState) (calls : ℕ) (content before : Image) (written_at : 
       flagged = fun_ext (λ k. no_flag (length s.content) k)
 
 -- the call is recorded
-pub state_push : (first : Image) (calls later : List Call) (call : Call) → later ≡ calls ++ call ∷ []
+pub state_push : (first : CrashState) (calls later : List Call) (call : Call) → later ≡ calls ++ call ∷ []
     → state_after (initial_state first) later ≡ step (state_after (initial_state first) calls) call
 state_push first calls later call is = ap (state_after (initial_state first)) is ∙ state_after-push (initial_state first) calls call
 
-pub represents_push : (first : Image) (calls later : List Call) (call : Call) (content before : Image) (written_at : List ℕ) (synced_at : ℕ)
+pub represents_push : (first : CrashState) (calls later : List Call) (call : Call) (content before : CrashState) (written_at : List ℕ) (synced_at : ℕ)
     → later ≡ calls ++ call ∷ [] → Represents (step (state_after (initial_state first) calls) call) (length calls + 1) content before written_at synced_at
     → Represents (state_after (initial_state first) later) (length later) content before written_at synced_at
 represents_push first calls later call content before written_at synced_at is represents =
@@ -215,12 +215,12 @@ represents_push first calls later call content before written_at synced_at is re
     (subst (λ m. Represents (step (state_after (initial_state first) calls) call) m content before written_at synced_at)
     (sym (ap length is ∙ length-append calls (call ∷ []))) represents)
 
-pub disk_push : (first : Image) (calls later : List Call) (call : Call) → later ≡ calls ++ call ∷ []
+pub disk_push : (first : CrashState) (calls later : List Call) (call : Call) → later ≡ calls ++ call ∷ []
     → disk_of (state_after (initial_state first) later) ≡ disk_of (step (state_after (initial_state first) calls) call)
 disk_push first calls later call is = ap disk_of (state_push first calls later call is)
 
 -- the record begins anew
-pub represents_initial : (image before : Image) (written_at : List ℕ) → IsDiskWhole image → length before ≡ length image → length written_at ≡ length image
+pub represents_initial : (image before : CrashState) (written_at : List ℕ) → IsDiskWhole image → length before ≡ length image → length written_at ≡ length image
     → ((k : ℕ) → slice_index written_at k ≡ 0) → Represents (initial_state image) 0 image before written_at 0
 represents_initial image before written_at whole before_size written_size zeros = record {
   content_is = refl;
@@ -236,14 +236,14 @@ represents_initial image before written_at whole before_size written_size zeros 
 }
 
 -- what a slice of a whole list is after writes to it
-pub written_back : (new old : Image) (n : ℕ) → length new ≡ length old → n ≡ length old → take n (new ++ drop (length new) old) ≡ new
+pub written_back : (new old : CrashState) (n : ℕ) → length new ≡ length old → n ≡ length old → take n (new ++ drop (length new) old) ≡ new
 written_back new old n same size =
-    ap (λ (l : Image). take n (new ++ l)) (drop_all (length new) old (omega (arith, same)))
-    ∙ ap (λ (l : Image). take n l) (append-nil new)
+    ap (λ (l : CrashState). take n (new ++ l)) (drop_all (length new) old (omega (arith, same)))
+    ∙ ap (λ (l : CrashState). take n l) (append-nil new)
     ∙ take_all n new (omega (arith, same, size))
 
 -- the record begins anew after a crash
-pub represents_crashed : (first image before : Image) (calls : List Call) (written_at : List ℕ) → first ≡ image → calls ≡ [] → IsDiskWhole image
+pub represents_crashed : (first image before : CrashState) (calls : List Call) (written_at : List ℕ) → first ≡ image → calls ≡ [] → IsDiskWhole image
     → length before ≡ length image → length written_at ≡ length image → ((k : ℕ) → slice_index written_at k ≡ 0)
     → Represents (state_after (initial_state first) calls) (length calls) image before written_at 0
 represents_crashed first image before calls written_at is no_calls whole before_size written_size zeros =
@@ -263,7 +263,7 @@ replicate_push n bytes = rw add-one (go n)
   where
     go : (m : ℕ) → replicate m bytes ++ bytes ∷ [] ≡ bytes ∷ replicate m bytes
     go zero = refl
-    go (suc m) = ap (λ (l : Image). bytes ∷ l) (go m)
+    go (suc m) = ap (λ (l : CrashState). bytes ∷ l) (go m)
 
 zeros_are_sector : IsSector zero_sector
 unfolding zero_sector

@@ -7,7 +7,8 @@ use Rattle.std.proofs.lemmas.Bool.Decides.{nat_tests}
 use Rattle.std.proofs.lemmas.List.{get_or-set_same, get_or-set_other, get_or-take, get_or-drop, ext_get_or, take_more, append-nil, append_assoc, get_or_past}
 use Rattle.std.proofs.lemmas.Grind.{get_or-set_at}
 use Rattle.sector_device.specs.declared.device.Failed.{Failed}
-use Rattle.sector_device.specs.Disk.{Image, sector, IsSector, IsDiskWhole, Disk, after_write, after_sync, IsFailedWrite, IsSynced, IsCrashImage, SameOutside}
+use Rattle.sector_device.specs.Disk.{CrashState, sector, IsSector, IsDiskWhole, Disk, after_write, after_sync, IsFailedWrite, IsSynced, IsCrashState}
+use Rattle.sector_device.specs.Disk.{SameOutside}
 use Rattle.sector_device.specs.Disk.{SyncedOutside}
 
 -- ---- one call
@@ -34,12 +35,8 @@ sector_written disk n bytes below = get_or-set_same disk.content n bytes [] belo
 pub sector_other : (disk : Disk) (n k : ℕ) (bytes : List ℕ) → k ≢ n → sector (after_write disk n bytes).content k ≡ sector disk.content k
 sector_other disk n k bytes other = get_or-set_other disk.content n k bytes [] other
 
--- images with the same sectors are the same
-pub same_image : (a b : Image) → length a ≡ length b → ((k : ℕ) → k < length a → sector a k ≡ sector b k) → a ≡ b
-same_image a b long same = ext_get_or [] a b long same
-
 -- two images with the same sectors from low up to high have the same part there
-pub same_part : (a b : Image) (low high : ℕ) → length a ≡ length b → ((k : ℕ) → low ≤ k → k < high → sector a k ≡ sector b k)
+pub same_part : (a b : CrashState) (low high : ℕ) → length a ≡ length b → ((k : ℕ) → low ≤ k → k < high → sector a k ≡ sector b k)
     → slice_range a low high ≡ slice_range b low high
 same_part a b low high long same = ext_get_or [] (slice_range a low high) (slice_range b low high) sizes each
   where
@@ -56,7 +53,7 @@ same_part a b low high long same = ext_get_or [] (slice_range a low high) (slice
         ∙ sym (get_or-take (high - low) (drop low b) i [] inside)
 
 -- a part of an image, sector by sector
-pub part_is : (image rows : Image) (low high : ℕ) → high ≤ length image → low + length rows ≡ high
+pub part_is : (image rows : CrashState) (low high : ℕ) → high ≤ length image → low + length rows ≡ high
     → ((k : ℕ) → k < length rows → sector image (low + k) ≡ sector rows k) → slice_range image low high ≡ rows
 part_is image rows low high room size each = ext_get_or [] (slice_range image low high) rows long at
   where
@@ -69,7 +66,7 @@ part_is image rows low high room size each = ext_get_or [] (slice_range image lo
         get_or-take (high - low) (drop low image) i [] inside ∙ get_or-drop low image i [] ∙ each i (omega (arith, long))
 
 -- the bytes of a part of an image, and of one sector more
-pub part_more : (image : Image) (low n high : ℕ) → low + n < length image → high ≡ low + n + 1
+pub part_more : (image : CrashState) (low n high : ℕ) → low + n < length image → high ≡ low + n + 1
     → concat (slice_range image low high) ≡ concat (slice_range image low (low + n)) ++ sector image (low + n)
 part_more image low n high lt is =
     ap (λ m. concat (take m (drop low image))) longer
@@ -90,15 +87,15 @@ part_more image low n high lt is =
 
 -- ---- crash images
 
-sector_past : (image : Image) (k : ℕ) → length image ≤ k → sector image k ≡ []
+sector_past : (image : CrashState) (k : ℕ) → length image ≤ k → sector image k ≡ []
 sector_past image k past = get_or_past image k [] past
 
 -- a content is one of its own crash images
-pub content_is_image : (disk : Disk) → IsDiskWhole disk.content → IsCrashImage disk disk.content
+pub content_is_image : (disk : Disk) → IsDiskWhole disk.content → IsCrashState disk disk.content
 content_is_image disk whole = record { sectors = refl; kept = λ k is. refl; torn = λ k below is. whole k below }
 
 -- each sector of a crash image has its 512 bytes
-pub image_is_whole : (disk : Disk) (c : Image) → IsDiskWhole disk.content → IsCrashImage disk c → IsDiskWhole c
+pub image_is_whole : (disk : Disk) (c : CrashState) → IsDiskWhole disk.content → IsCrashState disk c → IsDiskWhole c
 image_is_whole disk c whole crash k below = go (disk.unsynced k) refl
   where
     go : (is : Bool) → disk.unsynced k ≡ is → IsSector (sector c k)
@@ -106,12 +103,12 @@ image_is_whole disk c whole crash k below = go (disk.unsynced k) refl
     go false is = subst IsSector (sym (crash.kept k is)) (whole k (omega (arith, below, crash.sectors)))
 
 -- with no unsynced sector a crash leaves the content
-pub crash_synced : (disk : Disk) (c : Image) → IsSynced disk → IsCrashImage disk c → c ≡ disk.content
+pub crash_synced : (disk : Disk) (c : CrashState) → IsSynced disk → IsCrashState disk c → c ≡ disk.content
 crash_synced disk c all crash = ext_get_or [] c disk.content crash.sectors (λ k below. crash.kept k (all k))
 
 -- a crash image after a write is one from before it, but for the sector
-pub image_before_write : (disk : Disk) (n : ℕ) (bytes : List ℕ) (c : Image) → IsDiskWhole disk.content → IsCrashImage (after_write disk n bytes) c
-    → IsCrashImage disk (slice_set c n (sector disk.content n)) × SameOutside (λ k. k ≡ n) (slice_set c n (sector disk.content n)) c
+pub image_before_write : (disk : Disk) (n : ℕ) (bytes : List ℕ) (c : CrashState) → IsDiskWhole disk.content → IsCrashState (after_write disk n bytes) c
+    → IsCrashState disk (slice_set c n (sector disk.content n)) × SameOutside (λ k. k ≡ n) (slice_set c n (sector disk.content n)) c
 image_before_write disk n bytes c whole crash = (
   record { sectors = long; kept = kept; torn = torn },
   record { sectors = sym (length-set c n there); same = λ k other. sym (get_or-set_other c n k there [] other) },
@@ -164,14 +161,15 @@ outside_unsynced S disk = record {
     not_true false other = refl
 
 -- a crash leaves the image outside S
-pub crash_outside : (S : ℕ → Type 0) (image : Image) (disk : Disk) (c : Image) → SyncedOutside S image disk → IsCrashImage disk c → SameOutside S image c
+pub crash_outside : (S : ℕ → Type 0) (image : CrashState) (disk : Disk) (c : CrashState) → SyncedOutside S image disk → IsCrashState disk c
+    → SameOutside S image c
 crash_outside S image disk c held crash = record {
   sectors = crash.sectors ∙ held.content.sectors;
   same = λ k out. crash.kept k (held.synced k out) ∙ held.content.same k out;
 }
 
 -- a write within S
-pub written_outside : (S : ℕ → Type 0) (image : Image) (disk : Disk) (n : ℕ) (bytes : List ℕ) → S n → SyncedOutside S image disk
+pub written_outside : (S : ℕ → Type 0) (image : CrashState) (disk : Disk) (n : ℕ) (bytes : List ℕ) → S n → SyncedOutside S image disk
     → SyncedOutside S image (after_write disk n bytes)
 written_outside S image disk n bytes within held = record {
   content = record {
@@ -186,7 +184,7 @@ written_outside S image disk n bytes within held = record {
     other k out is = out (subst S (sym is) within)
 
 -- a write within S, done or failed, changes the content within S
-pub content_after : (S : ℕ → Type 0) (image : Image) (old : Disk) (n : ℕ) (bytes : List ℕ) (new : Disk) (result : Result Unit Failed)
+pub content_after : (S : ℕ → Type 0) (image : CrashState) (old : Disk) (n : ℕ) (bytes : List ℕ) (new : Disk) (result : Result Unit Failed)
     → OnOk result (new ≡ after_write old n bytes) → OnErr result (IsFailedWrite old n new) → S n → SameOutside S image old.content
     → SameOutside S image new.content
 content_after S image old n bytes new result ok err inside held =
@@ -198,19 +196,20 @@ content_after S image old n bytes new result ok err inside held =
     })
 
 -- a sync
-pub synced_outside : (S : ℕ → Type 0) (image : Image) (disk : Disk) → SyncedOutside S image disk → SyncedOutside S image (after_sync disk)
+pub synced_outside : (S : ℕ → Type 0) (image : CrashState) (disk : Disk) → SyncedOutside S image disk → SyncedOutside S image (after_sync disk)
 synced_outside S image disk held = record { content = held.content; synced = λ k out. refl }
 
 -- a wider set
-pub same_outside_wider : (S T : ℕ → Type 0) (image c : Image) → ((k : ℕ) → S k → T k) → SameOutside S image c → SameOutside T image c
+pub same_outside_wider : (S T : ℕ → Type 0) (image c : CrashState) → ((k : ℕ) → S k → T k) → SameOutside S image c → SameOutside T image c
 same_outside_wider S T image c within same = record { sectors = same.sectors; same = λ k out. same.same k (λ inside. out (within k inside)) }
 
-pub synced_outside_wider : (S T : ℕ → Type 0) (image : Image) (disk : Disk) → ((k : ℕ) → S k → T k) → SyncedOutside S image disk → SyncedOutside T image disk
+pub synced_outside_wider : (S T : ℕ → Type 0) (image : CrashState) (disk : Disk) → ((k : ℕ) → S k → T k) → SyncedOutside S image disk
+    → SyncedOutside T image disk
 synced_outside_wider S T image disk within held = record {
   content = same_outside_wider S T image disk.content within held.content;
   synced = λ k out. held.synced k (λ inside. out (within k inside));
 }
 
 -- an image, another, and a third
-pub same_outside_then : (S : ℕ → Type 0) (a b c : Image) → SameOutside S a b → SameOutside S b c → SameOutside S a c
+pub same_outside_then : (S : ℕ → Type 0) (a b c : CrashState) → SameOutside S a b → SameOutside S b c → SameOutside S a c
 same_outside_then S a b c first second = record { sectors = second.sectors ∙ first.sectors; same = λ k out. second.same k out ∙ first.same k out }

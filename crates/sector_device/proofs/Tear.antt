@@ -7,12 +7,12 @@ use Rattle.std.proofs.Math.ListN.{length-replicate, get_or-replicate}
 use Rattle.std.proofs.lemmas.Grind.{common_steps}
 use Rattle.sector_device.specs.declared.call.Fate.{Fate}
 use Rattle.sector_device.specs.declared.call.Fate.TheVariants.{Old, New, Zero, Gate, Junk}
-use Rattle.sector_device.specs.Disk.{Image, sector, IsSector, IsDiskWhole, IsCrashImage}
+use Rattle.sector_device.specs.Disk.{CrashState, sector, IsSector, IsDiskWhole, IsCrashState}
 use Rattle.sector_device.specs.Memory.{MemoryState, disk_of, unsynced_since, Represents}
 use Rattle.sector_device.specs.Crash.{IsJunk, IsFilled, HasFate, fate_at, unsynced_below, IsCrashed}
 
 -- the sectors below k have their fates, and the others are as they were
-pub record TornBelow (fates : List Fate) (s : MemoryState) (image : Image) (k next : ℕ) : Type 0 where
+pub record TornBelow (fates : List Fate) (s : MemoryState) (image : CrashState) (k next : ℕ) : Type 0 where
   pub count : next ≡ unsynced_below s.unsynced k
   pub sectors : length image ≡ length s.content
   pub synced : (j : ℕ) → slice_index_or s.unsynced j false ≡ false → sector image j ≡ sector s.content j
@@ -29,7 +29,7 @@ one_more flags k below is = grind (arith, common_steps)
 no_more : (flags : List Bool) (k : ℕ) → k < length flags → slice_index_or flags k false ≡ false → unsynced_below flags (k + 1) ≡ unsynced_below flags k
 no_more flags k below is = grind (arith, common_steps)
 
-module _ (fates : List Fate) (s : MemoryState) (image : Image) (k next : ℕ) (so_far : TornBelow fates s image k next) (below : k < length s.content)
+module _ (fates : List Fate) (s : MemoryState) (image : CrashState) (k next : ℕ) (so_far : TornBelow fates s image k next) (below : k < length s.content)
     (flag : k < length s.unsynced) where
   pub torn_synced : slice_index_or s.unsynced k false ≡ false → TornBelow fates s image (k + 1) next
   torn_synced is = record {
@@ -71,7 +71,7 @@ module _ (fates : List Fate) (s : MemoryState) (image : Image) (k next : ℕ) (s
       elsewhere j under other flags = subst (HasFate (fate_at fates (unsynced_below s.unsynced j)) (sector s.synced j) (sector s.content j))
           (sym (get_or-set_other image k j bytes [] other)) (so_far.fated j under flags)
 
-pub torn_end : (fates : List Fate) (s : MemoryState) (image : Image) (k next : ℕ) → length s.content ≤ k → TornBelow fates s image k next
+pub torn_end : (fates : List Fate) (s : MemoryState) (image : CrashState) (k next : ℕ) → length s.content ≤ k → TornBelow fates s image k next
     → IsCrashed fates s image
 torn_end fates s image k next past torn = record {
   sectors = torn.sectors;
@@ -107,7 +107,7 @@ fate_sector Gate old new bytes of_old of_new is = filled_sector 165 bytes (omega
 fate_sector Junk old new bytes of_old of_new is = junk_sector bytes is
 
 -- what a crash makes of the vectors is what it makes of the state
-pub crashed_state : (fates : List Fate) (s : MemoryState) (calls : ℕ) (content before : Image) (written_at : List ℕ) (synced_at : ℕ) (image : Image)
+pub crashed_state : (fates : List Fate) (s : MemoryState) (calls : ℕ) (content before : CrashState) (written_at : List ℕ) (synced_at : ℕ) (image : CrashState)
     → Represents s calls content before written_at synced_at
     → IsCrashed fates (record { content = content; synced = before; unsynced = unsynced_since synced_at written_at }) image → IsCrashed fates s image
 crashed_state fates s calls content before written_at synced_at image represents crashed = record {
@@ -129,8 +129,8 @@ crashed_state fates s calls content before written_at synced_at image represents
         (sym (represents.before_is k is)) fate))
 
 -- it is a crash image of the disk
-pub crash_image : (fates : List Fate) (s : MemoryState) (image : Image) → IsDiskWhole s.content
-    → ((k : ℕ) → k < length s.content → IsSector (sector s.synced k)) → IsCrashed fates s image → IsCrashImage (disk_of s) image
+pub crash_image : (fates : List Fate) (s : MemoryState) (image : CrashState) → IsDiskWhole s.content
+    → ((k : ℕ) → k < length s.content → IsSector (sector s.synced k)) → IsCrashed fates s image → IsCrashState (disk_of s) image
 crash_image fates s image whole synced_whole crashed = record {
   sectors = crashed.sectors;
   kept = crashed.synced;

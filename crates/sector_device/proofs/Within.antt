@@ -2,26 +2,22 @@
 use Rattle.std.proofs.Common.{◌≡◌, ◌⊎◌, inl, inr, ⊎_elim, ℕ, true, List, Result, OnOk, OnErr, refl, sym, ◌∙◌, subst, arith}
 use Rattle.std.proofs.lemmas.Bool.{cases_lt}
 use Rattle.sector_device.specs.declared.device.Failed.{Failed}
-use Rattle.sector_device.specs.Disk.{Image, after_write, after_sync, IsFailedWrite, IsSynced, IsCrashImage, SameOutside, SyncedOutside}
-use Rattle.sector_device.specs.History.{History, Elapses, LeavesOnly, RunsWithin, OnlyReads}
+use Rattle.sector_device.specs.Disk.{CrashState, after_write, after_sync, IsFailedWrite, IsSynced, IsCrashState, SameOutside, SyncedOutside}
+use Rattle.sector_device.specs.DevicePast.{DevicePast, Elapses, LeavesOnly, RunsWithin, OnlyReads}
 use Rattle.sector_device.proofs.Moments.{started, one_call, goes_on}
 use Rattle.sector_device.proofs.Sectors.{holds_after_write, holds_after_sync, written_outside, synced_outside, crash_outside, outside_synced, outside_unsynced}
 
-within_here : (S : ℕ → Type 0) (h : History) → SyncedOutside S h.disk.content h.disk → RunsWithin S h.disk.content h h
+within_here : (S : ℕ → Type 0) (h : DevicePast) → SyncedOutside S h.disk.content h.disk → RunsWithin S h.disk.content h h
 within_here S h outside = record {
   now = outside;
   run = started h (SameOutside S h.disk.content) (λ c crash. crash_outside S h.disk.content h.disk c outside crash);
 }
 
--- before the first call, with no unsynced sector
-pub within_start : (S : ℕ → Type 0) (h : History) → IsSynced h.disk → RunsWithin S h.disk.content h h
-within_start S h all = within_here S h (outside_synced S h.disk all)
-
 -- before the first call, with whatever is unsynced
-pub within_start_unsynced : (S : ℕ → Type 0) (h : History) → RunsWithin (λ n. S n ⊎ (h.disk.unsynced n ≡ true)) h.disk.content h h
+pub within_start_unsynced : (S : ℕ → Type 0) (h : DevicePast) → RunsWithin (λ n. S n ⊎ (h.disk.unsynced n ≡ true)) h.disk.content h h
 within_start_unsynced S h = within_here (λ n. S n ⊎ (h.disk.unsynced n ≡ true)) h (outside_unsynced S h.disk)
 
-module _ (S : ℕ → Type 0) (image : Image) (old mid new : History) (so_far : RunsWithin S image old mid) (time : Elapses mid new) where
+module _ (S : ℕ → Type 0) (image : CrashState) (old mid new : DevicePast) (so_far : RunsWithin S image old mid) (time : Elapses mid new) where
   pub within_now : SyncedOutside S image new.disk → RunsWithin S image old new
   within_now now = record { now = now; run = goes_on old mid new (SameOutside S image) so_far.run time (λ c crash. crash_outside S image new.disk c now crash) }
 
@@ -42,7 +38,7 @@ module _ (S : ℕ → Type 0) (image : Image) (old mid new : History) (so_far : 
   within_same same = within_now (subst (SyncedOutside S image) (sym same) so_far.now)
 
 -- no call
-pub reads_none : (h : History) → OnlyReads h h
+pub reads_none : (h : DevicePast) → OnlyReads h h
 reads_none h = record {
   disk = refl;
   time = record {
@@ -54,7 +50,7 @@ reads_none h = record {
 }
 
 -- one run of reads after another
-pub reads_then : (a b c : History) → OnlyReads a b → OnlyReads b c → OnlyReads a c
+pub reads_then : (a b c : DevicePast) → OnlyReads a b → OnlyReads b c → OnlyReads a c
 reads_then a b c p q = record {
   disk = q.disk ∙ p.disk;
   time = record {
@@ -72,9 +68,10 @@ reads_then a b c p q = record {
     one (inr is) = is ∙ p.disk
 
 -- one read more
-pub reads_more : (a b c : History) → OnlyReads a b → c.disk ≡ b.disk → Elapses b c → OnlyReads a c
+pub reads_more : (a b c : DevicePast) → OnlyReads a b → c.disk ≡ b.disk → Elapses b c → OnlyReads a c
 reads_more a b c reads same time = reads_then a b c reads (record { disk = same; time = time })
 
 -- while nothing is written, a crash leaves what it left before
-pub reads_leave : (old new : History) (P : Image → Type 0) → OnlyReads old new → ((c : Image) → IsCrashImage old.disk c → P c) → LeavesOnly old new P
-reads_leave old new P reads here = one_call old new P reads.time here (λ c crash. here c (subst (λ d. IsCrashImage d c) reads.disk crash))
+pub reads_leave : (old new : DevicePast) (P : CrashState → Type 0) → OnlyReads old new → ((c : CrashState) → IsCrashState old.disk c → P c)
+    → LeavesOnly old new P
+reads_leave old new P reads here = one_call old new P reads.time here (λ c crash. here c (subst (λ d. IsCrashState d c) reads.disk crash))

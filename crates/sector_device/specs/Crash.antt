@@ -4,7 +4,7 @@ use Rattle.std.specs.Prelude.{slice_index_or, count_by}
 use Rattle.sector_device.specs.declared.call.Fate.{Fate}
 use Rattle.sector_device.specs.declared.call.Fate.TheVariants.{Old, New, Zero, Gate, Junk}
 use Rattle.sector_device.specs.declared.values.TheConstants.{MARK}
-use Rattle.sector_device.specs.Disk.{Image, sector}
+use Rattle.sector_device.specs.Disk.{CrashState, sector}
 use Rattle.sector_device.specs.Memory.{MemoryState}
 
 -- byte i is (7 * i + 13) mod 256
@@ -35,7 +35,7 @@ abbrev pub unsynced_below : List Bool → ℕ → ℕ
 unsynced_below unsynced k = count_by (λ is. is) (take k unsynced)
 
 -- the sectors after a crash: the unsynced ones, ascending, get the fates in turn, and the others stay
-pub record IsCrashed (fates : List Fate) (s : MemoryState) (image : Image) : Type 0 where
+pub record IsCrashed (fates : List Fate) (s : MemoryState) (image : CrashState) : Type 0 where
   pub sectors : length image ≡ length s.content
   pub synced : (k : ℕ) → slice_index_or s.unsynced k false ≡ false → sector image k ≡ sector s.content k
   pub unsynced : (k : ℕ) → k < length s.content → slice_index_or s.unsynced k false ≡ true

@@ -3,11 +3,11 @@ use Rattle.std.specs.Prelude.{◌≡◌, ℕ, ◌<◌, Bool, true, false, ◌||�
 use Rattle.std.specs.Prelude.{slice_set}
 
 -- the bytes of each sector: the content of a disk, or a crash state, which is what a crash leaves of one
-abbrev pub Image : Type 0
-Image = List (List ℕ)
+abbrev pub CrashState : Type 0
+CrashState = List (List ℕ)
 
 -- the bytes of sector n
-abbrev pub sector : Image → ℕ → List ℕ
+abbrev pub sector : CrashState → ℕ → List ℕ
 sector image n = slice_index_or image n []
 
 -- 512 bytes
@@ -16,12 +16,12 @@ pub record IsSector (bytes : List ℕ) : Type 0 where
   pub are_bytes : (i : ℕ) → slice_index bytes i < 256
 
 -- each sector has its 512 bytes
-abbrev pub IsDiskWhole : Image → Type 0
+abbrev pub IsDiskWhole : CrashState → Type 0
 IsDiskWhole image = (n : ℕ) → n < length image → IsSector (sector image n)
 
 -- what each sector holds, and which sectors were written since the last sync that succeeded
 pub record Disk : Type 0 where
-  pub content : Image
+  pub content : CrashState
   pub unsynced : ℕ → Bool
 
 -- after a write of sector n, which is then unsynced
@@ -45,17 +45,17 @@ abbrev pub IsSynced : Disk → Type 0
 IsSynced disk = (k : ℕ) → disk.unsynced k ≡ false
 
 -- a crash state of the disk: the content of each sector that is synced, and any 512 bytes in each that is not
-pub record IsCrashImage (disk : Disk) (image : Image) : Type 0 where
+pub record IsCrashState (disk : Disk) (image : CrashState) : Type 0 where
   pub sectors : length image ≡ length disk.content
   pub kept : (k : ℕ) → disk.unsynced k ≡ false → sector image k ≡ sector disk.content k
   pub torn : (k : ℕ) → k < length image → disk.unsynced k ≡ true → IsSector (sector image k)
 
 -- the second content is the first one, but for the sectors of S
-pub record SameOutside (S : ℕ → Type 0) (image other : Image) : Type 0 where
+pub record SameOutside (S : ℕ → Type 0) (image other : CrashState) : Type 0 where
   pub sectors : length other ≡ length image
   pub same : (k : ℕ) → ¬ S k → sector other k ≡ sector image k
 
 -- outside the sectors of S the disk holds this content, and each sector is synced
-pub record SyncedOutside (S : ℕ → Type 0) (image : Image) (disk : Disk) : Type 0 where
+pub record SyncedOutside (S : ℕ → Type 0) (image : CrashState) (disk : Disk) : Type 0 where
   pub content : SameOutside S image disk.content
   pub synced : (k : ℕ) → ¬ S k → disk.unsynced k ≡ false

@@ -1,14 +1,14 @@
 -- What a disk in memory holds.
 use Rattle.std.specs.Prelude.{ℕ, ◌⊎◌, ◌+◌, ◌-◌, ◌≤◌, length, slice_index, vec_len, vec_capacity}
 use Rattle.sector_device.specs.declared.memory.MemDisk.{MemDisk}
-use Rattle.sector_device.specs.Disk.{Image}
-use Rattle.sector_device.specs.History.{History}
-use Rattle.sector_device.specs.Memory.{MemoryState, initial_state, state_after, memory_history}
+use Rattle.sector_device.specs.Disk.{CrashState}
+use Rattle.sector_device.specs.DevicePast.{DevicePast}
+use Rattle.sector_device.specs.Memory.{MemoryState, initial_state, state_after, memory_past}
 
 module _ {A : Type 0} where
   -- the disk as it is, and as it was after each call of the record
-  abbrev pub history_of : MemDisk A → History
-  history_of d = memory_history d.first.items d.calls.items d.represents.whole
+  abbrev pub past_of : MemDisk A → DevicePast
+  past_of d = memory_past d.first.items d.calls.items d.represents.whole
 
   -- how many calls have failed
   abbrev pub failures_of : MemDisk A → ℕ
@@ -19,7 +19,7 @@ module _ {A : Type 0} where
   state_of d = state_after (initial_state d.first.items) d.calls.items
 
   -- what each sector held at the last sync
-  abbrev pub last_synced_of : MemDisk A → Image
+  abbrev pub last_synced_of : MemDisk A → CrashState
   last_synced_of d = (state_of d).synced
 
   -- how many writes and syncs its record has room for in all

@@ -6,17 +6,17 @@ use Rattle.std.proofs.Math.Nat.{le_refl}
 use Rattle.std.proofs.lemmas.List.{take_all}
 use Rattle.sector_device.specs.declared.call.Call.{Call}
 use Rattle.sector_device.specs.declared.call.Call.TheVariants.{Write, Sync}
-use Rattle.sector_device.specs.Disk.{Image, sector, IsSector, IsDiskWhole, Disk}
-use Rattle.sector_device.specs.History.{History}
+use Rattle.sector_device.specs.Disk.{CrashState, sector, IsSector, IsDiskWhole, Disk}
+use Rattle.sector_device.specs.DevicePast.{DevicePast}
 
 -- the content, the content at the last sync, and for each sector whether it is unsynced
 pub record MemoryState : Type 0 where
-  pub content : Image
-  pub synced : Image
+  pub content : CrashState
+  pub synced : CrashState
   pub unsynced : List Bool
 
 -- no sector is unsynced
-abbrev pub initial_state : Image → MemoryState
+abbrev pub initial_state : CrashState → MemoryState
 initial_state image = record { content = image; synced = image; unsynced = replicate (length image) false }
 
 -- after one call more
@@ -38,9 +38,9 @@ abbrev pub disk_of : MemoryState → Disk
 disk_of s = record { content = s.content; unsynced = λ k. slice_index_or s.unsynced k false }
 
 -- the disk after each number of the calls
-abbrev pub memory_history : (first : Image) (calls : List Call)
-    → IsDiskWhole (state_after (initial_state first) calls).content → History
-memory_history first calls whole = record {
+abbrev pub memory_past : (first : CrashState) (calls : List Call)
+    → IsDiskWhole (state_after (initial_state first) calls).content → DevicePast
+memory_past first calls whole = record {
   disk = disk_of (state_after (initial_state first) calls);
   moment = length calls;
   disk_at = λ t. disk_of (state_after (initial_state first) (take t calls));
@@ -55,7 +55,7 @@ unsynced_since synced_at written_at = map (λ at. nat_lt synced_at at) written_a
 
 -- This is how a disk in memory keeps a state that so many calls made: the content; of each unsynced sector also what it
 -- held at the last sync; and after how many calls each sector was written last, and the disk synced last.
-pub record Represents (s : MemoryState) (calls : ℕ) (content before : Image) (written_at : List ℕ)
+pub record Represents (s : MemoryState) (calls : ℕ) (content before : CrashState) (written_at : List ℕ)
     (synced_at : ℕ) : Type 0 where
   pub content_is : s.content ≡ content
   pub unsynced_is : s.unsynced ≡ unsynced_since synced_at written_at

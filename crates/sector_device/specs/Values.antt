@@ -1,7 +1,7 @@
 -- Sectors of a known value: of zeros, or with a mark in front.
 use Rattle.std.specs.Prelude.{◌≡◌, ℕ, ◌+◌, ◌*◌, ◌<◌, List, ◌∷◌, replicate, slice_index}
 use Rattle.sector_device.specs.declared.values.TheConstants.{MARK}
-use Rattle.sector_device.specs.Disk.{Image, sector}
+use Rattle.sector_device.specs.Disk.{CrashState, sector}
 
 -- a sector of zeros
 unfoldable pub zero_sector : List ℕ
@@ -20,5 +20,5 @@ abbrev pub InRow : (first step count : ℕ) → ℕ → Type 0
 InRow first step count n = (i : ℕ) × (i < count) × (n ≡ first + step * i)
 
 -- each of those is of zeros
-abbrev pub AreZeroSectors : Image → (first step count : ℕ) → Type 0
+abbrev pub AreZeroSectors : CrashState → (first step count : ℕ) → Type 0
 AreZeroSectors image first step count = (i : ℕ) → i < count → sector image (first + step * i) ≡ zero_sector

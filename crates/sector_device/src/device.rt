@@ -1,7 +1,7 @@
 // A device as its users see it: what its calls do, and what a crash may leave.
 ghost use Rattle.std.specs.Prelude.{◌≡◌, ◌<◌, ℕ, length, OnOk, OnErr};
 ghost use Rattle.sector_device.specs.Disk.{sector, after_write, after_sync, IsFailedWrite};
-ghost use Rattle.sector_device.specs.History.{History, Elapses, CountsFailure};
+ghost use Rattle.sector_device.specs.DevicePast.{DevicePast, Elapses, CountsFailure};
 
 use thiserror::Error;
 
@@ -19,36 +19,36 @@ pub struct Failed;
 /// bytes in it, and the content of every other sector. It may come before, within or after any call.
 pub trait Device {
     /// The disk as it is, and as it was at each moment until now.
-    ghost history: { Self → History };
+    ghost past_of: { Self → DevicePast };
 
     /// A count of failures, which each call that fails raises. At 2^64 - 1 it may stay.
     ghost failures: { Self → ℕ };
 
     /// How many sectors there are.
     fn sectors(&self) -> u64
-        ensures { result ≡ length (history self.now).disk.content };
+        ensures { result ≡ length (past_of self.now).disk.content };
 
     /// Reads a sector. A read that fails changes nothing.
     fn read(&mut self, n: u64, buffer: &mut [u8; SECTOR_SIZE]) -> Result<(), Failed>
-        requires { n < length (history self.old).disk.content }
-        ensures ok { OnOk result (buffer.new ≡ sector (history self.old).disk.content n) }
+        requires { n < length (past_of self.old).disk.content }
+        ensures ok { OnOk result (buffer.new ≡ sector (past_of self.old).disk.content n) }
         ensures err { OnErr result (buffer.new ≡ buffer.old) }
-        ensures disk { (history self.new).disk ≡ (history self.old).disk }
-        ensures time { Elapses (history self.old) (history self.new) }
+        ensures disk { (past_of self.new).disk ≡ (past_of self.old).disk }
+        ensures time { Elapses (past_of self.old) (past_of self.new) }
         ensures counts { CountsFailure (failures self.old) (failures self.new) result };
 
     /// Writes a sector, which is then unsynced. A write that fails leaves any bytes in it, unsynced too.
     fn write(&mut self, n: u64, bytes: &[u8; SECTOR_SIZE]) -> Result<(), Failed>
-        requires { n < length (history self.old).disk.content }
-        ensures ok { OnOk result ((history self.new).disk ≡ after_write (history self.old).disk n bytes.now) }
-        ensures err { OnErr result (IsFailedWrite (history self.old).disk n (history self.new).disk) }
-        ensures time { Elapses (history self.old) (history self.new) }
+        requires { n < length (past_of self.old).disk.content }
+        ensures ok { OnOk result ((past_of self.new).disk ≡ after_write (past_of self.old).disk n bytes.now) }
+        ensures err { OnErr result (IsFailedWrite (past_of self.old).disk n (past_of self.new).disk) }
+        ensures time { Elapses (past_of self.old) (past_of self.new) }
         ensures counts { CountsFailure (failures self.old) (failures self.new) result };
 
     /// Syncs all sectors. A sync that fails changes nothing.
     fn sync(&mut self) -> Result<(), Failed>
-        ensures ok { OnOk result ((history self.new).disk ≡ after_sync (history self.old).disk) }
-        ensures err { OnErr result ((history self.new).disk ≡ (history self.old).disk) }
-        ensures time { Elapses (history self.old) (history self.new) }
+        ensures ok { OnOk result ((past_of self.new).disk ≡ after_sync (past_of self.old).disk) }
+        ensures err { OnErr result ((past_of self.new).disk ≡ (past_of self.old).disk) }
+        ensures time { Elapses (past_of self.old) (past_of self.new) }
         ensures counts { CountsFailure (failures self.old) (failures self.new) result };
 }

@@ -5,7 +5,7 @@ ghost use Rattle.sector_device.specs.Fault.{fault_count};
 ghost use Rattle.sector_device.specs.FaultDisk.{IsFailureDue, CountsCall, CountsNone, device_of, which_of, fails_at_of};
 ghost use Rattle.sector_device.specs.FaultDisk.{made_of};
 ghost use Rattle.sector_device.specs.Disk.{sector, after_write, after_sync, IsFailedWrite};
-ghost use Rattle.sector_device.specs.History.{Elapses, Rises, CountsFailure};
+ghost use Rattle.sector_device.specs.DevicePast.{Elapses, Rises, CountsFailure};
 
 use crate::{Device, Failed, SECTOR_SIZE};
 
@@ -73,7 +73,7 @@ impl<D: Device> FaultDisk<D> {
 }
 
 impl<D: Device> Device for FaultDisk<D> {
-    ghost history = { λ f. D.history f.device };
+    ghost past_of = { λ f. D.past_of f.device };
 
     ghost failures = { λ f. D.failures f.device + fault_count f.fails_at f.made };
 
@@ -82,12 +82,12 @@ impl<D: Device> Device for FaultDisk<D> {
     }
 
     fn read(&mut self, n: u64, buffer: &mut [u8; SECTOR_SIZE]) -> Result<(), Failed>
-        requires { n < length (D.history (device_of self.old)).disk.content }
-        ensures ok { OnOk result (buffer.new ≡ sector (D.history (device_of self.old)).disk.content n) }
+        requires { n < length (D.past_of (device_of self.old)).disk.content }
+        ensures ok { OnOk result (buffer.new ≡ sector (D.past_of (device_of self.old)).disk.content n) }
         ensures err { OnErr result (buffer.new ≡ buffer.old) }
-        ensures disk { (D.history (device_of self.new)).disk
-            ≡ (D.history (device_of self.old)).disk }
-        ensures time { Elapses (D.history (device_of self.old)) (D.history (device_of self.new)) }
+        ensures disk { (D.past_of (device_of self.new)).disk
+            ≡ (D.past_of (device_of self.old)).disk }
+        ensures time { Elapses (D.past_of (device_of self.old)) (D.past_of (device_of self.new)) }
         ensures counts { CountsFailure
             (D.failures (device_of self.old) + fault_count (fails_at_of self.old) (made_of self.old))
             (D.failures (device_of self.new) + fault_count (fails_at_of self.new) (made_of self.new)) result }
@@ -108,12 +108,12 @@ impl<D: Device> Device for FaultDisk<D> {
 
     /// Where it fails by itself, the new bytes are in the sector, unsynced.
     fn write(&mut self, n: u64, bytes: &[u8; SECTOR_SIZE]) -> Result<(), Failed>
-        requires { n < length (D.history (device_of self.old)).disk.content }
-        ensures ok { OnOk result ((D.history (device_of self.new)).disk
-            ≡ after_write (D.history (device_of self.old)).disk n bytes.now) }
-        ensures err { OnErr result (IsFailedWrite (D.history (device_of self.old)).disk n
-            (D.history (device_of self.new)).disk) }
-        ensures time { Elapses (D.history (device_of self.old)) (D.history (device_of self.new)) }
+        requires { n < length (D.past_of (device_of self.old)).disk.content }
+        ensures ok { OnOk result ((D.past_of (device_of self.new)).disk
+            ≡ after_write (D.past_of (device_of self.old)).disk n bytes.now) }
+        ensures err { OnErr result (IsFailedWrite (D.past_of (device_of self.old)).disk n
+            (D.past_of (device_of self.new)).disk) }
+        ensures time { Elapses (D.past_of (device_of self.old)) (D.past_of (device_of self.new)) }
         ensures counts { CountsFailure
             (D.failures (device_of self.old) + fault_count (fails_at_of self.old) (made_of self.old))
             (D.failures (device_of self.new) + fault_count (fails_at_of self.new) (made_of self.new)) result }
@@ -123,8 +123,8 @@ impl<D: Device> Device for FaultDisk<D> {
         ensures due { IsFailureDue self.old → IsErr result }
         ensures otherwise { OnErr result (IsFailureDue self.old
             ⊎ Rises (D.failures (device_of self.old)) (D.failures (device_of self.new))) }
-        ensures new_bytes { OnErr result (((D.history (device_of self.new)).disk
-            ≡ after_write (D.history (device_of self.old)).disk n bytes.now)
+        ensures new_bytes { OnErr result (((D.past_of (device_of self.new)).disk
+            ≡ after_write (D.past_of (device_of self.old)).disk n bytes.now)
             ⊎ Rises (D.failures (device_of self.old)) (D.failures (device_of self.new))) }
     {
         let fails = self.count();
@@ -133,11 +133,11 @@ impl<D: Device> Device for FaultDisk<D> {
     }
 
     fn sync(&mut self) -> Result<(), Failed>
-        ensures ok { OnOk result ((D.history (device_of self.new)).disk
-            ≡ after_sync (D.history (device_of self.old)).disk) }
-        ensures err { OnErr result ((D.history (device_of self.new)).disk
-            ≡ (D.history (device_of self.old)).disk) }
-        ensures time { Elapses (D.history (device_of self.old)) (D.history (device_of self.new)) }
+        ensures ok { OnOk result ((D.past_of (device_of self.new)).disk
+            ≡ after_sync (D.past_of (device_of self.old)).disk) }
+        ensures err { OnErr result ((D.past_of (device_of self.new)).disk
+            ≡ (D.past_of (device_of self.old)).disk) }
+        ensures time { Elapses (D.past_of (device_of self.old)) (D.past_of (device_of self.new)) }
         ensures counts { CountsFailure
             (D.failures (device_of self.old) + fault_count (fails_at_of self.old) (made_of self.old))
             (D.failures (device_of self.new) + fault_count (fails_at_of self.new) (made_of self.new)) result }

@@ -2,8 +2,8 @@
 // moment might have left.
 ghost use Rattle.std.specs.Prelude.{◌≡◌, ◌+◌, ◌-◌, ◌^◌, ◌<◌, ◌≤◌, length, min, replicate, nat_le, count_by, vec_len};
 ghost use Rattle.std.specs.Prelude.{vec_capacity, IfOk, IsOk, OnOk, OnErr};
-ghost use Rattle.sector_device.specs.Disk.{sector, after_write, after_sync, IsCrashImage, IsSynced, IsFailedWrite};
-ghost use Rattle.sector_device.specs.History.{Elapses, CountsFailure};
+ghost use Rattle.sector_device.specs.Disk.{sector, after_write, after_sync, IsCrashState, IsSynced, IsFailedWrite};
+ghost use Rattle.sector_device.specs.DevicePast.{Elapses, CountsFailure};
 ghost use Rattle.sector_device.specs.Memory.{initial_state, state_after, Represents};
 ghost use Rattle.sector_device.specs.Values.{zero_sector};
 
@@ -67,16 +67,16 @@ fn make_room<A: Allocator>(
 }
 
 impl<A: Allocator + Copy> MemDisk<A> {
-    ghost use Rattle.sector_device.specs.MemDisk.{history_of, failures_of, state_of, last_synced_of, record_room};
+    ghost use Rattle.sector_device.specs.MemDisk.{past_of, failures_of, state_of, last_synced_of, record_room};
     ghost use Rattle.sector_device.specs.MemDisk.{calls_left, HasRoom};
     ghost use Rattle.sector_device.specs.Crash.{IsCrashed};
 
     /// A disk of zeros, with room to record this many writes and syncs.
     pub fn new(alloc: A, sectors: u64, calls: usize) -> Result<Self, AllocError>
-        ensures zeros { IfOk result (λ d. (history_of d).disk.content ≡ replicate sectors zero_sector) }
-        ensures synced { IfOk result (λ d. IsSynced (history_of d).disk) }
-        ensures last_synced { IfOk result (λ d. last_synced_of d ≡ (history_of d).disk.content) }
-        ensures moment { IfOk result (λ d. (history_of d).moment ≡ 0) }
+        ensures zeros { IfOk result (λ d. (past_of d).disk.content ≡ replicate sectors zero_sector) }
+        ensures synced { IfOk result (λ d. IsSynced (past_of d).disk) }
+        ensures last_synced { IfOk result (λ d. last_synced_of d ≡ (past_of d).disk.content) }
+        ensures moment { IfOk result (λ d. (past_of d).moment ≡ 0) }
         ensures failures { IfOk result (λ d. failures_of d ≡ 0) }
         ensures room { IfOk result (λ d. calls ≤ record_room d) }
         ensures left { IfOk result (λ d. calls ≤ calls_left d) }
@@ -97,11 +97,11 @@ impl<A: Allocator + Copy> MemDisk<A> {
     /// Stops the disk as a loss of power would. The unsynced sectors, ascending, get the fates in turn, beginning the
     /// list again at its end; an empty list is `Old`. Afterwards no sector is unsynced, and the record begins anew.
     pub fn crash(&mut self, fates: &[Fate])
-        ensures crash { IsCrashImage (history_of self.old).disk (history_of self.new).disk.content }
-        ensures fates { IsCrashed fates.now (state_of self.old) (history_of self.new).disk.content }
-        ensures synced { IsSynced (history_of self.new).disk }
-        ensures last_synced { last_synced_of self.new ≡ (history_of self.new).disk.content }
-        ensures moment { (history_of self.new).moment ≡ 0 }
+        ensures crash { IsCrashState (past_of self.old).disk (past_of self.new).disk.content }
+        ensures fates { IsCrashed fates.now (state_of self.old) (past_of self.new).disk.content }
+        ensures synced { IsSynced (past_of self.new).disk }
+        ensures last_synced { last_synced_of self.new ≡ (past_of self.new).disk.content }
+        ensures moment { (past_of self.new).moment ≡ 0 }
         ensures failures { failures_of self.new ≡ failures_of self.old }
         ensures room { record_room self.new ≡ record_room self.old }
         ensures anew { calls_left self.new ≡ record_room self.new }
@@ -121,7 +121,7 @@ impl<A: Allocator + Copy> MemDisk<A> {
 
     // What a sector held at the last sync.
     fn at_last_sync(&self, n: usize) -> [u8; SECTOR_SIZE]
-        requires { n < length (history_of self.now).disk.content }
+        requires { n < length (past_of self.now).disk.content }
         ensures { result ≡ sector (last_synced_of self.now) n }
     {
         if self.written_at[n] <= self.synced_at {
@@ -133,10 +133,10 @@ impl<A: Allocator + Copy> MemDisk<A> {
 
     // Records a write, and makes it.
     fn put(&mut self, n: u64, bytes: &[u8; SECTOR_SIZE])
-        requires inside { n < length (history_of self.old).disk.content }
+        requires inside { n < length (past_of self.old).disk.content }
         requires room { HasRoom self.old n }
-        ensures disk { (history_of self.new).disk ≡ after_write (history_of self.old).disk n bytes.now }
-        ensures time { Elapses (history_of self.old) (history_of self.new) }
+        ensures disk { (past_of self.new).disk ≡ after_write (past_of self.old).disk n bytes.now }
+        ensures time { Elapses (past_of self.old) (past_of self.new) }
         ensures last_synced { last_synced_of self.new ≡ last_synced_of self.old }
         ensures failures { failures_of self.new ≡ failures_of self.old }
         ensures left { calls_left self.old ≤ calls_left self.new + 1 }
@@ -155,10 +155,10 @@ impl<A: Allocator + Copy> MemDisk<A> {
 
     // Leaves a sector unsynced, with what it holds.
     fn spoil(&mut self, n: u64)
-        requires { n < length (history_of self.old).disk.content }
-        ensures disk { (history_of self.new).disk
-            ≡ after_write (history_of self.old).disk n (sector (history_of self.old).disk.content n) }
-        ensures time { Elapses (history_of self.old) (history_of self.new) }
+        requires { n < length (past_of self.old).disk.content }
+        ensures disk { (past_of self.new).disk
+            ≡ after_write (past_of self.old).disk n (sector (past_of self.old).disk.content n) }
+        ensures time { Elapses (past_of self.old) (past_of self.new) }
         ensures last_synced { last_synced_of self.new ≡ last_synced_of self.old }
         ensures failures { failures_of self.new ≡ failures_of self.old }
         ensures left { calls_left self.old ≤ calls_left self.new + 1 }
@@ -173,9 +173,9 @@ impl<A: Allocator + Copy> MemDisk<A> {
 }
 
 impl<A: Allocator + Copy> Device for MemDisk<A> {
-    ghost use Rattle.sector_device.specs.MemDisk.{history_of, failures_of, last_synced_of, record_room, calls_left};
+    ghost use Rattle.sector_device.specs.MemDisk.{past_of, failures_of, last_synced_of, record_room, calls_left};
 
-    ghost history = { history_of };
+    ghost past_of = { past_of };
 
     ghost failures = { failures_of };
 
@@ -185,11 +185,11 @@ impl<A: Allocator + Copy> Device for MemDisk<A> {
 
     /// It never fails.
     fn read(&mut self, n: u64, buffer: &mut [u8; SECTOR_SIZE]) -> Result<(), Failed>
-        requires { n < length (history_of self.old).disk.content }
-        ensures ok { OnOk result (buffer.new ≡ sector (history_of self.old).disk.content n) }
+        requires { n < length (past_of self.old).disk.content }
+        ensures ok { OnOk result (buffer.new ≡ sector (past_of self.old).disk.content n) }
         ensures err { OnErr result (buffer.new ≡ buffer.old) }
-        ensures disk { (history_of self.new).disk ≡ (history_of self.old).disk }
-        ensures time { Elapses (history_of self.old) (history_of self.new) }
+        ensures disk { (past_of self.new).disk ≡ (past_of self.old).disk }
+        ensures time { Elapses (past_of self.old) (past_of self.new) }
         ensures counts { CountsFailure (failures_of self.old) (failures_of self.new) result }
         ensures last_synced { last_synced_of self.new ≡ last_synced_of self.old }
         ensures succeeds { IsOk result }
@@ -202,16 +202,16 @@ impl<A: Allocator + Copy> Device for MemDisk<A> {
 
     /// It fails where the record is to grow and memory is refused. Then the sector holds what it held, unsynced.
     fn write(&mut self, n: u64, bytes: &[u8; SECTOR_SIZE]) -> Result<(), Failed>
-        requires { n < length (history_of self.old).disk.content }
-        ensures ok { OnOk result ((history_of self.new).disk
-            ≡ after_write (history_of self.old).disk n bytes.now) }
-        ensures err { OnErr result (IsFailedWrite (history_of self.old).disk n (history_of self.new).disk) }
-        ensures time { Elapses (history_of self.old) (history_of self.new) }
+        requires { n < length (past_of self.old).disk.content }
+        ensures ok { OnOk result ((past_of self.new).disk
+            ≡ after_write (past_of self.old).disk n bytes.now) }
+        ensures err { OnErr result (IsFailedWrite (past_of self.old).disk n (past_of self.new).disk) }
+        ensures time { Elapses (past_of self.old) (past_of self.new) }
         ensures counts { CountsFailure (failures_of self.old) (failures_of self.new) result }
         ensures counts_one { OnErr result (failures_of self.new ≡ min (failures_of self.old + 1) (2 ^ 64 - 1)) }
         ensures last_synced { last_synced_of self.new ≡ last_synced_of self.old }
-        ensures kept { OnErr result ((history_of self.new).disk.content
-            ≡ (history_of self.old).disk.content) }
+        ensures kept { OnErr result ((past_of self.new).disk.content
+            ≡ (past_of self.old).disk.content) }
         ensures succeeds { 0 < calls_left self.old → IsOk result }
         ensures left { calls_left self.old ≤ calls_left self.new + 1 }
         ensures room { record_room self.old ≤ record_room self.new }
@@ -227,12 +227,12 @@ impl<A: Allocator + Copy> Device for MemDisk<A> {
 
     /// It fails where the record is to grow and memory is refused.
     fn sync(&mut self) -> Result<(), Failed>
-        ensures ok { OnOk result ((history_of self.new).disk ≡ after_sync (history_of self.old).disk) }
-        ensures err { OnErr result ((history_of self.new).disk ≡ (history_of self.old).disk) }
-        ensures time { Elapses (history_of self.old) (history_of self.new) }
+        ensures ok { OnOk result ((past_of self.new).disk ≡ after_sync (past_of self.old).disk) }
+        ensures err { OnErr result ((past_of self.new).disk ≡ (past_of self.old).disk) }
+        ensures time { Elapses (past_of self.old) (past_of self.new) }
         ensures counts { CountsFailure (failures_of self.old) (failures_of self.new) result }
         ensures counts_one { OnErr result (failures_of self.new ≡ min (failures_of self.old + 1) (2 ^ 64 - 1)) }
-        ensures last_synced { OnOk result (last_synced_of self.new ≡ (history_of self.old).disk.content) }
+        ensures last_synced { OnOk result (last_synced_of self.new ≡ (past_of self.old).disk.content) }
         ensures last_synced_err { OnErr result (last_synced_of self.new ≡ last_synced_of self.old) }
         ensures succeeds { 0 < calls_left self.old → IsOk result }
         ensures left { calls_left self.old ≤ calls_left self.new + 1 }

@@ -2,7 +2,7 @@
 ghost use Rattle.std.specs.Prelude.{◌≡◌, ◌⊎◌, ◌↔◌, ◌+◌, ◌*◌, ◌^◌, ◌≤◌, ◌<◌, ℕ, true, length, slice_index, All, IsTrue};
 ghost use Rattle.std.specs.Prelude.{OnOk};
 ghost use Rattle.sector_device.specs.Disk.{SameOutside};
-ghost use Rattle.sector_device.specs.History.{RunsWithin, CountsFailure};
+ghost use Rattle.sector_device.specs.DevicePast.{RunsWithin, CountsFailure};
 ghost use Rattle.sector_device.specs.Values.{zero_sector, marked_sector, IsMarked, InRow, AreZeroSectors};
 
 use crate::{Device, Failed, SECTOR_SIZE};
@@ -49,13 +49,13 @@ pub fn write_zeros<D: Device>(
     count: u64,
 ) -> Result<(), Failed>
     requires step { 0 < step }
-    requires inside { first + step * count ≤ length (D.history device.old).disk.content }
+    requires inside { first + step * count ≤ length (D.past_of device.old).disk.content }
     requires number { first + step * count < 2 ^ 64 }
-    ensures zeros { OnOk result (AreZeroSectors (D.history device.new).disk.content first step count) }
-    ensures outside { SameOutside (InRow first step count) (D.history device.old).disk.content
-        (D.history device.new).disk.content }
-    ensures within { RunsWithin (λ n. InRow first step count n ⊎ ((D.history device.old).disk.unsynced n ≡ true))
-        (D.history device.old).disk.content (D.history device.old) (D.history device.new) }
+    ensures zeros { OnOk result (AreZeroSectors (D.past_of device.new).disk.content first step count) }
+    ensures outside { SameOutside (InRow first step count) (D.past_of device.old).disk.content
+        (D.past_of device.new).disk.content }
+    ensures within { RunsWithin (λ n. InRow first step count n ⊎ ((D.past_of device.old).disk.unsynced n ≡ true))
+        (D.past_of device.old).disk.content (D.past_of device.old) (D.past_of device.new) }
     ensures counts { CountsFailure (D.failures device.old) (D.failures device.new) result }
 {
     let zeros = zero_sector();

@@ -6,28 +6,29 @@ use Rattle.std.specs.Option.{option_map}
 use Rattle.std.specs.Prelude.{option_and_then, slice_get, slice_set}
 use Rattle.records.specs.ChangeValue.{ChangeValue}
 use Rattle.records.specs.RecordValue.{RecordValue}
-use Rattle.records.specs.Values.{Place}
+use Rattle.record_values.specs.Values.{Place}
 use Rattle.records.specs.declared.change.Rows.TheVariants.{Deleted, Inserted, Updated}
-use Rattle.records.specs.declared.row.Row.{Row}
+use Rattle.record_values.specs.declared.row.Row.{Row}
 use Rattle.model.specs.declared.write.Write.{Write}
 use Rattle.core_model.proofs.Laws.{made_holds}
 use Rattle.core_model.specs.Histories.{CanOpen, Opened, write_of}
 use Rattle.core_model.specs.Invariants.{Invariant}
 use Rattle.core_model.specs.States.{Active, State}
 use Rattle.core_model.specs.Steps.{after, CanStart, MachineStep, Next, Start, txn_at}
-use Rattle.core_contracts.proofs.Laws.{is_move}
-use Rattle.core_contracts.specs.Events.{Event, Refused, Reply, Skipped, Standing, standing_after, Stepped}
-use Rattle.core_contracts.specs.Replies.{accepted, after_any, change_of, IsAllowed, IsStepDue, IsProper, no_memory, Owes, refused, refused_last, skipped}
-use Rattle.core_contracts.specs.Replies.{unknown}
-use Rattle.core_contracts.specs.Served.{IsEnabledAny}
-use Rattle.nsf_core.specs.View.{Answers, CoreValue, Serves, Shows}
+use Rattle.core_model.proofs.ReplyLaws.{is_move}
+use Rattle.core_model.specs.Events.{Event, Refused, Reply, Skipped, Standing, standing_after, Stepped}
+use Rattle.core_model.specs.Replies.{accepted, after_any, change_of, IsAllowed, IsStepDue, IsProper, no_memory, Owes, refused, refused_last, skipped}
+use Rattle.core_model.specs.Replies.{unknown}
+use Rattle.core_model.specs.Served.{IsEnabledAny}
+use Rattle.core_parts.specs.View.{Answers, CoreValue, Serves, Shows}
 use Rattle.txn_table.specs.Table.{state_of}
-use Rattle.register.proofs.Laws.{delete_agreed, insert_agreed, next_agreed, rows_left, update_agreed}
-use Rattle.register.specs.Agreement.{Agree, IsRegister, IsSeen, is_owed, newest_write, owed_write, row_held, seen_at}
-use Rattle.sessions.specs.Steps.{change_seen, changed, step_seen, stepped, unfinished_in}
-use Rattle.sessions.specs.Values.{active_of, ActiveValue, can_go_on, is_active, is_ready, SessionValue, with_active}
+use Rattle.threads_register.proofs.Laws.{delete_agreed, insert_agreed, next_agreed, rows_left, update_agreed}
+use Rattle.threads_register.specs.Agreement.{Agree, IsRegister, IsSeen, is_owed, newest_write, owed_write, row_held, seen_at}
+use Rattle.threads_sessions.specs.Steps.{change_seen, changed, step_seen, stepped, unfinished_in}
+use Rattle.threads_sessions.specs.Values.{active_of, ActiveValue, can_go_on, is_active, is_ready, SessionValue, with_active}
 use Rattle.shared.specs.Changed.{IsUnderWay, row_of, unfinished_of}
-use Rattle.shared.proofs.Lookups.{get_set, get_within, held_by, held_mine, number_is, others_stay, owed_one, still_active, with_own}
+use Rattle.shared.proofs.Lookups.{held_by, held_mine, others_stay, owed_one, still_active}
+use Rattle.threads_register.proofs.Laws.{get_set, get_within, number_is, with_own}
 use Rattle.shared.proofs.Stepped.{first, following, IsStep}
 
 -- ---- an answer

@@ -1,13 +1,13 @@
 -- What goes on behind a refusal.
 use Rattle.std.proofs.Common.{◌≡◌, ◌⊎◌, ℕ, List, Option, Some, None}
 use Rattle.records.specs.RecordValue.{RecordValue}
-use Rattle.records.specs.declared.error.Error.{Error}
-use Rattle.core_contracts.specs.Events.{Event, Refused}
+use Rattle.record_values.specs.declared.error.Error.{Error}
+use Rattle.core_model.specs.Events.{Event, Refused}
 use Rattle.core_model.specs.Histories.{Opened}
 use Rattle.model.specs.declared.write.Write.{Write}
-use Rattle.nsf_core.specs.View.{CoreValue, IsSafe, Serves}
+use Rattle.core_parts.specs.View.{CoreValue, IsSafe, Serves}
 use Rattle.locked_core.specs.Names.{IsShared}
-use Rattle.sessions.specs.Values.{SessionValue}
+use Rattle.threads_sessions.specs.Values.{SessionValue}
 use Rattle.shared.specs.Changed.{HasChanged, IsGoingBack}
 use Rattle.shared.specs.Served.{HasUndone, WasAborted, WasServed, WasServedTo}
 use Rattle.shared.proofs.Backward.{back_joined}

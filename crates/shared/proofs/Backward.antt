@@ -2,14 +2,15 @@
 use Rattle.std.proofs.Common.{◌≡◌, ◌⊎◌, ◌∷◌, [], List, ℕ, Bool, true, false, cond, Option, Some, None, is_some, inl, inr, refl, sym, ap, ◌∙◌, subst}
 use Rattle.std.specs.Option.{option_map}
 use Rattle.std.specs.Prelude.{unwrap_or}
-use Rattle.records.specs.Values.{Place}
+use Rattle.record_values.specs.Values.{Place}
 use Rattle.model.specs.declared.write.Write.{Write}
-use Rattle.nsf_core.specs.View.{CoreValue}
-use Rattle.register.specs.Agreement.{row_at}
-use Rattle.sessions.specs.Steps.{ended, rolling_back, row_now, rows_now, taken_back}
-use Rattle.sessions.specs.Values.{active_of, ActiveValue, is_active, is_at, SessionValue}
+use Rattle.core_parts.specs.View.{CoreValue}
+use Rattle.threads_register.specs.Agreement.{row_at}
+use Rattle.threads_sessions.specs.Steps.{ended, rolling_back, row_now, rows_now, taken_back}
+use Rattle.threads_sessions.specs.Values.{active_of, ActiveValue, is_active, is_at, SessionValue}
 use Rattle.shared.specs.Changed.{goes_back, IsGoingBack}
-use Rattle.shared.proofs.Lookups.{others_stay, still_active, with_own}
+use Rattle.shared.proofs.Lookups.{others_stay, still_active}
+use Rattle.threads_register.proofs.Laws.{with_own}
 
 -- the places stay, whatever rows are there now
 same_places : (core : CoreValue) (q : Place) (rows : List Write) → is_some (row_at q (rows_now core rows)) ≡ is_some (row_at q rows)

@@ -5,8 +5,8 @@ use Rattle.std.specs.FinMap.{get}
 use Rattle.std.specs.Prelude.{slice_get}
 use Rattle.records.specs.ChangeValue.{ChangeValue}
 use Rattle.records.specs.RecordValue.{RecordValue}
-use Rattle.records.specs.Values.{Place}
-use Rattle.records.specs.declared.row.Row.{Row}
+use Rattle.record_values.specs.Values.{Place}
+use Rattle.record_values.specs.declared.row.Row.{Row}
 use Rattle.model.specs.Cells.{cells_after}
 use Rattle.model.specs.Given.{opening_cells}
 use Rattle.model.specs.Table.{Table}
@@ -18,16 +18,16 @@ use Rattle.core_model.specs.Invariants.{applied_of, Invariant, IsHeld}
 use Rattle.core_model.specs.Records.{HasCells}
 use Rattle.core_model.specs.States.{Active, State}
 use Rattle.core_model.specs.Steps.{is_applied}
-use Rattle.core_contracts.proofs.Laws.{served_faithful}
-use Rattle.core_contracts.specs.Events.{Event, Reply}
-use Rattle.core_contracts.specs.Served.{items_of}
+use Rattle.core_model.proofs.ReplyLaws.{served_faithful}
+use Rattle.core_model.specs.Events.{Event, Reply}
+use Rattle.core_model.specs.Served.{items_of}
 use Rattle.core_laws.proofs.Laws.{holds}
 use Rattle.core_laws.specs.Calls.{HasReplied}
 use Rattle.core_laws.specs.Holds.{committed_rows}
-use Rattle.nsf_core.specs.Moves.{HasNoChange, txn_shown}
-use Rattle.nsf_core.specs.View.{AreOne, CoreValue, Serves, Shows}
-use Rattle.sessions.specs.Values.{is_active, SessionValue}
-use Rattle.register.proofs.Laws.{rows_left}
+use Rattle.core_parts.specs.Moves.{HasNoChange, txn_shown}
+use Rattle.core_parts.specs.View.{AreOne, CoreValue, Serves, Shows}
+use Rattle.threads_sessions.specs.Values.{is_active, SessionValue}
+use Rattle.threads_register.proofs.Laws.{rows_left}
 use Rattle.locked_core.specs.Names.{IsShared}
 use Rattle.shared.specs.Changed.{row_of}
 use Rattle.shared.specs.Served.{WasTakenBack}

@@ -1,60 +1,27 @@
 -- Lookups in a session, in the sessions of all seats, and in what the core shows.
-use Rattle.std.proofs.Common.{◌≡◌, ◌==◌, ℕ, ◌<◌, Bool, true, false, cond, eqb, eq-eqb, List, [], ◌∷◌, length, Option, Some, None, is_some, not, refl, sym, ap}
-use Rattle.std.proofs.Common.{◌∙◌, subst, arith, zero, suc}
+use Rattle.std.proofs.Common.{◌≡◌, ◌==◌, ℕ, Bool, true, false, cond, eqb, eq-eqb, List, [], ◌∷◌, Option, Some, None, is_some, not, refl, sym, ap, ◌∙◌, subst}
 use Rattle.std.proofs.lemmas.Bool.{eqb-true}
 use Rattle.std.specs.Option.{option_map}
-use Rattle.std.specs.Prelude.{option_and_then, slice_get, slice_set}
-use Rattle.records.specs.declared.row.Row.{Row}
+use Rattle.std.specs.Prelude.{option_and_then}
+use Rattle.record_values.specs.declared.row.Row.{Row}
 use Rattle.model.specs.declared.write.Write.{Write}
 use Rattle.core_model.proofs.Laws.{same_some}
 use Rattle.core_model.specs.States.{Active}
 use Rattle.txn_table.specs.Table.{TxnState, rolls}
 use Rattle.txn_table.specs.declared.progress.Progress.{Progress}
 use Rattle.txn_table.specs.declared.progress.Progress.TheVariants.{OwesEntry, OwesRow, Ready, Rolling, UndoesEntry, UndoesRow}
-use Rattle.nsf_core.specs.Asked.{owed}
-use Rattle.nsf_core.specs.View.{AreOne, IsProgressOf}
-use Rattle.nsf_core.specs.declared.reply.Owed.{Owed}
-use Rattle.register.specs.Agreement.{is_owed, row_held}
-use Rattle.sessions.specs.Values.{active_of, ActiveValue, has_unfinished, is_unfinished, SessionValue, with_active, without}
-use Rattle.sessions.specs.Steps.{ended}
+use Rattle.core_parts.specs.Asked.{owed}
+use Rattle.core_parts.specs.View.{AreOne, IsProgressOf}
+use Rattle.core_parts.specs.declared.reply.Owed.{Owed}
+use Rattle.threads_register.proofs.Laws.{some_is, with_own}
+use Rattle.threads_register.specs.Agreement.{is_owed, row_held}
+use Rattle.threads_sessions.specs.Values.{active_of, ActiveValue, has_unfinished, is_unfinished, SessionValue, with_active, without}
+use Rattle.threads_sessions.specs.Steps.{ended}
 use Rattle.shared.specs.Changed.{unfinished_of}
-
--- ---- lists
-
-pub get_set : {A : Type 0} (l : List A) (i : ℕ) (a : A) → i < length l → slice_get (slice_set l i a) i ≡ Some a
-get_set [] i a lt = absurd (omega arith)
-get_set (x ∷ xs) zero a lt = refl
-get_set (x ∷ xs) (suc i) a lt = get_set xs i a (omega arith)
-
-pub get_within : {A : Type 0} (l : List A) (i : ℕ) (a : A) → slice_get l i ≡ Some a → i < length l
-get_within [] i a e = absurd cc
-get_within (x ∷ xs) zero a e = omega arith
-get_within (x ∷ xs) (suc i) a e = let r = get_within xs i a e in omega arith
 
 -- ---- a session's transactions
 
-some_is : {A : Type 0} (a b : A) → Some a ≡ Some b → a ≡ b
-some_is a b e = cc
-
--- a transaction stands under its number
-pub number_is : (t : ℕ) (xs : List ActiveValue) (a : ActiveValue) → active_of t xs ≡ Some a → a.txn ≡ t
-number_is t [] a e = absurd cc
-number_is t (x ∷ xs) a e = by (eqb t x.txn) (eqb-true t x.txn) e (number_is t xs a)
-  where
-    by : (b : Bool) → (b ≡ true → t ≡ x.txn) → cond b (Some x) (active_of t xs) ≡ Some a → (active_of t xs ≡ Some a → a.txn ≡ t) → a.txn ≡ t
-    by true same h rest = ap (λ (y : ActiveValue). y.txn) (sym (some_is x a h)) ∙ sym (same refl)
-    by false same h rest = rest h
-
 module _ (f : ActiveValue → ActiveValue) (keeps : (a : ActiveValue) → (f a).txn ≡ a.txn) (t : ℕ) where
-  pub with_own : (xs : List ActiveValue) → active_of t (with_active f t xs) ≡ option_map f (active_of t xs)
-  with_own [] = refl
-  with_own (x ∷ xs) = by (eqb t x.txn) refl (with_own xs)
-    where
-      by : (b : Bool) → eqb t x.txn ≡ b → active_of t (with_active f t xs) ≡ option_map f (active_of t xs)
-          → active_of t (cond b (f x ∷ xs) (x ∷ with_active f t xs)) ≡ option_map f (cond b (Some x) (active_of t xs))
-      by true same rest = ap (λ n. cond (eqb t n) (Some (f x)) (active_of t xs)) (keeps x) ∙ ap (λ b. cond b (Some (f x)) (active_of t xs)) same
-      by false same rest = ap (λ b. cond b (Some x) (active_of t (with_active f t xs))) same ∙ rest
-
   -- the others stay
   pub without_with : (xs : List ActiveValue) → without t (with_active f t xs) ≡ without t xs
   without_with [] = refl
@@ -70,7 +37,7 @@ module _ (f : ActiveValue → ActiveValue) (keeps : (a : ActiveValue) → (f a).
   others_stay p = ap (λ l. record p { active = l }) (without_with p.active)
 
   pub still_active : (xs : List ActiveValue) → is_some (active_of t xs) ≡ true → is_some (active_of t (with_active f t xs)) ≡ true
-  still_active xs own = ap is_some (with_own xs) ∙ by (active_of t xs) own
+  still_active xs own = ap is_some (with_own f keeps t xs) ∙ by (active_of t xs) own
     where
       by : (o : Option ActiveValue) → is_some o ≡ true → is_some (option_map f o) ≡ true
       by None e = e

@@ -5,19 +5,19 @@ use Rattle.std.proofs.Math.Logic.{∥∥₁_elim, ∥∥₁_map, ∥∥₁_map�
 use Rattle.std.specs.FinMap.{get}
 use Rattle.std.specs.Prelude.{slice_get}
 use Rattle.records.specs.RecordValue.{RecordValue}
-use Rattle.records.specs.Values.{Place}
-use Rattle.records.specs.declared.error.Error.{Error}
-use Rattle.records.specs.declared.error.Error.TheVariants.{NoSuchTxn}
-use Rattle.records.specs.declared.row.Row.{Row}
+use Rattle.record_values.specs.Values.{Place}
+use Rattle.record_values.specs.declared.error.Error.{Error}
+use Rattle.record_values.specs.declared.error.Error.TheVariants.{NoSuchTxn}
+use Rattle.record_values.specs.declared.row.Row.{Row}
 use Rattle.model.specs.declared.write.Write.{Write}
-use Rattle.core_contracts.specs.Events.{Event, Reply}
+use Rattle.core_model.specs.Events.{Event, Reply}
 use Rattle.core_model.specs.Histories.{Opened}
-use Rattle.nsf_core.specs.Replies.{reply_by}
-use Rattle.nsf_core.specs.View.{CoreValue, Serves}
+use Rattle.core_parts.specs.Replies.{reply_by}
+use Rattle.core_parts.specs.View.{CoreValue, Serves}
 use Rattle.locked_core.specs.Names.{IsShared}
-use Rattle.sessions.specs.Steps.{changed, stepped}
-use Rattle.sessions.specs.Values.{active_of, ActiveValue, has_unfinished, is_active, is_ready, is_unfinished, SessionValue}
-use Rattle.register.specs.Reading.{ReadsBack}
+use Rattle.threads_sessions.specs.Steps.{changed, stepped}
+use Rattle.threads_sessions.specs.Values.{active_of, ActiveValue, has_unfinished, is_active, is_ready, is_unfinished, SessionValue}
+use Rattle.threads_register.specs.Reading.{ReadsBack}
 use Rattle.shared.specs.Changed.{HasChanged, IsUnderWay, row_of, unfinished_of}
 use Rattle.shared.specs.Served.{WasChanged}
 use Rattle.shared.proofs.Advances.{deleted, followed, inserted, updated}

@@ -3,10 +3,10 @@ use Rattle.std.proofs.Common.{◌≡◌, ℕ, List, Some}
 use Rattle.std.proofs.Math.Logic.{∥∥₁_map}
 use Rattle.std.specs.Prelude.{slice_get}
 use Rattle.records.specs.RecordValue.{RecordValue}
-use Rattle.core_contracts.specs.Events.{Event, Reply}
+use Rattle.core_model.specs.Events.{Event, Reply}
 use Rattle.core_model.specs.Histories.{Opened}
-use Rattle.nsf_core.specs.View.{CoreValue, Serves}
-use Rattle.sessions.specs.Values.{SessionValue}
+use Rattle.core_parts.specs.View.{CoreValue, Serves}
+use Rattle.threads_sessions.specs.Values.{SessionValue}
 use Rattle.locked_core.specs.Names.{IsShared}
 use Rattle.shared.specs.Served.{WasServed, WasServedTo}
 

@@ -1,6 +1,6 @@
 -- A transaction that is ready.
 use Rattle.std.proofs.Common.{◌≡◌, None, Option, Some, is_some, refl, true, ℕ}
-use Rattle.sessions.specs.Values.{ActiveValue, SessionValue, active_of, can_go_on, is_active, is_ready}
+use Rattle.threads_sessions.specs.Values.{ActiveValue, SessionValue, active_of, can_go_on, is_active, is_ready}
 
 -- it is active
 pub ready_active : (s : SessionValue) (txn : ℕ) → is_ready s txn ≡ true → is_active s txn ≡ true

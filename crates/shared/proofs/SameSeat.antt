@@ -1,9 +1,9 @@
 -- A seat of which a call changed the session alone, or what it has seen.
 use Rattle.std.proofs.Common.{◌≡◌, Err, IfOk, Ok, OnErr, Result, refl, ◌∙◌, subst, sym}
-use Rattle.records.specs.declared.error.Error.{Error}
+use Rattle.record_values.specs.declared.error.Error.{Error}
 use Rattle.board.specs.Views.{Sighting}
 use Rattle.locked_core.specs.Seats as part
-use Rattle.sessions.specs.Values.{SessionValue}
+use Rattle.threads_sessions.specs.Values.{SessionValue}
 use Rattle.shared.specs.Seats.{SeatValue}
 
 pub session_alone : {T : Type 0} (r : Result T Error) (old new : SeatValue) (session : T → SessionValue)

@@ -3,8 +3,8 @@ use Rattle.std.proofs.Common.{◌≡◌, ◌⊎◌, Bool, false, subst, ℕ, ◌
 use Rattle.std.proofs.lemmas.List.{length-append}
 use Rattle.std.specs.Prelude.{slice_get}
 use Rattle.atomic_table.specs.Seated.{TableId}
-use Rattle.sessions.specs.Values.{empty_session}
-use Rattle.session_halves.specs.Halves.{HalfValue, IsNew}
+use Rattle.threads_sessions.specs.Values.{empty_session}
+use Rattle.threads_sessions.specs.Halves.{HalfValue, IsNew}
 use Rattle.board.specs.Views.{Sighting}
 use Rattle.shared.specs.Seats.{AreNewSeats, HasSeenNothing, IsNewSeat, SeatValue}
 

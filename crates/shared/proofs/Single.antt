@@ -3,8 +3,8 @@ use Rattle.std.proofs.Common.{◌≡◌, ℕ, Option}
 use Rattle.std.proofs.Props.{props}
 use Rattle.std.specs.Coded.{Coded, Coded-set, codes}
 use Rattle.model.specs.declared.write.Write.{Write}
-use Rattle.records.specs.declared.row.Row.{Row}
-use Rattle.sessions.specs.Values.{SessionValue}
+use Rattle.record_values.specs.declared.row.Row.{Row}
+use Rattle.threads_sessions.specs.Values.{SessionValue}
 use Rattle.shared.specs.Changed.{IsUnderWay}
 
 sessions_coded : Coded SessionValue

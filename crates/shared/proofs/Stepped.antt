@@ -2,12 +2,12 @@
 use Rattle.std.proofs.Common.{◌≡◌, ◌≢◌, ◌⊎◌, ℕ, Bool, true, false, Option, Some, None, inl, inr, refl, ap, ◌∙◌, subst}
 use Rattle.std.specs.FinMap.{get}
 use Rattle.records.specs.ChangeValue.{ChangeValue}
-use Rattle.records.specs.Maps.{get-set_at_other, get-set_at_same, rid_exact}
-use Rattle.records.specs.Orders.{rid_cmp-IsAntisymmetric, rid_cmp_total}
+use Rattle.record_values.specs.Maps.{get-set_at_other, get-set_at_same, rid_exact}
+use Rattle.record_values.specs.Orders.{rid_cmp-IsAntisymmetric, rid_cmp_total}
 use Rattle.records.specs.Spelling.{new_row}
-use Rattle.records.specs.Values.{Place}
-use Rattle.records.specs.declared.pair.Pair.{Pair}
-use Rattle.records.specs.declared.row.Row.{Row}
+use Rattle.record_values.specs.Values.{Place}
+use Rattle.record_values.specs.declared.pair.Pair.{Pair}
+use Rattle.record_values.specs.declared.row.Row.{Row}
 use Rattle.model.specs.declared.write.Write.{Write}
 use Rattle.core_model.proofs.Laws.{level, same_some, txn_here, update_apart, update_here}
 use Rattle.core_model.specs.Changes.{Changes, Unchanged, latest, new_pair, old_pair, ◌▹◌}
@@ -15,7 +15,7 @@ use Rattle.core_model.specs.Histories.{write_of}
 use Rattle.core_model.specs.Invariants.{applied_of, Invariant, IsHolderOf, made_of}
 use Rattle.core_model.specs.States.{Active, Made, NewMarked, OldMarked, OldSet, Phase, RowSet, State}
 use Rattle.core_model.specs.Steps.{after, carried_on, is_applied, is_indexed, Next, row_made, Start, started, txn_at, with_change, with_phase}
-use Rattle.register.specs.Agreement.{is_owed, newest_write}
+use Rattle.threads_register.specs.Agreement.{is_owed, newest_write}
 
 -- the rows at all other places stay, and so do all holders of them; the place is the transaction's, and has the row that it had or the change's; and where no
 -- step is owed, the latter

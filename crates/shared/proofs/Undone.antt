@@ -8,15 +8,15 @@ use Rattle.core_model.specs.Changes.{as_list, Unchanged}
 use Rattle.core_model.specs.Histories.{Opened}
 use Rattle.core_model.specs.States.{Active, State}
 use Rattle.core_model.specs.Steps.{new_txn, txn_at}
-use Rattle.core_contracts.specs.Events.{Event, Reply, Standing}
-use Rattle.core_contracts.specs.Replies.{IsStepDue, IsProper}
-use Rattle.nsf_core.specs.Moves.{HasNoChange, txn_shown}
-use Rattle.nsf_core.specs.Undoing.{undone_reply}
-use Rattle.nsf_core.specs.View.{Answers, AreOne, CoreValue, Serves, Shows}
-use Rattle.nsf_core.specs.declared.reply.Undone.{Undone}
-use Rattle.nsf_core.specs.declared.reply.Undone.TheVariants.{Empty, Step}
-use Rattle.sessions.specs.Steps.{rolling_back}
-use Rattle.sessions.specs.Values.{SessionValue}
+use Rattle.core_model.specs.Events.{Event, Reply, Standing}
+use Rattle.core_model.specs.Replies.{IsStepDue, IsProper}
+use Rattle.core_parts.specs.Moves.{HasNoChange, txn_shown}
+use Rattle.core_parts.specs.Undoing.{undone_reply}
+use Rattle.core_parts.specs.View.{Answers, AreOne, CoreValue, Serves, Shows}
+use Rattle.core_parts.specs.declared.reply.Undone.{Undone}
+use Rattle.core_parts.specs.declared.reply.Undone.TheVariants.{Empty, Step}
+use Rattle.threads_sessions.specs.Steps.{rolling_back}
+use Rattle.threads_sessions.specs.Values.{SessionValue}
 use Rattle.locked_core.specs.Names.{IsShared}
 use Rattle.shared.specs.Served.{AreUndone, HasUndone, WasUndone}
 use Rattle.shared.proofs.Advances.{due}

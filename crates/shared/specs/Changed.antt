@@ -1,20 +1,17 @@
 -- What a change of a transaction makes of its seat's session.
-use Rattle.std.specs.Prelude.{Bool, false, is_some, None, Option, Some, option_and_then, true, ℕ, ◌≡◌, ◌≢◌, ◌⊎◌}
-use Rattle.records.specs.Values.{Place}
-use Rattle.records.specs.declared.error.Error.{Error}
-use Rattle.records.specs.declared.row.Row.{Row}
+use Rattle.std.specs.Prelude.{Bool, false, is_some, None, Option, Some, true, ℕ, ◌≡◌, ◌≢◌, ◌⊎◌}
+use Rattle.record_values.specs.Values.{Place}
+use Rattle.record_values.specs.declared.error.Error.{Error}
+use Rattle.record_values.specs.declared.row.Row.{Row}
 use Rattle.model.specs.declared.write.Write.{Write}
-use Rattle.register.specs.Agreement.{row_at}
-use Rattle.sessions.specs.Steps.{ended}
-use Rattle.sessions.specs.Values.{active_of, ActiveValue, is_active, is_ready, rows_of, SessionValue}
+use Rattle.threads_register.specs.Agreement.{row_at}
+pub use Rattle.threads_register.specs.Reading.{unfinished_of}
+use Rattle.threads_sessions.specs.Steps.{ended}
+use Rattle.threads_sessions.specs.Values.{active_of, ActiveValue, is_active, is_ready, rows_of, SessionValue}
 
 -- the row that the session has for a place, if the transaction holds the place
 abbrev pub row_of : SessionValue → (txn : ℕ) → Place → Option (Option Row)
 row_of s txn q = row_at q (rows_of txn s.active)
-
--- the change that the transaction has not finished
-abbrev pub unfinished_of : SessionValue → (txn : ℕ) → Option Write
-unfinished_of s txn = option_and_then (λ a. a.unfinished) (active_of txn s.active)
 
 -- Some steps of this change of a transaction are made. The rows at all other places, the other transactions, the
 -- commits and what was done to the index are as before. If a step is left, the change is the transaction's unfinished

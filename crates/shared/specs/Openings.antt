@@ -2,20 +2,13 @@
 use Rattle.std.specs.Prelude.{[], false, length, ℕ, ◌≡◌}
 use Rattle.board.specs.Views.{nothing_seen}
 use Rattle.core_laws.specs.Calls.{BeginsWith}
-use Rattle.core_model.specs.Histories.{CanOpen, Opened}
+use Rattle.core_model.specs.Histories.{CanOpen}
 use Rattle.nsf_core.specs.Value.{value_of}
-use Rattle.nsf_core.specs.View.{CoreValue}
+use Rattle.core_parts.specs.View.{CoreValue}
+pub use Rattle.core_parts.specs.Opening.{opened_of}
 use Rattle.locked_core.specs.Names.{Names}
-use Rattle.session_halves.specs.Halves.{IsNew}
+use Rattle.threads_sessions.specs.Halves.{IsNew}
 use Rattle.shared.specs.declared.opening.Opening.{Opening}
-
--- what a core that was just opened was opened with
-abbrev pub opened_of : CoreValue → Opened
-opened_of v = record {
-  given = record { table = v.heap.rows; entries = v.index.entries; life = v.life; last = v.last };
-  pages = v.heap.pages;
-  places = v.index.capacity;
-}
 
 -- the core was just opened: with its rows, its entries and its life, after its last record
 pub record IsJustOpened (v : CoreValue) : Type 0 where

@@ -2,8 +2,8 @@
 use Rattle.std.specs.Prelude.{[], Bool, List, slice_get, Some, length, ℕ, ◌≡◌}
 use Rattle.atomic_table.specs.Seated.{TableId}
 use Rattle.board.specs.Views.{nothing_seen, Sighting}
-use Rattle.nsf_core.specs.declared.parts.Ticket.{Ticket}
-use Rattle.sessions.specs.Values.{SessionValue, empty_session}
+use Rattle.core_parts.specs.declared.parts.Ticket.{Ticket}
+use Rattle.threads_sessions.specs.Values.{SessionValue, empty_session}
 
 -- a seat: its number, its session, and what it has seen of the board
 pub record SeatValue : Type 0 where

@@ -2,17 +2,17 @@
 use Rattle.std.specs.FinMap.{get}
 use Rattle.std.specs.Prelude.{List, Option, slice_get, Some, ℕ, [], ◌∷◌, ◌≡◌, ◌⊎◌}
 use Rattle.records.specs.RecordValue.{RecordValue}
-use Rattle.records.specs.Values.{Place}
-use Rattle.records.specs.declared.row.Row.{Row}
-use Rattle.core_contracts.specs.Events.{Event, Reply}
+use Rattle.record_values.specs.Values.{Place}
+use Rattle.record_values.specs.declared.row.Row.{Row}
+use Rattle.core_model.specs.Events.{Event, Reply}
 use Rattle.model.specs.declared.write.Write.{Write}
 use Rattle.core_laws.specs.Holds.{committed_rows}
 use Rattle.core_model.specs.Histories.{Opened}
-use Rattle.nsf_core.specs.Moves.{HasNoChange, txn_shown}
-use Rattle.nsf_core.specs.View.{CoreValue, Serves}
-use Rattle.sessions.specs.Steps.{rolling_back}
-use Rattle.sessions.specs.Values.{SessionValue}
-use Rattle.register.specs.Reading.{ReadsBack}
+use Rattle.core_parts.specs.Moves.{HasNoChange, txn_shown}
+use Rattle.core_parts.specs.View.{CoreValue, Serves}
+use Rattle.threads_sessions.specs.Steps.{rolling_back}
+use Rattle.threads_sessions.specs.Values.{SessionValue}
+use Rattle.threads_register.specs.Reading.{ReadsBack}
 use Rattle.locked_core.specs.Names.{IsShared}
 use Rattle.shared.specs.Changed.{IsGoingBack, row_of}
 

@@ -1,7 +1,7 @@
 -- Why a seat waits no longer for a record to be safe.
 use Rattle.std.specs.Prelude.{◌≡◌, ◌⊎◌, false, true}
-use Rattle.records.specs.declared.error.Error.{Error}
-use Rattle.records.specs.declared.error.Error.TheVariants.{DeviceFailed, Stopped}
+use Rattle.record_values.specs.declared.error.Error.{Error}
+use Rattle.record_values.specs.declared.error.Error.TheVariants.{DeviceFailed, Stopped}
 use Rattle.shared.specs.Seats.{SeatValue}
 
 -- `DeviceFailed`, and the seat has seen that the failed flag is set; or `Stopped`, and it found that it isn't set, and

@@ -1,9 +1,9 @@
 //! The call of a seat that takes a transaction back.
 ghost use Rattle.std.specs.Prelude.{◌≡◌, ◌⊎◌, Err, IfErr, IfOk, OnErr, OnOk, false, true};
-ghost use Rattle.records.specs.declared.error.Error.TheVariants.{NoSuchTxn};
-ghost use Rattle.core_contracts.specs.Events.{Event, Refused};
-ghost use Rattle.sessions.specs.Steps.{ended};
-ghost use Rattle.sessions.specs.Values.{is_active};
+ghost use Rattle.record_values.specs.declared.error.Error.TheVariants.{NoSuchTxn};
+ghost use Rattle.core_model.specs.Events.{Event, Refused};
+ghost use Rattle.threads_sessions.specs.Steps.{ended};
+ghost use Rattle.threads_sessions.specs.Values.{is_active};
 ghost use Rattle.shared.specs.Changed.{IsGoingBack};
 ghost use Rattle.shared.specs.Served.{HasUndone, WasAborted, WasServedTo, WasTakenBack, WasUndone};
 
@@ -37,14 +37,10 @@ impl<B: Group, A: Memory> Shared<B, A> {
             return Err(Error::NoSuchTxn);
         }
         for _ in rt.forever() {
-            match self.take_back(rt, seat, txn) {
-                Ok(last) => {
-                    self.wake_flusher();
-                    if last {
-                        return Ok(());
-                    }
-                }
-                Err(error) => return Err(error),
+            let last = self.take_back(rt, seat, txn)?;
+            self.wake_flusher();
+            if last {
+                return Ok(());
             }
         }
         unreachable!()
@@ -68,23 +64,16 @@ impl<B: Group, A: Memory> Shared<B, A> {
     {
         let mut guard = self.hold(rt);
         let locked = &mut *guard;
-        locked.push_outbox(rt, &self.queue);
         if locked.may_end(txn) {
-            match locked.end(&self.registry, &mut seat.part, txn) {
-                Ok(()) => {
-                    locked.push_outbox(rt, &self.queue);
-                    Ok(true)
-                }
-                Err(error) => Err(error),
-            }
+            let ended = locked.end(&self.registry, &mut seat.part, txn);
+            locked.push_outbox(rt, &self.queue);
+            ended?;
+            Ok(true)
         } else {
-            match locked.undo_step(&self.registry, &mut seat.part, txn) {
-                Ok(_) => {
-                    locked.push_outbox(rt, &self.queue);
-                    Ok(false)
-                }
-                Err(error) => Err(error),
-            }
+            let undone = locked.undo_step(&self.registry, &mut seat.part, txn);
+            locked.push_outbox(rt, &self.queue);
+            undone?;
+            Ok(false)
         }
     }
 }

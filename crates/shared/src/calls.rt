@@ -1,13 +1,13 @@
-//! The calls of a seat that make one step of the core, or read it. Each pushes first what the queue had refused; the
-//! queue may refuse it again, so no clause says so.
+//! The calls of a seat that make one step of the core, or read it. Each pushes what waits once, the records that the
+//! queue had refused first; the queue may refuse them again, so no clause says so.
 ghost use Rattle.std.specs.Prelude.{◌≡◌, Err, IfOk, OnErr, Option, Some, false, true, ℕ};
-ghost use Rattle.records.specs.declared.error.Error.TheVariants.{NoSuchTxn};
-ghost use Rattle.records.specs.declared.row.Row.{Row as RowValue};
-ghost use Rattle.core_contracts.specs.Events.{Event, Reply};
-ghost use Rattle.nsf_core.specs.Replies.{reply_by, reply_of_ticket};
-ghost use Rattle.sessions.specs.Steps.{begun, committed, with_turn};
-ghost use Rattle.sessions.specs.declared.turn.Turn.TheVariants.{Created, Dropped};
-ghost use Rattle.sessions.specs.Values.{is_active, is_ready};
+ghost use Rattle.record_values.specs.declared.error.Error.TheVariants.{NoSuchTxn};
+ghost use Rattle.record_values.specs.declared.row.Row.{Row as RowValue};
+ghost use Rattle.core_model.specs.Events.{Event, Reply};
+ghost use Rattle.core_parts.specs.Replies.{reply_by, reply_of_ticket};
+ghost use Rattle.threads_sessions.specs.Steps.{begun, committed, with_turn};
+ghost use Rattle.threads_sessions.specs.declared.turn.Turn.TheVariants.{Created, Dropped};
+ghost use Rattle.threads_sessions.specs.Values.{is_active, is_ready};
 ghost use Rattle.shared.specs.Changed.{row_of};
 ghost use Rattle.shared.specs.Served.{WasServed, WasServedTo};
 
@@ -50,7 +50,6 @@ impl<B: Group, A: Memory> Shared<B, A> {
         ensures refused { OnErr result (seat.new ≡ seat.old) }
     {
         let mut locked = self.hold(rt);
-        locked.push_outbox(rt, &self.queue);
         let committed = locked.commit(&self.registry, &mut seat.part, txn);
         locked.push_outbox(rt, &self.queue);
         drop(locked);
@@ -69,7 +68,6 @@ impl<B: Group, A: Memory> Shared<B, A> {
         ensures refused { OnErr result (seat.new ≡ seat.old) }
     {
         let mut locked = self.hold(rt);
-        locked.push_outbox(rt, &self.queue);
         let created = locked.create_index(&self.registry, &mut seat.part);
         locked.push_outbox(rt, &self.queue);
         drop(locked);
@@ -90,7 +88,6 @@ impl<B: Group, A: Memory> Shared<B, A> {
         ensures refused { OnErr result (seat.new ≡ seat.old) }
     {
         let mut locked = self.hold(rt);
-        locked.push_outbox(rt, &self.queue);
         let dropped = locked.drop_index(&self.registry, &mut seat.part);
         locked.push_outbox(rt, &self.queue);
         drop(locked);

@@ -1,10 +1,10 @@
 //! The calls of a seat that change a row: all steps of the change, each under the lock anew.
 ghost use Rattle.std.specs.Prelude.{◌≡◌, Err, IfErr, IfOk, IfSome, None, OnErr, OnOk, Some, false, true};
-ghost use Rattle.records.specs.declared.error.Error.TheVariants.{NoSuchTxn};
-ghost use Rattle.core_contracts.specs.Events.{Event, Refused, Reply};
+ghost use Rattle.record_values.specs.declared.error.Error.TheVariants.{NoSuchTxn};
+ghost use Rattle.core_model.specs.Events.{Event, Refused, Reply};
 ghost use Rattle.model.specs.declared.write.Write.{Write};
-ghost use Rattle.nsf_core.specs.Replies.{reply_by};
-ghost use Rattle.sessions.specs.Values.{is_active, is_ready, is_unfinished};
+ghost use Rattle.core_parts.specs.Replies.{reply_by};
+ghost use Rattle.threads_sessions.specs.Values.{is_active, is_ready, is_unfinished};
 ghost use Rattle.shared.specs.Changed.{HasChanged, IsUnderWay, row_of, unfinished_of};
 ghost use Rattle.shared.specs.Served.{WasChanged, WasServedTo};
 
@@ -142,8 +142,7 @@ impl<B: Group, A: Memory> Shared<B, A> {
         if !seat.part.is_active(txn) {
             return Err(Error::NoSuchTxn);
         }
-        let rest = self.finish_change(rt, seat, txn);
-        match rest {
+        match self.finish_change(rt, seat, txn) {
             Some(error) => Err(error),
             None => Ok(()),
         }
@@ -171,7 +170,6 @@ impl<B: Group, A: Memory> Shared<B, A> {
         ensures seat { seat.new ≡ record seat.old { session = seat.new.session } }
     {
         let mut locked = self.hold(rt);
-        locked.push_outbox(rt, &self.queue);
         let started = locked.insert(&self.registry, &mut seat.part, txn, key, body);
         locked.push_outbox(rt, &self.queue);
         started
@@ -197,7 +195,6 @@ impl<B: Group, A: Memory> Shared<B, A> {
         ensures seat { seat.new ≡ record seat.old { session = seat.new.session } }
     {
         let mut locked = self.hold(rt);
-        locked.push_outbox(rt, &self.queue);
         let started = locked.delete(&self.registry, &mut seat.part, txn, rid);
         locked.push_outbox(rt, &self.queue);
         started
@@ -227,7 +224,6 @@ impl<B: Group, A: Memory> Shared<B, A> {
         ensures seat { seat.new ≡ record seat.old { session = seat.new.session } }
     {
         let mut locked = self.hold(rt);
-        locked.push_outbox(rt, &self.queue);
         let started = locked.update(&self.registry, &mut seat.part, txn, rid, key, body);
         locked.push_outbox(rt, &self.queue);
         started
@@ -244,7 +240,6 @@ impl<B: Group, A: Memory> Shared<B, A> {
         ensures seat { seat.new ≡ record seat.old { session = seat.new.session } }
     {
         let mut locked = self.hold(rt);
-        locked.push_outbox(rt, &self.queue);
         let stepped = locked.next_step(&self.registry, &mut seat.part, txn);
         locked.push_outbox(rt, &self.queue);
         stepped

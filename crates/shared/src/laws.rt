@@ -1,10 +1,10 @@
 //! A law of what refused calls leave.
 ghost use Rattle.std.specs.Prelude.{◌≡◌, ◌⊎◌, Option, Some, ℕ};
-ghost use Rattle.records.specs.declared.error.Error.{Error};
+ghost use Rattle.record_values.specs.declared.error.Error.{Error};
 ghost use Rattle.model.specs.declared.write.Write.{Write};
-ghost use Rattle.core_contracts.specs.Events.{Event, Refused};
+ghost use Rattle.core_model.specs.Events.{Event, Refused};
 ghost use Rattle.core_model.specs.Histories.{Opened};
-ghost use Rattle.sessions.specs.Values.{SessionValue};
+ghost use Rattle.threads_sessions.specs.Values.{SessionValue};
 ghost use Rattle.shared.specs.Changed.{HasChanged, IsGoingBack};
 ghost use Rattle.shared.specs.Served.{HasUndone, WasAborted, WasServed, WasServedTo};
 

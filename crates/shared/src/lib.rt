@@ -1,9 +1,9 @@
 //! A core that many threads share, one seat each.
 //!
-//! Each call of a seat makes its steps of the core one at a time, each under the lock anew, and hands the records that
-//! they make to the queue of the flusher. What a seat knows of its own transactions is in its session, which the calls
-//! keep in step with the core. A seat learns from the board, without the lock, which of the records are safe on the
-//! device. Nobody holds the lock but within a call: a seat here, and flusher, builder and cleaner by their parts.
+//! Each call of a seat makes its steps of the core one at a time, each under the lock anew, and pushes the records that
+//! wait to the queue of the flusher, once a hold. What a seat knows of its own transactions is in its session, which
+//! the calls keep in step with the core. A seat learns from the board, without the lock, which records are safe on the
+//! device. It holds the lock only within a call. Flusher, builder and cleaner are lent the guard by `hold_to_..`.
 //!
 //! Proved: what an `Ok` makes of the seat's session (`ok`, `changed`). Each reply is one that some core which may lie
 //! under the lock gives (`served`). `get` of a place that the seat holds answers its own row (`own`). An

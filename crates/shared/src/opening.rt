@@ -1,8 +1,8 @@
 //! What the threads share, made before it has its names.
 ghost use Rattle.std.specs.Prelude.{◌≡◌, [], false, length, IfErr, IfOk};
 ghost use Rattle.nsf_core.specs.Value.{value_of};
-ghost use Rattle.records.specs.declared.error.Error.TheVariants.{NoMemory};
-ghost use Rattle.session_halves.specs.Halves.{IsNew};
+ghost use Rattle.record_values.specs.declared.error.Error.TheVariants.{NoMemory};
+ghost use Rattle.threads_sessions.specs.Halves.{IsNew};
 ghost use Rattle.shared.specs.Openings.{IsJustOpened, IsOpening, names_of};
 ghost use Rattle.shared.specs.Seats.{AreNewSeats, HasSeenNothing};
 
@@ -11,15 +11,15 @@ use crate::cleaner::CleanPart;
 use crate::seat::Seat;
 use crate::shared::Shared;
 use board::{Board, BuildView, FlushView, View};
-use flusher::FlushEnds;
 use locked_core::{Group, Locked, Memory, SeatPart};
 use nsf_core::Core;
 use records::Error;
-use session_halves::{Half, Registry};
 use std::alloc::Global;
 use std::marker::PhantomData;
 use std::sync::Mutex;
-use tail::{Popper, Pusher, RecordQueue};
+use threads_flusher::FlushEnds;
+use threads_queue::{Popper, Pusher, RecordQueue};
+use threads_sessions::{Half, Registry};
 
 /// What is made for the threads, before it has its names.
 #[derive(Drop)]

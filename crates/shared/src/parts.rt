@@ -2,10 +2,10 @@
 use crate::builder::BuildPart;
 use crate::cleaner::CleanPart;
 use crate::seat::Seat;
-use flusher::FlushPart;
 use locked_core::{Group, Memory};
 use sector_device::Device;
 use std::alloc::Global;
+use threads_flusher::FlushPart;
 
 /// The seats, the part of the flusher, which owns the device, the builder's, and the cleaner's.
 #[derive(Drop)]

@@ -46,7 +46,7 @@ impl<B: Group> Model for Ack<B> {
 }
 
 impl<B: Group, A: Memory> Seat<B, A> {
-    ghost use Rattle.sessions.specs.Values.{is_active, is_ready, is_unfinished};
+    ghost use Rattle.threads_sessions.specs.Values.{is_active, is_ready, is_unfinished};
 
     /// Whether the transaction is one of the seat's.
     pub fn is_active(&self, txn: Txn) -> bool

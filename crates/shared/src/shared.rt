@@ -1,19 +1,19 @@
 //! What the threads share.
 ghost use Rattle.std.specs.Prelude.{◌≡◌};
-ghost use Rattle.tail.specs.Ends.{name_prop};
+ghost use Rattle.threads_queue.specs.Ends.{name_prop};
 
 use crate::builder::BuildPart;
 use crate::cleaner::CleanPart;
 use board::Board;
-use flusher::FlushPart;
 use locked_core::{Group, Locked, Memory};
 use sector_device::Device;
-use session_halves::Registry;
 use std::alloc::Global;
 use std::marker::PhantomData;
 use std::sync::{Mutex, MutexGuard, Wait};
 use std::{hint, thread};
-use tail::RecordQueue;
+use threads_flusher::FlushPart;
+use threads_queue::RecordQueue;
+use threads_sessions::Registry;
 
 // So often it is looked whether the lock is free before a sleep, and so often between two times that the processor is
 // left to others.

@@ -5,8 +5,7 @@ ghost use Rattle.locked_core.specs.Locked.{locked_of};
 use crate::seat::{Ack, Seat};
 use board::View;
 use locked_core::{Group, Locked, Memory};
-use session_halves::Registry;
-use sessions::Session;
+use threads_sessions::{Registry, Session};
 
 impl<B: Group, A: Memory> Seat<B, A> {
     /// Compares the seat's session with the one under the lock: they are the same. Nothing changes.

@@ -1,10 +1,10 @@
 //! The calls of a seat that want a transaction which is ready, each with that test before it.
 ghost use Rattle.std.specs.Prelude.{◌≡◌, Err, IfOk, IfSome, None, OnErr, OnOk, Some, false, true};
-ghost use Rattle.records.specs.declared.error.Error.TheVariants.{NoSuchTxn};
-ghost use Rattle.core_contracts.specs.Events.{Event, Refused, Reply};
-ghost use Rattle.nsf_core.specs.Replies.{reply_by, reply_of_ticket};
-ghost use Rattle.sessions.specs.Steps.{committed};
-ghost use Rattle.sessions.specs.Values.{is_ready};
+ghost use Rattle.record_values.specs.declared.error.Error.TheVariants.{NoSuchTxn};
+ghost use Rattle.core_model.specs.Events.{Event, Refused, Reply};
+ghost use Rattle.core_parts.specs.Replies.{reply_by, reply_of_ticket};
+ghost use Rattle.threads_sessions.specs.Steps.{committed};
+ghost use Rattle.threads_sessions.specs.Values.{is_ready};
 ghost use Rattle.shared.specs.Changed.{HasChanged, row_of};
 ghost use Rattle.shared.specs.Served.{WasChanged, WasServedTo};
 

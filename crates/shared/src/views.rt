@@ -6,10 +6,10 @@ ghost use Rattle.store_writer.specs.Parts.{has_failed, synced_of};
 use crate::seat::Seat;
 use crate::shared::Shared;
 use board::View;
-use flusher::FlushPart;
 use locked_core::{Group, Memory};
 use sector_device::Device;
 use std::marker::{Model, PhantomData};
+use threads_flusher::FlushPart;
 
 /// A view of the group's board for a thread that has no seat, as a loop. To a contract it is a `Sighting`.
 #[derive(Drop)]
@@ -33,10 +33,8 @@ impl<B: Group, A: Memory> Shared<B, A> {
     /// Makes a view of the board for a thread that has no seat. It has seen what the seat has.
     pub fn another_view(&self, seat: &mut Seat<B, A>) -> GroupView<B>
         ensures view { result ≡ record seat.old.sight { name = leaves_as seat.old.sight.name; stops = false } }
-        ensures seat { seat.new ≡ record seat.old {
-          sight = record seat.old.sight
-              { name = stays_as seat.old.sight.name };
-        } }
+        ensures seat { seat.new ≡ record seat.old
+            { sight = record seat.old.sight { name = stays_as seat.old.sight.name } } }
     {
         GroupView {
             view: self.board.another(&mut seat.view),

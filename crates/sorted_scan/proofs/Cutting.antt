@@ -1,6 +1,6 @@
 -- Runs that are cut off what was gathered.
 use Rattle.std.proofs.Common.{◌≡◌, ◌<◌, ◌≤◌, ◌+◌, ◌⊎◌, ◌∙◌, List, ◌++◌, length, arith, length-append, ap}
-use Rattle.records.specs.declared.pair.Pair.{Pair}
+use Rattle.record_values.specs.declared.pair.Pair.{Pair}
 use Rattle.sorted_scan.specs.FullRuns.{AreFull, AreFullButOne, MergeValue, full_run, runs_of}
 use Rattle.sorted_scan.specs.Pairs.{AreSame}
 use Rattle.sorted_scan.proofs.Counts.{same_length}

@@ -1,8 +1,8 @@
 mod Order
 mod Pages
 mod Kept
-pub mod Counts
-pub mod Cutting
+mod Counts
+mod Cutting
 mod Least
 mod Merging
 mod Handing

@@ -9,8 +9,8 @@ use Rattle.std.proofs.lemmas.List.Elements.{All-append, All-cons, All-head, All-
 use Rattle.std.proofs.lemmas.List.Sums.{sum_by-cons}
 use Rattle.std.proofs.lemmas.List.Sorted.{sum_by-IsPermutation, sorted_far, ranks_by, All-permutation, length_permutation, Contains-permutation}
 use Rattle.std.proofs.lemmas.List.Sorted.{IsPermutation-sym}
-use Rattle.records.specs.Orders.{pair_cmp, pair_cmp_total}
-use Rattle.records.specs.declared.pair.Pair.{Pair}
+use Rattle.record_values.specs.Orders.{pair_cmp, pair_cmp_total}
+use Rattle.record_values.specs.declared.pair.Pair.{Pair}
 use Rattle.sorted_scan.specs.declared.merge.SortedRun.{SortedRun}
 use Rattle.sorted_scan.specs.FullRuns.{full_run, runs_of}
 use Rattle.sorted_scan.specs.Pairs.{AreSame, IsLow, least}

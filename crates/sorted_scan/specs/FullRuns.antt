@@ -1,6 +1,6 @@
 -- How long the sorted runs are.
 use Rattle.std.specs.Prelude.{◌≡◌, ℕ, ◌+◌, ◌*◌, ◌<◌, min, List, length}
-use Rattle.records.specs.declared.pair.Pair.{Pair}
+use Rattle.record_values.specs.declared.pair.Pair.{Pair}
 
 -- how many pairs a run has: the last one may have fewer
 abbrev pub full_run : ℕ

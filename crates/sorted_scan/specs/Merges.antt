@@ -5,8 +5,8 @@ use Rattle.std.specs.Cmp.{IsTotalOrder, on_total, back_total}
 use Rattle.std.specs.List.Sorted.{IsSorted}
 use Rattle.std.specs.BinaryHeap.{IsHeap}
 use Rattle.std.specs.Vec.Iter.{into_iter_items}
-use Rattle.records.specs.Orders.{pair_cmp, pair_cmp_total}
-use Rattle.records.specs.declared.pair.Pair.{Pair}
+use Rattle.record_values.specs.Orders.{pair_cmp, pair_cmp_total}
+use Rattle.record_values.specs.declared.pair.Pair.{Pair}
 use Rattle.sorted_scan.specs.declared.merge.SortedRun.{SortedRun}
 use Rattle.sorted_scan.specs.FullRuns.{full_run}
 

@@ -7,7 +7,7 @@ ghost use Rattle.std.specs.Cmp.{partial_order_from_total, partial_equiv_from_equ
 ghost use Rattle.std.specs.Cmp.Rules.{comparing};
 ghost use Rattle.std.specs.BinaryHeap.{heap_items, heap_len, heap_capacity, KeepsHeap};
 ghost use Rattle.std.proofs.Common.{rules, refl};
-ghost use Rattle.records.specs.Orders.{pair_cmp};
+ghost use Rattle.record_values.specs.Orders.{pair_cmp};
 ghost use Rattle.sorted_scan.specs.FullRuns.{full_run, runs_of};
 ghost use Rattle.sorted_scan.specs.Pairs.{least, AreSame};
 ghost use Rattle.sorted_scan.specs.Merges.{run_cmp, run_cmp_total, run_pairs, pairs_in, AreSortedRuns};

@@ -2,7 +2,7 @@
 ghost use Rattle.std.specs.Prelude.{◌≡◌, ℕ, ◌+◌, ◌<◌, ◌≤◌, ◌∷◌, ◌++◌, Some, None, length, map, filter, All, OnOk, IfOk};
 ghost use Rattle.std.specs.Prelude.{OnErr, IfErr, IfSome, IfNone, IsTrue, false, ◌⊎◌, ◌^◌, []};
 ghost use Rattle.std.specs.List.Sorted.{IsStrictlyIncreasing};
-ghost use Rattle.records.specs.declared.pair.Pair.{Pair};
+ghost use Rattle.record_values.specs.declared.pair.Pair.{Pair};
 ghost use Rattle.sorted_scan.specs.FullRuns.{full_run, AreFull, AreFullButOne};
 ghost use Rattle.sorted_scan.specs.Pairs.{is_above, AreSame};
 ghost use Rattle.sorted_scan.specs.Runs.{ScanRun, Took, HandedOut, with_step, MayHandOut, IsAtEnd};

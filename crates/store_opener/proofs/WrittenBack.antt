@@ -3,17 +3,17 @@ use Rattle.std.proofs.Common.{◌≡◌, inl, inr, ⊎_elim, ℕ, ◌≤◌, tru
 use Rattle.std.specs.FinMap as map
 use Rattle.std.specs.FinMap.{len}
 use Rattle.std.specs.Ordering.{nat_cmp}
-use Rattle.sector_device.specs.Disk.{Image, sector, IsSynced, SameOutside}
-use Rattle.sector_device.specs.History.{History, LeavesOnly}
+use Rattle.sector_device.specs.Disk.{CrashState, sector, IsSynced, SameOutside}
+use Rattle.sector_device.specs.DevicePast.{DevicePast, LeavesOnly}
 use Rattle.sector_device.proofs.Moments.{joined, weaker}
 use Rattle.sector_device.proofs.Sectors.{same_outside_then, same_outside_wider}
-use Rattle.records.specs.GeometryValue.{GeometryValue}
-use Rattle.records.specs.declared.number.TheConstants.{LAST_NUMBER}
+use Rattle.record_values.specs.GeometryValue.{GeometryValue}
+use Rattle.record_values.specs.declared.number.TheConstants.{LAST_NUMBER}
 use Rattle.records.specs.ChangeValue.{ChangeValue}
 use Rattle.model.specs.Cells.{list_of}
 use Rattle.model.specs.Following.{ArePlaced}
 use Rattle.model.specs.Given.{Given, opening_cells}
-use Rattle.image_half.specs.Source.{FitsImage}
+use Rattle.store_image_half.specs.Source.{FitsImage}
 use Rattle.gate_log.specs.Area.{Area, Log, HoldsGroups, Stands}
 use Rattle.flip_image.specs.declared.half.Half.{Half}
 use Rattle.flip_image.specs.declared.half.Half.TheVariants.{A, B}
@@ -31,42 +31,34 @@ no_list txn = ap (λ (o : Option (List ChangeValue)). unwrap_or o []) (map.get-e
 
 -- ---- sectors
 
-other_twice : (half : Half) → other (other half) ≡ half
-other_twice A = refl
-other_twice B = refl
-
--- a change of the other half
-this_half : (g : GeometryValue) (half : Half) (image c : Image) → SameOutside (InHalf g (other half)) image c → SameHalf g half image c
-this_half g half image c same = record { sectors = same.sectors; same = λ n inside. same.same n (other_apart g half n inside) }
-
 -- a change of the flip sector
-either_half : (g : GeometryValue) (half : Half) (image c : Image) → SameOutside (λ n. n ≡ 1) image c → SameHalf g half image c
+either_half : (g : GeometryValue) (half : Half) (image c : CrashState) → SameOutside (λ n. n ≡ 1) image c → SameHalf g half image c
 either_half g half image c same = record { sectors = same.sectors; same = λ n inside. same.same n (λ is. omega (arith, is, behind_front g half n inside)) }
 
 -- a change of both
-spare_half : (g : GeometryValue) (half : Half) (image c : Image) → SameOutside (IsSpare g half) image c → SameHalf g half image c
+spare_half : (g : GeometryValue) (half : Half) (image c : CrashState) → SameOutside (IsSpare g half) image c → SameHalf g half image c
 spare_half g half image c same = record {
   sectors = same.sectors;
   same = λ n inside. same.same n (λ spare. ⊎_elim (λ in_other. other_apart g half n inside in_other) (λ is.
       omega (arith, is, behind_front g half n inside)) spare);
 }
 
-store_apart : (g : GeometryValue) (half : Half) (image c : Image) → SameOutside (InHalf g (other half)) image c → IsStore g half image → IsStore g half c
+store_apart : (g : GeometryValue) (half : Half) (image c : CrashState) → SameOutside (InHalf g (other half)) image c → IsStore g half image → IsStore g half c
 store_apart g half image c same = store_in_front g half image c same.sectors (λ n few.
     same.same n (λ inside. omega (arith, few, behind_front g (other half) n inside)))
 
-module _ (g : GeometryValue) (half : Half) (before : Image) (store : IsStore g half before) (given : Given) where
+module _ (g : GeometryValue) (half : Half) (before : CrashState) (store : IsStore g half before) (given : Given) where
   -- what is written into the other half alone
-  pub other_written : (c : Image) → SameOutside (InHalf g (other half)) before c → IsOverwritten g half given before c
+  pub other_written : (c : CrashState) → SameOutside (InHalf g (other half)) before c → IsOverwritten g half given before c
   other_written c same = record {
     outside = same_outside_wider (InHalf g (other half)) (IsSpare g half) before c (λ n inside. inl inside) same;
     either = inl (store_apart g half before c same store);
   }
 
   -- the other half is written: it has the image of what was given, and an empty log
-  module _ (room : len given.entries ≤ g.entries) (mid : Image) (same : SameOutside (InHalf g (other half)) before mid)
+  module _ (room : len given.entries ≤ g.entries) (mid : CrashState) (same : SameOutside (InHalf g (other half)) before mid)
       (imaged : HoldsImage g (other half) mid given.last (opening_cells given)) (held : HoldsGroups (log_area g (other half)) mid []) where
-    flip_written : (c : Image) → SameOutside (λ n. n ≡ 1) mid c → IsOverwritten g half given before c
+    flip_written : (c : CrashState) → SameOutside (λ n. n ≡ 1) mid c → IsOverwritten g half given before c
     flip_written c flipped = record {
       outside = same_outside_then (IsSpare g half) before mid c
           (same_outside_wider (InHalf g (other half)) (IsSpare g half) before mid (λ n inside. inl inside) same)
@@ -80,7 +72,7 @@ module _ (g : GeometryValue) (half : Half) (before : Image) (store : IsStore g h
     }
 
   -- of what the store gave it is written back
-  pub back_of : Gives before g given → (c : Image) → IsOverwritten g half given before c → IsWrittenBack before c
+  pub back_of : Gives before g given → (c : CrashState) → IsOverwritten g half given before c → IsWrittenBack before c
   back_of gave c over = record {
     geometry = g;
     half = half;
@@ -97,20 +89,21 @@ room_of g given fits = omega (arith, fits.room, map.len-entries given.entries)
 
 -- ---- moments
 
-module _ (g : GeometryValue) (half : Half) (old mid : History) (store : IsStore g half old.disk.content) (given : Given) (room : len given.entries ≤ g.entries)
+module _ (g : GeometryValue) (half : Half) (old mid : DevicePast) (store : IsStore g half old.disk.content) (given : Given)
+    (room : len given.entries ≤ g.entries)
     (writing : LeavesOnly old mid (SameOutside (InHalf g (other half)) old.disk.content)) where
   -- while the other half is written
   pub writing_over : LeavesOnly old mid (IsOverwritten g half given old.disk.content)
   writing_over = weaker old mid _ _ (other_written g half old.disk.content store given) writing
 
-  module _ (new : History) (outside : SameOutside (InHalf g (other half)) old.disk.content mid.disk.content) (loose : (n : ℕ) → mid.disk.unsynced n ≡ true
+  module _ (new : DevicePast) (outside : SameOutside (InHalf g (other half)) old.disk.content mid.disk.content) (loose : (n : ℕ) → mid.disk.unsynced n ≡ true
       → InHalfImage g (other half) n)
       (imaged : HoldsImage g (other half) mid.disk.content given.last (opening_cells given)) (log : Log) (area : log.area ≡ log_area g (other half))
       (stands : Stands log mid.disk.content []) where
     held : HoldsGroups (log_area g (other half)) mid.disk.content []
     held = subst (λ (a : Area). HoldsGroups a mid.disk.content []) area stands.held
 
-    flipping : (c : Image) → IsFlipping mid.disk c → IsOverwritten g half given old.disk.content c
+    flipping : (c : CrashState) → IsFlipping mid.disk c → IsOverwritten g half given old.disk.content c
     flipping c (inl still) = other_written g half old.disk.content store given c
         (same_outside_then (InHalf g (other half)) old.disk.content mid.disk.content c outside
         (same_outside_wider _ (InHalf g (other half)) mid.disk.content c (λ n unsynced. image_inside g (other half) n (loose n unsynced)) still))

@@ -1,7 +1,7 @@
 -- What becomes of a device whose store is written back into its other half.
 use Rattle.std.specs.Prelude.{◌≡◌, ◌⊎◌, ℕ}
-use Rattle.sector_device.specs.Disk.{Image, Disk, IsCrashImage, SameOutside}
-use Rattle.records.specs.GeometryValue.{GeometryValue}
+use Rattle.sector_device.specs.Disk.{CrashState, Disk, IsCrashState, SameOutside}
+use Rattle.record_values.specs.GeometryValue.{GeometryValue}
 use Rattle.model.specs.declared.cell_maps.CellMaps.{CellMaps}
 use Rattle.model.specs.Given.{Given}
 use Rattle.flip_image.specs.declared.half.Half.{Half}
@@ -17,13 +17,14 @@ IsSpare geometry current n = InHalf geometry (other current) n ⊎ (n ≡ FLIP_S
 -- What a crash leaves while this is written into the half of a store that isn't current, and that half made current: no
 -- sector but those of that half and the flip sector has changed; and the store's current half is still current, or the
 -- store gives what is written.
-pub record IsOverwritten (geometry : GeometryValue) (half : Half) (given : Given) (before image : Image) : Type 0 where
+pub record IsOverwritten (geometry : GeometryValue) (half : Half) (given : Given)
+    (before image : CrashState) : Type 0 where
   pub outside : SameOutside (IsSpare geometry half) before image
   pub either : IsStore geometry half image ⊎ Gives image geometry given
 
 -- The second content differs from the first one in the half that wasn't current, and in the flip sector, at most; and
 -- it gives what the first one gives.
-pub record IsWrittenBack (before image : Image) : Type 0 where
+pub record IsWrittenBack (before image : CrashState) : Type 0 where
   pub geometry : GeometryValue
   pub half : Half
   pub store : IsStore geometry half before
@@ -33,8 +34,8 @@ pub record IsWrittenBack (before image : Image) : Type 0 where
   pub gives : Gives image geometry given
 
 -- what a crash leaves: what it might have left before, or the disk's content, written back
-abbrev pub ReopeningLeaves : Disk → Image → Type 0
-ReopeningLeaves before image = IsCrashImage before image ⊎ IsWrittenBack before.content image
+abbrev pub ReopeningLeaves : Disk → CrashState → Type 0
+ReopeningLeaves before image = IsCrashState before image ⊎ IsWrittenBack before.content image
 
 -- what the cells give, with no transaction taken back (no public clause cites this)
 abbrev pub given_by : {A : Type 0} → CellMaps A → ℕ → Given

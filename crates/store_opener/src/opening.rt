@@ -1,15 +1,15 @@
 //! A store is opened.
 ghost use Rattle.std.specs.Prelude.{◌≡◌, ◌≢◌, ◌⊎◌, ◌≤◌, ℕ, true, [], OnOk, IfOk, IfErr};
-ghost use Rattle.sector_device.specs.Disk.{IsCrashImage, IsSynced, SameOutside};
-ghost use Rattle.sector_device.specs.History.{LeavesOnly, CountsFailure};
-ghost use Rattle.records.specs.GeometryValue.{GeometryValue};
-ghost use Rattle.records.specs.declared.number.TheConstants.{LAST_NUMBER};
+ghost use Rattle.sector_device.specs.Disk.{IsCrashState, IsSynced, SameOutside};
+ghost use Rattle.sector_device.specs.DevicePast.{LeavesOnly, CountsFailure};
+ghost use Rattle.record_values.specs.GeometryValue.{GeometryValue};
+ghost use Rattle.record_values.specs.declared.number.TheConstants.{LAST_NUMBER};
 ghost use Rattle.model.specs.Given.{Given, opening_cells};
 ghost use Rattle.model.specs.Inside.{IsGivenInside};
 ghost use Rattle.model.specs.Redo.{cells_of};
-ghost use Rattle.image_half.specs.Source.{FitsImage};
+ghost use Rattle.store_image_half.specs.Source.{FitsImage};
 ghost use Rattle.gate_log.specs.Area.{Refuses, Stands};
-ghost use Rattle.redo.specs.Restored.{given_in};
+ghost use Rattle.store_reader.specs.Restored.{given_in};
 ghost use Rattle.flip_image.specs.Layout.{other, InHalf, InHalfImage};
 ghost use Rattle.flip_image.specs.Store.{IsStore, HoldsImage};
 ghost use Rattle.store_reader.specs.Contents.{Gives, HasHeader, IsUnreadable, log_area};
@@ -20,10 +20,9 @@ use flip_image::Halves;
 use gate_log::LogArea;
 use model::{CellMaps, ListMap};
 use records::{Error, Geometry};
-use redo::Restored;
 use sector_device::{Device, Failed};
 use std::alloc::Allocator;
-use store_reader::{read_store, room_for_given};
+use store_reader::{Restored, read_store, room_for_given};
 use store_writer::write_whole;
 
 /// A store that was opened. Its current half has the image of what was restored, and an empty log.
@@ -54,32 +53,32 @@ pub fn reopen<D: Device, A: Allocator + Copy>(
     alloc: A,
     device: &mut D,
 ) -> Result<Reopened<A>, Error>
-    ensures given { IfOk result (λ r. Gives (D.history device.old).disk.content r.halves.geometry
+    ensures given { IfOk result (λ r. Gives (D.past_of device.old).disk.content r.halves.geometry
         (given_in r.restored)) }
     ensures geometry { IfOk result (λ r. r.restored.geometry ≡ r.halves.geometry) }
     ensures flipped { IfOk result (λ r. IsStore r.halves.geometry (other r.halves.current)
-        (D.history device.old).disk.content) }
-    ensures opened { IfOk result (λ r. IsOpenedAt (D.history device.new) r.halves r.log r.restored.last
+        (D.past_of device.old).disk.content) }
+    ensures opened { IfOk result (λ r. IsOpenedAt (D.past_of device.new) r.halves r.log r.restored.last
         (opening_cells (given_in r.restored))) }
     ensures empty { IfOk result (λ r. r.log.open_slots ≡ 0) }
 
     // What a crash at any moment of the call leaves, and what the device holds behind it, whatever it answers.
-    ensures images { LeavesOnly (D.history device.old) (D.history device.new)
-        (ReopeningLeaves (D.history device.old).disk) }
-    ensures written { ((D.history device.new).disk.content ≡ (D.history device.old).disk.content)
-        ⊎ IsWrittenBack (D.history device.old).disk.content (D.history device.new).disk.content }
+    ensures images { LeavesOnly (D.past_of device.old) (D.past_of device.new)
+        (ReopeningLeaves (D.past_of device.old).disk) }
+    ensures written { ((D.past_of device.new).disk.content ≡ (D.past_of device.old).disk.content)
+        ⊎ IsWrittenBack (D.past_of device.old).disk.content (D.past_of device.new).disk.content }
 
     ensures accepted { (geometry : GeometryValue) (given : Given)
-        → Gives (D.history device.old).disk.content geometry given
+        → Gives (D.past_of device.old).disk.content geometry given
         → IfErr result (Refuses (D.failures device.old) (D.failures device.new)) }
     ensures refused { IfErr result (λ e. Refuses (D.failures device.old) (D.failures device.new) e
-        ⊎ IsUnreadable (D.history device.old).disk.content e) }
-    ensures memory { IfErr result (λ e. e ≡ Error.NoMemory → HasHeader (D.history device.old).disk.content) }
+        ⊎ IsUnreadable (D.past_of device.old).disk.content e) }
+    ensures memory { IfErr result (λ e. e ≡ Error.NoMemory → HasHeader (D.past_of device.old).disk.content) }
     ensures unwritten { IfErr result (λ e. e ≢ Error.DeviceFailed
-        → (D.history device.new).disk.content ≡ (D.history device.old).disk.content) }
+        → (D.past_of device.new).disk.content ≡ (D.past_of device.old).disk.content) }
     ensures untouched { IfErr result (λ e. e ≢ Error.DeviceFailed
-        → LeavesOnly (D.history device.old) (D.history device.new) (IsCrashImage (D.history device.old).disk)) }
-    ensures settled { IfErr result (λ e. e ≢ Error.DeviceFailed → IsSynced (D.history device.new).disk) }
+        → LeavesOnly (D.past_of device.old) (D.past_of device.new) (IsCrashState (D.past_of device.old).disk)) }
+    ensures settled { IfErr result (λ e. e ≢ Error.DeviceFailed → IsSynced (D.past_of device.new).disk) }
     ensures quiet { OnOk result (D.failures device.new ≡ D.failures device.old) }
     ensures told { IfErr result (λ e. e ≢ Error.DeviceFailed → D.failures device.new ≡ D.failures device.old) }
     ensures later { D.failures device.old ≤ D.failures device.new }
@@ -101,9 +100,9 @@ fn write_back<D: Device, A: Allocator + Copy>(
     halves: Halves,
     restored: Restored<A>,
 ) -> Result<Reopened<A>, Failed>
-    requires synced { IsSynced (D.history device.old).disk }
-    requires store { IsStore halves.geometry halves.current (D.history device.old).disk.content }
-    requires gives { Gives (D.history device.old).disk.content halves.geometry (given_in restored) }
+    requires synced { IsSynced (D.past_of device.old).disk }
+    requires store { IsStore halves.geometry halves.current (D.past_of device.old).disk.content }
+    requires gives { Gives (D.past_of device.old).disk.content halves.geometry (given_in restored) }
     requires geometry { restored.geometry ≡ halves.geometry }
     ensures given { IfOk result (λ r. given_in r.restored ≡ given_in restored) }
     ensures geometry { IfOk result (λ r. r.restored.geometry ≡ halves.geometry) }
@@ -111,11 +110,11 @@ fn write_back<D: Device, A: Allocator + Copy>(
       geometry = halves.geometry;
       current = other halves.current;
     }) }
-    ensures opened { IfOk result (λ r. IsOpenedAt (D.history device.new) r.halves r.log r.restored.last
+    ensures opened { IfOk result (λ r. IsOpenedAt (D.past_of device.new) r.halves r.log r.restored.last
         (opening_cells (given_in r.restored))) }
     ensures empty { IfOk result (λ r. r.log.open_slots ≡ 0) }
-    ensures images { LeavesOnly (D.history device.old) (D.history device.new)
-        (IsWrittenBack (D.history device.old).disk.content) }
+    ensures images { LeavesOnly (D.past_of device.old) (D.past_of device.new)
+        (IsWrittenBack (D.past_of device.old).disk.content) }
     ensures counts { CountsFailure (D.failures device.old) (D.failures device.new) result }
 {
     room_for_given();
@@ -131,8 +130,8 @@ pub fn write_over<D: Device, A: Allocator + Copy>(
     halves: Halves,
     restored: Restored<A>,
 ) -> Result<Reopened<A>, Failed>
-    requires synced { IsSynced (D.history device.old).disk }
-    requires store { IsStore halves.geometry halves.current (D.history device.old).disk.content }
+    requires synced { IsSynced (D.past_of device.old).disk }
+    requires store { IsStore halves.geometry halves.current (D.past_of device.old).disk.content }
     requires fits { FitsImage halves.geometry (opening_cells (given_in restored)) }
     requires geometry { restored.geometry ≡ halves.geometry }
     ensures given { IfOk result (λ r. given_in r.restored ≡ given_in restored) }
@@ -141,12 +140,12 @@ pub fn write_over<D: Device, A: Allocator + Copy>(
       geometry = halves.geometry;
       current = other halves.current;
     }) }
-    ensures opened { IfOk result (λ r. IsOpenedAt (D.history device.new) r.halves r.log r.restored.last
+    ensures opened { IfOk result (λ r. IsOpenedAt (D.past_of device.new) r.halves r.log r.restored.last
         (opening_cells (given_in r.restored))) }
-    ensures gives { OnOk result (Gives (D.history device.new).disk.content halves.geometry (given_in restored)) }
+    ensures gives { OnOk result (Gives (D.past_of device.new).disk.content halves.geometry (given_in restored)) }
     ensures empty { IfOk result (λ r. r.log.open_slots ≡ 0) }
-    ensures images { LeavesOnly (D.history device.old) (D.history device.new)
-        (IsOverwritten halves.geometry halves.current (given_in restored) (D.history device.old).disk.content) }
+    ensures images { LeavesOnly (D.past_of device.old) (D.past_of device.new)
+        (IsOverwritten halves.geometry halves.current (given_in restored) (D.past_of device.old).disk.content) }
     ensures counts { CountsFailure (D.failures device.old) (D.failures device.new) result }
 {
     let (log, restored) = write_restored(alloc, device, halves, restored)?;
@@ -169,22 +168,22 @@ fn write_restored<D: Device, A: Allocator + Copy>(
     halves: Halves,
     restored: Restored<A>,
 ) -> Result<(LogArea, Restored<A>), Failed>
-    requires synced { IsSynced (D.history device.old).disk }
-    requires store { IsStore halves.geometry halves.current (D.history device.old).disk.content }
+    requires synced { IsSynced (D.past_of device.old).disk }
+    requires store { IsStore halves.geometry halves.current (D.past_of device.old).disk.content }
     requires fits { FitsImage halves.geometry (opening_cells (given_in restored)) }
     requires geometry { restored.geometry ≡ halves.geometry }
     ensures given { IfOk result (λ r. given_in r.1 ≡ given_in restored) }
     ensures geometry { IfOk result (λ r. r.1.geometry ≡ halves.geometry) }
     ensures imaged { OnOk result (HoldsImage halves.geometry (other halves.current)
-        (D.history device.new).disk.content restored.last (opening_cells (given_in restored))) }
+        (D.past_of device.new).disk.content restored.last (opening_cells (given_in restored))) }
     ensures area { IfOk result (λ r. r.0.area ≡ log_area halves.geometry (other halves.current)) }
-    ensures empty { IfOk result (λ r. Stands r.0 (D.history device.new).disk.content []) }
-    ensures loose { OnOk result ((n : ℕ) → (D.history device.new).disk.unsynced n ≡ true
+    ensures empty { IfOk result (λ r. Stands r.0 (D.past_of device.new).disk.content []) }
+    ensures loose { OnOk result ((n : ℕ) → (D.past_of device.new).disk.unsynced n ≡ true
         → InHalfImage halves.geometry (other halves.current) n) }
-    ensures outside { SameOutside (InHalf halves.geometry (other halves.current)) (D.history device.old).disk.content
-        (D.history device.new).disk.content }
-    ensures any_moment { LeavesOnly (D.history device.old) (D.history device.new)
-        (SameOutside (InHalf halves.geometry (other halves.current)) (D.history device.old).disk.content) }
+    ensures outside { SameOutside (InHalf halves.geometry (other halves.current)) (D.past_of device.old).disk.content
+        (D.past_of device.new).disk.content }
+    ensures any_moment { LeavesOnly (D.past_of device.old) (D.past_of device.new)
+        (SameOutside (InHalf halves.geometry (other halves.current)) (D.past_of device.old).disk.content) }
     ensures counts { CountsFailure (D.failures device.old) (D.failures device.new) result }
 {
     let (geometry, last) = (restored.geometry, restored.last);

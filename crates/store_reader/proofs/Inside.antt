@@ -10,19 +10,19 @@ use Rattle.std.specs.declared.cmp.Ordering.{Ordering}
 use Rattle.std.specs.Ordering.{eq_by_cmp}
 use Rattle.std.specs.FinMap as finite
 use Rattle.std.specs.FinMap.Entries.{find}
-use Rattle.sector_device.specs.Disk.{Image}
+use Rattle.sector_device.specs.Disk.{CrashState}
 use Rattle.records.specs.ChangeValue.{ChangeValue}
-use Rattle.records.specs.declared.version.Version.{Version}
-use Rattle.records.specs.GeometryValue.{GeometryValue}
-use Rattle.records.specs.Maps.{IsExact, key_is, nat_exact, pair_exact}
+use Rattle.record_values.specs.declared.version.Version.{Version}
+use Rattle.record_values.specs.GeometryValue.{GeometryValue}
+use Rattle.record_values.specs.Maps.{IsExact, key_is, nat_exact, pair_exact}
 use Rattle.records.specs.declared.change.TheConstants.{CHANGES_MAX}
-use Rattle.records.specs.declared.number.TheConstants.{LAST_NUMBER}
-use Rattle.records.specs.declared.pair.Pair.{Pair}
-use Rattle.records.specs.declared.txn.TheConstants.{TXNS_MAX}
+use Rattle.record_values.specs.declared.number.TheConstants.{LAST_NUMBER}
+use Rattle.record_values.specs.declared.pair.Pair.{Pair}
+use Rattle.record_values.specs.declared.txn.TheConstants.{TXNS_MAX}
 use Rattle.model.specs.Cells.{Cells, list_of}
 use Rattle.model.specs.Following.{ArePlaced}
 use Rattle.model.specs.Inside.{AreChangesWithin, AreInside}
-use Rattle.image_half.specs.Image.{IsImageIn, head_of}
+use Rattle.store_image_half.specs.Image.{IsImageIn, head_of}
 use Rattle.store_reader.proofs.Slots.{Slotted}
 
 option_cases : {A : Type 0} (o : Option A) → (o ≡ None) ⊎ ((x : A) × (o ≡ Some x))
@@ -75,7 +75,7 @@ within pages (c ∷ changes) each = All-cons (λ (d : ChangeValue). d.rid.page <
 
 -- ---- the image
 
-module _ (v : Version) (g : GeometryValue) (first : ℕ) (image : Image) (base : ℕ) (cells : Cells) (is : IsImageIn v g first image base cells) where
+module _ (v : Version) (g : GeometryValue) (first : ℕ) (image : CrashState) (base : ℕ) (cells : Cells) (is : IsImageIn v g first image base cells) where
   pub numbered : base ≤ LAST_NUMBER
   numbered = is.header-is.fits.base
 

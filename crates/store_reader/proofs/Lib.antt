@@ -3,3 +3,5 @@ mod Inside
 mod Room
 mod Refusals
 pub mod Readings
+mod Filled
+mod Records

@@ -4,26 +4,26 @@ use Rattle.std.proofs.Common.{subst, ◌∙◌, arith, length-append}
 use Rattle.std.proofs.lemmas.Bool.{cases_lt}
 use Rattle.std.proofs.lemmas.List.{take-append-drop}
 use Rattle.std.proofs.lemmas.Grind.{flat_map-append}
-use Rattle.sector_device.specs.Disk.{Image, SameOutside}
+use Rattle.sector_device.specs.Disk.{CrashState, SameOutside}
 use Rattle.records.specs.RecordValue.{RecordValue}
-use Rattle.records.specs.declared.version.Version.{Version}
-use Rattle.records.specs.declared.version.Version.TheVariants.{One, Two}
-use Rattle.records.specs.GeometryValue.{GeometryValue}
-use Rattle.records.specs.Orders.{pair_cmp}
-use Rattle.records.specs.declared.pair.Mark.{Mark}
-use Rattle.records.specs.declared.error.Error.{Error}
-use Rattle.records.specs.declared.error.Error.TheVariants.{Damaged, OldVersion}
+use Rattle.record_values.specs.declared.version.Version.{Version}
+use Rattle.record_values.specs.declared.version.Version.TheVariants.{One, Two}
+use Rattle.record_values.specs.GeometryValue.{GeometryValue}
+use Rattle.record_values.specs.Orders.{pair_cmp}
+use Rattle.record_values.specs.declared.pair.Mark.{Mark}
+use Rattle.record_values.specs.declared.error.Error.{Error}
+use Rattle.record_values.specs.declared.error.Error.TheVariants.{Damaged, OldVersion}
 use Rattle.std.specs.FinMap as map
 use Rattle.std.specs.FinMap.{len}
 use Rattle.model.specs.Cells.{Cells}
 use Rattle.model.specs.Following.{AreFollowing, IsFirstUnfit}
 use Rattle.model.specs.Given.{Given, given_after, nothing, recovered}
-use Rattle.redo.specs.Store.{StoreValue, after_records}
+use Rattle.store_reader.specs.Store.{StoreValue, after_records}
 use Rattle.model.proofs.FollowingLaws.{not_following, one_unfit}
 use Rattle.gate_log.specs.Area.{Area, InArea, Log, HoldsGroups, HoldsGroupsIn, StandsIn, records_of, IsGateOf, Refuses}
 use Rattle.gate_log.proofs.Readings as log
-use Rattle.image_half.specs.Image.{no_cells}
-use Rattle.image_half.proofs.Readings as images
+use Rattle.store_image_half.specs.Image.{no_cells}
+use Rattle.store_image_half.proofs.Readings as images
 use Rattle.flip_image.specs.declared.half.Half.{Half}
 use Rattle.flip_image.specs.declared.half.Half.TheVariants.{A}
 use Rattle.flip_image.specs.Layout.{header_sector, header_sector_in}
@@ -78,10 +78,10 @@ one_gate area groups index m n p q =
 module _ (v : Version) where
   -- ---- one answer
 
-  pub one_geometry : (image : Image) (g h : GeometryValue) (x y : Given) → GivesIn v image g x → GivesIn v image h y → g ≡ h
+  pub one_geometry : (image : CrashState) (g h : GeometryValue) (x y : Given) → GivesIn v image g x → GivesIn v image h y → g ≡ h
   one_geometry image g h x y p q = stores.one_geometry v g h p.half q.half image p.holds.store q.holds.store
 
-  one_held : (image : Image) (g : GeometryValue) (half : Half) (m n : ℕ) (x y : Cells) (rs ss : List RecordValue) → HoldsStoreIn v image g half m x rs
+  one_held : (image : CrashState) (g : GeometryValue) (half : Half) (m n : ℕ) (x y : Cells) (rs ss : List RecordValue) → HoldsStoreIn v image g half m x rs
       → HoldsStoreIn v image g half n y ss → AreOne m n x y rs ss
   one_held image g half m n x y rs ss p q = record {
     base = images.one_base v g (header_sector_in v g half) image m n x y p.imaged q.imaged;
@@ -90,19 +90,19 @@ module _ (v : Version) where
   }
 
   -- of whatever geometry and half
-  pub one_store : (image : Image) (g h : GeometryValue) (a b : Half) (m n : ℕ) (x y : Cells) (rs ss : List RecordValue) → HoldsStoreIn v image g a m x rs
+  pub one_store : (image : CrashState) (g h : GeometryValue) (a b : Half) (m n : ℕ) (x y : Cells) (rs ss : List RecordValue) → HoldsStoreIn v image g a m x rs
       → HoldsStoreIn v image h b n y ss → AreOne m n x y rs ss
   one_store image g h a b m n x y rs ss p q =
       one_held image g a m n x y rs ss p
       (subst (λ (k : GeometryValue). HoldsStoreIn v image k a n y ss) (sym (stores.one_geometry v g h a b image p.store q.store))
       (subst (λ (k : Half). HoldsStoreIn v image h k n y ss) (sym (stores.one_half v g h a b image p.store q.store)) q))
 
-  pub one_given : (image : Image) (g h : GeometryValue) (x y : Given) → GivesIn v image g x → GivesIn v image h y → x ≡ y
+  pub one_given : (image : CrashState) (g h : GeometryValue) (x y : Given) → GivesIn v image g x → GivesIn v image h y → x ≡ y
   one_given image g h x y p q =
       let same = one_store image g h p.half q.half p.base q.base p.cells q.cells p.records q.records p.holds q.holds in
       p.recovered ∙ (λ i. given_over (same.base i) (same.cells i) (same.records i)) ∙ sym q.recovered
 
-  pub holds : (image : Image) (g : GeometryValue) (half : Half) (base : ℕ) (cells : Cells) (area : Log) (groups : List (List RecordValue))
+  pub holds : (image : CrashState) (g : GeometryValue) (half : Half) (base : ℕ) (cells : Cells) (area : Log) (groups : List (List RecordValue))
       (records : List RecordValue)
       → IsStoreIn v g half image → HoldsImageIn v g half image base cells → area.area ≡ log_area_in v g half → StandsIn v area image groups
       → records ≡ records_of groups
@@ -116,7 +116,7 @@ module _ (v : Version) where
     following = following;
   }
 
-  pub found : (image : Image) (g : GeometryValue) (half : Half) (base : ℕ) (cells : Cells) (area : Log) (groups : List (List RecordValue))
+  pub found : (image : CrashState) (g : GeometryValue) (half : Half) (base : ℕ) (cells : Cells) (area : Log) (groups : List (List RecordValue))
       (records : List RecordValue) (given : Given)
       → IsStoreIn v g half image → HoldsImageIn v g half image base cells → area.area ≡ log_area_in v g half → StandsIn v area image groups
       → records ≡ records_of groups
@@ -137,7 +137,7 @@ module _ (v : Version) where
   }
 
   -- one log, with as many open slots as there are groups
-  pub one_found : (image : Image) (g h : GeometryValue) (a b : Log) (x y : Given) → IsFoundIn v image g a x → IsFoundIn v image h b y → a ≡ b
+  pub one_found : (image : CrashState) (g h : GeometryValue) (a b : Log) (x y : Given) → IsFoundIn v image g a x → IsFoundIn v image h b y → a ≡ b
   one_found image g h a b x y p q = λ i. record { area = same_area i; open_slots = same_count i }
     where
       same_geometry : g ≡ h
@@ -159,7 +159,7 @@ module _ (v : Version) where
   -- ---- a store that holds nothing
 
   -- over the image of no cells whose base is 0, a log with no record
-  untouched : (image : Image) (g : GeometryValue) (half : Half) (base : ℕ) (cells : Cells) (records : List RecordValue)
+  untouched : (image : CrashState) (g : GeometryValue) (half : Half) (base : ℕ) (cells : Cells) (records : List RecordValue)
       → HoldsStoreIn v image g half base cells records → base ≡ 0 → cells ≡ no_cells → records ≡ [] → IsUntouchedIn v image g
   untouched image g half base cells records is zero bare none = (
     half,
@@ -174,12 +174,12 @@ module _ (v : Version) where
   )
 
   -- which is the only way to hold nothing
-  touched_so : (image : Image) (g : GeometryValue) (half : Half) (base : ℕ) (cells : Cells) (records : List RecordValue)
+  touched_so : (image : CrashState) (g : GeometryValue) (half : Half) (base : ℕ) (cells : Cells) (records : List RecordValue)
       → HoldsStoreIn v image g half base cells records → IsUntouchedIn v image g → AreOne base 0 cells no_cells records []
   touched_so image g half base cells records is none = one_store image g g half none.0 base 0 cells no_cells records [] is none.1
 
   -- so a reader tells it by the image and the records that it found
-  pub told_untouched : (image : Image) (g : GeometryValue) (half : Half) (base : ℕ) (cells : Cells) (records : List RecordValue) (bare result : Bool)
+  pub told_untouched : (image : CrashState) (g : GeometryValue) (half : Half) (base : ℕ) (cells : Cells) (records : List RecordValue) (bare result : Bool)
       → HoldsStoreIn v image g half base cells records
       → (IsTrue bare ↔ (base ≡ 0) × (cells ≡ no_cells)) → (IsTrue result ↔ IsTrue bare × (records ≡ [])) → IsTrue result ↔ IsUntouchedIn v image g
   told_untouched image g half base cells records bare result is bare_is result_is = (
@@ -187,7 +187,7 @@ module _ (v : Version) where
     (λ none. let one = touched_so image g half base cells records is none in result_is.1 (bare_is.1 (one.base, one.cells), one.records)),
   )
 
-  pub untouched_gives : (image : Image) (g : GeometryValue) → nothing ≡ given_after nothing [] → IsUntouchedIn v image g → GivesIn v image g nothing
+  pub untouched_gives : (image : CrashState) (g : GeometryValue) → nothing ≡ given_after nothing [] → IsUntouchedIn v image g → GivesIn v image g nothing
   untouched_gives image g again (half, is) = record {
     half = half;
     base = 0;
@@ -200,7 +200,7 @@ module _ (v : Version) where
 
   -- ---- no refusal
 
-  not_damaged : (image : Image) (g : GeometryValue) (half : Half) (base : ℕ) (cells : Cells) (records : List RecordValue) (sector : ℕ)
+  not_damaged : (image : CrashState) (g : GeometryValue) (half : Half) (base : ℕ) (cells : Cells) (records : List RecordValue) (sector : ℕ)
       → HoldsStoreIn v image g half base cells records → len (given_over base cells records).entries ≤ g.entries → ¬ IsHalfDamagedIn v g half image sector
   not_damaged image g half base cells records sector holds room (inl damaged) =
       images.not_damaged v g (header_sector_in v g half) image base cells sector damaged holds.imaged
@@ -233,7 +233,7 @@ module _ (v : Version) where
           let crowded : g.entries < len (given_over base cells records).entries = subst (λ (x : Given). g.entries < len x.entries) given over.crowded in
           omega (arith, room, crowded)
 
-  pub readable : (image : Image) (g : GeometryValue) (given : Given) (e : Error) → GivesIn v image g given → ¬ IsUnreadableIn v image e
+  pub readable : (image : CrashState) (g : GeometryValue) (given : Given) (e : Error) → GivesIn v image g given → ¬ IsUnreadableIn v image e
   readable image g given e gives (inl refused) = stores.accepted v g gives.half image e gives.holds.store refused
   readable image g given e gives (inr (sector, is, damaged)) =
       let same_geometry = stores.one_geometry v damaged.geometry g damaged.half gives.half image damaged.store gives.holds.store in
@@ -244,7 +244,7 @@ module _ (v : Version) where
       (subst (λ (x : Given). len x.entries ≤ g.entries) gives.recovered gives.room) here
 
   -- so a reader of an image that gives something can only want for memory, or fail with the device
-  pub accepted_one : (image : Image) (g : GeometryValue) (given : Given) (before now : ℕ) (e : Error) → GivesIn v image g given
+  pub accepted_one : (image : CrashState) (g : GeometryValue) (given : Given) (before now : ℕ) (e : Error) → GivesIn v image g given
       → Refuses before now e ⊎ IsUnreadableIn v image e → Refuses before now e
   accepted_one image g given before now e gives (inl refused) = refused
   accepted_one image g given before now e gives (inr unreadable) = absurd (readable image g given e gives unreadable)
@@ -252,10 +252,10 @@ module _ (v : Version) where
   -- ---- one refusal
 
   -- what is damaged behind an image
-  abbrev Behind : GeometryValue → Half → Image → ℕ → Cells → ℕ → Type 0
+  abbrev Behind : GeometryValue → Half → CrashState → ℕ → Cells → ℕ → Type 0
   Behind g half image base cells n = IsMisplacedAtIn v g half image base cells n ⊎ IsOverfullIn v g half image base cells n
 
-  module _ (g : GeometryValue) (half : Half) (image : Image) (base : ℕ) (cells : Cells) where
+  module _ (g : GeometryValue) (half : Half) (image : CrashState) (base : ℕ) (cells : Cells) where
     one_misplacement : (m n : ℕ) → IsMisplacedAtIn v g half image base cells m → IsMisplacedAtIn v g half image base cells n → m ≡ n
     one_misplacement m n p q =
         let same = log.one_reading v (log_area_in v g half) image q.groups p.groups q.held p.held in
@@ -283,7 +283,7 @@ module _ (v : Version) where
     held_of n (inl p) = (p.groups, p.held)
     held_of n (inr p) = (p.holds.groups, p.holds.held)
 
-  one_log_damage : (g : GeometryValue) (half : Half) (image : Image) (m n : ℕ) → IsLogDamagedIn v g half image m → IsLogDamagedIn v g half image n → m ≡ n
+  one_log_damage : (g : GeometryValue) (half : Half) (image : CrashState) (m n : ℕ) → IsLogDamagedIn v g half image m → IsLogDamagedIn v g half image n → m ≡ n
   one_log_damage g half image m n p q = ⊎_elim
       (λ slot. ⊎_elim (λ other. log.one_damage v (log_area_in v g half) image m n slot other) (λ behind.
       let held = held_of g half image q.base q.cells n behind in absurd (log.not_damaged v (log_area_in v g half) image m held.0 slot held.1)) q.first)
@@ -301,13 +301,14 @@ module _ (v : Version) where
       here : Behind g half image q.base q.cells n → Behind g half image p.base p.cells n
       here other = subst (λ k. Behind g half image k p.cells n) (sym same_base) (subst (λ (c : Cells). Behind g half image q.base c n) (sym same_cells) other)
 
-  one_half_damage : (g : GeometryValue) (half : Half) (image : Image) (m n : ℕ) → IsHalfDamagedIn v g half image m → IsHalfDamagedIn v g half image n → m ≡ n
+  one_half_damage : (g : GeometryValue) (half : Half) (image : CrashState) (m n : ℕ) → IsHalfDamagedIn v g half image m → IsHalfDamagedIn v g half image n
+      → m ≡ n
   one_half_damage g half image m n (inl p) (inl q) = images.one_damage v g (header_sector_in v g half) image m n p q
   one_half_damage g half image m n (inl p) (inr q) = absurd (images.not_damaged v g (header_sector_in v g half) image q.base q.cells m p q.imaged)
   one_half_damage g half image m n (inr p) (inl q) = absurd (images.not_damaged v g (header_sector_in v g half) image p.base p.cells n q p.imaged)
   one_half_damage g half image m n (inr p) (inr q) = one_log_damage g half image m n p q
 
-  one_damage : (image : Image) (m n : ℕ) → IsStoreDamagedAtIn v image m → IsStoreDamagedAtIn v image n → m ≡ n
+  one_damage : (image : CrashState) (m n : ℕ) → IsStoreDamagedAtIn v image m → IsStoreDamagedAtIn v image n → m ≡ n
   one_damage image m n p q =
       let same_geometry = stores.one_geometry v q.geometry p.geometry q.half p.half image q.store p.store in
       let same_half = stores.one_half v q.geometry p.geometry q.half p.half image q.store p.store in
@@ -315,7 +316,7 @@ module _ (v : Version) where
       (subst (λ (k : Half). IsHalfDamagedIn v p.geometry k image n) same_half
       (subst (λ (k : GeometryValue). IsHalfDamagedIn v k q.half image n) same_geometry q.damaged))
 
-  pub one_refusal : (image : Image) (d e : Error) → IsUnreadableIn v image d → IsUnreadableIn v image e → d ≡ e
+  pub one_refusal : (image : CrashState) (d e : Error) → IsUnreadableIn v image d → IsUnreadableIn v image e → d ≡ e
   one_refusal image d e (inl p) (inl q) = stores.one_refusal v image d e p q
   one_refusal image d e (inl p) (inr (sector, is, damaged)) = absurd (stores.accepted v damaged.geometry damaged.half image d damaged.store p)
   one_refusal image d e (inr (sector, is, damaged)) (inl q) = absurd (stores.accepted v damaged.geometry damaged.half image e damaged.store q)
@@ -323,32 +324,8 @@ module _ (v : Version) where
 
 -- ---- of version 2, which is written
 
--- while only the log of the current half is written
-pub log_gives : (g : GeometryValue) (half : Half) (frame image : Image) (base : ℕ) (cells : Cells) (groups : List (List RecordValue))
-    (records : List RecordValue) → IsStore g half frame → HoldsImage g half frame base cells
-    → SameOutside (InArea (log_area g half)) frame image → HoldsGroups (log_area g half) image groups → records ≡ records_of groups
-    → AreFollowing g.pages base cells records → len (given_over base cells records).entries ≤ g.entries
-    → Gives image g (given_over base cells records)
-log_gives g half frame image base cells groups records store imaged outside held all following room = record {
-  half = half;
-  base = base;
-  cells = cells;
-  records = records;
-  holds = record {
-    store = stores.store_apart g half frame image outside store;
-    imaged = images.told_by_its_sectors Two g (header_sector g half) frame image (λ n inside.
-        outside.same n (sides.parts_apart g half n inside)) base cells imaged;
-    groups = groups;
-    held = held;
-    all = all;
-    following = following;
-  };
-  recovered = refl;
-  room = room;
-}
-
 -- what is formatted holds no group
-pub formatted_untouched : (g : GeometryValue) (image : Image) → HoldsImage g A image 0 no_cells → IsFormatted g image → AreGatesClosed g A image
+pub formatted_untouched : (g : GeometryValue) (image : CrashState) → HoldsImage g A image 0 no_cells → IsFormatted g image → AreGatesClosed g A image
     → IsUntouched image g
 formatted_untouched g image bare formatted closed = (
   A,
@@ -367,5 +344,5 @@ formatted_untouched g image bare formatted closed = (
 )
 
 -- what a store of version 1 gives, a reader of version 2 refuses as old
-pub old_refused : (image : Image) (g : GeometryValue) (given : Given) → GivesIn One image g given → IsUnreadable image OldVersion
+pub old_refused : (image : CrashState) (g : GeometryValue) (given : Given) → GivesIn One image g given → IsUnreadable image OldVersion
 old_refused image g given gives = inl (stores.refused_older g gives.half image gives.holds.store)

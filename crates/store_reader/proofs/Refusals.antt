@@ -1,14 +1,14 @@
 -- Why a reader of a store refuses it.
 use Rattle.std.proofs.Common.{◌≡◌, ◌⊎◌, ◌<◌, inl, inr, refl, ℕ, List, Result, Ok, Err, IfErr, ap, subst, ◌∙◌}
 use Rattle.std.specs.FinMap.{len}
-use Rattle.sector_device.specs.Disk.{Image}
+use Rattle.sector_device.specs.Disk.{CrashState}
 use Rattle.records.specs.RecordValue.{RecordValue}
-use Rattle.records.specs.declared.version.Version.{Version}
-use Rattle.records.specs.GeometryValue.{GeometryValue}
-use Rattle.records.specs.declared.error.Error.{Error}
-use Rattle.records.specs.declared.error.Error.TheVariants.{Damaged}
+use Rattle.record_values.specs.declared.version.Version.{Version}
+use Rattle.record_values.specs.GeometryValue.{GeometryValue}
+use Rattle.record_values.specs.declared.error.Error.{Error}
+use Rattle.record_values.specs.declared.error.Error.TheVariants.{Damaged}
 use Rattle.gate_log.specs.Area.{Area, Log, HoldsGroupsIn, StandsIn, records_of, IsGateOf, IsFirstDamagedSlotIn, Refuses}
-use Rattle.image_half.specs.Damage.{IsFirstDamagedIn, IsUnreadIn}
+use Rattle.store_image_half.specs.Damage.{IsFirstDamagedIn, IsUnreadIn}
 use Rattle.flip_image.specs.declared.half.Half.{Half}
 use Rattle.flip_image.specs.Layout.{header_sector_in, log_first_in}
 use Rattle.flip_image.specs.Store.{HoldsImageIn, IsStoreIn}
@@ -23,29 +23,30 @@ refused_later a b c e same refused = subst (λ n. Refuses n c e) same refused
 
 module _ (v : Version) where
   -- the refusals of a reader of this image
-  abbrev pub Why : Image → ℕ → ℕ → Error → Type 0
+  abbrev pub Why : CrashState → ℕ → ℕ → Error → Type 0
   Why image before now e = Refuses before now e ⊎ IsUnreadableIn v image e
 
-  pub accepted : {T : Type 0} (r : Result T Error) (image : Image) (g : GeometryValue) (given : Given) (before now : ℕ) → GivesIn v image g given
+  pub accepted : {T : Type 0} (r : Result T Error) (image : CrashState) (g : GeometryValue) (given : Given) (before now : ℕ) → GivesIn v image g given
       → IfErr r (Why image before now) → IfErr r (Refuses before now)
   accepted (Ok x) image g given before now gives why = tt
   accepted (Err e) image g given before now gives why = readings.accepted_one v image g given before now e gives why
 
-  module _ (image : Image) (g : GeometryValue) (half : Half) (a c : ℕ) (store : IsStoreIn v g half image) where
+  module _ (image : CrashState) (g : GeometryValue) (half : Half) (a c : ℕ) (store : IsStoreIn v g half image) where
     damaged_at : (e : Error) (n : ℕ) → e ≡ Damaged n → IsHalfDamagedIn v g half image n → Why image a c e
     damaged_at e n is damaged = inr (inr (n, is, record { geometry = g; half = half; store = store; damaged = damaged }))
 
-    module _ (now : Image) (b : ℕ) (e : Error) (same : now ≡ image) (quiet : b ≡ a) where
+    module _ (now : CrashState) (b : ℕ) (e : Error) (same : now ≡ image) (quiet : b ≡ a) where
       pub image_unread : IsUnreadIn v g (header_sector_in v g half) now b c e → Why image a c e
       image_unread (inl hindered) = inl (refused_later a b c e quiet hindered)
-      image_unread (inr (n, is, damaged)) = damaged_at e n is (inl (subst (λ (i : Image). IsFirstDamagedIn v g (header_sector_in v g half) i n) same damaged))
+      image_unread (inr (n, is, damaged)) = damaged_at e n is
+          (inl (subst (λ (i : CrashState). IsFirstDamagedIn v g (header_sector_in v g half) i n) same damaged))
 
       module _ (base : ℕ) (cells : Cells) (imaged : HoldsImageIn v g half image base cells) where
         pub slot_damaged : (area : Area) → area ≡ log_area_in v g half → Refuses b c e ⊎ ((n : ℕ) × (e ≡ Damaged n) × IsFirstDamagedSlotIn v area now n)
             → Why image a c e
         slot_damaged area is (inl refused) = inl (refused_later a b c e quiet refused)
         slot_damaged area is (inr (n, named, damaged)) =
-            let first = subst (λ (i : Image). IsFirstDamagedSlotIn v (log_area_in v g half) i n) same
+            let first = subst (λ (i : CrashState). IsFirstDamagedSlotIn v (log_area_in v g half) i n) same
             (subst (λ (x : Area). IsFirstDamagedSlotIn v x now n) is damaged) in
             damaged_at e n named (inr (record { base = base; cells = cells; imaged = imaged; first = inl first }))
 
@@ -57,7 +58,7 @@ module _ (v : Version) where
         record_misplaced log groups index is stands first (inr (n, named, at)) =
             let misplaced : IsMisplacedAtIn v g half image base cells n = record {
               groups = groups;
-              held = subst (λ (i : Image). HoldsGroupsIn v (log_area_in v g half) i groups) same
+              held = subst (λ (i : CrashState). HoldsGroupsIn v (log_area_in v g half) i groups) same
                   (subst (λ (x : Area). HoldsGroupsIn v x now groups) is stands.held);
               index = index;
               first = first;
@@ -66,7 +67,7 @@ module _ (v : Version) where
             damaged_at e n named (inr (record { base = base; cells = cells; imaged = imaged; first = inr (inl misplaced) }))
 
   -- the records of a log leave too many entries
-  pub overfull : (image : Image) (g : GeometryValue) (half : Half) (base : ℕ) (cells : Cells) (records : List RecordValue) (sector a c : ℕ)
+  pub overfull : (image : CrashState) (g : GeometryValue) (half : Half) (base : ℕ) (cells : Cells) (records : List RecordValue) (sector a c : ℕ)
       → HoldsStoreIn v image g half base cells records → g.entries < len (given_over base cells records).entries
       → sector ≡ header_sector_in v g half → Why image a c (Damaged sector)
   overfull image g half base cells records sector a c holds crowded is =

@@ -1,22 +1,22 @@
 -- An image of a store has room for what the store gives.
 use Rattle.std.proofs.Common.{ℕ, ◌+◌, All, length, sym, ap, subst, arith}
 use Rattle.std.specs.FinMap as map
-use Rattle.sector_device.specs.Disk.{Image}
-use Rattle.records.specs.declared.version.Version.{Version}
-use Rattle.records.specs.GeometryValue.{GeometryValue}
+use Rattle.sector_device.specs.Disk.{CrashState}
+use Rattle.record_values.specs.declared.version.Version.{Version}
+use Rattle.record_values.specs.GeometryValue.{GeometryValue}
 use Rattle.records.specs.Spelling.{Fits}
 use Rattle.model.specs.Cells.{Cells, cells_after}
 use Rattle.model.specs.Given.{Given, opening_cells}
 use Rattle.model.specs.Inside.{IsGivenInside}
 use Rattle.model.proofs.InsideLaws.{after_inside, recovered_inside}
-use Rattle.image_half.specs.Image.{no_cells}
-use Rattle.image_half.specs.Source.{FitsImage}
+use Rattle.store_image_half.specs.Image.{no_cells}
+use Rattle.store_image_half.specs.Source.{FitsImage}
 use Rattle.flip_image.specs.Layout.{header_sector_in}
 use Rattle.store_reader.specs.Contents.{GivesIn}
 use Rattle.store_reader.proofs.Inside.{inside, lists_slotted}
 use Rattle.store_reader.proofs.Slots.{AreRowsSlotted, AreSlotted, after_slotted, groups_fit, recovered_slotted}
 
-module _ (v : Version) (image : Image) (g : GeometryValue) (given : Given) (gives : GivesIn v image g given) where
+module _ (v : Version) (image : CrashState) (g : GeometryValue) (given : Given) (gives : GivesIn v image g given) where
   abbrev first : ℕ
   first = header_sector_in v g gives.half
 

@@ -1,23 +1,23 @@
 //! A store is read.
 ghost use Rattle.std.specs.Prelude.{◌≡◌, ◌≢◌, ◌⊎◌, ◌↔◌, ◌<◌, ◌≤◌, ℕ, List, [], length, IsTrue, OnOk, IfOk, IfErr};
-ghost use Rattle.sector_device.specs.History.{OnlyReads};
+ghost use Rattle.sector_device.specs.DevicePast.{OnlyReads};
 ghost use Rattle.records.specs.RecordValue.{RecordValue};
-ghost use Rattle.records.specs.GeometryValue.{GeometryValue};
-ghost use Rattle.records.specs.declared.number.TheConstants.{LAST_NUMBER};
+ghost use Rattle.record_values.specs.GeometryValue.{GeometryValue};
+ghost use Rattle.record_values.specs.declared.number.TheConstants.{LAST_NUMBER};
 ghost use Rattle.model.specs.Given.{Given};
-ghost use Rattle.redo.specs.Restored.{given_in};
+ghost use Rattle.store_reader.specs.Restored.{given_in};
 ghost use Rattle.gate_log.specs.Area.{IsAreaInside, StandsIn, records_of, IsGateOf, Refuses};
-ghost use Rattle.image_half.specs.Image.{no_cells};
-ghost use Rattle.image_half.specs.Damage.{IsSoundIn, TheHeader, IsUnreadIn};
+ghost use Rattle.store_image_half.specs.Image.{no_cells};
+ghost use Rattle.store_image_half.specs.Damage.{IsSoundIn, TheHeader, IsUnreadIn};
 ghost use Rattle.flip_image.specs.Layout.{header_sector_in};
 ghost use Rattle.flip_image.specs.Store.{IsStore, IsStoreIn, HoldsImageIn};
 ghost use Rattle.store_reader.specs.Contents.{Gives, GivesIn, HasHeader, HasHeaderIn, IsFound, IsFoundIn, IsUnreadable};
 ghost use Rattle.store_reader.specs.Contents.{IsUnreadableIn, IsUntouched, IsUntouchedIn};
 
+use crate::{ImageCells, Refusal, Restored, StoreCells};
 use flip_image::Halves;
 use gate_log::LogArea;
 use records::{Error, Record, Version};
-use redo::{ImageCells, Refusal, Restored, StoreCells};
 use sector_device::Device;
 use std::alloc::Allocator;
 
@@ -42,20 +42,20 @@ fn read_cells<D: Device, A: Allocator + Copy>(
     device: &mut D,
     halves: &Halves,
 ) -> Result<(StoreCells<A>, bool), Error>
-    requires { IsStoreIn version halves.now.geometry halves.now.current (D.history device.old).disk.content }
+    requires { IsStoreIn version halves.now.geometry halves.now.current (D.past_of device.old).disk.content }
     ensures geometry { IfOk result (λ r. r.0.geometry ≡ halves.now.geometry) }
     ensures imaged { IfOk result (λ r. HoldsImageIn version halves.now.geometry halves.now.current
-        (D.history device.old).disk.content r.0.last r.0.cells) }
+        (D.past_of device.old).disk.content r.0.last r.0.cells) }
     ensures bare { IfOk result (λ r. IsTrue r.1 ↔ (r.0.last ≡ 0) × (r.0.cells ≡ no_cells)) }
     ensures refused { IfErr result (IsUnreadIn version halves.now.geometry
-        (header_sector_in version halves.now.geometry halves.now.current) (D.history device.old).disk.content
+        (header_sector_in version halves.now.geometry halves.now.current) (D.past_of device.old).disk.content
         (D.failures device.old) (D.failures device.new)) }
-    ensures reads { OnlyReads (D.history device.old) (D.history device.new) }
+    ensures reads { OnlyReads (D.past_of device.old) (D.past_of device.new) }
     ensures quiet { OnOk result (D.failures device.new ≡ D.failures device.old) }
     ensures told { IfErr result (λ e. e ≢ Error.DeviceFailed → D.failures device.new ≡ D.failures device.old) }
     ensures memory { IfErr result (λ e. e ≡ Error.NoMemory
         → IsSoundIn version halves.now.geometry (header_sector_in version halves.now.geometry halves.now.current)
-        (D.history device.old).disk.content TheHeader) }
+        (D.past_of device.old).disk.content TheHeader) }
     ensures later { D.failures device.old ≤ D.failures device.new }
 {
     let mut image = ImageCells::new(alloc);
@@ -70,15 +70,15 @@ fn open_store<D: Device, A: Allocator + Copy>(
     version: Version,
     device: &mut D,
 ) -> Result<(Halves, StoreCells<A>, bool), Error>
-    ensures opened { IfOk result (λ r. IsStoreIn version r.0.geometry r.0.current (D.history device.old).disk.content) }
+    ensures opened { IfOk result (λ r. IsStoreIn version r.0.geometry r.0.current (D.past_of device.old).disk.content) }
     ensures geometry { IfOk result (λ r. r.1.geometry ≡ r.0.geometry) }
     ensures imaged { IfOk result (λ r. HoldsImageIn version r.0.geometry r.0.current
-        (D.history device.old).disk.content r.1.last r.1.cells) }
+        (D.past_of device.old).disk.content r.1.last r.1.cells) }
     ensures bare { IfOk result (λ r. IsTrue r.2 ↔ (r.1.last ≡ 0) × (r.1.cells ≡ no_cells)) }
     ensures refused { IfErr result (λ e. Refuses (D.failures device.old) (D.failures device.new) e
-        ⊎ IsUnreadableIn version (D.history device.old).disk.content e) }
-    ensures memory { IfErr result (λ e. e ≡ Error.NoMemory → HasHeaderIn version (D.history device.old).disk.content) }
-    ensures reads { OnlyReads (D.history device.old) (D.history device.new) }
+        ⊎ IsUnreadableIn version (D.past_of device.old).disk.content e) }
+    ensures memory { IfErr result (λ e. e ≡ Error.NoMemory → HasHeaderIn version (D.past_of device.old).disk.content) }
+    ensures reads { OnlyReads (D.past_of device.old) (D.past_of device.new) }
     ensures quiet { OnOk result (D.failures device.new ≡ D.failures device.old) }
     ensures told { IfErr result (λ e. e ≢ Error.DeviceFailed → D.failures device.new ≡ D.failures device.old) }
     ensures later { D.failures device.old ≤ D.failures device.new }
@@ -103,14 +103,14 @@ fn misplaced<D: Device, A: Allocator + Copy>(
     log: &LogArea,
     index: usize,
 ) -> Error
-    requires inside { IsAreaInside log.now.area (D.history device.old).disk.content }
+    requires inside { IsAreaInside log.now.area (D.past_of device.old).disk.content }
     requires stands { (groups : List (List RecordValue))
-        × StandsIn version log.now (D.history device.old).disk.content groups × (index < length (records_of groups)) }
+        × StandsIn version log.now (D.past_of device.old).disk.content groups × (index < length (records_of groups)) }
     ensures told { Refuses (D.failures device.old) (D.failures device.new) result
         ⊎ ((sector : ℕ) × (result ≡ Error.Damaged sector) × ((groups : List (List RecordValue))
-        → StandsIn version log.now (D.history device.old).disk.content groups
+        → StandsIn version log.now (D.past_of device.old).disk.content groups
         → IsGateOf log.now.area groups index sector)) }
-    ensures reads { OnlyReads (D.history device.old) (D.history device.new) }
+    ensures reads { OnlyReads (D.past_of device.old) (D.past_of device.new) }
     ensures quiet { result ≢ Error.DeviceFailed → D.failures device.new ≡ D.failures device.old }
     ensures later { D.failures device.old ≤ D.failures device.new }
 {
@@ -140,20 +140,20 @@ pub fn read_store_in<D: Device, A: Allocator + Copy>(
     device: &mut D,
 ) -> Result<Found<A>, Error>
     ensures found { IfOk result (λ found. IsFoundIn version
-        (D.history device.old).disk.content found.restored.geometry found.log (given_in found.restored)) }
+        (D.past_of device.old).disk.content found.restored.geometry found.log (given_in found.restored)) }
     ensures halves { IfOk result (λ found. IsStoreIn version found.halves.geometry found.halves.current
-        (D.history device.old).disk.content) }
+        (D.past_of device.old).disk.content) }
     ensures untouched { IfOk result (λ found. IsTrue found.untouched
-        ↔ IsUntouchedIn version (D.history device.old).disk.content found.restored.geometry) }
-    ensures area { IfOk result (λ found. IsAreaInside found.log.area (D.history device.old).disk.content) }
+        ↔ IsUntouchedIn version (D.past_of device.old).disk.content found.restored.geometry) }
+    ensures area { IfOk result (λ found. IsAreaInside found.log.area (D.past_of device.old).disk.content) }
     ensures numbered { IfOk result (λ found. found.restored.last ≤ LAST_NUMBER) }
     ensures accepted { (geometry : GeometryValue) (given : Given)
-        → GivesIn version (D.history device.old).disk.content geometry given
+        → GivesIn version (D.past_of device.old).disk.content geometry given
         → IfErr result (Refuses (D.failures device.old) (D.failures device.new)) }
     ensures refused { IfErr result (λ e. Refuses (D.failures device.old) (D.failures device.new) e
-        ⊎ IsUnreadableIn version (D.history device.old).disk.content e) }
-    ensures memory { IfErr result (λ e. e ≡ Error.NoMemory → HasHeaderIn version (D.history device.old).disk.content) }
-    ensures reads { OnlyReads (D.history device.old) (D.history device.new) }
+        ⊎ IsUnreadableIn version (D.past_of device.old).disk.content e) }
+    ensures memory { IfErr result (λ e. e ≡ Error.NoMemory → HasHeaderIn version (D.past_of device.old).disk.content) }
+    ensures reads { OnlyReads (D.past_of device.old) (D.past_of device.new) }
     ensures quiet { OnOk result (D.failures device.new ≡ D.failures device.old) }
     ensures told { IfErr result (λ e. e ≢ Error.DeviceFailed → D.failures device.new ≡ D.failures device.old) }
     ensures later { D.failures device.old ≤ D.failures device.new }
@@ -189,21 +189,21 @@ pub fn read_store<D: Device, A: Allocator + Copy>(
     alloc: A,
     device: &mut D,
 ) -> Result<Found<A>, Error>
-    ensures found { IfOk result (λ found. IsFound (D.history device.old).disk.content found.restored.geometry found.log
+    ensures found { IfOk result (λ found. IsFound (D.past_of device.old).disk.content found.restored.geometry found.log
         (given_in found.restored)) }
     ensures halves { IfOk result (λ found. IsStore found.halves.geometry found.halves.current
-        (D.history device.old).disk.content) }
+        (D.past_of device.old).disk.content) }
     ensures untouched { IfOk result (λ found. IsTrue found.untouched
-        ↔ IsUntouched (D.history device.old).disk.content found.restored.geometry) }
-    ensures area { IfOk result (λ found. IsAreaInside found.log.area (D.history device.old).disk.content) }
+        ↔ IsUntouched (D.past_of device.old).disk.content found.restored.geometry) }
+    ensures area { IfOk result (λ found. IsAreaInside found.log.area (D.past_of device.old).disk.content) }
     ensures numbered { IfOk result (λ found. found.restored.last ≤ LAST_NUMBER) }
     ensures accepted { (geometry : GeometryValue) (given : Given)
-        → Gives (D.history device.old).disk.content geometry given
+        → Gives (D.past_of device.old).disk.content geometry given
         → IfErr result (Refuses (D.failures device.old) (D.failures device.new)) }
     ensures refused { IfErr result (λ e. Refuses (D.failures device.old) (D.failures device.new) e
-        ⊎ IsUnreadable (D.history device.old).disk.content e) }
-    ensures memory { IfErr result (λ e. e ≡ Error.NoMemory → HasHeader (D.history device.old).disk.content) }
-    ensures reads { OnlyReads (D.history device.old) (D.history device.new) }
+        ⊎ IsUnreadable (D.past_of device.old).disk.content e) }
+    ensures memory { IfErr result (λ e. e ≡ Error.NoMemory → HasHeader (D.past_of device.old).disk.content) }
+    ensures reads { OnlyReads (D.past_of device.old) (D.past_of device.new) }
     ensures quiet { OnOk result (D.failures device.new ≡ D.failures device.old) }
     ensures told { IfErr result (λ e. e ≢ Error.DeviceFailed → D.failures device.new ≡ D.failures device.old) }
     ensures later { D.failures device.old ≤ D.failures device.new }

@@ -1,18 +1,18 @@
 -- The records above an image's base are carried on behind a group that was added to the current half's log.
 use Rattle.std.proofs.Common.{◌≡◌, ℕ, ◌+◌, ◌≤◌, true, length, take, drop, Option, Some, IfSome, sym, ap, subst, ◌∙◌, arith, length-take}
 use Rattle.std.proofs.lemmas.Bool.{false≢true}
-use Rattle.sector_device.specs.Disk.{Image, IsSynced, SameOutside}
-use Rattle.sector_device.specs.History.{History, LeavesOnly}
+use Rattle.sector_device.specs.Disk.{CrashState, IsSynced, SameOutside}
+use Rattle.sector_device.specs.DevicePast.{DevicePast, LeavesOnly}
 use Rattle.sector_device.proofs.Moments.{weaker, at_end}
 use Rattle.sector_device.proofs.Sectors.{crash_synced, same_outside_wider}
-use Rattle.records.specs.GeometryValue.{GeometryValue}
+use Rattle.record_values.specs.GeometryValue.{GeometryValue}
 use Rattle.gate_log.specs.Area.{Area, Log, InArea, IsAreaInside, Stands}
 use Rattle.gate_log.proofs.Readings.{told_by_its_sectors}
 use Rattle.flip_image.specs.declared.half.Half.{Half}
 use Rattle.flip_image.specs.Layout.{HalvesValue, other, InHalf}
 use Rattle.flip_image.specs.Store.{IsStore}
 use Rattle.flip_image.proofs.Sides.{other_apart, log_inside}
-use Rattle.image_model.specs.Run.{Run, cells_at, records_between}
+use Rattle.store_image_model.specs.Run.{Run, cells_at, records_between}
 use Rattle.store_reader.specs.Contents.{log_area}
 use Rattle.store_writer.specs.declared.writer.Writer.{Writer}
 use Rattle.store_writer.specs.declared.image.NewImage.{NewImage}
@@ -24,9 +24,9 @@ use Rattle.store_writer.proofs.Halves.{SameIn, in_from_outside, half_apart, stor
 use Rattle.store_writer.proofs.Underway.{new_log_in_half}
 use Rattle.store_writer.proofs.Left.{left_by}
 
-module _ {D M : Type 0} (history : D → History) (run : Run) (handed count : ℕ) (w : Writer D M) (is : HasAppended history run handed count w) where
-  abbrev content : Image
-  content = (history w.device).disk.content
+module _ {D M : Type 0} (past_of : D → DevicePast) (run : Run) (handed count : ℕ) (w : Writer D M) (is : HasAppended past_of run handed count w) where
+  abbrev content : CrashState
+  content = (past_of w.device).disk.content
 
   abbrev g : GeometryValue
   g = run.geometry
@@ -57,7 +57,7 @@ module _ {D M : Type 0} (history : D → History) (run : Run) (handed count : �
 
   -- ---- what is written there changes nothing that the device gives
 
-  module _ (c : Image) (same : SameOutside (InNewLog w.image) content c) where
+  module _ (c : CrashState) (same : SameOutside (InNewLog w.image) content c) where
     in_other : SameOutside (InHalf g (other half)) content c
     in_other = same_outside_wider _ (InHalf g (other half)) content c (λ n inside.
         new_log_in_half run (other half) content w.synced n w.image is.image inside) same
@@ -81,20 +81,20 @@ module _ {D M : Type 0} (history : D → History) (run : Run) (handed count : �
     left_there : (floor : ℕ) → floor ≤ w.synced + count → LeftBy run floor handed c
     left_there floor least = left_by run floor handed (w.synced + count) c least is.within (record { half = half; store = store_there; has = has_there })
 
-  pub leaves_there : (new : History) → LeavesOnly (history w.device) new (SameOutside (InNewLog w.image) content)
-      → LeavesOnly (history w.device) new (LeftBy run w.synced handed)
-  leaves_there new run_ = weaker (history w.device) new (SameOutside (InNewLog w.image) content) (LeftBy run w.synced handed) (λ c same.
+  pub leaves_there : (new : DevicePast) → LeavesOnly (past_of w.device) new (SameOutside (InNewLog w.image) content)
+      → LeavesOnly (past_of w.device) new (LeftBy run w.synced handed)
+  leaves_there new run_ = weaker (past_of w.device) new (SameOutside (InNewLog w.image) content) (LeftBy run w.synced handed) (λ c same.
       left_there c same w.synced (omega arith)) run_
 
   -- it was done
   module _ (new : Writer D M) (halves_is : new.halves ≡ w.halves) (log_is : new.log ≡ w.log) (synced_is : new.synced ≡ w.synced + count)
       (waiting_is : new.waiting.items ≡ drop count w.waiting.items)
-      (same : SameOutside (InNewLog w.image) content (history new.device).disk.content) (all : IsSynced (history new.device).disk)
-      (image : IfSome new.image (IsUnderway run (other half) (history new.device).disk.content (w.synced + length (take count w.waiting.items)))) where
-    abbrev now : Image
-    now = (history new.device).disk.content
+      (same : SameOutside (InNewLog w.image) content (past_of new.device).disk.content) (all : IsSynced (past_of new.device).disk)
+      (image : IfSome new.image (IsUnderway run (other half) (past_of new.device).disk.content (w.synced + length (take count w.waiting.items)))) where
+    abbrev now : CrashState
+    now = (past_of new.device).disk.content
 
-    stood_new : StandsFor history run new
+    stood_new : StandsFor past_of run new
     stood_new = record {
       store = subst (λ (h : HalvesValue). IsStore g h.current now) (sym halves_is) (store_there now same);
       has = subst (λ n. HalfHas g new.halves.current now n (cells_at run n)) (sym synced_is)
@@ -108,7 +108,7 @@ module _ {D M : Type 0} (history : D → History) (run : Run) (handed count : �
           (IsUnderway run (other h.current) now (w.synced + length (take count w.waiting.items)))) (sym halves_is) image);
     }
 
-    pub carried_one : IsWriter history run handed new
+    pub carried_one : IsWriter past_of run handed new
     carried_one = record {
       run-is = is.run-is;
       geometry-is = ap (λ (h : HalvesValue). h.geometry) halves_is ∙ is.geometry-is;
@@ -121,13 +121,13 @@ module _ {D M : Type 0} (history : D → History) (run : Run) (handed count : �
           ∙ ap (λ n. records_between run n handed) (sym synced_is);
       holds = λ _. stood_new;
       images = λ image crash.
-          let is_now : image ≡ now = crash_synced (history new.device).disk image all crash in
+          let is_now : image ≡ now = crash_synced (past_of new.device).disk image all crash in
           subst (LeftBy run new.synced handed) (sym is_now) (left_there now same new.synced (omega (arith, synced_is)));
     }
 
   -- it failed
   pub failed_one : (new : Writer D M) → new.halves ≡ w.halves → new.synced ≡ w.synced → new.waiting.items ≡ w.waiting.items → new.failed ≡ true
-      → LeavesOnly (history w.device) (history new.device) (LeftBy run w.synced handed) → IsWriter history run handed new
+      → LeavesOnly (past_of w.device) (past_of new.device) (LeftBy run w.synced handed) → IsWriter past_of run handed new
   failed_one new halves_is synced_is waiting_is failed left = record {
     run-is = is.run-is;
     geometry-is = ap (λ (h : HalvesValue). h.geometry) halves_is ∙ is.geometry-is;
@@ -138,5 +138,5 @@ module _ {D M : Type 0} (history : D → History) (run : Run) (handed count : �
     waits = waiting_is ∙ is.waits ∙ ap (λ n. records_between run n handed) (sym synced_is);
     holds = λ sound. absurd (false≢true (sym sound ∙ failed));
     images = λ image crash. subst (λ n. LeftBy run n handed image) (sym synced_is)
-        (at_end (history w.device) (history new.device) (LeftBy run w.synced handed) left image crash);
+        (at_end (past_of w.device) (past_of new.device) (LeftBy run w.synced handed) left image crash);
   }

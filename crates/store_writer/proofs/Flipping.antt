@@ -1,11 +1,11 @@
 -- What a flip leaves.
 use Rattle.std.proofs.Common.{◌≡◌, inl, inr, ⊎_elim, ℕ, ◌+◌, ◌-◌, ◌≤◌, false, List, length, drop, Option, None, IfSome, sym, ap, subst, ◌∙◌, arith}
 use Rattle.std.proofs.lemmas.Bool.{false≢true}
-use Rattle.sector_device.specs.Disk.{Image, sector, IsSynced, SameOutside}
-use Rattle.sector_device.specs.History.{History, LeavesOnly}
+use Rattle.sector_device.specs.Disk.{CrashState, sector, IsSynced, SameOutside}
+use Rattle.sector_device.specs.DevicePast.{DevicePast, LeavesOnly}
 use Rattle.sector_device.proofs.Moments.{weaker}
 use Rattle.sector_device.proofs.Sectors.{crash_synced, same_outside_wider}
-use Rattle.records.specs.GeometryValue.{GeometryValue}
+use Rattle.record_values.specs.GeometryValue.{GeometryValue}
 use Rattle.records.specs.RecordValue.{RecordValue}
 use Rattle.model.specs.Following.{AreFollowing}
 use Rattle.model.specs.Cells.{cells_after}
@@ -15,8 +15,8 @@ use Rattle.flip_image.specs.declared.half.Half.{Half}
 use Rattle.flip_image.specs.Layout.{HalvesValue, other, InHalf}
 use Rattle.flip_image.specs.Store.{Names, IsSuperblock, IsStore, IsFlipping}
 use Rattle.flip_image.proofs.Sides.{behind_front, image_inside, log_inside, either_store}
-use Rattle.image_model.specs.Run.{Run, IsRun, end_of, cells_at, records_between}
-use Rattle.image_model.proofs.Runs.{redone, redone_following}
+use Rattle.store_image_model.specs.Run.{Run, IsRun, end_of, cells_at, records_between}
+use Rattle.store_image_model.proofs.Runs.{redone, redone_following}
 use Rattle.store_reader.specs.Contents.{log_area}
 use Rattle.store_writer.specs.declared.writer.Writer.{Writer}
 use Rattle.store_writer.specs.declared.image.NewImage.{NewImage}
@@ -30,7 +30,7 @@ use Rattle.store_writer.proofs.Taking.{stand, left_kept}
 use Rattle.store_writer.proofs.Left.{left_by}
 
 -- An image whose log reaches its last step gives the cells after the last record of that log.
-pub underway_has : (run : Run) (half : Half) (image : Image) (synced : ℕ) (new : NewImage) → IsRun run → IsUnderway run half image synced new
+pub underway_has : (run : Run) (half : Half) (image : CrashState) (synced : ℕ) (new : NewImage) → IsRun run → IsUnderway run half image synced new
     → new.stage ≡ Whole → new.number ≤ reach new synced → reach new synced ≤ end_of run
     → HalfHas run.geometry half image (reach new synced) (cells_at run (reach new synced))
 underway_has run half image synced new is there whole up made = let content : IsImageWhole run half image new.base new.number =
@@ -48,11 +48,12 @@ underway_has run half image synced new is there whole up made = let content : Is
           ∙ redone run new.base new.number (reach new synced) content.copied content.copies there.low (omega arith) up);
     }
 
-module _ {D M : Type 0} (history : D → History) (run : Run) (handed : ℕ) (old : Writer D M) (is : IsWriter history run handed old) (sound : old.failed ≡ false)
-    (image : NewImage) (there : IsUnderway run (other old.halves.current) (history old.device).disk.content old.synced image) (whole : image.stage ≡ Whole)
+module _ {D M : Type 0} (past_of : D → DevicePast) (run : Run) (handed : ℕ) (old : Writer D M) (is : IsWriter past_of run handed old)
+    (sound : old.failed ≡ false)
+    (image : NewImage) (there : IsUnderway run (other old.halves.current) (past_of old.device).disk.content old.synced image) (whole : image.stage ≡ Whole)
     (reaches : image.number ≤ reach image old.synced) (within : image.number ≤ handed) where
-  abbrev content : Image
-  content = (history old.device).disk.content
+  abbrev content : CrashState
+  content = (past_of old.device).disk.content
 
   abbrev g : GeometryValue
   g = run.geometry
@@ -76,40 +77,40 @@ module _ {D M : Type 0} (history : D → History) (run : Run) (handed : ℕ) (ol
   not_front half k inside is_flip = omega (arith, is_flip, behind_front g half k inside)
 
   -- the other half has the cells after the last record of its log
-  other_has : (c : Image) → SameOutside (λ k. k ≡ 1) content c → HalfHas g to c n (cells_at run n)
+  other_has : (c : CrashState) → SameOutside (λ k. k ≡ 1) content c → HalfHas g to c n (cells_at run n)
   other_has c same = half_apart g to content c (in_from_outside (InHalf g to) _ content c (not_front to) same) n (cells_at run n)
       (underway_has run to content old.synced image is.run-is there whole reaches (omega (arith, handed_in, is.made)))
 
-  this_has : (c : Image) → SameOutside (λ k. k ≡ 1) content c → HalfHas g from c old.synced (cells_at run old.synced)
+  this_has : (c : CrashState) → SameOutside (λ k. k ≡ 1) content c → HalfHas g from c old.synced (cells_at run old.synced)
   this_has c same = half_apart g from content c (in_from_outside (InHalf g from) _ content c (not_front from) same) old.synced (cells_at run old.synced)
-      (stand history run handed old is sound).has
+      (stand past_of run handed old is sound).has
 
-  left_flipping : (c : Image) → IsFlipping (history old.device).disk c → LeftBy run old.synced handed c
-  left_flipping c (inl loose) = left_kept history run handed old is sound c
-      (same_outside_wider _ (InHalf g to) content c (λ k unsynced. image_inside g to k ((stand history run handed old is sound).loose k unsynced)) loose)
+  left_flipping : (c : CrashState) → IsFlipping (past_of old.device).disk c → LeftBy run old.synced handed c
+  left_flipping c (inl loose) = left_kept past_of run handed old is sound c
+      (same_outside_wider _ (InHalf g to) content c (λ k unsynced. image_inside g to k ((stand past_of run handed old is sound).loose k unsynced)) loose)
   left_flipping c (inr same) = ⊎_elim
       (λ store. left_by run old.synced handed old.synced c (omega arith) is.reached (record { half = from; store = store; has = this_has c same }))
       (λ store. left_by run old.synced handed n c up handed_in (record { half = to; store = store; has = other_has c same }))
-      (either_store g from content c same (stand history run handed old is sound).store)
+      (either_store g from content c same (stand past_of run handed old is sound).store)
 
-  pub leaves_flipping : (new : History) → LeavesOnly (history old.device) new (IsFlipping (history old.device).disk)
-      → LeavesOnly (history old.device) new (LeftBy run old.synced handed)
-  leaves_flipping new run_ = weaker (history old.device) new (IsFlipping (history old.device).disk) (LeftBy run old.synced handed) left_flipping run_
+  pub leaves_flipping : (new : DevicePast) → LeavesOnly (past_of old.device) new (IsFlipping (past_of old.device).disk)
+      → LeavesOnly (past_of old.device) new (LeftBy run old.synced handed)
+  leaves_flipping new run_ = weaker (past_of old.device) new (IsFlipping (past_of old.device).disk) (LeftBy run old.synced handed) left_flipping run_
 
   -- the flip was done
   module _ (new : Writer D M) (halves_is : new.halves ≡ record { geometry = old.halves.geometry; current = to }) (log_is : new.log ≡ image.log)
       (synced_is : new.synced ≡ n) (waiting_is : new.waiting.items ≡ drop (n - old.synced) old.waiting.items) (none : new.image ≡ None)
-      (same : SameOutside (λ k. k ≡ 1) content (history new.device).disk.content) (named : Names (sector (history new.device).disk.content 1) to)
-      (all : IsSynced (history new.device).disk) where
-    abbrev now : Image
-    now = (history new.device).disk.content
+      (same : SameOutside (λ k. k ≡ 1) content (past_of new.device).disk.content) (named : Names (sector (past_of new.device).disk.content 1) to)
+      (all : IsSynced (past_of new.device).disk) where
+    abbrev now : CrashState
+    now = (past_of new.device).disk.content
 
     current_is : new.halves.current ≡ to
     current_is = ap (λ (h : HalvesValue). h.current) halves_is
 
     store_now : IsStore g to now
     store_now =
-        let store = (stand history run handed old is sound).store in
+        let store = (stand past_of run handed old is sound).store in
         record {
           limits = store.limits;
           room = omega (arith, store.room, same.sectors);
@@ -124,7 +125,7 @@ module _ {D M : Type 0} (history : D → History) (run : Run) (handed : ℕ) (ol
       counted = there.stands.counted;
     }
 
-    stood_now : StandsFor history run new
+    stood_now : StandsFor past_of run new
     stood_now = record {
       store = subst (λ (h : Half). IsStore g h now) (sym current_is) store_now;
       has = subst (λ k. HalfHas g new.halves.current now k (cells_at run k)) (sym synced_is)
@@ -136,7 +137,7 @@ module _ {D M : Type 0} (history : D → History) (run : Run) (handed : ℕ) (ol
       image = subst (λ (t : Option NewImage). IfSome t (IsUnderway run (other new.halves.current) now new.synced)) (sym none) tt;
     }
 
-    pub flipped_one : IsWriter history run handed new
+    pub flipped_one : IsWriter past_of run handed new
     flipped_one = record {
       run-is = is.run-is;
       geometry-is = ap (λ (h : HalvesValue). h.geometry) halves_is ∙ is.geometry-is;
@@ -149,7 +150,7 @@ module _ {D M : Type 0} (history : D → History) (run : Run) (handed : ℕ) (ol
           ∙ ap (λ k. records_between run k handed) (let e : old.synced + (n - old.synced) ≡ new.synced = omega (arith, up, synced_is) in e);
       holds = λ _. stood_now;
       images = λ image crash.
-          let is_now : image ≡ now = crash_synced (history new.device).disk image all crash in
+          let is_now : image ≡ now = crash_synced (past_of new.device).disk image all crash in
           subst (LeftBy run new.synced handed) (sym is_now) (left_by run new.synced handed n now (omega (arith, synced_is)) handed_in
           (record { half = to; store = store_now; has = other_has now same }));
     }

@@ -1,11 +1,11 @@
 -- What a writer is opened over, and what a reader finds of it.
 use Rattle.std.proofs.Common.{◌≡◌, ℕ, ◌+◌, ◌-◌, ◌≤◌, List, [], ◌++◌, length, take, drop, refl, sym, ap, subst, ◌∙◌, arith, length-take, length-append}
 use Rattle.std.proofs.Math.Seq.{take-length, drop-append_seam}
-use Rattle.sector_device.specs.Disk.{Image, IsSynced}
-use Rattle.sector_device.specs.History.{History}
+use Rattle.sector_device.specs.Disk.{CrashState, IsSynced}
+use Rattle.sector_device.specs.DevicePast.{DevicePast}
 use Rattle.records.specs.RecordValue.{RecordValue}
-use Rattle.records.specs.GeometryValue.{GeometryValue}
-use Rattle.records.specs.declared.number.TheConstants.{LAST_NUMBER}
+use Rattle.record_values.specs.GeometryValue.{GeometryValue}
+use Rattle.record_values.specs.declared.number.TheConstants.{LAST_NUMBER}
 use Rattle.model.specs.Cells.{Cells, cells_after, list_of}
 use Rattle.model.specs.Following.{AreFollowing, ArePlaced}
 use Rattle.model.specs.Given.{Given, given_after, opening_cells, recovered}
@@ -15,9 +15,9 @@ use Rattle.gate_log.specs.Area.{Area, Log, HoldsGroups, Stands}
 use Rattle.flip_image.specs.declared.half.Half.{Half}
 use Rattle.flip_image.specs.Layout.{HalvesValue}
 use Rattle.flip_image.specs.Store.{IsStore, HoldsImage}
-use Rattle.records.specs.declared.version.Version.TheVariants.{Two}
+use Rattle.record_values.specs.declared.version.Version.TheVariants.{Two}
 use Rattle.flip_image.proofs.Stores.{one_half}
-use Rattle.image_model.specs.Run.{Run, IsRun, end_of, cells_at, records_to}
+use Rattle.store_image_model.specs.Run.{Run, IsRun, end_of, cells_at, records_to}
 use Rattle.store_reader.specs.Contents.{IsFound, log_area}
 use Rattle.store_writer.specs.Contents.{HalfHas}
 use Rattle.store_writer.specs.Writer.{IsOpenedAt, longer, AreNext}
@@ -29,14 +29,14 @@ prefix run opening n cells last low made =
     let number : n ≡ opening.last + length (records_to run n) = omega (arith, size, last, low) in
     ap (λ (x : Cells). recovered (cells_after x (records_to run n)) n) cells ∙ ap (recovered (cells_after (opening_cells opening) (records_to run n))) number
 
-module _ (now : History) (halves : HalvesValue) (log : Log) (given : Given) (store : IsStore halves.geometry halves.current now.disk.content)
+module _ (now : DevicePast) (halves : HalvesValue) (log : Log) (given : Given) (store : IsStore halves.geometry halves.current now.disk.content)
     (found : IsFound now.disk.content halves.geometry log given) (all : IsSynced now.disk) (small : given.last ≤ LAST_NUMBER)
-    (placed : (g : GeometryValue) (half : Half) (image : Image) (base : ℕ) (cells : Cells) → HoldsImage g half image base cells → (txn : ℕ)
+    (placed : (g : GeometryValue) (half : Half) (image : CrashState) (base : ℕ) (cells : Cells) → HoldsImage g half image base cells → (txn : ℕ)
     → ArePlaced g.pages 0 (list_of cells.pending txn)) where
   abbrev g : GeometryValue
   g = halves.geometry
 
-  abbrev image : Image
+  abbrev image : CrashState
   image = now.disk.content
 
   abbrev cells : Cells
@@ -78,7 +78,7 @@ module _ (now : History) (halves : HalvesValue) (log : Log) (given : Given) (sto
   )
 
 -- over an image with an empty log
-pub over_image : (now : History) (halves : HalvesValue) (log : Log) (last : ℕ) (cells : Cells) → IsStore halves.geometry halves.current now.disk.content
+pub over_image : (now : DevicePast) (halves : HalvesValue) (log : Log) (last : ℕ) (cells : Cells) → IsStore halves.geometry halves.current now.disk.content
     → HoldsImage halves.geometry halves.current now.disk.content last cells
     → log.area ≡ log_area halves.geometry halves.current → Stands log now.disk.content [] → IsSynced now.disk → last ≤ LAST_NUMBER
     → ((txn : ℕ) → ArePlaced halves.geometry.pages 0 (list_of cells.pending txn))

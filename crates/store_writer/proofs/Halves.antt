@@ -1,9 +1,9 @@
 -- What becomes of what a half has where its log is written.
 use Rattle.std.proofs.Common.{◌≡◌, ℕ, ◌+◌, ◌*◌, ◌≤◌, List, [], ◌∷◌, ◌++◌, length, sym, ap, subst, ◌∙◌, arith, length-append}
-use Rattle.sector_device.specs.Disk.{Image, sector, SameOutside}
+use Rattle.sector_device.specs.Disk.{CrashState, sector, SameOutside}
 use Rattle.records.specs.RecordValue.{RecordValue}
-use Rattle.records.specs.GeometryValue.{GeometryValue, sectors_of}
-use Rattle.records.specs.declared.version.Version.TheVariants.{Two}
+use Rattle.record_values.specs.GeometryValue.{GeometryValue, sectors_of}
+use Rattle.record_values.specs.declared.version.Version.TheVariants.{Two}
 use Rattle.model.specs.Cells.{Cells, cells_after}
 use Rattle.model.specs.Following.{AreFollowing}
 use Rattle.model.proofs.CellsLaws.{cells_after-append}
@@ -15,16 +15,16 @@ use Rattle.flip_image.specs.declared.half.Half.TheVariants.{A, B}
 use Rattle.flip_image.specs.Layout.{InHalf, InHalfImage, log_first}
 use Rattle.flip_image.specs.Store.{IsStore, HoldsImage}
 use Rattle.flip_image.proofs.Sides.{behind_front, image_inside, log_inside, store_in_front}
-use Rattle.image_half.proofs.Told.{stays}
+use Rattle.store_image_half.proofs.Told.{stays}
 use Rattle.store_reader.specs.Contents.{log_area}
 use Rattle.store_writer.specs.Contents.{HalfHas}
 
 -- two images have the same sectors where P holds
-pub record SameIn (P : ℕ → Type 0) (image c : Image) : Type 0 where
+pub record SameIn (P : ℕ → Type 0) (image c : CrashState) : Type 0 where
   pub sectors : length c ≡ length image
   pub same : (n : ℕ) → P n → sector c n ≡ sector image n
 
-pub in_from_outside : (P S : ℕ → Type 0) (image c : Image) → ((n : ℕ) → P n → ¬ S n) → SameOutside S image c → SameIn P image c
+pub in_from_outside : (P S : ℕ → Type 0) (image c : CrashState) → ((n : ℕ) → P n → ¬ S n) → SameOutside S image c → SameIn P image c
 in_from_outside P S image c apart same = record { sectors = same.sectors; same = λ n inside. same.same n (apart n inside) }
 
 -- both logs end within the store
@@ -32,7 +32,7 @@ pub log_room : (g : GeometryValue) (half : Half) → log_first g half + 8 * g.sl
 log_room g A = omega arith
 log_room g B = omega arith
 
-module _ (g : GeometryValue) (half : Half) (image c : Image) where
+module _ (g : GeometryValue) (half : Half) (image c : CrashState) where
   pub image_apart : SameIn (InHalfImage g half) image c → (base : ℕ) (cells : Cells) → HoldsImage g half image base cells → HoldsImage g half c base cells
   image_apart same base cells held = stays Two g _ image c same.same base cells held
 
@@ -69,14 +69,14 @@ module _ (g : GeometryValue) (half : Half) (image c : Image) where
     }
 
 -- what a half has is told by its sectors
-pub half_apart : (g : GeometryValue) (half : Half) (image c : Image) → SameIn (InHalf g half) image c → (last : ℕ) (cells : Cells)
+pub half_apart : (g : GeometryValue) (half : Half) (image c : CrashState) → SameIn (InHalf g half) image c → (last : ℕ) (cells : Cells)
     → HalfHas g half image last cells → HalfHas g half c last cells
 half_apart g half image c same last cells has =
     same_groups g half image c last cells has (record { sectors = same.sectors; same = λ n inside. same.same n (image_inside g half n inside) })
     (told_by_its_sectors (log_area g half) image c has.groups same.sectors (λ n inside. same.same n (log_inside g half n inside)) has.held)
 
 -- a store is told by the sectors in front of its halves, whatever is written into one
-pub store_apart : (g : GeometryValue) (current half : Half) (image c : Image) → SameOutside (InHalf g half) image c → IsStore g current image
+pub store_apart : (g : GeometryValue) (current half : Half) (image c : CrashState) → SameOutside (InHalf g half) image c → IsStore g current image
     → IsStore g current c
 store_apart g current half image c same = store_in_front g current image c same.sectors (λ n few.
     same.same n (λ inside. omega (arith, few, behind_front g half n inside)))

@@ -2,11 +2,11 @@
 use Rattle.std.specs.Result.{is_err}
 use Rattle.std.proofs.Common.{Result, Ok, Err, OnOk, OnErr, ◌≡◌, ◌⊎◌, inl, inr, ⊎_elim, ℕ, true, false, List, sym, subst, ◌∙◌, arith}
 use Rattle.std.proofs.lemmas.Bool.{false≢true, cases_lt}
-use Rattle.sector_device.specs.Disk.{Image, IsSynced, sector, SameOutside}
-use Rattle.sector_device.specs.History.{History, LeavesOnly, RunsWithin}
+use Rattle.sector_device.specs.Disk.{CrashState, IsSynced, sector, SameOutside}
+use Rattle.sector_device.specs.DevicePast.{DevicePast, LeavesOnly, RunsWithin}
 use Rattle.sector_device.proofs.Moments.{weaker, joined}
 use Rattle.sector_device.proofs.Sectors.{same_outside_wider, same_outside_then}
-use Rattle.records.specs.GeometryValue.{GeometryValue}
+use Rattle.record_values.specs.GeometryValue.{GeometryValue}
 use Rattle.records.specs.RecordValue.{RecordValue}
 use Rattle.gate_log.specs.Area.{Area, Log, InArea, IsGate, Stands}
 use Rattle.gate_log.proofs.Readings.{told_by_its_sectors}
@@ -32,7 +32,7 @@ image_or_not g half n = ⊎_elim
     (λ high. ⊎_elim (λ below. inl (high, below)) (λ past. inr (λ is. omega (arith, past, is.1))) (cases_lt n (log_first g half)))
     (cases_lt n (header_sector g half))
 
-module _ (g : GeometryValue) (half : Half) (old mid : History) (area : Area) (area_is : area ≡ log_area g half) (loose : (n : ℕ) → old.disk.unsynced n ≡ true
+module _ (g : GeometryValue) (half : Half) (old mid : DevicePast) (area : Area) (area_is : area ≡ log_area g half) (loose : (n : ℕ) → old.disk.unsynced n ≡ true
     → InHalfImage g half n) where
   gate_in_half : (n : ℕ) → IsGate area n → InHalf g half n
   gate_in_half n (slot, below, is) = log_inside g half n (subst (λ (a : Area). InArea a n) area_is (omega (arith, is), omega (arith, is, below)))
@@ -53,13 +53,13 @@ module _ (g : GeometryValue) (half : Half) (old mid : History) (area : Area) (ar
   closed_outside same = same_outside_wider (IsGate area) (InHalf g half) old.disk.content mid.disk.content gate_in_half same
 
   -- and then an image is written
-  module _ (new : History) (closed : LeavesOnly old mid (SameOutside (λ n. IsGate area n ⊎ (old.disk.unsynced n ≡ true)) old.disk.content))
+  module _ (new : DevicePast) (closed : LeavesOnly old mid (SameOutside (λ n. IsGate area n ⊎ (old.disk.unsynced n ≡ true)) old.disk.content))
       (gates : SameOutside (IsGate area) old.disk.content mid.disk.content)
       (all : IsSynced mid.disk) (written : RunsWithin (λ n. InHalfImage g half n ⊎ (mid.disk.unsynced n ≡ true)) mid.disk.content mid new) where
     in_the_image : (n : ℕ) → InHalfImage g half n ⊎ (mid.disk.unsynced n ≡ true) → InHalfImage g half n
     in_the_image n either = ⊎_elim (λ inside. inside) (λ unsynced. absurd (false≢true (sym (all n) ∙ unsynced))) either
 
-    then_image : (c : Image) → SameOutside (λ n. InHalfImage g half n ⊎ (mid.disk.unsynced n ≡ true)) mid.disk.content c
+    then_image : (c : CrashState) → SameOutside (λ n. InHalfImage g half n ⊎ (mid.disk.unsynced n ≡ true)) mid.disk.content c
         → SameOutside (InHalf g half) old.disk.content c
     then_image c same = same_outside_then (InHalf g half) old.disk.content mid.disk.content c (closed_outside gates)
         (same_outside_wider _ (InHalf g half) mid.disk.content c (λ n either. image_inside g half n (in_the_image n either)) same)
@@ -87,7 +87,7 @@ module _ (g : GeometryValue) (half : Half) (old mid : History) (area : Area) (ar
 -- ---- an image under way is written
 
 -- one part is written after another
-pub runs_then : (P : ℕ → Type 0) (old mid new : History) → RunsWithin (λ n. P n ⊎ (old.disk.unsynced n ≡ true)) old.disk.content old mid
+pub runs_then : (P : ℕ → Type 0) (old mid new : DevicePast) → RunsWithin (λ n. P n ⊎ (old.disk.unsynced n ≡ true)) old.disk.content old mid
     → RunsWithin (λ n. P n ⊎ (mid.disk.unsynced n ≡ true)) mid.disk.content mid new
     → RunsWithin (λ n. P n ⊎ (old.disk.unsynced n ≡ true)) old.disk.content old new
 runs_then P old mid new first second = record {
@@ -102,7 +102,7 @@ runs_then P old mid new first second = record {
     apart : (k : ℕ) → ¬ (P k ⊎ (old.disk.unsynced k ≡ true)) → ¬ (P k ⊎ (mid.disk.unsynced k ≡ true))
     apart k out either = ⊎_elim (λ is. out (inl is)) (λ is. false≢true (sym (first.now.synced k out) ∙ is)) either
 
-    outside_then : (c : Image) → SameOutside (λ n. P n ⊎ (mid.disk.unsynced n ≡ true)) mid.disk.content c
+    outside_then : (c : CrashState) → SameOutside (λ n. P n ⊎ (mid.disk.unsynced n ≡ true)) mid.disk.content c
         → SameOutside (λ n. P n ⊎ (old.disk.unsynced n ≡ true)) old.disk.content c
     outside_then c same = record {
       sectors = same.sectors ∙ first.now.content.sectors;
@@ -110,12 +110,12 @@ runs_then P old mid new first second = record {
           ∙ first.now.content.same k out;
     }
 
-module _ (g : GeometryValue) (half : Half) (old new : History) (loose : (n : ℕ) → old.disk.unsynced n ≡ true
+module _ (g : GeometryValue) (half : Half) (old new : DevicePast) (loose : (n : ℕ) → old.disk.unsynced n ≡ true
     → InHalfImage g half n) (written : RunsWithin (λ n. InHalfImage g half n ⊎ (old.disk.unsynced n ≡ true)) old.disk.content old new) where
   in_image : (n : ℕ) → InHalfImage g half n ⊎ (old.disk.unsynced n ≡ true) → InHalfImage g half n
   in_image n either = ⊎_elim (λ inside. inside) (λ unsynced. loose n unsynced) either
 
-  in_half : (c : Image) → SameOutside (λ n. InHalfImage g half n ⊎ (old.disk.unsynced n ≡ true)) old.disk.content c
+  in_half : (c : CrashState) → SameOutside (λ n. InHalfImage g half n ⊎ (old.disk.unsynced n ≡ true)) old.disk.content c
       → SameOutside (InHalf g half) old.disk.content c
   in_half c same = same_outside_wider _ (InHalf g half) old.disk.content c (λ n either. image_inside g half n (in_image n either)) same
 

@@ -1,16 +1,16 @@
 -- What an image gives that a crash left.
 use Rattle.std.proofs.Common.{ℕ, ◌≤◌, refl, ap, ◌∙◌}
 use Rattle.std.specs.FinMap.{len}
-use Rattle.sector_device.specs.Disk.{Image}
-use Rattle.records.specs.GeometryValue.{GeometryValue}
+use Rattle.sector_device.specs.Disk.{CrashState}
+use Rattle.record_values.specs.GeometryValue.{GeometryValue}
 use Rattle.model.specs.Cells.{Cells, cells_after}
 use Rattle.model.specs.Given.{recovered}
 use Rattle.gate_log.specs.Area.{records_of}
-use Rattle.image_model.specs.Run.{Run, cells_at}
+use Rattle.store_image_model.specs.Run.{Run, cells_at}
 use Rattle.store_reader.specs.Contents.{Gives}
 use Rattle.store_writer.specs.Contents.{StoreHas, LeftBy}
 
-pub gives : (g : GeometryValue) (image : Image) (last : ℕ) (cells : Cells) → StoreHas g image last cells → len (recovered cells last).entries ≤ g.entries
+pub gives : (g : GeometryValue) (image : CrashState) (last : ℕ) (cells : Cells) → StoreHas g image last cells → len (recovered cells last).entries ≤ g.entries
     → Gives image g (recovered cells last)
 gives g image last cells store room =
     let has = store.has in
@@ -24,7 +24,7 @@ gives g image last cells store room =
       room = room;
     }
 
-pub left_by : (run : Run) (floor handed number : ℕ) (image : Image) → floor ≤ number → number ≤ handed
+pub left_by : (run : Run) (floor handed number : ℕ) (image : CrashState) → floor ≤ number → number ≤ handed
     → StoreHas run.geometry image number (cells_at run number) → LeftBy run floor handed image
 left_by run floor handed number image least most has =
     record { number = number; least = least; most = most; has = has; gives = gives run.geometry image number (cells_at run number) has }

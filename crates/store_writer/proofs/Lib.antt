@@ -10,7 +10,7 @@ mod Logs
 mod Idle
 pub mod Alone
 mod Taking
-mod Copying
+mod Stepwise
 mod Flipping
 mod Replies
 mod Places

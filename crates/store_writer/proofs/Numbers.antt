@@ -4,8 +4,8 @@ use Rattle.std.proofs.lemmas.List.{drop-drop}
 use Rattle.std.proofs.Math.Seq.{take-add, take-append_seam, drop-append_seam}
 use Rattle.records.specs.RecordValue.{RecordValue}
 use Rattle.model.specs.Following.{AreFollowing}
-use Rattle.image_model.specs.Run.{Run, IsRun, end_of, cells_at, records_between}
-use Rattle.image_model.proofs.Runs.{copy_of_run, redone_following}
+use Rattle.store_image_model.specs.Run.{Run, IsRun, end_of, cells_at, records_between}
+use Rattle.store_image_model.proofs.Runs.{copy_of_run, redone_following}
 
 module _ (run : Run) where
   pub between_split : (l m n : ℕ) → run.last ≤ l → l ≤ m → m ≤ n → records_between run l n ≡ records_between run l m ++ records_between run m n

@@ -1,21 +1,21 @@
 -- A page of an image that was written has the rows of a table.
 use Rattle.std.proofs.Common.{◌≡◌, ℕ, zero, suc, ◌<◌, replicate, List, Option, Some, None, slice_get, Result, Ok, Err, OnOk, refl, ◌∙◌, ap, sym, arith}
 use Rattle.std.specs.FinMap as map
-use Rattle.sector_device.specs.Disk.{Image}
-use Rattle.records.specs.declared.version.Version.TheVariants.{Two}
-use Rattle.records.specs.declared.rid.TheConstants.{SLOTS_PER_PAGE}
-use Rattle.records.specs.declared.row.Row.{Row}
+use Rattle.sector_device.specs.Disk.{CrashState}
+use Rattle.record_values.specs.declared.version.Version.TheVariants.{Two}
+use Rattle.record_values.specs.declared.rid.TheConstants.{SLOTS_PER_PAGE}
+use Rattle.record_values.specs.declared.row.Row.{Row}
 use Rattle.model.specs.Table.{Table}
-use Rattle.image_half.specs.Layout.{page_bytes}
-use Rattle.image_half.specs.Image.{HasEdges, IsRow, row_bytes}
-use Rattle.image_half.specs.Part.{HasPage}
+use Rattle.store_image_half.specs.Layout.{page_bytes}
+use Rattle.store_image_half.specs.Image.{HasEdges, IsRow, row_bytes}
+use Rattle.store_image_half.specs.Part.{HasPage}
 
 get-replicate : {A : Type 0} (n i : ℕ) (x : A) → i < n → slice_get (replicate n x) i ≡ Some x
 get-replicate zero i x low = absurd (omega (arith, low))
 get-replicate (suc n) zero x low = refl
 get-replicate (suc n) (suc i) x low = get-replicate n i x (omega (arith, low))
 
-module _ {T E : Type 0} (r : Result T E) (first : ℕ) (image : Image) (page : ℕ) (rows : Table) where
+module _ {T E : Type 0} (r : Result T E) (first : ℕ) (image : CrashState) (page : ℕ) (rows : Table) where
   -- of slots that show the table's rows there
   pub page_is : (slots : List (Option Row)) → ((slot : ℕ) → slot < SLOTS_PER_PAGE
       → slice_get slots slot ≡ Some (map.get rows (record { page = page; slot = slot })))

@@ -2,13 +2,13 @@
 use Rattle.std.proofs.Common.{Result, Ok, Err, OnOk, OnErr, ◌≡◌, ℕ, ◌+◌, ◌-◌, ◌≤◌, false, List, [], ◌++◌, length, take, drop, Option, Some, None, IfSome, refl}
 use Rattle.std.proofs.Common.{sym, ap, subst, ◌∙◌, arith, length-append, length-drop}
 use Rattle.std.proofs.lemmas.List.{take-append-le, drop-append-le}
-use Rattle.sector_device.specs.Disk.{Image, IsCrashImage}
-use Rattle.sector_device.specs.History.{History}
+use Rattle.sector_device.specs.Disk.{CrashState, IsCrashState}
+use Rattle.sector_device.specs.DevicePast.{DevicePast}
 use Rattle.sector_device.proofs.Sectors.{crash_synced}
 use Rattle.records.specs.RecordValue.{RecordValue}
 use Rattle.model.specs.Cells.{Cells, cells_after}
 use Rattle.flip_image.specs.Layout.{HalvesValue}
-use Rattle.image_model.specs.Run.{Run, IsRun, end_of, cells_at, records_between}
+use Rattle.store_image_model.specs.Run.{Run, IsRun, end_of, cells_at, records_between}
 use Rattle.store_writer.specs.declared.writer.Writer.{Writer}
 use Rattle.store_writer.specs.Contents.{HalfHas, StoreHas, LeftBy}
 use Rattle.store_writer.specs.Writer.{StandsFor, IsWriter, IsOpenedAt, opened_run, longer, AreNext, IsSomewhere}
@@ -16,14 +16,14 @@ use Rattle.std.proofs.lemmas.Bool.{false≢true}
 use Rattle.std.specs.FinMap as map
 use Rattle.flip_image.specs.declared.half.Half.{Half}
 use Rattle.flip_image.specs.Layout.{other, header_sector}
-use Rattle.records.specs.declared.pair.Pair.{Pair}
+use Rattle.record_values.specs.declared.pair.Pair.{Pair}
 use Rattle.model.specs.Inside.{AreInside}
 use Rattle.model.specs.Table.{Table, Index}
-use Rattle.image_half.specs.Part.{IsImagePart}
-use Rattle.image_model.specs.Partly.{IsPartlyCopied}
+use Rattle.store_image_half.specs.Part.{IsImagePart}
+use Rattle.store_image_model.specs.Partly.{IsPartlyCopied}
 use Rattle.store_writer.specs.declared.image.Stage.{Stage}
 use Rattle.store_writer.specs.declared.image.Stage.TheVariants.{Whole, Partly}
-use Rattle.image_model.specs.Run.{IsCopiedFrom, records_above}
+use Rattle.store_image_model.specs.Run.{IsCopiedFrom, records_above}
 use Rattle.store_writer.specs.declared.image.NewImage.{NewImage}
 use Rattle.store_writer.specs.Image.{IsContent, IsUnderway, reach}
 use Rattle.store_writer.proofs.Numbers.{between_split, none_between}
@@ -43,7 +43,7 @@ module _ (run : Run) (more : List RecordValue) where
   longer_end : end_of run ≤ end_of (longer run more)
   longer_end = omega (arith, length-append run.records more)
 
-  longer_left : (floor handed : ℕ) (image : Image) → handed ≤ end_of run → LeftBy run floor handed image → LeftBy (longer run more) floor handed image
+  longer_left : (floor handed : ℕ) (image : CrashState) → handed ≤ end_of run → LeftBy run floor handed image → LeftBy (longer run more) floor handed image
   longer_left floor handed image made left =
       left_by (longer run more) floor handed left.number image left.least left.most
       (subst (StoreHas run.geometry image left.number) (sym (same_cells_at left.number (omega (arith, left.most, made)))) left.has)
@@ -104,7 +104,7 @@ module _ (run : Run) (more : List RecordValue) where
         entries-rest = is.entries-rest;
       }
 
-  longer_content : (half : Half) (image : Image) (base to : ℕ) (stage : Stage) → run.last ≤ base → base ≤ to → to ≤ end_of run
+  longer_content : (half : Half) (image : CrashState) (base to : ℕ) (stage : Stage) → run.last ≤ base → base ≤ to → to ≤ end_of run
       → IsContent run half image base to stage → IsContent (longer run more) half image base to stage
   longer_content half image base to Whole opened rise made is =
       record { copied = is.copied; imaged = is.imaged; copies = longer_copied base to is.copied opened rise made is.copies }
@@ -122,7 +122,7 @@ module _ (run : Run) (more : List RecordValue) where
         full = is.full;
       }
 
-  longer_underway : (half : Half) (image : Image) (synced : ℕ) (new : NewImage) → synced ≤ end_of run → IsUnderway run half image synced new
+  longer_underway : (half : Half) (image : CrashState) (synced : ℕ) (new : NewImage) → synced ≤ end_of run → IsUnderway run half image synced new
       → IsUnderway (longer run more) half image synced new
   longer_underway half image synced new made is = record {
     low = is.low;
@@ -135,13 +135,13 @@ module _ (run : Run) (more : List RecordValue) where
     carried = is.carried ∙ sym (same_between new.base (reach new synced) is.low (omega (arith, is.rise, is.made)) (omega (arith, is.rise, is.made, made)));
   }
 
-  if_underway : (half : Half) (image : Image) (synced : ℕ) (new : Option NewImage) → synced ≤ end_of run → IfSome new (IsUnderway run half image synced)
+  if_underway : (half : Half) (image : CrashState) (synced : ℕ) (new : Option NewImage) → synced ≤ end_of run → IfSome new (IsUnderway run half image synced)
       → IfSome new (IsUnderway (longer run more) half image synced)
   if_underway half image synced None made is = is
   if_underway half image synced (Some new) made is = longer_underway half image synced new made is
 
-  module _ {D M : Type 0} (history : D → History) where
-    pub longer_writer : (handed : ℕ) (w : Writer D M) → IsWriter history run handed w → IsRun (longer run more) → IsWriter history (longer run more) handed w
+  module _ {D M : Type 0} (past_of : D → DevicePast) where
+    pub longer_writer : (handed : ℕ) (w : Writer D M) → IsWriter past_of run handed w → IsRun (longer run more) → IsWriter past_of (longer run more) handed w
     longer_writer handed w is run_is = record {
       run-is = run_is;
       geometry-is = is.geometry-is;
@@ -154,23 +154,23 @@ module _ (run : Run) (more : List RecordValue) where
           let stood = is.holds sound in
           record {
             store = stood.store;
-            has = subst (HalfHas run.geometry w.halves.current (history w.device).disk.content w.synced)
+            has = subst (HalfHas run.geometry w.halves.current (past_of w.device).disk.content w.synced)
                 (sym (same_cells_at w.synced (omega (arith, is.reached, is.made)))) stood.has;
             area-is = stood.area-is;
             groups = stood.groups;
             stands = stood.stands;
             loose = stood.loose;
-            image = if_underway (other w.halves.current) (history w.device).disk.content w.synced w.image (omega (arith, is.reached, is.made)) stood.image;
+            image = if_underway (other w.halves.current) (past_of w.device).disk.content w.synced w.image (omega (arith, is.reached, is.made)) stood.image;
           };
       images = λ image crash. longer_left w.synced handed image is.made (is.images image crash);
     }
 
 -- ---- records are handed in
 
-module _ {D M : Type 0} (history : D → History) (run : Run) (handed : ℕ) (old : Writer D M) (is : IsWriter history run handed old) where
+module _ {D M : Type 0} (past_of : D → DevicePast) (run : Run) (handed : ℕ) (old : Writer D M) (is : IsWriter past_of run handed old) where
   pub handed_writer : (new : Writer D M) (records : List RecordValue) → new.device ≡ old.device → new.halves ≡ old.halves → new.synced ≡ old.synced
-      → (new.failed ≡ false → StandsFor history run new)
-      → new.waiting.items ≡ old.waiting.items ++ records → AreNext run handed records → IsWriter history run (handed + length records) new
+      → (new.failed ≡ false → StandsFor past_of run new)
+      → new.waiting.items ≡ old.waiting.items ++ records → AreNext run handed records → IsWriter past_of run (handed + length records) new
   handed_writer new records d h s stands waits next = record {
     run-is = is.run-is;
     geometry-is = ap (λ (x : HalvesValue). x.geometry) h ∙ is.geometry-is;
@@ -184,8 +184,25 @@ module _ {D M : Type 0} (history : D → History) (run : Run) (handed : ℕ) (ol
         ∙ ap (λ k. records_between run k (handed + length records)) (sym s);
     holds = stands;
     images = λ image crash.
-        let left = is.images image (subst (λ (x : D). IsCrashImage (history x).disk image) d crash) in
+        let left = is.images image (subst (λ (x : D). IsCrashState (past_of x).disk image) d crash) in
         left_by run new.synced (handed + length records) left.number image (omega (arith, left.least, s)) (omega (arith, left.most)) left.has;
+  }
+
+  -- what keeps all but where the records lie, keeps the writer
+  pub kept_writer : (new : Writer D M) → new.device ≡ old.device → new.halves ≡ old.halves → new.synced ≡ old.synced
+      → (new.failed ≡ false → StandsFor past_of run new) → new.waiting.items ≡ old.waiting.items → IsWriter past_of run handed new
+  kept_writer new d h s stands waits = record {
+    run-is = is.run-is;
+    geometry-is = ap (λ (x : HalvesValue). x.geometry) h ∙ is.geometry-is;
+    opened = omega (arith, is.opened, s);
+    reached = omega (arith, is.reached, s);
+    made = is.made;
+    small = is.small;
+    waits = waits ∙ is.waits ∙ ap (λ k. records_between run k handed) (sym s);
+    holds = stands;
+    images = λ image crash.
+        let left = is.images image (subst (λ (x : D). IsCrashState (past_of x).disk image) d crash) in
+        left_by run new.synced handed left.number image (omega (arith, left.least, s)) left.most left.has;
   }
 
 -- ---- the beginning
@@ -193,10 +210,10 @@ module _ {D M : Type 0} (history : D → History) (run : Run) (handed : ℕ) (ol
 no_record : (n : ℕ) (cells : Cells) → cells ≡ cells_after cells (take (n - n) [])
 no_record n cells = let zero : 0 ≡ n - n = omega arith in ap (λ k. cells_after cells (take k [])) zero
 
-pub opened_writer : {D M : Type 0} (history : D → History) (cells : Cells) (w : Writer D M) → IsOpenedAt (history w.device) w.halves w.log w.synced cells
+pub opened_writer : {D M : Type 0} (past_of : D → DevicePast) (cells : Cells) (w : Writer D M) → IsOpenedAt (past_of w.device) w.halves w.log w.synced cells
     → w.waiting.items ≡ [] → w.image ≡ None
-    → IsWriter history (opened_run w.halves w.synced cells) w.synced w
-opened_writer history cells w is empty none = record {
+    → IsWriter past_of (opened_run w.halves w.synced cells) w.synced w
+opened_writer past_of cells w is empty none = record {
   run-is = record { following = tt; placed = is.placed };
   geometry-is = refl;
   opened = omega arith;
@@ -206,30 +223,21 @@ opened_writer history cells w is empty none = record {
   waits = empty ∙ sym (none_between (opened_run w.halves w.synced cells) w.synced w.synced (omega arith));
   holds = λ sound. record {
     store = is.store;
-    has = subst (HalfHas w.halves.geometry w.halves.current (history w.device).disk.content w.synced) (no_record w.synced cells) is.has;
+    has = subst (HalfHas w.halves.geometry w.halves.current (past_of w.device).disk.content w.synced) (no_record w.synced cells) is.has;
     area-is = is.area-is;
     groups = is.groups;
     stands = is.stands;
     loose = λ n unsynced. absurd (false≢true (sym (is.all_synced n) ∙ unsynced));
     image = subst (λ (t : Option NewImage).
-        IfSome t (IsUnderway (opened_run w.halves w.synced cells) (other w.halves.current) (history w.device).disk.content w.synced)) (sym none) tt;
+        IfSome t (IsUnderway (opened_run w.halves w.synced cells) (other w.halves.current) (past_of w.device).disk.content w.synced)) (sym none) tt;
   };
   images = λ image crash.
-      let same : image ≡ (history w.device).disk.content = crash_synced (history w.device).disk image is.all_synced crash in
+      let same : image ≡ (past_of w.device).disk.content = crash_synced (past_of w.device).disk image is.all_synced crash in
       subst (LeftBy (opened_run w.halves w.synced cells) w.synced w.synced) (sym same)
-      (left_by (opened_run w.halves w.synced cells) w.synced w.synced w.synced (history w.device).disk.content (omega arith) (omega arith)
+      (left_by (opened_run w.halves w.synced cells) w.synced w.synced w.synced (past_of w.device).disk.content (omega arith) (omega arith)
       (record {
         half = w.halves.current;
         store = is.store;
-        has = subst (HalfHas w.halves.geometry w.halves.current (history w.device).disk.content w.synced) (no_record w.synced cells) is.has;
+        has = subst (HalfHas w.halves.geometry w.halves.current (past_of w.device).disk.content w.synced) (no_record w.synced cells) is.has;
       }));
 }
-
--- whatever `hand_in` answers, the writer is somewhere
-pub somewhere_then : {D M T E : Type 0} (history : D
-    → History) (run : Run) (handed : ℕ) (records : List RecordValue) (old new : Writer D M) (result : Result T E)
-    → OnOk result ((run : Run) (handed : ℕ) → IsWriter history run handed old → AreNext run handed records → IsWriter history run (handed + length records) new)
-    → OnErr result ((run : Run) (handed : ℕ) → IsWriter history run handed old → IsWriter history run handed new)
-    → IsWriter history run handed old → AreNext run handed records → IsSomewhere history new
-somewhere_then history run handed records old new (Ok x) ok err is next = (run, handed + length records, ok run handed is next)
-somewhere_then history run handed records old new (Err e) ok err is next = (run, handed, err run handed is)

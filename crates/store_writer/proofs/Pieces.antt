@@ -1,13 +1,13 @@
 -- The piece of an image that is due, as the last record made left its cells.
 use Rattle.std.proofs.Common.{◌≡◌, ℕ, ◌≤◌, false, List, Option, Some, None, IfSome, subst, arith}
-use Rattle.sector_device.specs.History.{History}
-use Rattle.records.specs.declared.number.TheConstants.{LAST_NUMBER}
-use Rattle.records.specs.declared.pair.Pair.{Pair}
-use Rattle.records.specs.declared.pair.Mark.{Mark}
+use Rattle.sector_device.specs.DevicePast.{DevicePast}
+use Rattle.record_values.specs.declared.number.TheConstants.{LAST_NUMBER}
+use Rattle.record_values.specs.declared.pair.Pair.{Pair}
+use Rattle.record_values.specs.declared.pair.Mark.{Mark}
 use Rattle.model.specs.Table.{Table}
 use Rattle.flip_image.specs.Layout.{other}
-use Rattle.image_model.specs.Run.{Run, end_of}
-use Rattle.image_model.specs.declared.chunk.CopyPlace.TheVariants as at
+use Rattle.store_image_model.specs.Run.{Run, end_of}
+use Rattle.store_image_model.specs.declared.chunk.CopyPlace.TheVariants as at
 use Rattle.store_writer.specs.declared.writer.Writer.{Writer}
 use Rattle.store_writer.specs.declared.image.NewImage.{NewImage}
 use Rattle.store_writer.specs.declared.image.Stage.TheVariants as stage
@@ -16,14 +16,14 @@ use Rattle.store_writer.specs.Places.{IsAtPlace, AreRowsNow, AreEntriesNow}
 use Rattle.store_writer.specs.Writer.{IsWriter, IsPageChunk, IsEntriesChunk}
 use Rattle.store_writer.proofs.Writing.{stood}
 
-module _ {D M : Type 0} (history : D → History) (run : Run) (handed : ℕ) (w : Writer D M) (is : IsWriter history run handed w) (sound : w.failed ≡ false)
+module _ {D M : Type 0} (past_of : D → DevicePast) (run : Run) (handed : ℕ) (w : Writer D M) (is : IsWriter past_of run handed w) (sound : w.failed ≡ false)
     (small : end_of run ≤ LAST_NUMBER) where
   -- the image's last step was made
   later : (i : NewImage) → w.image ≡ Some i → i.number ≤ end_of run
   later i there =
-      let under : IsUnderway run (other w.halves.current) (history w.device).disk.content w.synced i =
-      subst (λ (t : Option NewImage). IfSome t (IsUnderway run (other w.halves.current) (history w.device).disk.content w.synced)) there
-      (stood history run handed w is sound).image in
+      let under : IsUnderway run (other w.halves.current) (past_of w.device).disk.content w.synced i =
+      subst (λ (t : Option NewImage). IfSome t (IsUnderway run (other w.halves.current) (past_of w.device).disk.content w.synced)) there
+      (stood past_of run handed w is sound).image in
       under.made
 
   pub next_page : (page : ℕ) (rows : Table) → IsAtPlace run.geometry.pages (Some (at.Page page)) w.image → AreRowsNow run page rows → (i : NewImage)

@@ -1,9 +1,9 @@
 -- What an image that is written into the half that isn't current leaves of the current one.
 use Rattle.std.proofs.Common.{◌≡◌, ℕ, ◌≤◌, true, false, [], IfSome, sym, ap, subst, ◌∙◌, arith}
-use Rattle.sector_device.specs.Disk.{Image, SameOutside}
-use Rattle.sector_device.specs.History.{History, LeavesOnly}
+use Rattle.sector_device.specs.Disk.{CrashState, SameOutside}
+use Rattle.sector_device.specs.DevicePast.{DevicePast, LeavesOnly}
 use Rattle.sector_device.proofs.Moments.{weaker}
-use Rattle.records.specs.GeometryValue.{GeometryValue}
+use Rattle.record_values.specs.GeometryValue.{GeometryValue}
 use Rattle.model.specs.Cells.{Cells}
 use Rattle.gate_log.specs.Area.{Area, Log, InArea, Stands}
 use Rattle.gate_log.proofs.Readings.{told_by_its_sectors}
@@ -11,8 +11,8 @@ use Rattle.flip_image.specs.declared.half.Half.{Half}
 use Rattle.flip_image.specs.Layout.{HalvesValue, other, InHalf, InHalfImage}
 use Rattle.flip_image.specs.Store.{IsStore, HoldsImage}
 use Rattle.flip_image.proofs.Sides.{other_apart, log_inside}
-use Rattle.image_model.specs.Run.{Run, IsCopiedFrom, end_of, cells_at}
-use Rattle.image_model.proofs.Runs.{copy_of_run}
+use Rattle.store_image_model.specs.Run.{Run, IsCopiedFrom, end_of, cells_at}
+use Rattle.store_image_model.proofs.Runs.{copy_of_run}
 use Rattle.store_reader.specs.Contents.{log_area}
 use Rattle.store_writer.specs.declared.writer.Writer.{Writer}
 use Rattle.store_writer.specs.declared.image.NewImage.{NewImage}
@@ -25,7 +25,7 @@ use Rattle.store_writer.proofs.Left.{left_by}
 use Rattle.store_writer.proofs.Halves.{SameIn, in_from_outside, half_apart, store_apart}
 
 -- an image of one moment, whose log is empty
-pub whole_taken : (run : Run) (half : Half) (image : Image) (synced : ℕ) (new : NewImage) (copied : Cells) → run.last ≤ synced → synced ≤ new.base
+pub whole_taken : (run : Run) (half : Half) (image : CrashState) (synced : ℕ) (new : NewImage) (copied : Cells) → run.last ≤ synced → synced ≤ new.base
     → new.number ≡ new.base → new.stage ≡ Whole → new.number ≤ end_of run
     → copied ≡ cells_at run new.base → HoldsImage run.geometry half image new.base copied → new.log.area ≡ log_area run.geometry half → Stands new.log image []
     → IsUnderway run half image synced new
@@ -44,10 +44,10 @@ whole_taken run half image synced new copied opened late one whole made is holds
   carried = sym (none_between run new.base (reach new synced) (omega (arith, late)));
 }
 
-module _ {D M : Type 0} (history : D → History) (run : Run) (handed : ℕ) (old : Writer D M) (is : IsWriter history run handed old)
+module _ {D M : Type 0} (past_of : D → DevicePast) (run : Run) (handed : ℕ) (old : Writer D M) (is : IsWriter past_of run handed old)
     (sound : old.failed ≡ false) where
-  abbrev content : Image
-  content = (history old.device).disk.content
+  abbrev content : CrashState
+  content = (past_of old.device).disk.content
 
   abbrev g : GeometryValue
   g = run.geometry
@@ -55,11 +55,11 @@ module _ {D M : Type 0} (history : D → History) (run : Run) (handed : ℕ) (ol
   abbrev half : Half
   half = old.halves.current
 
-  pub stand : StandsFor history run old
+  pub stand : StandsFor past_of run old
   stand = is.holds sound
 
   -- what is written into the other half changes nothing that the device gives
-  module _ (c : Image) (same : SameOutside (InHalf g (other half)) content c) where
+  module _ (c : CrashState) (same : SameOutside (InHalf g (other half)) content c) where
     store_kept : IsStore g half c
     store_kept = store_apart g half (other half) content c same stand.store
 
@@ -79,17 +79,17 @@ module _ {D M : Type 0} (history : D → History) (run : Run) (handed : ℕ) (ol
       counted = stand.stands.counted;
     }
 
-  pub leaves_kept : (new : History) → LeavesOnly (history old.device) new (SameOutside (InHalf g (other half)) content)
-      → LeavesOnly (history old.device) new (LeftBy run old.synced handed)
-  leaves_kept new run_ = weaker (history old.device) new (SameOutside (InHalf g (other half)) content) (LeftBy run old.synced handed) left_kept run_
+  pub leaves_kept : (new : DevicePast) → LeavesOnly (past_of old.device) new (SameOutside (InHalf g (other half)) content)
+      → LeavesOnly (past_of old.device) new (LeftBy run old.synced handed)
+  leaves_kept new run_ = weaker (past_of old.device) new (SameOutside (InHalf g (other half)) content) (LeftBy run old.synced handed) left_kept run_
 
   -- the writer stands as before, with this image
   pub stands_with : (new : Writer D M) → new.halves ≡ old.halves → new.log ≡ old.log → new.synced ≡ old.synced
-      → SameOutside (InHalf g (other half)) content (history new.device).disk.content
-      → ((n : ℕ) → (history new.device).disk.unsynced n ≡ true → InHalfImage g (other half) n)
-      → IfSome new.image (IsUnderway run (other half) (history new.device).disk.content old.synced) → StandsFor history run new
+      → SameOutside (InHalf g (other half)) content (past_of new.device).disk.content
+      → ((n : ℕ) → (past_of new.device).disk.unsynced n ≡ true → InHalfImage g (other half) n)
+      → IfSome new.image (IsUnderway run (other half) (past_of new.device).disk.content old.synced) → StandsFor past_of run new
   stands_with new halves_is log_is synced_is same loose image =
-      let c = (history new.device).disk.content in
+      let c = (past_of new.device).disk.content in
       record {
         store = subst (λ (h : HalvesValue). IsStore g h.current c) (sym halves_is) (store_kept c same);
         has = subst (λ n. HalfHas g new.halves.current c n (cells_at run n)) (sym synced_is)

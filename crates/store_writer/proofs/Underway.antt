@@ -6,8 +6,8 @@ use Rattle.std.specs.List.{flat_map}
 use Rattle.std.proofs.lemmas.List.{take-append-drop}
 use Rattle.std.proofs.Math.Seq.{take-length}
 use Rattle.std.proofs.lemmas.List.Concat.{flat_map-append}
-use Rattle.sector_device.specs.Disk.{Image, IsSynced, SameOutside}
-use Rattle.sector_device.specs.History.{History, LeavesOnly}
+use Rattle.sector_device.specs.Disk.{CrashState, IsSynced, SameOutside}
+use Rattle.sector_device.specs.DevicePast.{DevicePast, LeavesOnly}
 use Rattle.sector_device.proofs.Moments.{weaker}
 use Rattle.sector_device.proofs.Sectors.{same_outside_wider}
 use Rattle.records.specs.RecordValue.{RecordValue}
@@ -15,13 +15,13 @@ use Rattle.records.specs.Spelling.{spelling}
 use Rattle.gate_log.specs.Group.{FitsGroup, spellings}
 use Rattle.gate_log.specs.Area.{Area, Log, InArea, InSlot, Stands, IsAppended}
 use Rattle.gate_log.proofs.Readings.{records_of_one_more, told_by_its_sectors}
-use Rattle.records.specs.declared.pair.Pair.{Pair}
+use Rattle.record_values.specs.declared.pair.Pair.{Pair}
 use Rattle.model.specs.declared.life.Life.{Life}
-use Rattle.image_half.proofs.PartByPart.{part_told}
+use Rattle.store_image_half.proofs.PartByPart.{part_told}
 use Rattle.flip_image.specs.declared.half.Half.{Half}
 use Rattle.flip_image.specs.Layout.{InHalf, InHalfImage}
 use Rattle.flip_image.proofs.Sides.{image_inside, log_inside, parts_apart}
-use Rattle.image_model.specs.Run.{Run, end_of, records_between}
+use Rattle.store_image_model.specs.Run.{Run, end_of, records_between}
 use Rattle.store_reader.specs.Contents.{log_area}
 use Rattle.store_writer.specs.declared.image.NewImage.{NewImage}
 use Rattle.store_writer.specs.declared.image.Stage.{Stage}
@@ -32,14 +32,14 @@ use Rattle.store_writer.proofs.Halves.{SameIn, in_from_outside, image_apart}
 
 -- ---- an append, seen from outside
 
-module _ (log : Log) (h : History) (all : IsSynced h.disk) (room : log.open_slots < log.area.slots) where
+module _ (log : Log) (h : DevicePast) (all : IsSynced h.disk) (room : log.open_slots < log.area.slots) where
   slot_in_area : (n : ℕ) → InSlot log.area log.open_slots n → InArea log.area n
   slot_in_area n slot = (omega (arith, slot.0), omega (arith, slot.1, room))
 
-  pub append_outside : (c : Image) → SameOutside (InSlot log.area log.open_slots) h.disk.content c → SameOutside (InArea log.area) h.disk.content c
+  pub append_outside : (c : CrashState) → SameOutside (InSlot log.area log.open_slots) h.disk.content c → SameOutside (InArea log.area) h.disk.content c
   append_outside c same = same_outside_wider _ (InArea log.area) h.disk.content c slot_in_area same
 
-  pub append_leaves : (new : History) (records : List RecordValue) → LeavesOnly h new (IsAppended log h.disk records)
+  pub append_leaves : (new : DevicePast) (records : List RecordValue) → LeavesOnly h new (IsAppended log h.disk records)
       → LeavesOnly h new (SameOutside (InArea log.area) h.disk.content)
   append_leaves new records run = weaker h new _ _ (λ c appended. same_outside_wider _ (InArea log.area) h.disk.content c
       (λ n either. ⊎_elim (λ slot. slot_in_area n slot) (λ unsynced. absurd (false≢true (sym (all n) ∙ unsynced))) either) appended.outside) run
@@ -60,7 +60,8 @@ last_fit group k fits less = record {
 -- ---- an image under way
 
 -- where the sectors of the half's image stay
-whole_apart : (run : Run) (half : Half) (image c : Image) → SameIn (InHalfImage run.geometry half) image c → (base to : ℕ) → IsImageWhole run half image base to
+whole_apart : (run : Run) (half : Half) (image c : CrashState) → SameIn (InHalfImage run.geometry half) image c → (base to : ℕ)
+    → IsImageWhole run half image base to
     → IsImageWhole run half c base to
 whole_apart run half image c same base to is = record {
   copied = is.copied;
@@ -68,7 +69,7 @@ whole_apart run half image c same base to is = record {
   copies = is.copies;
 }
 
-part_apart : (run : Run) (half : Half) (image c : Image) → SameIn (InHalfImage run.geometry half) image c
+part_apart : (run : Run) (half : Half) (image c : CrashState) → SameIn (InHalfImage run.geometry half) image c
     → (base to pages count : ℕ) (highest : Option Pair) (life : Life) → IsPart run half image base to pages count highest life
     → IsPart run half c base to pages count highest life
 part_apart run half image c same base to pages count highest life is = record {
@@ -82,12 +83,12 @@ part_apart run half image c same base to pages count highest life is = record {
   full = is.full;
 }
 
-pub content_apart : (run : Run) (half : Half) (image c : Image) → SameIn (InHalfImage run.geometry half) image c → (base to : ℕ) (stage : Stage)
+pub content_apart : (run : Run) (half : Half) (image c : CrashState) → SameIn (InHalfImage run.geometry half) image c → (base to : ℕ) (stage : Stage)
     → IsContent run half image base to stage → IsContent run half c base to stage
 content_apart run half image c same base to Whole is = whole_apart run half image c same base to is
 content_apart run half image c same base to (Partly pages count highest life) is = part_apart run half image c same base to pages count highest life is
 
-module _ (run : Run) (half : Half) (image c : Image) (synced : ℕ) (new : NewImage) (is : IsUnderway run half image synced new) where
+module _ (run : Run) (half : Half) (image c : CrashState) (synced : ℕ) (new : NewImage) (is : IsUnderway run half image synced new) where
   log_sector : (n : ℕ) → InArea new.log.area n → InArea (log_area run.geometry half) n
   log_sector n inside = subst (λ (a : Area). InArea a n) is.area-is inside
 
@@ -154,19 +155,19 @@ module _ (run : Run) (half : Half) (image c : Image) (synced : ℕ) (new : NewIm
 pub rest_is : (k : ℕ) (group : List RecordValue) → take (length group - k) (drop k group) ≡ drop k group
 rest_is k group = ap (λ n. take n (drop k group)) (sym (length-drop k group)) ∙ take-length (drop k group)
 
-pub if_underway_apart : (run : Run) (half : Half) (image c : Image) (synced : ℕ) (new : Option NewImage) → SameIn (InHalf run.geometry half) image c
+pub if_underway_apart : (run : Run) (half : Half) (image c : CrashState) (synced : ℕ) (new : Option NewImage) → SameIn (InHalf run.geometry half) image c
     → IfSome new (IsUnderway run half image synced) → IfSome new (IsUnderway run half c synced)
 if_underway_apart run half image c synced None same is = is
 if_underway_apart run half image c synced (Some new) same is = underway_apart run half image c synced new is same
 
 -- a sector of an image's log is one of its half
-pub new_log_in_half : (run : Run) (half : Half) (image : Image) (synced n : ℕ) (new : Option NewImage) → IfSome new (IsUnderway run half image synced)
+pub new_log_in_half : (run : Run) (half : Half) (image : CrashState) (synced n : ℕ) (new : Option NewImage) → IfSome new (IsUnderway run half image synced)
     → InNewLog new n → InHalf run.geometry half n
 new_log_in_half run half image synced n None is inside = absurd inside
 new_log_in_half run half image synced n (Some new) is inside = log_inside run.geometry half n (subst (λ (a : Area). InArea a n) is.area-is inside)
 
 -- no record of a group is above an image's base
-pub if_not_carried : (run : Run) (half : Half) (image : Image) (synced n : ℕ) (new : Option NewImage) → synced ≤ n
+pub if_not_carried : (run : Run) (half : Half) (image : CrashState) (synced n : ℕ) (new : Option NewImage) → synced ≤ n
     → ((i : NewImage) → new ≡ Some i → n ≤ i.base ⊎ (n ≡ synced)) → IfSome new (IsUnderway run half image synced) → IfSome new (IsUnderway run half image n)
 if_not_carried run half image synced n None rise below is = is
 if_not_carried run half image synced n (Some new) rise below is = ⊎_elim

@@ -2,22 +2,22 @@
 use Rattle.std.proofs.Common.{◌≡◌, ◌≢◌, ◌⊎◌, inl, inr, ⊎_elim, ℕ, ◌+◌, ◌<◌, ◌≤◌, Bool, true, false, List, [], ◌∷◌, ◌++◌, length, take, Option, IfSome, Result}
 use Rattle.std.proofs.Common.{Ok, OnOk, refl, sym, ap, subst, ◌∙◌, arith}
 use Rattle.records.specs.RecordValue.{RecordValue}
-use Rattle.records.specs.GeometryValue.{GeometryValue}
+use Rattle.record_values.specs.GeometryValue.{GeometryValue}
 use Rattle.model.specs.Cells.{Cells, cells_after}
 use Rattle.model.specs.Following.{AreFollowing}
-use Rattle.sector_device.specs.Disk.{Image, Disk, IsSynced, SameOutside}
-use Rattle.sector_device.specs.History.{History, LeavesOnly}
+use Rattle.sector_device.specs.Disk.{CrashState, Disk, IsSynced, SameOutside}
+use Rattle.sector_device.specs.DevicePast.{DevicePast, LeavesOnly}
 use Rattle.sector_device.proofs.Moments.{weaker, at_end}
 use Rattle.sector_device.proofs.Sectors.{same_outside_wider}
 use Rattle.gate_log.specs.Area.{Area, InArea, InSlot, IsAreaInside, HoldsGroups, Stands, IsAppended}
-use Rattle.records.specs.declared.version.Version.TheVariants.{Two}
+use Rattle.record_values.specs.declared.version.Version.TheVariants.{Two}
 use Rattle.gate_log.proofs.Readings.{stands_for}
 use Rattle.flip_image.specs.declared.half.Half.{Half}
 use Rattle.flip_image.specs.Layout.{HalvesValue, other, InHalf, InHalfImage, InLog}
 use Rattle.flip_image.specs.Store.{IsStore}
 use Rattle.flip_image.proofs.Sides.{behind_front, image_inside, log_inside, other_apart, parts_apart, store_in_front}
-use Rattle.image_model.specs.Run.{Run, cells_at, records_between}
-use Rattle.image_model.proofs.Runs.{reached}
+use Rattle.store_image_model.specs.Run.{Run, cells_at, records_between}
+use Rattle.store_image_model.proofs.Runs.{reached}
 use Rattle.store_reader.specs.Contents.{log_area}
 use Rattle.store_writer.specs.declared.writer.Writer.{Writer}
 use Rattle.store_writer.specs.Contents.{HalfHas, LeftBy}
@@ -33,10 +33,10 @@ pub not_true : (b : Bool) → ¬ (b ≡ true) → b ≡ false
 not_true true not = absurd (not refl)
 not_true false not = refl
 
-module _ {D M : Type 0} (history : D → History) (run : Run) (handed : ℕ) (old : Writer D M) (is : IsWriter history run handed old)
+module _ {D M : Type 0} (past_of : D → DevicePast) (run : Run) (handed : ℕ) (old : Writer D M) (is : IsWriter past_of run handed old)
     (sound : old.failed ≡ false) where
   abbrev disk : Disk
-  disk = (history old.device).disk
+  disk = (past_of old.device).disk
 
   abbrev g : GeometryValue
   g = run.geometry
@@ -44,7 +44,7 @@ module _ {D M : Type 0} (history : D → History) (run : Run) (handed : ℕ) (ol
   abbrev half : Half
   half = old.halves.current
 
-  pub stood : StandsFor history run old
+  pub stood : StandsFor past_of run old
   stood = is.holds sound
 
   pub all_synced : (n : ℕ) → InArea old.log.area n → disk.unsynced n ≡ false
@@ -101,7 +101,7 @@ module _ {D M : Type 0} (history : D → History) (run : Run) (handed : ℕ) (ol
     not_image n inside (inl log) = parts_apart g half n inside log
     not_image n inside (inr image) = other_apart g half n (image_inside g half n inside) (image_inside g (other half) n image)
 
-    module _ (c : Image) (same : SameOutside MayChange disk.content c) where
+    module _ (c : CrashState) (same : SameOutside MayChange disk.content c) where
       store_there : IsStore g half c
       store_there = store_in_front g half disk.content c same.sectors (λ n few. same.same n (λ may. omega (arith, few, not_front n may))) stood.store
 
@@ -134,24 +134,24 @@ module _ {D M : Type 0} (history : D → History) (run : Run) (handed : ℕ) (ol
           (record { half = half; store = store_there; has = has_more held })
 
     -- what a crash leaves of an append
-    pub left : (c : Image) → IsAppended old.log disk group c → LeftBy run old.synced handed c
+    pub left : (c : CrashState) → IsAppended old.log disk group c → LeftBy run old.synced handed c
     left c appended = ⊎_elim (left_without c same) (left_with c same old.synced (omega arith)) (appended.groups stood.has.groups stands)
       where
         same : SameOutside MayChange disk.content c
         same = same_outside_wider _ MayChange disk.content c (λ n either.
             ⊎_elim (λ slot. inl (in_log n slot)) (λ unsynced. inr (stood.loose n unsynced)) either) appended.outside
 
-    pub leaves : (new : History) → LeavesOnly (history old.device) new (IsAppended old.log disk group)
-        → LeavesOnly (history old.device) new (LeftBy run old.synced handed)
-    leaves new any_moment = weaker (history old.device) new (IsAppended old.log disk group) (LeftBy run old.synced handed) left any_moment
+    pub leaves : (new : DevicePast) → LeavesOnly (past_of old.device) new (IsAppended old.log disk group)
+        → LeavesOnly (past_of old.device) new (LeftBy run old.synced handed)
+    leaves new any_moment = weaker (past_of old.device) new (IsAppended old.log disk group) (LeftBy run old.synced handed) left any_moment
 
     -- after the append was done
     module _ (new : Writer D M) (halves_is : new.halves ≡ old.halves) (same_area : new.log.area ≡ old.log.area) (synced_is : new.synced ≡ old.synced)
         (waiting_is : new.waiting.items ≡ old.waiting.items) (image_is : new.image ≡ old.image)
-        (slot : SameOutside (InSlot old.log.area old.log.open_slots) disk.content (history new.device).disk.content)
-        (stands_new : Stands new.log (history new.device).disk.content (stood.has.groups ++ group ∷ [])) (all : IsSynced (history new.device).disk) where
-      abbrev content : Image
-      content = (history new.device).disk.content
+        (slot : SameOutside (InSlot old.log.area old.log.open_slots) disk.content (past_of new.device).disk.content)
+        (stands_new : Stands new.log (past_of new.device).disk.content (stood.has.groups ++ group ∷ [])) (all : IsSynced (past_of new.device).disk) where
+      abbrev content : CrashState
+      content = (past_of new.device).disk.content
 
       outside : SameOutside MayChange disk.content content
       outside = same_outside_wider _ MayChange disk.content content (λ n inside. inl (in_log n inside)) slot
@@ -166,7 +166,7 @@ module _ {D M : Type 0} (history : D → History) (run : Run) (handed : ℕ) (ol
       image_kept : IfSome old.image (IsUnderway run (other half) content old.synced)
       image_kept = if_underway_apart run (other half) disk.content content old.synced old.image other_kept stood.image
 
-      pub has_appended : HasAppended history run handed count new
+      pub has_appended : HasAppended past_of run handed count new
       has_appended = record {
         run-is = is.run-is;
         geometry-is = ap (λ (h : HalvesValue). h.geometry) halves_is ∙ is.geometry-is;
@@ -189,9 +189,9 @@ module _ {D M : Type 0} (history : D → History) (run : Run) (handed : ℕ) (ol
       }
 
 -- after a call that left records and numbers alone
-module _ {D M : Type 0} (history : D → History) (run : Run) (handed : ℕ) (old new : Writer D M) (is : IsWriter history run handed old) where
-  pub carried_on : new.halves ≡ old.halves → new.synced ≡ old.synced → new.waiting.items ≡ old.waiting.items → (new.failed ≡ false → StandsFor history run new)
-      → LeavesOnly (history old.device) (history new.device) (LeftBy run old.synced handed) → IsWriter history run handed new
+module _ {D M : Type 0} (past_of : D → DevicePast) (run : Run) (handed : ℕ) (old new : Writer D M) (is : IsWriter past_of run handed old) where
+  pub carried_on : new.halves ≡ old.halves → new.synced ≡ old.synced → new.waiting.items ≡ old.waiting.items → (new.failed ≡ false → StandsFor past_of run new)
+      → LeavesOnly (past_of old.device) (past_of new.device) (LeftBy run old.synced handed) → IsWriter past_of run handed new
   carried_on halves_is synced_is waiting_is holds left = record {
     run-is = is.run-is;
     geometry-is = ap (λ (h : HalvesValue). h.geometry) halves_is ∙ is.geometry-is;
@@ -202,7 +202,7 @@ module _ {D M : Type 0} (history : D → History) (run : Run) (handed : ℕ) (ol
     waits = waiting_is ∙ is.waits ∙ ap (λ n. records_between run n handed) (sym synced_is);
     holds = holds;
     images = λ image crash. subst (λ n. LeftBy run n handed image) (sym synced_is)
-        (at_end (history old.device) (history new.device) (LeftBy run old.synced handed) left image crash);
+        (at_end (past_of old.device) (past_of new.device) (LeftBy run old.synced handed) left image crash);
   }
 
 pub on_ok_at : {T E P : Type 0} {x : T} (r : Result T E) → r ≡ Ok x → OnOk r P → P

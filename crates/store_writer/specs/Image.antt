@@ -1,22 +1,22 @@
 -- An image under way in the half that isn't current.
 use Rattle.std.specs.Prelude.{◌≡◌, ℕ, ◌+◌, ◌-◌, ◌/◌, ◌%◌, ◌≤◌, ◌<◌, max, List, length, drop, Option, Some, None}
 use Rattle.std.specs.FinMap as map
-use Rattle.sector_device.specs.Disk.{Image}
+use Rattle.sector_device.specs.Disk.{CrashState}
 use Rattle.records.specs.RecordValue.{RecordValue}
-use Rattle.records.specs.declared.pair.Pair.{Pair}
-use Rattle.records.specs.declared.geometry.TheConstants.{ENTRIES_PER_SECTOR}
+use Rattle.record_values.specs.declared.pair.Pair.{Pair}
+use Rattle.record_values.specs.declared.geometry.TheConstants.{ENTRIES_PER_SECTOR}
 use Rattle.model.specs.Cells.{Cells}
 use Rattle.model.specs.Inside.{AreInside}
 use Rattle.model.specs.Table.{Table, Index}
 use Rattle.model.specs.declared.life.Life.{Life}
 use Rattle.gate_log.specs.Area.{InArea, InSlot, Stands, records_of}
 use Rattle.gate_log.specs.Group.{IsGroup}
-use Rattle.image_half.specs.Part.{IsImagePart}
+use Rattle.store_image_half.specs.Part.{IsImagePart}
 use Rattle.flip_image.specs.declared.half.Half.{Half}
 use Rattle.flip_image.specs.Layout.{header_sector}
 use Rattle.flip_image.specs.Store.{HoldsImage}
-use Rattle.image_model.specs.Partly.{IsPartlyCopied}
-use Rattle.image_model.specs.Run.{Run, IsCopiedFrom, end_of, cells_at, records_above, records_between}
+use Rattle.store_image_model.specs.Partly.{IsPartlyCopied}
+use Rattle.store_image_model.specs.Run.{Run, IsCopiedFrom, end_of, cells_at, records_above, records_between}
 use Rattle.store_reader.specs.Contents.{log_area}
 use Rattle.store_writer.specs.declared.image.NewImage.{NewImage}
 use Rattle.store_writer.specs.declared.image.Stage.{Stage}
@@ -29,7 +29,7 @@ abbrev pub reach : NewImage → ℕ → ℕ
 reach image synced = max image.base synced
 
 -- The half holds an image, whose cells were copied from the record `base` on up to the record `to`.
-pub record IsImageWhole (run : Run) (half : Half) (image : Image) (base to : ℕ) : Type 0 where
+pub record IsImageWhole (run : Run) (half : Half) (image : CrashState) (base to : ℕ) : Type 0 where
   pub copied : Cells
   pub imaged : HoldsImage run.geometry half image base copied
   pub copies : IsCopiedFrom run base to copied
@@ -37,7 +37,7 @@ pub record IsImageWhole (run : Run) (half : Half) (image : Image) (base to : ℕ
 -- The half holds a part of an image that was begun at the record `base`: its lists, and the life at the base. The rows
 -- of the first pages are as they were at some records from `base` to `to`, and so are the first entries: as many as
 -- counted, which fill their sectors, and all up to the highest pair.
-pub record IsPart (run : Run) (half : Half) (image : Image) (base to pages count : ℕ) (highest : Option Pair)
+pub record IsPart (run : Run) (half : Half) (image : CrashState) (base to pages count : ℕ) (highest : Option Pair)
     (life : Life) : Type 0 where
   pub rows : Table
   pub entries : Index
@@ -50,13 +50,13 @@ pub record IsPart (run : Run) (half : Half) (image : Image) (base to pages count
   pub full : count % ENTRIES_PER_SECTOR ≡ 0
 
 -- what the half holds of an image at a stage
-abbrev pub IsContent : Run → Half → Image → (base to : ℕ) → Stage → Type 0
+abbrev pub IsContent : Run → Half → CrashState → (base to : ℕ) → Stage → Type 0
 IsContent run half image base to Whole = IsImageWhole run half image base to
 IsContent run half image base to (Partly pages count highest life) =
     IsPart run half image base to pages count highest life
 
 -- The image is in this half, and the half's log has the records above its base that are synced.
-pub record IsUnderway (run : Run) (half : Half) (image : Image) (synced : ℕ) (new : NewImage) : Type 0 where
+pub record IsUnderway (run : Run) (half : Half) (image : CrashState) (synced : ℕ) (new : NewImage) : Type 0 where
   pub low : run.last ≤ new.base
   pub rise : new.base ≤ new.number
   pub made : new.number ≤ end_of run

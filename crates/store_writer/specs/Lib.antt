@@ -1,4 +1,5 @@
 pub mod Contents
+pub mod Copying
 pub mod Image
 pub mod Parts
 pub mod Places

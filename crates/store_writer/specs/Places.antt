@@ -1,20 +1,20 @@
 -- How far an image that is copied in steps has come.
 use Rattle.std.specs.Prelude.{◌≡◌, ℕ, ◌-◌, ◌<◌, ◌≤◌, List, length, Option, Some, None, slice_get}
 use Rattle.std.specs.FinMap as map
-use Rattle.records.specs.Values.{Place}
-use Rattle.records.specs.declared.rid.TheConstants.{SLOTS_PER_PAGE}
-use Rattle.records.specs.declared.row.Row.{Row}
-use Rattle.records.specs.declared.pair.Pair.{Pair}
-use Rattle.records.specs.declared.pair.Mark.{Mark}
+use Rattle.record_values.specs.Values.{Place}
+use Rattle.record_values.specs.declared.rid.TheConstants.{SLOTS_PER_PAGE}
+use Rattle.record_values.specs.declared.row.Row.{Row}
+use Rattle.record_values.specs.declared.pair.Pair.{Pair}
+use Rattle.record_values.specs.declared.pair.Mark.{Mark}
 use Rattle.model.specs.declared.life.Life.{Life}
 use Rattle.model.specs.Table.{Table, Index}
-use Rattle.image_model.specs.Run.{Run, end_of, cells_at}
-use Rattle.image_model.specs.Partly.{ArePageRows, AreNextEntries, AreLastEntries}
-use Rattle.image_model.specs.declared.chunk.TheConstants.{CHUNK_ENTRIES}
-use Rattle.image_model.specs.declared.chunk.CopyPlace.{CopyPlace}
-use Rattle.image_model.specs.declared.chunk.CopyPlace.TheVariants as at
-use Rattle.image_model.specs.declared.chunk.Piece.{Piece}
-use Rattle.image_model.specs.declared.chunk.Piece.TheVariants.{Whole, Start, Page, Entries}
+use Rattle.store_image_model.specs.Run.{Run, end_of, cells_at}
+use Rattle.store_image_model.specs.Partly.{ArePageRows, AreNextEntries, AreLastEntries}
+use Rattle.store_image_model.specs.declared.chunk.TheConstants.{CHUNK_ENTRIES}
+use Rattle.store_image_model.specs.declared.chunk.CopyPlace.{CopyPlace}
+use Rattle.store_image_model.specs.declared.chunk.CopyPlace.TheVariants as at
+use Rattle.store_image_model.specs.declared.chunk.Piece.{Piece}
+use Rattle.store_image_model.specs.declared.chunk.Piece.TheVariants.{Whole, Start, Page, Entries}
 use Rattle.store_writer.specs.declared.image.NewImage.{NewImage}
 use Rattle.store_writer.specs.declared.image.Stage.TheVariants as stage
 

@@ -3,43 +3,43 @@ use Rattle.std.specs.Prelude.{◌≡◌, ◌≢◌, ◌⊎◌, ℕ, ◌+◌, ◌
 use Rattle.std.specs.Prelude.{Option, Some, None, IfSome, slice_get}
 use Rattle.std.specs.Option.{option_map_or}
 use Rattle.std.specs.FinMap as map
-use Rattle.sector_device.specs.Disk.{Image, IsSynced, IsCrashImage, SameOutside}
-use Rattle.sector_device.specs.History.{History, LeavesOnly, Rises}
+use Rattle.sector_device.specs.Disk.{CrashState, IsSynced, IsCrashState, SameOutside}
+use Rattle.sector_device.specs.DevicePast.{DevicePast, LeavesOnly, Rises}
 use Rattle.records.specs.RecordValue.{RecordValue}
-use Rattle.records.specs.declared.number.TheConstants.{LAST_NUMBER}
-use Rattle.records.specs.declared.error.Error.{Error}
-use Rattle.records.specs.declared.error.Error.TheVariants.{NoMemory, DeviceFailed}
+use Rattle.record_values.specs.declared.number.TheConstants.{LAST_NUMBER}
+use Rattle.record_values.specs.declared.error.Error.{Error}
+use Rattle.record_values.specs.declared.error.Error.TheVariants.{NoMemory, DeviceFailed}
 use Rattle.model.specs.Cells.{Cells, Pending, list_of}
 use Rattle.model.specs.Inside.{AreInside}
 use Rattle.model.specs.Table.{Table, Index}
 use Rattle.model.specs.declared.life.Life.{Life}
-use Rattle.records.specs.Values.{Place}
-use Rattle.records.specs.declared.rid.TheConstants.{SLOTS_PER_PAGE}
-use Rattle.records.specs.declared.row.Row.{Row}
-use Rattle.records.specs.declared.pair.Pair.{Pair}
-use Rattle.records.specs.declared.pair.Mark.{Mark}
-use Rattle.image_model.specs.Partly.{ArePageRows, AreNextEntries, AreLastEntries}
+use Rattle.record_values.specs.Values.{Place}
+use Rattle.record_values.specs.declared.rid.TheConstants.{SLOTS_PER_PAGE}
+use Rattle.record_values.specs.declared.row.Row.{Row}
+use Rattle.record_values.specs.declared.pair.Pair.{Pair}
+use Rattle.record_values.specs.declared.pair.Mark.{Mark}
+use Rattle.store_image_model.specs.Partly.{ArePageRows, AreNextEntries, AreLastEntries}
 use Rattle.model.specs.Following.{ArePlaced}
 use Rattle.gate_log.specs.Area.{InSlot, Log, Stands}
 use Rattle.gate_log.specs.Group.{FitsGroup, spellings}
 use Rattle.gate_log.specs.declared.group.TheConstants.{GROUP_MAX}
 use Rattle.flip_image.specs.Layout.{HalvesValue, other, InHalfImage, InLog}
 use Rattle.flip_image.specs.Store.{IsStore}
-use Rattle.image_model.specs.Run.{Run, IsRun, end_of, cells_at, records_between}
+use Rattle.store_image_model.specs.Run.{Run, IsRun, end_of, cells_at, records_between}
 use Rattle.store_reader.specs.Contents.{log_area}
 use Rattle.store_writer.specs.declared.writer.Writer.{Writer}
 use Rattle.store_writer.specs.declared.writer.FlushReply.{FlushReply}
 use Rattle.store_writer.specs.declared.writer.FlushReply.TheVariants.{Flushed, Nothing, LogFull}
 use Rattle.store_writer.specs.Contents.{HalfHas, LeftBy}
-use Rattle.image_half.specs.Source.{FitsImage}
+use Rattle.store_image_half.specs.Source.{FitsImage}
 use Rattle.store_writer.specs.declared.image.NewImage.{NewImage}
 use Rattle.store_writer.specs.declared.image.Stage.{Stage}
 use Rattle.store_writer.specs.declared.image.Stage.TheVariants as stage
 use Rattle.store_writer.specs.declared.writer.StepReply.{StepReply}
 use Rattle.store_writer.specs.declared.writer.StepReply.TheVariants.{Taken, StartAgain}
-use Rattle.image_model.specs.declared.chunk.TheConstants.{CHUNK_ENTRIES}
-use Rattle.image_model.specs.declared.chunk.Piece.{Piece}
-use Rattle.image_model.specs.declared.chunk.Piece.TheVariants.{Whole, Start, Page, Entries}
+use Rattle.store_image_model.specs.declared.chunk.TheConstants.{CHUNK_ENTRIES}
+use Rattle.store_image_model.specs.declared.chunk.Piece.{Piece}
+use Rattle.store_image_model.specs.declared.chunk.Piece.TheVariants.{Whole, Start, Page, Entries}
 use Rattle.model.specs.Redo.{cells_of}
 use Rattle.store_writer.specs.declared.writer.FlipReply.{FlipReply}
 use Rattle.store_writer.specs.declared.writer.FlipReply.TheVariants.{Flipped, Behind}
@@ -47,18 +47,18 @@ use Rattle.store_writer.specs.Image.{InNewSlot, IsUnderway, reach}
 
 -- ---- what it stands for
 
-module _ {D M : Type 0} (history : D → History) (run : Run) where
+module _ {D M : Type 0} (past_of : D → DevicePast) (run : Run) where
   -- The current half has the cells after the last synced record, and the log knows its open slots. No sector is
   -- unsynced but of the other half's image, and an image under way is in that half.
   pub record StandsFor (w : Writer D M) : Type 0 where
-    pub store : IsStore run.geometry w.halves.current (history w.device).disk.content
-    pub has : HalfHas run.geometry w.halves.current (history w.device).disk.content w.synced (cells_at run w.synced)
+    pub store : IsStore run.geometry w.halves.current (past_of w.device).disk.content
+    pub has : HalfHas run.geometry w.halves.current (past_of w.device).disk.content w.synced (cells_at run w.synced)
     pub area-is : w.log.area ≡ log_area run.geometry w.halves.current
     pub groups : List (List RecordValue)
-    pub stands : Stands w.log (history w.device).disk.content groups
-    pub loose : (n : ℕ) → (history w.device).disk.unsynced n ≡ true
+    pub stands : Stands w.log (past_of w.device).disk.content groups
+    pub loose : (n : ℕ) → (past_of w.device).disk.unsynced n ≡ true
         → InHalfImage run.geometry (other w.halves.current) n
-    pub image : IfSome w.image (IsUnderway run (other w.halves.current) (history w.device).disk.content w.synced)
+    pub image : IfSome w.image (IsUnderway run (other w.halves.current) (past_of w.device).disk.content w.synced)
 
   -- The records of the run up to number `handed` were handed in. The device stands for those up to the last synced one,
   -- unless it failed, and the others wait. A crash now leaves the cells after one of them, no earlier than the last
@@ -72,11 +72,11 @@ module _ {D M : Type 0} (history : D → History) (run : Run) where
     pub small : handed ≤ LAST_NUMBER
     pub waits : w.waiting.items ≡ records_between run w.synced handed
     pub holds : w.failed ≡ false → StandsFor w
-    pub images : (image : Image) → IsCrashImage (history w.device).disk image → LeftBy run w.synced handed image
+    pub images : (image : CrashState) → IsCrashState (past_of w.device).disk image → LeftBy run w.synced handed image
 
 -- The first `count` waiting records are in the log of the current half, synced, and the writer doesn't count them yet.
 -- (No public clause cites this.)
-module _ {D M : Type 0} (history : D → History) (run : Run) where
+module _ {D M : Type 0} (past_of : D → DevicePast) (run : Run) where
   pub record HasAppended (handed count : ℕ) (w : Writer D M) : Type 0 where
     pub run-is : IsRun run
     pub geometry-is : w.halves.geometry ≡ run.geometry
@@ -85,18 +85,18 @@ module _ {D M : Type 0} (history : D → History) (run : Run) where
     pub small : handed ≤ LAST_NUMBER
     pub within : w.synced + count ≤ handed
     pub waits : w.waiting.items ≡ records_between run w.synced handed
-    pub store : IsStore run.geometry w.halves.current (history w.device).disk.content
-    pub has : HalfHas run.geometry w.halves.current (history w.device).disk.content (w.synced + count)
+    pub store : IsStore run.geometry w.halves.current (past_of w.device).disk.content
+    pub has : HalfHas run.geometry w.halves.current (past_of w.device).disk.content (w.synced + count)
         (cells_at run (w.synced + count))
     pub area-is : w.log.area ≡ log_area run.geometry w.halves.current
     pub groups : List (List RecordValue)
-    pub stands : Stands w.log (history w.device).disk.content groups
-    pub all_synced : IsSynced (history w.device).disk
-    pub image : IfSome w.image (IsUnderway run (other w.halves.current) (history w.device).disk.content w.synced)
+    pub stands : Stands w.log (past_of w.device).disk.content groups
+    pub all_synced : IsSynced (past_of w.device).disk
+    pub image : IfSome w.image (IsUnderway run (other w.halves.current) (past_of w.device).disk.content w.synced)
 
 -- some records of some run were handed in
-abbrev pub IsSomewhere : {D M : Type 0} → (D → History) → Writer D M → Type 0
-IsSomewhere history w = (run : Run) × (handed : ℕ) × IsWriter history run handed w
+abbrev pub IsSomewhere : {D M : Type 0} → (D → DevicePast) → Writer D M → Type 0
+IsSomewhere past_of w = (run : Run) × (handed : ℕ) × IsWriter past_of run handed w
 
 -- ---- how it begins, and goes on
 
@@ -106,7 +106,7 @@ opened_run halves last cells = record { geometry = halves.geometry; last = last;
 
 -- The disk is synced, and the current half of the store has these cells after record `last`. The log knows its open
 -- slots.
-pub record IsOpenedAt (now : History) (halves : HalvesValue) (log : Log) (last : ℕ) (cells : Cells) : Type 0 where
+pub record IsOpenedAt (now : DevicePast) (halves : HalvesValue) (log : Log) (last : ℕ) (cells : Cells) : Type 0 where
   pub store : IsStore halves.geometry halves.current now.disk.content
   pub has : HalfHas halves.geometry halves.current now.disk.content last cells
   pub area-is : log.area ≡ log_area halves.geometry halves.current
@@ -141,23 +141,23 @@ InOpenedSlots w n = InSlot w.log.area w.log.open_slots n ⊎ InNewSlot w.image n
 -- Only these logs were written, and they lie where they lay. Each other sector holds what it held before the call, and
 -- so it does after a crash at any moment of the call, if it was synced before. One that was not, such as one of an
 -- image under way, may hold anything after a crash, as it might before.
-pub record WritesLogsAlone {D M : Type 0} (history : D → History) (old new : Writer D M) : Type 0 where
+pub record WritesLogsAlone {D M : Type 0} (past_of : D → DevicePast) (old new : Writer D M) : Type 0 where
   pub halves-are : new.halves ≡ old.halves
   pub area-is : new.log.area ≡ old.log.area
   pub none-begun : old.image ≡ None → new.image ≡ None
-  pub now : SameOutside (InLogs old) (history old.device).disk.content (history new.device).disk.content
-  pub images : LeavesOnly (history old.device) (history new.device)
-      (SameOutside (λ n. InLogs old n ⊎ ((history old.device).disk.unsynced n ≡ true))
-      (history old.device).disk.content)
+  pub now : SameOutside (InLogs old) (past_of old.device).disk.content (past_of new.device).disk.content
+  pub images : LeavesOnly (past_of old.device) (past_of new.device)
+      (SameOutside (λ n. InLogs old n ⊎ ((past_of old.device).disk.unsynced n ≡ true))
+      (past_of old.device).disk.content)
 
 -- ---- what a call writes
 
 -- Of these sectors alone one was written. Each other sector holds what it held before the call, and so it does after a
 -- crash at any moment of the call, if it was synced before.
-pub record WritesOnly {D : Type 0} (history : D → History) (sectors : ℕ → Type 0) (old new : D) : Type 0 where
-  pub now : SameOutside sectors (history old).disk.content (history new).disk.content
-  pub images : LeavesOnly (history old) (history new)
-      (SameOutside (λ n. sectors n ⊎ ((history old).disk.unsynced n ≡ true)) (history old).disk.content)
+pub record WritesOnly {D : Type 0} (past_of : D → DevicePast) (sectors : ℕ → Type 0) (old new : D) : Type 0 where
+  pub now : SameOutside sectors (past_of old).disk.content (past_of new).disk.content
+  pub images : LeavesOnly (past_of old) (past_of new)
+      (SameOutside (λ n. sectors n ⊎ ((past_of old).disk.unsynced n ≡ true)) (past_of old).disk.content)
 
 -- ---- what a call leaves that didn't succeed
 

@@ -3,13 +3,13 @@ ghost use Rattle.std.specs.Prelude.{◌≡◌, ◌⊎◌, ◌+◌, ◌%◌, ◌^
 ghost use Rattle.std.specs.Prelude.{IfSome, length, slice_get, true, OnOk, OnErr, IfOk, IfErr};
 ghost use Rattle.std.specs.FinMap as map;
 ghost use Rattle.sector_device.specs.Disk.{IsSynced, sector, SameOutside};
-ghost use Rattle.sector_device.specs.History.{LeavesOnly, RunsWithin, CountsFailure};
+ghost use Rattle.sector_device.specs.DevicePast.{LeavesOnly, RunsWithin, CountsFailure};
 ghost use Rattle.records.specs.RecordValue.{RecordValue};
-ghost use Rattle.records.specs.GeometryValue.{sectors_of};
-ghost use Rattle.records.specs.declared.number.TheConstants.{LAST_NUMBER};
-ghost use Rattle.records.specs.declared.pair.Pair.{Pair as PairValue};
-ghost use Rattle.records.specs.declared.pair.Mark.{Mark as MarkValue};
-ghost use Rattle.records.specs.declared.geometry.TheConstants.{ENTRIES_PER_SECTOR};
+ghost use Rattle.record_values.specs.GeometryValue.{sectors_of};
+ghost use Rattle.record_values.specs.declared.number.TheConstants.{LAST_NUMBER};
+ghost use Rattle.record_values.specs.declared.pair.Pair.{Pair as PairValue};
+ghost use Rattle.record_values.specs.declared.pair.Mark.{Mark as MarkValue};
+ghost use Rattle.record_values.specs.declared.geometry.TheConstants.{ENTRIES_PER_SECTOR};
 ghost use Rattle.model.specs.Cells.{Cells};
 ghost use Rattle.model.specs.Table.{Index};
 ghost use Rattle.model.specs.declared.life.Life.TheVariants.{Building};
@@ -17,14 +17,14 @@ ghost use Rattle.model.specs.declared.life.Life.{Life as LifeValue};
 ghost use Rattle.model.specs.Redo.{cells_of};
 ghost use Rattle.gate_log.specs.Group.{FitsGroup};
 ghost use Rattle.gate_log.specs.Area.{IsAreaInside, IsGate, Stands};
-ghost use Rattle.image_half.specs.Part.{IsImagePart};
-ghost use Rattle.image_half.specs.Source.{FitsImage};
+ghost use Rattle.store_image_half.specs.Part.{IsImagePart};
+ghost use Rattle.store_image_half.specs.Source.{FitsImage};
 ghost use Rattle.flip_image.specs.declared.half.Half.{Half};
 ghost use Rattle.flip_image.specs.Layout.{other, header_sector, InHalf, InHalfImage};
 ghost use Rattle.flip_image.specs.declared.half.TheConstants.{FLIP_SECTOR};
 ghost use Rattle.flip_image.specs.Store.{Names, HoldsImage};
-ghost use Rattle.image_model.specs.Run.{Run, end_of, records_between};
-ghost use Rattle.image_model.specs.declared.chunk.TheConstants.{CHUNK_ENTRIES};
+ghost use Rattle.store_image_model.specs.Run.{Run, end_of, records_between};
+ghost use Rattle.store_image_model.specs.declared.chunk.TheConstants.{CHUNK_ENTRIES};
 ghost use Rattle.store_reader.specs.Contents.{log_area};
 ghost use Rattle.store_writer.specs.declared.image.Stage.TheVariants.{Partly};
 ghost use Rattle.store_writer.specs.Image.{IsUnderway, InNewLog, InNewSlot, IsPlan, BecomesImage};
@@ -33,12 +33,12 @@ ghost use Rattle.store_writer.specs.Writer.{stage_behind};
 
 use flip_image::Halves;
 use gate_log::{Appended, LogArea, spell};
-use image_model::CHUNK_ENTRIES;
-use image_parts::Header;
 use model::{CellMaps, EntryMap, Life, ListMap, RowMap};
 use records::{Error, Geometry, Mark, Pair, Record};
 use sector_device::{Device, Failed};
 use std::alloc::Allocator;
+use store_image_model::CHUNK_ENTRIES;
+use store_image_parts::Header;
 
 /// How much of an image there is.
 #[derive(Clone, Copy, Debug)]
@@ -113,28 +113,28 @@ pub(crate) fn carry<D: Device, A: Allocator>(
     plan: Plan<A>,
 ) -> Result<Option<NewImage>, Failed>
     requires planned { (slots synced : ℕ) × (group : List RecordValue) × IsPlan image slots synced group plan }
-    requires inside { (i : NewImage) → image ≡ Some i → IsAreaInside i.log.area (D.history device.old).disk.content }
+    requires inside { (i : NewImage) → image ≡ Some i → IsAreaInside i.log.area (D.past_of device.old).disk.content }
     requires room { (i : NewImage) → image ≡ Some i → i.log.open_slots ≤ i.log.area.slots }
-    requires synced { IsSynced (D.history device.old).disk }
+    requires synced { IsSynced (D.past_of device.old).disk }
     requires stands { (i : NewImage) → image ≡ Some i → (groups : List (List RecordValue))
-        × Stands i.log (D.history device.old).disk.content groups }
+        × Stands i.log (D.past_of device.old).disk.content groups }
     ensures carried { IfOk result (λ new. (slots synced : ℕ) (group : List RecordValue)
         → IsPlan image slots synced group plan
-        → (run : Run) (half : Half) → IfSome image (IsUnderway run half (D.history device.old).disk.content synced)
+        → (run : Run) (half : Half) → IfSome image (IsUnderway run half (D.past_of device.old).disk.content synced)
         → run.last ≤ synced → synced + length group ≤ end_of run
         → group ≡ records_between run synced (synced + length group)
-        → IfSome new (IsUnderway run half (D.history device.new).disk.content (synced + length group))) }
+        → IfSome new (IsUnderway run half (D.past_of device.new).disk.content (synced + length group))) }
     ensures becomes { IfOk result (λ new. (slots synced : ℕ) (group : List RecordValue)
         → IsPlan image slots synced group plan
-        → (run : Run) (half : Half) → IfSome image (IsUnderway run half (D.history device.old).disk.content synced)
+        → (run : Run) (half : Half) → IfSome image (IsUnderway run half (D.past_of device.old).disk.content synced)
         → slots ≡ run.geometry.slots → 0 < length group → BecomesImage slots synced (length group) image new) }
     ensures none { IfOk result (λ new. image ≡ None → new ≡ None) }
-    ensures synced { OnOk result (IsSynced (D.history device.new).disk) }
-    ensures outside { SameOutside (InNewLog image) (D.history device.old).disk.content
-        (D.history device.new).disk.content }
-    ensures any_moment { LeavesOnly (D.history device.old) (D.history device.new)
-        (SameOutside (InNewLog image) (D.history device.old).disk.content) }
-    ensures slot { WritesOnly D.history (InNewSlot image) device.old device.new }
+    ensures synced { OnOk result (IsSynced (D.past_of device.new).disk) }
+    ensures outside { SameOutside (InNewLog image) (D.past_of device.old).disk.content
+        (D.past_of device.new).disk.content }
+    ensures any_moment { LeavesOnly (D.past_of device.old) (D.past_of device.new)
+        (SameOutside (InNewLog image) (D.past_of device.old).disk.content) }
+    ensures slot { WritesOnly D.past_of (InNewSlot image) device.old device.new }
     ensures counts { CountsFailure (D.failures device.old) (D.failures device.new) result }
     ensures keeps { image ≡ None → OnErr result ⊥ }
 {
@@ -155,15 +155,15 @@ pub(crate) fn carry<D: Device, A: Allocator>(
 
 // Closes the gates of the half that isn't current, and syncs. The answer is that half's log.
 fn closed_log<D: Device>(device: &mut D, halves: Halves) -> Result<LogArea, Failed>
-    requires room { sectors_of halves.geometry ≤ length (D.history device.old).disk.content }
+    requires room { sectors_of halves.geometry ≤ length (D.past_of device.old).disk.content }
     ensures area { IfOk result (λ log. log.area ≡ log_area halves.geometry (other halves.current)) }
-    ensures empty { IfOk result (λ log. Stands log (D.history device.new).disk.content []) }
-    ensures synced { OnOk result (IsSynced (D.history device.new).disk) }
+    ensures empty { IfOk result (λ log. Stands log (D.past_of device.new).disk.content []) }
+    ensures synced { OnOk result (IsSynced (D.past_of device.new).disk) }
     ensures outside { SameOutside (IsGate (log_area halves.geometry (other halves.current)))
-        (D.history device.old).disk.content (D.history device.new).disk.content }
-    ensures any_moment { LeavesOnly (D.history device.old) (D.history device.new)
+        (D.past_of device.old).disk.content (D.past_of device.new).disk.content }
+    ensures any_moment { LeavesOnly (D.past_of device.old) (D.past_of device.new)
         (SameOutside (λ n. IsGate (log_area halves.geometry (other halves.current)) n
-        ⊎ ((D.history device.old).disk.unsynced n ≡ true)) (D.history device.old).disk.content) }
+        ⊎ ((D.past_of device.old).disk.unsynced n ≡ true)) (D.past_of device.old).disk.content) }
     ensures counts { CountsFailure (D.failures device.old) (D.failures device.new) result }
 {
     let half = halves.current().other();
@@ -184,22 +184,22 @@ pub fn write_whole<D: Device, A: Allocator + Copy>(
     base: u64,
     cells: &CellMaps<A>,
 ) -> Result<LogArea, Failed>
-    requires room { sectors_of halves.geometry ≤ length (D.history device.old).disk.content }
-    requires current { Names (sector (D.history device.old).disk.content FLIP_SECTOR) halves.current }
+    requires room { sectors_of halves.geometry ≤ length (D.past_of device.old).disk.content }
+    requires current { Names (sector (D.past_of device.old).disk.content FLIP_SECTOR) halves.current }
     requires number { base ≤ LAST_NUMBER }
     requires fits { FitsImage halves.geometry (cells_of cells.now) }
-    requires loose { (n : ℕ) → (D.history device.old).disk.unsynced n ≡ true
+    requires loose { (n : ℕ) → (D.past_of device.old).disk.unsynced n ≡ true
         → InHalfImage halves.geometry (other halves.current) n }
     ensures written { OnOk result (HoldsImage halves.geometry (other halves.current)
-        (D.history device.new).disk.content base (cells_of cells.now)) }
+        (D.past_of device.new).disk.content base (cells_of cells.now)) }
     ensures area { IfOk result (λ log. log.area ≡ log_area halves.geometry (other halves.current)) }
-    ensures empty { IfOk result (λ log. Stands log (D.history device.new).disk.content []) }
-    ensures loose { OnOk result ((n : ℕ) → (D.history device.new).disk.unsynced n ≡ true
+    ensures empty { IfOk result (λ log. Stands log (D.past_of device.new).disk.content []) }
+    ensures loose { OnOk result ((n : ℕ) → (D.past_of device.new).disk.unsynced n ≡ true
         → InHalfImage halves.geometry (other halves.current) n) }
-    ensures outside { SameOutside (InHalf halves.geometry (other halves.current)) (D.history device.old).disk.content
-        (D.history device.new).disk.content }
-    ensures any_moment { LeavesOnly (D.history device.old) (D.history device.new)
-        (SameOutside (InHalf halves.geometry (other halves.current)) (D.history device.old).disk.content) }
+    ensures outside { SameOutside (InHalf halves.geometry (other halves.current)) (D.past_of device.old).disk.content
+        (D.past_of device.new).disk.content }
+    ensures any_moment { LeavesOnly (D.past_of device.old) (D.past_of device.new)
+        (SameOutside (InHalf halves.geometry (other halves.current)) (D.past_of device.old).disk.content) }
     ensures counts { CountsFailure (D.failures device.old) (D.failures device.new) result }
 {
     let log = closed_log(device, halves)?;
@@ -214,21 +214,21 @@ pub(crate) fn write_first<D: Device, A: Allocator + Copy>(
     halves: Halves,
     cells: &CellMaps<A>,
 ) -> Result<LogArea, Failed>
-    requires room { sectors_of halves.geometry ≤ length (D.history device.old).disk.content }
-    requires current { Names (sector (D.history device.old).disk.content FLIP_SECTOR) halves.current }
+    requires room { sectors_of halves.geometry ≤ length (D.past_of device.old).disk.content }
+    requires current { Names (sector (D.past_of device.old).disk.content FLIP_SECTOR) halves.current }
     requires fits { FitsImage halves.geometry (cells_of cells.now) }
-    requires loose { (n : ℕ) → (D.history device.old).disk.unsynced n ≡ true
+    requires loose { (n : ℕ) → (D.past_of device.old).disk.unsynced n ≡ true
         → InHalfImage halves.geometry (other halves.current) n }
     ensures written { OnOk result (IsImagePart halves.geometry (header_sector halves.geometry (other halves.current))
-        (D.history device.new).disk.content 0 (record (cells_of cells.now) { rows = map.empty; entries = map.empty })) }
+        (D.past_of device.new).disk.content 0 (record (cells_of cells.now) { rows = map.empty; entries = map.empty })) }
     ensures area { IfOk result (λ log. log.area ≡ log_area halves.geometry (other halves.current)) }
-    ensures empty { IfOk result (λ log. Stands log (D.history device.new).disk.content []) }
-    ensures loose { OnOk result ((n : ℕ) → (D.history device.new).disk.unsynced n ≡ true
+    ensures empty { IfOk result (λ log. Stands log (D.past_of device.new).disk.content []) }
+    ensures loose { OnOk result ((n : ℕ) → (D.past_of device.new).disk.unsynced n ≡ true
         → InHalfImage halves.geometry (other halves.current) n) }
-    ensures outside { SameOutside (InHalf halves.geometry (other halves.current)) (D.history device.old).disk.content
-        (D.history device.new).disk.content }
-    ensures any_moment { LeavesOnly (D.history device.old) (D.history device.new)
-        (SameOutside (InHalf halves.geometry (other halves.current)) (D.history device.old).disk.content) }
+    ensures outside { SameOutside (InHalf halves.geometry (other halves.current)) (D.past_of device.old).disk.content
+        (D.past_of device.new).disk.content }
+    ensures any_moment { LeavesOnly (D.past_of device.old) (D.past_of device.new)
+        (SameOutside (InHalf halves.geometry (other halves.current)) (D.past_of device.old).disk.content) }
     ensures counts { CountsFailure (D.failures device.old) (D.failures device.new) result }
 {
     let log = closed_log(device, halves)?;
@@ -244,8 +244,8 @@ pub(crate) fn write_next<D: Device>(
     header: &Header,
     entries: &[(Pair, Mark)],
 ) -> Result<(), Failed>
-    requires inside { sectors_of halves.geometry ≤ length (D.history device.old).disk.content }
-    requires current { Names (sector (D.history device.old).disk.content FLIP_SECTOR) halves.current }
+    requires inside { sectors_of halves.geometry ≤ length (D.past_of device.old).disk.content }
+    requires current { Names (sector (D.past_of device.old).disk.content FLIP_SECTOR) halves.current }
     requires full { header.now.entries % ENTRIES_PER_SECTOR ≡ 0 }
     requires room { header.now.entries + length entries.now ≤ halves.geometry.entries }
     requires pages { (i : ℕ) (e : PairValue × MarkValue) → slice_get entries.now i ≡ Some e
@@ -254,21 +254,21 @@ pub(crate) fn write_next<D: Device>(
     requires highest { (p : PairValue) → header.now.life ≡ Building (Some p) → p.rid.page < halves.geometry.pages }
     ensures part { OnOk result ((cells : Cells) (index : Index) → CHUNK_ENTRIES ≤ length entries.now
         → IsImagePart halves.geometry (header_sector halves.geometry (other halves.current))
-        (D.history device.old).disk.content halves.geometry.pages cells
+        (D.past_of device.old).disk.content halves.geometry.pages cells
         → header.now.entries ≡ length (map.entries cells.entries)
         → map.entries index ≡ map.entries cells.entries ++ entries.now
         → IsImagePart halves.geometry (header_sector halves.geometry (other halves.current))
-        (D.history device.new).disk.content halves.geometry.pages (record cells { entries = index })) }
+        (D.past_of device.new).disk.content halves.geometry.pages (record cells { entries = index })) }
     ensures whole { OnOk result ((cells : Cells) (index : Index) → length entries.now < CHUNK_ENTRIES
         → IsImagePart halves.geometry (header_sector halves.geometry (other halves.current))
-        (D.history device.old).disk.content halves.geometry.pages cells
+        (D.past_of device.old).disk.content halves.geometry.pages cells
         → header.now.entries ≡ length (map.entries cells.entries)
         → map.entries index ≡ map.entries cells.entries ++ entries.now → header.now.life ≡ cells.life
-        → HoldsImage halves.geometry (other halves.current) (D.history device.new).disk.content header.now.base
+        → HoldsImage halves.geometry (other halves.current) (D.past_of device.new).disk.content header.now.base
         (record cells { entries = index })) }
     ensures within { RunsWithin (λ n. InHalfImage halves.geometry (other halves.current) n
-        ⊎ ((D.history device.old).disk.unsynced n ≡ true)) (D.history device.old).disk.content (D.history device.old)
-        (D.history device.new) }
+        ⊎ ((D.past_of device.old).disk.unsynced n ≡ true)) (D.past_of device.old).disk.content (D.past_of device.old)
+        (D.past_of device.new) }
     ensures counts { CountsFailure (D.failures device.old) (D.failures device.new) result }
 {
     halves.write_entries(device, header.entries, entries)?;

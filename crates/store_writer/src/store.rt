@@ -1,17 +1,17 @@
 //! The writer of a store.
 ghost use Rattle.std.specs.Prelude.{◌≡◌, ◌≢◌, ◌+◌, ◌-◌, ◌≤◌, ◌++◌, ℕ, List, [], length, false, Some, Option, None};
 ghost use Rattle.std.specs.Prelude.{OnOk, OnErr, IfOk, IfErr};
-ghost use Rattle.sector_device.specs.Disk.{Image, IsCrashImage};
-ghost use Rattle.sector_device.specs.History.{LeavesOnly};
+ghost use Rattle.sector_device.specs.Disk.{CrashState, IsCrashState};
+ghost use Rattle.sector_device.specs.DevicePast.{LeavesOnly};
 ghost use Rattle.records.specs.RecordValue.{RecordValue};
 ghost use Rattle.model.specs.Cells.{Cells};
-ghost use Rattle.records.specs.declared.number.TheConstants.{LAST_NUMBER};
-ghost use Rattle.records.specs.declared.pair.Pair.{Pair as PairValue};
-ghost use Rattle.records.specs.declared.pair.Mark.{Mark as MarkValue};
+ghost use Rattle.record_values.specs.declared.number.TheConstants.{LAST_NUMBER};
+ghost use Rattle.record_values.specs.declared.pair.Pair.{Pair as PairValue};
+ghost use Rattle.record_values.specs.declared.pair.Mark.{Mark as MarkValue};
 ghost use Rattle.model.specs.Table.{Table};
-ghost use Rattle.image_model.specs.declared.chunk.CopyPlace.{CopyPlace};
-ghost use Rattle.image_model.specs.Run.{Run, IsRun, end_of};
-ghost use Rattle.image_model.specs.Places.{place_behind};
+ghost use Rattle.store_image_model.specs.declared.chunk.CopyPlace.{CopyPlace};
+ghost use Rattle.store_image_model.specs.Run.{Run, IsRun, end_of};
+ghost use Rattle.store_image_model.specs.Places.{place_behind};
 ghost use Rattle.flip_image.specs.Layout.{other, InHalf};
 ghost use Rattle.flip_image.specs.declared.half.TheConstants.{FLIP_SECTOR};
 ghost use Rattle.store_writer.specs.Contents.{LeftBy};
@@ -20,15 +20,16 @@ ghost use Rattle.store_writer.specs.Places.{IsAtPlace, IsAtPiece, AreRowsNow, Ar
 ghost use Rattle.store_writer.specs.Image.{BecomesImage};
 ghost use Rattle.store_writer.specs.Parts.{device_of, halves_of, log_of, waiting_of, synced_of, has_failed, image_of};
 
-use crate::writer::Writer;
+use crate::image::{Stage, plan_for};
+use crate::writer::{Writer, is_full};
 use crate::{FlipReply, FlushReply, StepReply};
 use flip_image::Halves;
-use gate_log::LogArea;
-use image_model::Chunk;
+use gate_log::{Appended, LogArea, group_len, spell};
 use records::{Error, Geometry, Record};
 use sector_device::Device;
 use std::alloc::Allocator;
 use std::marker::Model;
+use store_image_model::{Chunk, Piece};
 
 /// The one that owns a store's device, and takes the records that are made.
 ///
@@ -54,7 +55,7 @@ impl<D: Device, A: Allocator> Model for StoreWriter<D, A> {
 
     ghost view = { λ store. store.writer };
 
-    ghost invariant = { λ store. IsSomewhere D.history store.writer };
+    ghost invariant = { λ store. IsSomewhere D.past_of store.writer };
 }
 
 impl<D: Device, A: Allocator + Copy> StoreWriter<D, A> {
@@ -67,9 +68,9 @@ impl<D: Device, A: Allocator + Copy> StoreWriter<D, A> {
     /// reader or `LogArea::clear` left it, and the current half has the cells after the record `synced`. Nothing is
     /// read, and no memory is taken.
     pub fn new(alloc: A, device: D, halves: Halves, log: LogArea, synced: u64) -> Self
-        requires { (cells : Cells) × IsOpenedAt (D.history device) halves log synced cells }
-        ensures writer { (cells : Cells) → IsOpenedAt (D.history device) halves log synced cells
-            → IsWriter D.history (opened_run halves synced cells) synced result }
+        requires { (cells : Cells) × IsOpenedAt (D.past_of device) halves log synced cells }
+        ensures writer { (cells : Cells) → IsOpenedAt (D.past_of device) halves log synced cells
+            → IsWriter D.past_of (opened_run halves synced cells) synced result }
         ensures device { device_of result ≡ device }
         ensures halves { halves_of result ≡ halves }
         ensures log { log_of result ≡ log }
@@ -78,46 +79,49 @@ impl<D: Device, A: Allocator + Copy> StoreWriter<D, A> {
         ensures image { image_of result ≡ None }
         ensures sound { has_failed result ≡ false }
     {
-        StoreWriter {
-            writer: Writer::new(alloc, device, halves, log, synced),
-        }
+        let writer = Writer {
+            device,
+            halves,
+            log,
+            waiting: Vec::new(alloc),
+            synced,
+            image: None,
+            failed: false,
+        };
+        StoreWriter { writer }
     }
 
     /// A law: where more records are made, the writer stands as before.
     pub fn goes_on(&self)
-        ensures { (run : Run) (handed : ℕ) (more : List RecordValue) → IsWriter D.history run handed self.now
-            → IsRun (longer run more) → IsWriter D.history (longer run more) handed self.now }
-    {
-        self.writer.goes_on();
-    }
+        ensures { (run : Run) (handed : ℕ) (more : List RecordValue) → IsWriter D.past_of run handed self.now
+            → IsRun (longer run more) → IsWriter D.past_of (longer run more) handed self.now }
+    {}
 
     /// A law: the piece of an image that is due may be taken, as the last record made left its cells.
     pub fn next_pieces(&self)
-        ensures page { (run : Run) (handed page : ℕ) (rows : Table) → IsWriter D.history run handed self.now
+        ensures page { (run : Run) (handed page : ℕ) (rows : Table) → IsWriter D.past_of run handed self.now
             → has_failed self.now ≡ false → end_of run ≤ LAST_NUMBER
             → IsAtPlace run.geometry.pages (Some (CopyPlace.Page page)) (image_of self.now)
             → AreRowsNow run page rows → (i : NewImage) → (image_of self.now) ≡ Some i
             → IsPageChunk run i (end_of run) page rows }
         ensures entries { (run : Run) (handed : ℕ) (above : Option PairValue) (entries : List (PairValue × MarkValue))
-            → IsWriter D.history run handed self.now → has_failed self.now ≡ false → end_of run ≤ LAST_NUMBER
+            → IsWriter D.past_of run handed self.now → has_failed self.now ≡ false → end_of run ≤ LAST_NUMBER
             → IsAtPlace run.geometry.pages (Some (CopyPlace.Entries above)) (image_of self.now)
             → AreEntriesNow run above entries → (i : NewImage) → (image_of self.now) ≡ Some i
             → IsEntriesChunk run i (end_of run) entries }
-    {
-        self.writer.next_pieces();
-    }
+    {}
 
     /// Takes the records that come next in the run. They wait until `flush_group` writes them.
     ///
     /// An `Err` gives them back, for want of memory, and changes nothing. An empty list takes none.
-    pub fn hand_in(&mut self, records: Vec<Record, A>) -> Result<(), Vec<Record, A>>
-        requires { (run : Run) × (handed : ℕ) × IsWriter D.history run handed self.old
+    pub fn hand_in(&mut self, mut records: Vec<Record, A>) -> Result<(), Vec<Record, A>>
+        requires { (run : Run) × (handed : ℕ) × IsWriter D.past_of run handed self.old
             × AreNext run handed records.items }
-        ensures writer { OnOk result ((run : Run) (handed : ℕ) → IsWriter D.history run handed self.old
-            → AreNext run handed records.items → IsWriter D.history run (handed + length records.items) self.new) }
+        ensures writer { OnOk result ((run : Run) (handed : ℕ) → IsWriter D.past_of run handed self.old
+            → AreNext run handed records.items → IsWriter D.past_of run (handed + length records.items) self.new) }
         ensures waits { OnOk result (waiting_of self.new ≡ waiting_of self.old ++ records.items) }
-        ensures unchanged { OnErr result ((run : Run) (handed : ℕ) → IsWriter D.history run handed self.old
-            → IsWriter D.history run handed self.new) }
+        ensures unchanged { OnErr result ((run : Run) (handed : ℕ) → IsWriter D.past_of run handed self.old
+            → IsWriter D.past_of run handed self.new) }
         ensures still { OnErr result (waiting_of self.new ≡ waiting_of self.old) }
         ensures back { IfErr result (λ back. back.items ≡ records.items) }
         ensures some { OnErr result (records.items ≢ []) }
@@ -128,7 +132,14 @@ impl<D: Device, A: Allocator + Copy> StoreWriter<D, A> {
         ensures image { image_of self.new ≡ image_of self.old }
         ensures failed { has_failed self.new ≡ has_failed self.old }
     {
-        self.writer.hand_in(records)
+        if records.is_empty() {
+            return Ok(());
+        }
+        match self.writer.waiting.append(&mut records) {
+            Ok(()) => {}
+            Err(_) => return Err(records),
+        }
+        Ok(())
     }
 
     /// Writes the next group of the records that wait, as many of them, in order, as fill one, and syncs it. A group is
@@ -141,18 +152,18 @@ impl<D: Device, A: Allocator + Copy> StoreWriter<D, A> {
     /// where an image is under way, of one slot of the log of its half (`slot`): the halves and the place of the log
     /// stay, and each lies within its half (`around`).
     pub fn flush_group(&mut self, alloc: A) -> Result<FlushReply, Error>
-        ensures writer { (run : Run) (handed : ℕ) → IsWriter D.history run handed self.old
-            → IsWriter D.history run handed self.new }
-        ensures images { (run : Run) (handed : ℕ) → IsWriter D.history run handed self.old
-            → LeavesOnly (D.history (device_of self.old)) (D.history (device_of self.new))
+        ensures writer { (run : Run) (handed : ℕ) → IsWriter D.past_of run handed self.old
+            → IsWriter D.past_of run handed self.new }
+        ensures images { (run : Run) (handed : ℕ) → IsWriter D.past_of run handed self.old
+            → LeavesOnly (D.past_of (device_of self.old)) (D.past_of (device_of self.new))
             (LeftBy run (synced_of self.old) handed) }
         ensures flushed { IfOk result (λ reply. IsFlushReply reply self.old self.new) }
         ensures image { (n : ℕ) → result ≡ Ok (FlushReply.Flushed n)
             → BecomesImage (halves_of self.old).geometry.slots (synced_of self.old) (n - synced_of self.old)
             (image_of self.old) (image_of self.new) }
         ensures nothing { result ≡ Ok FlushReply.Nothing → (run : Run) (handed : ℕ)
-            → IsWriter D.history run handed self.old → synced_of self.old ≡ handed }
-        ensures idle { (run : Run) (handed : ℕ) → IsWriter D.history run handed self.old → has_failed self.old ≡ false
+            → IsWriter D.past_of run handed self.old → synced_of self.old ≡ handed }
+        ensures idle { (run : Run) (handed : ℕ) → IsWriter D.past_of run handed self.old → has_failed self.old ≡ false
             → synced_of self.old ≡ handed → result ≡ Ok FlushReply.Nothing }
         ensures sound { OnOk result ((has_failed self.old ≡ false) × (has_failed self.new ≡ false)) }
         ensures full { has_failed self.old ≡ false → waiting_of self.old ≢ [] → IsLogFull self.old
@@ -161,11 +172,40 @@ impl<D: Device, A: Allocator + Copy> StoreWriter<D, A> {
         ensures kept { OnErr result (synced_of self.new ≡ synced_of self.old) }
         ensures quiet { OnOk result (D.failures (device_of self.new) ≡ D.failures (device_of self.old)) }
         ensures later { D.failures (device_of self.old) ≤ D.failures (device_of self.new) }
-        ensures around { WritesLogsAlone D.history self.old self.new }
-        ensures slot { WritesOnly D.history (InOpenedSlots self.old) (device_of self.old) (device_of self.new) }
+        ensures around { WritesLogsAlone D.past_of self.old self.new }
+        ensures slot { WritesOnly D.past_of (InOpenedSlots self.old) (device_of self.old) (device_of self.new) }
         ensures left { OnErr result (IsBeforeFlush self.old self.new) }
     {
-        self.writer.flush_group(alloc)
+        if self.writer.failed {
+            return Err(Error::DeviceFailed);
+        }
+        let count = group_len(&self.writer.waiting);
+        if count == 0 {
+            return Ok(FlushReply::Nothing);
+        }
+        if is_full(self.writer.log, self.writer.halves.geometry()) {
+            return Ok(FlushReply::LogFull);
+        }
+        let body = spell(alloc, &self.writer.waiting[..count])?;
+        let plan = plan_for(
+            alloc,
+            self.writer.image,
+            self.writer.halves.geometry(),
+            self.writer.synced,
+            &self.writer.waiting[..count],
+        )?;
+        match self
+            .writer
+            .log
+            .append_spelled(&mut self.writer.device, &body)
+        {
+            Ok(Appended::Done) => self.writer.carry_on(count, plan),
+            Ok(Appended::Full) => Ok(FlushReply::LogFull),
+            Err(_) => {
+                self.writer.failed = true;
+                Err(Error::DeviceFailed)
+            }
+        }
     }
 
     /// Takes what was copied into an image, into the half that isn't current. All cells, as the record of the chunk's
@@ -178,12 +218,12 @@ impl<D: Device, A: Allocator + Copy> StoreWriter<D, A> {
     /// where the device fails in the call, and from then on. Whatever the answer is, no sector is written but those of
     /// the half that isn't current (`around`).
     pub fn checkpoint_step(&mut self, chunk: Chunk<A>) -> Result<StepReply, Error>
-        requires { (run : Run) × (handed : ℕ) × IsWriter D.history run handed self.old
+        requires { (run : Run) × (handed : ℕ) × IsWriter D.past_of run handed self.old
             × IsChunk run self.old chunk.number chunk.piece }
-        ensures writer { (run : Run) (handed : ℕ) → IsWriter D.history run handed self.old
-            → IsChunk run self.old chunk.number chunk.piece → IsWriter D.history run handed self.new }
-        ensures images { (run : Run) (handed : ℕ) → IsWriter D.history run handed self.old
-            → LeavesOnly (D.history (device_of self.old)) (D.history (device_of self.new))
+        ensures writer { (run : Run) (handed : ℕ) → IsWriter D.past_of run handed self.old
+            → IsChunk run self.old chunk.number chunk.piece → IsWriter D.past_of run handed self.new }
+        ensures images { (run : Run) (handed : ℕ) → IsWriter D.past_of run handed self.old
+            → LeavesOnly (D.past_of (device_of self.old)) (D.past_of (device_of self.new))
             (LeftBy run (synced_of self.old) handed) }
         ensures stepped { IfOk result (λ reply. IsStepReply chunk.number chunk.piece reply self.old self.new) }
         ensures sound { OnOk result ((has_failed self.old ≡ false) × (has_failed self.new ≡ false)) }
@@ -197,11 +237,29 @@ impl<D: Device, A: Allocator + Copy> StoreWriter<D, A> {
         ensures quiet { OnOk result (D.failures (device_of self.new) ≡ D.failures (device_of self.old)) }
         ensures later { D.failures (device_of self.old) ≤ D.failures (device_of self.new) }
         ensures kept { synced_of self.new ≡ synced_of self.old }
-        ensures around { WritesOnly D.history (InHalf (halves_of self.old).geometry
+        ensures around { WritesOnly D.past_of (InHalf (halves_of self.old).geometry
             (other (halves_of self.old).current)) (device_of self.old) (device_of self.new) }
         ensures left { OnErr result (IsAsBefore self.old self.new) }
     {
-        self.writer.checkpoint_step(chunk)
+        if self.writer.failed {
+            return Err(Error::DeviceFailed);
+        }
+        let Chunk { number, piece } = chunk;
+        match piece {
+            Piece::Whole { cells } => {
+                self.writer.take_whole(number, &cells)?;
+                Ok(StepReply::Taken)
+            }
+            Piece::Start { life, lists } => {
+                if is_full(self.writer.log, self.writer.halves.geometry()) {
+                    return Ok(StepReply::StartAgain);
+                }
+                self.writer.take_start(number, life, lists)?;
+                Ok(StepReply::Taken)
+            }
+            Piece::Page { page, rows } => self.writer.take_page(number, page, rows),
+            Piece::Entries { entries } => self.writer.take_entries(number, &entries),
+        }
     }
 
     /// Makes the image current, and drops the records that wait and are in it. From then on what a crash leaves has
@@ -211,24 +269,48 @@ impl<D: Device, A: Allocator + Copy> StoreWriter<D, A> {
     /// isn't synced; nothing changes. `DeviceFailed` comes where the device fails in the call, and from then on.
     /// Whatever the answer is, no sector is written but the one that tells which half is current (`around`).
     pub fn checkpoint_flip(&mut self) -> Result<FlipReply, Error>
-        ensures writer { (run : Run) (handed : ℕ) → IsWriter D.history run handed self.old
-            → IsWriter D.history run handed self.new }
-        ensures images { (run : Run) (handed : ℕ) → IsWriter D.history run handed self.old
-            → LeavesOnly (D.history (device_of self.old)) (D.history (device_of self.new))
+        ensures writer { (run : Run) (handed : ℕ) → IsWriter D.past_of run handed self.old
+            → IsWriter D.past_of run handed self.new }
+        ensures images { (run : Run) (handed : ℕ) → IsWriter D.past_of run handed self.old
+            → LeavesOnly (D.past_of (device_of self.old)) (D.past_of (device_of self.new))
             (LeftBy run (synced_of self.old) handed) }
-        ensures flipped { (run : Run) (handed : ℕ) → IsWriter D.history run handed self.old
+        ensures flipped { (run : Run) (handed : ℕ) → IsWriter D.past_of run handed self.old
             → IfOk result (λ reply. IsFlipReply handed reply self.old self.new) }
         ensures sound { OnOk result ((has_failed self.old ≡ false) × (has_failed self.new ≡ false)) }
-        ensures behind { (run : Run) (handed : ℕ) → IsWriter D.history run handed self.old → has_failed self.old ≡ false
+        ensures behind { (run : Run) (handed : ℕ) → IsWriter D.past_of run handed self.old → has_failed self.old ≡ false
             → ¬ CanFlip handed self.old → result ≡ Ok FlipReply.Behind }
         ensures err { IfErr result (λ e. HasFailed D.failures e self.old self.new) }
         ensures quiet { OnOk result (D.failures (device_of self.new) ≡ D.failures (device_of self.old)) }
         ensures later { D.failures (device_of self.old) ≤ D.failures (device_of self.new) }
         ensures kept { OnErr result (synced_of self.new ≡ synced_of self.old) }
-        ensures around { WritesOnly D.history (λ n. n ≡ FLIP_SECTOR) (device_of self.old) (device_of self.new) }
+        ensures around { WritesOnly D.past_of (λ n. n ≡ FLIP_SECTOR) (device_of self.old) (device_of self.new) }
         ensures left { OnErr result (IsAsBefore self.old self.new) }
     {
-        self.writer.checkpoint_flip()
+        if self.writer.failed {
+            return Err(Error::DeviceFailed);
+        }
+        let Some(image) = self.writer.image else {
+            return Ok(FlipReply::Behind);
+        };
+        let Stage::Whole = image.stage else {
+            return Ok(FlipReply::Behind);
+        };
+        let reached = image.base.max(self.writer.synced);
+        let handed = self.writer.synced + self.writer.waiting.len() as u64;
+        if handed < image.number || reached < image.number {
+            return Ok(FlipReply::Behind);
+        }
+        if self.writer.halves.flip(&mut self.writer.device).is_err() {
+            self.writer.failed = true;
+            return Err(Error::DeviceFailed);
+        }
+        self.writer
+            .waiting
+            .drain(..(reached - self.writer.synced) as usize);
+        self.writer.log = image.log;
+        self.writer.image = None;
+        self.writer.synced = reached;
+        Ok(FlipReply::Flipped(reached))
     }
 
     /// The number of the last synced record: what a crash leaves from now on has it.
@@ -269,9 +351,9 @@ impl<D: Device, A: Allocator + Copy> StoreWriter<D, A> {
     /// The device as it is now. The records that wait are lost.
     pub fn into_device(self) -> D
         ensures device { result ≡ device_of self }
-        ensures images { (run : Run) (handed : ℕ) → IsWriter D.history run handed self → (image : Image)
-            → IsCrashImage (D.history result).disk image → LeftBy run (synced_of self) handed image }
+        ensures images { (run : Run) (handed : ℕ) → IsWriter D.past_of run handed self → (image : CrashState)
+            → IsCrashState (D.past_of result).disk image → LeftBy run (synced_of self) handed image }
     {
-        self.writer.into_device()
+        self.writer.device
     }
 }

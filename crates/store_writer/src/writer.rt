@@ -1,17 +1,17 @@
 //! A device, its log, and the records that wait for it.
 ghost use Rattle.std.specs.Prelude.{◌≡◌, ◌≢◌, ◌↔◌, ◌+◌, ◌-◌, ◌≤◌, ◌<◌, ◌++◌, List, [], ℕ, length, take, drop, true};
 ghost use Rattle.std.specs.Prelude.{false, Option, Some, None, IsTrue, OnOk, OnErr, IfOk, IfErr};
-ghost use Rattle.sector_device.specs.History.{LeavesOnly, Rises};
+ghost use Rattle.sector_device.specs.DevicePast.{LeavesOnly, Rises};
 ghost use Rattle.records.specs.RecordValue.{RecordValue};
 ghost use Rattle.model.specs.Cells.{Cells};
 ghost use Rattle.model.specs.Redo.{cells_of};
-ghost use Rattle.records.specs.declared.number.TheConstants.{LAST_NUMBER};
-ghost use Rattle.records.specs.declared.pair.Pair.{Pair as PairValue};
-ghost use Rattle.records.specs.declared.pair.Mark.{Mark as MarkValue};
+ghost use Rattle.record_values.specs.declared.number.TheConstants.{LAST_NUMBER};
+ghost use Rattle.record_values.specs.declared.pair.Pair.{Pair as PairValue};
+ghost use Rattle.record_values.specs.declared.pair.Mark.{Mark as MarkValue};
 ghost use Rattle.model.specs.Table.{Table};
-ghost use Rattle.image_model.specs.declared.chunk.CopyPlace.{CopyPlace};
-ghost use Rattle.image_model.specs.Run.{Run, IsRun, end_of};
-ghost use Rattle.image_model.specs.Places.{place_behind};
+ghost use Rattle.store_image_model.specs.declared.chunk.CopyPlace.{CopyPlace};
+ghost use Rattle.store_image_model.specs.Run.{Run, IsRun, end_of};
+ghost use Rattle.store_image_model.specs.Places.{place_behind};
 ghost use Rattle.flip_image.specs.Layout.{other, InHalf};
 ghost use Rattle.flip_image.specs.declared.half.TheConstants.{FLIP_SECTOR};
 ghost use Rattle.store_writer.specs.Contents.{LeftBy};
@@ -25,12 +25,12 @@ use crate::image::{
 use crate::page::write_rows;
 use flip_image::Halves;
 use gate_log::{Appended, LogArea, group_len, spell};
-use image_model::{Chunk, PageRows, Piece};
-use image_parts::Header;
 use model::{CellMaps, Life, ListMap};
 use records::{Error, Geometry, Mark, Pair, Record};
 use sector_device::Device;
 use std::alloc::Allocator;
+use store_image_model::{Chunk, PageRows, Piece};
+use store_image_parts::Header;
 
 /// What became of a flush.
 #[derive(Clone, Copy, Debug, PartialEq, Eq)]
@@ -81,7 +81,7 @@ pub(crate) struct Writer<D, A: Allocator> {
 }
 
 // Whether every slot of a log of this geometry is open.
-fn is_full(log: LogArea, geometry: Geometry) -> bool
+pub(crate) fn is_full(log: LogArea, geometry: Geometry) -> bool
     ensures { IsTrue result ↔ (log.open_slots ≡ geometry.slots) }
 {
     log.open_slots() == u64::from(geometry.slots)
@@ -103,145 +103,22 @@ impl<D: Device, A: Allocator + Copy> Writer<D, A> {
     ghost use Rattle.store_writer.specs.Writer.{AreEntriesAnswered, IsChunk, IsStepReply, HasFailed, InOpenedSlots};
     ghost use Rattle.store_writer.specs.Writer.{WritesLogsAlone, WritesOnly, IsAsBefore, IsBeforeFlush};
 
-    /// A writer to which nothing was handed.
-    pub(crate) fn new(alloc: A, device: D, halves: Halves, log: LogArea, synced: u64) -> Self
-        ensures writer { (cells : Cells) → IsOpenedAt (D.history device) halves log synced cells
-            → IsWriter D.history (opened_run halves synced cells) synced result }
-        ensures device { result.device ≡ device }
-        ensures halves { result.halves ≡ halves }
-        ensures log { result.log ≡ log }
-        ensures waiting { result.waiting.items ≡ [] }
-        ensures synced { result.synced ≡ synced }
-        ensures image { result.image ≡ None }
-        ensures sound { result.failed ≡ false }
-    {
-        Writer {
-            device,
-            halves,
-            log,
-            waiting: Vec::new(alloc),
-            synced,
-            image: None,
-            failed: false,
-        }
-    }
-
-    /// A law: where more records are made, the writer stands as before.
-    pub(crate) fn goes_on(&self)
-        ensures { (run : Run) (handed : ℕ) (more : List RecordValue) → IsWriter D.history run handed self.now
-            → IsRun (longer run more) → IsWriter D.history (longer run more) handed self.now }
-    {}
-
-    /// A law: the piece of an image that is due may be taken, as the last record made left its cells.
-    pub(crate) fn next_pieces(&self)
-        ensures page { (run : Run) (handed page : ℕ) (rows : Table) → IsWriter D.history run handed self.now
-            → self.now.failed ≡ false → end_of run ≤ LAST_NUMBER
-            → IsAtPlace run.geometry.pages (Some (CopyPlace.Page page)) self.now.image
-            → AreRowsNow run page rows → (i : NewImage) → self.now.image ≡ Some i
-            → IsPageChunk run i (end_of run) page rows }
-        ensures entries { (run : Run) (handed : ℕ) (above : Option PairValue) (entries : List (PairValue × MarkValue))
-            → IsWriter D.history run handed self.now → self.now.failed ≡ false → end_of run ≤ LAST_NUMBER
-            → IsAtPlace run.geometry.pages (Some (CopyPlace.Entries above)) self.now.image
-            → AreEntriesNow run above entries → (i : NewImage) → self.now.image ≡ Some i
-            → IsEntriesChunk run i (end_of run) entries }
-    {}
-
-    /// Takes the next records. An `Err` gives them back, and changes nothing.
-    pub(crate) fn hand_in(&mut self, mut records: Vec<Record, A>) -> Result<(), Vec<Record, A>>
-        ensures writer { OnOk result ((run : Run) (handed : ℕ) → IsWriter D.history run handed self.old
-            → AreNext run handed records.items → IsWriter D.history run (handed + length records.items) self.new) }
-        ensures waits { OnOk result (self.new.waiting.items ≡ self.old.waiting.items ++ records.items) }
-        ensures unchanged { OnErr result ((run : Run) (handed : ℕ) → IsWriter D.history run handed self.old
-            → IsWriter D.history run handed self.new) }
-        ensures still { OnErr result (self.new.waiting.items ≡ self.old.waiting.items) }
-        ensures back { IfErr result (λ back. back.items ≡ records.items) }
-        ensures some { OnErr result (records.items ≢ []) }
-        ensures device { self.new.device ≡ self.old.device }
-        ensures halves { self.new.halves ≡ self.old.halves }
-        ensures log { self.new.log ≡ self.old.log }
-        ensures synced { self.new.synced ≡ self.old.synced }
-        ensures image { self.new.image ≡ self.old.image }
-        ensures failed { self.new.failed ≡ self.old.failed }
-    {
-        if records.is_empty() {
-            return Ok(());
-        }
-        match self.waiting.append(&mut records) {
-            Ok(()) => Ok(()),
-            Err(_) => Err(records),
-        }
-    }
-
-    /// Writes the next group of the records that wait, as many of them as fill one, and syncs it.
-    pub(crate) fn flush_group(&mut self, alloc: A) -> Result<FlushReply, Error>
-        requires { (run : Run) × (handed : ℕ) × IsWriter D.history run handed self.old }
-        ensures writer { (run : Run) (handed : ℕ) → IsWriter D.history run handed self.old
-            → IsWriter D.history run handed self.new }
-        ensures images { (run : Run) (handed : ℕ) → IsWriter D.history run handed self.old
-            → LeavesOnly (D.history self.old.device) (D.history self.new.device) (LeftBy run self.old.synced handed) }
-        ensures flushed { IfOk result (λ reply. IsFlushReply reply self.old self.new) }
-        ensures image { (n : ℕ) → result ≡ Ok (FlushReply.Flushed n)
-            → BecomesImage self.old.halves.geometry.slots self.old.synced
-            (n - self.old.synced) self.old.image self.new.image }
-        ensures nothing { result ≡ Ok FlushReply.Nothing → (run : Run) (handed : ℕ)
-            → IsWriter D.history run handed self.old → self.old.synced ≡ handed }
-        ensures idle { (run : Run) (handed : ℕ) → IsWriter D.history run handed self.old → self.old.failed ≡ false
-            → self.old.synced ≡ handed → result ≡ Ok FlushReply.Nothing }
-        ensures sound { OnOk result ((self.old.failed ≡ false) × (self.new.failed ≡ false)) }
-        ensures full { self.old.failed ≡ false → self.old.waiting.items ≢ [] → IsLogFull self.old
-            → result ≡ Ok FlushReply.LogFull }
-        ensures err { IfErr result (λ e. IsNotFlushed D.failures e self.old self.new) }
-        ensures kept { OnErr result (self.new.synced ≡ self.old.synced) }
-        ensures quiet { OnOk result (D.failures self.new.device ≡ D.failures self.old.device) }
-        ensures later { D.failures self.old.device ≤ D.failures self.new.device }
-        ensures around { WritesLogsAlone D.history self.old self.new }
-        ensures slot { WritesOnly D.history (InOpenedSlots self.old) self.old.device self.new.device }
-        ensures left { OnErr result (IsBeforeFlush self.old self.new) }
-    {
-        if self.failed {
-            return Err(Error::DeviceFailed);
-        }
-        let count = group_len(&self.waiting);
-        if count == 0 {
-            return Ok(FlushReply::Nothing);
-        }
-        if is_full(self.log, self.halves.geometry()) {
-            return Ok(FlushReply::LogFull);
-        }
-        let body = spell(alloc, &self.waiting[..count])?;
-        let plan = plan_for(
-            alloc,
-            self.image,
-            self.halves.geometry(),
-            self.synced,
-            &self.waiting[..count],
-        )?;
-        match self.log.append_spelled(&mut self.device, &body) {
-            Ok(Appended::Done) => self.carry_on(count, plan),
-            Ok(Appended::Full) => Ok(FlushReply::LogFull),
-            Err(_) => {
-                self.failed = true;
-                Err(Error::DeviceFailed)
-            }
-        }
-    }
-
     // The first waiting records, a group, were added to the current half's log: those above the base of an image go
     // into the log of its half, as planned.
-    fn carry_on(&mut self, count: usize, plan: Plan<A>) -> Result<FlushReply, Error>
-        requires appended { (run : Run) × (handed : ℕ) × HasAppended D.history run handed count self.old }
+    pub(crate) fn carry_on(&mut self, count: usize, plan: Plan<A>) -> Result<FlushReply, Error>
+        requires appended { (run : Run) × (handed : ℕ) × HasAppended D.past_of run handed count self.old }
         requires planned { (slots : ℕ)
             × IsPlan self.old.image slots self.old.synced (take count self.old.waiting.items) plan }
         requires sound { self.old.failed ≡ false }
-        ensures writer { (run : Run) (handed : ℕ) → HasAppended D.history run handed count self.old
-            → IsWriter D.history run handed self.new }
-        ensures images { (run : Run) (handed : ℕ) → HasAppended D.history run handed count self.old
-            → LeavesOnly (D.history self.old.device) (D.history self.new.device) (LeftBy run self.old.synced handed) }
+        ensures writer { (run : Run) (handed : ℕ) → HasAppended D.past_of run handed count self.old
+            → IsWriter D.past_of run handed self.new }
+        ensures images { (run : Run) (handed : ℕ) → HasAppended D.past_of run handed count self.old
+            → LeavesOnly (D.past_of self.old.device) (D.past_of self.new.device) (LeftBy run self.old.synced handed) }
         ensures flushed { IfOk result (λ reply. (reply ≡ FlushReply.Flushed self.new.synced)
             × (self.new.synced ≡ self.old.synced + count) × (self.new.failed ≡ self.old.failed)) }
         ensures rest { OnOk result ((self.new.halves ≡ self.old.halves) × (self.new.log ≡ self.old.log)
             × (self.new.waiting.items ≡ drop count self.old.waiting.items)) }
-        ensures image { OnOk result ((run : Run) (handed slots : ℕ) → HasAppended D.history run handed count self.old
+        ensures image { OnOk result ((run : Run) (handed slots : ℕ) → HasAppended D.past_of run handed count self.old
             → slots ≡ run.geometry.slots → 0 < count
             → IsPlan self.old.image slots self.old.synced (take count self.old.waiting.items) plan
             → BecomesImage slots self.old.synced count self.old.image self.new.image) }
@@ -249,8 +126,8 @@ impl<D: Device, A: Allocator + Copy> Writer<D, A> {
             × (self.new.synced ≡ self.old.synced) × Rises (D.failures self.old.device) (D.failures self.new.device)) }
         ensures quiet { OnOk result (D.failures self.new.device ≡ D.failures self.old.device) }
         ensures later { D.failures self.old.device ≤ D.failures self.new.device }
-        ensures around { WritesLogsAlone D.history self.old self.new }
-        ensures slot { WritesOnly D.history (InNewSlot self.old.image) self.old.device self.new.device }
+        ensures around { WritesLogsAlone D.past_of self.old self.new }
+        ensures slot { WritesOnly D.past_of (InNewSlot self.old.image) self.old.device self.new.device }
         ensures left { OnErr result ((self.old.image ≢ None) × IsAsBefore self.old self.new) }
     {
         match carry(&mut self.device, self.image, plan) {
@@ -269,21 +146,21 @@ impl<D: Device, A: Allocator + Copy> Writer<D, A> {
 
     /// Writes the image of these cells, which the record `number` left, into the half that isn't current, whose log is
     /// then empty. An image that was under way is given up.
-    fn take_whole(&mut self, number: u64, cells: &CellMaps<A>) -> Result<(), Error>
+    pub(crate) fn take_whole(&mut self, number: u64, cells: &CellMaps<A>) -> Result<(), Error>
         requires sound { self.old.failed ≡ false }
-        requires whole { (run : Run) × (handed : ℕ) × IsWriter D.history run handed self.old
+        requires whole { (run : Run) × (handed : ℕ) × IsWriter D.past_of run handed self.old
             × IsWholeChunk run self.old.synced number (cells_of cells.now) }
-        ensures writer { (run : Run) (handed : ℕ) → IsWriter D.history run handed self.old
-            → IsWholeChunk run self.old.synced number (cells_of cells.now) → IsWriter D.history run handed self.new }
-        ensures images { (run : Run) (handed : ℕ) → IsWriter D.history run handed self.old
-            → LeavesOnly (D.history self.old.device) (D.history self.new.device) (LeftBy run self.old.synced handed) }
+        ensures writer { (run : Run) (handed : ℕ) → IsWriter D.past_of run handed self.old
+            → IsWholeChunk run self.old.synced number (cells_of cells.now) → IsWriter D.past_of run handed self.new }
+        ensures images { (run : Run) (handed : ℕ) → IsWriter D.past_of run handed self.old
+            → LeavesOnly (D.past_of self.old.device) (D.past_of self.new.device) (LeftBy run self.old.synced handed) }
         ensures taken { OnOk result ((image : NewImage) × HasKept image self.old self.new
             × HasBegun number Stage.Whole image) }
         ensures synced { self.new.synced ≡ self.old.synced }
         ensures err { IfErr result (λ e. HasFailed D.failures e self.old self.new) }
         ensures quiet { OnOk result (D.failures self.new.device ≡ D.failures self.old.device) }
         ensures later { D.failures self.old.device ≤ D.failures self.new.device }
-        ensures around { WritesOnly D.history (InHalf self.old.halves.geometry (other self.old.halves.current))
+        ensures around { WritesOnly D.past_of (InHalf self.old.halves.geometry (other self.old.halves.current))
             self.old.device self.new.device }
         ensures left { OnErr result (IsAsBefore self.old self.new) }
     {
@@ -306,21 +183,26 @@ impl<D: Device, A: Allocator + Copy> Writer<D, A> {
 
     /// Begins an image that is copied in steps with life and lists as the record `number` left them. An image that was
     /// under way is given up.
-    fn take_start(&mut self, number: u64, life: Life, lists: ListMap<A>) -> Result<(), Error>
+    pub(crate) fn take_start(
+        &mut self,
+        number: u64,
+        life: Life,
+        lists: ListMap<A>,
+    ) -> Result<(), Error>
         requires sound { self.old.failed ≡ false }
-        requires start { (run : Run) × (handed : ℕ) × IsWriter D.history run handed self.old
+        requires start { (run : Run) × (handed : ℕ) × IsWriter D.past_of run handed self.old
             × IsStartChunk run self.old.synced number life lists }
-        ensures writer { (run : Run) (handed : ℕ) → IsWriter D.history run handed self.old
-            → IsStartChunk run self.old.synced number life lists → IsWriter D.history run handed self.new }
-        ensures images { (run : Run) (handed : ℕ) → IsWriter D.history run handed self.old
-            → LeavesOnly (D.history self.old.device) (D.history self.new.device) (LeftBy run self.old.synced handed) }
+        ensures writer { (run : Run) (handed : ℕ) → IsWriter D.past_of run handed self.old
+            → IsStartChunk run self.old.synced number life lists → IsWriter D.past_of run handed self.new }
+        ensures images { (run : Run) (handed : ℕ) → IsWriter D.past_of run handed self.old
+            → LeavesOnly (D.past_of self.old.device) (D.past_of self.new.device) (LeftBy run self.old.synced handed) }
         ensures taken { OnOk result ((image : NewImage) × HasKept image self.old self.new
             × HasBegun number (Stage.Partly 0 0 None life) image) }
         ensures synced { self.new.synced ≡ self.old.synced }
         ensures err { IfErr result (λ e. HasFailed D.failures e self.old self.new) }
         ensures quiet { OnOk result (D.failures self.new.device ≡ D.failures self.old.device) }
         ensures later { D.failures self.old.device ≤ D.failures self.new.device }
-        ensures around { WritesOnly D.history (InHalf self.old.halves.geometry (other self.old.halves.current))
+        ensures around { WritesOnly D.past_of (InHalf self.old.halves.geometry (other self.old.halves.current))
             self.old.device self.new.device }
         ensures left { OnErr result (IsAsBefore self.old self.new) }
     {
@@ -351,22 +233,27 @@ impl<D: Device, A: Allocator + Copy> Writer<D, A> {
     }
 
     /// Takes the rows of the image's next page, as they are after the record `number`.
-    fn take_page(&mut self, number: u64, page: u32, rows: PageRows<A>) -> Result<StepReply, Error>
+    pub(crate) fn take_page(
+        &mut self,
+        number: u64,
+        page: u32,
+        rows: PageRows<A>,
+    ) -> Result<StepReply, Error>
         requires sound { self.old.failed ≡ false }
-        requires page { (run : Run) × (handed : ℕ) × IsWriter D.history run handed self.old
+        requires page { (run : Run) × (handed : ℕ) × IsWriter D.past_of run handed self.old
             × ((image : NewImage) → self.old.image ≡ Some image → IsPageChunk run image number page rows) }
-        ensures writer { (run : Run) (handed : ℕ) → IsWriter D.history run handed self.old
+        ensures writer { (run : Run) (handed : ℕ) → IsWriter D.past_of run handed self.old
             → ((image : NewImage) → self.old.image ≡ Some image → IsPageChunk run image number page rows)
-            → IsWriter D.history run handed self.new }
-        ensures images { (run : Run) (handed : ℕ) → IsWriter D.history run handed self.old
-            → LeavesOnly (D.history self.old.device) (D.history self.new.device) (LeftBy run self.old.synced handed) }
+            → IsWriter D.past_of run handed self.new }
+        ensures images { (run : Run) (handed : ℕ) → IsWriter D.past_of run handed self.old
+            → LeavesOnly (D.past_of self.old.device) (D.past_of self.new.device) (LeftBy run self.old.synced handed) }
         ensures stepped { IfOk result (λ reply. IsPageAnswered number page reply self.old self.new) }
         ensures synced { self.new.synced ≡ self.old.synced }
         ensures again { IsPageRefused self.old → result ≡ Ok StepReply.StartAgain }
         ensures err { IfErr result (λ e. HasFailed D.failures e self.old self.new) }
         ensures quiet { OnOk result (D.failures self.new.device ≡ D.failures self.old.device) }
         ensures later { D.failures self.old.device ≤ D.failures self.new.device }
-        ensures around { WritesOnly D.history (InHalf self.old.halves.geometry (other self.old.halves.current))
+        ensures around { WritesOnly D.past_of (InHalf self.old.halves.geometry (other self.old.halves.current))
             self.old.device self.new.device }
         ensures left { OnErr result (IsAsBefore self.old self.new) }
     {
@@ -385,22 +272,26 @@ impl<D: Device, A: Allocator + Copy> Writer<D, A> {
     }
 
     /// Takes the image's next entries, as they are after the record `number`: behind the last ones it is whole.
-    fn take_entries(&mut self, number: u64, entries: &[(Pair, Mark)]) -> Result<StepReply, Error>
+    pub(crate) fn take_entries(
+        &mut self,
+        number: u64,
+        entries: &[(Pair, Mark)],
+    ) -> Result<StepReply, Error>
         requires sound { self.old.failed ≡ false }
-        requires entries { (run : Run) × (handed : ℕ) × IsWriter D.history run handed self.old
+        requires entries { (run : Run) × (handed : ℕ) × IsWriter D.past_of run handed self.old
             × ((image : NewImage) → self.old.image ≡ Some image → IsEntriesChunk run image number entries.now) }
-        ensures writer { (run : Run) (handed : ℕ) → IsWriter D.history run handed self.old
+        ensures writer { (run : Run) (handed : ℕ) → IsWriter D.past_of run handed self.old
             → ((image : NewImage) → self.old.image ≡ Some image → IsEntriesChunk run image number entries.now)
-            → IsWriter D.history run handed self.new }
-        ensures images { (run : Run) (handed : ℕ) → IsWriter D.history run handed self.old
-            → LeavesOnly (D.history self.old.device) (D.history self.new.device) (LeftBy run self.old.synced handed) }
+            → IsWriter D.past_of run handed self.new }
+        ensures images { (run : Run) (handed : ℕ) → IsWriter D.past_of run handed self.old
+            → LeavesOnly (D.past_of self.old.device) (D.past_of self.new.device) (LeftBy run self.old.synced handed) }
         ensures stepped { IfOk result (λ reply. AreEntriesAnswered number entries.now reply self.old self.new) }
         ensures synced { self.new.synced ≡ self.old.synced }
         ensures again { AreRefused (length entries.now) self.old → result ≡ Ok StepReply.StartAgain }
         ensures err { IfErr result (λ e. HasFailed D.failures e self.old self.new) }
         ensures quiet { OnOk result (D.failures self.new.device ≡ D.failures self.old.device) }
         ensures later { D.failures self.old.device ≤ D.failures self.new.device }
-        ensures around { WritesOnly D.history (InHalf self.old.halves.geometry (other self.old.halves.current))
+        ensures around { WritesOnly D.past_of (InHalf self.old.halves.geometry (other self.old.halves.current))
             self.old.device self.new.device }
         ensures left { OnErr result (IsAsBefore self.old self.new) }
     {
@@ -443,101 +334,5 @@ impl<D: Device, A: Allocator + Copy> Writer<D, A> {
             log,
         });
         Ok(StepReply::Taken)
-    }
-
-    /// Takes what was copied into an image: the whole of it, or its next piece.
-    pub(crate) fn checkpoint_step(&mut self, chunk: Chunk<A>) -> Result<StepReply, Error>
-        requires { (run : Run) × (handed : ℕ) × IsWriter D.history run handed self.old
-            × IsChunk run self.old chunk.number chunk.piece }
-        ensures writer { (run : Run) (handed : ℕ) → IsWriter D.history run handed self.old
-            → IsChunk run self.old chunk.number chunk.piece → IsWriter D.history run handed self.new }
-        ensures images { (run : Run) (handed : ℕ) → IsWriter D.history run handed self.old
-            → LeavesOnly (D.history self.old.device) (D.history self.new.device) (LeftBy run self.old.synced handed) }
-        ensures stepped { IfOk result (λ reply. IsStepReply chunk.number chunk.piece reply self.old self.new) }
-        ensures sound { OnOk result ((self.old.failed ≡ false) × (self.new.failed ≡ false)) }
-        ensures place { result ≡ Ok StepReply.Taken
-            → IsAtPiece self.old.halves.geometry.pages chunk.piece self.old.image
-            → IsAtPlace self.old.halves.geometry.pages (place_behind self.old.halves.geometry.pages chunk.piece)
-            self.new.image }
-        ensures again { self.old.failed ≡ false → MustStartAgain chunk.piece self.old
-            → result ≡ Ok StepReply.StartAgain }
-        ensures err { IfErr result (λ e. HasFailed D.failures e self.old self.new) }
-        ensures quiet { OnOk result (D.failures self.new.device ≡ D.failures self.old.device) }
-        ensures later { D.failures self.old.device ≤ D.failures self.new.device }
-        ensures kept { self.new.synced ≡ self.old.synced }
-        ensures around { WritesOnly D.history (InHalf self.old.halves.geometry (other self.old.halves.current))
-            self.old.device self.new.device }
-        ensures left { OnErr result (IsAsBefore self.old self.new) }
-    {
-        if self.failed {
-            return Err(Error::DeviceFailed);
-        }
-        let Chunk { number, piece } = chunk;
-        match piece {
-            Piece::Whole { cells } => {
-                self.take_whole(number, &cells)?;
-                Ok(StepReply::Taken)
-            }
-            Piece::Start { life, lists } => {
-                if is_full(self.log, self.halves.geometry()) {
-                    return Ok(StepReply::StartAgain);
-                }
-                self.take_start(number, life, lists)?;
-                Ok(StepReply::Taken)
-            }
-            Piece::Page { page, rows } => self.take_page(number, page, rows),
-            Piece::Entries { entries } => self.take_entries(number, &entries),
-        }
-    }
-
-    /// Makes the image current, and drops the records that wait and are in it.
-    pub(crate) fn checkpoint_flip(&mut self) -> Result<FlipReply, Error>
-        requires { (run : Run) × (handed : ℕ) × IsWriter D.history run handed self.old }
-        ensures writer { (run : Run) (handed : ℕ) → IsWriter D.history run handed self.old
-            → IsWriter D.history run handed self.new }
-        ensures images { (run : Run) (handed : ℕ) → IsWriter D.history run handed self.old
-            → LeavesOnly (D.history self.old.device) (D.history self.new.device) (LeftBy run self.old.synced handed) }
-        ensures flipped { (run : Run) (handed : ℕ) → IsWriter D.history run handed self.old
-            → IfOk result (λ reply. IsFlipReply handed reply self.old self.new) }
-        ensures sound { OnOk result ((self.old.failed ≡ false) × (self.new.failed ≡ false)) }
-        ensures behind { (run : Run) (handed : ℕ) → IsWriter D.history run handed self.old → self.old.failed ≡ false
-            → ¬ CanFlip handed self.old → result ≡ Ok FlipReply.Behind }
-        ensures err { IfErr result (λ e. HasFailed D.failures e self.old self.new) }
-        ensures quiet { OnOk result (D.failures self.new.device ≡ D.failures self.old.device) }
-        ensures later { D.failures self.old.device ≤ D.failures self.new.device }
-        ensures kept { OnErr result (self.new.synced ≡ self.old.synced) }
-        ensures around { WritesOnly D.history (λ n. n ≡ FLIP_SECTOR) self.old.device self.new.device }
-        ensures left { OnErr result (IsAsBefore self.old self.new) }
-    {
-        if self.failed {
-            return Err(Error::DeviceFailed);
-        }
-        let Some(image) = self.image else {
-            return Ok(FlipReply::Behind);
-        };
-        let Stage::Whole = image.stage else {
-            return Ok(FlipReply::Behind);
-        };
-        let reached = image.base.max(self.synced);
-        let handed = self.synced + self.waiting.len() as u64;
-        if handed < image.number || reached < image.number {
-            return Ok(FlipReply::Behind);
-        }
-        if self.halves.flip(&mut self.device).is_err() {
-            self.failed = true;
-            return Err(Error::DeviceFailed);
-        }
-        self.waiting.drain(..(reached - self.synced) as usize);
-        self.log = image.log;
-        self.image = None;
-        self.synced = reached;
-        Ok(FlipReply::Flipped(reached))
-    }
-
-    /// The device as it is now.
-    pub(crate) fn into_device(self) -> D
-        ensures { result ≡ self.device }
-    {
-        self.device
     }
 }

@@ -4,7 +4,7 @@ use Rattle.std.proofs.Common.{◌||◌, refl, sym, ap, ◌∙◌, arith, eqb, eq
 use Rattle.std.proofs.Math.Bool.{or-false, or-true}
 use Rattle.std.proofs.lemmas.List.Folds.{list_any_at}
 use Rattle.std.specs.Map.{lookup, set_value}
-use Rattle.records.specs.Values.{Place}
+use Rattle.record_values.specs.Values.{Place}
 use Rattle.records.specs.ChangeValue.{ChangeValue}
 use Rattle.txn_table.specs.Table.{TxnState, is_among, with_rid, holder_of, without, change_noted}
 use Rattle.txn_table.specs.Sound.{OneHolder, AreHeldRows}

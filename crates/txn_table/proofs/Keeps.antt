@@ -4,10 +4,10 @@ use Rattle.std.proofs.Common.{Option, Some, None, nat_eq, ◌⊎◌, inl, inr, r
 use Rattle.std.proofs.lemmas.Bool.Decides.{eqb_tells}
 use Rattle.std.specs.Map.{lookup, set_value}
 use Rattle.indexmap.specs.IndexMap.{insert_entry}
-use Rattle.records.specs.Values.{Place}
+use Rattle.record_values.specs.Values.{Place}
 use Rattle.records.specs.ChangeValue.{ChangeValue}
 use Rattle.records.specs.declared.change.TheConstants.{CHANGES_MAX}
-use Rattle.records.specs.declared.txn.TheConstants.{TXNS_MAX}
+use Rattle.record_values.specs.declared.txn.TheConstants.{TXNS_MAX}
 use Rattle.txn_table.specs.Table.{TxnState, TableValue, fresh_txn, is_among, with_rid, holder_of, with_next, without, change_noted, without_last, put_at}
 use Rattle.txn_table.specs.declared.progress.Progress.{Progress}
 use Rattle.txn_table.specs.Sound.{Rises, AllHeld, IsSoundTxn, EachSoundTxn, OneHolder, IsSound, IsTableKept}

@@ -4,11 +4,11 @@ use Rattle.std.specs.Prelude.{not, nat_eq, nat_le, ◌==◌, ◌&&◌, if◌then
 use Rattle.std.specs.List.{list_any}
 use Rattle.std.specs.Option.{option_or}
 use Rattle.std.specs.Map.{lookup, remove_entry}
-use Rattle.records.specs.Values.{Place}
+use Rattle.record_values.specs.Values.{Place}
 use Rattle.records.specs.ChangeValue.{ChangeValue}
 use Rattle.records.specs.declared.change.TheConstants.{CHANGES_MAX}
-use Rattle.records.specs.declared.error.Error.{Error}
-use Rattle.records.specs.declared.error.Error.TheVariants.{NoSuchTxn, TooManyChanges, RowBusy}
+use Rattle.record_values.specs.declared.error.Error.{Error}
+use Rattle.record_values.specs.declared.error.Error.TheVariants.{NoSuchTxn, TooManyChanges, RowBusy}
 use Rattle.txn_table.specs.declared.progress.Progress.{Progress}
 use Rattle.txn_table.specs.declared.progress.Progress.TheVariants.{OwesEntry, OwesRow, Ready, Rolling, UndoesEntry}
 use Rattle.txn_table.specs.declared.progress.Progress.TheVariants.{UndoesRow}

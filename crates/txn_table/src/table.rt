@@ -3,7 +3,7 @@ ghost use Rattle.std.specs.Prelude.{◌≡◌, ◌≢◌, ◌+◌, ◌<◌, ◌�
 ghost use Rattle.std.specs.Prelude.{None, is_some, slice_get, option_map, option_and_then, IsTrue, IsErr, IsSome, IfOk};
 ghost use Rattle.std.specs.Prelude.{IfErr, OnOk, OnErr, IsOkUnless};
 ghost use Rattle.std.specs.Result.{result_err};
-ghost use Rattle.records.specs.Values.{Place};
+ghost use Rattle.record_values.specs.Values.{Place};
 ghost use Rattle.txn_table.specs.Table.{TxnState, holds_rows, is_among, with_rid, holder_of, state_of, with_state};
 ghost use Rattle.txn_table.specs.Table.{with_next, without, change_noted, without_last, put_at, last_change};
 ghost use Rattle.txn_table.specs.Table.{change_refusal, touch_refusal};

@@ -2,7 +2,8 @@ use Rattle.std.proofs.Common.{None}
 use Rattle.btree_node.specs.Runs.{IsRunAbove}
 use Rattle.nsf_core.specs.Value.{value_of}
 use Rattle.core_copies.specs.Private.{index_of}
-use Rattle.core_copies.proofs.Copied.{AreUpTo, left_after}
+use Rattle.core_copies.proofs.Copied.{AreUpTo}
+use Rattle.core_parts.proofs.Walked.{left_above}
 use Rattle.core_copies.proofs.parts.all_entries.Given as goal
 
 abbrev pub invariant-loop-entry : goal.invariant-loop-entry
@@ -12,4 +13,4 @@ invariant-loop-entry g l = record {
 }
 
 abbrev pub decreases-loop-entry : goal.decreases-loop-entry
-decreases-loop-entry g l = left_after (value_of l.core).index.entries l.last
+decreases-loop-entry g l = left_above (value_of l.core).index.entries l.last

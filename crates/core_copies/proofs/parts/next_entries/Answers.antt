@@ -1,5 +1,5 @@
 use Rattle.std.proofs.Common.{ap, arith, length, subst, ◌<◌, ◌≡◌}
-use Rattle.image_model.specs.declared.chunk.TheConstants.{CHUNK_ENTRIES}
+use Rattle.store_image_model.specs.declared.chunk.TheConstants.{CHUNK_ENTRIES}
 use Rattle.btree_node.specs.Runs.{IsRunAbove}
 use Rattle.nsf_core.specs.Value.{value_of}
 use Rattle.core_copies.proofs.Chunks.{full_chunk, last_chunk, longer, no_more, none_yet, one_more}

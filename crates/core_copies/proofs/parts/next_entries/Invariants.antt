@@ -1,6 +1,6 @@
 use Rattle.std.proofs.Common.{length, ◌-◌, ◌≤◌}
 use Rattle.btree_node.specs.Runs.{IsRunAbove}
-use Rattle.image_model.specs.declared.chunk.TheConstants.{CHUNK_ENTRIES}
+use Rattle.store_image_model.specs.declared.chunk.TheConstants.{CHUNK_ENTRIES}
 use Rattle.nsf_core.specs.Value.{value_of}
 use Rattle.core_copies.proofs.Chunks.{AreCopied}
 use Rattle.core_copies.proofs.parts.next_entries.Given as goal

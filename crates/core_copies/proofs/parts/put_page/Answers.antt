@@ -1,5 +1,5 @@
 use Rattle.std.proofs.Common.{arith, refl, subst, ◌≡◌}
-use Rattle.records.specs.declared.rid.TheConstants.{SLOTS_PER_PAGE}
+use Rattle.record_values.specs.declared.rid.TheConstants.{SLOTS_PER_PAGE}
 use Rattle.nsf_core.specs.Value.{value_of}
 use Rattle.core_copies.specs.Private.{table_of}
 use Rattle.core_copies.proofs.Paged.{ArePutTo, one_put, page_put}

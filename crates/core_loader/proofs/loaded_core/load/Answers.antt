@@ -1,14 +1,14 @@
 use Rattle.std.proofs.Common.{ap, arith, subst, sym, ◌∙◌, ◌≡◌, ◌≤◌}
 use Rattle.std.specs.FinMap as map
-use Rattle.records.specs.GeometryValue.{GeometryValue}
+use Rattle.record_values.specs.GeometryValue.{GeometryValue}
 use Rattle.model.specs.Following.{IsWithin}
-use Rattle.redo.specs.Restored.{given_in}
+use Rattle.store_reader.specs.Restored.{given_in}
 use Rattle.core_model.specs.Histories.{opened}
-use Rattle.core_contracts.specs.Events.{standing_at}
+use Rattle.core_model.specs.Events.{standing_at}
 use Rattle.nsf_core.specs.Loading.{IsLifeInside, life_loaded}
-use Rattle.nsf_core.specs.Moves.{fresh}
+use Rattle.core_parts.specs.Moves.{fresh}
 use Rattle.nsf_core.specs.Value.{value_of}
-use Rattle.nsf_core.specs.View.{CoreValue, IsState}
+use Rattle.core_parts.specs.View.{CoreValue, IsState}
 use Rattle.core_loader.specs.Loaded.{store_of, with_entries, with_rows}
 use Rattle.core_loader.proofs.Loading.{stands_for}
 use Rattle.core_loader.proofs.loaded_core.load.Goals as goal

@@ -1,10 +1,10 @@
 use Rattle.std.proofs.Common.{List, rules, subst, sym, ap, ◌∙◌}
 use Rattle.std.specs.Prelude.{T}
 use Rattle.std.specs.FinMap as map
-use Rattle.records.specs.Maps.{pair_exact}
-use Rattle.records.specs.Orders.{pair_cmp}
-use Rattle.records.specs.declared.pair.Pair.{Pair}
-use Rattle.records.specs.declared.pair.Mark.{Mark}
+use Rattle.record_values.specs.Maps.{pair_exact}
+use Rattle.record_values.specs.Orders.{pair_cmp}
+use Rattle.record_values.specs.declared.pair.Pair.{Pair}
+use Rattle.record_values.specs.declared.pair.Mark.{Mark}
 use Rattle.model.specs.Table.{Index}
 use Rattle.nsf_core.specs.Value.{value_of}
 use Rattle.core_loader.proofs.InOrder.{all_in_order, next_left, next_sorted, next_there, none_in_order}

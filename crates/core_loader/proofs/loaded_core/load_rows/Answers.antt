@@ -2,10 +2,10 @@ use Rattle.std.proofs.Common.{List, drop, subst, sym, ap, ◌∷◌, ◌∙◌, 
 use Rattle.std.proofs.lemmas.List.{drop_more, drop_all}
 use Rattle.std.specs.Prelude.{T}
 use Rattle.std.specs.FinMap as map
-use Rattle.records.specs.Maps.{rid_exact}
-use Rattle.records.specs.Orders.{rid_cmp}
-use Rattle.records.specs.Values.{Place}
-use Rattle.records.specs.declared.row.Row.{Row}
+use Rattle.record_values.specs.Maps.{rid_exact}
+use Rattle.record_values.specs.Orders.{rid_cmp}
+use Rattle.record_values.specs.Values.{Place}
+use Rattle.record_values.specs.declared.row.Row.{Row}
 use Rattle.model.specs.Table.{Table}
 use Rattle.nsf_core.specs.Value.{value_of}
 use Rattle.core_loader.proofs.InOrder.{all_in_order, next_left, next_sorted, next_there, none_in_order}

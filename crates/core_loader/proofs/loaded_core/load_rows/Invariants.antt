@@ -1,7 +1,7 @@
 use Rattle.std.proofs.Common.{drop}
 use Rattle.std.specs.Prelude.{T}
 use Rattle.std.specs.FinMap as map
-use Rattle.records.specs.Orders.{rid_cmp}
+use Rattle.record_values.specs.Orders.{rid_cmp}
 use Rattle.nsf_core.specs.Value.{value_of}
 use Rattle.core_loader.proofs.Loading.{AreRowsLoaded}
 use Rattle.core_loader.proofs.loaded_core.load_rows.Given as goal

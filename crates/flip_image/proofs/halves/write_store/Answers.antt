@@ -1,6 +1,6 @@
 use Rattle.std.proofs.Common.{◌≡◌, ◌≤◌, length, sym, ◌∙◌, ap, subst, refl, arith}
 use Rattle.std.proofs.lemmas.Result.{on_ok_weaker}
-use Rattle.records.specs.GeometryValue.{GeometryValue, IsGeometry}
+use Rattle.record_values.specs.GeometryValue.{GeometryValue, IsGeometry}
 use Rattle.sector_device.specs.Disk.{Disk, sector, IsSynced, SameOutside}
 use Rattle.sector_device.proofs.Sectors.{sector_written, content_after, holds_after_sync}
 use Rattle.flip_image.specs.declared.half.Half.TheVariants.{A}
@@ -12,7 +12,7 @@ use Rattle.flip_image.proofs.halves.write_store.Goals as goal
 
 pub returns-clause-formatted : goal.returns-clause-formatted
 returns-clause-formatted g c =
-    let h = g.D.Device.history in
+    let h = g.D.Device.past_of in
     let d0 = (h c.args.device.now).disk in
     let d1 = (h c.write.new.self).disk in
     let d2 = (h c.write-2.new.self).disk in
@@ -40,7 +40,7 @@ returns-clause-formatted g c =
 
 pub returns-clause-outside : goal.returns-clause-outside
 returns-clause-outside g c =
-    let h = g.D.Device.history in
+    let h = g.D.Device.past_of in
     let d0 = (h c.args.device.now).disk in
     let d1 = (h c.write.new.self).disk in
     let d2 = (h c.write-2.new.self).disk in
@@ -60,7 +60,7 @@ returns-clause-outside g c =
 
 pub returns-clause-flip : goal.returns-clause-flip
 returns-clause-flip g c =
-    let h = g.D.Device.history in
+    let h = g.D.Device.past_of in
     let d0 = (h c.args.device.now).disk in
     let d1 = (h c.write.new.self).disk in
     let d2 = (h c.write-2.new.self).disk in
@@ -82,7 +82,7 @@ returns-clause-flip g c =
 
 pub returns-clause-gates : goal.returns-clause-gates
 returns-clause-gates g c =
-    let h = g.D.Device.history in
+    let h = g.D.Device.past_of in
     let d0 = (h c.args.device.now).disk in
     let d1 = (h c.write.new.self).disk in
     let d2 = (h c.write-2.new.self).disk in
@@ -104,7 +104,7 @@ returns-clause-closed g c = on_ok_weaker c.sync.result (gates_closed c.args.geom
 
 pub returns-in_err-write_zeros-2-clause-outside : goal.returns-in_err-write_zeros-2-clause-outside
 returns-in_err-write_zeros-2-clause-outside g c =
-    let h = g.D.Device.history in
+    let h = g.D.Device.past_of in
     let d0 = (h c.args.device.now).disk in
     let d1 = (h c.write.new.self).disk in
     let d2 = (h c.write-2.new.self).disk in
@@ -123,7 +123,7 @@ returns-in_err-write_zeros-2-clause-outside g c =
 
 pub returns-in_err-write_zeros-3-clause-outside : goal.returns-in_err-write_zeros-3-clause-outside
 returns-in_err-write_zeros-3-clause-outside g c =
-    let h = g.D.Device.history in
+    let h = g.D.Device.past_of in
     let d0 = (h c.args.device.now).disk in
     let d1 = (h c.write.new.self).disk in
     let d2 = (h c.write-2.new.self).disk in

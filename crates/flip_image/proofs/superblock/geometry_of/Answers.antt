@@ -1,6 +1,6 @@
 use Rattle.std.proofs.Common.{◌≡◌, inl, inr, refl, arith, sym, ◌∙◌, subst, All}
 use Rattle.std.proofs.lemmas.Bool.{false≢true, iff_false}
-use Rattle.records.specs.GeometryValue.{GeometryValue, IsGeometry}
+use Rattle.record_values.specs.GeometryValue.{GeometryValue, IsGeometry}
 use Rattle.flip_image.specs.Store.{IsSuperblockIn, HasOlderNumber}
 use Rattle.flip_image.proofs.Spelled.{title_there, title_told, numbers_told, same_limits, superblock_read, older_there, older_told}
 use Rattle.flip_image.proofs.superblock.geometry_of.Goals as goal

@@ -1,4 +1,4 @@
-use Rattle.records.specs.declared.version.Version.TheVariants.{Two}
+use Rattle.record_values.specs.declared.version.Version.TheVariants.{Two}
 use Rattle.flip_image.proofs.Spelled.{superblock_filled}
 use Rattle.flip_image.proofs.ZeroRows.{zero_rest}
 use Rattle.flip_image.proofs.superblock.superblock.Goals as goal

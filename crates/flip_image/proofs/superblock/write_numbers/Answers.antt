@@ -1,5 +1,5 @@
 use Rattle.std.proofs.Common.{◌++◌, drop, refl, ap, ◌∙◌}
-use Rattle.records.specs.GeometryValue.{GeometryValue}
+use Rattle.record_values.specs.GeometryValue.{GeometryValue}
 use Rattle.records.specs.Spelling.{u32}
 use Rattle.flip_image.proofs.Spelled.{numbers_written}
 use Rattle.flip_image.proofs.superblock.write_numbers.Goals as goal

@@ -11,7 +11,7 @@ returns-clause-within g c =
 
 pub returns-clause-outside : goal.returns-clause-outside
 returns-clause-outside g c =
-    let h = g.D.Device.history in
+    let h = g.D.Device.past_of in
     let start = (h c.args.device.now).disk.content in
     let S : ℕ → Type 0 = IsGate (record { first = c.args.first; slots = c.args.slots }) in
     holds_after_sync (λ d. SameOutside S start d.content) (h c.write_zeros.new.device).disk

@@ -8,7 +8,7 @@ use Rattle.gate_log.proofs.slot.read_body.Goals as goal
 
 pub loop-i-preserved : goal.loop-i-preserved
 loop-i-preserved g c =
-    let h = g.D.Device.history in
+    let h = g.D.Device.past_of in
     let content = (h c.args.device.now).disk.content in
     let low = c.args.gate + 1 in
     let i = c.loop-i.i in

@@ -11,7 +11,7 @@ use Rattle.gate_log.proofs.slot.write_body.Goals as goal
 
 pub loop-i-init : goal.loop-i-init
 loop-i-init g c =
-    let h = g.D.Device.history c.args.device.now in
+    let h = g.D.Device.past_of c.args.device.now in
     record {
       written = λ k below. absurd (omega arith);
       outside = record { sectors = refl; same = λ k out. refl };
@@ -25,7 +25,7 @@ returns-in_err-write-clause-within g c = within_write _ _ _ _ _ c.loop-i.invaria
 
 pub loop-i-preserved : goal.loop-i-preserved
 loop-i-preserved g c =
-    let h = g.D.Device.history in
+    let h = g.D.Device.past_of in
     let base = c.args.gate + 1 in
     let i = c.loop-i.i in
     let mid = (h c.loop-i.device).disk in
@@ -50,7 +50,7 @@ loop-i-preserved g c =
 
 pub returns-clause-written : goal.returns-clause-written
 returns-clause-written g c =
-    let h = g.D.Device.history in
+    let h = g.D.Device.past_of in
     let gate = c.args.gate in
     let old = (h c.loop-i.device).disk in
     let new = (h c.sync.new.self).disk in
@@ -64,7 +64,7 @@ returns-clause-written g c =
 
 pub returns-clause-outside : goal.returns-clause-outside
 returns-clause-outside g c =
-    let h = g.D.Device.history in
+    let h = g.D.Device.past_of in
     let old = (h c.loop-i.device).disk in
     let new = (h c.sync.new.self).disk in
     let start = (h c.args.device.now).disk.content in
@@ -82,7 +82,7 @@ returns-in_err-write-clause-outside g c =
 
 pub returns-clause-synced : goal.returns-clause-synced
 returns-clause-synced g c =
-    let h = g.D.Device.history in
+    let h = g.D.Device.past_of in
     on_ok ((h c.sync.new.self).disk ≡ after_sync (h c.loop-i.device).disk) _ c.sync.result (λ ok. subst IsSynced (sym ok) (λ k. refl)) c.sync.ensures.ok
 
 pub returns-clause-within : goal.returns-clause-within

@@ -13,7 +13,7 @@ returns-in_err-write_body-clause-any_moment g c = partly_before _ _ c.args.gate 
 
 pub returns-clause-any_moment : goal.returns-clause-any_moment
 returns-clause-any_moment g c =
-    let h = g.D.Device.history in
+    let h = g.D.Device.past_of in
     let old = h c.args.device.now in
     let mid = h c.write_body.new.device in
     let new = h c.open_gate.new.device in
@@ -24,7 +24,7 @@ returns-clause-any_moment g c =
 
 pub returns-clause-written : goal.returns-clause-written
 returns-clause-written g c =
-    let h = g.D.Device.history in
+    let h = g.D.Device.past_of in
     let mid = (h c.write_body.new.device).disk.content in
     let new = (h c.open_gate.new.device).disk.content in
     let gate = c.args.gate in

@@ -4,24 +4,24 @@ use Rattle.headline.proofs.lives.live_behind.Goals as goal
 
 pub returns-in-Err-clause-refused : goal.returns-in-Err-clause-refused
 returns-in-Err-clause-refused g c = λ size began kept.
-    let history = g.D.Device.history in
+    let past_of = g.D.Device.past_of in
     let images : Images = record { geometry = c.one_answer.ensures.geometry; given = c.one_answer.ensures.given; readable = c.one_answer.ensures.readable } in
-    refused_so history size began c.args.days.now c.in_ok-answers.answers.items c.in_ok-answers.found
+    refused_so past_of size began c.args.days.now c.in_ok-answers.answers.items c.in_ok-answers.found
     (c.in_ok-answers.ensures.days size began kept) images g.D.Device.failures c.in-Err.field-0-1 c.in-Err.error c.in-Err.ensures.refused
 
 pub returns-clause-holds : goal.returns-clause-holds
 returns-clause-holds g c = λ size began kept none.
-    let history = g.D.Device.history in
+    let past_of = g.D.Device.past_of in
     let images : Images = record { geometry = c.one_answer.ensures.geometry; given = c.one_answer.ensures.given; readable = c.one_answer.ensures.readable } in
-    behind history size began c.args.days.now c.in_ok-answers.answers.items c.in_ok-answers.found
+    behind past_of size began c.args.days.now c.in_ok-answers.answers.items c.in_ok-answers.found
     (c.in_ok-answers.ensures.days size began kept) images c.in-Ok.engine c.in-Ok.ensures.opened c.args.build c.finish_build-unbuilt.new.engine
     c.finish_build-unbuilt.ensures.kept
     (λ wanted. c.finish_build-unbuilt.ensures.whole wanted none)
 
 pub returns-clause-unbuilt : goal.returns-clause-unbuilt
 returns-clause-unbuilt g c = λ size began kept.
-    let history = g.D.Device.history in
+    let past_of = g.D.Device.past_of in
     let images : Images = record { geometry = c.one_answer.ensures.geometry; given = c.one_answer.ensures.given; readable = c.one_answer.ensures.readable } in
-    unbuilt history size began c.args.days.now c.in_ok-answers.answers.items c.in_ok-answers.found
+    unbuilt past_of size began c.args.days.now c.in_ok-answers.answers.items c.in_ok-answers.found
     (c.in_ok-answers.ensures.days size began kept) images c.in-Ok.engine c.in-Ok.ensures.opened c.args.build _ c.finish_build-unbuilt.result
     c.finish_build-unbuilt.ensures.wanted c.finish_build-unbuilt.ensures.refused

@@ -10,7 +10,7 @@ pub loop-day-init : goal.loop-day-init
 loop-day-init g c = record {
   even = ap length c.in_ok-answers.ensures.items;
   room = omega (arith, c.in_ok-answers.ensures.exact);
-  keeps = λ size began keeps. subst (λ (rs : List (Answer _)). KeepsDays g.D.Device.history size began [] rs c.args.device)
+  keeps = λ size began keeps. subst (λ (rs : List (Answer _)). KeepsDays g.D.Device.past_of size began [] rs c.args.device)
       (sym c.in_ok-answers.ensures.items) keeps;
 }
 
@@ -23,13 +23,13 @@ loop-day-preserved g c =
       even = omega (arith, inv.even, ap length c.in-Ok.ensures.items, length-append answers (answer ∷ []));
       room = omega (arith, inv.room, c.push.ensures.capacity);
       keeps = λ size began keeps.
-          day_more g.D.Device.history size began c.args.days.now c.loop-day.day-index c.day-item.result answers c.push.new.self.items answer
+          day_more g.D.Device.past_of size began c.args.days.now c.loop-day.day-index c.day-item.result answers c.push.new.self.items answer
           c.live_one_day-answer.result.1 c.loop-day-test.true c.day-item.is c.in-Ok.ensures.items
           (c.live_one_day-answer.ensures size began (take c.loop-day.day-index c.args.days.now) answers (inv.keeps size began keeps));
     }
 
 pub returns-clause-days : goal.returns-clause-days
 returns-clause-days g c = λ size began keeps.
-    subst (λ (ds : List (Day _)). KeepsDays g.D.Device.history size began ds c.loop-day.answers.items c.loop-day.device)
+    subst (λ (ds : List (Day _)). KeepsDays g.D.Device.past_of size began ds c.loop-day.answers.items c.loop-day.device)
     (take_all c.loop-day.day-index c.args.days.now c.loop-day-test.false)
     (c.loop-day.invariant.keeps size began keeps)

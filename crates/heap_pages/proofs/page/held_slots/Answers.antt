@@ -1,7 +1,7 @@
 use Rattle.std.proofs.Common.{◌==◌, true, false, length, slice_get, slice_set, refl, sym, ap, ◌∙◌, arith, eq-eqb}
 use Rattle.std.proofs.lemmas.Option.{slice_get_read, slice_get_within}
-use Rattle.records.specs.Values.{Place}
-use Rattle.records.specs.declared.rid.TheConstants.{SLOTS_PER_PAGE}
+use Rattle.record_values.specs.Values.{Place}
+use Rattle.record_values.specs.declared.rid.TheConstants.{SLOTS_PER_PAGE}
 use Rattle.heap_pages.proofs.Held.{get-replicate, held_here, held_elsewhere}
 use Rattle.heap_pages.proofs.page.held_slots.Goals as goal
 use Rattle.heap_pages.proofs.page.held_slots.Goals.{then-rid-page, else-rid-page}

@@ -1,5 +1,5 @@
 use Rattle.std.proofs.Common.{List, subst, sym}
-use Rattle.closing.specs.Gathered.{AreAllSeats}
+use Rattle.threads_lifetime.specs.Gathered.{AreAllSeats}
 use Rattle.shared.specs.Seats.{SeatValue}
 use Rattle.nsf.proofs.Orders.{all_left, all_new}
 use Rattle.nsf.proofs.clients.seat_all.Goals as goal

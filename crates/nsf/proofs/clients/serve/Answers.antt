@@ -1,6 +1,6 @@
 use Rattle.std.proofs.Common.{IfErr, subst, ℕ}
 use Rattle.std.proofs.lemmas.Result.{IfOk-weaker}
-use Rattle.opening.specs.Openings.{IsNotShared}
+use Rattle.threads_lifetime.specs.Openings.{IsNotShared}
 use Rattle.nsf.proofs.Refusals.{none_began}
 use Rattle.nsf.proofs.clients.serve.Goals as goal
 
@@ -10,7 +10,7 @@ returns-in-Ok-clause-leaves g c = IfOk-weaker c.begin.result _ _ (λ served leav
 
 pub returns-in-Ok-clause-refused : goal.returns-in-Ok-clause-refused
 returns-in-Ok-clause-refused g c =
-    let history = g.D.Device.history in
+    let past_of = g.D.Device.past_of in
     let failures = g.D.Device.failures in
-    subst (λ (n : ℕ). IfErr c.begin.result (λ r. IsNotShared history failures c.args.device n r.1 r.0)) c.len.ensures
-    (none_began history failures c.args.device c.len.result c.in-Ok.store c.in-Ok.ensures.opened c.begin.result c.begin.ensures.no_memory)
+    subst (λ (n : ℕ). IfErr c.begin.result (λ r. IsNotShared past_of failures c.args.device n r.1 r.0)) c.len.ensures
+    (none_began past_of failures c.args.device c.len.result c.in-Ok.store c.in-Ok.ensures.opened c.begin.result c.begin.ensures.no_memory)

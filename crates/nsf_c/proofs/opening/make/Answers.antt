@@ -1,6 +1,6 @@
 use Rattle.std.proofs.Common.{rules, ◌≡◌, ◌⊎◌, inl, inr, refl, ap, ◌∙◌}
-use Rattle.records.specs.GeometryValue.{IsGeometry}
-use Rattle.records.specs.Refusals.{number_of}
+use Rattle.record_values.specs.GeometryValue.{IsGeometry}
+use Rattle.record_values.specs.Refusals.{number_of}
 use Rattle.std.proofs.lemmas.List.{length-replicate}
 use Rattle.std.specs.Prelude.{ℕ, List, length}
 use Rattle.sector_device.specs.Values.{zero_sector}

@@ -1,5 +1,5 @@
 use Rattle.std.proofs.Common.{subst, IfOk}
-use Rattle.records.specs.GeometryValue.{GeometryValue}
+use Rattle.record_values.specs.GeometryValue.{GeometryValue}
 use Rattle.nsf_c.specs.Calls.{IsMade, IsOpenedOn}
 use Rattle.nsf_c.proofs.Opened.{put_is}
 use Rattle.nsf_c.proofs.opening.nsf_create.Goals as goal

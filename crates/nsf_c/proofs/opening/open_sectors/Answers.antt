@@ -1,5 +1,5 @@
 use Rattle.std.proofs.Common.{inl, inr, refl, ap}
-use Rattle.records.specs.Refusals.{number_of}
+use Rattle.record_values.specs.Refusals.{number_of}
 use Rattle.nsf_c.specs.Calls.{Is, IsDisk}
 use Rattle.nsf_c.proofs.Opened.{ok_and, ok_map, err_map}
 use Rattle.nsf_c.proofs.opening.open_sectors.Goals as goal

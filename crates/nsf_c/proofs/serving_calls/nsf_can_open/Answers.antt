@@ -1,11 +1,11 @@
 use Rattle.std.proofs.Common.{◌∙◌, ap, subst, IsTrue, ◌↔◌}
 use Rattle.core_model.specs.Histories.{CanOpen}
-use Rattle.nsf_core.specs.View.{CoreValue}
-use Rattle.nsf_core.specs.Opening.{opened_of}
+use Rattle.core_parts.specs.View.{CoreValue}
+use Rattle.core_parts.specs.Opening.{opened_of}
 use Rattle.restart.specs.Parts.{core_of}
-use Rattle.serving.specs.Guarded.{store_of}
-use Rattle.serving.specs.Store.{engine_of}
-use Rattle.serving.specs.declared.store.Store.{Store}
+use Rattle.program_commands.specs.Guarded.{store_of}
+use Rattle.program_commands.specs.Store.{engine_of}
+use Rattle.program_commands.specs.declared.store.Store.{Store}
 use Rattle.nsf_c.specs.Handles.{Disk}
 use Rattle.nsf_c.specs.declared.held.Held.{Held}
 use Rattle.nsf_c.proofs.serving_calls.nsf_can_open.Goals as goal

@@ -1,10 +1,10 @@
 use Rattle.std.proofs.Common.{◌∙◌, ap}
 use Rattle.model.specs.declared.life.Life.{Life}
-use Rattle.nsf_core.specs.View.{CoreValue}
+use Rattle.core_parts.specs.View.{CoreValue}
 use Rattle.restart.specs.Parts.{core_of}
-use Rattle.serving.specs.Guarded.{store_of}
-use Rattle.serving.specs.Store as serving
-use Rattle.serving.specs.declared.store.Store.{Store}
+use Rattle.program_commands.specs.Guarded.{store_of}
+use Rattle.program_commands.specs.Store as serving
+use Rattle.program_commands.specs.declared.store.Store.{Store}
 use Rattle.nsf_c.specs.Handles.{Disk}
 use Rattle.nsf_c.specs.Told.{life_told}
 use Rattle.nsf_c.specs.declared.held.Held.{Held}

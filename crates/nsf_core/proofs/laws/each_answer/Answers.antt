@@ -1,4 +1,4 @@
-use Rattle.nsf_core.proofs.Due.{stands}
+use Rattle.core_parts.proofs.Due.{stands}
 use Rattle.nsf_core.proofs.laws.each_answer.Goals as goal
 
 pub returns : goal.returns

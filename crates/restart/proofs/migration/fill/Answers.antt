@@ -1,19 +1,19 @@
 use Rattle.std.proofs.Common.{◌≡◌, ◌<◌, arith, inr, refl, sym, ap, subst, ◌∙◌}
-use Rattle.sector_device.specs.History.{Rises}
+use Rattle.sector_device.specs.DevicePast.{Rises}
 use Rattle.sector_device.proofs.Moments.{content_at_end}
 use Rattle.sector_device.proofs.Sectors.{same_outside_then, same_outside_wider}
-use Rattle.records.specs.GeometryValue.{GeometryValue, sectors_of}
+use Rattle.record_values.specs.GeometryValue.{GeometryValue, sectors_of}
 use Rattle.model.specs.Given.{Given, opening_cells}
-use Rattle.image_half.specs.Source.{FitsImage}
+use Rattle.store_image_half.specs.Source.{FitsImage}
 use Rattle.flip_image.specs.Layout.{HalvesValue}
-use Rattle.redo.specs.Restored.{given_in}
+use Rattle.store_reader.specs.Restored.{given_in}
 use Rattle.store_reader.specs.Contents.{Gives}
 use Rattle.store_writer.specs.Writer.{IsOpenedAt}
-use Rattle.core_contracts.specs.Events.{standing_at}
+use Rattle.core_model.specs.Events.{standing_at}
 use Rattle.core_loader.specs.Loaded.{holding}
 use Rattle.core_model.specs.Histories.{opened}
 use Rattle.nsf_core.specs.Value.{value_of}
-use Rattle.nsf_core.specs.View.{IsState}
+use Rattle.core_parts.specs.View.{IsState}
 use Rattle.restart.specs.Store.{over}
 use Rattle.store_opener.specs.Reopening.{IsSpare}
 use Rattle.restart.proofs.Migrated.{spare_inside}
@@ -25,7 +25,7 @@ write_over-requires-clause-fits g c = subst (λ (x : GeometryValue). FitsImage x
 
 pub returns-in-Ok-write_over-clause-filled : goal.returns-in-Ok-write_over-clause-filled
 returns-in-Ok-write_over-clause-filled g c =
-    let now = g.D.Device.history c.write_over.new.device in
+    let now = g.D.Device.past_of c.write_over.new.device in
     let made = c.in-Ok-write_over.made in
     let written = c.in-Ok-write_over.ensures in
     let given : Given = given_in c.args.restored in
@@ -53,7 +53,7 @@ returns-in-Err-write_over-clause-refused g c =
 
 pub returns-in-Ok-write_over-clause-around : goal.returns-in-Ok-write_over-clause-around
 returns-in-Ok-write_over-clause-around g c =
-    let h = g.D.Device.history in
+    let h = g.D.Device.past_of in
     let halves = c.in-Ok-format.halves in
     let size = c.args.restored.geometry in
     let before = (h c.args.device.now).disk.content in

@@ -1,7 +1,7 @@
 use Rattle.std.proofs.Common.{◌<◌, sym, ap, subst}
 use Rattle.sector_device.specs.Disk.{Disk, SameOutside}
 use Rattle.sector_device.proofs.Sectors.{same_outside_wider}
-use Rattle.records.specs.GeometryValue.{sectors_of}
+use Rattle.record_values.specs.GeometryValue.{sectors_of}
 use Rattle.flip_image.specs.declared.half.Half.TheVariants.{A}
 use Rattle.flip_image.specs.Layout.{HalvesValue}
 use Rattle.flip_image.specs.Store.{IsFormatSector}
@@ -15,7 +15,7 @@ returns-clause-geometry g c =
 
 pub returns-clause-around : goal.returns-clause-around
 returns-clause-around g c =
-    let h = g.D.Device.history in
+    let h = g.D.Device.past_of in
     let size = c.args.geometry in
     let before = (h c.args.device.now).disk.content in
     on_ok_always _ c.open.result (subst (λ (d : Disk). SameOutside (λ n. n < sectors_of size) before d.content) (sym c.open.ensures.reads.disk)

@@ -1,8 +1,8 @@
 use Rattle.std.proofs.Common.{◌<◌, ◌∙◌, ap, arith, inl, inr, length, refl, sym, subst, ⊎_elim}
 use Rattle.sector_device.specs.Disk.{SameOutside}
-use Rattle.records.specs.GeometryValue.{GeometryValue, sectors_of}
-use Rattle.records.specs.declared.version.Version.TheVariants.{One}
-use Rattle.redo.specs.Restored.{given_in}
+use Rattle.record_values.specs.GeometryValue.{GeometryValue, sectors_of}
+use Rattle.record_values.specs.declared.version.Version.TheVariants.{One}
+use Rattle.store_reader.specs.Restored.{given_in}
 use Rattle.nsf_core.specs.Value.{value_of}
 use Rattle.restart.specs.declared.migration.MigrateError.TheVariants as refusals
 use Rattle.restart.proofs.Migrated.{has_header, if_err_weaker, if_ok_weaker, moved, on_ok_weaker, not_failed, not_filled, old_not_moved, told_small, wanted}
@@ -11,13 +11,13 @@ use Rattle.restart.proofs.migration.move_store.Goals as goal
 pub fill-requires : goal.fill-requires
 fill-requires g c =
     let found = c.in-Ok.found in
-    c.room_for_given.ensures One (g.O.Device.history c.args.old.now).disk.content found.restored.geometry (given_in found.restored) c.in-Ok.ensures.found.gives
+    c.room_for_given.ensures One (g.O.Device.past_of c.args.old.now).disk.content found.restored.geometry (given_in found.restored) c.in-Ok.ensures.found.gives
 
 pub returns-in-Ok-clause-moved : goal.returns-in-Ok-clause-moved
 returns-in-Ok-clause-moved g c =
     let restored = c.in-Ok.found.restored in
     if_ok_weaker _ _ c.fill.result
-    (λ r filled. moved (g.O.Device.history c.args.old.now).disk.content restored.geometry (given_in restored) (g.N.Device.history c.fill.new.device) r.1 r.2
+    (λ r filled. moved (g.O.Device.past_of c.args.old.now).disk.content restored.geometry (given_in restored) (g.N.Device.past_of c.fill.new.device) r.1 r.2
     (value_of r.0) c.in-Ok.ensures.found.gives filled) c.fill.ensures.filled
 
 pub returns-in-Ok-clause-refused : goal.returns-in-Ok-clause-refused
@@ -25,8 +25,8 @@ returns-in-Ok-clause-refused g c =
     let restored = c.in-Ok.found.restored in
     let f = g.O.Device.failures in
     if_err_weaker _ _ c.fill.result
-    (λ e why. not_filled (g.O.Device.history c.args.old.now).disk.content (f c.args.old.now)
-    (f c.read_store_in.new.device) g.N.Device.history g.N.Device.failures c.args.new.now c.fill.new.device restored.geometry
+    (λ e why. not_filled (g.O.Device.past_of c.args.old.now).disk.content (f c.args.old.now)
+    (f c.read_store_in.new.device) g.N.Device.past_of g.N.Device.failures c.args.new.now c.fill.new.device restored.geometry
     (given_in restored) c.in-Ok.ensures.found.gives e why)
     c.fill.ensures.refused
 
@@ -36,8 +36,8 @@ returns-in-Ok-clause-kept g c = c.read_store_in.ensures.reads
 pub returns-in-Ok-clause-room : goal.returns-in-Ok-clause-room
 returns-in-Ok-clause-room g c =
     let restored = c.in-Ok.found.restored in
-    let old = (g.O.Device.history c.args.old.now).disk.content in
-    let new = (g.N.Device.history c.args.new.now).disk.content in
+    let old = (g.O.Device.past_of c.args.old.now).disk.content in
+    let new = (g.N.Device.past_of c.args.new.now).disk.content in
     on_ok_weaker _ _ c.fill.result
     (λ enough small. omega (
       arith,
@@ -52,10 +52,10 @@ pub returns-in-Ok-clause-too_small : goal.returns-in-Ok-clause-too_small
 returns-in-Ok-clause-too_small g c small =
     let restored = c.in-Ok.found.restored in
     let f = g.O.Device.failures in
-    let old = (g.O.Device.history c.args.old.now).disk.content in
-    let new = (g.N.Device.history c.args.new.now).disk.content in
+    let old = (g.O.Device.past_of c.args.old.now).disk.content in
+    let new = (g.N.Device.past_of c.args.new.now).disk.content in
     if_err_weaker _ _ c.fill.result
-    (λ e why. told_small old (f c.args.old.now) (f c.read_store_in.new.device) g.N.Device.history g.N.Device.failures c.args.new.now c.fill.new.device
+    (λ e why. told_small old (f c.args.old.now) (f c.read_store_in.new.device) g.N.Device.past_of g.N.Device.failures c.args.new.now c.fill.new.device
     restored.geometry (given_in restored) c.in-Ok.ensures.found.gives
     (λ is. subst (λ (x : GeometryValue). length new < sectors_of x)
     (c.one_old_answer.ensures.geometry old is.geometry restored.geometry is.given (given_in restored) is.gave c.in-Ok.ensures.found.gives) is.few) e why
@@ -65,8 +65,8 @@ returns-in-Ok-clause-too_small g c small =
 pub returns-in-Err-clause-refused : goal.returns-in-Err-clause-refused
 returns-in-Err-clause-refused g c =
     let f = g.O.Device.failures in
-    old_not_moved (g.O.Device.history c.args.old.now).disk.content (f c.args.old.now)
-    (f c.read_store_in.new.device) g.N.Device.history g.N.Device.failures c.args.new.now c.in-Err.error c.refusal_of_old.result c.refusal_of_old.ensures
+    old_not_moved (g.O.Device.past_of c.args.old.now).disk.content (f c.args.old.now)
+    (f c.read_store_in.new.device) g.N.Device.past_of g.N.Device.failures c.args.new.now c.in-Err.error c.refusal_of_old.result c.refusal_of_old.ensures
     c.in-Err.ensures.refused
 
 pub returns-in-Err-clause-too_small : goal.returns-in-Err-clause-too_small
@@ -79,7 +79,7 @@ returns-in-Err-clause-too_small g c small = ⊎_elim
 pub returns-in-Ok-clause-memory : goal.returns-in-Ok-clause-memory
 returns-in-Ok-clause-memory g c =
     let restored = c.in-Ok.found.restored in
-    if_err_weaker _ _ c.fill.result (λ e why none. has_header (g.O.Device.history c.args.old.now).disk.content restored.geometry
+    if_err_weaker _ _ c.fill.result (λ e why none. has_header (g.O.Device.past_of c.args.old.now).disk.content restored.geometry
     (given_in restored) c.in-Ok.ensures.found.gives) c.fill.ensures.refused
 
 pub returns-in-Ok-clause-told : goal.returns-in-Ok-clause-told
@@ -94,8 +94,8 @@ returns-in-Err-clause-told g c other = c.in-Err.ensures.told (not_failed c.in-Er
 pub returns-in-Ok-clause-around : goal.returns-in-Ok-clause-around
 returns-in-Ok-clause-around g c =
     let restored = c.in-Ok.found.restored in
-    let old = (g.O.Device.history c.args.old.now).disk.content in
-    let h = g.N.Device.history in
+    let old = (g.O.Device.past_of c.args.old.now).disk.content in
+    let h = g.N.Device.past_of in
     on_ok_weaker _ _ c.fill.result
     (λ same geometry given gives. subst (λ (x : GeometryValue).
     SameOutside (λ n. n < sectors_of x) (h c.args.new.now).disk.content (h c.fill.new.device).disk.content)

@@ -1,22 +1,22 @@
 use Rattle.std.proofs.Common.{◌≢◌, ◌∙◌, sym, ap, subst}
 use Rattle.std.proofs.lemmas.Result.{err_from_is_err_and}
-use Rattle.records.specs.GeometryValue.{GeometryValue}
-use Rattle.records.specs.declared.error.Error.TheVariants.{DeviceFailed, NoMemory}
+use Rattle.record_values.specs.GeometryValue.{GeometryValue}
+use Rattle.record_values.specs.declared.error.Error.TheVariants.{DeviceFailed, NoMemory}
 use Rattle.sector_device.specs.Disk.{IsSynced}
 use Rattle.gate_log.specs.Area.{Refuses}
-use Rattle.core_contracts.specs.Events.{standing_at}
+use Rattle.core_model.specs.Events.{standing_at}
 use Rattle.core_loader.specs.Loaded.{holding}
 use Rattle.core_model.specs.Histories.{opened}
 use Rattle.nsf_core.specs.Value.{value_of}
-use Rattle.nsf_core.specs.View.{IsState}
-use Rattle.redo.specs.Restored.{given_in}
+use Rattle.core_parts.specs.View.{IsState}
+use Rattle.store_reader.specs.Restored.{given_in}
 use Rattle.restart.specs.Reopening.{IsUnwritten}
 use Rattle.restart.specs.Store.{over}
 use Rattle.restart.proofs.reopen.open_core.Goals as goal
 
 pub returns-in_err-found-clause-settled : goal.returns-in_err-found-clause-settled
 returns-in_err-found-clause-settled g c =
-    let h = g.D.Device.history in
+    let h = g.D.Device.past_of in
     let p = err_from_is_err_and c.from_residual.result c.from_residual.ensures.1 in
     rw p.1 (subst (λ e. e ≢ DeviceFailed → IsSynced (h c.reopen.new.device).disk) (sym p.2) c.in_err-found.ensures.settled)
 
@@ -40,7 +40,7 @@ returns-clause-found g c =
 
 pub returns-in_err-found-clause-unwritten : goal.returns-in_err-found-clause-unwritten
 returns-in_err-found-clause-unwritten g c =
-    let h = g.D.Device.history in
+    let h = g.D.Device.past_of in
     let p = err_from_is_err_and c.from_residual.result c.from_residual.ensures.1 in
     rw p.1 (subst (λ e. e ≢ DeviceFailed → e ≢ NoMemory
     → IsUnwritten h c.args.device.now c.reopen.new.device) (sym p.2) (λ other _.

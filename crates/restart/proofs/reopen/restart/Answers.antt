@@ -1,7 +1,7 @@
 use Rattle.std.proofs.Common.{refl, sym, ap, subst, ◌∙◌}
 use Rattle.model.specs.Given.{opening_cells}
 use Rattle.store_writer.specs.Writer.{IsOpenedAt}
-use Rattle.restart.specs.declared.copying.Copying.TheVariants.{Idle}
+use Rattle.store_writer.specs.declared.copying.Copying.TheVariants.{Idle}
 use Rattle.restart.specs.declared.parts.Parts.{Parts}
 use Rattle.restart.specs.Reopening.{StaysOfAnyRun}
 use Rattle.restart.proofs.Reopened.{can_run_made, opened_made, recovers_made, stays_left}
@@ -9,7 +9,7 @@ use Rattle.restart.proofs.reopen.restart.Goals as goal
 
 pub new-writer-requires : goal.new-writer-requires
 new-writer-requires g c =
-    let h = g.D.Device.history in
+    let h = g.D.Device.past_of in
     let found = c.in-Ok.ensures.found in (
       opening_cells found.given,
       subst (λ n. IsOpenedAt (h c.open_core.new.device) c.in-Ok.halves c.in-Ok.log n (opening_cells found.given))
@@ -18,7 +18,7 @@ new-writer-requires g c =
 
 pub invariant_of-result : goal.invariant_of-result
 invariant_of-result g c =
-    let h = g.D.Device.history in
+    let h = g.D.Device.past_of in
     let engine : Parts g.row.D.Denot g.row.A.Denot = record {
       core = c.in-Ok.core;
       writer = c.new-writer.result;
@@ -33,7 +33,7 @@ invariant_of-result g c =
 
 pub returns-in-Ok-clause-opened : goal.returns-in-Ok-clause-opened
 returns-in-Ok-clause-opened g c =
-    let h = g.D.Device.history in
+    let h = g.D.Device.past_of in
     let engine : Parts g.row.D.Denot g.row.A.Denot = record {
       core = c.in-Ok.core;
       writer = c.new-writer.result;
@@ -48,7 +48,7 @@ returns-in-Ok-clause-opened g c =
 
 pub returns-in-Ok-clause-recovers : goal.returns-in-Ok-clause-recovers
 returns-in-Ok-clause-recovers g c past floor left =
-    let h = g.D.Device.history in
+    let h = g.D.Device.past_of in
     let engine : Parts g.row.D.Denot g.row.A.Denot = record {
       core = c.in-Ok.core;
       writer = c.new-writer.result;
@@ -63,13 +63,13 @@ returns-in-Ok-clause-recovers g c past floor left =
 
 pub returns-in-Ok-clause-stays : goal.returns-in-Ok-clause-stays
 returns-in-Ok-clause-stays g c =
-    let h = g.D.Device.history in
+    let h = g.D.Device.past_of in
     subst (λ d. StaysOfAnyRun g.row.A.Denot h c.args.device d) (sym c.new-writer.ensures.device)
     (stays_left {M = g.row.A.Denot} h c.args.device c.open_core.new.device c.open_core.ensures.turned c.written_back.ensures.synced)
 
 pub returns-in-Err-clause-stays_refused : goal.returns-in-Err-clause-stays_refused
 returns-in-Err-clause-stays_refused g c =
-    stays_left {M = g.row.A.Denot} g.D.Device.history c.args.device c.open_core.new.device c.open_core.ensures.turned c.written_back.ensures.synced
+    stays_left {M = g.row.A.Denot} g.D.Device.past_of c.args.device c.open_core.new.device c.open_core.ensures.turned c.written_back.ensures.synced
 
 pub returns-in-Err-clause-readable : goal.returns-in-Err-clause-readable
 returns-in-Err-clause-readable g c past floor left = c.in-Err.ensures.accepted past.geometry left.given left.gives

@@ -17,7 +17,7 @@ loop-i-init g c = record {
 
 pub loop-i-preserved : goal.loop-i-preserved
 loop-i-preserved g c =
-    let h = g.D.Device.history in
+    let h = g.D.Device.past_of in
     let at = c.args.first + c.args.step * c.loop-i.i in
     let mid = (h c.loop-i.device).disk in
     let so_far = c.loop-i.invariant in

@@ -1,7 +1,7 @@
 use Rattle.std.proofs.Common.{sym, ap, subst}
 use Rattle.sector_device.specs.Disk.{sector}
 use Rattle.model.specs.Given.{Given, opening_cells}
-use Rattle.redo.specs.Restored.{given_in}
+use Rattle.store_reader.specs.Restored.{given_in}
 use Rattle.flip_image.specs.Layout.{HalvesValue}
 use Rattle.flip_image.specs.Store.{Names}
 use Rattle.store_writer.specs.Writer.{IsOpenedAt}
@@ -10,14 +10,14 @@ use Rattle.store_opener.proofs.opening.write_over.Goals as goal
 
 pub returns-in_err-log-clause-images : goal.returns-in_err-log-clause-images
 returns-in_err-log-clause-images g c =
-    let h = g.D.Device.history in
+    let h = g.D.Device.past_of in
     let halves = c.args.halves in
     writing_over halves.geometry halves.current (h c.args.device.now) (h c.write_restored.new.device) c.requires.store (given_in c.args.restored)
     (room_of halves.geometry (given_in c.args.restored) c.requires.fits) c.write_restored.ensures.any_moment
 
 pub returns-in-Ok-clause-images : goal.returns-in-Ok-clause-images
 returns-in-Ok-clause-images g c =
-    let h = g.D.Device.history in
+    let h = g.D.Device.past_of in
     let halves = c.args.halves in
     let written = c.in_ok-log in
     flipping_over halves.geometry halves.current (h c.args.device.now) (h c.write_restored.new.device) c.requires.store (given_in c.args.restored)
@@ -27,7 +27,7 @@ returns-in-Ok-clause-images g c =
 
 pub returns-in-Err-clause-images : goal.returns-in-Err-clause-images
 returns-in-Err-clause-images g c =
-    let h = g.D.Device.history in
+    let h = g.D.Device.past_of in
     let halves = c.args.halves in
     let written = c.in_ok-log in
     flipping_over halves.geometry halves.current (h c.args.device.now) (h c.write_restored.new.device) c.requires.store (given_in c.args.restored)
@@ -37,7 +37,7 @@ returns-in-Err-clause-images g c =
 
 pub returns-in-Ok-clause-opened : goal.returns-in-Ok-clause-opened
 returns-in-Ok-clause-opened g c =
-    let h = g.D.Device.history in
+    let h = g.D.Device.past_of in
     let halves = c.args.halves in
     let written = c.in_ok-log in
     subst (λ (x : Given). IsOpenedAt (h c.flip.new.device) c.flip.new.self written.log x.last (opening_cells x)) (sym written.ensures.given)
@@ -50,7 +50,7 @@ returns-in-Ok-clause-opened g c =
 
 pub returns-in-Ok-clause-gives : goal.returns-in-Ok-clause-gives
 returns-in-Ok-clause-gives g c =
-    let h = g.D.Device.history in
+    let h = g.D.Device.past_of in
     let halves = c.args.halves in
     let written = c.in_ok-log in
     gives_now halves.geometry halves.current (h c.args.device.now) (h c.write_restored.new.device) c.requires.store (given_in c.args.restored)

@@ -1,10 +1,10 @@
 use Rattle.std.proofs.Common.{sym, ap, subst, ◌∙◌}
 use Rattle.model.specs.Cells.{Cells}
 use Rattle.model.specs.Given.{Given}
-use Rattle.image_half.specs.Source.{FitsImage}
+use Rattle.store_image_half.specs.Source.{FitsImage}
 use Rattle.flip_image.specs.Layout.{other}
 use Rattle.flip_image.specs.Store.{HoldsImage}
-use Rattle.redo.specs.Restored.{given_in}
+use Rattle.store_reader.specs.Restored.{given_in}
 use Rattle.store_opener.proofs.opening.write_restored.Goals as goal
 
 pub write_whole-requires-clause-fits : goal.write_whole-requires-clause-fits
@@ -15,7 +15,7 @@ write_whole-requires-clause-fits g c =
 pub returns-clause-imaged : goal.returns-clause-imaged
 returns-clause-imaged g c =
     let halves = c.args.halves in
-    let content = (g.D.Device.history c.write_whole.new.device).disk.content in
+    let content = (g.D.Device.past_of c.write_whole.new.device).disk.content in
     subst (λ (x : Cells). HoldsImage halves.geometry (other halves.current) content c.args.restored.last x) c.into_cells-cells.ensures
     c.in_ok-log.ensures.written
 

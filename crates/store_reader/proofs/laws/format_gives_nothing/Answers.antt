@@ -1,6 +1,6 @@
 use Rattle.std.proofs.Common.{sym}
 use Rattle.flip_image.specs.declared.half.Half.TheVariants.{A}
-use Rattle.records.specs.declared.version.Version.TheVariants.{Two}
+use Rattle.record_values.specs.declared.version.Version.TheVariants.{Two}
 use Rattle.model.specs.Given.{nothing}
 use Rattle.store_reader.proofs.Readings.{formatted_untouched, untouched_gives}
 use Rattle.store_reader.proofs.laws.format_gives_nothing.Goals as goal

@@ -1,4 +1,4 @@
-use Rattle.records.specs.declared.version.Version.TheVariants.{Two}
+use Rattle.record_values.specs.declared.version.Version.TheVariants.{Two}
 use Rattle.flip_image.specs.Layout.{header_sector}
 use Rattle.store_reader.proofs.Inside.{inside, numbered, few, lists_short, lists_placed}
 use Rattle.store_reader.proofs.laws.image_inside.Goals as goal

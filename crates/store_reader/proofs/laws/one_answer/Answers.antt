@@ -1,4 +1,4 @@
-use Rattle.records.specs.declared.version.Version.TheVariants.{Two}
+use Rattle.record_values.specs.declared.version.Version.TheVariants.{Two}
 use Rattle.store_reader.proofs.Readings as readings
 use Rattle.store_reader.proofs.laws.one_answer.Goals as goal
 

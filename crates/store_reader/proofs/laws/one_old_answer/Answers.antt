@@ -1,4 +1,4 @@
-use Rattle.records.specs.declared.version.Version.TheVariants.{One}
+use Rattle.record_values.specs.declared.version.Version.TheVariants.{One}
 use Rattle.store_reader.proofs.Readings as readings
 use Rattle.store_reader.proofs.laws.one_old_answer.Goals as goal
 

@@ -1,12 +1,12 @@
 use Rattle.std.proofs.Common.{◌≡◌, ◌↔◌, ◌<◌, ◌≤◌, ◌∙◌, IsTrue, List, [], arith, sym, ap, subst}
 use Rattle.std.proofs.lemmas.Result.{err_from_is_err_and}
 use Rattle.std.specs.FinMap.{len}
-use Rattle.sector_device.specs.Disk.{Disk, Image}
-use Rattle.records.specs.GeometryValue.{GeometryValue}
+use Rattle.sector_device.specs.Disk.{Disk, CrashState}
+use Rattle.record_values.specs.GeometryValue.{GeometryValue}
 use Rattle.records.specs.RecordValue.{RecordValue}
 use Rattle.gate_log.specs.Area.{StandsIn, records_of}
 use Rattle.model.specs.Given.{Given}
-use Rattle.redo.specs.Restored.{given_in}
+use Rattle.store_reader.specs.Restored.{given_in}
 use Rattle.store_reader.specs.Contents.{log_area_in, IsFoundIn, IsUntouchedIn}
 use Rattle.store_reader.proofs.Readings.{accepted_one, first_unfit, found, holds, restored, told_untouched}
 use Rattle.store_reader.proofs.Refusals.{Why, accepted, area_is, overfull, slot_damaged, record_misplaced}
@@ -14,14 +14,14 @@ use Rattle.store_reader.proofs.reader.read_store_in.Goals as goal
 
 pub returns-in_err-halves-clause-accepted : goal.returns-in_err-halves-clause-accepted
 returns-in_err-halves-clause-accepted g c x given gives =
-    let image : Image = (g.D.Device.history c.args.device.now).disk.content in
+    let image : CrashState = (g.D.Device.past_of c.args.device.now).disk.content in
     let p = err_from_is_err_and c.from_residual.result c.from_residual.ensures.1 in
     accepted c.args.version c.from_residual.result image x given _ _ gives
     (rw p.1 (subst (Why c.args.version image _ _) (sym p.2) c.in_err-halves.ensures.refused))
 
 pub returns-in_err-records-clause-refused : goal.returns-in_err-records-clause-refused
 returns-in_err-records-clause-refused g c =
-    let image : Image = (g.D.Device.history c.args.device.now).disk.content in
+    let image : CrashState = (g.D.Device.past_of c.args.device.now).disk.content in
     let same = ap (λ (d : Disk). d.content) c.open_store.ensures.reads.disk in
     let at = c.in_ok-halves in
     let area : c.new-log.result.area ≡ log_area_in c.args.version at.halves.geometry at.halves.current =
@@ -35,13 +35,13 @@ returns-in_err-records-clause-refused g c =
 
 pub returns-in_err-records-clause-accepted : goal.returns-in_err-records-clause-accepted
 returns-in_err-records-clause-accepted g c x given gives =
-    accepted c.args.version c.from_residual-in_err-records.result (g.D.Device.history c.args.device.now).disk.content x given _ _ gives
+    accepted c.args.version c.from_residual-in_err-records.result (g.D.Device.past_of c.args.device.now).disk.content x given _ _ gives
     (returns-in_err-records-clause-refused g c)
 
 pub returns-in-Ok-clause-found : goal.returns-in-Ok-clause-found
 returns-in-Ok-clause-found g c =
-    let h = g.D.Device.history in
-    let image : Image = (h c.args.device.now).disk.content in
+    let h = g.D.Device.past_of in
+    let image : CrashState = (h c.args.device.now).disk.content in
     let at = c.in_ok-halves in
     let geometry = at.halves.geometry in
     let half = at.halves.current in
@@ -63,8 +63,8 @@ returns-in-Ok-clause-found g c =
 
 pub returns-in-Ok-clause-untouched : goal.returns-in-Ok-clause-untouched
 returns-in-Ok-clause-untouched g c =
-    let h = g.D.Device.history in
-    let image : Image = (h c.args.device.now).disk.content in
+    let h = g.D.Device.past_of in
+    let image : CrashState = (h c.args.device.now).disk.content in
     let at = c.in_ok-halves in
     let geometry = at.halves.geometry in
     let half = at.halves.current in
@@ -87,8 +87,8 @@ returns-in-Ok-clause-untouched g c =
 
 pub returns-then-len-geometry-clause-refused : goal.returns-then-len-geometry-clause-refused
 returns-then-len-geometry-clause-refused g c =
-    let h = g.D.Device.history in
-    let image : Image = (h c.args.device.now).disk.content in
+    let h = g.D.Device.past_of in
+    let image : CrashState = (h c.args.device.now).disk.content in
     let at = c.in_ok-halves in
     let geometry = at.halves.geometry in
     let half = at.halves.current in
@@ -111,13 +111,13 @@ returns-then-len-geometry-clause-refused g c =
 
 pub returns-then-len-geometry-clause-accepted : goal.returns-then-len-geometry-clause-accepted
 returns-then-len-geometry-clause-accepted g c x given gives =
-    accepted_one c.args.version (g.D.Device.history c.args.device.now).disk.content x given _ _ _ gives (returns-then-len-geometry-clause-refused g c)
+    accepted_one c.args.version (g.D.Device.past_of c.args.device.now).disk.content x given _ _ _ gives (returns-then-len-geometry-clause-refused g c)
 
 pub returns-in-Unfit-clause-refused : goal.returns-in-Unfit-clause-refused
 returns-in-Unfit-clause-refused g c =
-    let h = g.D.Device.history in
-    let image : Image = (h c.args.device.now).disk.content in
-    let now : Image = (h c.read_all.new.device).disk.content in
+    let h = g.D.Device.past_of in
+    let image : CrashState = (h c.args.device.now).disk.content in
+    let now : CrashState = (h c.read_all.new.device).disk.content in
     let at = c.in_ok-halves in
     let geometry = at.halves.geometry in
     let half = at.halves.current in
@@ -138,4 +138,4 @@ returns-in-Unfit-clause-refused g c =
 
 pub returns-in-Unfit-clause-accepted : goal.returns-in-Unfit-clause-accepted
 returns-in-Unfit-clause-accepted g c x given gives =
-    accepted_one c.args.version (g.D.Device.history c.args.device.now).disk.content x given _ _ c.misplaced.result gives (returns-in-Unfit-clause-refused g c)
+    accepted_one c.args.version (g.D.Device.past_of c.args.device.now).disk.content x given _ _ c.misplaced.result gives (returns-in-Unfit-clause-refused g c)

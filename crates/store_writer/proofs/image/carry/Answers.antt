@@ -2,7 +2,7 @@ use Rattle.std.proofs.Common.{◌≡◌, ◌≢◌, ◌+◌, ◌-◌, ◌<◌, �
 use Rattle.std.proofs.Common.{arith, inl, inr, ⊎_elim}
 use Rattle.std.proofs.lemmas.Bool.{cases_lt}
 use Rattle.sector_device.specs.Disk.{SameOutside}
-use Rattle.sector_device.specs.History.{LeavesOnly}
+use Rattle.sector_device.specs.DevicePast.{LeavesOnly}
 use Rattle.records.specs.RecordValue.{RecordValue}
 use Rattle.gate_log.specs.Group.{IsGroup}
 use Rattle.gate_log.specs.declared.area.Appended.TheVariants.{Done, Full}
@@ -16,13 +16,13 @@ use Rattle.store_writer.proofs.image.carry.Goals as goal
 pub returns-in-Keep-clause-carried : goal.returns-in-Keep-clause-carried
 returns-in-Keep-clause-carried g c = λ slots synced group planned run half is opened made group_is.
     let keep = subst (IsPlan c.args.image slots synced group) c.in-Keep.is planned in
-    if_not_carried run half (g.D.Device.history c.args.device.now).disk.content synced (synced + length group) c.args.image (omega arith)
+    if_not_carried run half (g.D.Device.past_of c.args.device.now).disk.content synced (synced + length group) c.args.image (omega arith)
     (λ i it. ⊎_elim (λ above. inl (omega (arith, above, keep i it))) (λ low. inr (omega (arith, low, keep i it))) (cases_lt synced i.base)) is
 
 pub returns-in-Ok-Done-clause-carried : goal.returns-in-Ok-Done-clause-carried
 returns-in-Ok-Done-clause-carried g c = λ slots synced group plan run half is opened made group_is.
-    let h = g.D.Device.history c.args.device.now in
-    let now = (g.D.Device.history c.append_spelled.new.device).disk.content in
+    let h = g.D.Device.past_of c.args.device.now in
+    let now = (g.D.Device.past_of c.append_spelled.new.device).disk.content in
     let new : NewImage = c.in-Some.image in
     let planned = subst (IsPlan c.args.image slots synced group) c.in-Carry.is plan in
     let same : planned.0 ≡ new = cc (planned.1, c.in-Some.is) in
@@ -43,7 +43,7 @@ returns-in-Ok-Done-clause-carried g c = λ slots synced group plan run half is o
 
 pub returns-in-Ok-Done-clause-any_moment : goal.returns-in-Ok-Done-clause-any_moment
 returns-in-Ok-Done-clause-any_moment g c =
-    let h = g.D.Device.history c.args.device.now in
+    let h = g.D.Device.past_of c.args.device.now in
     let new : NewImage = c.in-Some.image in
     let (slots, synced, group, plan) = c.requires.planned in
     let planned = subst (IsPlan c.args.image slots synced group) c.in-Carry.is plan in
@@ -55,13 +55,13 @@ returns-in-Ok-Done-clause-any_moment g c =
     let done : c.append_spelled.result ≡ Ok Done = cc (c.in-Ok-Done.is, c.in-Ok-Done.field-0-is) in
     let closed : new.log.open_slots ≢ new.log.area.slots = λ all. cc (c.append_spelled.ensures.full.1 all, done) in
     let room : new.log.open_slots < new.log.area.slots = omega (arith, closed, c.requires.room new c.in-Some.is) in
-    subst (λ (t : Option NewImage). LeavesOnly h (g.D.Device.history c.append_spelled.new.device) (SameOutside (InNewLog t) h.disk.content)) (sym c.in-Some.is)
-    (append_leaves new.log h c.requires.synced room (g.D.Device.history c.append_spelled.new.device) records
+    subst (λ (t : Option NewImage). LeavesOnly h (g.D.Device.past_of c.append_spelled.new.device) (SameOutside (InNewLog t) h.disk.content)) (sym c.in-Some.is)
+    (append_leaves new.log h c.requires.synced room (g.D.Device.past_of c.append_spelled.new.device) records
     (c.append_spelled.ensures.any_moment records spelled))
 
 pub returns-clause-any_moment : goal.returns-clause-any_moment
 returns-clause-any_moment g c =
-    let h = g.D.Device.history c.args.device.now in
+    let h = g.D.Device.past_of c.args.device.now in
     let new : NewImage = c.in-Some.image in
     let (slots, synced, group, plan) = c.requires.planned in
     let planned = subst (IsPlan c.args.image slots synced group) c.in-Carry.is plan in
@@ -72,8 +72,8 @@ returns-clause-any_moment g c =
     (subst (λ (i : NewImage). IsGroup (drop (i.base - synced) group) c.in-Carry.body.items) same planned.4) in
     let closed : new.log.open_slots ≢ new.log.area.slots = λ all. cc (c.append_spelled.ensures.full.1 all, c.in-Err.is) in
     let room : new.log.open_slots < new.log.area.slots = omega (arith, closed, c.requires.room new c.in-Some.is) in
-    subst (λ (t : Option NewImage). LeavesOnly h (g.D.Device.history c.append_spelled.new.device) (SameOutside (InNewLog t) h.disk.content)) (sym c.in-Some.is)
-    (append_leaves new.log h c.requires.synced room (g.D.Device.history c.append_spelled.new.device) records
+    subst (λ (t : Option NewImage). LeavesOnly h (g.D.Device.past_of c.append_spelled.new.device) (SameOutside (InNewLog t) h.disk.content)) (sym c.in-Some.is)
+    (append_leaves new.log h c.requires.synced room (g.D.Device.past_of c.append_spelled.new.device) records
     (c.append_spelled.ensures.any_moment records spelled))
 
 pub returns-in-Keep-clause-becomes : goal.returns-in-Keep-clause-becomes
@@ -100,7 +100,7 @@ returns-in-GiveUp-clause-becomes g c = λ slots synced group planned run half is
 
 pub returns-in-Ok-Done-clause-becomes : goal.returns-in-Ok-Done-clause-becomes
 returns-in-Ok-Done-clause-becomes g c = λ slots synced group plan run half is slots_is some.
-    let h = g.D.Device.history c.args.device.now in
+    let h = g.D.Device.past_of c.args.device.now in
     let new : NewImage = c.in-Some.image in
     let planned = subst (IsPlan c.args.image slots synced group) c.in-Carry.is plan in
     let same : planned.0 ≡ new = cc (planned.1, c.in-Some.is) in
@@ -139,23 +139,23 @@ pub returns-clause-keeps : goal.returns-clause-keeps
 returns-clause-keeps g c = λ none. cc (none, c.in-Some.is)
 
 pub returns-in-Keep-clause-slot : goal.returns-in-Keep-clause-slot
-returns-in-Keep-clause-slot g c = none_alone g.D.Device.history (InNewSlot c.args.image) c.args.device.now
+returns-in-Keep-clause-slot g c = none_alone g.D.Device.past_of (InNewSlot c.args.image) c.args.device.now
 
 pub returns-in-GiveUp-clause-slot : goal.returns-in-GiveUp-clause-slot
-returns-in-GiveUp-clause-slot g c = none_alone g.D.Device.history (InNewSlot c.args.image) c.args.device.now
+returns-in-GiveUp-clause-slot g c = none_alone g.D.Device.past_of (InNewSlot c.args.image) c.args.device.now
 
 pub returns-in_default-clause-slot : goal.returns-in_default-clause-slot
-returns-in_default-clause-slot g c = none_alone g.D.Device.history (InNewSlot c.args.image) c.args.device.now
+returns-in_default-clause-slot g c = none_alone g.D.Device.past_of (InNewSlot c.args.image) c.args.device.now
 
 pub returns-in-Ok-Full-clause-slot : goal.returns-in-Ok-Full-clause-slot
 returns-in-Ok-Full-clause-slot g c =
     let full : c.append_spelled.result ≡ Ok Full = cc (c.in-Ok-Full.is, c.in-Ok-Full.field-0-is) in
-    subst (λ d. WritesOnly g.D.Device.history (InNewSlot c.args.image) c.args.device.now d) (sym (c.append_spelled.ensures.unchanged full).1)
-    (none_alone g.D.Device.history (InNewSlot c.args.image) c.args.device.now)
+    subst (λ d. WritesOnly g.D.Device.past_of (InNewSlot c.args.image) c.args.device.now d) (sym (c.append_spelled.ensures.unchanged full).1)
+    (none_alone g.D.Device.past_of (InNewSlot c.args.image) c.args.device.now)
 
 pub returns-in-Ok-Done-clause-slot : goal.returns-in-Ok-Done-clause-slot
 returns-in-Ok-Done-clause-slot g c =
-    let history = g.D.Device.history in
+    let past_of = g.D.Device.past_of in
     let new : NewImage = c.in-Some.image in
     let (slots, synced, group, plan) = c.requires.planned in
     let planned = subst (IsPlan c.args.image slots synced group) c.in-Carry.is plan in
@@ -164,13 +164,13 @@ returns-in-Ok-Done-clause-slot g c =
     let spelled : IsGroup records c.deref.result.now =
     subst (IsGroup records) (sym c.deref.ensures.value)
     (subst (λ (i : NewImage). IsGroup (drop (i.base - synced) group) c.in-Carry.body.items) same planned.4) in
-    subst (λ (t : Option NewImage). WritesOnly history (InNewSlot t) c.args.device.now c.append_spelled.new.device) (sym c.in-Some.is)
-    (slot_alone history new.log c.args.device.now c.append_spelled.new.device records c.append_spelled.ensures.outside
+    subst (λ (t : Option NewImage). WritesOnly past_of (InNewSlot t) c.args.device.now c.append_spelled.new.device) (sym c.in-Some.is)
+    (slot_alone past_of new.log c.args.device.now c.append_spelled.new.device records c.append_spelled.ensures.outside
     (c.append_spelled.ensures.any_moment records spelled))
 
 pub returns-clause-slot : goal.returns-clause-slot
 returns-clause-slot g c =
-    let history = g.D.Device.history in
+    let past_of = g.D.Device.past_of in
     let new : NewImage = c.in-Some.image in
     let (slots, synced, group, plan) = c.requires.planned in
     let planned = subst (IsPlan c.args.image slots synced group) c.in-Carry.is plan in
@@ -179,6 +179,6 @@ returns-clause-slot g c =
     let spelled : IsGroup records c.deref.result.now =
     subst (IsGroup records) (sym c.deref.ensures.value)
     (subst (λ (i : NewImage). IsGroup (drop (i.base - synced) group) c.in-Carry.body.items) same planned.4) in
-    subst (λ (t : Option NewImage). WritesOnly history (InNewSlot t) c.args.device.now c.append_spelled.new.device) (sym c.in-Some.is)
-    (slot_alone history new.log c.args.device.now c.append_spelled.new.device records c.append_spelled.ensures.outside
+    subst (λ (t : Option NewImage). WritesOnly past_of (InNewSlot t) c.args.device.now c.append_spelled.new.device) (sym c.in-Some.is)
+    (slot_alone past_of new.log c.args.device.now c.append_spelled.new.device records c.append_spelled.ensures.outside
     (c.append_spelled.ensures.any_moment records spelled))

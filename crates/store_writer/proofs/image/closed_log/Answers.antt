@@ -1,7 +1,7 @@
 use Rattle.std.proofs.Common.{◌≡◌, ◌⊎◌, true, ap, subst}
 use Rattle.sector_device.specs.Disk.{SameOutside}
-use Rattle.sector_device.specs.History.{LeavesOnly}
-use Rattle.records.specs.GeometryValue.{GeometryValue}
+use Rattle.sector_device.specs.DevicePast.{LeavesOnly}
+use Rattle.record_values.specs.GeometryValue.{GeometryValue}
 use Rattle.gate_log.specs.Area.{Area, IsGate}
 use Rattle.flip_image.specs.Layout.{other}
 use Rattle.store_reader.specs.Contents.{log_area}
@@ -19,8 +19,8 @@ returns-in-Ok-clause-any_moment g c =
       c.geometry-geometry.ensures,
       ap (λ (x : GeometryValue). x.slots) c.geometry.view_is,
     ) in
-    let old = g.D.Device.history c.args.device.now in
-    let new = g.D.Device.history c.clear.new.device in
+    let old = g.D.Device.past_of c.args.device.now in
+    let new = g.D.Device.past_of c.clear.new.device in
     subst (λ (a : Area). LeavesOnly old new (SameOutside (λ n. IsGate a n ⊎ (old.disk.unsynced n ≡ true)) old.disk.content)) area c.clear.ensures.any_moment
 
 pub returns-in-Err-clause-any_moment : goal.returns-in-Err-clause-any_moment
@@ -35,6 +35,6 @@ returns-in-Err-clause-any_moment g c =
       c.geometry-geometry.ensures,
       ap (λ (x : GeometryValue). x.slots) c.geometry.view_is,
     ) in
-    let old = g.D.Device.history c.args.device.now in
-    let new = g.D.Device.history c.clear.new.device in
+    let old = g.D.Device.past_of c.args.device.now in
+    let new = g.D.Device.past_of c.clear.new.device in
     subst (λ (a : Area). LeavesOnly old new (SameOutside (λ n. IsGate a n ⊎ (old.disk.unsynced n ≡ true)) old.disk.content)) area c.clear.ensures.any_moment

@@ -49,8 +49,8 @@ pub returns-in_err-log-clause-outside : goal.returns-in_err-log-clause-outside
 returns-in_err-log-clause-outside g c =
     let halves = c.args.halves in
     let area = log_area halves.geometry (other halves.current) in
-    closed_outside halves.geometry (other halves.current) (g.D.Device.history c.args.device.now)
-    (g.D.Device.history c.closed_log.new.device) area refl c.requires.loose c.closed_log.ensures.outside
+    closed_outside halves.geometry (other halves.current) (g.D.Device.past_of c.args.device.now)
+    (g.D.Device.past_of c.closed_log.new.device) area refl c.requires.loose c.closed_log.ensures.outside
 
 pub returns-clause-empty : goal.returns-clause-empty
 returns-clause-empty g c =
@@ -63,5 +63,5 @@ pub write_start-requires-clause-current : goal.write_start-requires-clause-curre
 write_start-requires-clause-current g c =
     let halves = c.args.halves in
     let area = log_area halves.geometry (other halves.current) in
-    still_named halves.geometry (other halves.current) (g.D.Device.history c.args.device.now)
-    (g.D.Device.history c.closed_log.new.device) area refl c.requires.loose halves.current c.closed_log.ensures.outside c.requires.current
+    still_named halves.geometry (other halves.current) (g.D.Device.past_of c.args.device.now)
+    (g.D.Device.past_of c.closed_log.new.device) area refl c.requires.loose halves.current c.closed_log.ensures.outside c.requires.current

@@ -1,5 +1,5 @@
 use Rattle.std.proofs.Common.{rules}
-use Rattle.image_model.specs.declared.chunk.CopyPlace.TheVariants as at
+use Rattle.store_image_model.specs.declared.chunk.CopyPlace.TheVariants as at
 use Rattle.nsf_core.specs.Value.{value_of}
 use Rattle.core_copies.proofs.Fitting.{are_entries, at_place, is_start, known}
 use Rattle.core_copies.proofs.copy.CoreCopies.copy_step.Goals as goal

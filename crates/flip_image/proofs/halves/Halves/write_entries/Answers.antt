@@ -1,10 +1,10 @@
 use Rattle.std.proofs.Common.{◌≡◌, ℕ, ◌+◌, Some, length, OnOk, ap, subst, arith}
-use Rattle.records.specs.GeometryValue.{GeometryValue}
+use Rattle.record_values.specs.GeometryValue.{GeometryValue}
 use Rattle.std.specs.Prelude.{slice_get}
-use Rattle.records.specs.declared.pair.Pair.{Pair}
-use Rattle.records.specs.declared.pair.Mark.{Mark}
-use Rattle.image_half.specs.Layout.{InEntries}
-use Rattle.image_half.specs.Image.{IsEntry, entry_bytes}
+use Rattle.record_values.specs.declared.pair.Pair.{Pair}
+use Rattle.record_values.specs.declared.pair.Mark.{Mark}
+use Rattle.store_image_half.specs.Layout.{InEntries}
+use Rattle.store_image_half.specs.Image.{IsEntry, entry_bytes}
 use Rattle.flip_image.specs.Layout.{other, InHalfImage}
 use Rattle.flip_image.proofs.Wider.{within_more}
 use Rattle.flip_image.proofs.halves.Halves.write_entries.Goals as goal
@@ -21,7 +21,7 @@ returns-clause-within g c =
 pub returns-clause-written : goal.returns-clause-written
 returns-clause-written g c =
     let h = c.args.self.now in
-    let image = (g.D.Device.history c.write_entries.new.device).disk.content in
+    let image = (g.D.Device.past_of c.write_entries.new.device).disk.content in
     subst (λ f. OnOk c.write_entries.result ((i : ℕ) (e : Pair × Mark) → slice_get c.args.entries.now i ≡ Some e
     → IsEntry h.geometry (entry_bytes h.geometry image f (c.args.start + i)) e)) c.idle_first-first.ensures.value
     (subst (λ (x : GeometryValue). OnOk c.write_entries.result ((i : ℕ) (e : Pair × Mark) → slice_get c.args.entries.now i ≡ Some e

@@ -1,5 +1,5 @@
 use Rattle.std.proofs.Common.{length, arith}
-use Rattle.image_half.specs.Layout.{InList}
+use Rattle.store_image_half.specs.Layout.{InList}
 use Rattle.flip_image.specs.Layout.{other, InHalfImage}
 use Rattle.flip_image.proofs.Wider.{within_more}
 use Rattle.flip_image.proofs.halves.Halves.write_list.Goals as goal

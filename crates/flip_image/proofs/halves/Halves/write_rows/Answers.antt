@@ -1,6 +1,6 @@
 use Rattle.std.proofs.Common.{OnOk, subst, arith}
-use Rattle.image_half.specs.Layout.{InPage}
-use Rattle.image_half.specs.Part.{HasPage}
+use Rattle.store_image_half.specs.Layout.{InPage}
+use Rattle.store_image_half.specs.Part.{HasPage}
 use Rattle.flip_image.specs.Layout.{other, InHalfImage}
 use Rattle.flip_image.proofs.Wider.{within_more}
 use Rattle.flip_image.proofs.halves.Halves.write_rows.Goals as goal
@@ -14,6 +14,6 @@ returns-clause-within g c =
 
 pub returns-clause-written : goal.returns-clause-written
 returns-clause-written g c =
-    let image = (g.D.Device.history c.write_rows.new.device).disk.content in
+    let image = (g.D.Device.past_of c.write_rows.new.device).disk.content in
     subst (λ f. OnOk c.write_rows.result (HasPage f image c.args.page (g.S.CellSource.cells c.args.source.now).rows)) c.idle_first-first.ensures.value
     c.write_rows.ensures.written

@@ -1,8 +1,8 @@
 use Rattle.std.proofs.Common.{⊎_elim, inl, inr, ℕ, subst}
-use Rattle.records.specs.GeometryValue.{GeometryValue}
-use Rattle.image_half.specs.Layout.{InImage}
-use Rattle.image_half.specs.Image.{InStart, InImageOf}
-use Rattle.image_half.proofs.Written.{taken_inside}
+use Rattle.record_values.specs.GeometryValue.{GeometryValue}
+use Rattle.store_image_half.specs.Layout.{InImage}
+use Rattle.store_image_half.specs.Image.{InStart, InImageOf}
+use Rattle.store_image_half.proofs.Written.{taken_inside}
 use Rattle.flip_image.specs.Layout.{other, InHalfImage}
 use Rattle.flip_image.proofs.Wider.{within_more}
 use Rattle.flip_image.proofs.halves.Halves.write_start.Goals as goal

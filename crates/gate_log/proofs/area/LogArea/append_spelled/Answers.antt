@@ -1,5 +1,5 @@
 use Rattle.std.proofs.Common.{rules, ◌≡◌, ◌+◌, ◌<◌, ◌∷◌, ◌++◌, [], ℕ, List, false, inl, sym, subst, ◌∙◌, arith, length-append}
-use Rattle.sector_device.specs.History.{LeavesOnly}
+use Rattle.sector_device.specs.DevicePast.{LeavesOnly}
 use Rattle.sector_device.specs.Values.{marked_sector, IsMarked}
 use Rattle.sector_device.proofs.KnownSectors.{is_marked}
 use Rattle.sector_device.proofs.Moments.{weaker}
@@ -8,7 +8,7 @@ use Rattle.gate_log.specs.Area.{Area, Log, gate, InArea, HoldsGroups, Stands, Is
 use Rattle.gate_log.specs.Steps.{MayDiffer, IsPartlyWritten}
 use Rattle.gate_log.proofs.Runs.{from_ok}
 use Rattle.sector_device.proofs.Sectors.{same_outside_wider, crash_synced}
-use Rattle.sector_device.specs.Disk.{Image, sector}
+use Rattle.sector_device.specs.Disk.{CrashState, sector}
 use Rattle.gate_log.proofs.Slots.{length-group, nothing_appended, appended, is_appended}
 use Rattle.gate_log.proofs.area.LogArea.append_spelled.Goals as goal
 
@@ -20,7 +20,7 @@ write_group-requires-clause-size g c = length-group c.requires.spelled.0 c.args.
 
 pub returns-then-is_err-clause-any_moment : goal.returns-then-is_err-clause-any_moment
 returns-then-is_err-clause-any_moment g c = λ records group.
-    let h = g.D.Device.history in
+    let h = g.D.Device.past_of in
     let old = h c.args.device.now in
     let new = h c.write_group.new.device in
     let log : Log = record { area = record { first = c.self.inside.first; slots = c.self.inside.slots }; open_slots = c.self.inside.open_slots } in
@@ -32,7 +32,7 @@ returns-then-is_err-clause-any_moment g c = λ records group.
 
 pub returns-clause-done : goal.returns-clause-done
 returns-clause-done g c = λ _ records groups group stands.
-    let h = g.D.Device.history in
+    let h = g.D.Device.past_of in
     let old = h c.args.device.now in
     let new = h c.write_group.new.device in
     let log : Log = record { area = record { first = c.self.inside.first; slots = c.self.inside.slots }; open_slots = c.self.inside.open_slots } in
@@ -51,7 +51,7 @@ returns-clause-done g c = λ _ records groups group stands.
 
 pub returns-clause-any_moment : goal.returns-clause-any_moment
 returns-clause-any_moment g c = λ records group.
-    let h = g.D.Device.history in
+    let h = g.D.Device.past_of in
     let old = h c.args.device.now in
     let new = h c.write_group.new.device in
     let log : Log = record { area = record { first = c.self.inside.first; slots = c.self.inside.slots }; open_slots = c.self.inside.open_slots } in
@@ -64,15 +64,15 @@ returns-clause-any_moment g c = λ records group.
 pub returns-clause-survives : goal.returns-clause-survives
 returns-clause-survives g c = λ is records groups image group stands crash.
     let area : Area = record { first = c.self.inside.first; slots = c.self.inside.slots } in
-    let disk = (g.D.Device.history c.write_group.new.device).disk in
+    let disk = (g.D.Device.past_of c.write_group.new.device).disk in
     let ok = sym c.is_err.ensures.value ∙ c.if-is_err.false in
     let done = returns-clause-done g c is records groups group stands in
-    subst (λ (i : Image). HoldsGroups area i (groups ++ records ∷ []))
+    subst (λ (i : CrashState). HoldsGroups area i (groups ++ records ∷ []))
     (sym (crash_synced disk image (from_ok _ _ ok c.write_group.ensures.synced) crash)) done.held
 
 pub returns-clause-marked : goal.returns-clause-marked
 returns-clause-marked g c = λ _.
-    let disk = (g.D.Device.history c.write_group.new.device).disk in
+    let disk = (g.D.Device.past_of c.write_group.new.device).disk in
     let ok = sym c.is_err.ensures.value ∙ c.if-is_err.false in
     subst (λ (l : Log). sector disk.content (gate l.area l.open_slots) ≡ marked_sector) c.self.view_is (from_ok _ _ ok c.write_group.ensures.opened)
 

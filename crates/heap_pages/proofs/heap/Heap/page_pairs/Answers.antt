@@ -2,7 +2,7 @@ use Rattle.std.proofs.Common.{◌≡◌, ◌<◌, ◌++◌, ◌∷◌, [], List,
 use Rattle.std.specs.List.{All}
 use Rattle.std.specs.List.Sorted.{IsStrictlyIncreasing}
 use Rattle.std.proofs.lemmas.Option.{slice_get_read}
-use Rattle.records.specs.declared.pair.Pair.{Pair}
+use Rattle.record_values.specs.declared.pair.Pair.{Pair}
 use Rattle.heap_pages.specs.Slots.{slots_of}
 use Rattle.heap_pages.specs.Pages.{row_pair}
 use Rattle.heap_pages.proofs.SlotLists.{get-slots_of, length-slots_of, page_slots}

@@ -1,6 +1,6 @@
 use Rattle.std.proofs.Common.{◌<◌, List, Option, Some, None, get_or, sym, ap, subst, ◌∙◌}
 use Rattle.std.proofs.lemmas.Option.{slice_get-get_or}
-use Rattle.records.specs.declared.row.Row.{Row}
+use Rattle.record_values.specs.declared.row.Row.{Row}
 use Rattle.heap_pages.proofs.SlotLists.{is_empty, slot_shown}
 use Rattle.heap_pages.proofs.page.HeapPage.slots.Goals as goal
 

@@ -1,8 +1,8 @@
 use Rattle.std.proofs.Common.{map}
 use Rattle.std.proofs.Math.Logic.{∥∥₁_map}
-use Rattle.core_contracts.specs.Events.{Event}
+use Rattle.core_model.specs.Events.{Event}
 use Rattle.nsf_core.specs.Value.{value_of}
-use Rattle.session_halves.specs.Halves.{shown}
+use Rattle.threads_sessions.specs.Halves.{shown}
 use Rattle.locked_core.proofs.Kept.{others_kept}
 use Rattle.locked_core.proofs.locked.Locked.clean_step.Goals as goal
 

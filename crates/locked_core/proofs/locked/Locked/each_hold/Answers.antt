@@ -1,6 +1,6 @@
 use Rattle.std.proofs.Common.{map}
 use Rattle.nsf_core.specs.Value.{value_of}
-use Rattle.session_halves.specs.Halves.{shown}
+use Rattle.threads_sessions.specs.Halves.{shown}
 use Rattle.locked_core.proofs.Copied.{cells_now, end_is, histories, run_kept, store_now}
 use Rattle.locked_core.proofs.locked.Locked.each_hold.Goals as goal
 

@@ -1,6 +1,6 @@
 use Rattle.std.proofs.Common.{map, rules, ◌∙◌}
 use Rattle.nsf_core.specs.Value.{value_of}
-use Rattle.session_halves.specs.Halves.{shown}
+use Rattle.threads_sessions.specs.Halves.{shown}
 use Rattle.locked_core.proofs.ReadBack.{held_row}
 use Rattle.locked_core.proofs.locked.Locked.get.Goals as goal
 

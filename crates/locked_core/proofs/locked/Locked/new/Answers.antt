@@ -1,6 +1,6 @@
 use Rattle.std.proofs.Common.{ap}
 use Rattle.nsf_core.specs.Value.{value_of}
-use Rattle.tail.specs.Ends.{Handed}
+use Rattle.threads_queue.specs.Ends.{Handed}
 use Rattle.locked_core.proofs.Kept.{all_new, new_book, new_shared}
 use Rattle.locked_core.proofs.locked.Locked.new.Goals as goal
 

@@ -2,7 +2,7 @@ use Rattle.std.proofs.Common.{arith, map}
 use Rattle.std.proofs.lemmas.Grind.{common_steps}
 use Rattle.std.proofs.Math.Logic.{∥∥₁_map}
 use Rattle.nsf_core.specs.Value.{value_of}
-use Rattle.session_halves.specs.Halves.{shown}
+use Rattle.threads_sessions.specs.Halves.{shown}
 use Rattle.locked_core.proofs.Kept.{pushed_kept}
 use Rattle.locked_core.proofs.locked.Locked.push_outbox.Goals as goal
 

@@ -1,5 +1,5 @@
 use Rattle.std.proofs.Common.{◌≡◌, Some, ◌∙◌}
-use Rattle.records.specs.declared.pair.Mark.TheVariants.{Marked}
+use Rattle.record_values.specs.declared.pair.Mark.TheVariants.{Marked}
 use Rattle.btree_node.specs.Contents.{contents}
 use Rattle.marked_index.proofs.Actions.{room_removed, after_no_clean}
 use Rattle.marked_index.proofs.index.MarkedIndex.clean.Goals as goal

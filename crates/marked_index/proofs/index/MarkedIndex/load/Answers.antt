@@ -1,6 +1,6 @@
 use Rattle.std.proofs.Common.{◌≡◌, ◌+◌, ◌<◌, None, true, false, is_some, sym, ap, subst, ◌∙◌}
 use Rattle.std.specs.FinMap as map
-use Rattle.records.specs.Maps.{set_at}
+use Rattle.record_values.specs.Maps.{set_at}
 use Rattle.btree_node.specs.Contents.{contents}
 use Rattle.model.specs.Table.{Index}
 use Rattle.marked_index.specs.Index.{IndexValue}

@@ -1,7 +1,7 @@
 use Rattle.std.proofs.Common.{ap, arith}
 use Rattle.std.specs.FinMap as map
-use Rattle.records.specs.Orders.{pair_cmp}
-use Rattle.records.specs.declared.pair.Mark.{Mark}
+use Rattle.record_values.specs.Orders.{pair_cmp}
+use Rattle.record_values.specs.declared.pair.Mark.{Mark}
 use Rattle.marked_index.proofs.index.MarkedIndex.new.Goals as goal
 
 pub invariant_of-result : goal.invariant_of-result

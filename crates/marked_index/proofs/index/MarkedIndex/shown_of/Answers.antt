@@ -1,9 +1,9 @@
 use Rattle.std.proofs.Common.{◌≡◌, ◌<◌, Option, Some, ◌++◌, ◌∷◌, [], true, false, refl, sym, ap, subst, ◌∙◌}
-use Rattle.records.specs.Values.{Place}
-use Rattle.records.specs.declared.pair.Mark.{Mark}
-use Rattle.records.specs.declared.pair.Mark.TheVariants.{Live, Marked}
+use Rattle.record_values.specs.Values.{Place}
+use Rattle.record_values.specs.declared.pair.Mark.{Mark}
+use Rattle.record_values.specs.declared.pair.Mark.TheVariants.{Live, Marked}
 use denote.Enum.Bare.{sameb}
-use Rattle.records.specs.contracts.pair.Mark.{the_type}
+use Rattle.record_values.specs.contracts.pair.Mark.{the_type}
 use Rattle.marked_index.proofs.Listing.{IsListed, left, left_falls, listed_none, listed_marked, listed_live, listed_all}
 use Rattle.marked_index.proofs.index.MarkedIndex.shown_of.Goals as goal
 use Rattle.marked_index.proofs.index.MarkedIndex.shown_of.Goals.{then-eq+in_ok-push, else-eq}

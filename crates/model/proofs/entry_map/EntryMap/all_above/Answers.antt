@@ -1,5 +1,5 @@
 use Rattle.std.proofs.Common.{sym, ◌∙◌}
-use Rattle.records.specs.Maps.{pair_exact}
+use Rattle.record_values.specs.Maps.{pair_exact}
 use Rattle.model.proofs.AboveLaws.{ranged_above, ranged_all}
 use Rattle.model.proofs.entry_map.EntryMap.all_above.Goals as goal
 

@@ -3,8 +3,8 @@ use Rattle.std.proofs.lemmas.Iterator.{YieldsList-from_slice, items_from_drains}
 use Rattle.std.proofs.lemmas.Iterator.Consumers.{YieldsList-at, YieldsList-from_copied}
 use Rattle.std.proofs.lemmas.List.{map-id}
 use Rattle.std.specs.BTreeMap.{IsFromIterResult}
-use Rattle.records.specs.Orders.{pair_cmp}
-use Rattle.records.specs.Maps.{pair_exact}
+use Rattle.record_values.specs.Orders.{pair_cmp}
+use Rattle.record_values.specs.Maps.{pair_exact}
 use Rattle.model.specs.Extended.{extended}
 use Rattle.model.proofs.ExtendedLaws.{extended_map}
 use Rattle.model.proofs.entry_map.EntryMap.extend.Goals as goal

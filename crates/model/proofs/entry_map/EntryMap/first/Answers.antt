@@ -1,6 +1,6 @@
 use Rattle.std.proofs.Common.{ap, sym, ◌∙◌}
 use Rattle.std.specs.Prelude.{slice_get}
-use Rattle.records.specs.Maps.{pair_exact}
+use Rattle.record_values.specs.Maps.{pair_exact}
 use Rattle.model.proofs.MapLaws.{ordered_entries}
 use Rattle.model.proofs.entry_map.EntryMap.first.Goals as goal
 

@@ -1,5 +1,5 @@
 use Rattle.std.proofs.Common.{sym, ◌∙◌}
-use Rattle.records.specs.Maps.{pair_exact}
+use Rattle.record_values.specs.Maps.{pair_exact}
 use Rattle.model.proofs.MapLaws.{ordered_len}
 use Rattle.model.proofs.entry_map.EntryMap.len.Goals as goal
 

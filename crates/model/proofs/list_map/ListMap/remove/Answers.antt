@@ -1,5 +1,5 @@
 use Rattle.std.proofs.Common.{ap, ◌∙◌, None}
-use Rattle.records.specs.Maps.{set_at}
+use Rattle.record_values.specs.Maps.{set_at}
 use Rattle.model.proofs.MapLaws.{list_there, one_list_set}
 use Rattle.model.proofs.list_map.ListMap.remove.Goals as goal
 

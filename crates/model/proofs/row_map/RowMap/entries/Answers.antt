@@ -1,7 +1,7 @@
 use Rattle.std.proofs.Common.{◌++◌, List, [], ◌∷◌, sym, ap, ◌∙◌, append_assoc, append-nil}
-use Rattle.records.specs.Values.{Place}
-use Rattle.records.specs.Maps.{rid_exact}
-use Rattle.records.specs.declared.row.Row.{Row}
+use Rattle.record_values.specs.Values.{Place}
+use Rattle.record_values.specs.Maps.{rid_exact}
+use Rattle.record_values.specs.declared.row.Row.{Row}
 use Rattle.model.proofs.MapLaws.{ordered_entries}
 use Rattle.model.proofs.row_map.RowMap.entries.Goals as goal
 

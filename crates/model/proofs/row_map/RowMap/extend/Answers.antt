@@ -3,8 +3,8 @@ use Rattle.std.proofs.lemmas.Iterator.{YieldsList-from_slice, items_from_drains}
 use Rattle.std.proofs.lemmas.Iterator.Consumers.{YieldsList-at, YieldsList-from_copied}
 use Rattle.std.proofs.lemmas.List.{map-id}
 use Rattle.std.specs.BTreeMap.{IsFromIterResult}
-use Rattle.records.specs.Orders.{rid_cmp}
-use Rattle.records.specs.Maps.{rid_exact}
+use Rattle.record_values.specs.Orders.{rid_cmp}
+use Rattle.record_values.specs.Maps.{rid_exact}
 use Rattle.model.specs.Extended.{extended}
 use Rattle.model.proofs.ExtendedLaws.{extended_map}
 use Rattle.model.proofs.row_map.RowMap.extend.Goals as goal

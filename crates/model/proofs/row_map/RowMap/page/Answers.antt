@@ -1,8 +1,8 @@
 use Rattle.std.proofs.Common.{◌≡◌, suc, ◌<◌, List, None, Some, length, get_or, set, refl, sym, ap, subst, ◌∙◌, arith}
 use Rattle.std.proofs.lemmas.List.{length-set}
 use Rattle.std.proofs.lemmas.Option.{slice_get-get_or}
-use Rattle.records.specs.Values.{Place}
-use Rattle.records.specs.declared.row.Row.{Row}
+use Rattle.record_values.specs.Values.{Place}
+use Rattle.record_values.specs.declared.row.Row.{Row}
 use Rattle.model.specs.Table.{Table}
 use Rattle.model.proofs.PageLaws.{place, IsShown, IsRowOf, row_of, shown_first, shown_next, shown_last}
 use Rattle.model.proofs.row_map.RowMap.page.Goals as goal

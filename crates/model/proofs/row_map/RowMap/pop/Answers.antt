@@ -1,6 +1,6 @@
 use Rattle.std.proofs.Common.{arith}
 use Rattle.std.proofs.lemmas.Grind.{common_steps}
-use Rattle.records.specs.Maps.{rid_exact}
+use Rattle.record_values.specs.Maps.{rid_exact}
 use Rattle.model.proofs.MapLaws.{popped_fewer, popped_taken, popped_there}
 use Rattle.model.proofs.row_map.RowMap.pop.Goals as goal
 

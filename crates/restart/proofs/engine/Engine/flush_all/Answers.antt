@@ -1,5 +1,5 @@
 use Rattle.std.proofs.Common.{◌≡◌, ◌∙◌, ◌+◌, ◌-◌, ◌<◌, ℕ, Some, true, false, ap, subst, sym}
-use Rattle.nsf_core.specs.View.{CoreValue}
+use Rattle.core_parts.specs.View.{CoreValue}
 use Rattle.std.specs.Option.{option_map_or}
 use Rattle.restart.specs.Parts.{horizon_of}
 use Rattle.restart.specs.Repeated.{FlushesAll, FlushesOn, asks_again}
@@ -12,7 +12,7 @@ flushes-init g c = record { goes_on = λ mid on. on; known = λ m is. cc }
 -- this reply is the final one
 pub returns-then-not-asks_again : goal.returns-then-not-asks_again
 returns-then-not-asks_again g c =
-    let h = g.D.Device.history in
+    let h = g.D.Device.past_of in
     let f = g.D.Device.failures in
     let reply = c.flush_once-reply.result in
     let mid = c.flushes.self in
@@ -30,7 +30,7 @@ returns-then-not-asks_again g c =
 -- this reply comes before those that follow
 pub flushes-preserved : goal.flushes-preserved
 flushes-preserved g c =
-    let h = g.D.Device.history in
+    let h = g.D.Device.past_of in
     let f = g.D.Device.failures in
     let reply = c.flush_once-reply.result in
     let new = c.flush_once-reply.new.self in
@@ -45,7 +45,7 @@ flushes-preserved g c =
 -- fewer records are yet to be told of
 pub flushes-smaller : goal.flushes-smaller
 flushes-smaller g c =
-    let h = g.D.Device.history in
+    let h = g.D.Device.past_of in
     let f = g.D.Device.failures in
     let reply = c.flush_once-reply.result in
     let new = c.flush_once-reply.new.self in

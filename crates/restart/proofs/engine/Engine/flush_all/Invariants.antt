@@ -8,8 +8,8 @@ use Rattle.restart.proofs.engine.Engine.flush_all.Given as goal
 -- what the flushes from here on tell is told by all of them, and the one before them has told how far the records are synced
 abbrev pub invariant-flushes : goal.invariant-flushes
 invariant-flushes g l = record {
-  goes_on : (mid : Parts g.row.D.Denot g.row.A.Denot) → FlushesOn g.D.Device.history g.D.Device.failures l.last l.told l.self mid
-      → FlushesOn g.D.Device.history g.D.Device.failures l.last None l.initial.self mid;
+  goes_on : (mid : Parts g.row.D.Denot g.row.A.Denot) → FlushesOn g.D.Device.past_of g.D.Device.failures l.last l.told l.self mid
+      → FlushesOn g.D.Device.past_of g.D.Device.failures l.last None l.initial.self mid;
   known : (m : ℕ) → l.told ≡ Some m → horizon_of l.self ≡ m;
 }
 

@@ -10,7 +10,7 @@ returns-in-Flipped g c =
     inl (
       _,
       mid,
-      subst (λ (r : Reply g.row.A.Denot). TakesImage g.D.Device.history g.D.Device.failures r c.args.self.now mid) c.in-Flipped.is
+      subst (λ (r : Reply g.row.A.Denot). TakesImage g.D.Device.past_of g.D.Device.failures r c.args.self.now mid) c.in-Flipped.is
           c.take_image.ensures,
       record { lawful = c.serve.ensures.lawful; runs = c.serve.ensures.serves; sectors = c.serve.ensures.sectors },
     )

@@ -8,7 +8,7 @@ use Rattle.restart.proofs.engine.Engine.flush_once.Goals as goal
 pub returns-in-LogFull : goal.returns-in-LogFull
 returns-in-LogFull g c =
     let mid = c.serve.new.self in
-    let first : Serves g.D.Device.history g.D.Device.failures Flush c.serve.result c.args.self.now mid =
+    let first : Serves g.D.Device.past_of g.D.Device.failures Flush c.serve.result c.args.self.now mid =
     record { lawful = c.serve.ensures.lawful; runs = c.serve.ensures.serves; sectors = c.serve.ensures.sectors } in
-    let full = subst (λ (r : Reply g.row.A.Denot). Serves g.D.Device.history g.D.Device.failures Flush r c.args.self.now mid) c.in-LogFull.is first in
+    let full = subst (λ (r : Reply g.row.A.Denot). Serves g.D.Device.past_of g.D.Device.failures Flush r c.args.self.now mid) c.in-LogFull.is first in
     inr (mid, full, c.flush_behind_image.ensures)

@@ -9,22 +9,22 @@ pub returns-then-not-is_on_the_way : goal.returns-then-not-is_on_the_way
 returns-then-not-is_on_the_way g c =
     let told = c.serve-reply.result in
     let new = c.serve-reply.new.self in
-    let served : Serves g.D.Device.history g.D.Device.failures Copy told c.copies.self new =
+    let served : Serves g.D.Device.past_of g.D.Device.failures Copy told c.copies.self new =
     record { lawful = c.serve-reply.ensures.lawful; runs = c.serve-reply.ensures.serves; sectors = c.serve-reply.ensures.sectors } in
     let ends : is_on_the_way told ≡ false = cc in
-    c.copies.invariant.goes_on told new (last_copy g.D.Device.history g.D.Device.failures told c.copies.self new ends served)
+    c.copies.invariant.goes_on told new (last_copy g.D.Device.past_of g.D.Device.failures told c.copies.self new ends served)
 
 -- this reply comes before those that follow
 pub copies-preserved : goal.copies-preserved
 copies-preserved g c =
     let told = c.serve-reply.result in
     let mid = c.serve-reply.new.self in
-    let served : Serves g.D.Device.history g.D.Device.failures Copy told c.copies.self mid =
+    let served : Serves g.D.Device.past_of g.D.Device.failures Copy told c.copies.self mid =
     record { lawful = c.serve-reply.ensures.lawful; runs = c.serve-reply.ensures.serves; sectors = c.serve-reply.ensures.sectors } in
     let on_the_way : is_on_the_way told ≡ true = cc in
     record {
       goes_on = λ final new on.
-          c.copies.invariant.goes_on final new (one_copy_more g.D.Device.history g.D.Device.failures final told c.copies.self mid new on_the_way served on);
+          c.copies.invariant.goes_on final new (one_copy_more g.D.Device.past_of g.D.Device.failures final told c.copies.self mid new on_the_way served on);
     }
 
 -- fewer copies are left
@@ -32,7 +32,7 @@ pub copies-smaller : goal.copies-smaller
 copies-smaller g c =
     let told = c.serve-reply.result in
     let new = c.serve-reply.new.self in
-    let served : Serves g.D.Device.history g.D.Device.failures Copy told c.copies.self new =
+    let served : Serves g.D.Device.past_of g.D.Device.failures Copy told c.copies.self new =
     record { lawful = c.serve-reply.ensures.lawful; runs = c.serve-reply.ensures.serves; sectors = c.serve-reply.ensures.sectors } in
     let on_the_way : is_on_the_way told ≡ true = cc in
-    fewer_left g.D.Device.history g.D.Device.failures told c.copies.self new on_the_way served
+    fewer_left g.D.Device.past_of g.D.Device.failures told c.copies.self new on_the_way served

@@ -1,6 +1,6 @@
 use Rattle.std.proofs.Common.{refl}
-use Rattle.core_contracts.specs.Events as core
-use Rattle.nsf_core.specs.Cleaning.{cleaner}
+use Rattle.core_model.specs.Events as core
+use Rattle.core_parts.specs.Cleaning.{cleaner}
 use Rattle.restart.specs.declared.parts.Parts.{Parts}
 use Rattle.restart.specs.declared.event.Reply.TheVariants as reply
 use Rattle.restart.proofs.Answered.{answered_err, answered_ok}

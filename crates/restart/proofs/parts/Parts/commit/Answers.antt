@@ -1,6 +1,6 @@
 use Rattle.std.proofs.Common.{refl}
-use Rattle.core_contracts.specs.Events as core
-use Rattle.nsf_core.specs.Replies.{reply_of_ticket}
+use Rattle.core_model.specs.Events as core
+use Rattle.core_parts.specs.Replies.{reply_of_ticket}
 use Rattle.restart.specs.declared.parts.Parts.{Parts}
 use Rattle.restart.specs.declared.event.Reply.TheVariants as reply
 use Rattle.nsf_core.proofs.Offered.{skips_commit}

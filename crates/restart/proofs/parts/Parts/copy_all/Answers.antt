@@ -1,12 +1,12 @@
 use Rattle.std.proofs.Common.{◌∙◌, refl, arith, subst}
 use Rattle.store_writer.specs.Parts as writer
 use Rattle.store_writer.specs.Writer.{IsFlipReply, IsStepReply, IsWriter}
+use Rattle.store_writer.specs.declared.copying.Copying.TheVariants.{Idle}
 use Rattle.store_writer.specs.declared.writer.FlipReply.{FlipReply}
 use Rattle.store_writer.specs.declared.writer.FlipReply.TheVariants.{Behind, Flipped}
 use Rattle.store_writer.specs.declared.writer.StepReply.{StepReply}
 use Rattle.store_writer.specs.declared.writer.StepReply.TheVariants.{Taken}
 use Rattle.nsf_core.specs.Value.{value_of}
-use Rattle.restart.specs.declared.copying.Copying.TheVariants.{Idle}
 use Rattle.restart.specs.declared.parts.Parts.{Parts}
 use Rattle.restart.specs.Handing.{MovesOn}
 use Rattle.restart.specs.Parts.{device_of, writer_of}
@@ -19,9 +19,9 @@ use Rattle.restart.proofs.parts.Parts.copy_all.Goals as goal
 
 pub checkpoint_step-requires : goal.checkpoint_step-requires
 checkpoint_step-requires g c =
-    let history = g.D.Device.history in
+    let past_of = g.D.Device.past_of in
     let old = c.args.self.now in
-    let laws : CopyLaws history old = record {
+    let laws : CopyLaws past_of old = record {
       txns = c.copy_whole.ensures.sound;
       shown = c.each_list.ensures.shown;
       one = c.one_copy.ensures;
@@ -32,12 +32,12 @@ checkpoint_step-requires g c =
       can.0,
       can.1,
       can.4.writer,
-      whole_is history old laws c.requires.sound c.in-Ok.chunk.number c.in-Ok.chunk.piece c.in-Ok.ensures.number
+      whole_is past_of old laws c.requires.sound c.in-Ok.chunk.number c.in-Ok.chunk.piece c.in-Ok.ensures.number
           c.in-Ok.ensures.whole can.0 can.1 can.2 can.3 can.4,
     )
 
 pub returns-in-Err-clause-moves : goal.returns-in-Err-clause-moves
-returns-in-Err-clause-moves g c = stays g.D.Device.history g.D.Device.failures c.args.self.now
+returns-in-Err-clause-moves g c = stays g.D.Device.past_of g.D.Device.failures c.args.self.now
 
 pub returns-in-Err-clause-answer : goal.returns-in-Err-clause-answer
 returns-in-Err-clause-answer g c = none_copied g.D.Device.failures c.args.self.now c.in-Err.error c.in-Err.ensures.no_memory c.requires.sound
@@ -52,10 +52,10 @@ unreachable-requires g c =
 
 pub returns-in-Err-checkpoint_step-clause-moves : goal.returns-in-Err-checkpoint_step-clause-moves
 returns-in-Err-checkpoint_step-clause-moves g c =
-    let history = g.D.Device.history in
+    let past_of = g.D.Device.past_of in
     let failures = g.D.Device.failures in
     let old = c.args.self.now in
-    let laws : CopyLaws history old = record {
+    let laws : CopyLaws past_of old = record {
       txns = c.copy_whole.ensures.sound;
       shown = c.each_list.ensures.shown;
       one = c.one_copy.ensures;
@@ -65,18 +65,18 @@ returns-in-Err-checkpoint_step-clause-moves g c =
     let chunk = c.in-Ok.chunk in
     let can = c.requires.runs in
     let mid : Parts g.row.D.Denot g.row.A.Denot = record old { writer = c.checkpoint_step.new.self } in
-    let first : MovesOn history old mid = moves_at history old mid refl refl
+    let first : MovesOn past_of old mid = moves_at past_of old mid refl refl
     (λ run handed s k is. c.checkpoint_step.ensures.writer run handed is.writer
-    (whole_is history old laws c.requires.sound chunk.number chunk.piece c.in-Ok.ensures.number c.in-Ok.ensures.whole run handed s k is))
+    (whole_is past_of old laws c.requires.sound chunk.number chunk.piece c.in-Ok.ensures.number c.in-Ok.ensures.whole run handed s k is))
     c.checkpoint_step.ensures.images (omega (arith, c.checkpoint_step.ensures.kept)) (stays_failed old mid refl refl c.in-Err-checkpoint_step.ensures.err.1) in
     first
 
 pub returns-in-Err-checkpoint_step-clause-answer : goal.returns-in-Err-checkpoint_step-clause-answer
 returns-in-Err-checkpoint_step-clause-answer g c =
-    let history = g.D.Device.history in
+    let past_of = g.D.Device.past_of in
     let failures = g.D.Device.failures in
     let old = c.args.self.now in
-    let laws : CopyLaws history old = record {
+    let laws : CopyLaws past_of old = record {
       txns = c.copy_whole.ensures.sound;
       shown = c.each_list.ensures.shown;
       one = c.one_copy.ensures;
@@ -86,19 +86,19 @@ returns-in-Err-checkpoint_step-clause-answer g c =
     let chunk = c.in-Ok.chunk in
     let can = c.requires.runs in
     let mid : Parts g.row.D.Denot g.row.A.Denot = record old { writer = c.checkpoint_step.new.self } in
-    let step : IsWriter history can.0 can.1 (writer_of mid) =
+    let step : IsWriter past_of can.0 can.1 (writer_of mid) =
     c.checkpoint_step.ensures.writer can.0 can.1 can.4.writer
-    (whole_is history old laws c.requires.sound chunk.number chunk.piece c.in-Ok.ensures.number c.in-Ok.ensures.whole can.0 can.1 can.2 can.3 can.4) in
-    copy_failed history failures old mid c.requires.all can refl refl step
+    (whole_is past_of old laws c.requires.sound chunk.number chunk.piece c.in-Ok.ensures.number c.in-Ok.ensures.whole can.0 can.1 can.2 can.3 can.4) in
+    copy_failed past_of failures old mid c.requires.all can refl refl step
     (omega (arith, c.checkpoint_step.ensures.kept)) c.checkpoint_step.ensures.later c.in-Err-checkpoint_step.error c.requires.sound
     c.in-Err-checkpoint_step.ensures.err
 
 pub unreachable-requires-in-Ok-Behind : goal.unreachable-requires-in-Ok-Behind
 unreachable-requires-in-Ok-Behind g c =
-    let history = g.D.Device.history in
+    let past_of = g.D.Device.past_of in
     let failures = g.D.Device.failures in
     let old = c.args.self.now in
-    let laws : CopyLaws history old = record {
+    let laws : CopyLaws past_of old = record {
       txns = c.copy_whole.ensures.sound;
       shown = c.each_list.ensures.shown;
       one = c.one_copy.ensures;
@@ -108,9 +108,9 @@ unreachable-requires-in-Ok-Behind g c =
     let chunk = c.in-Ok.chunk in
     let can = c.requires.runs in
     let mid : Parts g.row.D.Denot g.row.A.Denot = record old { writer = c.checkpoint_step.new.self } in
-    let step : IsWriter history can.0 can.1 (writer_of mid) =
+    let step : IsWriter past_of can.0 can.1 (writer_of mid) =
     c.checkpoint_step.ensures.writer can.0 can.1 can.4.writer
-    (whole_is history old laws c.requires.sound chunk.number chunk.piece c.in-Ok.ensures.number c.in-Ok.ensures.whole can.0 can.1 can.2 can.3 can.4) in
+    (whole_is past_of old laws c.requires.sound chunk.number chunk.piece c.in-Ok.ensures.number c.in-Ok.ensures.whole can.0 can.1 can.2 can.3 can.4) in
     let told : IsStepReply chunk.number chunk.piece Taken (writer_of old) (writer_of mid) =
     subst (λ (r : StepReply). IsStepReply chunk.number chunk.piece r (writer_of old) c.checkpoint_step.new.self) c.in-Ok-Taken.field-0-is
     c.in-Ok-Taken.ensures.stepped in
@@ -118,14 +118,14 @@ unreachable-requires-in-Ok-Behind g c =
     subst (λ (r : FlipReply). IsFlipReply can.1 r (writer_of mid) c.checkpoint_flip.new.self) c.in-Ok-Behind.field-0-is
     (c.in-Ok-Behind.ensures.flipped can.0 can.1 step) in
     behind.1 (may_flip (value_of old.core) can.1 chunk.number chunk.piece (writer_of old) (writer_of mid) c.in-Ok.ensures.whole told
-    (omega (arith, c.in-Ok.ensures.number, can.4.made, can.4.shown.shown.made, all_handed history can.0 can.1 can.2 can.3 old can.4 c.requires.all)))
+    (omega (arith, c.in-Ok.ensures.number, can.4.made, can.4.shown.shown.made, all_handed past_of can.0 can.1 can.2 can.3 old can.4 c.requires.all)))
 
 pub returns-in-Ok-Flipped-clause-moves : goal.returns-in-Ok-Flipped-clause-moves
 returns-in-Ok-Flipped-clause-moves g c =
-    let history = g.D.Device.history in
+    let past_of = g.D.Device.past_of in
     let failures = g.D.Device.failures in
     let old = c.args.self.now in
-    let laws : CopyLaws history old = record {
+    let laws : CopyLaws past_of old = record {
       txns = c.copy_whole.ensures.sound;
       shown = c.each_list.ensures.shown;
       one = c.one_copy.ensures;
@@ -138,28 +138,28 @@ returns-in-Ok-Flipped-clause-moves g c =
     let told : IsStepReply chunk.number chunk.piece Taken (writer_of old) (writer_of mid) =
     subst (λ (r : StepReply). IsStepReply chunk.number chunk.piece r (writer_of old) c.checkpoint_step.new.self) c.in-Ok-Taken.field-0-is
     c.in-Ok-Taken.ensures.stepped in
-    let first : MovesOn history old mid = moves_at history old mid refl refl
+    let first : MovesOn past_of old mid = moves_at past_of old mid refl refl
     (λ run handed s k is. c.checkpoint_step.ensures.writer run handed is.writer
-    (whole_is history old laws c.requires.sound chunk.number chunk.piece c.in-Ok.ensures.number c.in-Ok.ensures.whole run handed s k is))
+    (whole_is past_of old laws c.requires.sound chunk.number chunk.piece c.in-Ok.ensures.number c.in-Ok.ensures.whole run handed s k is))
     c.checkpoint_step.ensures.images (omega (arith, c.checkpoint_step.ensures.kept))
     (stays_begun old mid refl c.requires.given_up told.1.0 told.1.1.0
     (whole_empty (value_of old.core) chunk.number chunk.piece (writer_of old) (writer_of mid) c.in-Ok.ensures.whole told)) in
-    let step : IsWriter history can.0 can.1 (writer_of mid) =
+    let step : IsWriter past_of can.0 can.1 (writer_of mid) =
     c.checkpoint_step.ensures.writer can.0 can.1 can.4.writer
-    (whole_is history old laws c.requires.sound chunk.number chunk.piece c.in-Ok.ensures.number c.in-Ok.ensures.whole can.0 can.1 can.2 can.3 can.4) in
+    (whole_is past_of old laws c.requires.sound chunk.number chunk.piece c.in-Ok.ensures.number c.in-Ok.ensures.whole can.0 can.1 can.2 can.3 can.4) in
     let new : Parts g.row.D.Denot g.row.A.Denot = record old { writer = c.checkpoint_flip.new.self; copying = Idle } in
     let flipped : IsFlipReply can.1 (Flipped c.in-Ok-Flipped.number) (writer_of mid) (writer_of new) =
     subst (λ (r : FlipReply). IsFlipReply can.1 r (writer_of mid) c.checkpoint_flip.new.self) c.in-Ok-Flipped.field-0-is
     (c.in-Ok-Flipped.ensures.flipped can.0 can.1 step) in
-    moves_then history old mid new first (moves_by history mid new refl refl c.checkpoint_flip.ensures.writer c.checkpoint_flip.ensures.images
+    moves_then past_of old mid new first (moves_by past_of mid new refl refl c.checkpoint_flip.ensures.writer c.checkpoint_flip.ensures.images
     (omega (arith, flipped.0, flipped.1)) (stays_idle mid new refl refl flipped.4))
 
 pub returns-in-Ok-Flipped-clause-answer : goal.returns-in-Ok-Flipped-clause-answer
 returns-in-Ok-Flipped-clause-answer g c =
-    let history = g.D.Device.history in
+    let past_of = g.D.Device.past_of in
     let failures = g.D.Device.failures in
     let old = c.args.self.now in
-    let laws : CopyLaws history old = record {
+    let laws : CopyLaws past_of old = record {
       txns = c.copy_whole.ensures.sound;
       shown = c.each_list.ensures.shown;
       one = c.one_copy.ensures;
@@ -169,9 +169,9 @@ returns-in-Ok-Flipped-clause-answer g c =
     let chunk = c.in-Ok.chunk in
     let can = c.requires.runs in
     let mid : Parts g.row.D.Denot g.row.A.Denot = record old { writer = c.checkpoint_step.new.self } in
-    let step : IsWriter history can.0 can.1 (writer_of mid) =
+    let step : IsWriter past_of can.0 can.1 (writer_of mid) =
     c.checkpoint_step.ensures.writer can.0 can.1 can.4.writer
-    (whole_is history old laws c.requires.sound chunk.number chunk.piece c.in-Ok.ensures.number c.in-Ok.ensures.whole can.0 can.1 can.2 can.3 can.4) in
+    (whole_is past_of old laws c.requires.sound chunk.number chunk.piece c.in-Ok.ensures.number c.in-Ok.ensures.whole can.0 can.1 can.2 can.3 can.4) in
     let told : IsStepReply chunk.number chunk.piece Taken (writer_of old) (writer_of mid) =
     subst (λ (r : StepReply). IsStepReply chunk.number chunk.piece r (writer_of old) c.checkpoint_step.new.self) c.in-Ok-Taken.field-0-is
     c.in-Ok-Taken.ensures.stepped in
@@ -179,14 +179,14 @@ returns-in-Ok-Flipped-clause-answer g c =
     let flipped : IsFlipReply can.1 (Flipped c.in-Ok-Flipped.number) (writer_of mid) (writer_of new) =
     subst (λ (r : FlipReply). IsFlipReply can.1 r (writer_of mid) c.checkpoint_flip.new.self) c.in-Ok-Flipped.field-0-is
     (c.in-Ok-Flipped.ensures.flipped can.0 can.1 step) in (
-      all_well history failures old new c.requires.all can refl refl (c.checkpoint_flip.ensures.writer can.0 can.1 step)
+      all_well past_of failures old new c.requires.all can refl refl (c.checkpoint_flip.ensures.writer can.0 can.1 step)
           (omega (arith, c.checkpoint_step.ensures.kept, flipped.0, flipped.1))
           (omega (arith, c.checkpoint_step.ensures.later, c.checkpoint_flip.ensures.later)) c.requires.sound c.in-Ok-Flipped.ensures.sound.1
           (c.in-Ok-Flipped.ensures.quiet ∙ c.in-Ok-Taken.ensures.quiet),
       flipped.0,
       whole_current old new (value_of old.core) (writer_of mid) can.1 chunk.number c.in-Ok-Flipped.number chunk.piece c.in-Ok.ensures.whole told flipped
           c.requires.given_up refl
-          (none_unwritten history can.0 can.1 new (c.checkpoint_flip.ensures.writer can.0 can.1 step)
+          (none_unwritten past_of can.0 can.1 new (c.checkpoint_flip.ensures.writer can.0 can.1 step)
           (omega (
             arith,
             whole_synced old new (value_of old.core)
@@ -200,10 +200,10 @@ returns-in-Ok-Flipped-clause-answer g c =
 
 pub returns-in-Err-checkpoint_flip-clause-moves : goal.returns-in-Err-checkpoint_flip-clause-moves
 returns-in-Err-checkpoint_flip-clause-moves g c =
-    let history = g.D.Device.history in
+    let past_of = g.D.Device.past_of in
     let failures = g.D.Device.failures in
     let old = c.args.self.now in
-    let laws : CopyLaws history old = record {
+    let laws : CopyLaws past_of old = record {
       txns = c.copy_whole.ensures.sound;
       shown = c.each_list.ensures.shown;
       one = c.one_copy.ensures;
@@ -216,22 +216,22 @@ returns-in-Err-checkpoint_flip-clause-moves g c =
     let told : IsStepReply chunk.number chunk.piece Taken (writer_of old) (writer_of mid) =
     subst (λ (r : StepReply). IsStepReply chunk.number chunk.piece r (writer_of old) c.checkpoint_step.new.self) c.in-Ok-Taken.field-0-is
     c.in-Ok-Taken.ensures.stepped in
-    let first : MovesOn history old mid = moves_at history old mid refl refl
+    let first : MovesOn past_of old mid = moves_at past_of old mid refl refl
     (λ run handed s k is. c.checkpoint_step.ensures.writer run handed is.writer
-    (whole_is history old laws c.requires.sound chunk.number chunk.piece c.in-Ok.ensures.number c.in-Ok.ensures.whole run handed s k is))
+    (whole_is past_of old laws c.requires.sound chunk.number chunk.piece c.in-Ok.ensures.number c.in-Ok.ensures.whole run handed s k is))
     c.checkpoint_step.ensures.images (omega (arith, c.checkpoint_step.ensures.kept))
     (stays_begun old mid refl c.requires.given_up told.1.0 told.1.1.0
     (whole_empty (value_of old.core) chunk.number chunk.piece (writer_of old) (writer_of mid) c.in-Ok.ensures.whole told)) in
     let new : Parts g.row.D.Denot g.row.A.Denot = record old { writer = c.checkpoint_flip.new.self } in
-    moves_then history old mid new first (moves_by history mid new refl refl c.checkpoint_flip.ensures.writer c.checkpoint_flip.ensures.images
+    moves_then past_of old mid new first (moves_by past_of mid new refl refl c.checkpoint_flip.ensures.writer c.checkpoint_flip.ensures.images
     (omega (arith, c.in-Err-checkpoint_flip.ensures.kept)) (stays_failed mid new refl refl c.in-Err-checkpoint_flip.ensures.err.1))
 
 pub returns-in-Err-checkpoint_flip-clause-answer : goal.returns-in-Err-checkpoint_flip-clause-answer
 returns-in-Err-checkpoint_flip-clause-answer g c =
-    let history = g.D.Device.history in
+    let past_of = g.D.Device.past_of in
     let failures = g.D.Device.failures in
     let old = c.args.self.now in
-    let laws : CopyLaws history old = record {
+    let laws : CopyLaws past_of old = record {
       txns = c.copy_whole.ensures.sound;
       shown = c.each_list.ensures.shown;
       one = c.one_copy.ensures;
@@ -241,28 +241,28 @@ returns-in-Err-checkpoint_flip-clause-answer g c =
     let chunk = c.in-Ok.chunk in
     let can = c.requires.runs in
     let mid : Parts g.row.D.Denot g.row.A.Denot = record old { writer = c.checkpoint_step.new.self } in
-    let step : IsWriter history can.0 can.1 (writer_of mid) =
+    let step : IsWriter past_of can.0 can.1 (writer_of mid) =
     c.checkpoint_step.ensures.writer can.0 can.1 can.4.writer
-    (whole_is history old laws c.requires.sound chunk.number chunk.piece c.in-Ok.ensures.number c.in-Ok.ensures.whole can.0 can.1 can.2 can.3 can.4) in
+    (whole_is past_of old laws c.requires.sound chunk.number chunk.piece c.in-Ok.ensures.number c.in-Ok.ensures.whole can.0 can.1 can.2 can.3 can.4) in
     let new : Parts g.row.D.Denot g.row.A.Denot = record old { writer = c.checkpoint_flip.new.self } in
-    failed_later history failures old mid new c.requires.all can refl refl (c.checkpoint_flip.ensures.writer can.0 can.1 step)
+    failed_later past_of failures old mid new c.requires.all can refl refl (c.checkpoint_flip.ensures.writer can.0 can.1 step)
     (omega (arith, c.checkpoint_step.ensures.kept, c.in-Err-checkpoint_flip.ensures.kept))
     (omega (arith, c.checkpoint_step.ensures.later, c.checkpoint_flip.ensures.later)) c.in-Err-checkpoint_flip.error c.requires.sound
     c.in-Ok-Taken.ensures.sound.1 c.in-Ok-Taken.ensures.quiet c.in-Err-checkpoint_flip.ensures.err
 
 pub returns-in-Err-clause-around : goal.returns-in-Err-clause-around
-returns-in-Err-clause-around g c = none_copied_around g.D.Device.history c.args.self.now
+returns-in-Err-clause-around g c = none_copied_around g.D.Device.past_of c.args.self.now
 
 pub returns-in-Err-checkpoint_step-clause-around : goal.returns-in-Err-checkpoint_step-clause-around
 returns-in-Err-checkpoint_step-clause-around g c = let old = c.args.self.now in
-    half_copied g.D.Device.history (writer.halves_of (writer_of old)) (device_of old)
+    half_copied g.D.Device.past_of (writer.halves_of (writer_of old)) (device_of old)
     (writer.device_of c.checkpoint_step.new.self) c.checkpoint_step.ensures.around
 
 pub returns-in-Ok-Flipped-clause-around : goal.returns-in-Ok-Flipped-clause-around
 returns-in-Ok-Flipped-clause-around g c =
-    let history = g.D.Device.history in
+    let past_of = g.D.Device.past_of in
     let old = c.args.self.now in
-    let laws : CopyLaws history old = record {
+    let laws : CopyLaws past_of old = record {
       txns = c.copy_whole.ensures.sound;
       shown = c.each_list.ensures.shown;
       one = c.one_copy.ensures;
@@ -274,22 +274,22 @@ returns-in-Ok-Flipped-clause-around g c =
     let told : IsStepReply chunk.number chunk.piece Taken (writer_of old) (writer_of mid) =
     subst (λ (r : StepReply). IsStepReply chunk.number chunk.piece r (writer_of old) c.checkpoint_step.new.self) c.in-Ok-Taken.field-0-is
     c.in-Ok-Taken.ensures.stepped in
-    let first : MovesOn history old mid = moves_at history old mid refl refl
+    let first : MovesOn past_of old mid = moves_at past_of old mid refl refl
     (λ run handed s k is. c.checkpoint_step.ensures.writer run handed is.writer
-    (whole_is history old laws c.requires.sound chunk.number chunk.piece c.in-Ok.ensures.number c.in-Ok.ensures.whole run handed s k is))
+    (whole_is past_of old laws c.requires.sound chunk.number chunk.piece c.in-Ok.ensures.number c.in-Ok.ensures.whole run handed s k is))
     c.checkpoint_step.ensures.images (omega (arith, c.checkpoint_step.ensures.kept))
     (stays_begun old mid refl c.requires.given_up told.1.0 told.1.1.0
     (whole_empty (value_of old.core) chunk.number chunk.piece (writer_of old) (writer_of mid) c.in-Ok.ensures.whole told)) in
     let new : Parts g.row.D.Denot g.row.A.Denot = record old { writer = c.checkpoint_flip.new.self; copying = Idle } in
-    copies_then history old mid new (can_run_on history old mid first c.requires.runs) c.in-Ok-Taken.ensures.sound.1 told.1.1.1
-    (half_copied history (writer.halves_of (writer_of old)) (device_of old) (device_of mid) c.checkpoint_step.ensures.around)
-    (flip_copied history (writer.halves_of (writer_of mid)) (device_of mid) (device_of new) c.checkpoint_flip.ensures.around)
+    copies_then past_of old mid new (can_run_on past_of old mid first c.requires.runs) c.in-Ok-Taken.ensures.sound.1 told.1.1.1
+    (half_copied past_of (writer.halves_of (writer_of old)) (device_of old) (device_of mid) c.checkpoint_step.ensures.around)
+    (flip_copied past_of (writer.halves_of (writer_of mid)) (device_of mid) (device_of new) c.checkpoint_flip.ensures.around)
 
 pub returns-in-Err-checkpoint_flip-clause-around : goal.returns-in-Err-checkpoint_flip-clause-around
 returns-in-Err-checkpoint_flip-clause-around g c =
-    let history = g.D.Device.history in
+    let past_of = g.D.Device.past_of in
     let old = c.args.self.now in
-    let laws : CopyLaws history old = record {
+    let laws : CopyLaws past_of old = record {
       txns = c.copy_whole.ensures.sound;
       shown = c.each_list.ensures.shown;
       one = c.one_copy.ensures;
@@ -301,13 +301,13 @@ returns-in-Err-checkpoint_flip-clause-around g c =
     let told : IsStepReply chunk.number chunk.piece Taken (writer_of old) (writer_of mid) =
     subst (λ (r : StepReply). IsStepReply chunk.number chunk.piece r (writer_of old) c.checkpoint_step.new.self) c.in-Ok-Taken.field-0-is
     c.in-Ok-Taken.ensures.stepped in
-    let first : MovesOn history old mid = moves_at history old mid refl refl
+    let first : MovesOn past_of old mid = moves_at past_of old mid refl refl
     (λ run handed s k is. c.checkpoint_step.ensures.writer run handed is.writer
-    (whole_is history old laws c.requires.sound chunk.number chunk.piece c.in-Ok.ensures.number c.in-Ok.ensures.whole run handed s k is))
+    (whole_is past_of old laws c.requires.sound chunk.number chunk.piece c.in-Ok.ensures.number c.in-Ok.ensures.whole run handed s k is))
     c.checkpoint_step.ensures.images (omega (arith, c.checkpoint_step.ensures.kept))
     (stays_begun old mid refl c.requires.given_up told.1.0 told.1.1.0
     (whole_empty (value_of old.core) chunk.number chunk.piece (writer_of old) (writer_of mid) c.in-Ok.ensures.whole told)) in
     let new : Parts g.row.D.Denot g.row.A.Denot = record old { writer = c.checkpoint_flip.new.self } in
-    copies_then history old mid new (can_run_on history old mid first c.requires.runs) c.in-Ok-Taken.ensures.sound.1 told.1.1.1
-    (half_copied history (writer.halves_of (writer_of old)) (device_of old) (device_of mid) c.checkpoint_step.ensures.around)
-    (flip_copied history (writer.halves_of (writer_of mid)) (device_of mid) (device_of new) c.checkpoint_flip.ensures.around)
+    copies_then past_of old mid new (can_run_on past_of old mid first c.requires.runs) c.in-Ok-Taken.ensures.sound.1 told.1.1.1
+    (half_copied past_of (writer.halves_of (writer_of old)) (device_of old) (device_of mid) c.checkpoint_step.ensures.around)
+    (flip_copied past_of (writer.halves_of (writer_of mid)) (device_of mid) (device_of new) c.checkpoint_flip.ensures.around)

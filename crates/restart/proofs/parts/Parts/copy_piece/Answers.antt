@@ -1,11 +1,11 @@
 use Rattle.std.proofs.Common.{◌≤◌, ◌∙◌, refl, sym, ap, arith, subst, inl, Ok}
-use Rattle.image_model.specs.Places.{place_behind}
+use Rattle.store_image_model.specs.Places.{place_behind}
 use Rattle.store_writer.specs.Parts as writer
 use Rattle.store_writer.specs.Places.{IsAtPiece, IsAtPlace}
 use Rattle.store_writer.specs.Writer.{IsStepReply}
+use Rattle.store_writer.specs.declared.copying.Copying.TheVariants.{GivenUp, Steps}
 use Rattle.store_writer.specs.declared.writer.StepReply.{StepReply}
 use Rattle.store_writer.specs.declared.writer.StepReply.TheVariants.{StartAgain, Taken}
-use Rattle.restart.specs.declared.copying.Copying.TheVariants.{GivenUp, Steps}
 use Rattle.restart.specs.declared.parts.Parts.{Parts}
 use Rattle.restart.specs.Parts.{core_of, device_of, horizon_of, writer_of}
 use Rattle.restart.proofs.Copied.{CopyLaws, cannot_take, fewer_now, piece_is, stays_taken, takes_piece}
@@ -18,9 +18,9 @@ use Rattle.restart.proofs.parts.Parts.copy_piece.Goals as goal
 
 pub checkpoint_step-requires : goal.checkpoint_step-requires
 checkpoint_step-requires g c =
-    let history = g.D.Device.history in
+    let past_of = g.D.Device.past_of in
     let old = c.args.self.now in
-    let laws : CopyLaws history old = record {
+    let laws : CopyLaws past_of old = record {
       txns = c.copy_step.ensures.sound;
       shown = c.each_list.ensures.shown;
       one = c.one_copy.ensures;
@@ -31,21 +31,21 @@ checkpoint_step-requires g c =
       can.0,
       can.1,
       can.4.writer,
-      piece_is history old laws c.requires.sound c.in-Ok.chunk.number c.args.place c.in-Ok.chunk.piece c.in-Ok.ensures.number
+      piece_is past_of old laws c.requires.sound c.in-Ok.chunk.number c.args.place c.in-Ok.chunk.piece c.in-Ok.ensures.number
           c.requires.due c.in-Ok.ensures.piece can.0 can.1 can.2 can.3 can.4,
     )
 
 pub returns-in-Err-clause-moves : goal.returns-in-Err-clause-moves
-returns-in-Err-clause-moves g c = stays g.D.Device.history g.D.Device.failures c.args.self.now
+returns-in-Err-clause-moves g c = stays g.D.Device.past_of g.D.Device.failures c.args.self.now
 
 pub returns-in-Err-clause-answer : goal.returns-in-Err-clause-answer
 returns-in-Err-clause-answer g c = none_copied g.D.Device.failures c.args.self.now c.in-Err.error c.in-Err.ensures.no_memory c.requires.sound
 
 pub returns-in-Ok-Taken-clause-moves : goal.returns-in-Ok-Taken-clause-moves
 returns-in-Ok-Taken-clause-moves g c =
-    let history = g.D.Device.history in
+    let past_of = g.D.Device.past_of in
     let old = c.args.self.now in
-    let laws : CopyLaws history old = record {
+    let laws : CopyLaws past_of old = record {
       txns = c.copy_step.ensures.sound;
       shown = c.each_list.ensures.shown;
       one = c.one_copy.ensures;
@@ -57,13 +57,13 @@ returns-in-Ok-Taken-clause-moves g c =
     let told : IsStepReply chunk.number chunk.piece Taken (writer_of old) (writer_of new) =
     subst (λ (r : StepReply). IsStepReply chunk.number chunk.piece r (writer_of old) c.checkpoint_step.new.self) c.in-Ok-Taken.field-0-is
     c.in-Ok-Taken.ensures.stepped in
-    moves_at history old new refl refl
+    moves_at past_of old new refl refl
     (λ run handed s k is. c.checkpoint_step.ensures.writer run handed is.writer
-    (piece_is history old laws c.requires.sound chunk.number c.args.place chunk.piece c.in-Ok.ensures.number c.requires.due c.in-Ok.ensures.piece run handed
+    (piece_is past_of old laws c.requires.sound chunk.number c.args.place chunk.piece c.in-Ok.ensures.number c.requires.due c.in-Ok.ensures.piece run handed
     s k is))
     c.checkpoint_step.ensures.images
     (omega (arith, c.checkpoint_step.ensures.kept))
-    (stays_taken history old laws c.requires.sound chunk.number c.args.place chunk.piece c.in-Ok.ensures.number c.requires.due c.in-Ok.ensures.piece new refl
+    (stays_taken past_of old laws c.requires.sound chunk.number c.args.place chunk.piece c.in-Ok.ensures.number c.requires.due c.in-Ok.ensures.piece new refl
     c.requires.runs c.place_behind-behind.result refl c.place_behind-behind.ensures told
     (λ pages same. subst (λ n. IsAtPiece n chunk.piece (writer.image_of (writer_of old))
     → IsAtPlace n (place_behind n chunk.piece) (writer.image_of (writer_of new))) (sym same)
@@ -71,9 +71,9 @@ returns-in-Ok-Taken-clause-moves g c =
 
 pub returns-in-Ok-Taken-clause-answer : goal.returns-in-Ok-Taken-clause-answer
 returns-in-Ok-Taken-clause-answer g c =
-    let history = g.D.Device.history in
+    let past_of = g.D.Device.past_of in
     let old = c.args.self.now in
-    let laws : CopyLaws history old = record {
+    let laws : CopyLaws past_of old = record {
       txns = c.copy_step.ensures.sound;
       shown = c.each_list.ensures.shown;
       one = c.one_copy.ensures;
@@ -84,25 +84,25 @@ returns-in-Ok-Taken-clause-answer g c =
     let can = c.requires.runs in
     let new : Parts g.row.D.Denot g.row.A.Denot = record old { writer = c.checkpoint_step.new.self; copying = Steps c.place_behind-behind.result } in
     let after = c.checkpoint_step.ensures.writer can.0 can.1 can.4.writer
-    (piece_is history old laws c.requires.sound chunk.number c.args.place chunk.piece c.in-Ok.ensures.number c.requires.due c.in-Ok.ensures.piece can.0
+    (piece_is past_of old laws c.requires.sound chunk.number c.args.place chunk.piece c.in-Ok.ensures.number c.requires.due c.in-Ok.ensures.piece can.0
     can.1 can.2 can.3 can.4) in
     let grows : horizon_of old ≤ horizon_of new = omega (arith, c.checkpoint_step.ensures.kept) in
     let told : IsStepReply chunk.number chunk.piece Taken (writer_of old) (writer_of new) =
     subst (λ (r : StepReply). IsStepReply chunk.number chunk.piece r (writer_of old) c.checkpoint_step.new.self) c.in-Ok-Taken.field-0-is
     c.in-Ok-Taken.ensures.stepped in (
-      all_well history g.D.Device.failures old new c.requires.all can refl refl after grows c.checkpoint_step.ensures.later c.requires.sound
+      all_well past_of g.D.Device.failures old new c.requires.all can refl refl after grows c.checkpoint_step.ensures.later c.requires.sound
           c.in-Ok-Taken.ensures.sound.1 c.in-Ok-Taken.ensures.quiet,
       takes_piece old new chunk.number c.args.place chunk.piece c.in-Ok.ensures.number c.requires.next c.in-Ok.ensures.piece told
           (ap Steps c.place_behind-behind.ensures) c.checkpoint_step.ensures.kept,
-      fewer_now history old new laws c.requires.sound chunk.number c.args.place chunk.piece c.in-Ok.ensures.number c.requires.due c.in-Ok.ensures.piece
+      fewer_now past_of old new laws c.requires.sound chunk.number c.args.place chunk.piece c.in-Ok.ensures.number c.requires.due c.in-Ok.ensures.piece
           c.requires.next can told (ap Steps c.place_behind-behind.ensures) refl refl,
     )
 
 pub returns-in-Ok-StartAgain-clause-moves : goal.returns-in-Ok-StartAgain-clause-moves
 returns-in-Ok-StartAgain-clause-moves g c =
-    let history = g.D.Device.history in
+    let past_of = g.D.Device.past_of in
     let old = c.args.self.now in
-    let laws : CopyLaws history old = record {
+    let laws : CopyLaws past_of old = record {
       txns = c.copy_step.ensures.sound;
       shown = c.each_list.ensures.shown;
       one = c.one_copy.ensures;
@@ -114,9 +114,9 @@ returns-in-Ok-StartAgain-clause-moves g c =
     let told : IsStepReply chunk.number chunk.piece StartAgain (writer_of old) (writer_of new) =
     subst (λ (r : StepReply). IsStepReply chunk.number chunk.piece r (writer_of old) c.checkpoint_step.new.self) c.in-Ok-StartAgain.field-0-is
     c.in-Ok-StartAgain.ensures.stepped in
-    moves_at history old new refl refl
+    moves_at past_of old new refl refl
     (λ run handed s k is. c.checkpoint_step.ensures.writer run handed is.writer
-    (piece_is history old laws c.requires.sound chunk.number c.args.place chunk.piece c.in-Ok.ensures.number c.requires.due c.in-Ok.ensures.piece run handed
+    (piece_is past_of old laws c.requires.sound chunk.number c.args.place chunk.piece c.in-Ok.ensures.number c.requires.due c.in-Ok.ensures.piece run handed
     s k is))
     c.checkpoint_step.ensures.images
     (omega (arith, c.checkpoint_step.ensures.kept))
@@ -124,9 +124,9 @@ returns-in-Ok-StartAgain-clause-moves g c =
 
 pub returns-in-Ok-StartAgain-clause-answer : goal.returns-in-Ok-StartAgain-clause-answer
 returns-in-Ok-StartAgain-clause-answer g c =
-    let history = g.D.Device.history in
+    let past_of = g.D.Device.past_of in
     let old = c.args.self.now in
-    let laws : CopyLaws history old = record {
+    let laws : CopyLaws past_of old = record {
       txns = c.copy_step.ensures.sound;
       shown = c.each_list.ensures.shown;
       one = c.one_copy.ensures;
@@ -137,13 +137,13 @@ returns-in-Ok-StartAgain-clause-answer g c =
     let can = c.requires.runs in
     let new : Parts g.row.D.Denot g.row.A.Denot = record old { writer = c.checkpoint_step.new.self; copying = GivenUp } in
     let after = c.checkpoint_step.ensures.writer can.0 can.1 can.4.writer
-    (piece_is history old laws c.requires.sound chunk.number c.args.place chunk.piece c.in-Ok.ensures.number c.requires.due c.in-Ok.ensures.piece can.0
+    (piece_is past_of old laws c.requires.sound chunk.number c.args.place chunk.piece c.in-Ok.ensures.number c.requires.due c.in-Ok.ensures.piece can.0
     can.1 can.2 can.3 can.4) in
     let grows : horizon_of old ≤ horizon_of new = omega (arith, c.checkpoint_step.ensures.kept) in
     let told : IsStepReply chunk.number chunk.piece StartAgain (writer_of old) (writer_of new) =
     subst (λ (r : StepReply). IsStepReply chunk.number chunk.piece r (writer_of old) c.checkpoint_step.new.self) c.in-Ok-StartAgain.field-0-is
     c.in-Ok-StartAgain.ensures.stepped in (
-      all_well history g.D.Device.failures old new c.requires.all can refl refl after grows c.checkpoint_step.ensures.later c.requires.sound
+      all_well past_of g.D.Device.failures old new c.requires.all can refl refl after grows c.checkpoint_step.ensures.later c.requires.sound
           c.in-Ok-StartAgain.ensures.sound.1 c.in-Ok-StartAgain.ensures.quiet,
       inl (cannot_take old new chunk.number c.args.place chunk.piece c.requires.next c.in-Ok.ensures.piece told),
       refl,
@@ -152,9 +152,9 @@ returns-in-Ok-StartAgain-clause-answer g c =
 
 pub returns-in-Err-checkpoint_step-clause-moves : goal.returns-in-Err-checkpoint_step-clause-moves
 returns-in-Err-checkpoint_step-clause-moves g c =
-    let history = g.D.Device.history in
+    let past_of = g.D.Device.past_of in
     let old = c.args.self.now in
-    let laws : CopyLaws history old = record {
+    let laws : CopyLaws past_of old = record {
       txns = c.copy_step.ensures.sound;
       shown = c.each_list.ensures.shown;
       one = c.one_copy.ensures;
@@ -163,9 +163,9 @@ returns-in-Err-checkpoint_step-clause-moves g c =
     } in
     let chunk = c.in-Ok.chunk in
     let new : Parts g.row.D.Denot g.row.A.Denot = record old { writer = c.checkpoint_step.new.self } in
-    moves_at history old new refl refl
+    moves_at past_of old new refl refl
     (λ run handed s k is. c.checkpoint_step.ensures.writer run handed is.writer
-    (piece_is history old laws c.requires.sound chunk.number c.args.place chunk.piece c.in-Ok.ensures.number c.requires.due c.in-Ok.ensures.piece run handed
+    (piece_is past_of old laws c.requires.sound chunk.number c.args.place chunk.piece c.in-Ok.ensures.number c.requires.due c.in-Ok.ensures.piece run handed
     s k is))
     c.checkpoint_step.ensures.images
     (omega (arith, c.checkpoint_step.ensures.kept))
@@ -173,9 +173,9 @@ returns-in-Err-checkpoint_step-clause-moves g c =
 
 pub returns-in-Err-checkpoint_step-clause-answer : goal.returns-in-Err-checkpoint_step-clause-answer
 returns-in-Err-checkpoint_step-clause-answer g c =
-    let history = g.D.Device.history in
+    let past_of = g.D.Device.past_of in
     let old = c.args.self.now in
-    let laws : CopyLaws history old = record {
+    let laws : CopyLaws past_of old = record {
       txns = c.copy_step.ensures.sound;
       shown = c.each_list.ensures.shown;
       one = c.one_copy.ensures;
@@ -186,26 +186,26 @@ returns-in-Err-checkpoint_step-clause-answer g c =
     let can = c.requires.runs in
     let new : Parts g.row.D.Denot g.row.A.Denot = record old { writer = c.checkpoint_step.new.self } in
     let after = c.checkpoint_step.ensures.writer can.0 can.1 can.4.writer
-    (piece_is history old laws c.requires.sound chunk.number c.args.place chunk.piece c.in-Ok.ensures.number c.requires.due c.in-Ok.ensures.piece can.0
+    (piece_is past_of old laws c.requires.sound chunk.number c.args.place chunk.piece c.in-Ok.ensures.number c.requires.due c.in-Ok.ensures.piece can.0
     can.1 can.2 can.3 can.4) in
     let grows : horizon_of old ≤ horizon_of new = omega (arith, c.checkpoint_step.ensures.kept) in
-    copy_failed history g.D.Device.failures old new c.requires.all can refl refl after grows c.checkpoint_step.ensures.later c.in-Err-checkpoint_step.error
+    copy_failed past_of g.D.Device.failures old new c.requires.all can refl refl after grows c.checkpoint_step.ensures.later c.in-Err-checkpoint_step.error
     c.requires.sound c.in-Err-checkpoint_step.ensures.err
 
 pub returns-in-Err-clause-around : goal.returns-in-Err-clause-around
-returns-in-Err-clause-around g c = none_copied_around g.D.Device.history c.args.self.now
+returns-in-Err-clause-around g c = none_copied_around g.D.Device.past_of c.args.self.now
 
 pub returns-in-Ok-Taken-clause-around : goal.returns-in-Ok-Taken-clause-around
 returns-in-Ok-Taken-clause-around g c = let old = c.args.self.now in
-    half_copied g.D.Device.history (writer.halves_of (writer_of old)) (device_of old)
+    half_copied g.D.Device.past_of (writer.halves_of (writer_of old)) (device_of old)
     (writer.device_of c.checkpoint_step.new.self) c.checkpoint_step.ensures.around
 
 pub returns-in-Ok-StartAgain-clause-around : goal.returns-in-Ok-StartAgain-clause-around
 returns-in-Ok-StartAgain-clause-around g c = let old = c.args.self.now in
-    half_copied g.D.Device.history (writer.halves_of (writer_of old)) (device_of old)
+    half_copied g.D.Device.past_of (writer.halves_of (writer_of old)) (device_of old)
     (writer.device_of c.checkpoint_step.new.self) c.checkpoint_step.ensures.around
 
 pub returns-in-Err-checkpoint_step-clause-around : goal.returns-in-Err-checkpoint_step-clause-around
 returns-in-Err-checkpoint_step-clause-around g c = let old = c.args.self.now in
-    half_copied g.D.Device.history (writer.halves_of (writer_of old)) (device_of old)
+    half_copied g.D.Device.past_of (writer.halves_of (writer_of old)) (device_of old)
     (writer.device_of c.checkpoint_step.new.self) c.checkpoint_step.ensures.around

@@ -11,7 +11,7 @@ use Rattle.restart.proofs.parts.Parts.flip.Goals as goal
 
 pub groups-init : goal.groups-init
 groups-init g c = record {
-  moves = stays g.D.Device.history g.D.Device.failures c.args.self.now;
+  moves = stays g.D.Device.past_of g.D.Device.failures c.args.self.now;
   well = none_well g.D.Device.failures c.args.self.now c.requires.sound;
   all = c.requires.all;
   copying = c.requires.whole;
@@ -19,11 +19,11 @@ groups-init g c = record {
   left = omega arith;
   behind = λ _. refl;
   groups = no_more;
-  around = none_copied_around g.D.Device.history c.args.self.now;
+  around = none_copied_around g.D.Device.past_of c.args.self.now;
 }
 
 pub flip_or_flush-requires-clause-runs : goal.flip_or_flush-requires-clause-runs
-flip_or_flush-requires-clause-runs g c = can_run_on g.D.Device.history c.args.self.now c.groups.self c.groups.invariant.moves c.requires.runs
+flip_or_flush-requires-clause-runs g c = can_run_on g.D.Device.past_of c.args.self.now c.groups.self c.groups.invariant.moves c.requires.runs
 
 pub flip_or_flush-requires-clause-all : goal.flip_or_flush-requires-clause-all
 flip_or_flush-requires-clause-all g c = c.groups.invariant.all
@@ -39,7 +39,7 @@ groups-preserved g c =
     let first = c.groups.invariant in
     let more = c.in-None.ensures.flushed in
     record {
-      moves = moves_then g.D.Device.history c.args.self.now c.groups.self c.flip_or_flush.new.self first.moves c.flip_or_flush.ensures.moves;
+      moves = moves_then g.D.Device.past_of c.args.self.now c.groups.self c.flip_or_flush.new.self first.moves c.flip_or_flush.ensures.moves;
       well = well_then g.D.Device.failures c.args.self.now c.groups.self c.flip_or_flush.new.self first.well more.well;
       all = more.all;
       copying = more.copying;
@@ -47,8 +47,8 @@ groups-preserved g c =
       left = omega (arith, first.left, more.left);
       behind = λ may. absurd (more.could-not (subst (λ engine. MayFlip (writer_of engine)) (sym (first.behind may)) may));
       groups = group_more g.D.Device.failures (writer_of c.args.self.now) c.groups.self c.flip_or_flush.new.self first.groups more;
-      around = copies_then g.D.Device.history c.args.self.now c.groups.self c.flip_or_flush.new.self
-          (can_run_on g.D.Device.history c.args.self.now c.groups.self first.moves c.requires.runs) first.well.sound first.halves first.around
+      around = copies_then g.D.Device.past_of c.args.self.now c.groups.self c.flip_or_flush.new.self
+          (can_run_on g.D.Device.past_of c.args.self.now c.groups.self first.moves c.requires.runs) first.well.sound first.halves first.around
           c.flip_or_flush.ensures.around;
     }
 
@@ -57,7 +57,7 @@ groups-smaller g c = c.in-None.ensures.flushed.fewer
 
 pub returns-in-Some-clause-moves : goal.returns-in-Some-clause-moves
 returns-in-Some-clause-moves g c =
-    moves_then g.D.Device.history c.args.self.now c.groups.self c.flip_or_flush.new.self c.groups.invariant.moves c.flip_or_flush.ensures.moves
+    moves_then g.D.Device.past_of c.args.self.now c.groups.self c.flip_or_flush.new.self c.groups.invariant.moves c.flip_or_flush.ensures.moves
 
 pub returns-in-Some-clause-answer : goal.returns-in-Some-clause-answer
 returns-in-Some-clause-answer g c =
@@ -67,8 +67,8 @@ returns-in-Some-clause-answer g c =
 pub returns-in-Some-clause-around : goal.returns-in-Some-clause-around
 returns-in-Some-clause-around g c =
     let first = c.groups.invariant in
-    copies_then g.D.Device.history c.args.self.now c.groups.self c.flip_or_flush.new.self
-    (can_run_on g.D.Device.history c.args.self.now c.groups.self first.moves c.requires.runs) first.well.sound first.halves first.around
+    copies_then g.D.Device.past_of c.args.self.now c.groups.self c.flip_or_flush.new.self
+    (can_run_on g.D.Device.past_of c.args.self.now c.groups.self first.moves c.requires.runs) first.well.sound first.halves first.around
     c.flip_or_flush.ensures.around
 
 pub returns-in-Some-clause-groups : goal.returns-in-Some-clause-groups

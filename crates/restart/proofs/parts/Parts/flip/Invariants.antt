@@ -1,6 +1,6 @@
 use Rattle.std.proofs.Common.{[], ◌≡◌, ◌≤◌, None, length}
 use Rattle.store_writer.specs.Parts.{halves_of}
-use Rattle.restart.specs.declared.copying.Copying.TheVariants.{Steps}
+use Rattle.store_writer.specs.declared.copying.Copying.TheVariants.{Steps}
 use Rattle.restart.specs.Copies.{MayFlip, Succeeds, copies_left}
 use Rattle.restart.specs.Groups.{WritesGroups}
 use Rattle.restart.specs.Handing.{MovesOn}
@@ -10,7 +10,7 @@ use Rattle.restart.proofs.parts.Parts.flip.Given as goal
 
 abbrev pub invariant-groups : goal.invariant-groups
 invariant-groups g l = record {
-  moves : MovesOn g.D.Device.history l.fn.self l.self;
+  moves : MovesOn g.D.Device.past_of l.fn.self l.self;
   well : Succeeds g.D.Device.failures l.fn.self l.self;
   all : unhanded l.self ≡ [];
   copying : l.self.copying ≡ Steps None;
@@ -18,7 +18,7 @@ invariant-groups g l = record {
   left : copies_left l.self ≤ copies_left l.fn.self;
   behind : MayFlip (writer_of l.fn.self) → l.self ≡ l.fn.self;
   groups : WritesGroups (writer_of l.fn.self) (writer_of l.self);
-  around : CopiesAround g.D.Device.history l.fn.self l.self;
+  around : CopiesAround g.D.Device.past_of l.fn.self l.self;
 }
 
 abbrev pub decreases-groups : goal.decreases-groups

@@ -2,11 +2,11 @@ use Rattle.std.proofs.Common.{◌≡◌, ◌≤◌, ◌-◌, ◌∙◌, ⊎_elim
 use Rattle.store_writer.specs.Image.{BecomesImage}
 use Rattle.store_writer.specs.Parts as writer
 use Rattle.store_writer.specs.Writer.{IsFlipReply, IsFlushReply, IsLogFull, IsWriter, WritesLogsAlone}
+use Rattle.store_writer.specs.declared.copying.Copying.TheVariants.{GivenUp, Idle}
 use Rattle.store_writer.specs.declared.writer.FlipReply.{FlipReply}
 use Rattle.store_writer.specs.declared.writer.FlipReply.TheVariants.{Behind, Flipped}
 use Rattle.store_writer.specs.declared.writer.FlushReply.{FlushReply}
 use Rattle.store_writer.specs.declared.writer.FlushReply.TheVariants.{Flushed, LogFull, Nothing}
-use Rattle.restart.specs.declared.copying.Copying.TheVariants.{GivenUp, Idle}
 use Rattle.restart.specs.declared.parts.Parts.{Parts}
 use Rattle.restart.specs.Handing.{MovesOn}
 use Rattle.restart.specs.Parts.{device_of, has_failed, horizon_of, writer_of}
@@ -19,7 +19,7 @@ use Rattle.restart.proofs.parts.Parts.flip_or_flush.Goals as goal
 
 pub returns-in-Ok-Flipped-clause-moves : goal.returns-in-Ok-Flipped-clause-moves
 returns-in-Ok-Flipped-clause-moves g c =
-    let history = g.D.Device.history in
+    let past_of = g.D.Device.past_of in
     let failures = g.D.Device.failures in
     let old = c.args.self.now in
     let can = c.requires.runs in
@@ -27,12 +27,12 @@ returns-in-Ok-Flipped-clause-moves g c =
     let flipped : IsFlipReply can.1 (Flipped c.in-Ok-Flipped.number) (writer_of old) (writer_of new) =
     subst (λ (r : FlipReply). IsFlipReply can.1 r (writer_of old) c.checkpoint_flip.new.self) c.in-Ok-Flipped.field-0-is
     (c.in-Ok-Flipped.ensures.flipped can.0 can.1 can.4.writer) in
-    moves_by history old new refl refl c.checkpoint_flip.ensures.writer c.checkpoint_flip.ensures.images (omega (arith, flipped.0, flipped.1))
+    moves_by past_of old new refl refl c.checkpoint_flip.ensures.writer c.checkpoint_flip.ensures.images (omega (arith, flipped.0, flipped.1))
     (stays_idle old new refl refl flipped.4)
 
 pub returns-in-Ok-Flipped-clause-answer : goal.returns-in-Ok-Flipped-clause-answer
 returns-in-Ok-Flipped-clause-answer g c =
-    let history = g.D.Device.history in
+    let past_of = g.D.Device.past_of in
     let failures = g.D.Device.failures in
     let old = c.args.self.now in
     let can = c.requires.runs in
@@ -40,36 +40,36 @@ returns-in-Ok-Flipped-clause-answer g c =
     let flipped : IsFlipReply can.1 (Flipped c.in-Ok-Flipped.number) (writer_of old) (writer_of new) =
     subst (λ (r : FlipReply). IsFlipReply can.1 r (writer_of old) c.checkpoint_flip.new.self) c.in-Ok-Flipped.field-0-is
     (c.in-Ok-Flipped.ensures.flipped can.0 can.1 can.4.writer) in (
-      all_well history failures old new c.requires.all can refl refl (c.checkpoint_flip.ensures.writer can.0 can.1 can.4.writer)
+      all_well past_of failures old new c.requires.all can refl refl (c.checkpoint_flip.ensures.writer can.0 can.1 can.4.writer)
           (omega (arith, flipped.0, flipped.1)) c.checkpoint_flip.ensures.later c.requires.sound c.in-Ok-Flipped.ensures.sound.1 c.in-Ok-Flipped.ensures.quiet,
       flipped.0,
-      flip_current old new can.1 c.in-Ok-Flipped.number flipped (slots_are history old can)
-          (open_now history old can c.requires.sound) c.requires.whole refl,
+      flip_current old new can.1 c.in-Ok-Flipped.number flipped (slots_are past_of old can)
+          (open_now past_of old can c.requires.sound) c.requires.whole refl,
     )
 
 pub returns-in-Err-clause-moves : goal.returns-in-Err-clause-moves
 returns-in-Err-clause-moves g c =
-    let history = g.D.Device.history in
+    let past_of = g.D.Device.past_of in
     let failures = g.D.Device.failures in
     let old = c.args.self.now in
     let can = c.requires.runs in
     let new : Parts g.row.D.Denot g.row.A.Denot = record old { writer = c.checkpoint_flip.new.self } in
-    moves_by history old new refl refl c.checkpoint_flip.ensures.writer c.checkpoint_flip.ensures.images (omega (arith, c.in-Err.ensures.kept))
+    moves_by past_of old new refl refl c.checkpoint_flip.ensures.writer c.checkpoint_flip.ensures.images (omega (arith, c.in-Err.ensures.kept))
     (stays_failed old new refl refl c.in-Err.ensures.err.1)
 
 pub returns-in-Err-clause-answer : goal.returns-in-Err-clause-answer
 returns-in-Err-clause-answer g c =
-    let history = g.D.Device.history in
+    let past_of = g.D.Device.past_of in
     let failures = g.D.Device.failures in
     let old = c.args.self.now in
     let can = c.requires.runs in
     let new : Parts g.row.D.Denot g.row.A.Denot = record old { writer = c.checkpoint_flip.new.self } in
-    copy_failed history failures old new c.requires.all can refl refl (c.checkpoint_flip.ensures.writer can.0 can.1 can.4.writer)
+    copy_failed past_of failures old new c.requires.all can refl refl (c.checkpoint_flip.ensures.writer can.0 can.1 can.4.writer)
     (omega (arith, c.in-Err.ensures.kept)) c.checkpoint_flip.ensures.later c.in-Err.error c.requires.sound c.in-Err.ensures.err
 
 pub returns-in-Ok-Flushed-clause-moves : goal.returns-in-Ok-Flushed-clause-moves
 returns-in-Ok-Flushed-clause-moves g c =
-    let history = g.D.Device.history in
+    let past_of = g.D.Device.past_of in
     let failures = g.D.Device.failures in
     let old = c.args.self.now in
     let can = c.requires.runs in
@@ -79,25 +79,25 @@ returns-in-Ok-Flushed-clause-moves g c =
     (c.in-Ok-Behind.ensures.flipped can.0 can.1 can.4.writer) in
     let same : writer_of mid ≡ writer_of old = behind.0 in
     let level : horizon_of mid ≡ horizon_of old = ap (λ w. writer.synced_of w) same in
-    let first : MovesOn history old mid = moves_by history old mid refl refl c.checkpoint_flip.ensures.writer c.checkpoint_flip.ensures.images
+    let first : MovesOn past_of old mid = moves_by past_of old mid refl refl c.checkpoint_flip.ensures.writer c.checkpoint_flip.ensures.images
     (omega (arith, level)) (stays_same old mid refl refl same) in
     let sound : has_failed mid ≡ false = ap (λ w. writer.has_failed w) same ∙ c.requires.sound in
-    let after : IsWriter history can.0 can.1 c.flush_group.new.self =
+    let after : IsWriter past_of can.0 can.1 c.flush_group.new.self =
     c.flush_group.ensures.writer can.0 can.1 (c.checkpoint_flip.ensures.writer can.0 can.1 can.4.writer) in
     let counts = ap (λ w. failures (writer.device_of w)) same in
     let new : Parts g.row.D.Denot g.row.A.Denot = record mid { writer = c.flush_group.new.self } in
     let is : IsFlushReply (Flushed c.in-Ok-Flushed.field-0-0) (writer_of mid) (writer_of new) =
     subst (λ (f : FlushReply). IsFlushReply f (writer_of mid) c.flush_group.new.self) c.in-Ok-Flushed.field-0-is c.in-Ok-Flushed.ensures.flushed in
     let grows : horizon_of mid ≤ horizon_of new = omega (arith, is.0, is.1) in
-    moves_then history old mid new first (moves_by history mid new refl refl c.flush_group.ensures.writer c.flush_group.ensures.images grows
+    moves_then past_of old mid new first (moves_by past_of mid new refl refl c.flush_group.ensures.writer c.flush_group.ensures.images grows
     (stays_flushed mid new refl refl (writer.halves_of (writer_of mid)).geometry.slots (horizon_of mid) (c.in-Ok-Flushed.field-0-0 - horizon_of mid)
     (ap (λ w. (writer.halves_of w).geometry.slots) same
-    ∙ slots_are history old can) sound (c.flush_group.ensures.image c.in-Ok-Flushed.field-0-0 (c.in-Ok-Flushed.is ∙ ap Ok c.in-Ok-Flushed.field-0-is))
+    ∙ slots_are past_of old can) sound (c.flush_group.ensures.image c.in-Ok-Flushed.field-0-0 (c.in-Ok-Flushed.is ∙ ap Ok c.in-Ok-Flushed.field-0-is))
     c.kept_place.ensures))
 
 pub returns-in-Ok-Flushed-clause-flushed : goal.returns-in-Ok-Flushed-clause-flushed
 returns-in-Ok-Flushed-clause-flushed g c =
-    let history = g.D.Device.history in
+    let past_of = g.D.Device.past_of in
     let failures = g.D.Device.failures in
     let old = c.args.self.now in
     let can = c.requires.runs in
@@ -107,10 +107,10 @@ returns-in-Ok-Flushed-clause-flushed g c =
     (c.in-Ok-Behind.ensures.flipped can.0 can.1 can.4.writer) in
     let same : writer_of mid ≡ writer_of old = behind.0 in
     let level : horizon_of mid ≡ horizon_of old = ap (λ w. writer.synced_of w) same in
-    let first : MovesOn history old mid = moves_by history old mid refl refl c.checkpoint_flip.ensures.writer c.checkpoint_flip.ensures.images
+    let first : MovesOn past_of old mid = moves_by past_of old mid refl refl c.checkpoint_flip.ensures.writer c.checkpoint_flip.ensures.images
     (omega (arith, level)) (stays_same old mid refl refl same) in
     let sound : has_failed mid ≡ false = ap (λ w. writer.has_failed w) same ∙ c.requires.sound in
-    let after : IsWriter history can.0 can.1 c.flush_group.new.self =
+    let after : IsWriter past_of can.0 can.1 c.flush_group.new.self =
     c.flush_group.ensures.writer can.0 can.1 (c.checkpoint_flip.ensures.writer can.0 can.1 can.4.writer) in
     let counts = ap (λ w. failures (writer.device_of w)) same in
     let new : Parts g.row.D.Denot g.row.A.Denot = record mid { writer = c.flush_group.new.self } in
@@ -118,13 +118,13 @@ returns-in-Ok-Flushed-clause-flushed g c =
     subst (λ (f : FlushReply). IsFlushReply f (writer_of mid) c.flush_group.new.self) c.in-Ok-Flushed.field-0-is c.in-Ok-Flushed.ensures.flushed in
     let grows : horizon_of mid ≤ horizon_of new = omega (arith, is.0, is.1) in
     record {
-      well = all_well history failures old new c.requires.all can refl refl after (omega (arith, grows, level))
+      well = all_well past_of failures old new c.requires.all can refl refl after (omega (arith, grows, level))
           (omega (arith, c.flush_group.ensures.later, counts)) c.requires.sound c.in-Ok-Flushed.ensures.sound.1 (c.in-Ok-Flushed.ensures.quiet ∙ counts);
       further = omega (arith, is.0, is.1, level);
       fewer = omega (
         arith,
-        count_left history can.0 can.1 new after c.requires.all,
-        count_left history can.0 can.1 old can.4.writer c.requires.all,
+        count_left past_of can.0 can.1 new after c.requires.all,
+        count_left past_of can.0 can.1 old can.4.writer c.requires.all,
         is.0,
         is.1,
         level,
@@ -132,7 +132,7 @@ returns-in-Ok-Flushed-clause-flushed g c =
       );
       all = c.requires.all;
       copying = c.requires.whole;
-      could-not = may_not_flip history can.0 can.1 can.2 can.3 old can.4 c.requires.sound c.requires.all behind.1;
+      could-not = may_not_flip past_of can.0 can.1 can.2 can.3 old can.4 c.requires.sound c.requires.all behind.1;
       flushed = (
         c.in-Ok-Flushed.field-0-0,
         (
@@ -144,12 +144,12 @@ returns-in-Ok-Flushed-clause-flushed g c =
       );
       halves = is.3.halves-are ∙ ap (λ w. writer.halves_of w) same;
       left = few_behind old new c.requires.whole c.requires.whole
-          (two_to_flip history can.0 can.1 can.2 can.3 old can.4 c.requires.sound c.requires.all behind.1 c.requires.whole);
+          (two_to_flip past_of can.0 can.1 can.2 can.3 old can.4 c.requires.sound c.requires.all behind.1 c.requires.whole);
     }
 
 pub returns-in-Ok-Nothing-clause-moves : goal.returns-in-Ok-Nothing-clause-moves
 returns-in-Ok-Nothing-clause-moves g c =
-    let history = g.D.Device.history in
+    let past_of = g.D.Device.past_of in
     let failures = g.D.Device.failures in
     let old = c.args.self.now in
     let can = c.requires.runs in
@@ -159,22 +159,22 @@ returns-in-Ok-Nothing-clause-moves g c =
     (c.in-Ok-Behind.ensures.flipped can.0 can.1 can.4.writer) in
     let same : writer_of mid ≡ writer_of old = behind.0 in
     let level : horizon_of mid ≡ horizon_of old = ap (λ w. writer.synced_of w) same in
-    let first : MovesOn history old mid = moves_by history old mid refl refl c.checkpoint_flip.ensures.writer c.checkpoint_flip.ensures.images
+    let first : MovesOn past_of old mid = moves_by past_of old mid refl refl c.checkpoint_flip.ensures.writer c.checkpoint_flip.ensures.images
     (omega (arith, level)) (stays_same old mid refl refl same) in
     let sound : has_failed mid ≡ false = ap (λ w. writer.has_failed w) same ∙ c.requires.sound in
-    let after : IsWriter history can.0 can.1 c.flush_group.new.self =
+    let after : IsWriter past_of can.0 can.1 c.flush_group.new.self =
     c.flush_group.ensures.writer can.0 can.1 (c.checkpoint_flip.ensures.writer can.0 can.1 can.4.writer) in
     let counts = ap (λ w. failures (writer.device_of w)) same in
     let new : Parts g.row.D.Denot g.row.A.Denot = record mid { writer = c.flush_group.new.self; copying = GivenUp } in
     let is : IsFlushReply Nothing (writer_of mid) (writer_of new) =
     subst (λ (f : FlushReply). IsFlushReply f (writer_of mid) c.flush_group.new.self) c.in-Ok-Nothing.field-0-is c.in-Ok-Nothing.ensures.flushed in
     let grows : horizon_of mid ≤ horizon_of new = omega (arith, ap (λ w. writer.synced_of w) is.0) in
-    moves_then history old mid new first (moves_by history mid new refl refl c.flush_group.ensures.writer c.flush_group.ensures.images grows
+    moves_then past_of old mid new first (moves_by past_of mid new refl refl c.flush_group.ensures.writer c.flush_group.ensures.images grows
     (stays_given_up mid new refl refl is.0))
 
 pub returns-in-Ok-Nothing-clause-answer : goal.returns-in-Ok-Nothing-clause-answer
 returns-in-Ok-Nothing-clause-answer g c =
-    let history = g.D.Device.history in
+    let past_of = g.D.Device.past_of in
     let failures = g.D.Device.failures in
     let old = c.args.self.now in
     let can = c.requires.runs in
@@ -184,28 +184,28 @@ returns-in-Ok-Nothing-clause-answer g c =
     (c.in-Ok-Behind.ensures.flipped can.0 can.1 can.4.writer) in
     let same : writer_of mid ≡ writer_of old = behind.0 in
     let level : horizon_of mid ≡ horizon_of old = ap (λ w. writer.synced_of w) same in
-    let first : MovesOn history old mid = moves_by history old mid refl refl c.checkpoint_flip.ensures.writer c.checkpoint_flip.ensures.images
+    let first : MovesOn past_of old mid = moves_by past_of old mid refl refl c.checkpoint_flip.ensures.writer c.checkpoint_flip.ensures.images
     (omega (arith, level)) (stays_same old mid refl refl same) in
     let sound : has_failed mid ≡ false = ap (λ w. writer.has_failed w) same ∙ c.requires.sound in
-    let after : IsWriter history can.0 can.1 c.flush_group.new.self =
+    let after : IsWriter past_of can.0 can.1 c.flush_group.new.self =
     c.flush_group.ensures.writer can.0 can.1 (c.checkpoint_flip.ensures.writer can.0 can.1 can.4.writer) in
     let counts = ap (λ w. failures (writer.device_of w)) same in
     let new : Parts g.row.D.Denot g.row.A.Denot = record mid { writer = c.flush_group.new.self; copying = GivenUp } in
     let is : IsFlushReply Nothing (writer_of mid) (writer_of new) =
     subst (λ (f : FlushReply). IsFlushReply f (writer_of mid) c.flush_group.new.self) c.in-Ok-Nothing.field-0-is c.in-Ok-Nothing.ensures.flushed in
     let grows : horizon_of mid ≤ horizon_of new = omega (arith, ap (λ w. writer.synced_of w) is.0) in (
-      all_well history failures old new c.requires.all can refl refl after (omega (arith, grows, level))
+      all_well past_of failures old new c.requires.all can refl refl after (omega (arith, grows, level))
           (omega (arith, c.flush_group.ensures.later, counts)) c.requires.sound c.in-Ok-Nothing.ensures.sound.1 (c.in-Ok-Nothing.ensures.quiet ∙ counts),
       inr (cannot_flip old new c.requires.whole c.requires.all (is.0
-          ∙ same) (may_not_flip history can.0 can.1 can.2 can.3 old can.4 c.requires.sound c.requires.all behind.1)
+          ∙ same) (may_not_flip past_of can.0 can.1 can.2 can.3 old can.4 c.requires.sound c.requires.all behind.1)
           (inl (ap (λ w. writer.waiting_of w) is.0 ∙ is.1))),
       refl,
-      two_to_flip history can.0 can.1 can.2 can.3 old can.4 c.requires.sound c.requires.all behind.1 c.requires.whole,
+      two_to_flip past_of can.0 can.1 can.2 can.3 old can.4 c.requires.sound c.requires.all behind.1 c.requires.whole,
     )
 
 pub returns-in-Ok-LogFull-clause-moves : goal.returns-in-Ok-LogFull-clause-moves
 returns-in-Ok-LogFull-clause-moves g c =
-    let history = g.D.Device.history in
+    let past_of = g.D.Device.past_of in
     let failures = g.D.Device.failures in
     let old = c.args.self.now in
     let can = c.requires.runs in
@@ -215,22 +215,22 @@ returns-in-Ok-LogFull-clause-moves g c =
     (c.in-Ok-Behind.ensures.flipped can.0 can.1 can.4.writer) in
     let same : writer_of mid ≡ writer_of old = behind.0 in
     let level : horizon_of mid ≡ horizon_of old = ap (λ w. writer.synced_of w) same in
-    let first : MovesOn history old mid = moves_by history old mid refl refl c.checkpoint_flip.ensures.writer c.checkpoint_flip.ensures.images
+    let first : MovesOn past_of old mid = moves_by past_of old mid refl refl c.checkpoint_flip.ensures.writer c.checkpoint_flip.ensures.images
     (omega (arith, level)) (stays_same old mid refl refl same) in
     let sound : has_failed mid ≡ false = ap (λ w. writer.has_failed w) same ∙ c.requires.sound in
-    let after : IsWriter history can.0 can.1 c.flush_group.new.self =
+    let after : IsWriter past_of can.0 can.1 c.flush_group.new.self =
     c.flush_group.ensures.writer can.0 can.1 (c.checkpoint_flip.ensures.writer can.0 can.1 can.4.writer) in
     let counts = ap (λ w. failures (writer.device_of w)) same in
     let new : Parts g.row.D.Denot g.row.A.Denot = record mid { writer = c.flush_group.new.self; copying = GivenUp } in
     let is : IsFlushReply LogFull (writer_of mid) (writer_of new) =
     subst (λ (f : FlushReply). IsFlushReply f (writer_of mid) c.flush_group.new.self) c.in-Ok-LogFull.field-0-is c.in-Ok-LogFull.ensures.flushed in
     let grows : horizon_of mid ≤ horizon_of new = omega (arith, ap (λ w. writer.synced_of w) is.0) in
-    moves_then history old mid new first (moves_by history mid new refl refl c.flush_group.ensures.writer c.flush_group.ensures.images grows
+    moves_then past_of old mid new first (moves_by past_of mid new refl refl c.flush_group.ensures.writer c.flush_group.ensures.images grows
     (stays_given_up mid new refl refl is.0))
 
 pub returns-in-Ok-LogFull-clause-answer : goal.returns-in-Ok-LogFull-clause-answer
 returns-in-Ok-LogFull-clause-answer g c =
-    let history = g.D.Device.history in
+    let past_of = g.D.Device.past_of in
     let failures = g.D.Device.failures in
     let old = c.args.self.now in
     let can = c.requires.runs in
@@ -240,28 +240,28 @@ returns-in-Ok-LogFull-clause-answer g c =
     (c.in-Ok-Behind.ensures.flipped can.0 can.1 can.4.writer) in
     let same : writer_of mid ≡ writer_of old = behind.0 in
     let level : horizon_of mid ≡ horizon_of old = ap (λ w. writer.synced_of w) same in
-    let first : MovesOn history old mid = moves_by history old mid refl refl c.checkpoint_flip.ensures.writer c.checkpoint_flip.ensures.images
+    let first : MovesOn past_of old mid = moves_by past_of old mid refl refl c.checkpoint_flip.ensures.writer c.checkpoint_flip.ensures.images
     (omega (arith, level)) (stays_same old mid refl refl same) in
     let sound : has_failed mid ≡ false = ap (λ w. writer.has_failed w) same ∙ c.requires.sound in
-    let after : IsWriter history can.0 can.1 c.flush_group.new.self =
+    let after : IsWriter past_of can.0 can.1 c.flush_group.new.self =
     c.flush_group.ensures.writer can.0 can.1 (c.checkpoint_flip.ensures.writer can.0 can.1 can.4.writer) in
     let counts = ap (λ w. failures (writer.device_of w)) same in
     let new : Parts g.row.D.Denot g.row.A.Denot = record mid { writer = c.flush_group.new.self; copying = GivenUp } in
     let is : IsFlushReply LogFull (writer_of mid) (writer_of new) =
     subst (λ (f : FlushReply). IsFlushReply f (writer_of mid) c.flush_group.new.self) c.in-Ok-LogFull.field-0-is c.in-Ok-LogFull.ensures.flushed in
     let grows : horizon_of mid ≤ horizon_of new = omega (arith, ap (λ w. writer.synced_of w) is.0) in (
-      all_well history failures old new c.requires.all can refl refl after (omega (arith, grows, level))
+      all_well past_of failures old new c.requires.all can refl refl after (omega (arith, grows, level))
           (omega (arith, c.flush_group.ensures.later, counts)) c.requires.sound c.in-Ok-LogFull.ensures.sound.1 (c.in-Ok-LogFull.ensures.quiet ∙ counts),
       inr (cannot_flip old new c.requires.whole c.requires.all (is.0
-          ∙ same) (may_not_flip history can.0 can.1 can.2 can.3 old can.4 c.requires.sound c.requires.all behind.1)
+          ∙ same) (may_not_flip past_of can.0 can.1 can.2 can.3 old can.4 c.requires.sound c.requires.all behind.1)
           (inr (subst (λ w. IsLogFull w) (sym is.0) is.1, (λ none. is.2 (sym (ap (λ w. writer.waiting_of w) is.0) ∙ none))))),
       refl,
-      two_to_flip history can.0 can.1 can.2 can.3 old can.4 c.requires.sound c.requires.all behind.1 c.requires.whole,
+      two_to_flip past_of can.0 can.1 can.2 can.3 old can.4 c.requires.sound c.requires.all behind.1 c.requires.whole,
     )
 
 pub returns-in-Err-flush_group-clause-moves : goal.returns-in-Err-flush_group-clause-moves
 returns-in-Err-flush_group-clause-moves g c =
-    let history = g.D.Device.history in
+    let past_of = g.D.Device.past_of in
     let failures = g.D.Device.failures in
     let old = c.args.self.now in
     let can = c.requires.runs in
@@ -271,20 +271,20 @@ returns-in-Err-flush_group-clause-moves g c =
     (c.in-Ok-Behind.ensures.flipped can.0 can.1 can.4.writer) in
     let same : writer_of mid ≡ writer_of old = behind.0 in
     let level : horizon_of mid ≡ horizon_of old = ap (λ w. writer.synced_of w) same in
-    let first : MovesOn history old mid = moves_by history old mid refl refl c.checkpoint_flip.ensures.writer c.checkpoint_flip.ensures.images
+    let first : MovesOn past_of old mid = moves_by past_of old mid refl refl c.checkpoint_flip.ensures.writer c.checkpoint_flip.ensures.images
     (omega (arith, level)) (stays_same old mid refl refl same) in
     let sound : has_failed mid ≡ false = ap (λ w. writer.has_failed w) same ∙ c.requires.sound in
-    let after : IsWriter history can.0 can.1 c.flush_group.new.self =
+    let after : IsWriter past_of can.0 can.1 c.flush_group.new.self =
     c.flush_group.ensures.writer can.0 can.1 (c.checkpoint_flip.ensures.writer can.0 can.1 can.4.writer) in
     let counts = ap (λ w. failures (writer.device_of w)) same in
     let new : Parts g.row.D.Denot g.row.A.Denot = record mid { writer = c.flush_group.new.self } in
     let kept : horizon_of new ≡ horizon_of mid = c.in-Err-flush_group.ensures.kept in
-    moves_then history old mid new first (moves_by history mid new refl refl c.flush_group.ensures.writer c.flush_group.ensures.images (omega (arith, kept))
+    moves_then past_of old mid new first (moves_by past_of mid new refl refl c.flush_group.ensures.writer c.flush_group.ensures.images (omega (arith, kept))
     (⊎_elim (λ none. stays_same mid new refl refl none.4) (λ failed. stays_failed mid new refl refl failed.1) c.in-Err-flush_group.ensures.err))
 
 pub returns-in-Err-flush_group-clause-answer : goal.returns-in-Err-flush_group-clause-answer
 returns-in-Err-flush_group-clause-answer g c =
-    let history = g.D.Device.history in
+    let past_of = g.D.Device.past_of in
     let failures = g.D.Device.failures in
     let old = c.args.self.now in
     let can = c.requires.runs in
@@ -294,10 +294,10 @@ returns-in-Err-flush_group-clause-answer g c =
     (c.in-Ok-Behind.ensures.flipped can.0 can.1 can.4.writer) in
     let same : writer_of mid ≡ writer_of old = behind.0 in
     let level : horizon_of mid ≡ horizon_of old = ap (λ w. writer.synced_of w) same in
-    let first : MovesOn history old mid = moves_by history old mid refl refl c.checkpoint_flip.ensures.writer c.checkpoint_flip.ensures.images
+    let first : MovesOn past_of old mid = moves_by past_of old mid refl refl c.checkpoint_flip.ensures.writer c.checkpoint_flip.ensures.images
     (omega (arith, level)) (stays_same old mid refl refl same) in
     let sound : has_failed mid ≡ false = ap (λ w. writer.has_failed w) same ∙ c.requires.sound in
-    let after : IsWriter history can.0 can.1 c.flush_group.new.self =
+    let after : IsWriter past_of can.0 can.1 c.flush_group.new.self =
     c.flush_group.ensures.writer can.0 can.1 (c.checkpoint_flip.ensures.writer can.0 can.1 can.4.writer) in
     let counts = ap (λ w. failures (writer.device_of w)) same in
     let new : Parts g.row.D.Denot g.row.A.Denot = record mid { writer = c.flush_group.new.self } in
@@ -305,12 +305,12 @@ returns-in-Err-flush_group-clause-answer g c =
     ⊎_elim
     (λ none. inl (
       none.0,
-      put_off_as failures old new (all_well history failures old new c.requires.all can refl refl after (omega (arith, kept, level))
+      put_off_as failures old new (all_well past_of failures old new c.requires.all can refl refl after (omega (arith, kept, level))
           (omega (arith, c.flush_group.ensures.later, counts)) c.requires.sound (ap (λ w. writer.has_failed w) none.4
           ∙ sound) (ap (λ w. failures (writer.device_of w)) none.4 ∙ counts))
           (none.4 ∙ same) refl refl refl,
     ))
-    (λ failed. failed_later history failures old mid new c.requires.all can refl refl after (omega (arith, kept, level))
+    (λ failed. failed_later past_of failures old mid new c.requires.all can refl refl after (omega (arith, kept, level))
     (omega (arith, c.flush_group.ensures.later, counts)) c.in-Err-flush_group.error c.requires.sound sound counts (
       failed.0,
       failed.1,
@@ -321,57 +321,57 @@ returns-in-Err-flush_group-clause-answer g c =
 
 pub returns-in-Ok-Flipped-clause-around : goal.returns-in-Ok-Flipped-clause-around
 returns-in-Ok-Flipped-clause-around g c = let old = c.args.self.now in
-    flip_copied g.D.Device.history (writer.halves_of (writer_of old)) (device_of old)
+    flip_copied g.D.Device.past_of (writer.halves_of (writer_of old)) (device_of old)
     (writer.device_of c.checkpoint_flip.new.self) c.checkpoint_flip.ensures.around
 
 pub returns-in-Err-clause-around : goal.returns-in-Err-clause-around
 returns-in-Err-clause-around g c = let old = c.args.self.now in
-    flip_copied g.D.Device.history (writer.halves_of (writer_of old)) (device_of old)
+    flip_copied g.D.Device.past_of (writer.halves_of (writer_of old)) (device_of old)
     (writer.device_of c.checkpoint_flip.new.self) c.checkpoint_flip.ensures.around
 
 pub returns-in-Ok-Flushed-clause-around : goal.returns-in-Ok-Flushed-clause-around
 returns-in-Ok-Flushed-clause-around g c =
-    let history = g.D.Device.history in
+    let past_of = g.D.Device.past_of in
     let old = c.args.self.now in
     let can = c.requires.runs in
     let behind : IsFlipReply can.1 Behind (writer_of old) c.checkpoint_flip.new.self =
     subst (λ (r : FlipReply). IsFlipReply can.1 r (writer_of old) c.checkpoint_flip.new.self) c.in-Ok-Behind.field-0-is
     (c.in-Ok-Behind.ensures.flipped can.0 can.1 can.4.writer) in
-    logs_copied history (writer_of old) c.flush_group.new.self
-    (subst (λ w. WritesLogsAlone history w c.flush_group.new.self) behind.0 c.flush_group.ensures.around)
+    logs_copied past_of (writer_of old) c.flush_group.new.self
+    (subst (λ w. WritesLogsAlone past_of w c.flush_group.new.self) behind.0 c.flush_group.ensures.around)
 
 pub returns-in-Ok-Nothing-clause-around : goal.returns-in-Ok-Nothing-clause-around
 returns-in-Ok-Nothing-clause-around g c =
-    let history = g.D.Device.history in
+    let past_of = g.D.Device.past_of in
     let old = c.args.self.now in
     let can = c.requires.runs in
     let behind : IsFlipReply can.1 Behind (writer_of old) c.checkpoint_flip.new.self =
     subst (λ (r : FlipReply). IsFlipReply can.1 r (writer_of old) c.checkpoint_flip.new.self) c.in-Ok-Behind.field-0-is
     (c.in-Ok-Behind.ensures.flipped can.0 can.1 can.4.writer) in
-    logs_copied history (writer_of old) c.flush_group.new.self
-    (subst (λ w. WritesLogsAlone history w c.flush_group.new.self) behind.0 c.flush_group.ensures.around)
+    logs_copied past_of (writer_of old) c.flush_group.new.self
+    (subst (λ w. WritesLogsAlone past_of w c.flush_group.new.self) behind.0 c.flush_group.ensures.around)
 
 pub returns-in-Ok-LogFull-clause-around : goal.returns-in-Ok-LogFull-clause-around
 returns-in-Ok-LogFull-clause-around g c =
-    let history = g.D.Device.history in
+    let past_of = g.D.Device.past_of in
     let old = c.args.self.now in
     let can = c.requires.runs in
     let behind : IsFlipReply can.1 Behind (writer_of old) c.checkpoint_flip.new.self =
     subst (λ (r : FlipReply). IsFlipReply can.1 r (writer_of old) c.checkpoint_flip.new.self) c.in-Ok-Behind.field-0-is
     (c.in-Ok-Behind.ensures.flipped can.0 can.1 can.4.writer) in
-    logs_copied history (writer_of old) c.flush_group.new.self
-    (subst (λ w. WritesLogsAlone history w c.flush_group.new.self) behind.0 c.flush_group.ensures.around)
+    logs_copied past_of (writer_of old) c.flush_group.new.self
+    (subst (λ w. WritesLogsAlone past_of w c.flush_group.new.self) behind.0 c.flush_group.ensures.around)
 
 pub returns-in-Err-flush_group-clause-around : goal.returns-in-Err-flush_group-clause-around
 returns-in-Err-flush_group-clause-around g c =
-    let history = g.D.Device.history in
+    let past_of = g.D.Device.past_of in
     let old = c.args.self.now in
     let can = c.requires.runs in
     let behind : IsFlipReply can.1 Behind (writer_of old) c.checkpoint_flip.new.self =
     subst (λ (r : FlipReply). IsFlipReply can.1 r (writer_of old) c.checkpoint_flip.new.self) c.in-Ok-Behind.field-0-is
     (c.in-Ok-Behind.ensures.flipped can.0 can.1 can.4.writer) in
-    logs_copied history (writer_of old) c.flush_group.new.self
-    (subst (λ w. WritesLogsAlone history w c.flush_group.new.self) behind.0 c.flush_group.ensures.around)
+    logs_copied past_of (writer_of old) c.flush_group.new.self
+    (subst (λ w. WritesLogsAlone past_of w c.flush_group.new.self) behind.0 c.flush_group.ensures.around)
 
 pub returns-in-Ok-Flipped-clause-groups : goal.returns-in-Ok-Flipped-clause-groups
 returns-in-Ok-Flipped-clause-groups g c =

@@ -15,7 +15,7 @@ hand_in-requires g c =
       c.requires.0,
       c.requires.1,
       c.requires.4.writer,
-      next g.D.Device.history old core_then c.replace-outgoing.result.items hands c.requires.0 c.requires.1 c.requires.2 c.requires.3 c.requires.4,
+      next g.D.Device.past_of old core_then c.replace-outgoing.result.items hands c.requires.0 c.requires.1 c.requires.2 c.requires.3 c.requires.4,
     )
 
 pub returns-in-Ok-clause-hands : goal.returns-in-Ok-clause-hands
@@ -33,7 +33,7 @@ returns-in-Ok-clause-hands g c =
       geometry = old.geometry;
       copying = old.copying;
     } in
-    all_over g.D.Device.history old core_then c.replace-outgoing.result.items hands new refl c.hand_in.ensures.device c.hand_in.ensures.halves
+    all_over g.D.Device.past_of old core_then c.replace-outgoing.result.items hands new refl c.hand_in.ensures.device c.hand_in.ensures.halves
     c.hand_in.ensures.log c.hand_in.ensures.synced c.hand_in.ensures.failed c.hand_in.ensures.image refl refl
     c.in-Ok.ensures.writer c.in-Ok.ensures.waits (ap (λ v. v.items) c.replace-outgoing.ensures.after ∙ c.new.ensures.items)
 
@@ -52,6 +52,6 @@ returns-in-Err-clause-hands g c =
       geometry = old.geometry;
       copying = old.copying;
     } in
-    none_over g.D.Device.history old core_then c.replace-outgoing.result.items hands new refl c.hand_in.ensures.device c.hand_in.ensures.halves
+    none_over g.D.Device.past_of old core_then c.replace-outgoing.result.items hands new refl c.hand_in.ensures.device c.hand_in.ensures.halves
     c.hand_in.ensures.log c.hand_in.ensures.synced c.hand_in.ensures.failed c.hand_in.ensures.image refl refl
     c.in-Err.ensures.unchanged c.in-Err.ensures.still c.in-Err.ensures.back

@@ -1,5 +1,5 @@
 use Rattle.std.proofs.Common.{refl}
-use Rattle.core_contracts.specs.Events as core
+use Rattle.core_model.specs.Events as core
 use Rattle.restart.specs.declared.parts.Parts.{Parts}
 use Rattle.restart.specs.declared.event.Reply.TheVariants as reply
 use Rattle.nsf_core.proofs.Offered.{skips_step}

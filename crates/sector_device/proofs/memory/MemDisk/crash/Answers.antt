@@ -1,7 +1,7 @@
 use Rattle.std.proofs.Common.{rules, ◌≡◌, ◌∙◌, ap, sym, subst, arith, ℕ, ◌+◌, ◌≤◌, ◌++◌, List, length, take, drop, replicate, slice_index, vec_len}
 use Rattle.std.proofs.Common.{vec_capacity}
 use Rattle.std.proofs.Math.ListN.{length-replicate}
-use Rattle.sector_device.specs.Disk.{Image, IsDiskWhole, IsCrashImage}
+use Rattle.sector_device.specs.Disk.{CrashState, IsDiskWhole, IsCrashState}
 use Rattle.sector_device.specs.Memory.{initial_state, state_after, disk_of, unsynced_since}
 use Rattle.sector_device.specs.Crash.{IsCrashed}
 use Rattle.sector_device.proofs.Sectors.{image_is_whole}
@@ -20,12 +20,12 @@ invariant_of-self g c =
       unsynced = unsynced_since d.synced_at d.written_at.items;
     }) image = search rules in
     let crashed : IsCrashed c.args.fates.now s image = crashed_state _ _ _ _ _ _ _ _ d.represents crashed_now in
-    let crash : IsCrashImage (disk_of s) image = crash_image _ s image d.represents.whole d.represents.synced_whole crashed in
+    let crash : IsCrashState (disk_of s) image = crash_image _ s image d.represents.whole d.represents.synced_whole crashed in
     let whole : IsDiskWhole image = image_is_whole (disk_of s) image d.represents.whole crash in
     let size : length image ≡ length d.content.items = crashed_now.sectors in
     let back : take d.content.len (image ++ drop (length image) d.content.items) ≡ image =
     written_back image d.content.items d.content.len size d.content.ok.0 in
-    let content : Image = take d.content.len (image ++ drop (length image) d.content.items) in
+    let content : CrashState = take d.content.len (image ++ drop (length image) d.content.items) in
     let stamps : c.fill.new.self.items ≡ replicate (length d.written_at.items) 0 = c.fill.ensures.items (λ y is. is)
     ∙ ap (λ n. replicate n 0) d.written_at.ok.0 in
     let stamps_size : length c.fill.new.self.items ≡ length d.written_at.items = ap length stamps ∙ length-replicate (length d.written_at.items) 0 in

@@ -1,6 +1,6 @@
 use Rattle.std.proofs.Common.{[], ap, rules, subst}
 use Rattle.board.specs.Views.{Sighting}
-use Rattle.session_halves.specs.Halves.{IsNew}
+use Rattle.threads_sessions.specs.Halves.{IsNew}
 use Rattle.locked_core.specs.Names.{Names}
 use Rattle.shared.proofs.Seats.{sees_nothing, stays_blind}
 use Rattle.shared.specs.Seats.{HasSeenNothing}

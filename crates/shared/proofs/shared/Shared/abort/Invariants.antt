@@ -1,5 +1,5 @@
 use Rattle.std.proofs.Common.{◌≡◌, true}
-use Rattle.sessions.specs.Values.{is_active}
+use Rattle.threads_sessions.specs.Values.{is_active}
 use Rattle.shared.specs.Served.{HasUndone}
 use Rattle.shared.proofs.Backward.{IsBackFrom}
 use Rattle.shared.proofs.shared.Shared.abort.Given as goal

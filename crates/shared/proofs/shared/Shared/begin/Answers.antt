@@ -1,12 +1,12 @@
 use Rattle.std.proofs.Common.{map, subst}
-use Rattle.core_contracts.specs.Events.{Event, Reply}
-use Rattle.nsf_core.specs.Replies.{reply_by}
+use Rattle.core_model.specs.Events.{Event, Reply}
+use Rattle.core_parts.specs.Replies.{reply_by}
 use Rattle.nsf_core.specs.Value.{value_of}
-use Rattle.session_halves.specs.Halves.{shown}
+use Rattle.threads_sessions.specs.Halves.{shown}
 use Rattle.shared.specs.Seats.{SeatValue}
 use Rattle.shared.specs.Served.{WasServedTo}
 use Rattle.shared.proofs.Moments.{served_to}
-use Rattle.sessions.specs.Steps.{begun}
+use Rattle.threads_sessions.specs.Steps.{begun}
 use Rattle.shared.proofs.SameSeat.{same_on_err, session_on_ok}
 use Rattle.shared.proofs.shared.Shared.begin.Goals as goal
 

@@ -1,20 +1,20 @@
 use Rattle.std.proofs.Common.{map, subst, ◌∙◌, ap}
-use Rattle.core_contracts.specs.Events.{Event}
-use Rattle.nsf_core.specs.Replies.{reply_by, reply_of_ticket}
+use Rattle.core_model.specs.Events.{Event}
+use Rattle.core_parts.specs.Replies.{reply_by, reply_of_ticket}
 use Rattle.nsf_core.specs.Value.{value_of}
-use Rattle.session_halves.specs.Halves.{shown}
-use Rattle.sessions.specs.Values.{is_active}
+use Rattle.threads_sessions.specs.Halves.{shown}
+use Rattle.threads_sessions.specs.Values.{is_active}
 use Rattle.shared.specs.Seats.{SeatValue}
 use Rattle.shared.specs.Served.{WasServedTo}
 use Rattle.shared.proofs.Moments.{served_to}
-use Rattle.sessions.specs.Steps.{committed}
+use Rattle.threads_sessions.specs.Steps.{committed}
 use Rattle.shared.proofs.SameSeat.{same_on_err, session_on_ok}
 use Rattle.shared.proofs.shared.Shared.commit.Goals as goal
 
 pub returns-clause-served : goal.returns-clause-served
 returns-clause-served g c = λ own.
     let o = g.B.Group.site.opened in
-    let was = c.deref_mut-2.result.now in
+    let was = c.deref_mut.result.now in
     let reply = reply_by reply_of_ticket c.commit-committed.result in
     subst (λ (s : SeatValue). ∥ WasServedTo o s.number s.session (Event.Commit c.args.txn) reply ∥₁) c.seat.view_is
     (served_to o (value_of was.core) (value_of c.commit-committed.new.self.core) was.pusher.records (map shown was.book.items) was.shared

@@ -1,4 +1,4 @@
-use Rattle.sessions.specs.Steps.{committed}
+use Rattle.threads_sessions.specs.Steps.{committed}
 use Rattle.shared.proofs.SameSeat.{session_alone}
 use Rattle.shared.proofs.shared.Shared.commit_if_ready.Goals as goal
 

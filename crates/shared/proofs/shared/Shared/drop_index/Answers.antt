@@ -1,21 +1,21 @@
 use Rattle.std.proofs.Common.{map, rules, subst}
-use Rattle.core_contracts.specs.Events.{Event, Refused}
-use Rattle.nsf_core.specs.Replies.{reply_of_ticket}
+use Rattle.core_model.specs.Events.{Event, Refused}
+use Rattle.core_parts.specs.Replies.{reply_of_ticket}
 use Rattle.nsf_core.specs.Value.{value_of}
-use Rattle.session_halves.specs.Halves.{shown}
+use Rattle.threads_sessions.specs.Halves.{shown}
 use Rattle.shared.specs.Seats.{SeatValue}
 use Rattle.shared.specs.Served.{WasServedTo}
 use Rattle.shared.proofs.Moments.{served_to}
-use Rattle.sessions.specs.Steps.{with_turn}
-use Rattle.sessions.specs.Values.{SessionValue}
-use Rattle.sessions.specs.declared.turn.Turn.TheVariants.{Dropped}
+use Rattle.threads_sessions.specs.Steps.{with_turn}
+use Rattle.threads_sessions.specs.Values.{SessionValue}
+use Rattle.threads_sessions.specs.declared.turn.Turn.TheVariants.{Dropped}
 use Rattle.shared.proofs.SameSeat.{on_err, same_session, with_session}
 use Rattle.shared.proofs.shared.Shared.drop_index.Goals as goal
 
 pub returns-in_err-dropped-clause-served : goal.returns-in_err-dropped-clause-served
 returns-in_err-dropped-clause-served g c =
     let o = g.B.Group.site.opened in
-    let was = c.deref_mut-2.result.now in
+    let was = c.deref_mut.result.now in
     let reply = Refused c.in_err-dropped.field-0.0 in
     let served =
     subst (λ (s : SeatValue). ∥ WasServedTo o s.number s.session Event.Drop reply ∥₁) c.seat.view_is
@@ -26,7 +26,7 @@ returns-in_err-dropped-clause-served g c =
 pub returns-clause-served : goal.returns-clause-served
 returns-clause-served g c =
     let o = g.B.Group.site.opened in
-    let was = c.deref_mut-2.result.now in
+    let was = c.deref_mut.result.now in
     let reply = reply_of_ticket c.in_ok-dropped.field-0.ticket in
     subst (λ (s : SeatValue). ∥ WasServedTo o s.number s.session Event.Drop reply ∥₁) c.seat.view_is
     (served_to o (value_of was.core) (value_of c.drop_index-dropped.new.self.core) was.pusher.records

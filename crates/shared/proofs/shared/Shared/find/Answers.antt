@@ -1,8 +1,8 @@
 use Rattle.std.proofs.Common.{map}
-use Rattle.core_contracts.specs.Events.{Event, Reply}
-use Rattle.nsf_core.specs.Replies.{reply_by}
+use Rattle.core_model.specs.Events.{Event, Reply}
+use Rattle.core_parts.specs.Replies.{reply_by}
 use Rattle.nsf_core.specs.Value.{value_of}
-use Rattle.session_halves.specs.Halves.{shown}
+use Rattle.threads_sessions.specs.Halves.{shown}
 use Rattle.shared.proofs.Moments.{served}
 use Rattle.shared.proofs.shared.Shared.find.Goals as goal
 

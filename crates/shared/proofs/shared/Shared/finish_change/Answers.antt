@@ -1,5 +1,5 @@
 use Rattle.std.proofs.Common.{◌≡◌, ◌∙◌, ap, sym, true, false}
-use Rattle.sessions.specs.Values.{is_unfinished}
+use Rattle.threads_sessions.specs.Values.{is_unfinished}
 use Rattle.shared.specs.Changed.{unfinished_of}
 use Rattle.shared.specs.Seats.{SeatValue}
 use Rattle.shared.proofs.Made.{left_over, more_made, not_none, not_unfinished}

@@ -1,8 +1,8 @@
 use Rattle.std.proofs.Common.{Some, map, subst, ap, ◌∙◌, ◌≡◌}
 use Rattle.std.specs.Prelude.{slice_get}
-use Rattle.core_contracts.specs.Events.{Event, Reply}
+use Rattle.core_model.specs.Events.{Event, Reply}
 use Rattle.nsf_core.specs.Value.{value_of}
-use Rattle.session_halves.specs.Halves.{shown}
+use Rattle.threads_sessions.specs.Halves.{shown}
 use Rattle.locked_core.specs.Locked.{LockedValue}
 use Rattle.shared.specs.Changed.{row_of}
 use Rattle.shared.specs.Seats.{SeatValue}

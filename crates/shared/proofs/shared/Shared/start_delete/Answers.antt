@@ -1,10 +1,10 @@
 use Rattle.std.proofs.Common.{None, OnOk, map, subst, sym, true, ◌≡◌, ◌∙◌, ap}
-use Rattle.core_contracts.specs.Events.{Event, Reply}
+use Rattle.core_model.specs.Events.{Event, Reply}
 use Rattle.model.specs.declared.write.Write.{Write}
-use Rattle.nsf_core.specs.Replies.{reply_by}
+use Rattle.core_parts.specs.Replies.{reply_by}
 use Rattle.nsf_core.specs.Value.{value_of}
-use Rattle.session_halves.specs.Halves.{shown}
-use Rattle.sessions.specs.Values.{is_active, is_ready}
+use Rattle.threads_sessions.specs.Halves.{shown}
+use Rattle.threads_sessions.specs.Values.{is_active, is_ready}
 use Rattle.shared.specs.Changed.{IsUnderWay}
 use Rattle.shared.specs.Seats.{SeatValue}
 use Rattle.shared.specs.Served.{WasChanged, WasServedTo}
@@ -15,7 +15,7 @@ use Rattle.shared.proofs.shared.Shared.start_delete.Goals as goal
 pub returns-clause-served : goal.returns-clause-served
 returns-clause-served g c = λ own.
     let o = g.B.Group.site.opened in
-    let was = c.deref_mut-2.result.now in
+    let was = c.deref_mut.result.now in
     let reply = reply_by (λ _. Reply.Stepped) c.delete-started.result in
     subst (λ (s : SeatValue). ∥ WasServedTo o s.number s.session (Event.Delete c.args.txn c.args.rid) reply ∥₁) c.seat.view_is
     (served_to o (value_of was.core) (value_of c.delete-started.new.self.core) was.pusher.records (map shown was.book.items) was.shared
@@ -25,7 +25,7 @@ returns-clause-served g c = λ own.
 pub returns-clause-ok : goal.returns-clause-ok
 returns-clause-ok g c =
     let o = g.B.Group.site.opened in
-    let was = c.deref_mut-2.result.now in
+    let was = c.deref_mut.result.now in
     let part = c.seat.inside.part in
     subst (λ (s : SeatValue). OnOk c.delete-started.result
     (IsUnderWay s.session c.args.txn (record { rid = c.args.rid; row = None }) c.delete-started.new.seat.session)) c.seat.view_is
@@ -37,7 +37,7 @@ returns-clause-ok g c =
 pub returns-clause-row : goal.returns-clause-row
 returns-clause-row g c =
     let o = g.B.Group.site.opened in
-    let was = c.deref_mut-2.result.now in
+    let was = c.deref_mut.result.now in
     let part = c.seat.inside.part in
     let started = c.delete-started in
     let change : Write = record { rid = c.args.rid; row = None } in

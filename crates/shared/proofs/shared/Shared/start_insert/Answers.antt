@@ -1,9 +1,9 @@
 use Rattle.std.proofs.Common.{Some, IfOk, map, subst, sym, true, ◌≡◌, ◌∙◌, ap}
-use Rattle.core_contracts.specs.Events.{Event, Reply}
-use Rattle.nsf_core.specs.Replies.{reply_by}
+use Rattle.core_model.specs.Events.{Event, Reply}
+use Rattle.core_parts.specs.Replies.{reply_by}
 use Rattle.nsf_core.specs.Value.{value_of}
-use Rattle.session_halves.specs.Halves.{shown}
-use Rattle.sessions.specs.Values.{is_active, is_ready}
+use Rattle.threads_sessions.specs.Halves.{shown}
+use Rattle.threads_sessions.specs.Values.{is_active, is_ready}
 use Rattle.shared.specs.Changed.{IsUnderWay}
 use Rattle.shared.specs.Seats.{SeatValue}
 use Rattle.shared.specs.Served.{WasServedTo}
@@ -15,7 +15,7 @@ use Rattle.shared.proofs.shared.Shared.start_insert.Goals as goal
 pub returns-clause-served : goal.returns-clause-served
 returns-clause-served g c = λ own.
     let o = g.B.Group.site.opened in
-    let was = c.deref_mut-2.result.now in
+    let was = c.deref_mut.result.now in
     let reply = reply_by Reply.Rid c.insert-started.result in
     subst (λ (s : SeatValue). ∥ WasServedTo o s.number s.session (Event.Insert c.args.txn (record { key = c.args.key; body = c.args.body })) reply ∥₁)
     c.seat.view_is
@@ -26,7 +26,7 @@ returns-clause-served g c = λ own.
 pub returns-clause-ok : goal.returns-clause-ok
 returns-clause-ok g c =
     let o = g.B.Group.site.opened in
-    let was = c.deref_mut-2.result.now in
+    let was = c.deref_mut.result.now in
     let part = c.seat.inside.part in
     subst (λ (s : SeatValue). IfOk c.insert-started.result (λ rid.
     IsUnderWay s.session c.args.txn (record { rid = rid; row = Some (record { key = c.args.key; body = c.args.body }) }) c.insert-started.new.seat.session))

@@ -1,5 +1,5 @@
 use Rattle.std.proofs.Common.{Some}
-use Rattle.core_contracts.specs.Events.{Event}
+use Rattle.core_model.specs.Events.{Event}
 use Rattle.shared.proofs.Made.{all_made, changed_on}
 use Rattle.shared.proofs.shared.Shared.update.Goals as goal
 

@@ -1,6 +1,6 @@
 use Rattle.std.proofs.Common.{sym, subst, ◌∙◌}
 use Rattle.std.specs.List.Sorted.{IsSorted}
-use Rattle.records.specs.Orders.{pair_cmp}
+use Rattle.record_values.specs.Orders.{pair_cmp}
 use Rattle.sorted_scan.proofs.merge.SortedRun.new.Goals as goal
 
 pub returns-clause-sorted : goal.returns-clause-sorted

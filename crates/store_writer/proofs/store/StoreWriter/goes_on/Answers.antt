@@ -1,9 +1,5 @@
-use Rattle.std.proofs.Common.{subst, List, ℕ}
-use Rattle.records.specs.RecordValue.{RecordValue}
-use Rattle.image_model.specs.Run.{Run, IsRun}
-use Rattle.store_writer.specs.Writer.{IsWriter, longer}
+use Rattle.store_writer.proofs.Opening.{longer_writer}
 use Rattle.store_writer.proofs.store.StoreWriter.goes_on.Goals as goal
 
 pub returns : goal.returns
-returns g c = subst (λ w. (run : Run) (handed : ℕ) (more : List RecordValue) → IsWriter g.D.Device.history run handed w → IsRun (longer run more)
-    → IsWriter g.D.Device.history (longer run more) handed w) c.self.view_is c.goes_on.ensures
+returns g c = λ run handed more is run_is. longer_writer run more g.D.Device.past_of handed c.args.self.now is run_is

@@ -1,5 +1,21 @@
+use Rattle.std.proofs.Common.{false, None, refl}
+use Rattle.store_writer.specs.declared.writer.Writer.{Writer}
 use Rattle.store_writer.specs.Writer.{opened_run}
+use Rattle.store_writer.proofs.Opening.{opened_writer}
 use Rattle.store_writer.proofs.store.StoreWriter.new.Goals as goal
 
+pub returns-clause-writer : goal.returns-clause-writer
+returns-clause-writer g c = λ cells is.
+    let w : Writer g.row.D.Denot g.row.A.Denot = record {
+      device = c.args.device;
+      halves = c.args.halves;
+      log = c.args.log;
+      waiting = c.new.result;
+      synced = c.args.synced;
+      image = None;
+      failed = false;
+    } in
+    opened_writer g.D.Device.past_of cells w is c.new.ensures.items refl
+
 pub invariant_of-result : goal.invariant_of-result
-invariant_of-result g c = let (cells, is) = c.requires in (opened_run c.args.halves c.args.synced cells, c.args.synced, c.new.ensures.writer cells is)
+invariant_of-result g c = let (cells, is) = c.requires in (opened_run c.args.halves c.args.synced cells, c.args.synced, returns-clause-writer g c cells is)

@@ -1,12 +1,12 @@
 use Rattle.std.proofs.Common.{true, ◌≡◌, ◌⊎◌, inl, inr, ◌+◌, ◌<◌, ℕ, length, Option, Some, IfSome, refl, sym, ap, subst, ◌∙◌, arith}
 use Rattle.std.proofs.lemmas.Bool.{false≢true}
 use Rattle.std.specs.Prelude.{slice_get}
-use Rattle.sector_device.specs.Disk.{Image}
-use Rattle.sector_device.specs.History.{RunsWithin}
+use Rattle.sector_device.specs.Disk.{CrashState}
+use Rattle.sector_device.specs.DevicePast.{RunsWithin}
 use Rattle.sector_device.proofs.Moments.{started}
-use Rattle.records.specs.GeometryValue.{GeometryValue}
-use Rattle.records.specs.declared.pair.Pair.{Pair}
-use Rattle.records.specs.declared.pair.Mark.{Mark}
+use Rattle.record_values.specs.GeometryValue.{GeometryValue}
+use Rattle.record_values.specs.declared.pair.Pair.{Pair}
+use Rattle.record_values.specs.declared.pair.Mark.{Mark}
 use Rattle.flip_image.specs.Layout.{other, InHalf, InHalfImage}
 use Rattle.store_writer.specs.declared.writer.Writer.{Writer}
 use Rattle.store_writer.specs.declared.image.NewImage.{NewImage}
@@ -14,7 +14,7 @@ use Rattle.store_writer.specs.declared.image.Stage.TheVariants.{Whole, Partly}
 use Rattle.store_writer.specs.Contents.{LeftBy}
 use Rattle.store_writer.specs.Image.{IsPart, IsContent, IsUnderway}
 use Rattle.store_writer.proofs.Idle.{from_ok, writing, written_outside, written_loose, written_log}
-use Rattle.store_writer.proofs.Copying.{at_stage, with_entries}
+use Rattle.store_writer.proofs.Stepwise.{at_stage, with_entries}
 use Rattle.store_writer.proofs.Writing.{stood, carried_on}
 use Rattle.store_writer.proofs.Taking.{leaves_kept, stands_with}
 use Rattle.store_writer.proofs.Alone.{none_alone, part_alone}
@@ -22,7 +22,7 @@ use Rattle.store_writer.proofs.writer.Writer.take_entries.Goals as goal
 use Rattle.store_writer.proofs.writer.Writer.take_entries.Goals.{then-is_full-via-then-is_full, then-is_full-via-else-is_full+then-has_no_room}
 
 pub returns-in_default-clause-images : goal.returns-in_default-clause-images
-returns-in_default-clause-images g c = λ run handed is. started (g.D.Device.history c.args.self.now.device) (LeftBy run c.args.self.now.synced handed) is.images
+returns-in_default-clause-images g c = λ run handed is. started (g.D.Device.past_of c.args.self.now.device) (LeftBy run c.args.self.now.synced handed) is.images
 
 pub unreachable-requires : goal.unreachable-requires
 unreachable-requires g c =
@@ -32,7 +32,7 @@ unreachable-requires g c =
 
 pub returns-then-is_full-clause-images : goal.returns-then-is_full-clause-images
 returns-then-is_full-clause-images g c = λ run handed is.
-    started (g.D.Device.history c.args.self.now.device) (LeftBy run c.args.self.now.synced handed) is.images
+    started (g.D.Device.past_of c.args.self.now.device) (LeftBy run c.args.self.now.synced handed) is.images
 
 pub returns-then-is_full-clause-stepped : goal.returns-then-is_full-clause-stepped
 returns-then-is_full-clause-stepped g c = (
@@ -65,22 +65,22 @@ write_next-requires-clause-base g c =
     let (run, handed, is, asked) = c.requires.entries in
     let chunk = asked c.in-Some.image c.in-Some.is in
     let there : IsUnderway run (other c.args.self.now.halves.current)
-    (g.D.Device.history c.args.self.now.device).disk.content c.args.self.now.synced c.in-Some.image =
+    (g.D.Device.past_of c.args.self.now.device).disk.content c.args.self.now.synced c.in-Some.image =
     subst (λ (t : Option NewImage).
-    IfSome t (IsUnderway run (other c.args.self.now.halves.current) (g.D.Device.history c.args.self.now.device).disk.content c.args.self.now.synced))
-    c.in-Some.is (stood g.D.Device.history run handed c.args.self.now is c.requires.sound).image in
+    IfSome t (IsUnderway run (other c.args.self.now.halves.current) (g.D.Device.past_of c.args.self.now.device).disk.content c.args.self.now.synced))
+    c.in-Some.is (stood g.D.Device.past_of run handed c.args.self.now is c.requires.sound).image in
     omega (arith, there.rise, chunk.later, chunk.small)
 
 pub returns-then-is_err-clause-images : goal.returns-then-is_err-clause-images
 returns-then-is_err-clause-images g c = λ run handed is.
-    let history = g.D.Device.history in
+    let past_of = g.D.Device.past_of in
     let old = c.args.self.now in
     let within = subst (λ (x : GeometryValue). RunsWithin (λ n. InHalfImage x (other old.halves.current) n
-    ⊎ ((history old.device).disk.unsynced n ≡ true)) (history old.device).disk.content (history old.device) (history c.write_next.new.device))
+    ⊎ ((past_of old.device).disk.unsynced n ≡ true)) (past_of old.device).disk.content (past_of old.device) (past_of c.write_next.new.device))
     is.geometry-is c.write_next.ensures.within in
-    leaves_kept history run handed old is c.requires.sound (history c.write_next.new.device)
-    (writing run.geometry (other old.halves.current) (history old.device) (history c.write_next.new.device)
-    (stood history run handed old is c.requires.sound).loose within)
+    leaves_kept past_of run handed old is c.requires.sound (past_of c.write_next.new.device)
+    (writing run.geometry (other old.halves.current) (past_of old.device) (past_of c.write_next.new.device)
+    (stood past_of run handed old is c.requires.sound).loose within)
 
 pub returns-then-is_err-clause-writer : goal.returns-then-is_err-clause-writer
 returns-then-is_err-clause-writer g c = λ run handed is asked.
@@ -94,32 +94,32 @@ returns-then-is_err-clause-writer g c = λ run handed is asked.
       image = old.image;
       failed = true;
     } in
-    carried_on g.D.Device.history run handed old new is refl refl refl (λ sound. absurd (false≢true (sym sound)))
+    carried_on g.D.Device.past_of run handed old new is refl refl refl (λ sound. absurd (false≢true (sym sound)))
     (returns-then-is_err-clause-images g c run handed is)
 
 pub returns-clause-images : goal.returns-clause-images
 returns-clause-images g c = λ run handed is.
-    let history = g.D.Device.history in
+    let past_of = g.D.Device.past_of in
     let old = c.args.self.now in
     let within = subst (λ (x : GeometryValue). RunsWithin (λ n. InHalfImage x (other old.halves.current) n
-    ⊎ ((history old.device).disk.unsynced n ≡ true)) (history old.device).disk.content (history old.device) (history c.write_next.new.device))
+    ⊎ ((past_of old.device).disk.unsynced n ≡ true)) (past_of old.device).disk.content (past_of old.device) (past_of c.write_next.new.device))
     is.geometry-is c.write_next.ensures.within in
-    leaves_kept history run handed old is c.requires.sound (history c.write_next.new.device)
-    (writing run.geometry (other old.halves.current) (history old.device) (history c.write_next.new.device)
-    (stood history run handed old is c.requires.sound).loose within)
+    leaves_kept past_of run handed old is c.requires.sound (past_of c.write_next.new.device)
+    (writing run.geometry (other old.halves.current) (past_of old.device) (past_of c.write_next.new.device)
+    (stood past_of run handed old is c.requires.sound).loose within)
 
 pub returns-clause-writer : goal.returns-clause-writer
 returns-clause-writer g c = λ run handed is asked.
-    let history = g.D.Device.history in
+    let past_of = g.D.Device.past_of in
     let old = c.args.self.now in
     let half = other old.halves.current in
     let image : NewImage = c.in-Some.image in
-    let stand = stood history run handed old is c.requires.sound in
+    let stand = stood past_of run handed old is c.requires.sound in
     let within = subst (λ (x : GeometryValue). RunsWithin (λ n. InHalfImage x half n
-    ⊎ ((history old.device).disk.unsynced n ≡ true)) (history old.device).disk.content (history old.device) (history c.write_next.new.device))
+    ⊎ ((past_of old.device).disk.unsynced n ≡ true)) (past_of old.device).disk.content (past_of old.device) (past_of c.write_next.new.device))
     is.geometry-is c.write_next.ensures.within in
-    let before : Image = (history old.device).disk.content in
-    let after : Image = (history c.write_next.new.device).disk.content in
+    let before : CrashState = (past_of old.device).disk.content in
+    let after : CrashState = (past_of c.write_next.new.device).disk.content in
     let there : IsUnderway run half before old.synced image =
     subst (λ (t : Option NewImage). IfSome t (IsUnderway run half before old.synced)) c.in-Some.is stand.image in
     let chunk = asked image c.in-Some.is in
@@ -128,8 +128,8 @@ returns-clause-writer g c = λ run handed is asked.
     let part : IsPart run half before image.base image.number run.geometry.pages chunk.count chunk.above chunk.life =
     subst (IsContent run half before image.base image.number) chunk.next there.content in
     let good = sym c.is_err.ensures.value ∙ c.if-is_err.false in
-    let log = written_log run.geometry half (history old.device)
-    (history c.write_next.new.device) stand.loose within image.log there.groups there.area-is there.stands in
+    let log = written_log run.geometry half (past_of old.device)
+    (past_of c.write_next.new.device) stand.loose within image.log there.groups there.area-is there.stands in
     let content : IsContent run half after image.base c.args.number c.stage_behind-stage.result =
     with_entries run half before after image c.args.number c.args.entries.now chunk there.low there.rise part old.halves.geometry is.geometry-is
     c.in-Partly.pages c.in-Partly.count c.in-Partly.highest c.in-Partly.life at
@@ -144,27 +144,27 @@ returns-clause-writer g c = λ run handed is asked.
       image = Some taken;
       failed = old.failed;
     } in
-    carried_on history run handed old new is refl refl refl
-    (λ sound. stands_with history run handed old is c.requires.sound new refl refl refl
-    (written_outside run.geometry half (history old.device) (history c.write_next.new.device) stand.loose within)
-    (written_loose run.geometry half (history old.device) (history c.write_next.new.device) stand.loose within)
+    carried_on past_of run handed old new is refl refl refl
+    (λ sound. stands_with past_of run handed old is c.requires.sound new refl refl refl
+    (written_outside run.geometry half (past_of old.device) (past_of c.write_next.new.device) stand.loose within)
+    (written_loose run.geometry half (past_of old.device) (past_of c.write_next.new.device) stand.loose within)
     (at_stage run half before after old.synced image there c.args.number taken.stage chunk.later chunk.made log content))
     (returns-clause-images g c run handed is)
 
 pub returns-in_default-clause-around : goal.returns-in_default-clause-around
-returns-in_default-clause-around g c = none_alone g.D.Device.history
+returns-in_default-clause-around g c = none_alone g.D.Device.past_of
     (InHalf c.args.self.now.halves.geometry (other c.args.self.now.halves.current)) c.args.self.now.device
 
 pub returns-then-is_full-clause-around : goal.returns-then-is_full-clause-around
-returns-then-is_full-clause-around g c = none_alone g.D.Device.history
+returns-then-is_full-clause-around g c = none_alone g.D.Device.past_of
     (InHalf c.args.self.now.halves.geometry (other c.args.self.now.halves.current)) c.args.self.now.device
 
 pub returns-then-is_err-clause-around : goal.returns-then-is_err-clause-around
 returns-then-is_err-clause-around g c =
     let (run, handed, is, asked) = c.requires.entries in
-    part_alone g.D.Device.history run handed c.args.self.now is c.requires.sound c.write_next.new.device c.write_next.ensures.within
+    part_alone g.D.Device.past_of run handed c.args.self.now is c.requires.sound c.write_next.new.device c.write_next.ensures.within
 
 pub returns-clause-around : goal.returns-clause-around
 returns-clause-around g c =
     let (run, handed, is, asked) = c.requires.entries in
-    part_alone g.D.Device.history run handed c.args.self.now is c.requires.sound c.write_next.new.device c.write_next.ensures.within
+    part_alone g.D.Device.past_of run handed c.args.self.now is c.requires.sound c.write_next.new.device c.write_next.ensures.within

@@ -1,11 +1,11 @@
 use Rattle.std.proofs.Common.{true, ◌≡◌, ◌⊎◌, ⊎_elim, ◌+◌, Option, Some, IfSome, refl, sym, ap, subst, ◌∙◌}
 use Rattle.std.proofs.lemmas.Bool.{false≢true}
 use Rattle.sector_device.specs.Disk.{SameOutside}
-use Rattle.sector_device.specs.History.{RunsWithin}
+use Rattle.sector_device.specs.DevicePast.{RunsWithin}
 use Rattle.sector_device.proofs.Moments.{started}
-use Rattle.records.specs.GeometryValue.{GeometryValue}
-use Rattle.image_half.specs.Layout.{InPage}
-use Rattle.image_half.specs.Part.{HasPage}
+use Rattle.record_values.specs.GeometryValue.{GeometryValue}
+use Rattle.store_image_half.specs.Layout.{InPage}
+use Rattle.store_image_half.specs.Part.{HasPage}
 use Rattle.flip_image.specs.Layout.{other, header_sector, InHalf, InHalfImage}
 use Rattle.store_writer.specs.declared.writer.Writer.{Writer}
 use Rattle.store_writer.specs.declared.image.NewImage.{NewImage}
@@ -13,29 +13,29 @@ use Rattle.store_writer.specs.declared.image.Stage.TheVariants.{Partly}
 use Rattle.store_writer.specs.Contents.{LeftBy}
 use Rattle.store_writer.specs.Image.{IsPart, IsContent, IsUnderway}
 use Rattle.store_writer.proofs.Idle.{from_ok, writing, written_outside, written_loose, written_log}
-use Rattle.store_writer.proofs.Copying.{at_stage, page_part}
+use Rattle.store_writer.proofs.Stepwise.{at_stage, page_part}
 use Rattle.store_writer.proofs.Writing.{stood, carried_on}
 use Rattle.store_writer.proofs.Taking.{leaves_kept, stands_with}
 use Rattle.store_writer.proofs.Alone.{none_alone, part_alone}
 use Rattle.store_writer.proofs.writer.Writer.take_page.Goals as goal
 
 pub returns-in_default-clause-images : goal.returns-in_default-clause-images
-returns-in_default-clause-images g c = λ run handed is. started (g.D.Device.history c.args.self.now.device) (LeftBy run c.args.self.now.synced handed) is.images
+returns-in_default-clause-images g c = λ run handed is. started (g.D.Device.past_of c.args.self.now.device) (LeftBy run c.args.self.now.synced handed) is.images
 
 pub returns-then-is_full-clause-images : goal.returns-then-is_full-clause-images
 returns-then-is_full-clause-images g c = λ run handed is.
-    started (g.D.Device.history c.args.self.now.device) (LeftBy run c.args.self.now.synced handed) is.images
+    started (g.D.Device.past_of c.args.self.now.device) (LeftBy run c.args.self.now.synced handed) is.images
 
 pub returns-then-is_err-clause-images : goal.returns-then-is_err-clause-images
 returns-then-is_err-clause-images g c = λ run handed is.
-    let history = g.D.Device.history in
+    let past_of = g.D.Device.past_of in
     let old = c.args.self.now in
     let within = subst (λ (x : GeometryValue). RunsWithin (λ n. InHalfImage x (other old.halves.current) n
-    ⊎ ((history old.device).disk.unsynced n ≡ true)) (history old.device).disk.content (history old.device) (history c.write_rows.new.device))
+    ⊎ ((past_of old.device).disk.unsynced n ≡ true)) (past_of old.device).disk.content (past_of old.device) (past_of c.write_rows.new.device))
     is.geometry-is c.write_rows.ensures.within in
-    leaves_kept history run handed old is c.requires.sound (history c.write_rows.new.device)
-    (writing run.geometry (other old.halves.current) (history old.device) (history c.write_rows.new.device)
-    (stood history run handed old is c.requires.sound).loose within)
+    leaves_kept past_of run handed old is c.requires.sound (past_of c.write_rows.new.device)
+    (writing run.geometry (other old.halves.current) (past_of old.device) (past_of c.write_rows.new.device)
+    (stood past_of run handed old is c.requires.sound).loose within)
 
 pub returns-then-is_err-clause-writer : goal.returns-then-is_err-clause-writer
 returns-then-is_err-clause-writer g c = λ run handed is page.
@@ -49,32 +49,32 @@ returns-then-is_err-clause-writer g c = λ run handed is page.
       image = old.image;
       failed = true;
     } in
-    carried_on g.D.Device.history run handed old new is refl refl refl (λ sound. absurd (false≢true (sym sound)))
+    carried_on g.D.Device.past_of run handed old new is refl refl refl (λ sound. absurd (false≢true (sym sound)))
     (returns-then-is_err-clause-images g c run handed is)
 
 pub returns-clause-images : goal.returns-clause-images
 returns-clause-images g c = λ run handed is.
-    let history = g.D.Device.history in
+    let past_of = g.D.Device.past_of in
     let old = c.args.self.now in
     let within = subst (λ (x : GeometryValue). RunsWithin (λ n. InHalfImage x (other old.halves.current) n
-    ⊎ ((history old.device).disk.unsynced n ≡ true)) (history old.device).disk.content (history old.device) (history c.write_rows.new.device))
+    ⊎ ((past_of old.device).disk.unsynced n ≡ true)) (past_of old.device).disk.content (past_of old.device) (past_of c.write_rows.new.device))
     is.geometry-is c.write_rows.ensures.within in
-    leaves_kept history run handed old is c.requires.sound (history c.write_rows.new.device)
-    (writing run.geometry (other old.halves.current) (history old.device) (history c.write_rows.new.device)
-    (stood history run handed old is c.requires.sound).loose within)
+    leaves_kept past_of run handed old is c.requires.sound (past_of c.write_rows.new.device)
+    (writing run.geometry (other old.halves.current) (past_of old.device) (past_of c.write_rows.new.device)
+    (stood past_of run handed old is c.requires.sound).loose within)
 
 pub returns-clause-writer : goal.returns-clause-writer
 returns-clause-writer g c = λ run handed is asked.
-    let history = g.D.Device.history in
+    let past_of = g.D.Device.past_of in
     let old = c.args.self.now in
     let half = other old.halves.current in
     let image : NewImage = c.in-Some.image in
-    let stand = stood history run handed old is c.requires.sound in
+    let stand = stood past_of run handed old is c.requires.sound in
     let within = subst (λ (x : GeometryValue). RunsWithin (λ n. InHalfImage x half n
-    ⊎ ((history old.device).disk.unsynced n ≡ true)) (history old.device).disk.content (history old.device) (history c.write_rows.new.device))
+    ⊎ ((past_of old.device).disk.unsynced n ≡ true)) (past_of old.device).disk.content (past_of old.device) (past_of c.write_rows.new.device))
     is.geometry-is c.write_rows.ensures.within in
-    let before = (history old.device).disk.content in
-    let after = (history c.write_rows.new.device).disk.content in
+    let before = (past_of old.device).disk.content in
+    let after = (past_of c.write_rows.new.device).disk.content in
     let there : IsUnderway run half before old.synced image =
     subst (λ (t : Option NewImage). IfSome t (IsUnderway run half before old.synced)) c.in-Some.is stand.image in
     let chunk = asked image c.in-Some.is in
@@ -90,8 +90,8 @@ returns-clause-writer g c = λ run handed is asked.
     let next : IsPart run half after image.base c.args.number (c.args.page + 1) count highest life =
     page_part run half before after image.base image.number c.args.number there.low there.rise chunk.later c.args.page count highest life c.args.rows part
     chunk.below chunk.rows-are chunk.slots same has in
-    let log = written_log run.geometry half (history old.device)
-    (history c.write_rows.new.device) stand.loose within image.log there.groups there.area-is there.stands in
+    let log = written_log run.geometry half (past_of old.device)
+    (past_of c.write_rows.new.device) stand.loose within image.log there.groups there.area-is there.stands in
     let taken : NewImage = c.with_page.result in
     let taken_is : record image { number = c.args.number; stage = Partly (c.args.page + 1) count highest life } ≡ taken =
     sym (c.with_page.ensures c.args.page count highest life at) in
@@ -104,10 +104,10 @@ returns-clause-writer g c = λ run handed is asked.
       image = Some taken;
       failed = old.failed;
     } in
-    carried_on history run handed old new is refl refl refl
-    (λ sound. stands_with history run handed old is c.requires.sound new refl refl refl
-    (written_outside run.geometry half (history old.device) (history c.write_rows.new.device) stand.loose within)
-    (written_loose run.geometry half (history old.device) (history c.write_rows.new.device) stand.loose within)
+    carried_on past_of run handed old new is refl refl refl
+    (λ sound. stands_with past_of run handed old is c.requires.sound new refl refl refl
+    (written_outside run.geometry half (past_of old.device) (past_of c.write_rows.new.device) stand.loose within)
+    (written_loose run.geometry half (past_of old.device) (past_of c.write_rows.new.device) stand.loose within)
     (subst (IsUnderway run half after old.synced) taken_is
     (at_stage run half before after old.synced image there c.args.number (Partly (c.args.page + 1) count highest life) chunk.later chunk.made log next)))
     (returns-clause-images g c run handed is)
@@ -132,19 +132,19 @@ returns-clause-stepped g c =
     )
 
 pub returns-in_default-clause-around : goal.returns-in_default-clause-around
-returns-in_default-clause-around g c = none_alone g.D.Device.history
+returns-in_default-clause-around g c = none_alone g.D.Device.past_of
     (InHalf c.args.self.now.halves.geometry (other c.args.self.now.halves.current)) c.args.self.now.device
 
 pub returns-then-is_full-clause-around : goal.returns-then-is_full-clause-around
-returns-then-is_full-clause-around g c = none_alone g.D.Device.history
+returns-then-is_full-clause-around g c = none_alone g.D.Device.past_of
     (InHalf c.args.self.now.halves.geometry (other c.args.self.now.halves.current)) c.args.self.now.device
 
 pub returns-then-is_err-clause-around : goal.returns-then-is_err-clause-around
 returns-then-is_err-clause-around g c =
     let (run, handed, is, asked) = c.requires.page in
-    part_alone g.D.Device.history run handed c.args.self.now is c.requires.sound c.write_rows.new.device c.write_rows.ensures.within
+    part_alone g.D.Device.past_of run handed c.args.self.now is c.requires.sound c.write_rows.new.device c.write_rows.ensures.within
 
 pub returns-clause-around : goal.returns-clause-around
 returns-clause-around g c =
     let (run, handed, is, asked) = c.requires.page in
-    part_alone g.D.Device.history run handed c.args.self.now is c.requires.sound c.write_rows.new.device c.write_rows.ensures.within
+    part_alone g.D.Device.past_of run handed c.args.self.now is c.requires.sound c.write_rows.new.device c.write_rows.ensures.within

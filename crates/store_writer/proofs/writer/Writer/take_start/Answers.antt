@@ -2,18 +2,18 @@ use Rattle.std.proofs.Common.{true, ◌≡◌, ℕ, Some, None, refl, sym, ap, s
 use Rattle.std.proofs.lemmas.Bool.{false≢true}
 use Rattle.std.specs.FinMap as map
 use Rattle.sector_device.specs.Disk.{SameOutside}
-use Rattle.sector_device.specs.History.{LeavesOnly}
-use Rattle.records.specs.GeometryValue.{GeometryValue}
+use Rattle.sector_device.specs.DevicePast.{LeavesOnly}
+use Rattle.record_values.specs.GeometryValue.{GeometryValue}
 use Rattle.model.specs.Cells.{Cells}
 use Rattle.model.specs.Redo.{cells_of}
 use Rattle.model.specs.declared.life.Life.{Life}
-use Rattle.image_half.specs.Part.{IsImagePart}
+use Rattle.store_image_half.specs.Part.{IsImagePart}
 use Rattle.flip_image.specs.Layout.{other, header_sector, InHalf, InHalfImage}
 use Rattle.store_reader.specs.Contents.{log_area}
 use Rattle.store_writer.specs.declared.writer.Writer.{Writer}
 use Rattle.store_writer.specs.declared.image.NewImage.{NewImage}
 use Rattle.store_writer.specs.declared.image.Stage.TheVariants.{Partly}
-use Rattle.store_writer.proofs.Copying.{start_taken}
+use Rattle.store_writer.proofs.Stepwise.{start_taken}
 use Rattle.store_writer.proofs.Writing.{carried_on}
 use Rattle.store_writer.proofs.Taking.{leaves_kept, stands_with}
 use Rattle.store_writer.proofs.Alone.{these_alone}
@@ -21,19 +21,19 @@ use Rattle.store_writer.proofs.writer.Writer.take_start.Goals as goal
 
 pub returns-in-Ok-clause-images : goal.returns-in-Ok-clause-images
 returns-in-Ok-clause-images g c = λ run handed is.
-    let history = g.D.Device.history in
+    let past_of = g.D.Device.past_of in
     let old = c.args.self.now in
-    leaves_kept history run handed old is c.requires.sound (history c.write_first.new.device)
-    (subst (λ (x : GeometryValue). LeavesOnly (history old.device) (history c.write_first.new.device)
-    (SameOutside (InHalf x (other old.halves.current)) (history old.device).disk.content)) is.geometry-is c.write_first.ensures.any_moment)
+    leaves_kept past_of run handed old is c.requires.sound (past_of c.write_first.new.device)
+    (subst (λ (x : GeometryValue). LeavesOnly (past_of old.device) (past_of c.write_first.new.device)
+    (SameOutside (InHalf x (other old.halves.current)) (past_of old.device).disk.content)) is.geometry-is c.write_first.ensures.any_moment)
 
 pub returns-clause-images : goal.returns-clause-images
 returns-clause-images g c = λ run handed is.
-    let history = g.D.Device.history in
+    let past_of = g.D.Device.past_of in
     let old = c.args.self.now in
-    leaves_kept history run handed old is c.requires.sound (history c.write_first.new.device)
-    (subst (λ (x : GeometryValue). LeavesOnly (history old.device) (history c.write_first.new.device)
-    (SameOutside (InHalf x (other old.halves.current)) (history old.device).disk.content)) is.geometry-is c.write_first.ensures.any_moment)
+    leaves_kept past_of run handed old is c.requires.sound (past_of c.write_first.new.device)
+    (subst (λ (x : GeometryValue). LeavesOnly (past_of old.device) (past_of c.write_first.new.device)
+    (SameOutside (InHalf x (other old.halves.current)) (past_of old.device).disk.content)) is.geometry-is c.write_first.ensures.any_moment)
 
 pub returns-clause-writer : goal.returns-clause-writer
 returns-clause-writer g c = λ run handed is start.
@@ -47,14 +47,14 @@ returns-clause-writer g c = λ run handed is start.
       image = old.image;
       failed = true;
     } in
-    carried_on g.D.Device.history run handed old new is refl refl refl (λ sound. absurd (false≢true (sym sound))) (returns-clause-images g c run handed is)
+    carried_on g.D.Device.past_of run handed old new is refl refl refl (λ sound. absurd (false≢true (sym sound))) (returns-clause-images g c run handed is)
 
 pub returns-in-Ok-clause-writer : goal.returns-in-Ok-clause-writer
 returns-in-Ok-clause-writer g c = λ run handed is start.
-    let history = g.D.Device.history in
+    let past_of = g.D.Device.past_of in
     let old = c.args.self.now in
     let half = other old.halves.current in
-    let now = (history c.write_first.new.device).disk in
+    let now = (past_of c.write_first.new.device).disk in
     let life : Life = c.lists_alone-cells.result.life in
     let image : NewImage = record { base = c.args.number; number = c.args.number; stage = Partly 0 0 None life; log = c.in-Ok.log } in
     let new : Writer g.row.D.Denot g.row.A.Denot = record {
@@ -73,20 +73,20 @@ returns-in-Ok-clause-writer g c = λ run handed is start.
     (record (cells_of c.lists_alone-cells.result) { rows = map.empty; entries = map.empty })) is.geometry-is c.in-Ok.ensures.written) in
     let area : image.log.area ≡ log_area run.geometry half =
     subst (λ (x : GeometryValue). image.log.area ≡ log_area x half) is.geometry-is c.in-Ok.ensures.area in
-    carried_on history run handed old new is refl refl refl
-    (λ sound. stands_with history run handed old is c.requires.sound new refl refl refl
-    (subst (λ (x : GeometryValue). SameOutside (InHalf x half) (history old.device).disk.content now.content) is.geometry-is c.write_first.ensures.outside)
+    carried_on past_of run handed old new is refl refl refl
+    (λ sound. stands_with past_of run handed old is c.requires.sound new refl refl refl
+    (subst (λ (x : GeometryValue). SameOutside (InHalf x half) (past_of old.device).disk.content now.content) is.geometry-is c.write_first.ensures.outside)
     (subst (λ (x : GeometryValue). (n : ℕ) → now.unsynced n ≡ true → InHalfImage x half n) is.geometry-is c.in-Ok.ensures.loose)
     (start_taken run half now.content old.synced image c.args.life c.args.lists is.opened refl
     (ap (λ (l : Life). Partly 0 0 None l) (ap (λ (x : Cells). x.life) cells_are)) start part area c.in-Ok.ensures.empty))
     (returns-in-Ok-clause-images g c run handed is)
 
 pub returns-in-Ok-clause-around : goal.returns-in-Ok-clause-around
-returns-in-Ok-clause-around g c = these_alone g.D.Device.history
+returns-in-Ok-clause-around g c = these_alone g.D.Device.past_of
     (InHalf c.args.self.now.halves.geometry (other c.args.self.now.halves.current)) c.args.self.now.device c.write_first.new.device
     c.write_first.ensures.outside c.write_first.ensures.any_moment
 
 pub returns-clause-around : goal.returns-clause-around
-returns-clause-around g c = these_alone g.D.Device.history
+returns-clause-around g c = these_alone g.D.Device.past_of
     (InHalf c.args.self.now.halves.geometry (other c.args.self.now.halves.current)) c.args.self.now.device c.write_first.new.device
     c.write_first.ensures.outside c.write_first.ensures.any_moment

@@ -1,8 +1,8 @@
 use Rattle.std.proofs.Common.{true, ◌≡◌, ℕ, Some, refl, sym, subst}
 use Rattle.std.proofs.lemmas.Bool.{false≢true}
 use Rattle.sector_device.specs.Disk.{SameOutside}
-use Rattle.sector_device.specs.History.{LeavesOnly}
-use Rattle.records.specs.GeometryValue.{GeometryValue}
+use Rattle.sector_device.specs.DevicePast.{LeavesOnly}
+use Rattle.record_values.specs.GeometryValue.{GeometryValue}
 use Rattle.model.specs.Redo.{cells_of}
 use Rattle.flip_image.specs.Layout.{other, InHalf, InHalfImage}
 use Rattle.flip_image.specs.Store.{HoldsImage}
@@ -17,19 +17,19 @@ use Rattle.store_writer.proofs.writer.Writer.take_whole.Goals as goal
 
 pub returns-in-Ok-clause-images : goal.returns-in-Ok-clause-images
 returns-in-Ok-clause-images g c = λ run handed is.
-    let history = g.D.Device.history in
+    let past_of = g.D.Device.past_of in
     let old = c.args.self.now in
-    leaves_kept history run handed old is c.requires.sound (history c.write_whole.new.device)
-    (subst (λ (x : GeometryValue). LeavesOnly (history old.device) (history c.write_whole.new.device)
-    (SameOutside (InHalf x (other old.halves.current)) (history old.device).disk.content)) is.geometry-is c.write_whole.ensures.any_moment)
+    leaves_kept past_of run handed old is c.requires.sound (past_of c.write_whole.new.device)
+    (subst (λ (x : GeometryValue). LeavesOnly (past_of old.device) (past_of c.write_whole.new.device)
+    (SameOutside (InHalf x (other old.halves.current)) (past_of old.device).disk.content)) is.geometry-is c.write_whole.ensures.any_moment)
 
 pub returns-in-Err-clause-images : goal.returns-in-Err-clause-images
 returns-in-Err-clause-images g c = λ run handed is.
-    let history = g.D.Device.history in
+    let past_of = g.D.Device.past_of in
     let old = c.args.self.now in
-    leaves_kept history run handed old is c.requires.sound (history c.write_whole.new.device)
-    (subst (λ (x : GeometryValue). LeavesOnly (history old.device) (history c.write_whole.new.device)
-    (SameOutside (InHalf x (other old.halves.current)) (history old.device).disk.content)) is.geometry-is c.write_whole.ensures.any_moment)
+    leaves_kept past_of run handed old is c.requires.sound (past_of c.write_whole.new.device)
+    (subst (λ (x : GeometryValue). LeavesOnly (past_of old.device) (past_of c.write_whole.new.device)
+    (SameOutside (InHalf x (other old.halves.current)) (past_of old.device).disk.content)) is.geometry-is c.write_whole.ensures.any_moment)
 
 pub returns-in-Err-clause-writer : goal.returns-in-Err-clause-writer
 returns-in-Err-clause-writer g c = λ run handed is whole.
@@ -43,16 +43,16 @@ returns-in-Err-clause-writer g c = λ run handed is whole.
       image = old.image;
       failed = true;
     } in
-    carried_on g.D.Device.history run handed old new is refl refl refl (λ sound. absurd (false≢true (sym sound)))
+    carried_on g.D.Device.past_of run handed old new is refl refl refl (λ sound. absurd (false≢true (sym sound)))
     (returns-in-Err-clause-images g c run handed is)
 
 pub returns-in-Ok-clause-writer : goal.returns-in-Ok-clause-writer
 returns-in-Ok-clause-writer g c = λ run handed is whole.
-    let history = g.D.Device.history in
+    let past_of = g.D.Device.past_of in
     let old = c.args.self.now in
     let half = other old.halves.current in
     let cells = cells_of c.args.cells.now in
-    let now = (history c.write_whole.new.device).disk in
+    let now = (past_of c.write_whole.new.device).disk in
     let image : NewImage = record { base = c.args.number; number = c.args.number; stage = Whole; log = c.in-Ok.log } in
     let new : Writer g.row.D.Denot g.row.A.Denot = record {
       device = c.write_whole.new.device;
@@ -67,9 +67,9 @@ returns-in-Ok-clause-writer g c = λ run handed is whole.
     subst (λ (x : GeometryValue). HoldsImage x half now.content c.args.number cells) is.geometry-is c.in-Ok.ensures.written in
     let area : image.log.area ≡ log_area run.geometry half =
     subst (λ (x : GeometryValue). image.log.area ≡ log_area x half) is.geometry-is c.in-Ok.ensures.area in
-    carried_on history run handed old new is refl refl refl
-    (λ sound. stands_with history run handed old is c.requires.sound new refl refl refl
-    (subst (λ (x : GeometryValue). SameOutside (InHalf x half) (history old.device).disk.content now.content) is.geometry-is c.write_whole.ensures.outside)
+    carried_on past_of run handed old new is refl refl refl
+    (λ sound. stands_with past_of run handed old is c.requires.sound new refl refl refl
+    (subst (λ (x : GeometryValue). SameOutside (InHalf x half) (past_of old.device).disk.content now.content) is.geometry-is c.write_whole.ensures.outside)
     (subst (λ (x : GeometryValue). (n : ℕ) → now.unsynced n ≡ true → InHalfImage x half n) is.geometry-is c.in-Ok.ensures.loose)
     (whole_taken run half now.content old.synced image cells is.opened whole.late refl refl whole.made whole.cells-are holds area c.in-Ok.ensures.empty))
     (returns-in-Ok-clause-images g c run handed is)
@@ -82,14 +82,14 @@ returns-in-Ok-clause-taken g c =
 pub write_whole-requires-clause-current : goal.write_whole-requires-clause-current
 write_whole-requires-clause-current g c =
     let (run, handed, is, whole) = c.requires.whole in
-    (stood g.D.Device.history run handed c.args.self.now is c.requires.sound).store.current
+    (stood g.D.Device.past_of run handed c.args.self.now is c.requires.sound).store.current
 
 pub returns-in-Ok-clause-around : goal.returns-in-Ok-clause-around
-returns-in-Ok-clause-around g c = these_alone g.D.Device.history
+returns-in-Ok-clause-around g c = these_alone g.D.Device.past_of
     (InHalf c.args.self.now.halves.geometry (other c.args.self.now.halves.current)) c.args.self.now.device c.write_whole.new.device
     c.write_whole.ensures.outside c.write_whole.ensures.any_moment
 
 pub returns-in-Err-clause-around : goal.returns-in-Err-clause-around
-returns-in-Err-clause-around g c = these_alone g.D.Device.history
+returns-in-Err-clause-around g c = these_alone g.D.Device.past_of
     (InHalf c.args.self.now.halves.geometry (other c.args.self.now.halves.current)) c.args.self.now.device c.write_whole.new.device
     c.write_whole.ensures.outside c.write_whole.ensures.any_moment

@@ -1,6 +1,6 @@
 use Rattle.std.proofs.Common.{◌≡◌, ℕ, ◌+◌, ◌<◌, List, ◌++◌, ◌∷◌, [], length, subst, sym, ap, ◌∙◌, arith}
 use Rattle.txn_table.specs.Table.{TableValue, TxnState, with_next}
-use Rattle.records.specs.declared.txn.TheConstants.{TXNS_MAX}
+use Rattle.record_values.specs.declared.txn.TheConstants.{TXNS_MAX}
 use Rattle.txn_table.specs.Sound.{IsTableKept}
 use Rattle.txn_table.proofs.Keeps.{table, insert_entry-next, IsTableKept-next}
 use Rattle.txn_table.proofs.TableLaws.{holder_of-with_next}

@@ -1,5 +1,5 @@
 use Rattle.std.proofs.Common.{ℕ, List, subst, sym, ap, ◌∙◌}
-use Rattle.records.specs.Values.{Place}
+use Rattle.record_values.specs.Values.{Place}
 use Rattle.txn_table.specs.Table.{TxnState, state_of, without}
 use Rattle.txn_table.specs.Sound.{IsTableKept}
 use Rattle.txn_table.proofs.Keeps.{table, IsTableKept-without}

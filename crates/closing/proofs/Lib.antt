@@ -1,8 +1,0 @@
-mod Lists
-mod Gathering
-mod Going
-mod Taking
-mod Pieces
-mod Tables
-mod Ending
-pub mod Orders

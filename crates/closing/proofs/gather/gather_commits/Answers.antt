@@ -1,6 +1,0 @@
-use Rattle.closing.proofs.Gathering.{gathered_of}
-use Rattle.closing.specs.Gathered.{sessions_of}
-use Rattle.closing.proofs.gather.gather_commits.Goals as goal
-
-pub returns-clause-ok : goal.returns-clause-ok
-returns-clause-ok g c = gathered_of _ (sessions_of c.args.seats.items) c.gather.result c.gather.ensures.ok c.in_ok-lists.ensures.lists

@@ -1,3 +1,0 @@
-pub mod Gathered
-pub mod Written
-pub mod Closing

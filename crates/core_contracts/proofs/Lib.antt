@@ -1,4 +1,0 @@
-mod Replies
-mod Served
-mod Worked
-pub mod Laws

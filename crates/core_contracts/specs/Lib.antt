@@ -1,4 +1,0 @@
-pub mod Events
-pub mod Replies
-pub mod Served
-pub mod Worked

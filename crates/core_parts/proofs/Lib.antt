@@ -1,0 +1,19 @@
+-- Lemmas on the parts of a core, for this crate and `nsf_core`.
+pub mod Moved
+pub mod Pairs
+mod Places
+mod Newest
+pub mod Due
+mod Started
+pub mod Inserting
+pub mod Changing
+pub mod Leaving
+pub mod Next
+pub mod Building
+pub mod Cleaning
+pub mod Walked
+pub mod Finding
+mod Stepped
+pub mod Undoing
+pub mod Checking
+mod Ordered

@@ -1,0 +1,11 @@
+pub mod View
+pub mod Moves
+pub mod Parts
+pub mod Replies
+pub mod Detached
+pub mod Builds
+pub mod Cleaning
+pub mod Opening
+pub mod Asked
+pub mod Undoing
+pub mod Private

@@ -1,0 +1,93 @@
+//! The steps of a change and of its undo, each found by how many come before it.
+ghost use Rattle.std.specs.Prelude.{◌≡◌, Some, is_none, option_and_then};
+ghost use Rattle.core_steps.specs.Steps.{marks_new, marks_old, puts_new, puts_old, sets_new, sets_old};
+ghost use Rattle.core_parts.specs.Private.{entry_in};
+
+use core_steps::{Cell, Step, forward, undo};
+use records::{Change, Pair, Part, TxnAction};
+
+// The entry that a step sets, and what its record says; none where it sets a row, or where there is
+// no step.
+fn entry_of(step: Option<Step>) -> Option<(Pair, TxnAction)>
+    ensures { result ≡ option_and_then entry_in step }
+{
+    let Step { cell, action } = step?;
+    match cell {
+        Cell::Slot { .. } => None,
+        Cell::Entry { pair, .. } => Some((pair, action)),
+    }
+}
+
+/// The entry that a change marks, where it marks one, and what the record says. It is the first step.
+pub(crate) fn old_mark(change: &Change, indexed: bool) -> Option<(Pair, TxnAction)>
+    ensures { result ≡ option_and_then entry_in (marks_old indexed change.now) }
+{
+    entry_of(forward(change, indexed, 0))
+}
+
+// The step behind the one that marks an entry, if there is such, sets the row.
+fn row_step(change: &Change, indexed: bool) -> Option<Step>
+    ensures { result ≡ Some (sets_new change.now) }
+{
+    match old_mark(change, indexed) {
+        None => forward(change, indexed, 0),
+        Some(_) => forward(change, indexed, 1),
+    }
+}
+
+/// What the record of a change's row says.
+pub(crate) fn new_row(change: &Change, indexed: bool) -> TxnAction
+    ensures { result ≡ TxnAction.Forward Part.Slot change.now }
+{
+    let Some(step) = row_step(change, indexed) else {
+        unreachable!()
+    };
+    step.action
+}
+
+/// The entry that a change puts, where it puts one, and what the record says. It is the last step.
+pub(crate) fn new_entry(change: &Change, indexed: bool) -> Option<(Pair, TxnAction)>
+    ensures { result ≡ option_and_then entry_in (puts_new indexed change.now) }
+{
+    match old_mark(change, indexed) {
+        None => entry_of(forward(change, indexed, 1)),
+        Some(_) => entry_of(forward(change, indexed, 2)),
+    }
+}
+
+/// The entry that the undo of a change marks, where it marks one, and what the record says. It is the first step.
+pub(crate) fn new_mark(change: &Change, indexed: bool) -> Option<(Pair, TxnAction)>
+    ensures { result ≡ option_and_then entry_in (marks_new indexed change.now) }
+{
+    entry_of(undo(change, indexed, 0))
+}
+
+// The step of an undo behind the one that marks an entry, if there is such, sets the row back.
+fn row_back_step(change: &Change, indexed: bool) -> Option<Step>
+    ensures { result ≡ Some (sets_old change.now (is_none (puts_old indexed change.now))) }
+{
+    match new_mark(change, indexed) {
+        None => undo(change, indexed, 0),
+        Some(_) => undo(change, indexed, 1),
+    }
+}
+
+/// What the record of the row says that the undo of a change sets back.
+pub(crate) fn old_row(change: &Change, indexed: bool) -> TxnAction
+    ensures { result ≡ TxnAction.Undo Part.Slot change.now (is_none (puts_old indexed change.now)) }
+{
+    let Some(step) = row_back_step(change, indexed) else {
+        unreachable!()
+    };
+    step.action
+}
+
+/// The entry that the undo of a change puts back, where it puts one, and what the record says. It is the last step.
+pub(crate) fn old_entry(change: &Change, indexed: bool) -> Option<(Pair, TxnAction)>
+    ensures { result ≡ option_and_then entry_in (puts_old indexed change.now) }
+{
+    match new_mark(change, indexed) {
+        None => entry_of(undo(change, indexed, 1)),
+        Some(_) => entry_of(undo(change, indexed, 2)),
+    }
+}

@@ -1,5 +1,0 @@
-use Rattle.image_half.proofs.Told.{stays}
-use Rattle.image_half.proofs.laws.told_by_its_sectors.Goals as goal
-
-pub returns : goal.returns
-returns c = stays

@@ -1,5 +1,0 @@
-use Rattle.image_half.specs.Steps.{AreFirstHeads}
-use Rattle.image_half.proofs.parts.heads_in.Given as goal
-
-abbrev pub invariant-loop-k : goal.invariant-loop-k
-invariant-loop-k g l = AreFirstHeads l.bytes l.k l.heads.items

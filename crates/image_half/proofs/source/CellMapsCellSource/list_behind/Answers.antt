@@ -1,6 +1,0 @@
-use Rattle.records.specs.Maps.{nat_exact}
-use Rattle.image_half.proofs.Maps.{next_above}
-use Rattle.image_half.proofs.source.CellMapsCellSource.list_behind.Goals as goal
-
-pub returns : goal.returns
-returns g c = next_above nat_exact.total c.args.self.now.lists c.args.txn _ c.above.ensures

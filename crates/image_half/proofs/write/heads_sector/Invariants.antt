@@ -1,8 +1,0 @@
-use Rattle.std.proofs.Common.{◌≡◌, ℕ, ◌<◌}
-use Rattle.std.specs.Prelude.{slice_get}
-use Rattle.image_parts.specs.Spelling.{head}
-use Rattle.image_half.specs.Layout.{cut}
-use Rattle.image_half.proofs.write.heads_sector.Given as goal
-
-abbrev pub invariant-loop-k : goal.invariant-loop-k
-invariant-loop-k l = (i : ℕ) → i < l.k → cut l.bytes 32 i ≡ head (slice_get l.heads i)

@@ -1,5 +1,0 @@
-use Rattle.std.proofs.Common.{rules}
-use Rattle.loops.proofs.clean.clean_until.Goals as goal
-
-pub returns-then-is_stopped : goal.returns-then-is_stopped
-returns-then-is_stopped g c = search rules

@@ -1,5 +1,0 @@
-use Rattle.std.proofs.Common.{rules}
-use Rattle.nsf_core.proofs.parts.note.Goals as goal
-
-pub returns-clause-outbox : goal.returns-clause-outbox
-returns-clause-outbox g c = search rules

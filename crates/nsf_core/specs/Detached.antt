@@ -1,8 +1,0 @@
--- What an index that was dropped hands to its caller.
-use Rattle.model.specs.Table.{Index}
-use Rattle.btree_node.specs.Contents.{contents}
-use Rattle.nsf_core.specs.declared.parts.Detached.{Detached}
-
--- the entries that it had, with their marks
-abbrev pub entries_of : {A : Type 0} → Detached A → Index
-entries_of dropped = contents dropped.entries

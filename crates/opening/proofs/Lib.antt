@@ -1,4 +1,0 @@
-mod Again
-mod Opened
-mod Turned
-mod Engines

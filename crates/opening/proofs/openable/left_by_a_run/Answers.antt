@@ -1,5 +1,0 @@
-use Rattle.opening.proofs.Again.{gives_soundly}
-use Rattle.opening.proofs.openable.left_by_a_run.Goals as goal
-
-pub returns : goal.returns
-returns g c past floor image left = ∣ gives_soundly image past.geometry left.given left.gives left.opens ∣₁

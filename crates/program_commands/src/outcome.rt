@@ -1,0 +1,28 @@
+//! What came of a request.
+ghost use Rattle.std.specs.Prelude.{◌≡◌};
+ghost use Rattle.program_commands.specs.Outcomes.{outcome_of};
+
+use program_values::Answer;
+use records::Error;
+
+/// What came of a request, as far as who asked may have to act upon it.
+#[derive(Clone, Copy, Debug, PartialEq, Eq)]
+pub enum Outcome {
+    /// Its answer was a ticket.
+    Ticket,
+    /// Its last answer was this refusal.
+    Refused(Error),
+    /// Anything else.
+    Other,
+}
+
+/// What came of a request whose last answer this is.
+pub(crate) fn outcome_of(answer: &Answer) -> Outcome
+    ensures { result ≡ outcome_of answer.now }
+{
+    match answer {
+        Answer::Ticket(_) => Outcome::Ticket,
+        Answer::Refused(error) => Outcome::Refused(*error),
+        _ => Outcome::Other,
+    }
+}

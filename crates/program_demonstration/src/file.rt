@@ -1,0 +1,43 @@
+//! The threads over the store in a file.
+use crate::found::{Found, look};
+use crate::listener::Listener;
+use crate::program::work_through;
+use crate::team::Team;
+use program_shell::Refused;
+use sector_device::Device;
+use std::fs::File;
+use std::io::Write;
+use std::rt::{Clock, Files};
+use std::sync::Wait;
+use std::thread::Threads;
+use store_file::Troubled;
+use threads_lifetime::OpenError;
+use threads_loops::Gate;
+
+// Lets the threads work on the store on the disk, and looks at what they left.
+fn work_and_look<
+    D: Device + Troubled + Send + Drop,
+    R: Threads + Wait + Clock + Sync,
+    G: Gate + Sync,
+    L: Listener + Sync,
+    E: Write + Send + Drop,
+>(disk: D, writers: u8, team: Team<'_, R, G, L, E>) -> Result<Found, Refused> {
+    let alloc = team.alloc;
+    match work_through(disk, writers, team) {
+        Ok(disk) => Ok(look(alloc, disk)?),
+        Err((OpenError::Refused(error), disk)) => Err(Refused::Store(error).because(&disk)),
+        Err((OpenError::Unsound, _)) => Err(Refused::Unsound),
+    }
+}
+
+/// Lets the threads work on the store in the file at the path, carries its build to the end, and looks at what is
+/// there. The file is locked meanwhile.
+pub fn work_on_file<
+    R: Threads + Wait + Clock + Files<File = File> + Sync,
+    G: Gate + Sync,
+    L: Listener + Sync,
+    E: Write + Send + Drop,
+>(path: &str, writers: u8, team: Team<'_, R, G, L, E>) -> Result<Found, Refused> {
+    let disk = store_file::open(team.rt, team.alloc, path)?;
+    work_and_look(disk, writers, team)
+}

@@ -1,0 +1,207 @@
+//! The program over what it writes.
+use crate::beginning::Beginning;
+use crate::file::work_on_file;
+use crate::found::{Found, look};
+use crate::listener::{Listener, Nobody, Printer};
+use crate::progress::Progress;
+use crate::team::{Team, work_on};
+use program_arguments::{NoArguments, ThreadsArguments, read_threads};
+use program_shell::Refused;
+use records::{Error, Geometry};
+use sector_device::{Device, Fate, MemDisk};
+use std::alloc::Global;
+use std::convert::AsStr;
+use std::fs::File;
+use std::io;
+use std::io::Write;
+use std::rt::{Clock, Files};
+use std::sync::Wait;
+use std::thread::Threads;
+use threads_lifetime::{OpenError, format_store};
+use threads_loops::{Gate, NoGate};
+
+const PAGES: u32 = 8;
+
+const ENTRIES: u32 = 4_096;
+
+const SLOTS: u32 = 16;
+
+// How many writes and syncs the disk has room to record.
+const CALLS: usize = 16_384;
+
+// A disk in memory with a new store on it.
+fn formatted(alloc: Global) -> Result<MemDisk<Global>, Error> {
+    let geometry = Geometry::new(PAGES, ENTRIES, SLOTS)?;
+    let mut disk = MemDisk::new(alloc, geometry.sectors(), CALLS)?;
+    format_store(&mut disk, geometry)?;
+    Ok(disk)
+}
+
+/// The device with what the threads left, beside a refusal where one of them met it.
+pub(crate) fn work_through<
+    D: Device + Send + Drop,
+    R: Threads + Wait + Clock + Sync,
+    G: Gate + Sync,
+    L: Listener + Sync,
+    E: Write + Send + Drop,
+>(device: D, writers: u8, team: Team<'_, R, G, L, E>) -> Result<D, (OpenError, D)> {
+    let worked = work_on(device, writers, team)?;
+    match worked.refusals.any() {
+        Some(error) => Err((OpenError::Refused(error), worked.device)),
+        None => Ok(worked.device),
+    }
+}
+
+// Lets the threads work on a new store in memory, and looks at what a crash leaves of it.
+fn work_in_memory<R: Threads + Wait + Clock + Sync, E: Write + Send + Drop>(
+    rt: &R,
+    alloc: Global,
+    arguments: &ThreadsArguments,
+    progress: Option<Progress<E>>,
+) -> Result<Found, OpenError> {
+    let team = Team {
+        rt,
+        alloc,
+        beginning: Beginning::New,
+        gate: &NoGate,
+        listener: &Nobody,
+        changes: u16::from(arguments.changes),
+        progress,
+    };
+    let mut disk = match work_through(formatted(alloc)?, arguments.writers, team) {
+        Ok(disk) => disk,
+        Err((error, _)) => return Err(error),
+    };
+    disk.crash(&[Fate::Junk]);
+    Ok(look(alloc, disk)?)
+}
+
+// Lets the threads work on the store in the file, prints each commit that is safe, and looks at what is there.
+fn work_in_file<
+    R: Threads + Wait + Clock + Files<File = File> + Print + Sync,
+    E: Write + Send + Drop,
+>(
+    rt: &R,
+    alloc: Global,
+    path: &str,
+    arguments: &ThreadsArguments,
+    progress: Option<Progress<E>>,
+) -> Result<Found, Refused> {
+    let team = Team {
+        rt,
+        alloc,
+        beginning: Beginning::Found,
+        gate: &NoGate,
+        listener: &Printer { rt },
+        changes: u16::from(arguments.changes),
+        progress,
+    };
+    work_on_file(path, arguments.writers, team)
+}
+
+// Prints what was found, and answers the program's status.
+fn print<W: Write>(output: &mut W, found: Found) -> io::Result<u8> {
+    let Found { rows, shown, same } = found;
+    let word = if same { "yes" } else { "no" };
+    writeln!(output, "rows {rows} shown {shown} same {word}")?;
+    Ok(if same { 0 } else { 1 })
+}
+
+/// Prints what was found, or why it wasn't, and answers the program's status: 1 where a row is without its entry, an
+/// entry without its row, or something was refused.
+pub fn told<W: Write>(output: &mut W, found: Result<Found, OpenError>) -> io::Result<u8> {
+    match found {
+        Ok(found) => print(output, found),
+        Err(error) => {
+            writeln!(output, "refused {error}")?;
+            Ok(1)
+        }
+    }
+}
+
+// The same of the store in a file, whose refusals the error stream tells.
+fn told_of_file<W: Write, E: Write>(
+    output: &mut W,
+    errors: &mut E,
+    path: &str,
+    found: Result<Found, Refused>,
+) -> io::Result<u8> {
+    match found {
+        Ok(found) => print(output, found),
+        Err(refused) => {
+            let _ = writeln!(errors, "nsf-threads: {path}: {refused}");
+            Ok(1)
+        }
+    }
+}
+
+// Does what the arguments ask for, and answers the program's status.
+fn act<
+    R: Threads + Wait + Clock + Files<File = File> + Print + Sync,
+    W: Write,
+    E: Write,
+    P: Write + Send + Drop,
+>(
+    rt: &R,
+    alloc: Global,
+    arguments: &ThreadsArguments,
+    output: &mut W,
+    progress: Progress<P>,
+    errors: &mut E,
+) -> io::Result<u8> {
+    let progress = if arguments.watch {
+        Some(progress)
+    } else {
+        None
+    };
+    match &arguments.file {
+        Some(path) => {
+            let found = work_in_file(rt, alloc, path.as_str(), arguments, progress);
+            told_of_file(output, errors, path.as_str(), found)
+        }
+        None => told(output, work_in_memory(rt, alloc, arguments, progress)),
+    }
+}
+
+/// Runs the program on these words, the first of them its own name, and answers its exit status: 0 where the rows of
+/// all commits were found, with just their entries, or help or the version was told; 1 where something was refused, or
+/// help can't be written; 2 for bad arguments. The error is that of the output. Commits that are safe are printed by
+/// the runtime.
+pub fn run_words<
+    S: AsStr,
+    R: Threads + Wait + Clock + Files<File = File> + Print + Sync,
+    W: Write,
+    E: Write,
+    P: Write + Send + Drop,
+>(
+    rt: &R,
+    alloc: Global,
+    words: &[S],
+    output: &mut W,
+    mut progress: Progress<P>,
+    errors: &mut E,
+) -> io::Result<u8> {
+    match read_threads(alloc, words, output, &mut progress.errors) {
+        Ok(arguments) => act(rt, alloc, &arguments, output, progress, errors),
+        Err(NoArguments::NoMemory) => told(output, Err(OpenError::Refused(Error::NoMemory))),
+        Err(NoArguments::Told(status)) => Ok(status),
+    }
+}
+
+/// Runs the program on these words as `run_words` does, and answers its exit status. It is 1 where the output can't be
+/// written, and the error stream says so.
+pub fn run<
+    S: AsStr,
+    R: Threads + Wait + Clock + Files<File = File> + Print + Sync,
+    W: Write,
+    E: Write,
+    P: Write + Send + Drop,
+>(rt: &R, alloc: Global, words: &[S], output: &mut W, progress: Progress<P>, errors: &mut E) -> u8 {
+    match run_words(rt, alloc, words, output, progress, errors) {
+        Ok(status) => status,
+        Err(_) => {
+            let _ = writeln!(errors, "nsf: cannot write to standard output");
+            1
+        }
+    }
+}

@@ -1,0 +1,498 @@
+//! The threads of the program.
+ghost use Rattle.std.specs.Prelude.{◌≡◌, ◌≤◌, ◌<◌, ◌++◌, ◌∷◌, [], ℕ, All, IfOk, OnOk, flat_map, map, slice_get};
+ghost use Rattle.std.specs.Prelude.{slice_index_or, vec_len};
+ghost use Rattle.store_writer.specs.Parts.{halves_of, synced_of};
+ghost use Rattle.threads_flusher.specs.Part.{popped_by};
+ghost use Rattle.threads_lifetime.specs.Closing.{GivesSome};
+ghost use Rattle.threads_lifetime.specs.Gathered.{AreAllSeats};
+ghost use Rattle.sector_device.specs.Disk.{CrashState, IsCrashState};
+ghost use Rattle.shared.specs.Seats.{AreNewSeats};
+ghost use Rattle.core_model.specs.Histories.{Opened};
+ghost use Rattle.threads_lifetime.specs.Openings.{Opens};
+ghost use Rattle.program_demonstration.specs.Kept.{KeepsAll};
+ghost use Rattle.program_demonstration.specs.Private.{AllTell, GoesOn};
+
+use crate::beginning::{Beginning, prepare};
+use crate::listener::Listener;
+use crate::progress::{Progress, watch};
+use crate::writer::{Acknowledged, Writer, write};
+use records::Error;
+use sector_device::Device;
+use shared::{Ack, BuildPart, CleanPart, Group, GroupView, Seat, Shared};
+use std::alloc::{AllocError, Global};
+use std::io::Write;
+use std::marker::Brand;
+use std::rt::Clock;
+use std::sync::Wait;
+use std::thread::{Threads, for_each_mut, join};
+use threads_flusher::FlushPart;
+use threads_lifetime::{OpenError, OpenStore, Parts, finish, open_store};
+use threads_loops::{BuilderEnd, Ended, Gate, NotRun, run_beside};
+
+// No more writers than this run side by side.
+const THREADS_MAX: usize = 64;
+
+/// The threads: a writer for each seat but the last, and the three loops. Each writer makes so many transactions. The
+/// listener hears of each commit that is safe. The builder's progress is shown where there is something to show it on.
+#[derive(Drop)]
+pub struct Team<'a, R, G, L, E> {
+    pub rt: &'a R,
+    pub alloc: Global,
+    pub beginning: Beginning,
+    pub gate: &'a G,
+    pub listener: &'a L,
+    pub changes: u16,
+    pub progress: Option<Progress<E>>,
+}
+
+/// What was refused: to a writer, which is the first of those that were refused something; to the flusher, to the
+/// builder; and before the threads began, also where one can't be made (`NoMemory`), or at the end.
+#[derive(Clone, Copy, Debug, PartialEq, Eq)]
+pub struct Refusals {
+    pub writer: Option<Error>,
+    pub flusher: Option<Error>,
+    pub builder: Option<Error>,
+    pub end: Option<Error>,
+}
+
+impl Refusals {
+    fn none() -> Refusals {
+        Refusals {
+            writer: None,
+            flusher: None,
+            builder: None,
+            end: None,
+        }
+    }
+
+    /// The first of them that there is.
+    pub fn any(&self) -> Option<Error> {
+        self.writer.or(self.flusher).or(self.builder).or(self.end)
+    }
+}
+
+/// What the threads leave.
+#[derive(Drop)]
+pub struct Worked<D> {
+    pub device: D,
+    /// The rows that writers were told to be safe; none where there was no memory for what they left.
+    pub acknowledged: Vec<Acknowledged>,
+    pub refusals: Refusals,
+}
+
+// What the writers leave, in one hand.
+#[derive(Drop)]
+struct Gathered<B: Group> {
+    seats: Vec<Seat<B>>,
+    acks: Vec<Ack<B>>,
+    acknowledged: Vec<Acknowledged>,
+}
+
+fn writers_of<B: Group>(alloc: Global, seats: Vec<Seat<B>>) -> Result<Vec<Writer<B>>, AllocError>
+    ensures seats { IfOk result (λ writers. map (λ w. w.seat) writers.items ≡ seats.items) }
+    ensures none { IfOk result (λ writers. (k : ℕ) (w : _) → slice_get writers.items k ≡ Some w
+        → w.acknowledged.items ≡ []) }
+{
+    let mut writers = Vec::with_capacity(alloc, seats.len())?;
+    let mut number: u16 = 0;
+    for seat in seats {
+        writers.push(Writer {
+            seat,
+            number,
+            acks: Vec::new(alloc),
+            acknowledged: Vec::new(alloc),
+            refused: None,
+        })?;
+        number = number.saturating_add(1);
+    }
+    Ok(writers)
+}
+
+// Runs all writers, each in a thread.
+fn write_all<B: Group + Send + Sync, R: Threads + Wait + Sync, L: Listener + Sync>(
+    rt: &R,
+    shared: &Shared<B>,
+    mut writers: Vec<Writer<B>>,
+    changes: u16,
+    listener: &L,
+) -> Vec<Writer<B>>
+    ensures len { vec_len result ≡ vec_len writers }
+    ensures wrote { (k : ℕ) (w : _) → k < vec_len writers
+        → GoesOn (slice_index_or writers.items k w).seat (slice_index_or writers.items k w).acks.items
+        (slice_index_or writers.items k w).acknowledged.items (slice_index_or result.items k w).seat
+        (slice_index_or result.items k w).acks.items (slice_index_or result.items k w).acknowledged.items }
+{
+    for_each_mut(
+        rt,
+        &mut writers,
+        THREADS_MAX,
+        &|_: usize, writer: &mut Writer<B>| write(rt, shared, writer, changes, listener),
+    );
+    writers
+}
+
+// Shows the builder's progress, as long as it can be written, and the builder has not ended.
+fn show_progress<B: Group, R: Wait + Clock, E: Write + Drop>(
+    rt: &R,
+    shared: &Shared<B>,
+    view: GroupView<B>,
+    builder: &BuilderEnd<B>,
+    progress: Progress<E>,
+) {
+    let _ = watch(rt, shared, view, builder, progress);
+}
+
+// Runs all writers, and shows the builder's progress beside them, if it is to be shown.
+fn write_and_watch<
+    B: Group + Send + Sync,
+    R: Threads + Wait + Clock + Sync,
+    L: Listener + Sync,
+    E: Write + Send + Drop,
+>(
+    rt: &R,
+    shared: &Shared<B>,
+    writers: Vec<Writer<B>>,
+    changes: u16,
+    listener: &L,
+    view: GroupView<B>,
+    builder: &BuilderEnd<B>,
+    progress: Option<Progress<E>>,
+) -> Vec<Writer<B>>
+    ensures len { vec_len result ≡ vec_len writers }
+    ensures wrote { (k : ℕ) (w : _) → k < vec_len writers
+        → GoesOn (slice_index_or writers.items k w).seat (slice_index_or writers.items k w).acks.items
+        (slice_index_or writers.items k w).acknowledged.items (slice_index_or result.items k w).seat
+        (slice_index_or result.items k w).acks.items (slice_index_or result.items k w).acknowledged.items }
+{
+    match progress {
+        None => write_all(rt, shared, writers, changes, listener),
+        Some(progress) => {
+            let ((), written) = join(
+                rt,
+                move || show_progress(rt, shared, view, builder, progress),
+                move || write_all(rt, shared, writers, changes, listener),
+            );
+            written
+        }
+    }
+}
+
+// Puts acknowledgements behind others.
+fn add_acks<B: Group>(acks: &mut Vec<Ack<B>>, more: Vec<Ack<B>>) -> Result<(), AllocError>
+    ensures { OnOk result (acks.new.items ≡ acks.old.items ++ more.items) }
+{
+    for ack in more {
+        acks.push(ack)?;
+    }
+    Ok(())
+}
+
+// The first refusal that a writer had.
+fn first_refused<B: Group>(writers: &[Writer<B>]) -> Option<Error> {
+    for writer in writers {
+        if writer.refused.is_some() {
+            return writer.refused;
+        }
+    }
+    None
+}
+
+// The seats of all writers in order, with the last one behind them, and what the writers were told.
+fn gather<B: Group>(
+    alloc: Global,
+    writers: Vec<Writer<B>>,
+    last: Seat<B>,
+) -> Result<Gathered<B>, AllocError>
+    ensures seats { IfOk result (λ g. g.seats.items ≡ map (λ w. w.seat) writers.items ++ last ∷ []) }
+    ensures acks { IfOk result (λ g. g.acks.items ≡ flat_map (λ w. w.acks.items) writers.items) }
+    ensures acknowledged { IfOk result (λ g. g.acknowledged.items
+        ≡ flat_map (λ w. w.acknowledged.items) writers.items) }
+{
+    let mut seats = Vec::with_capacity(alloc, writers.len())?;
+    let mut acks = Vec::new(alloc);
+    let mut acknowledged = Vec::new(alloc);
+    for writer in writers {
+        let Writer {
+            seat,
+            acks: more,
+            acknowledged: made,
+            ..
+        } = writer;
+        seats.push(seat)?;
+        add_acks(&mut acks, more)?;
+        acknowledged.extend_from_slice(&made)?;
+    }
+    seats.push(last)?;
+    Ok(Gathered {
+        seats,
+        acks,
+        acknowledged,
+    })
+}
+
+// What is left where the threads could not begin, or where there was no memory for what they left, with what was
+// refused before.
+fn given_up<B: Group, D: Device>(
+    alloc: Global,
+    flush: FlushPart<B, D>,
+    before: Refusals,
+    error: Error,
+) -> Worked<D>
+    ensures { (o : Opened) → KeepsAll D.past_of o result.device result.acknowledged.items }
+{
+    let (device, _) = flush.into_parts();
+    let mut refusals = before;
+    refusals.end = Some(error);
+    Worked {
+        device,
+        acknowledged: Vec::new(alloc),
+        refusals,
+    }
+}
+
+// The device, once all that was made is written out, or why it isn't.
+fn close<B: Group, D: Device, R: Wait>(
+    rt: &R,
+    alloc: Global,
+    shared: Shared<B>,
+    parts: Parts<B, D>,
+    acks: Vec<Ack<B>>,
+) -> (D, Option<Error>)
+    requires seats { AreAllSeats B.site.seats parts.seats.items }
+    ensures some { (image : CrashState) → IsCrashState (D.past_of result.0).disk image
+        → ∥ GivesSome B.site.opened (halves_of parts.flush.writer).geometry parts.seats.items (popped_by parts.flush)
+        (synced_of parts.flush.writer) image ∥₁ }
+    ensures acked { All (λ a. a.ticket.«record» ≤ synced_of parts.flush.writer) acks.items }
+{
+    match finish(rt, alloc, shared, parts, acks) {
+        Ok(closed) => (closed.device, None),
+        Err((error, device)) => (device, Some(error)),
+    }
+}
+
+// The parts of the three loops.
+#[derive(Drop)]
+struct LoopParts<B: Group, D: Device> {
+    flush: FlushPart<B, D>,
+    build: BuildPart<B>,
+    clean: CleanPart<B>,
+}
+
+// Takes back what the writers leave, where these refusals came before.
+fn take_back<B: Group, D: Device + Drop, R: Wait>(
+    rt: &R,
+    alloc: Global,
+    shared: Shared<B>,
+    writers: Vec<Writer<B>>,
+    last: Seat<B>,
+    loops: LoopParts<B, D>,
+    before: Refusals,
+) -> Worked<D>
+    requires seats { AreAllSeats B.site.seats (map (λ w. w.seat) writers.items ++ last ∷ []) }
+    requires told { AllTell (λ w. w.seat) (λ w. w.acks.items) (λ w. w.acknowledged.items) writers.items }
+    ensures { KeepsAll D.past_of B.site.opened result.device result.acknowledged.items }
+{
+    let LoopParts {
+        flush,
+        build,
+        clean,
+    } = loops;
+    let Ok(gathered) = gather(alloc, writers, last) else {
+        return given_up(alloc, flush, before, Error::NoMemory);
+    };
+    let Gathered {
+        seats,
+        acks,
+        acknowledged,
+    } = gathered;
+    let parts = Parts {
+        seats,
+        flush,
+        build,
+        clean,
+    };
+    let (device, end) = close(rt, alloc, shared, parts, acks);
+    let mut refusals = before;
+    refusals.end = end;
+    Worked {
+        device,
+        acknowledged,
+        refusals,
+    }
+}
+
+// What is done once writers and loops have ended.
+fn end<B: Group, D: Device + Drop, R: Wait>(
+    rt: &R,
+    alloc: Global,
+    shared: Shared<B>,
+    ended: Ended<B, D, Vec<Writer<B>>>,
+    last: Seat<B>,
+) -> Worked<D>
+    requires seats { AreAllSeats B.site.seats (map (λ w. w.seat) ended.clients.items ++ last ∷ []) }
+    requires told { AllTell (λ w. w.seat) (λ w. w.acks.items) (λ w. w.acknowledged.items) ended.clients.items }
+    ensures { KeepsAll D.past_of B.site.opened result.device result.acknowledged.items }
+{
+    let Ended {
+        clients,
+        flush,
+        build,
+        clean,
+        flushed,
+        built,
+    } = ended;
+    let refusals = Refusals {
+        writer: first_refused(&clients),
+        flusher: flushed.err(),
+        builder: match built {
+            Err(Error::Stopped) | Ok(_) => None,
+            Err(error) => Some(error),
+        },
+        end: None,
+    };
+    let loops = LoopParts {
+        flush,
+        build,
+        clean,
+    };
+    take_back(rt, alloc, shared, clients, last, loops, refusals)
+}
+
+// Runs the writers and the three loops, each in a thread. Where a thread is wanting, the flusher's part comes back as
+// it was.
+fn run_all<
+    B: Group + Send + Sync,
+    D: Device + Send + Drop,
+    R: Threads + Wait + Clock + Sync,
+    G: Gate + Sync,
+    L: Listener + Sync,
+    E: Write + Send + Drop,
+>(
+    team: Team<'_, R, G, L, E>,
+    shared: &Shared<B>,
+    writers: Vec<Writer<B>>,
+    last: &mut Seat<B>,
+    loops: LoopParts<B, D>,
+) -> Result<Ended<B, D, Vec<Writer<B>>>, FlushPart<B, D>>
+    ensures len { IfOk result (λ e. vec_len e.clients ≡ vec_len writers) }
+    ensures wrote { IfOk result (λ e. (k : ℕ) (w : _) → k < vec_len writers
+        → GoesOn (slice_index_or writers.items k w).seat (slice_index_or writers.items k w).acks.items
+        (slice_index_or writers.items k w).acknowledged.items (slice_index_or e.clients.items k w).seat
+        (slice_index_or e.clients.items k w).acks.items (slice_index_or e.clients.items k w).acknowledged.items) }
+    ensures last { last.new.number ≡ last.old.number }
+{
+    let Team {
+        rt,
+        gate,
+        changes,
+        listener,
+        progress,
+        ..
+    } = team;
+    let LoopParts {
+        flush,
+        build,
+        clean,
+    } = loops;
+    let view = shared.another_view(last);
+    let told = BuilderEnd::new();
+    let builder = &told;
+    let ran = run_beside(
+        rt,
+        shared,
+        flush,
+        build,
+        clean,
+        builder,
+        gate,
+        move || write_and_watch(
+            rt, shared, writers, changes, listener, view, builder, progress,
+        ),
+    );
+    match ran {
+        Ok(ended) => Ok(ended),
+        Err(not_run) => {
+            let NotRun { flush, .. } = not_run;
+            Err(flush)
+        }
+    }
+}
+
+// Prepares the store, lets the threads work, and takes all back that they leave.
+fn work_together<
+    B: Group + Send + Sync,
+    D: Device + Send + Drop,
+    R: Threads + Wait + Clock + Sync,
+    G: Gate + Sync,
+    L: Listener + Sync,
+    E: Write + Send + Drop,
+>(team: Team<'_, R, G, L, E>, shared: Shared<B>, parts: Parts<B, D>) -> Worked<D>
+    requires seats { AreNewSeats B.site.board B.site.seats parts.seats.items }
+    ensures { KeepsAll D.past_of B.site.opened result.device result.acknowledged.items }
+{
+    let rt = team.rt;
+    let alloc = team.alloc;
+    let Parts {
+        mut seats,
+        flush,
+        build,
+        clean,
+    } = parts;
+    let Some(mut last) = seats.pop() else {
+        return given_up(alloc, flush, Refusals::none(), Error::NoMemory);
+    };
+    if let Err(error) = prepare(rt, &shared, &mut last, team.beginning) {
+        return given_up(alloc, flush, Refusals::none(), error);
+    }
+    let Ok(writers) = writers_of(alloc, seats) else {
+        return given_up(alloc, flush, Refusals::none(), Error::NoMemory);
+    };
+    let loops = LoopParts {
+        flush,
+        build,
+        clean,
+    };
+    match run_all(team, &shared, writers, &mut last, loops) {
+        Ok(ended) => end(rt, alloc, shared, ended, last),
+        Err(flush) => given_up(alloc, flush, Refusals::none(), Error::NoMemory),
+    }
+}
+
+// Gives the store its names, and lets the threads work.
+fn begin<
+    B: Group + Send + Sync,
+    D: Device + Send + Drop,
+    R: Threads + Wait + Clock + Sync,
+    G: Gate + Sync,
+    L: Listener + Sync,
+    E: Write + Send + Drop,
+>(store: OpenStore<D>, team: Team<'_, R, G, L, E>) -> Result<Worked<D>, (OpenError, D)>
+    requires names { store.site ≡ B.site }
+    ensures { IfOk result (λ worked. KeepsAll D.past_of B.site.opened worked.device worked.acknowledged.items) }
+{
+    match store.start::<B>() {
+        Ok((shared, parts)) => Ok(work_together(team, shared, parts)),
+        Err((error, device)) => Err((OpenError::Refused(error), device)),
+    }
+}
+
+/// Opens the store on the device, with a seat for each writer and one more, lets the threads work, and takes back what
+/// they leave.
+///
+/// Whatever was refused, the commit of each row that is told as acknowledged is kept by a crash of the device (`kept`).
+pub fn work_on<
+    D: Device + Send + Drop,
+    R: Threads + Wait + Clock + Sync,
+    G: Gate + Sync,
+    L: Listener + Sync,
+    E: Write + Send + Drop,
+>(device: D, writers: u8, team: Team<'_, R, G, L, E>) -> Result<Worked<D>, (OpenError, D)>
+    ensures kept { IfOk result (λ worked. (o : Opened) × Opens (D.past_of device).disk.content o
+        × KeepsAll D.past_of o worked.device worked.acknowledged.items) }
+{
+    let seats = usize::from(writers) + 1;
+    match open_store(team.alloc, device, seats) {
+        Ok(store) => begin::<Brand, D, R, G, L, E>(store, team),
+        Err(refused) => Err(refused),
+    }
+}

@@ -1,0 +1,12 @@
+use Rattle.std.proofs.Common.{subst}
+use Rattle.model.specs.declared.life.Life.{Life}
+use Rattle.program_player.specs.Runs.{Prints}
+use Rattle.program_values.specs.declared.answer.Answer.TheVariants.{Restart}
+use Rattle.program_player.proofs.program.crash.Goals as goal
+
+pub returns-in_ok-print-in-Ok : goal.returns-in_ok-print-in-Ok
+returns-in_ok-print-in-Ok g c = (
+  c.in-Ok.ensures.survives,
+  c.in-Ok.ensures.crashed,
+  subst (λ (life : Life). Prints g.W.Write.contents (Restart life) c.args.output.now c.print.new.output) c.life.ensures c.in_ok-print-in-Ok.ensures,
+)

@@ -1,0 +1,5 @@
+use Rattle.std.proofs.Common.{rules}
+use Rattle.program_script.proofs.byte_text.ByteTextPartialEq.eq.Goals as goal
+
+pub returns : goal.returns
+returns c = search rules

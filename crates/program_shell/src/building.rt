@@ -1,0 +1,124 @@
+//! The index of a store is built to its end, or anew.
+use crate::refused::{Refused, granted};
+use model::Life;
+use nsf_core::BuildReply;
+use program_commands::Store;
+use program_words::Build;
+use records::Error;
+use restart::{Event, Reply};
+use sector_device::Device;
+use std::io::Write;
+
+// How many steps of the builder lie between two flushes.
+const STEPS: u32 = 64;
+
+// What a step of the builder came to.
+#[derive(Clone, Copy, Debug, PartialEq, Eq)]
+enum Step {
+    /// The index is complete.
+    Complete,
+    /// A pair was attempted.
+    Attempted,
+    /// A page was taken, or a checkpoint made.
+    Other,
+}
+
+// Makes a step of the builder.
+fn build_step<D: Device>(store: &mut Store<D>) -> Result<Step, Refused> {
+    match store.serve(Event::Build) {
+        Reply::Built(BuildReply::Done(_)) | Reply::Built(BuildReply::Idle) => Ok(Step::Complete),
+        Reply::Built(BuildReply::Placed(_)) | Reply::Built(BuildReply::Rejected(_)) => {
+            Ok(Step::Attempted)
+        }
+        Reply::Refused(error) => Err(Refused::Store(error)),
+        _ => Ok(Step::Other),
+    }
+}
+
+// Makes some steps of the builder, and tells whether the index is complete, and how many pairs were attempted.
+fn build_some<D: Device>(store: &mut Store<D>) -> Result<(bool, u64), Refused> {
+    let mut attempts: u64 = 0;
+    for _ in 0..STEPS {
+        match build_step(store)? {
+            Step::Complete => return Ok((true, attempts)),
+            Step::Attempted => attempts = attempts.saturating_add(1),
+            Step::Other => {}
+        }
+    }
+    Ok((false, attempts))
+}
+
+// Shows how many pairs were attempted, over the line before, where that can be.
+fn show<E: Write>(attempts: u64, errors: &mut E) {
+    let _ = write!(errors, "\rpairs attempted: {attempts}");
+}
+
+// Builds the index to its end, flushing as it goes, and shows the count of attempts where that is wanted.
+fn build_on<D: Device, E: Write>(
+    store: &mut Store<D>,
+    shows_progress: bool,
+    errors: &mut E,
+) -> Result<u64, Refused> {
+    let mut attempts: u64 = 0;
+    for _ in 0..u64::MAX {
+        let (is_complete, more) = build_some(store)?;
+        attempts = attempts.saturating_add(more);
+        granted(store.flush())?;
+        if shows_progress {
+            show(attempts, errors);
+        }
+        if is_complete {
+            break;
+        }
+    }
+    Ok(attempts)
+}
+
+// Drops the index, if there is one, and creates it anew. No transaction is active right behind an opening.
+fn renew<D: Device>(store: &mut Store<D>) -> Result<(), Refused> {
+    if store.life() != Life::Absent {
+        granted(store.serve(Event::Drop))?;
+    }
+    granted(store.serve(Event::Create))
+}
+
+// What is told where the index has no free place for a further entry.
+fn full(build: Build) -> Refused {
+    if build.is_anew {
+        Refused::SmallIndex
+    } else {
+        Refused::FullIndex
+    }
+}
+
+// Makes the index anew, if that is wanted; or answers what hinders a build.
+fn prepare<D: Device>(store: &mut Store<D>, build: Build) -> Result<(), Refused> {
+    if !store.core().can_open() {
+        return Err(Refused::Unsound);
+    }
+    if build.is_anew {
+        return renew(store);
+    }
+    if store.life() == Life::Absent {
+        return Err(Refused::NoIndex);
+    }
+    Ok(())
+}
+
+/// Builds the index to its end, and answers how many pairs were attempted. What is shown of that stands on a line of
+/// its own.
+pub fn build_index<D: Device, E: Write>(
+    store: &mut Store<D>,
+    build: Build,
+    errors: &mut E,
+) -> Result<u64, Refused> {
+    prepare(store, build)?;
+    let built = build_on(store, build.shows_progress, errors);
+    if build.shows_progress {
+        let _ = writeln!(errors);
+    }
+    match built {
+        Err(Refused::Store(Error::IndexFull)) => Err(full(build)),
+        built => built,
+    }
+}

@@ -1,0 +1,286 @@
+//! The verbs of the program.
+use crate::building::build_index;
+use crate::migration::{NotMoved, migrate_file};
+use crate::refused::Refused;
+use crate::serve::Service;
+use crate::show::{Stored, write_stat};
+use flip_image::Halves;
+use program_commands::Store;
+use program_words::{Asked, Build, Verb, read};
+use records::Geometry;
+use sector_device::Device;
+use std::alloc::Global;
+use std::convert::AsStr;
+use std::fs::File;
+use std::io;
+use std::io::{BufRead, Write};
+use std::rt::Files;
+use store_file::Troubled;
+use store_reader::read_store;
+
+// A store on the disk, opened.
+fn open<D: Device + Troubled + Drop>(alloc: Global, disk: D) -> Result<Store<D>, Refused> {
+    match Store::open(alloc, disk) {
+        Ok(store) => Ok(store),
+        Err((error, disk)) => Err(Refused::Store(error).because(&disk)),
+    }
+}
+
+// What the disk itself says.
+fn read_disk<D: Device>(alloc: Global, disk: &mut D) -> Result<Stored, Refused> {
+    let found = read_store(alloc, disk)?;
+    let open_slots = found.log.open_slots();
+    let restored = found.restored;
+    Ok(Stored {
+        geometry: restored.geometry,
+        open_slots,
+        last: restored.last,
+    })
+}
+
+// What the disk itself says, and its store.
+fn read_and_open<D: Device + Troubled + Drop>(
+    alloc: Global,
+    mut disk: D,
+) -> Result<(Stored, Store<D>), Refused> {
+    let stored = read_disk(alloc, &mut disk)?;
+    Ok((stored, open(alloc, disk)?))
+}
+
+// Makes the disk a store, and gives its file its name.
+fn finish<R: Files<File = File> + AllocGlobal, D: Device + Troubled + Drop>(
+    rt: &R,
+    path: &str,
+    geometry: Geometry,
+    mut disk: D,
+) -> Result<(), Refused> {
+    if let Err(error) = Halves::format(&mut disk, geometry) {
+        return Err(Refused::Store(error).because(&disk));
+    }
+    store_file::publish(rt, path)?;
+    Ok(())
+}
+
+// Makes a store of this geometry in a new file. Where that is refused before the file has its name, no file is left, if
+// the draft can be removed.
+fn make<R: Files<File = File> + AllocGlobal>(
+    rt: &R,
+    path: &str,
+    geometry: Geometry,
+) -> Result<(), Refused> {
+    let disk = store_file::create(rt, rt.alloc(), path, geometry.sectors())?;
+    let made = finish(rt, path, geometry, disk);
+    if made.is_err() {
+        let _ = store_file::discard(rt, path);
+    }
+    made
+}
+
+// What follows does one verb on a disk, and then on that of a file: what a file is, is behind none of the store's own
+// calls.
+
+// Builds the index on the disk to its end.
+fn build_disk<D: Device + Troubled + Drop, W: Write, E: Write>(
+    alloc: Global,
+    disk: D,
+    build: Build,
+    output: &mut W,
+    errors: &mut E,
+) -> Result<(), Refused> {
+    let mut store = open(alloc, disk)?;
+    let attempts = match build_index(&mut store, build, errors) {
+        Ok(attempts) => attempts,
+        Err(refused) => return Err(refused.because(store.device())),
+    };
+    writeln!(output, "complete, {attempts} pairs attempted")?;
+    Ok(())
+}
+
+fn build_file<R: Files<File = File>, W: Write, E: Write>(
+    rt: &R,
+    alloc: Global,
+    path: &str,
+    build: Build,
+    output: &mut W,
+    errors: &mut E,
+) -> Result<(), Refused> {
+    let disk = store_file::open(rt, alloc, path)?;
+    build_disk(alloc, disk, build, output, errors)
+}
+
+// Says whether the disk holds a store, whose index fits its rows.
+fn check_disk<D: Device + Troubled + Drop, W: Write>(
+    alloc: Global,
+    disk: D,
+    output: &mut W,
+) -> Result<(), Refused> {
+    let (_, store) = read_and_open(alloc, disk)?;
+    if !store.core().can_open() {
+        return Err(Refused::Unsound);
+    }
+    writeln!(output, "sound")?;
+    Ok(())
+}
+
+fn check_file<R: Files<File = File>, W: Write>(
+    rt: &R,
+    alloc: Global,
+    path: &str,
+    output: &mut W,
+) -> Result<(), Refused> {
+    check_disk(alloc, store_file::read(rt, alloc, path)?, output)
+}
+
+// Prints what the store on the disk holds.
+fn dump_disk<D: Device + Troubled + Drop, W: Write>(
+    alloc: Global,
+    disk: D,
+    output: &mut W,
+) -> Result<(), Refused> {
+    let (_, store) = read_and_open(alloc, disk)?;
+    Ok(store.dump(output)?)
+}
+
+fn dump_file<R: Files<File = File>, W: Write>(
+    rt: &R,
+    alloc: Global,
+    path: &str,
+    output: &mut W,
+) -> Result<(), Refused> {
+    dump_disk(alloc, store_file::read(rt, alloc, path)?, output)
+}
+
+// Prints what the store on the disk is, and how far it has come.
+fn stat_disk<D: Device + Troubled + Drop, W: Write>(
+    alloc: Global,
+    disk: D,
+    output: &mut W,
+) -> Result<(), Refused> {
+    let (stored, store) = read_and_open(alloc, disk)?;
+    Ok(write_stat(&stored, store.core(), output)?)
+}
+
+fn stat_file<R: Files<File = File>, W: Write>(
+    rt: &R,
+    alloc: Global,
+    path: &str,
+    output: &mut W,
+) -> Result<(), Refused> {
+    stat_disk(alloc, store_file::read(rt, alloc, path)?, output)
+}
+
+// Serves the input over the store on the disk, and tells whether each line was one of a script. Behind the last line
+// what is not flushed yet is flushed.
+fn run_disk<D: Device + Troubled + Drop, I: BufRead, W: Write, E: Write>(
+    alloc: Global,
+    disk: D,
+    is_durable: bool,
+    input: &mut I,
+    output: &mut W,
+    errors: &mut E,
+) -> Result<bool, Refused> {
+    let mut service = Service::new(open(alloc, disk)?, is_durable);
+    let served = service.serve_lines(alloc, input, output, errors);
+    service.flush()?;
+    Ok(served?)
+}
+
+fn run_file<R: Files<File = File>, I: BufRead, W: Write, E: Write>(
+    rt: &R,
+    alloc: Global,
+    path: &str,
+    is_durable: bool,
+    input: &mut I,
+    output: &mut W,
+    errors: &mut E,
+) -> Result<bool, Refused> {
+    let disk = store_file::open(rt, alloc, path)?;
+    run_disk(alloc, disk, is_durable, input, output, errors)
+}
+
+// Does what is asked for, and tells whether nothing was refused.
+fn act<R: Files<File = File> + AllocGlobal, I: BufRead, W: Write, E: Write>(
+    rt: &R,
+    path: &str,
+    verb: Verb,
+    input: &mut I,
+    output: &mut W,
+    errors: &mut E,
+) -> Result<bool, Refused> {
+    let alloc = rt.alloc();
+    match verb {
+        Verb::New {
+            pages,
+            entries,
+            slots,
+        } => make(rt, path, Geometry::new(pages, entries, slots)?)?,
+        Verb::Run { is_durable } => {
+            return run_file(rt, alloc, path, is_durable, input, output, errors);
+        }
+        Verb::Check => check_file(rt, alloc, path, output)?,
+        Verb::Dump => dump_file(rt, alloc, path, output)?,
+        Verb::Stat => stat_file(rt, alloc, path, output)?,
+        Verb::Build(build) => build_file(rt, alloc, path, build, output, errors)?,
+    }
+    Ok(true)
+}
+
+// Moves the store in the old file to the new one, and prints what that is.
+fn move_and_stat<R: Files<File = File> + AllocGlobal, W: Write>(
+    rt: &R,
+    old: &str,
+    new: &str,
+    output: &mut W,
+) -> Result<(), NotMoved> {
+    migrate_file(rt, old, new)?;
+    match stat_file(rt, rt.alloc(), new, output) {
+        Ok(()) => Ok(()),
+        Err(refused) => Err(NotMoved::New(refused)),
+    }
+}
+
+// Tells why the file was refused, and answers the exit status for that.
+fn tell<E: Write>(path: &str, refused: &Refused, errors: &mut E) -> u8 {
+    let _ = writeln!(errors, "nsf-store: {path}: {refused}");
+    1
+}
+
+// Does what is asked for, and answers the exit status.
+fn answer<R: Files<File = File> + AllocGlobal, I: BufRead, W: Write, E: Write>(
+    rt: &R,
+    asked: &Asked,
+    input: &mut I,
+    output: &mut W,
+    errors: &mut E,
+) -> u8 {
+    match asked {
+        Asked::Of { path, verb } => match act(rt, path.as_str(), *verb, input, output, errors) {
+            Ok(true) => 0,
+            Ok(false) => 1,
+            Err(refused) => tell(path.as_str(), &refused, errors),
+        },
+        Asked::Migrate { old, new } => {
+            match move_and_stat(rt, old.as_str(), new.as_str(), output) {
+                Ok(()) => 0,
+                Err(NotMoved::Old(refused)) => tell(old.as_str(), &refused, errors),
+                Err(NotMoved::New(refused)) => tell(new.as_str(), &refused, errors),
+            }
+        }
+    }
+}
+
+/// Runs the program on these words, the first of which is its own name, and answers its exit status: 0 where what they
+/// ask for was done, refused commands included; 1 where the file or the store was refused, of which the error stream
+/// says why, or a line of the input was no command; 2 for bad words.
+pub fn run<R: Files<File = File> + AllocGlobal, S: AsStr, I: BufRead, W: Write, E: Write>(
+    rt: &R,
+    words: &[S],
+    input: &mut I,
+    output: &mut W,
+    errors: &mut E,
+) -> u8 {
+    match read(rt.alloc(), words, output, errors) {
+        Ok(asked) => answer(rt, &asked, input, output, errors),
+        Err(status) => status,
+    }
+}

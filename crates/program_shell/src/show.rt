@@ -1,0 +1,94 @@
+//! What a store is, and how far it has come.
+use flip_image::VERSION;
+use model::Life;
+use nsf_core::Core;
+use program_values::Answer;
+use records::{Geometry, Mark, Pair, Rid, SLOTS_PER_PAGE};
+use std::alloc::Global;
+use std::io;
+use std::io::Write;
+
+/// What the file itself says, before the store is opened.
+#[derive(Clone, Copy, Debug, PartialEq, Eq)]
+pub struct Stored {
+    pub geometry: Geometry,
+    /// The slots of the log that hold records behind the last image.
+    pub open_slots: u64,
+    /// The number of the last record.
+    pub last: u64,
+}
+
+// How many rows there are.
+fn rows_in(core: &Core<Global>) -> u64 {
+    let mut rows: u64 = 0;
+    for page in 0..core.pages() {
+        for slot in 0..SLOTS_PER_PAGE {
+            if core.get(Rid { page, slot }).is_some() {
+                rows = rows.saturating_add(1);
+            }
+        }
+    }
+    rows
+}
+
+// How many entries are live, and how many marked.
+fn entries_in(core: &Core<Global>) -> (u64, u64) {
+    let (mut live, mut marked): (u64, u64) = (0, 0);
+    let mut last: Option<Pair> = None;
+    for _ in 0..u32::MAX {
+        let Some((pair, mark)) = core.above(last.as_ref()) else {
+            break;
+        };
+        match mark {
+            Mark::Live => live = live.saturating_add(1),
+            Mark::Marked => marked = marked.saturating_add(1),
+        }
+        last = Some(pair);
+    }
+    (live, marked)
+}
+
+fn write_life<W: Write>(life: Life, output: &mut W) -> io::Result<()> {
+    let answer = Answer::Life(life);
+    writeln!(output, "{answer}")
+}
+
+// Prints how large the store is.
+fn write_geometry<W: Write>(geometry: Geometry, output: &mut W) -> io::Result<()> {
+    let Geometry {
+        pages,
+        entries,
+        slots,
+    } = geometry;
+    let version = VERSION;
+    writeln!(output, "format {version}")?;
+    writeln!(output, "pages {pages}")?;
+    writeln!(output, "entries {entries}")?;
+    writeln!(output, "slots {slots}")
+}
+
+// Prints how many rows and entries there are, and how many of the index's places are free. No transaction is active
+// behind an opening, so none is reserved.
+fn write_counts<W: Write>(core: &Core<Global>, places: u32, output: &mut W) -> io::Result<()> {
+    let rows = rows_in(core);
+    let (live, marked) = entries_in(core);
+    let free = u64::from(places).saturating_sub(live.saturating_add(marked));
+    writeln!(output, "rows {rows}")?;
+    writeln!(output, "live {live}")?;
+    writeln!(output, "marked {marked}")?;
+    writeln!(output, "reserved 0")?;
+    writeln!(output, "free {free}")
+}
+
+/// Prints what is told of the store, a line each.
+pub fn write_stat<W: Write>(
+    stored: &Stored,
+    core: &Core<Global>,
+    output: &mut W,
+) -> io::Result<()> {
+    write_geometry(stored.geometry, output)?;
+    writeln!(output, "slots in use {}", stored.open_slots)?;
+    writeln!(output, "last record {}", stored.last)?;
+    write_life(core.life(), output)?;
+    write_counts(core, stored.geometry.entries, output)
+}

@@ -1,0 +1,291 @@
+//! What the words of the program ask for.
+use clap::error::ErrorKind;
+use clap::{Arg, ArgAction, ArgMatches, Command, Error, value_parser};
+use records::{ENTRIES_MAX, ENTRIES_MIN, LOG_SLOTS_MAX, LOG_SLOTS_MIN, PAGES_MAX, SLOTS_PER_PAGE};
+use std::alloc::{AllocError, Global};
+use std::convert::AsStr;
+use std::io::Write;
+
+// How many places for entries there are for each row, where nothing else is asked for.
+const ENTRIES_PER_ROW: u32 = 4;
+
+/// How an index is to be built.
+#[derive(Clone, Copy, Debug, PartialEq, Eq)]
+pub struct Build {
+    /// Whether it is dropped before, if there is one, and created.
+    pub is_anew: bool,
+    /// Whether the count of attempts is shown.
+    pub shows_progress: bool,
+}
+
+/// What is to be done with the file.
+#[derive(Clone, Copy, Debug, PartialEq, Eq)]
+pub enum Verb {
+    /// A store of this geometry is made in it.
+    New {
+        pages: u32,
+        entries: u32,
+        slots: u32,
+    },
+    /// The commands of the input are served; each commit is flushed before its answer where it is to be durable.
+    Run {
+        is_durable: bool,
+    },
+    /// It is read, and what is wrong with it is said.
+    Check,
+    /// Its rows and entries are printed.
+    Dump,
+    /// What it is and how far it has come is printed.
+    Stat,
+    /// The index is built to its end, or dropped, created and built anew.
+    Build(Build),
+}
+
+/// What is asked for.
+#[derive(Drop)]
+pub enum Asked {
+    /// Something is done with the file of this path.
+    Of { path: String, verb: Verb },
+    /// The store of version 1 in a file is moved to a new file.
+    Migrate { old: String, new: String },
+}
+
+const ABOUT: &str =
+    "Keeps a table with an index in a file. The index is built while the table is written
+
+Exit status: 0 where it was done, refused commands included; 1 where the file or the store was refused, told on the error stream, or a line was no command, told in its place; 2 for bad words";
+
+const NEW_ABOUT: &str = "Makes a store in a new file";
+
+const RUN_ABOUT: &str =
+    "Serves the commands of the input, each of which is answered before the next is read";
+
+const CHECK_ABOUT: &str = "Reads the file alone, and says `sound`, or what is wrong with it";
+
+const DUMP_ABOUT: &str = "Prints each row, each entry of the index, and how far that is";
+
+const STAT_ABOUT: &str = "Prints what the store is and how far it has come";
+
+const BUILD_ABOUT: &str = "Builds the index to its end";
+
+const MIGRATE_ABOUT: &str =
+    "Moves a store of version 1 to a new file, and prints what `stat` does of it. The old file is only read";
+
+const PAGES_HELP: &str = "Pages of the table, 1 to 256 [default: 16]";
+
+const ENTRIES_HELP: &str =
+    "Places for entries of the index, 64 to 65536 [default: four for each row that the pages hold]";
+
+const SLOTS_HELP: &str = "Slots of each log, 4 to 256 [default: 16]";
+
+const DURABLE_HELP: &str =
+    "Flushes each commit before its ticket is answered, and its horizon behind that: no kill loses a commit that was answered";
+
+const AGAIN_HELP: &str =
+    "Drops the index before, if there is one, and creates it anew: the way out where it is full";
+
+const PROGRESS_HELP: &str =
+    "Shows on the error stream how many pairs were attempted, also where that is no terminal";
+
+// Each of these hands on one call alone, so that what follows has no more to read than it needs.
+
+fn with_arg<'a>(command: Command<'a>, arg: Arg<'a>) -> Result<Command<'a>, AllocError> {
+    command.arg(arg)
+}
+
+fn with_verb<'a>(command: Command<'a>, verb: Command<'a>) -> Result<Command<'a>, AllocError> {
+    command.subcommand(verb)
+}
+
+fn path_arg<'a>(alloc: Global, name: &'a str, help: &'a str) -> Arg<'a> {
+    Arg::new(alloc, name).required(true).help(help)
+}
+
+fn flag_arg<'a>(alloc: Global, name: &'a str, help: &'a str) -> Arg<'a> {
+    Arg::new(alloc, name)
+        .long(name)
+        .action(ArgAction::SetTrue)
+        .help(help)
+}
+
+fn number_arg<'a>(alloc: Global, name: &'a str, least: u32, most: u32, help: &'a str) -> Arg<'a> {
+    let range = value_parser!(u32).range(i64::from(least)..=i64::from(most));
+    Arg::new(alloc, name)
+        .long(name)
+        .value_name("N")
+        .value_parser(range)
+        .help(help)
+}
+
+fn bare_verb<'a>(alloc: Global, name: &'a str, about: &'a str) -> Command<'a> {
+    Command::new(alloc, name).about(about)
+}
+
+fn program<'a>(alloc: Global) -> Result<Command<'a>, AllocError> {
+    Command::new(alloc, "nsf-store")
+        .about(ABOUT)
+        .version("0.1.0")
+        .subcommand_required(true)
+        .bin_name("nsf-store")
+}
+
+fn verb_with_file<'a>(
+    alloc: Global,
+    name: &'a str,
+    about: &'a str,
+) -> Result<Command<'a>, AllocError> {
+    let file = path_arg(alloc, "FILE", "The store's file");
+    with_arg(bare_verb(alloc, name, about), file)
+}
+
+fn new_verb<'a>(alloc: Global) -> Result<Command<'a>, AllocError> {
+    let verb = verb_with_file(alloc, "new", NEW_ABOUT)?;
+    let pages = number_arg(alloc, "pages", 1, PAGES_MAX, PAGES_HELP);
+    let verb = with_arg(verb, pages)?;
+    let entries = number_arg(alloc, "entries", ENTRIES_MIN, ENTRIES_MAX, ENTRIES_HELP);
+    let verb = with_arg(verb, entries)?;
+    let slots = number_arg(alloc, "slots", LOG_SLOTS_MIN, LOG_SLOTS_MAX, SLOTS_HELP);
+    with_arg(verb, slots)
+}
+
+fn run_verb<'a>(alloc: Global) -> Result<Command<'a>, AllocError> {
+    let verb = verb_with_file(alloc, "run", RUN_ABOUT)?;
+    with_arg(verb, flag_arg(alloc, "durable", DURABLE_HELP))
+}
+
+fn build_verb<'a>(alloc: Global) -> Result<Command<'a>, AllocError> {
+    let verb = verb_with_file(alloc, "build", BUILD_ABOUT)?;
+    let verb = with_arg(verb, flag_arg(alloc, "again", AGAIN_HELP))?;
+    with_arg(verb, flag_arg(alloc, "progress", PROGRESS_HELP))
+}
+
+fn migrate_verb<'a>(alloc: Global) -> Result<Command<'a>, AllocError> {
+    let verb = bare_verb(alloc, "migrate", MIGRATE_ABOUT);
+    let old = path_arg(alloc, "OLD", "The file of the store of version 1");
+    let verb = with_arg(verb, old)?;
+    with_arg(verb, path_arg(alloc, "NEW", "The file that is made"))
+}
+
+fn command<'a>(alloc: Global) -> Result<Command<'a>, AllocError> {
+    let all = with_verb(program(alloc)?, new_verb(alloc)?)?;
+    let all = with_verb(all, run_verb(alloc)?)?;
+    let all = with_verb(all, verb_with_file(alloc, "check", CHECK_ABOUT)?)?;
+    let all = with_verb(all, verb_with_file(alloc, "dump", DUMP_ABOUT)?)?;
+    let all = with_verb(all, verb_with_file(alloc, "stat", STAT_ABOUT)?)?;
+    let all = with_verb(all, build_verb(alloc)?)?;
+    with_verb(all, migrate_verb(alloc)?)
+}
+
+fn number_in(matches: &ArgMatches<'_>, name: &str, default: u32) -> u32 {
+    matches.get_one::<u32>(name).unwrap_or(default)
+}
+
+// As many entries as a store of so many pages is given where nothing else is asked for.
+fn entries_for(pages: u32) -> u32 {
+    pages
+        .saturating_mul(u32::from(SLOTS_PER_PAGE))
+        .saturating_mul(ENTRIES_PER_ROW)
+        .clamp(ENTRIES_MIN, ENTRIES_MAX)
+}
+
+fn new_of(matches: &ArgMatches<'_>) -> Verb {
+    let pages = number_in(matches, "pages", 16);
+    Verb::New {
+        pages,
+        entries: number_in(matches, "entries", entries_for(pages)),
+        slots: number_in(matches, "slots", 16),
+    }
+}
+
+fn run_of(matches: &ArgMatches<'_>) -> Verb {
+    Verb::Run {
+        is_durable: matches.get_flag("durable"),
+    }
+}
+
+fn build_of(matches: &ArgMatches<'_>) -> Verb {
+    Verb::Build(Build {
+        is_anew: matches.get_flag("again"),
+        shows_progress: matches.get_flag("progress"),
+    })
+}
+
+// The verb of this name; each but the last has a name of its own.
+fn verb_of(name: &str, matches: &ArgMatches<'_>) -> Verb {
+    match name {
+        "new" => new_of(matches),
+        "run" => run_of(matches),
+        "check" => Verb::Check,
+        "dump" => Verb::Dump,
+        "stat" => Verb::Stat,
+        _ => build_of(matches),
+    }
+}
+
+// The path that was given under this name.
+fn path_in(alloc: Global, matches: &ArgMatches<'_>, name: &str) -> Result<String, AllocError> {
+    String::from_str(alloc, matches.get_str(name).unwrap_or(""))
+}
+
+// What is asked for by the verb of this name.
+fn asked_by(alloc: Global, name: &str, matches: &ArgMatches<'_>) -> Result<Asked, AllocError> {
+    if name == "migrate" {
+        return Ok(Asked::Migrate {
+            old: path_in(alloc, matches, "OLD")?,
+            new: path_in(alloc, matches, "NEW")?,
+        });
+    }
+    Ok(Asked::Of {
+        path: path_in(alloc, matches, "FILE")?,
+        verb: verb_of(name, matches),
+    })
+}
+
+// What was found in the words.
+fn asked_of(alloc: Global, matches: &ArgMatches<'_>) -> Result<Asked, AllocError> {
+    match matches.subcommand() {
+        Some((name, given)) => asked_by(alloc, name, given),
+        None => Err(AllocError),
+    }
+}
+
+// What the words ask for, or what is said in place of it.
+fn asked_in<S: AsStr>(alloc: Global, words: &[S]) -> Result<Asked, Error> {
+    let matches = command(alloc)?.try_get_matches_from(words)?;
+    Ok(asked_of(alloc, &matches)?)
+}
+
+// Whether this is asked for, and so no fault.
+fn is_wanted(error: &Error) -> bool {
+    match error.kind() {
+        ErrorKind::DisplayHelp | ErrorKind::DisplayVersion => true,
+        _ => false,
+    }
+}
+
+// Says what is said in place of an answer, and answers the exit status.
+fn say<W: Write, E: Write>(error: &Error, output: &mut W, errors: &mut E) -> u8 {
+    if !is_wanted(error) {
+        let _ = write!(errors, "{error}");
+        return 2;
+    }
+    match write!(output, "{error}") {
+        Ok(()) => 0,
+        Err(_) => 1,
+    }
+}
+
+/// What the words ask for, the first of which is the program's own name. Or what there is to say in place of it is
+/// said, and the exit status answered: 0 for help and version, on the output, or 1 where that can't be written; 2 for
+/// bad words, on the error stream.
+pub fn read<S: AsStr, W: Write, E: Write>(
+    alloc: Global,
+    words: &[S],
+    output: &mut W,
+    errors: &mut E,
+) -> Result<Asked, u8> {
+    match asked_in(alloc, words) {
+        Ok(asked) => Ok(asked),
+        Err(error) => Err(say(&error, output, errors)),
+    }
+}

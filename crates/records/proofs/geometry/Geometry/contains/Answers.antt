@@ -1,5 +1,0 @@
-use Rattle.std.proofs.Common.{rules}
-use Rattle.records.proofs.geometry.Geometry.contains.Goals as goal
-
-pub returns : goal.returns
-returns c = search rules

@@ -1,8 +1,0 @@
-use Rattle.std.proofs.Common.{rules}
-use Rattle.records.proofs.number.RecordNumber.get.Goals as goal
-
-pub returns-clause-value : goal.returns-clause-value
-returns-clause-value c = search rules
-
-pub returns-clause-first : goal.returns-clause-first
-returns-clause-first c = search rules

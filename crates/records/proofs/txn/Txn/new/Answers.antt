@@ -1,5 +1,0 @@
-use Rattle.std.proofs.Common.{rules}
-use Rattle.records.proofs.txn.Txn.new.Goals as goal
-
-pub returns-else-number-eq0-clause-value : goal.returns-else-number-eq0-clause-value
-returns-else-number-eq0-clause-value c = search rules

@@ -1,2 +1,0 @@
-mod Filled
-mod Records

@@ -1,5 +1,0 @@
-use Rattle.std.proofs.Common.{rules}
-use Rattle.redo.proofs.image_cells.ImageCellsCellSink.set_life.Goals as goal
-
-pub returns : goal.returns
-returns g c = search rules

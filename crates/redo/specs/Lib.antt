@@ -1,2 +1,0 @@
-pub mod Store
-pub mod Restored

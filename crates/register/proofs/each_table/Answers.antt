@@ -1,5 +1,0 @@
-use Rattle.register.proofs.Sights.{tables}
-use Rattle.register.proofs.each_table.Goals as goal
-
-pub returns : goal.returns
-returns c = tables

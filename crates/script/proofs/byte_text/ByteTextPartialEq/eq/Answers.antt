@@ -1,5 +1,0 @@
-use Rattle.std.proofs.Common.{rules}
-use Rattle.script.proofs.byte_text.ByteTextPartialEq.eq.Goals as goal
-
-pub returns : goal.returns
-returns c = search rules

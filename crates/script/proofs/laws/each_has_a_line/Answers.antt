@@ -1,5 +1,0 @@
-use Rattle.script.proofs.Writing.{line_of}
-use Rattle.script.proofs.laws.each_has_a_line.Goals as goal
-
-pub returns : goal.returns
-returns c = line_of

@@ -1,7 +1,0 @@
-use Rattle.std.proofs.Common.{rules}
-use Rattle.script.specs.Reading.{insert_at}
-use Rattle.script.proofs.line.insert_of.Goals as goal
-
-pub returns : goal.returns
-unfolding insert_at
-returns c = search rules

@@ -1,5 +1,0 @@
-use Rattle.std.proofs.Common.{rules}
-use Rattle.serving.proofs.guarded.GuardedStore.is_too_late.Goals as goal
-
-pub returns-in-Commit : goal.returns-in-Commit
-returns-in-Commit g c = search rules

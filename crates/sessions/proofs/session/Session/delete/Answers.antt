@@ -1,5 +1,0 @@
-use Rattle.std.proofs.Common.{rules}
-use Rattle.sessions.proofs.session.Session.delete.Goals as goal
-
-pub returns-clause-served : goal.returns-clause-served
-returns-clause-served g c = search rules

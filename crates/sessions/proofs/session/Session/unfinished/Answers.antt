@@ -1,5 +1,0 @@
-use Rattle.std.proofs.Common.{rules}
-use Rattle.sessions.proofs.session.Session.unfinished.Goals as goal
-
-pub returns-in-Some : goal.returns-in-Some
-returns-in-Some g c = search rules

@@ -1,0 +1,2 @@
+mod Mirrors
+mod Holding

@@ -1,0 +1,103 @@
+//! A disk over a file is opened.
+ghost use Rattle.std.specs.Prelude.{◌≡◌, ◌+◌, ◌^◌, ◌<◌, IfOk};
+ghost use Rattle.sector_device.specs.Disk.{IsSynced};
+ghost use Rattle.store_file.specs.FileDisk.{past_of, failures_of};
+
+use crate::backing::Detached;
+use crate::draft::SECTORS_MAX;
+use crate::error::OpenError;
+use crate::host::{Held, HostFile, StoreFile};
+use crate::mirror::FileDisk;
+use crate::names::{draft_of, has_both, refuse_other, sync_folder};
+use sector_device::SECTOR_SIZE;
+use std::alloc::Allocator;
+use std::fs;
+use std::fs::{OpenFile, OpenOptions};
+use std::rt::Files;
+
+// How many sectors a file of this length has.
+fn sectors_in(length: u64) -> Result<u64, OpenError>
+    ensures { IfOk result (λ n. n < 2 ^ 20 + 1) }
+{
+    let sectors = length / SECTOR_SIZE as u64;
+    if length % SECTOR_SIZE as u64 != 0 || sectors == 0 || sectors > SECTORS_MAX {
+        return Err(OpenError::BadLength(length));
+    }
+    Ok(sectors)
+}
+
+// Ends a publication that was cut off, behind which the file has the name of its draft too.
+fn remove_draft<R: Files, A: Allocator>(rt: &R, alloc: &A, path: &str) -> Result<(), OpenError> {
+    let draft = draft_of(alloc, path)?;
+    fs::remove_file(rt, draft.as_str())?;
+    sync_folder(rt, path)?;
+    Ok(())
+}
+
+/// A disk over the file at the path, which holds what the file does, all of it safe: what was read is written back, and
+/// synced, as the file may show what no device holds, after a sync that failed. The file is locked until the disk is
+/// dropped: an advisory lock, which goes with the process.
+///
+/// `Busy` where another process has it open, `NotAFile` and `Linked` where the path names no regular file, a link, or
+/// one of several names of a file, `BadLength` where its length is no number of sectors from 1 to 2^20.
+pub fn open<R: Files, A: Allocator>(
+    rt: &R,
+    alloc: A,
+    path: &str,
+) -> Result<FileDisk<HostFile<R::File>, A>, OpenError>
+where
+    R::File: StoreFile,
+    ensures synced { IfOk result (λ d. IsSynced (past_of d).disk) }
+    ensures failures { IfOk result (λ d. failures_of d ≡ 0) }
+{
+    refuse_other(rt, path)?;
+    let opened = OpenOptions::new().read(true).write(true).open(rt, path)?;
+    let file = opened.apart()?;
+    file.try_lock()?;
+    if has_both(rt, &alloc, &file, path)? {
+        remove_draft(rt, &alloc, path)?;
+    }
+    let length = file.metadata()?.len();
+    let below = HostFile {
+        file,
+        length,
+        trouble: None,
+    };
+    FileDisk::over(alloc, below, sectors_in(length)? as usize)
+}
+
+/// A disk in memory that holds what the file at the path does. What is written to it never reaches the file, which is
+/// locked until the disk is dropped.
+///
+/// The refusals are those of [`open`]; other processes may read the file at the same time.
+pub fn hold<R: Files, A: Allocator>(
+    rt: &R,
+    alloc: A,
+    path: &str,
+) -> Result<FileDisk<Held<R::File>, A>, OpenError>
+where
+    R::File: StoreFile,
+    ensures synced { IfOk result (λ d. IsSynced (past_of d).disk) }
+    ensures failures { IfOk result (λ d. failures_of d ≡ 0) }
+{
+    refuse_other(rt, path)?;
+    let file = fs::open(rt, path)?.apart()?;
+    file.try_lock_shared()?;
+    has_both(rt, &alloc, &file, path)?;
+    let sectors = sectors_in(file.metadata()?.len())?;
+    FileDisk::over(alloc, Held { file }, sectors as usize)
+}
+
+/// The same, with no lock once the file is read.
+pub fn read<R: Files, A: Allocator>(
+    rt: &R,
+    alloc: A,
+    path: &str,
+) -> Result<FileDisk<Detached, A>, OpenError>
+where
+    R::File: StoreFile,
+    ensures synced { IfOk result (λ d. IsSynced (past_of d).disk) }
+    ensures failures { IfOk result (λ d. failures_of d ≡ 0) }
+{
+    Ok(hold(rt, alloc, path)?.with_below(Detached))
+}

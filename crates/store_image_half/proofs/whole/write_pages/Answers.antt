@@ -1,0 +1,41 @@
+use Rattle.std.proofs.Common.{◌≡◌, ⊎_elim, ◌<◌, sym, ap, ◌∙◌, subst, arith}
+use Rattle.std.proofs.lemmas.Bool.{cases_eq}
+use Rattle.record_values.specs.GeometryValue.{GeometryValue}
+use Rattle.store_image_half.specs.Layout.{InPage, InPages}
+use Rattle.store_image_half.specs.Part.{HasPage}
+use Rattle.store_image_half.proofs.Joined.{writes_then}
+use Rattle.store_image_half.proofs.Kept.{page_kept}
+use Rattle.store_image_half.proofs.whole.write_pages.Goals as goal
+
+pub returns-in_err-write_rows-clause-part : goal.returns-in_err-write_rows-clause-part
+returns-in_err-write_rows-clause-part g c =
+    let hist = g.D.Device.past_of in
+    let first = c.args.first in
+    let page = c.loop-page.page in
+    let below : page < c.args.geometry.pages = omega (arith, c.loop-page-test.true, ap (λ (x : GeometryValue). x.pages) c.geometry.view_is) in
+    writes_then (InPages c.args.geometry first) (InPage first page) (hist c.args.device.now) (hist c.loop-page.device) (hist c.write_rows.new.device)
+    (λ n is. (omega (arith, is.0), omega (arith, is.1, below))) c.loop-page.invariant.part
+    (record { outside = c.write_rows.ensures.outside; within = c.write_rows.ensures.within })
+
+pub loop-page-preserved : goal.loop-page-preserved
+loop-page-preserved g c =
+    let hist = g.D.Device.past_of in
+    let first = c.args.first in
+    let page = c.loop-page.page in
+    let all = (g.S.CellSource.cells c.args.source.now).rows in
+    let below : page < c.args.geometry.pages = omega (arith, c.loop-page-test.true, ap (λ (x : GeometryValue). x.pages) c.geometry.view_is) in
+    record {
+      written = λ p less. ⊎_elim
+          (λ (same : p ≡ page). subst (λ n. HasPage first (hist c.write_rows.new.device).disk.content n all) (sym same) c.in_ok-write_rows.ensures.written)
+          (λ other. page_kept (InPage first page) _ _ c.write_rows.ensures.outside first p all (λ k low is. omega (arith, is.0, less, other, low))
+          (c.loop-page.invariant.written p (omega (arith, less, other))))
+          (cases_eq p page);
+      part = writes_then (InPages c.args.geometry first) (InPage first page) (hist c.args.device.now) (hist c.loop-page.device) (hist c.write_rows.new.device)
+          (λ n is. (omega (arith, is.0), omega (arith, is.1, below))) c.loop-page.invariant.part
+          (record { outside = c.write_rows.ensures.outside; within = c.write_rows.ensures.within });
+      failures = c.in_ok-write_rows.ensures.counts.none ∙ c.loop-page.invariant.failures;
+    }
+
+pub returns-clause-written : goal.returns-clause-written
+returns-clause-written g c = λ page below. c.loop-page.invariant.written page
+    (omega (arith, below, c.loop-page-test.false, ap (λ (x : GeometryValue). x.pages) c.geometry.view_is))

@@ -1,9 +1,0 @@
-use Rattle.store_writer.proofs.Pieces.{next_page, next_entries}
-use Rattle.store_writer.proofs.writer.Writer.next_pieces.Goals as goal
-
-pub returns-clause-page : goal.returns-clause-page
-returns-clause-page g c = λ run handed page rows is sound small at now. next_page g.D.Device.history run handed c.args.self.now is sound small page rows at now
-
-pub returns-clause-entries : goal.returns-clause-entries
-returns-clause-entries g c = λ run handed above entries is sound small at now.
-    next_entries g.D.Device.history run handed c.args.self.now is sound small above entries at now

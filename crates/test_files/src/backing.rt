@@ -1,0 +1,185 @@
+// A backing in memory with a cache of pages, whose power can fail.
+use sector_device::SECTOR_SIZE;
+use std::alloc::{AllocError, Global};
+use std::io;
+use std::io::ErrorKind;
+use store_file::{Backing, Stored};
+
+/// What becomes of the sectors that are in the cache alone, once the power is lost.
+#[derive(Clone, Copy, Debug, PartialEq, Eq)]
+pub enum Loss {
+    Dropped,
+    Kept,
+    // The first half of each is there.
+    Torn,
+}
+
+/// A sector.
+pub type Sector = [u8; SECTOR_SIZE];
+
+// A sector of the device, and as the cache shows it.
+#[derive(Clone, Copy)]
+struct Page {
+    safe: Sector,
+    shown: Sector,
+    // whether the next sync writes it
+    is_dirty: bool,
+}
+
+/// What is below a disk: a device, and a cache of it. As with Linux, a sync that fails leaves what it didn't write in
+/// the cache, and no later sync writes it.
+#[derive(Drop)]
+pub struct Host {
+    pages: Vec<Page>,
+    calls: u64,
+    // The number of the call that fails, from 1, or 0.
+    fails_at: u64,
+    // whether writes count as calls too
+    counts_writes: bool,
+}
+
+fn torn(old: &Sector, new: &Sector) -> Sector {
+    let mut sector = *old;
+    for n in 0..SECTOR_SIZE / 2 {
+        sector[n] = new[n];
+    }
+    sector
+}
+
+// What is there of the sector once the power was lost.
+fn left(page: &Page, loss: Loss) -> Sector {
+    match loss {
+        Loss::Dropped => page.safe,
+        Loss::Kept => page.shown,
+        Loss::Torn => torn(&page.safe, &page.shown),
+    }
+}
+
+impl Host {
+    /// A device of zeros.
+    pub fn new(alloc: Global, sectors: usize) -> Result<Host, AllocError> {
+        let mut pages = Vec::with_capacity(alloc, sectors)?;
+        for _ in 0..sectors {
+            pages.push(Page {
+                safe: [0; SECTOR_SIZE],
+                shown: [0; SECTOR_SIZE],
+                is_dirty: false,
+            })?;
+        }
+        Ok(Host {
+            pages,
+            calls: 0,
+            fails_at: 0,
+            counts_writes: true,
+        })
+    }
+
+    /// How many calls were counted since it was said which fails.
+    pub fn calls(&self) -> u64 {
+        self.calls
+    }
+
+    /// The write or sync of this number from now on fails, from 1, or none at 0.
+    pub fn fail_at(&mut self, number: u64) {
+        self.calls = 0;
+        self.fails_at = number;
+        self.counts_writes = true;
+    }
+
+    /// The sync of this number from now on fails, from 1.
+    pub fn fail_at_sync(&mut self, number: u64) {
+        self.fail_at(number);
+        self.counts_writes = false;
+    }
+
+    /// The cache is gone with the power. No later call fails.
+    pub fn lose_power(&mut self, loss: Loss) {
+        self.fails_at = 0;
+        for page in &mut self.pages {
+            let sector = left(page, loss);
+            page.safe = sector;
+            page.shown = sector;
+            page.is_dirty = false;
+        }
+    }
+
+    /// The same device and cache.
+    pub fn copied(&self) -> Result<Host, AllocError> {
+        Ok(Host {
+            pages: self.pages.clone()?,
+            calls: 0,
+            fails_at: 0,
+            counts_writes: true,
+        })
+    }
+
+    // Counts a call, and answers it.
+    fn answer(&mut self) -> io::Result<()> {
+        self.calls = self.calls.saturating_add(1);
+        if self.calls == self.fails_at {
+            return Err(io::Error::from(ErrorKind::Other));
+        }
+        Ok(())
+    }
+
+    fn answer_write(&mut self) -> io::Result<()> {
+        if self.counts_writes {
+            return self.answer();
+        }
+        Ok(())
+    }
+
+    fn sync(&mut self) -> io::Result<()> {
+        let answer = self.answer();
+        for page in &mut self.pages {
+            if page.is_dirty && answer.is_ok() {
+                page.safe = page.shown;
+            }
+            page.is_dirty = false;
+        }
+        answer
+    }
+
+    fn show(&mut self, n: u64, bytes: &Sector) {
+        if let Some(page) = self.pages.get_mut(n as usize) {
+            page.shown = *bytes;
+            page.is_dirty = true;
+        }
+    }
+}
+
+/// What a process has of it.
+#[derive(Drop)]
+pub struct Used<'a> {
+    pub host: &'a mut Host,
+}
+
+impl Backing for Used<'_> {
+    fn put(&mut self, n: u64, bytes: &Sector) -> io::Result<()> {
+        self.host.show(n, bytes);
+        self.host.answer_write()
+    }
+
+    fn sync(&mut self) -> io::Result<()> {
+        self.host.sync()
+    }
+}
+
+impl Stored for Used<'_> {
+    fn get_run(&mut self, first: u64, run: &mut [Sector]) -> io::Result<()> {
+        for (n, sector) in run.iter_mut().enumerate() {
+            let number = first.saturating_add(n as u64);
+            if let Some(page) = self.host.pages.get(number as usize) {
+                *sector = page.shown;
+            }
+        }
+        Ok(())
+    }
+
+    fn put_run(&mut self, first: u64, run: &[Sector]) -> io::Result<()> {
+        for (n, sector) in run.iter().enumerate() {
+            self.host.show(first.saturating_add(n as u64), sector);
+        }
+        self.host.answer_write()
+    }
+}

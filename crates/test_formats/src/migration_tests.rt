@@ -1,0 +1,419 @@
+// A store of version 1 is moved to another disk.
+use model::Life;
+use records::{Body, Error, Key, Mark, Pair, Rid, Row};
+use restart::{Event, MigrateError};
+use sector_device::{Fate, SECTOR_SIZE, Which};
+use std::alloc::Global;
+use std::process::Abort;
+use std::test::Fail;
+use test_memory::Refusing;
+use test_store::{
+    Answer, BUILDING_1, Contents, Disk, Edit, GROUP, OpenStore, SUPERBLOCK_1, StoreMemory, ample,
+    edit, open, requests,
+};
+
+// The sectors of the least store, in version 1 and in version 2.
+const OLD_SECTORS: u64 = 1_118;
+
+const SECTORS: u64 = 2_166;
+
+// A group in the log.
+const LOGGED: &[Edit<'_>] = &[SUPERBLOCK_1, (528, 0, b"\xa5"), (529, 0, GROUP)];
+
+// The same, without its commit.
+const UNFINISHED: &[Edit<'_>] = &[
+    SUPERBLOCK_1,
+    (528, 0, b"\xa5"),
+    (529, 0, GROUP),
+    (529, 0, b"\0\x01\0\x20"),
+    (529, 36, &[0; 17]),
+];
+
+// The index that is built up to the row, where transaction 2 has put in the row of the entry that isn't marked yet.
+const IMAGED_UNFINISHED: &[Edit<'_>] = &[
+    SUPERBLOCK_1,
+    (2, 0, b"\x01\x01\x03ant"),
+    (2, 40, b"\x06\0\0\0\x02"),
+    (3, 7, b"\x02\0\x01"),
+    (4, 0, b"\x01\0\0\0\0\0\x01"),
+    (4, 71, b"\x01\x01a"),
+    (516, 64, b"\x01\x03ant"),
+    (516, 90, b"\x01x"),
+    (516, 128, b"\x01\x01a"),
+    (524, 0, b"\x01a"),
+    (524, 30, b"\x01\x01"),
+    (524, 32, b"\x03ant"),
+    (524, 63, b"\x01"),
+];
+
+// An index is made and dropped, which version 1 can't say.
+const DROP: &[u8] = b"\0\x02\0\x22\
+    \0\0\0\0\0\0\0\x01\0\0\0\0\0\0\0\0\x09\
+    \0\0\0\0\0\0\0\x02\0\0\0\0\0\0\0\0\x0e";
+
+// A disk with a store of version 1, synced.
+fn old_disk(alloc: Global, edits: &[Edit<'_>]) -> Result<Disk, Error> {
+    let mut disk = Disk::bare(alloc, OLD_SECTORS)?;
+    edit(&mut disk, edits)?;
+    Ok(disk.crash(Fate::New))
+}
+
+fn sectors_of(alloc: Global, disk: &mut Disk) -> Result<Vec<[u8; SECTOR_SIZE]>, Error> {
+    let mut sectors = Vec::new(alloc);
+    for n in 0..OLD_SECTORS {
+        sectors.push(disk.sector(n)?)?;
+    }
+    Ok(sectors)
+}
+
+// What a moved store held at first, what it answered then, and what it left.
+#[derive(Drop)]
+struct MovedStore {
+    held: Contents,
+    answers: Result<Vec<Answer>, Error>,
+    disk: Disk,
+}
+
+// Moves the store to the new disk, and runs these requests there.
+fn move_and_run<M: StoreMemory>(
+    memory: M,
+    alloc: Global,
+    old: &mut Disk,
+    new: Disk,
+    events: &[Event],
+) -> Result<MovedStore, MigrateError> {
+    match memory.moved(old, new) {
+        Ok(mut store) => Ok(MovedStore {
+            held: store.contents(),
+            answers: store.run(alloc, events),
+            disk: store.close(),
+        }),
+        Err((error, _)) => Err(error),
+    }
+}
+
+// The same, of an old disk with these sectors. It is as before, and has no sector that a crash may change.
+fn moved<M: StoreMemory>(
+    memory: M,
+    alloc: Global,
+    edits: &[Edit<'_>],
+    sectors: u64,
+    events: &[Event],
+) -> Result<Result<MovedStore, MigrateError>, Fail> {
+    let mut old = old_disk(alloc, edits)?;
+    let before = sectors_of(alloc, &mut old)?;
+    let new = Disk::bare(alloc, sectors)?;
+    let moved = move_and_run(memory, alloc, &mut old, new, events);
+    if sectors_of(alloc, &mut old.crash(Fate::Junk))? != before {
+        Err("an old disk that was written")?;
+    }
+    Ok(moved)
+}
+
+fn pair(key: &[u8], rid: Rid) -> Result<Pair, Error> {
+    Ok(Pair {
+        key: Key::new(key)?,
+        rid,
+    })
+}
+
+fn ant() -> Result<Row, Error> {
+    Ok(Row {
+        key: Key::new(b"ant")?,
+        body: Body::new(b"x")?,
+    })
+}
+
+// What the store on the disk holds.
+fn held_on<M: StoreMemory>(memory: M, disk: Disk) -> Result<Contents, Fail> {
+    let store = open(memory, disk)?;
+    let held = store.contents();
+    store.close();
+    Ok(held)
+}
+
+// Moves a store with these sectors, and opens it again behind a crash. What it holds both times is this.
+fn check_moved<M: StoreMemory>(
+    rt: &impl Abort,
+    memory: M,
+    alloc: Global,
+    edits: &[Edit<'_>],
+    wanted: Contents,
+) -> Result<(), Fail> {
+    let Ok(MovedStore { held, disk, .. }) = moved(memory, alloc, edits, SECTORS, &[])? else {
+        return Err("a store that is moved")?;
+    };
+    assert_eq!(rt; held, wanted);
+    let again = held_on(memory, disk.crash(Fate::Junk))?;
+    assert_eq!(rt; again, wanted);
+    Ok(())
+}
+
+#[test]
+fn stores_of_version_1_are_moved(rt: HostRuntime) -> Result<(), Fail> {
+    let memory = ample(rt.alloc());
+    let rows = (Some(ant()?), None);
+    let marked = pair(b"a", Rid { page: 0, slot: 1 })?;
+    let live = pair(b"ant", Rid { page: 0, slot: 0 })?;
+    let none = Contents {
+        last: 1,
+        rows: (None, None),
+        life: Life::Absent,
+        entries: (None, None, None),
+    };
+    let logged = Contents {
+        last: 2,
+        rows,
+        life: Life::Absent,
+        entries: (None, None, None),
+    };
+    let imaged = Contents {
+        last: 6,
+        rows,
+        life: Life::Building {
+            highest: Some(live),
+        },
+        entries: (Some((marked, Mark::Marked)), Some((live, Mark::Live)), None),
+    };
+    let cases: [(&[Edit<'_>], Contents); 4] = [
+        (UNFINISHED, none),
+        (LOGGED, logged),
+        (BUILDING_1, imaged),
+        (IMAGED_UNFINISHED, imaged),
+    ];
+    for (edits, wanted) in cases {
+        check_moved(&rt, &memory, rt.alloc(), edits, wanted)?;
+    }
+    Ok(())
+}
+
+// What a moved store answers to a script.
+fn answers_of<M: StoreMemory>(memory: M, alloc: Global, script: &str) -> Result<Vec<Answer>, Fail> {
+    let events = requests(alloc, script)?;
+    match moved(memory, alloc, LOGGED, SECTORS, &events)? {
+        Ok(moved) => Ok(moved.answers?),
+        Err(_) => Err("a store that is moved")?,
+    }
+}
+
+#[test]
+fn a_moved_store_goes_on(rt: HostRuntime) -> Result<(), Fail> {
+    let memory = ample(rt.alloc());
+    let answers = answers_of(&memory, rt.alloc(), "begin\ninsert 1 =b =\ncommit 1\n")?;
+    let [Answer::Txn(_), Answer::Rid(rid), Answer::Ticket(ticket)] = *answers else {
+        return Err("a row of a transaction that commits")?;
+    };
+    assert_eq!(rt; (rid, ticket.record.get()), (Rid { page: 0, slot: 1 }, 4));
+    Ok(())
+}
+
+// Why a store with these sectors isn't moved to a disk of so many.
+fn why_not_moved<M: StoreMemory>(
+    memory: M,
+    alloc: Global,
+    edits: &[Edit<'_>],
+    sectors: u64,
+) -> Result<Option<MigrateError>, Fail> {
+    match moved(memory, alloc, edits, sectors, &[])? {
+        Ok(_) => Ok(None),
+        Err(error) => Ok(Some(error)),
+    }
+}
+
+// Why the store on the disk isn't opened.
+fn why_not_open<M: StoreMemory>(memory: M, disk: Disk) -> Option<Error> {
+    match memory.open(disk) {
+        Ok(store) => {
+            store.close();
+            None
+        }
+        Err((error, _)) => Some(error),
+    }
+}
+
+#[test]
+fn stores_that_are_not_moved(rt: HostRuntime) -> Result<(), Fail> {
+    let memory = ample(rt.alloc());
+    let damaged = MigrateError::Old(Error::Damaged { sector: 0 });
+    let cases: [(&str, &[Edit<'_>], u64, MigrateError); 5] = [
+        (
+            "a new disk too small",
+            LOGGED,
+            SECTORS - 1,
+            MigrateError::New(Error::DeviceTooSmall),
+        ),
+        (
+            "version 2",
+            &[SUPERBLOCK_1, (0, 11, b"\x02")],
+            SECTORS,
+            damaged,
+        ),
+        (
+            "version 2, and a new disk too small",
+            &[SUPERBLOCK_1, (0, 11, b"\x02")],
+            0,
+            damaged,
+        ),
+        (
+            "more pages",
+            &[SUPERBLOCK_1, (0, 15, b"\x02")],
+            SECTORS,
+            MigrateError::Old(Error::DeviceTooSmall),
+        ),
+        (
+            "no store",
+            &[],
+            SECTORS,
+            MigrateError::Old(Error::NotFormatted),
+        ),
+    ];
+    for (name, edits, sectors, wanted) in cases {
+        let refused = why_not_moved(&memory, rt.alloc(), edits, sectors)?;
+        assert_eq!(rt; refused, Some(wanted), "{name}");
+    }
+    let refused = why_not_open(&memory, old_disk(rt.alloc(), LOGGED)?);
+    assert_eq!(rt; refused, Some(Error::OldVersion));
+    Ok(())
+}
+
+#[test]
+fn harmed_stores_of_version_1(rt: HostRuntime) -> Result<(), Fail> {
+    let memory = ample(rt.alloc());
+    let cases: [(&[Edit<'_>], u64); 18] = [
+        (&[SUPERBLOCK_1, (0, 24, b"\x01")], 0),
+        (&[SUPERBLOCK_1, (0, 15, b"\0")], 0),
+        (&[SUPERBLOCK_1, (2, 0, b"\x03")], 2),
+        (&[SUPERBLOCK_1, (2, 1, b"\x01")], 2),
+        (&[SUPERBLOCK_1, (2, 45, b"\x01")], 2),
+        (&[SUPERBLOCK_1, (3, 39, b"\x01")], 3),
+        (&[SUPERBLOCK_1, (3, 9, b"\x01")], 3),
+        (&[SUPERBLOCK_1, (3, 7, b"\x01\0\x01")], 4),
+        (&[SUPERBLOCK_1, (516, 0, b"\x01")], 516),
+        (&[SUPERBLOCK_1, (516, 64, b"\x02")], 516),
+        (&[SUPERBLOCK_1, (516, 64, b"\x01\x19")], 516),
+        (&[SUPERBLOCK_1, (516, 64, b"\x01"), (516, 90, b"\x26")], 516),
+        (&[SUPERBLOCK_1, (523, 0, b"\x02")], 516),
+        (&[SUPERBLOCK_1, (2, 44, b"\x01")], 524),
+        (&[SUPERBLOCK_1, (528, 0, b"\xa5")], 528),
+        (&[SUPERBLOCK_1, (528, 0, b"\xa5"), (529, 0, DROP)], 528),
+        (
+            &[
+                SUPERBLOCK_1,
+                (2, 40, b"\x01"),
+                (528, 0, b"\xa5"),
+                (529, 0, GROUP),
+            ],
+            528,
+        ),
+        (&[SUPERBLOCK_1, (536, 0, b"\xa5")], 536),
+    ];
+    for (edits, sector) in cases {
+        let mut old = old_disk(rt.alloc(), edits)?;
+        let new = Disk::bare(rt.alloc(), 0)?;
+        let Err(error) = move_and_run(&memory, rt.alloc(), &mut old, new, &[]) else {
+            return Err("a store that was harmed")?;
+        };
+        assert_eq!(rt;
+            error,
+            MigrateError::Old(Error::Damaged { sector }),
+            "{edits:?}"
+        );
+    }
+    Ok(())
+}
+
+// More than the calls of a disk in a migration, and than its allocations.
+const CALLS: u64 = 1_000;
+
+// Why a store isn't moved, if it isn't, and whether the new disk was written; and whether memory was refused.
+type Hindered = (Option<(MigrateError, bool)>, bool);
+
+fn hindrance<M: StoreMemory>(memory: M, old: &mut Disk, new: Disk) -> Result<Hindered, Error> {
+    match memory.moved(old, new) {
+        Ok(store) => {
+            store.close();
+            Ok((None, memory.refused() > 0))
+        }
+        Err((error, disk)) => {
+            let mut disk = disk.crash(Fate::New);
+            let written = disk.sector(0)? != [0; SECTOR_SIZE];
+            Ok((Some((error, written)), memory.refused() > 0))
+        }
+    }
+}
+
+// What fails in a migration: these calls of the old disk and of the new one, of which 0 is none, and the allocations
+// behind so many.
+type Hindrance = (u64, u64, u64);
+
+// The same, where this fails, and the new disk has so many sectors.
+fn hindered(
+    alloc: Global,
+    (old_call, new_call, before): Hindrance,
+    sectors: u64,
+) -> Result<Hindered, Fail> {
+    let memory = Refusing::new(alloc, before);
+    let mut old = old_disk(alloc, LOGGED)?.failing(Which::All, old_call);
+    let new = Disk::bare(alloc, sectors)?.failing(Which::All, new_call);
+    Ok(hindrance(&memory, &mut old, new)?)
+}
+
+// What fails in turn.
+#[derive(Clone, Copy)]
+enum Place {
+    OldCall,
+    NewCall,
+    Allocation,
+}
+
+// What fails at this count.
+fn at_count(place: Place, count: u64) -> Hindrance {
+    match place {
+        Place::OldCall => (count.saturating_add(1), 0, u64::MAX),
+        Place::NewCall => (0, count.saturating_add(1), u64::MAX),
+        Place::Allocation => (0, 0, count),
+    }
+}
+
+// Moves a store to a disk of so many sectors, where each place fails in turn, until none does. The answer is this one
+// while one does, and else this.
+fn hinder_each(
+    rt: &impl Abort,
+    alloc: Global,
+    place: Place,
+    sectors: u64,
+    (wanted, whole): (MigrateError, Option<MigrateError>),
+) -> Result<(), Fail> {
+    for count in 0..CALLS {
+        let (found, refused) = hindered(alloc, at_count(place, count), sectors)?;
+        let error = found.map(|(error, _)| error);
+        if error == whole && !refused {
+            return Ok(());
+        }
+        assert_eq!(rt; error, Some(wanted));
+        let written = found.is_some_and(|(_, written)| written);
+        assert!(rt; !written || wanted == MigrateError::New(Error::DeviceFailed));
+    }
+    Err("fewer calls")?
+}
+
+// Each call of the old disk fails in turn, and each of the new one, and each allocation is refused in turn. That the
+// old disk failed, or that memory was wanting, is told before a new disk that is too small.
+#[test]
+fn migrations_that_are_hindered(rt: HostRuntime) -> Result<(), Fail> {
+    let old = MigrateError::Old(Error::DeviceFailed);
+    let new = MigrateError::New(Error::DeviceFailed);
+    let small = MigrateError::New(Error::DeviceTooSmall);
+    let none = MigrateError::NoMemory;
+    let cases: [(Place, u64, (MigrateError, Option<MigrateError>)); 5] = [
+        (Place::OldCall, SECTORS, (old, None)),
+        (Place::NewCall, SECTORS, (new, None)),
+        (Place::Allocation, SECTORS, (none, None)),
+        (Place::OldCall, SECTORS - 1, (old, Some(small))),
+        (Place::Allocation, SECTORS - 1, (none, Some(small))),
+    ];
+    for (place, sectors, wanted) in cases {
+        hinder_each(&rt, rt.alloc(), place, sectors, wanted)?;
+    }
+    Ok(())
+}

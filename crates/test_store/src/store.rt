@@ -1,0 +1,183 @@
+//! A store, and its calls.
+use crate::answer::{Answer, answer_of};
+use crate::contents::{Contents, contents_of, entries_of};
+use crate::disk::Disk;
+use nsf_core::Core;
+use records::Error;
+use restart::{Engine, Event, MigrateError, Reply, migrate, restart};
+use sector_device::{Device, FaultDisk, MemDisk};
+use std::alloc::{Allocator, Global};
+use std::marker::Model;
+use test_memory::Refusing;
+
+// The calls of an engine, on any device.
+
+fn opened<D: Device, A: Allocator + Copy>(alloc: A, device: D) -> Result<Engine<D, A>, (Error, D)> {
+    restart(alloc, device)
+}
+
+fn moved<O: Device, N: Device, A: Allocator + Copy>(
+    alloc: A,
+    old: &mut O,
+    new: N,
+) -> Result<Engine<N, A>, (MigrateError, N)> {
+    migrate(alloc, old, new)
+}
+
+fn replies_to<D: Device, A: Allocator + Copy>(
+    engine: &mut Engine<D, A>,
+    events: &[Event],
+) -> Result<Vec<Reply<A>, A>, Error> {
+    engine.run(events)
+}
+
+fn completed<D: Device, A: Allocator + Copy>(engine: &mut Engine<D, A>) -> Result<u64, Error> {
+    engine.build_to_end()
+}
+
+fn parted<D: Device, A: Allocator + Copy>(
+    engine: Engine<D, A>,
+) -> Result<(u64, u64, D), (Error, D)> {
+    match engine.into_parts() {
+        Ok((core, writer)) => Ok((core.last(), writer.synced(), writer.into_device())),
+        Err((error, engine)) => Err((error, engine.into_device())),
+    }
+}
+
+fn core_of<D: Device, A: Allocator + Copy>(engine: &Engine<D, A>) -> &Core<A> {
+    engine.core()
+}
+
+fn device_of<D: Device, A: Allocator + Copy>(engine: Engine<D, A>) -> D {
+    engine.into_device()
+}
+
+fn answers_of<A: Allocator>(alloc: Global, replies: &[Reply<A>]) -> Result<Vec<Answer>, Error> {
+    let mut answers = Vec::new(alloc);
+    for reply in replies {
+        answers.push(answer_of(reply))?;
+    }
+    Ok(answers)
+}
+
+/// A store that is open. It is closed, and never let go.
+///
+/// Tests are generic over it, so that their proofs read nothing of what a store is made of.
+pub trait OpenStore {
+    /// Runs the requests, and tells the answers.
+    fn run(&mut self, alloc: Global, events: &[Event]) -> Result<Vec<Answer>, Error>;
+
+    /// Runs one request.
+    fn ask(&mut self, event: &Event) -> Answer;
+
+    /// What it holds now.
+    fn contents(&self) -> Contents;
+
+    /// How many entries it has, marked ones too; 1,000 where there are more.
+    fn entries(&self) -> usize;
+
+    /// Builds its index to the end, and tells the number of the record that ended it.
+    fn build_to_end(&mut self) -> Result<u64, Error>;
+
+    /// Takes it apart: the number of its core's last record, up to which number all is safe, and the disk.
+    fn into_parts(self) -> Result<(u64, u64, Disk), (Error, Disk)>;
+
+    /// Gives up all but the disk.
+    fn close(self) -> Disk;
+}
+
+/// Memory in which a store is opened.
+pub trait StoreMemory: Copy {
+    type Store: OpenStore;
+
+    /// Opens the store on the disk, or gives it back.
+    fn open(self, disk: Disk) -> Result<Self::Store, (Error, Disk)>;
+
+    /// Moves the store of version 1 on the old disk to the new one, and opens it there; or gives the new one back.
+    fn moved(self, old: &mut Disk, new: Disk) -> Result<Self::Store, (MigrateError, Disk)>;
+
+    /// How many allocations were refused.
+    fn refused(self) -> u64;
+}
+
+/// A store that is open, over memory of this kind.
+pub struct Store<A: Allocator> {
+    engine: Engine<FaultDisk<MemDisk<Global>>, A>,
+}
+
+impl<A: Allocator> Model for Store<A> {
+    ghost use Rattle.std.specs.Prelude.{⊤};
+
+    ghost Value = { ⊤ };
+
+    ghost view = { λ _. tt };
+}
+
+impl<A: Allocator + Copy> OpenStore for Store<A> {
+    fn run(&mut self, alloc: Global, events: &[Event]) -> Result<Vec<Answer>, Error> {
+        answers_of(alloc, &replies_to(&mut self.engine, events)?)
+    }
+
+    fn ask(&mut self, event: &Event) -> Answer {
+        match replies_to(&mut self.engine, &[*event]) {
+            Ok(replies) => match replies.first() {
+                Some(reply) => answer_of(reply),
+                None => Answer::Skipped,
+            },
+            Err(error) => Answer::Refused(error),
+        }
+    }
+
+    fn contents(&self) -> Contents {
+        contents_of(core_of(&self.engine))
+    }
+
+    fn entries(&self) -> usize {
+        entries_of(core_of(&self.engine))
+    }
+
+    fn build_to_end(&mut self) -> Result<u64, Error> {
+        completed(&mut self.engine)
+    }
+
+    fn into_parts(self) -> Result<(u64, u64, Disk), (Error, Disk)> {
+        let Store { engine } = self;
+        match parted(engine) {
+            Ok((last, synced, device)) => Ok((last, synced, Disk { device })),
+            Err((error, device)) => Err((error, Disk { device })),
+        }
+    }
+
+    fn close(self) -> Disk {
+        let Store { engine } = self;
+        Disk {
+            device: device_of(engine),
+        }
+    }
+}
+
+impl<'a> StoreMemory for &'a Refusing<Global> {
+    type Store = Store<&'a Refusing<Global>>;
+
+    fn open(self, disk: Disk) -> Result<Store<&'a Refusing<Global>>, (Error, Disk)> {
+        match opened(self, disk.device) {
+            Ok(engine) => Ok(Store { engine }),
+            Err((error, device)) => Err((error, Disk { device })),
+        }
+    }
+
+    fn moved(
+        self,
+        old: &mut Disk,
+        new: Disk,
+    ) -> Result<Store<&'a Refusing<Global>>, (MigrateError, Disk)> {
+        match moved(self, &mut old.device, new.device) {
+            Ok(engine) => Ok(Store { engine }),
+            Err((error, device)) => Err((error, Disk { device })),
+        }
+    }
+
+    fn refused(self) -> u64 {
+        Refusing::refused(self)
+    }
+}

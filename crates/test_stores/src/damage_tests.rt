@@ -1,0 +1,120 @@
+// Stores that were harmed.
+use records::Error;
+use std::alloc::Global;
+use std::test::Fail;
+use test_store::{Disk, Edit, GROUP, OpenStore, StoreMemory, ample, edit, open};
+
+// Why the store on the disk isn't opened.
+fn why_not_open<M: StoreMemory>(memory: M, disk: Disk) -> Option<Error> {
+    match memory.open(disk) {
+        Ok(store) => {
+            store.close();
+            None
+        }
+        Err((error, _)) => Some(error),
+    }
+}
+
+// The same of the least store, just formatted and then changed so.
+fn refusal(alloc: Global, edits: &[Edit<'_>]) -> Result<Option<Error>, Error> {
+    let mut disk = Disk::formatted(alloc, 1, 4)?;
+    edit(&mut disk, edits)?;
+    Ok(why_not_open(&ample(alloc), disk))
+}
+
+const fn damaged(sector: u64) -> Option<Error> {
+    Some(Error::Damaged { sector })
+}
+
+#[test]
+fn stores_that_were_harmed(rt: HostRuntime) -> Result<(), Fail> {
+    let cases: [(&str, &[Edit<'_>], Option<Error>); 22] = [
+        ("version 3", &[(0, 11, b"\x03")], damaged(0)),
+        ("version 1", &[(0, 11, b"\x01")], Some(Error::OldVersion)),
+        (
+            "version 1, and more pages than any store",
+            &[(0, 11, b"\x01\xff\xff")],
+            Some(Error::OldVersion),
+        ),
+        (
+            "a byte behind the superblock",
+            &[(0, 24, b"\x01")],
+            damaged(0),
+        ),
+        ("no pages", &[(0, 15, b"\0")], damaged(0)),
+        ("a header of no life", &[(2, 0, b"\x03")], damaged(2)),
+        ("a highest pair of no index", &[(2, 1, b"\x01")], damaged(2)),
+        ("a byte behind the header", &[(2, 77, b"\x01")], damaged(2)),
+        ("a head behind none", &[(3, 39, b"\x01")], damaged(3)),
+        (
+            "a head with a change of none",
+            &[(3, 9, b"\x01")],
+            damaged(3),
+        ),
+        (
+            "a change that is none",
+            &[(3, 7, b"\x01\0\x01")],
+            damaged(4),
+        ),
+        ("a used page", &[(1028, 0, b"\x01")], damaged(1028)),
+        ("a row that is none", &[(1028, 64, b"\x02")], damaged(1028)),
+        (
+            "the last sector of a page",
+            &[(1043, 0, b"\x02")],
+            damaged(1028),
+        ),
+        (
+            "a byte behind the rows of a page",
+            &[(1043, 511, b"\x01")],
+            damaged(1028),
+        ),
+        ("an entry that is none", &[(2, 76, b"\x01")], damaged(1044)),
+        (
+            "an open gate before no group",
+            &[(1052, 0, b"\xa5")],
+            damaged(1052),
+        ),
+        (
+            "an open gate after a closed one",
+            &[(1060, 0, b"\xa5")],
+            damaged(1060),
+        ),
+        (
+            "a group whose first record the image has",
+            &[(2, 72, b"\x01"), (1052, 0, b"\xa5"), (1053, 0, GROUP)],
+            damaged(1052),
+        ),
+        ("another title", &[(0, 0, b"\0")], Some(Error::NotFormatted)),
+        (
+            "more pages",
+            &[(0, 15, b"\x02")],
+            Some(Error::DeviceTooSmall),
+        ),
+        (
+            "an open gate before a group",
+            &[(1052, 0, b"\xa5"), (1053, 0, GROUP)],
+            None,
+        ),
+    ];
+    for (name, edits, wanted) in cases {
+        assert_eq!(rt; refusal(rt.alloc(), edits)?, wanted, "{name}");
+    }
+    Ok(())
+}
+
+// The number of the record that ended the build of the index on the disk.
+fn completed_by<M: StoreMemory>(memory: M, disk: Disk) -> Result<u64, Error> {
+    let mut store = open(memory, disk)?;
+    let completed = store.build_to_end();
+    store.close();
+    completed
+}
+
+// A store may begin with an index that is complete and has no record.
+#[test]
+fn an_index_that_no_record_completed(rt: HostRuntime) -> Result<(), Fail> {
+    let mut disk = Disk::formatted(rt.alloc(), 1, 4)?;
+    edit(&mut disk, &[(2, 0, b"\x02")])?;
+    assert_eq!(rt; completed_by(&ample(rt.alloc()), disk), Ok(0));
+    Ok(())
+}

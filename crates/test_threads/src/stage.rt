@@ -1,0 +1,212 @@
+//! Holding flusher and builder, each at a place, until something else was done.
+ghost use Rattle.std.specs.Prelude.{◌≡◌};
+
+use sector_device::{Device, Failed, SECTOR_SIZE};
+use std::ops::Range;
+use std::rt::Clock;
+use std::sync::atomic::{AtomicBool, AtomicU64, Ordering};
+use std::thread;
+use std::time::Duration;
+use threads_loops::{Gate, Point};
+
+// How often a thread looks for something before it gives up.
+const LOOKS: u32 = 100_000;
+
+// How many microseconds it is from one look to the next.
+const BETWEEN_LOOKS: u64 = 20;
+
+/// A place of a loop.
+#[derive(Clone, Copy, PartialEq)]
+pub enum Place {
+    /// Within a sync of the device.
+    Sync,
+    At(Point),
+}
+
+/// The place of a loop, if there is one, where its thread is held the first time that it comes by, until it is let go.
+#[derive(Drop)]
+pub struct Hold {
+    place: Option<Place>,
+    held: AtomicBool,
+    let_go: AtomicBool,
+}
+
+impl Hold {
+    fn new(place: Option<Place>) -> Hold {
+        Hold {
+            place,
+            held: AtomicBool::new(false),
+            let_go: AtomicBool::new(false),
+        }
+    }
+
+    /// Whether a thread was held.
+    pub fn holds(&self) -> bool {
+        self.held.load(Ordering::SeqCst)
+    }
+
+    pub fn let_go(&self) {
+        self.let_go.store(true, Ordering::SeqCst);
+    }
+}
+
+/// Where flusher and builder are held, once they are to be; how many steps the cleaner has begun, and whether the
+/// writers may begin, and have ended.
+#[derive(Drop)]
+pub struct Stage<'a, R> {
+    rt: &'a R,
+    pub flusher: Hold,
+    pub builder: Hold,
+    armed: AtomicBool,
+    late: AtomicBool,
+    cleaned: AtomicU64,
+    begun: AtomicBool,
+    written: AtomicBool,
+}
+
+impl<'a, R: Clock> Stage<'a, R> {
+    pub fn new(rt: &'a R, flusher: Option<Place>, builder: Option<Place>) -> Stage<'a, R> {
+        Stage {
+            rt,
+            flusher: Hold::new(flusher),
+            builder: Hold::new(builder),
+            armed: AtomicBool::new(false),
+            late: AtomicBool::new(false),
+            cleaned: AtomicU64::new(0),
+            begun: AtomicBool::new(false),
+            written: AtomicBool::new(false),
+        }
+    }
+
+    /// A number for each look that a thread may take.
+    pub fn looks(&self) -> Range<u32> {
+        0..LOOKS
+    }
+
+    /// A thread looked for something in vain.
+    pub fn is_too_late(&self) {
+        self.late.store(true, Ordering::SeqCst);
+    }
+
+    /// The writers may begin.
+    pub fn begins_writing(&self) {
+        self.begun.store(true, Ordering::SeqCst);
+    }
+
+    /// The writers have ended.
+    pub fn ends_writing(&self) {
+        self.written.store(true, Ordering::SeqCst);
+    }
+
+    /// Whether the writers have ended.
+    pub fn is_written(&self) -> bool {
+        self.written.load(Ordering::SeqCst)
+    }
+
+    /// Whether a loop is to be held.
+    pub fn is_set(&self) -> bool {
+        self.flusher.place.is_some()
+    }
+
+    /// From now on the loops are held.
+    pub fn arm(&self) {
+        self.armed.store(true, Ordering::SeqCst);
+    }
+
+    /// Whether both loops were held.
+    pub fn holds(&self) -> bool {
+        self.flusher.holds() && self.builder.holds()
+    }
+
+    /// Whether a thread looked for something in vain.
+    pub fn is_late(&self) -> bool {
+        self.late.load(Ordering::SeqCst)
+    }
+
+    /// Rests between two looks.
+    pub fn rest(&self) {
+        thread::sleep(self.rt, Duration::from_micros(BETWEEN_LOOKS));
+    }
+
+    // Looks until the flag is set.
+    fn look(&self, flag: &AtomicBool) {
+        for _ in self.looks() {
+            if flag.load(Ordering::SeqCst) {
+                return;
+            }
+            self.rest();
+        }
+        self.is_too_late();
+    }
+
+    // Holds a thread that comes by this place, where it is the first one.
+    fn pass(&self, hold: &Hold, place: Place) {
+        let armed = self.armed.load(Ordering::SeqCst);
+        if armed && hold.place == Some(place) && !hold.held.swap(true, Ordering::SeqCst) {
+            self.look(&hold.let_go);
+        }
+    }
+
+    /// Looks until the writers may begin.
+    pub fn await_writing(&self) {
+        self.look(&self.begun);
+    }
+
+    /// Looks until both loops are held.
+    pub fn await_held(&self) {
+        self.look(&self.flusher.held);
+        self.look(&self.builder.held);
+    }
+
+    /// Looks until the cleaner has begun so many steps more.
+    pub fn await_cleaner(&self, steps: u64) {
+        let wanted = self.cleaned.load(Ordering::SeqCst).saturating_add(steps);
+        for _ in self.looks() {
+            if self.cleaned.load(Ordering::SeqCst) >= wanted {
+                return;
+            }
+            self.rest();
+        }
+        self.is_too_late();
+    }
+}
+
+impl<R: Clock> Gate for Stage<'_, R> {
+    fn at(&self, point: Point) {
+        if point == Point::CleanStep {
+            self.cleaned.fetch_add(1, Ordering::SeqCst);
+        }
+        self.pass(&self.flusher, Place::At(point));
+        self.pass(&self.builder, Place::At(point));
+    }
+}
+
+/// A disk that holds the flusher within a sync, where it is to be held there.
+#[derive(Drop)]
+pub struct HeldDisk<'a, D, R> {
+    pub disk: D,
+    pub stage: &'a Stage<'a, R>,
+}
+
+impl<D: Device, R: Clock> Device for HeldDisk<'_, D, R> {
+    ghost past_of = { λ d. D.past_of d.disk };
+
+    ghost failures = { λ d. D.failures d.disk };
+
+    fn sectors(&self) -> u64 {
+        self.disk.sectors()
+    }
+
+    fn read(&mut self, n: u64, buffer: &mut [u8; SECTOR_SIZE]) -> Result<(), Failed> {
+        self.disk.read(n, buffer)
+    }
+
+    fn write(&mut self, n: u64, bytes: &[u8; SECTOR_SIZE]) -> Result<(), Failed> {
+        self.disk.write(n, bytes)
+    }
+
+    fn sync(&mut self) -> Result<(), Failed> {
+        self.stage.pass(&self.stage.flusher, Place::Sync);
+        self.disk.sync()
+    }
+}

@@ -1,0 +1,10 @@
+//! Tests of the crates `records` and `store_image_parts`: values byte by byte, as the format document has them, and
+//! texts.
+//!
+//! Proved of them is safety.
+#![tactic(auto)]
+
+#[cfg(test)]
+mod part_tests;
+#[cfg(test)]
+mod record_tests;

@@ -1,0 +1,190 @@
+-- How the flusher's part goes on from call to call.
+use Rattle.std.proofs.Common.{◌≡◌, ℕ, ◌+◌, ◌<◌, ◌≤◌, Bool, true, false, List, [], ◌++◌, length, take, Result, Ok, Err, IfErr, IfOk, OnErr, OnOk, inl, inr, refl}
+use Rattle.std.proofs.Common.{sym, ap, ◌∙◌, subst, arith, append-nil, append_assoc, length-append}
+use Rattle.std.proofs.lemmas.Bool.{false≢true}
+use Rattle.std.proofs.lemmas.List.{take-append-le}
+use Rattle.record_values.specs.GeometryValue.{GeometryValue}
+use Rattle.records.specs.RecordValue.{RecordValue}
+use Rattle.record_values.specs.declared.error.Error.{Error}
+use Rattle.model.specs.Cells.{cells_after}
+use Rattle.model.specs.Given.{given_after, opening_cells}
+use Rattle.core_model.specs.Histories.{CanOpen, Opened}
+use Rattle.sector_device.specs.Disk.{CrashState}
+use Rattle.sector_device.specs.DevicePast.{DevicePast, LeavesOnly, Rises}
+use Rattle.sector_device.proofs.Counts.{rises_later}
+use Rattle.sector_device.proofs.Moments.{joined, started, weaker}
+use Rattle.board.specs.Views.{FlusherCount}
+use Rattle.flip_image.specs.Layout.{HalvesValue}
+use Rattle.store_reader.specs.Contents.{Gives}
+use Rattle.store_image_model.specs.declared.chunk.Piece.{Piece}
+use Rattle.store_writer.specs.Contents.{StoreHas}
+use Rattle.store_writer.specs.Parts.{device_of, halves_of, has_failed, synced_of}
+use Rattle.store_writer.specs.Writer.{HasFailed, IsAsBefore, IsFlipReply, IsNotFlushed, IsStepReply}
+use Rattle.store_writer.specs.declared.writer.FlipReply.{FlipReply}
+use Rattle.store_writer.specs.declared.writer.FlipReply.TheVariants.{Flipped, Behind}
+use Rattle.store_writer.specs.declared.writer.StepReply.{StepReply}
+use Rattle.store_writer.specs.declared.writer.StepReply.TheVariants.{Taken, StartAgain}
+use Rattle.store_writer.specs.declared.writer.Writer.{Writer}
+use Rattle.threads_flusher.specs.Going.{GoesOn, TakesIn}
+use Rattle.threads_flusher.specs.Part.{FlushValue, GivesBeginning, IsFlusher, FlushLeaves, Publishes, popped_by}
+use Rattle.threads_flusher.proofs.Keeping.{is_left}
+
+-- ---- the store is the same
+
+module _ {D A : Type 0} (old new : Writer D A) where
+  same_geometry : new ≡ old → (halves_of new).geometry ≡ (halves_of old).geometry
+  same_geometry is = ap (λ (w : Writer D A). (halves_of w).geometry) is
+
+  left_geometry : IsAsBefore old new → (halves_of new).geometry ≡ (halves_of old).geometry
+  left_geometry is = ap (λ (w : Writer D A). (halves_of w).geometry) is
+
+  pub step_geometry : {A : Type 0} (number : ℕ) (piece : Piece A) (result : Result StepReply Error)
+      → IfOk result (λ reply. IsStepReply number piece reply old new) → OnErr result (IsAsBefore old new) → (halves_of new).geometry ≡ (halves_of old).geometry
+  step_geometry number piece (Ok Taken) is left = ap (λ (h : HalvesValue). h.geometry) is.1.1.1
+  step_geometry number piece (Ok StartAgain) is left = same_geometry is.0
+  step_geometry number piece (Err e) is left = left_geometry left
+
+  pub flip_geometry : (n : ℕ) (result : Result FlipReply Error) → IfOk result (λ reply. IsFlipReply n reply old new) → OnErr result (IsAsBefore old new)
+      → (halves_of new).geometry ≡ (halves_of old).geometry
+  flip_geometry n (Ok (Flipped m)) is left = ap (λ (h : HalvesValue). h.geometry) is.5.halves-are
+  flip_geometry n (Ok Behind) is left = same_geometry is.0
+  flip_geometry n (Err e) is left = left_geometry left
+
+-- ---- a failure is counted
+
+-- where the device failed in this call
+abbrev Counts : (old new : Bool) → (before now : ℕ) → Type 0
+Counts old new before now = new ≡ true → old ≡ false → Rises before now
+
+rises_up : (a b c : ℕ) → b ≤ c → Rises a b → Rises a c
+rises_up a b c le rises below = let up : a < b = rises below in omega (arith, le, up)
+
+pub counted_then : (old mid new : Bool) (a b c : ℕ) → a ≤ b → b ≤ c → Counts old mid a b → Counts mid new b c → Counts old new a c
+counted_then old true new a b c low high first second = λ now before. rises_up a b c high (first refl before)
+counted_then old false new a b c low high first second = λ now before. rises_later a b c low high (second now refl)
+
+-- it did not fail
+pub counted_same : (old new : Bool) (a b : ℕ) → new ≡ old → Counts old new a b
+counted_same old new a b same now before = absurd (false≢true (sym before ∙ sym same ∙ now))
+
+module _ {D A : Type 0} (failures : D → ℕ) (old new : Writer D A) where
+  pub counted_by_flush : {T : Type 0} (result : Result T Error) → OnOk result ((has_failed old ≡ false) × (has_failed new ≡ false))
+      → IfErr result (λ e. IsNotFlushed failures e old new)
+      → has_failed new ≡ true → has_failed old ≡ false → Rises (failures (device_of old)) (failures (device_of new))
+  counted_by_flush (Ok x) sound err now before = absurd (false≢true (sym sound.1 ∙ now))
+  counted_by_flush (Err e) sound (inl none) now before = absurd (false≢true (sym before ∙ (ap (λ (w : Writer D A). has_failed w) (sym none.4) ∙ now)))
+  counted_by_flush (Err e) sound (inr failed) now before = (failed.2 before).1
+
+  pub counted_by_call : {T : Type 0} (result : Result T Error) → OnOk result ((has_failed old ≡ false) × (has_failed new ≡ false))
+      → IfErr result (λ e. HasFailed failures e old new)
+      → has_failed new ≡ true → has_failed old ≡ false → Rises (failures (device_of old)) (failures (device_of new))
+  counted_by_call (Ok x) sound err now before = absurd (false≢true (sym sound.1 ∙ now))
+  counted_by_call (Err e) sound failed now before = failed.2 before
+
+-- ---- the part goes on
+
+module _ (o : Opened) where
+  -- what gives a beginning of some records gives one of more, with every record up to a lower floor
+  pub beginning_of : (g : GeometryValue) (handed more now : List RecordValue) (floor low : ℕ) (image : CrashState) → now ≡ handed ++ more → low ≤ floor
+      → GivesBeginning o g handed floor image → GivesBeginning o g now low image
+  beginning_of g handed more now floor low image is below left =
+      let first : take left.count now ≡ take left.count handed = ap (take left.count) is ∙ take-append-le left.count handed more left.most in
+      record {
+        count = left.count;
+        most = omega (arith, left.most, ap length is, length-append handed more);
+        least = omega (arith, below, left.least);
+        has = subst (λ (rs : List RecordValue). StoreHas g image (o.given.last + left.count) (cells_after (opening_cells o.given) rs)) (sym first) left.has;
+        gives = subst (λ (rs : List RecordValue). Gives image g (given_after o.given rs)) (sym first) left.gives;
+        opens = subst (λ (rs : List RecordValue). CanOpen o → CanOpen (record o { given = given_after o.given rs })) (sym first) left.opens;
+      }
+
+  pub same_store : (g now : GeometryValue) (handed : List RecordValue) (floor : ℕ) (image : CrashState) → now ≡ g → GivesBeginning o g handed floor image
+      → GivesBeginning o now handed floor image
+  same_store g now handed floor image is left = subst (λ (x : GeometryValue). GivesBeginning o x handed floor image) (sym is) left
+
+module _ {D A : Type 0} (past_of : D → DevicePast) (failures : D → ℕ) (o : Opened) where
+  -- by no call
+  pub goes_nowhere : (f : FlushValue D A) → IsFlusher past_of o f → GoesOn past_of failures o f f
+  goes_nowhere f is = record {
+    popped = [];
+    popped-are = sym (append-nil (popped_by f));
+    more = [];
+    handed = sym (append-nil f.handed);
+    geometry = refl;
+    rises = omega arith;
+    horizon = omega arith;
+    images = started (past_of (device_of f.writer)) (FlushLeaves o f) (λ image crash. is_left past_of o f is image (is.writer.images image crash));
+    later = omega arith;
+    counted = counted_same (has_failed f.writer) (has_failed f.writer) (failures (device_of f.writer)) (failures (device_of f.writer)) refl;
+  }
+
+  -- by records that are popped and handed in
+  pub goes_by_taking : (old new : FlushValue D A) → IsFlusher past_of o new → TakesIn old new → GoesOn past_of failures o old new
+  goes_by_taking old new is takes = record {
+    popped = takes.popped;
+    popped-are = takes.popped-are;
+    more = takes.more;
+    handed = takes.handed;
+    geometry = ap (λ (h : HalvesValue). h.geometry) takes.got.halves;
+    rises = omega (arith, takes.got.synced);
+    horizon = omega (arith, ap (λ (c : FlusherCount). c.horizon) takes.published);
+    images =
+        subst (λ (n : ℕ). LeavesOnly (past_of (device_of old.writer)) (past_of (device_of new.writer))
+        (GivesBeginning o (halves_of new.writer).geometry new.handed n)) takes.got.synced
+        (subst (λ (d : D). LeavesOnly (past_of d) (past_of (device_of new.writer)) (FlushLeaves o new)) takes.got.device
+        (started (past_of (device_of new.writer)) (FlushLeaves o new) (λ image crash. is_left past_of o new is image (is.writer.images image crash))));
+    later = omega (arith, ap failures takes.got.device);
+    counted = counted_same (has_failed old.writer) (has_failed new.writer) (failures (device_of old.writer)) (failures (device_of new.writer)) takes.got.failed;
+  }
+
+  -- by a call of the writer
+  pub goes_by_call : (old new : FlushValue D A) → old.published.horizon ≤ synced_of old.writer → Publishes old new
+      → (halves_of new.writer).geometry ≡ (halves_of old.writer).geometry → synced_of old.writer ≤ synced_of new.writer
+      → LeavesOnly (past_of (device_of old.writer)) (past_of (device_of new.writer)) (FlushLeaves o old)
+      → failures (device_of old.writer) ≤ failures (device_of new.writer)
+      → (has_failed new.writer ≡ true → has_failed old.writer ≡ false → Rises (failures (device_of old.writer)) (failures (device_of new.writer)))
+      → GoesOn past_of failures o old new
+  goes_by_call old new low publishes geometry rises images later counted = record {
+    popped = [];
+    popped-are = ap (λ l. l ++ new.held) publishes.handed ∙ ap (λ l. old.handed ++ l) publishes.held ∙ sym (append-nil (popped_by old));
+    more = [];
+    handed = publishes.handed ∙ sym (append-nil old.handed);
+    geometry = geometry;
+    rises = rises;
+    horizon = omega (arith, low, rises, ap (λ (c : FlusherCount). c.horizon) publishes.published);
+    images = weaker (past_of (device_of old.writer)) (past_of (device_of new.writer)) (FlushLeaves o old)
+        (GivesBeginning o (halves_of new.writer).geometry new.handed (synced_of old.writer))
+        (λ image left. subst (λ (rs : List RecordValue). GivesBeginning o (halves_of new.writer).geometry rs (synced_of old.writer) image)
+        (sym publishes.handed)
+        (same_store o (halves_of old.writer).geometry (halves_of new.writer).geometry old.handed (synced_of old.writer) image geometry left)) images;
+    later = later;
+    counted = counted;
+  }
+
+  -- by one and then another
+  pub goes_then : (old mid new : FlushValue D A) → GoesOn past_of failures o old mid → GoesOn past_of failures o mid new → GoesOn past_of failures o old new
+  goes_then old mid new first second = record {
+    popped = first.popped ++ second.popped;
+    popped-are = second.popped-are ∙ ap (λ l. l ++ second.popped) first.popped-are ∙ append_assoc (popped_by old) first.popped second.popped;
+    more = first.more ++ second.more;
+    handed = second.handed ∙ ap (λ l. l ++ second.more) first.handed ∙ append_assoc old.handed first.more second.more;
+    geometry = second.geometry ∙ first.geometry;
+    rises = omega (arith, first.rises, second.rises);
+    horizon = omega (arith, first.horizon, second.horizon);
+    images =
+        let P : CrashState → Type 0 = GivesBeginning o (halves_of new.writer).geometry new.handed (synced_of old.writer) in
+        joined (past_of (device_of old.writer)) (past_of (device_of mid.writer)) (past_of (device_of new.writer)) P
+        (weaker (past_of (device_of old.writer)) (past_of (device_of mid.writer))
+        (GivesBeginning o (halves_of mid.writer).geometry mid.handed (synced_of old.writer)) P
+        (λ image left. beginning_of o (halves_of new.writer).geometry mid.handed second.more new.handed (synced_of old.writer)
+        (synced_of old.writer) image second.handed (omega arith)
+        (same_store o (halves_of mid.writer).geometry (halves_of new.writer).geometry mid.handed (synced_of old.writer) image second.geometry left))
+        first.images)
+        (weaker (past_of (device_of mid.writer)) (past_of (device_of new.writer))
+        (GivesBeginning o (halves_of new.writer).geometry new.handed (synced_of mid.writer)) P
+        (λ image left. beginning_of o (halves_of new.writer).geometry new.handed [] new.handed (synced_of mid.writer) (synced_of old.writer) image
+        (sym (append-nil new.handed)) first.rises left) second.images);
+    later = omega (arith, first.later, second.later);
+    counted = counted_then (has_failed old.writer) (has_failed mid.writer) (has_failed new.writer) (failures (device_of old.writer))
+        (failures (device_of mid.writer)) (failures (device_of new.writer)) first.later second.later first.counted second.counted;
+  }

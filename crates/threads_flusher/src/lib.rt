@@ -1,0 +1,23 @@
+//! The flusher's part: what one thread owns that writes the records which others make.
+//!
+//! It pops records from the queue, hands them in to the writer of the store, which owns the device, and publishes on
+//! the board how far they are safe. Each step is a method on a `&mut`, with no lock and no thread, so that a loop above
+//! adds nothing to believe. That a popped record can follow the ones before it is known under the lock alone: there the
+//! queue's two ends are compared, and what was popped is handed in; and there an image is copied, behind all records
+//! made.
+//!
+//! Proved: no record that was popped is lost (`takes`, `handed`). At each moment of `flush`, `take_piece` and `flip` a
+//! crash leaves what the first records handed in make of what was opened, with all that were synced before (`images`).
+//! After each of them the board has what is synced, and no more (`publishes`). Neither proved nor tested here: that the
+//! queue gives or takes a record, and that calls succeed where there is memory.
+//!
+//! Lemmas about its public words that crates above may cite, in `proofs`: `Going`, `Keeping`, `Openings` and `Taking`.
+#![tactic(auto)]
+
+mod copying;
+mod ends;
+mod part;
+mod settling;
+
+pub use ends::FlushEnds;
+pub use part::FlushPart;

@@ -1,0 +1,124 @@
+-- What is left of an engine that was opened and taken apart.
+use Rattle.std.proofs.Common.{◌≡◌, ℕ, List, [], refl, sym, ap, subst, ◌∙◌, inl, arith}
+use Rattle.std.proofs.lemmas.List.{nil_from_length}
+use Rattle.record_values.specs.GeometryValue.{GeometryValue}
+use Rattle.record_values.specs.declared.error.Error.{Error}
+use Rattle.record_values.specs.declared.error.Error.TheVariants.{NoMemory}
+use Rattle.records.specs.RecordValue.{RecordValue}
+use Rattle.model.specs.Given.{opening_cells}
+use Rattle.core_model.specs.Histories.{CanOpen, Opened, opened}
+use Rattle.core_model.specs.States.{State}
+use Rattle.core_model.specs.Events.{Standing, standing_at}
+use Rattle.core_model.specs.Served.{ServesAll, nothing}
+use Rattle.core_laws.specs.Calls.{BeginsWith}
+use Rattle.core_loader.specs.Loaded.{holding}
+use Rattle.core_parts.specs.View.{CoreValue, IsState}
+use Rattle.store_image_model.specs.Run.{end_of}
+use Rattle.sector_device.specs.Disk.{IsSynced}
+use Rattle.sector_device.specs.DevicePast.{DevicePast}
+use Rattle.store_writer.specs.declared.writer.Writer.{Writer}
+use Rattle.store_writer.specs.Writer.{IsWriter}
+use Rattle.gate_log.specs.Area.{Log}
+use Rattle.restart.specs.declared.parts.Parts.{Parts}
+use Rattle.restart.specs.Parted.{ArePartsOf, LeavesParts, LeavesPartsOf}
+use Rattle.core_parts.specs.Opening as held
+use Rattle.restart.specs.Parts.{core_of, device_of}
+use Rattle.restart.specs.Reopening.{IsEmptied, IsNotOpened, IsOpened, IsTurned, opening}
+use Rattle.restart.specs.Store.{Past, over, run_of}
+use Rattle.shared.specs.Openings.{IsJustOpened, opened_of}
+use Rattle.threads_lifetime.specs.Openings.{IsNewWriter, IsUnsound, Opens}
+
+-- nothing was served
+both_same : {s new : State} {k next : Standing} → ServesAll s k [] new next → (new ≡ s) × (next ≡ k)
+both_same nothing = (refl, refl)
+
+module _ {D A : Type 0} (past_of : D → DevicePast) (before : D) (engine : Parts D A) (is : IsOpened past_of before engine) where
+  pub opens : Opens (past_of before).disk.content (over is.geometry is.given)
+  opens = record { geometry = is.geometry; given = is.given; gives = is.gives; opened = refl }
+
+  -- where there was no memory behind the opening, and the device is given back
+  pub not_opened : (failures : D → ℕ) (after : D) (e : Error) → after ≡ device_of engine → failures (device_of engine) ≡ failures before → e ≡ NoMemory
+      → IsNotOpened past_of failures before after e
+  not_opened failures after e same quiet none = record {
+    device = subst (λ (d : D). IsTurned past_of before d) (sym same) is.device;
+    why = inl (inl none);
+    told = λ other. ap failures same ∙ quiet;
+    synced = λ other. subst (λ (d : D). IsSynced (past_of d).disk) (sym same) is.synced;
+  }
+
+-- what the core that was opened holds is what the store opened with
+held_is : {D A : Type 0} (past_of : D → DevicePast) (before : D) (engine : Parts D A) (is : IsOpened past_of before engine) (core : CoreValue)
+    → core ≡ core_of engine → held.opened_of core ≡ over is.geometry is.given
+held_is past_of before engine is core same = ap held.opened_of (same ∙ is.core)
+
+-- the core was tested, and a core may begin with what it holds
+pub sound_opened : {D A : Type 0} (past_of : D → DevicePast) (before : D) (engine : Parts D A) (is : IsOpened past_of before engine) (core : CoreValue)
+    → core ≡ core_of engine → CanOpen (held.opened_of core) → CanOpen (over is.geometry is.given)
+sound_opened past_of before engine is core same can = subst CanOpen (held_is past_of before engine is core same) can
+
+-- the core was tested, and no core may begin with what it holds
+pub unsound_opened : {D A : Type 0} (past_of : D → DevicePast) (before : D) (engine : Parts D A) (is : IsOpened past_of before engine) (core : CoreValue)
+    → core ≡ core_of engine → (CanOpen (held.opened_of core) → ⊥)
+    → (failures : D → ℕ) (after : D) → after ≡ device_of engine → failures (device_of engine) ≡ failures before → IsUnsound past_of failures before after
+unsound_opened past_of before engine is core held_by cannot failures after same quiet = record {
+  opened = over is.geometry is.given;
+  opens = opens past_of before engine is;
+  unsound = λ can. cannot (subst CanOpen (sym (held_is past_of before engine is core held_by)) can);
+  device = subst (λ d. IsTurned past_of before d) (sym same) is.device;
+  synced = subst (λ d. IsSynced (past_of d).disk) (sym same) is.synced;
+  quiet = ap failures same ∙ quiet;
+}
+
+module _ {D A : Type 0} (past_of : D → DevicePast) (before : D) (engine : Parts D A) (is : IsOpened past_of before engine)
+    (emptied : IsEmptied past_of before engine)
+    (can : CanOpen (over is.geometry is.given))
+    (core : CoreValue) (w : Writer D A) (parts : ArePartsOf engine core w) (left : LeavesPartsOf past_of engine core w) where
+  abbrev o : Opened
+  o = over is.geometry is.given
+
+  -- the run that has not begun
+  abbrev past : Past A
+  past = opening is.geometry is.given
+
+  begun : LeavesParts past_of past core w
+  begun = left past (is.begins can)
+
+  none_made : begun.made ≡ []
+  none_made = nil_from_length begun.made (omega (arith, begun.many))
+
+  core_is : core ≡ holding is.geometry is.given
+  core_is = parts.core-is ∙ ap (λ (v : CoreValue). record v { outbox = [] }) is.core
+
+  pub opened_is : opened_of core ≡ o
+  opened_is = ap opened_of core_is
+
+  stands : IsState core (opened o) (standing_at o.given.last)
+  stands =
+      let same = both_same begun.served.served in
+      subst (λ (k : Standing). IsState core (opened o) k) same.1 (subst (λ (s : State). IsState core s begun.standing) same.0 begun.shown)
+
+  pub just_opened : IsJustOpened core
+  just_opened = record {
+    opens = subst CanOpen (sym opened_is) can;
+    begins = subst (λ (x : Opened). BeginsWith x core) (sym opened_is) (record { stands = stands; none_waits = ap (λ (v : CoreValue). v.outbox) core_is });
+  }
+
+  writes : IsWriter past_of (run_of past []) is.given.last w
+  writes = subst (λ (n : ℕ). IsWriter past_of (run_of past []) n w) (omega arith)
+      (subst (λ (made : List RecordValue). IsWriter past_of (run_of past made) (end_of (run_of past made)) w) none_made begun.writer)
+
+  new_writer : IsNewWriter past_of o w
+  new_writer = record {
+    writer = subst (λ (g : GeometryValue). IsWriter past_of
+        (record { geometry = g; last = is.given.last; cells = opening_cells is.given; records = [] }) is.given.last w) (sym writes.geometry-is) writes;
+    pages = ap (λ (g : GeometryValue). g.pages) writes.geometry-is;
+    places = ap (λ (g : GeometryValue). g.entries) writes.geometry-is;
+    fits = can.fits.room;
+    synced = parts.synced ∙ is.horizon;
+    sound = parts.failed ∙ is.sound;
+    empty = ap (λ (l : Log). l.open_slots) parts.log ∙ emptied.1;
+    idle = parts.image ∙ emptied.2;
+  }
+
+  pub new_over_core : IsNewWriter past_of (opened_of core) w
+  new_over_core = subst (λ (x : Opened). IsNewWriter past_of x w) (sym opened_is) new_writer

@@ -1,0 +1,110 @@
+-- Seats in their order: lemmas for those who hand seats out and take them back.
+use Rattle.std.proofs.Common.{◌≡◌, ◌⊎◌, ◌∙◌, ◌+◌, ◌<◌, ◌++◌, ◌∷◌, ℕ, zero, suc, List, [], Some, subst, length, map, inl, inr, ⊎_elim, refl, sym, ap, arith}
+use Rattle.std.proofs.Common.{length-append}
+use Rattle.std.proofs.lemmas.List.{length-map}
+use Rattle.std.proofs.lemmas.Option.{get_or_from_slice_get, slice_get_within}
+use Rattle.std.specs.Prelude.{slice_get, slice_index_or, slice_set}
+use Rattle.std.specs.declared.vec.Vec.{Vec}
+use Rattle.atomic_table.specs.Seated.{TableId}
+use Rattle.threads_lifetime.specs.Gathered.{AreAllSeats}
+use Rattle.shared.specs.Seats.{AreNewSeats, SeatValue}
+
+-- the last of a list with one more
+pub get_last : {X : Type 0} (xs : List X) (x : X) → slice_get (xs ++ x ∷ []) (length xs) ≡ Some x
+get_last [] x = refl
+get_last (y ∷ ys) x = get_last ys x
+
+-- and the others
+pub get_first : {X : Type 0} (xs : List X) (x y : X) (k : ℕ) → slice_get xs k ≡ Some y → slice_get (xs ++ x ∷ []) k ≡ Some y
+get_first [] x y k at = absurd cc
+get_first (z ∷ zs) x y zero at = at
+get_first (z ∷ zs) x y (suc k) at = get_first zs x y k at
+
+-- which there are no more of
+pub get_either : {X : Type 0} (xs : List X) (x y : X) (k : ℕ) → slice_get (xs ++ x ∷ []) k ≡ Some y → (slice_get xs k ≡ Some y) ⊎ ((k ≡ length xs) × (y ≡ x))
+get_either [] x y zero at = inr (refl, cc)
+get_either [] x y (suc k) at = absurd cc
+get_either (z ∷ zs) x y zero at = inl at
+get_either (z ∷ zs) x y (suc k) at = ⊎_elim (λ early. inl early) (λ last. inr (ap suc last.0, last.1)) (get_either zs x y k at)
+
+-- what is at a place of a list
+pub some_at : {X : Type 0} (xs : List X) (k : ℕ) → k < length xs → (x : X) × (slice_get xs k ≡ Some x)
+some_at [] k within = absurd (omega (arith, within))
+some_at (x ∷ xs) zero within = (x, refl)
+some_at (x ∷ xs) (suc k) within = some_at xs k (omega (arith, within))
+
+-- and of what comes of it
+pub of_mapped : {X Y : Type 0} (f : X → Y) (xs : List X) (k : ℕ) (y : Y) → slice_get (map f xs) k ≡ Some y → (x : X) × (slice_get xs k ≡ Some x) × (f x ≡ y)
+of_mapped f [] k y at = absurd cc
+of_mapped f (x ∷ xs) zero y at = (x, refl, cc)
+of_mapped f (x ∷ xs) (suc k) y at = of_mapped f xs k y at
+
+pub in_mapped : {X Y : Type 0} (f : X → Y) (xs : List X) (k : ℕ) (x : X) → slice_get xs k ≡ Some x → slice_get (map f xs) k ≡ Some (f x)
+in_mapped f [] k x at = absurd cc
+in_mapped f (y ∷ ys) zero x at = cc
+in_mapped f (y ∷ ys) (suc k) x at = in_mapped f ys k x at
+
+-- one seat more, of the next number
+pub one_more : (count : ℕ) (seats : List SeatValue) (s : SeatValue) → AreAllSeats count seats → s.number ≡ count → AreAllSeats (count + 1) (seats ++ s ∷ [])
+one_more count seats s all next = record {
+  counted = length-append seats (s ∷ []) ∙ ap (λ (n : ℕ). n + 1) all.counted;
+  each = λ k x at. ⊎_elim (λ early. all.each k x early) (λ last. ap (λ (z : SeatValue). z.number) last.1
+      ∙ (next ∙ (sym all.counted ∙ sym last.0))) (get_either seats s x k at);
+}
+
+-- new seats but for the last of them
+pub all_but_last : (board : TableId) (count : ℕ) (seats : List SeatValue) (s : SeatValue) → AreNewSeats board count (seats ++ s ∷ [])
+    → AreAllSeats (length seats) seats × (s.number ≡ length seats) × (length seats + 1 ≡ count)
+all_but_last board count seats s new = (
+  record { counted = refl; each = λ k x at. (new.each k x (get_first seats s x k at)).0 },
+  (new.each (length seats) s (get_last seats s)).0,
+  sym (length-append seats (s ∷ [])) ∙ new.counted,
+)
+
+-- what has the same numbers at the same places
+pub kept_in_order : {X : Type 0} (seat : X → SeatValue) (count : ℕ) (xs ys : List X) → length ys ≡ length xs
+    → ((k : ℕ) (x : X) → k < length xs → (seat (slice_index_or ys k x)).number ≡ (seat (slice_index_or xs k x)).number)
+    → AreAllSeats count (map seat xs) → AreAllSeats count (map seat ys)
+kept_in_order seat count xs ys same numbers all = record {
+  counted = length-map ys seat ∙ (same ∙ (sym (length-map xs seat) ∙ all.counted));
+  each = λ k s at.
+      let y = of_mapped seat ys k s at in
+      let within : k < length xs = omega (arith, slice_get_within ys k y.0 y.1, same) in
+      let x = some_at xs k within in
+      let y_is = get_or_from_slice_get ys k y.0 y.0 y.1 in
+      let x_is = get_or_from_slice_get xs k x.0 y.0 x.1 in
+      sym (ap (λ (z : SeatValue). z.number) y.2)
+      ∙ (sym (ap (λ z. (seat z).number) y_is)
+      ∙ (numbers k y.0 within
+      ∙ (ap (λ z. (seat z).number) x_is ∙ all.each k (seat x.0) (in_mapped seat xs k x.0 x.1))));
+}
+
+-- writers that have the seats that they had, and the last seat
+pub all_left : {W X Y : Type 0} (seat : W → SeatValue) (count n : ℕ) (before : Vec W X) (after : Vec W Y) (last : SeatValue)
+    → AreAllSeats n (map seat before.items) → last.number ≡ n → n + 1 ≡ count → after.len ≡ before.len
+    → ((k : ℕ) (w : W) → k < before.len → (seat (slice_index_or after.items k w)).number ≡ (seat (slice_index_or before.items k w)).number)
+    → AreAllSeats count (map seat after.items ++ last ∷ [])
+all_left seat count n before after last all next more same numbers =
+    subst (λ (m : ℕ). AreAllSeats m (map seat after.items ++ last ∷ [])) more
+    (one_more n (map seat after.items) last
+    (kept_in_order seat n before.items after.items (sym after.ok.0 ∙ (same ∙ before.ok.0))
+    (λ k w within. numbers k w (subst (λ (m : ℕ). k < m) (sym before.ok.0) within)) all)
+    next)
+
+-- new seats, each in its place
+pub all_new : (board : TableId) (count : ℕ) (seats : List SeatValue) → AreNewSeats board count seats → AreAllSeats count seats
+all_new board count seats new = record { counted = new.counted; each = λ k s at. (new.each k s at).0 }
+
+-- what one place has
+some_is : (s t : SeatValue) → Some s ≡ Some t → s ≡ t
+some_is s t e = cc
+
+-- the first of them may be another of its number
+pub first_set : (count : ℕ) (seats : List SeatValue) (old new : SeatValue) → AreAllSeats count seats → old ≡ slice_index_or seats 0 old
+    → new.number ≡ old.number → AreAllSeats count (slice_set seats 0 new)
+first_set count [] old new all at same = all
+first_set count (x ∷ xs) old new all at same = record { counted = all.counted; each = each }
+  where
+    each : (k : ℕ) (s : SeatValue) → slice_get (new ∷ xs) k ≡ Some s → s.number ≡ k
+    each zero s here = ap (λ (t : SeatValue). t.number) (sym (some_is new s here)) ∙ (same ∙ (ap (λ (t : SeatValue). t.number) at ∙ all.each zero x refl))
+    each (suc k) s here = all.each (suc k) s here

@@ -1,0 +1,81 @@
+use Rattle.std.proofs.Common.{◌∙◌, ℕ, ap, arith, inl, inr, refl, subst, sym}
+use Rattle.std.proofs.lemmas.Bool.{false≢true}
+use Rattle.core_model.specs.Histories.{CanOpen, Opened}
+use Rattle.restart.specs.Parts.{core_of}
+use Rattle.shared.specs.Openings.{IsJustOpened, IsOpening, opened_of}
+use Rattle.threads_lifetime.specs.Openings.{IsNewWriter, Opens}
+use Rattle.threads_lifetime.proofs.Engines.{fresh_begins, new_settled, none_active, some_active, stays_settled}
+use Rattle.threads_lifetime.proofs.from_engine.open_engine.Goals as goal
+
+pub fresh_core-requires : goal.fresh_core-requires
+fresh_core-requires g c = none_active _ _ c.core.ensures _ c.active_txns.ensures.number c.if-active_txns-gt0.false
+
+pub into_writer-requires : goal.into_writer-requires
+into_writer-requires g c = none_active _ _ c.core.ensures _ c.active_txns.ensures.number c.if-active_txns-gt0.false
+
+pub invariant_of-result : goal.invariant_of-result
+invariant_of-result g c =
+    let h = g.D.Device.past_of in
+    let fresh = c.in-Ok.ensures.fresh in
+    let made = c.in-Ok-open.ensures.made in
+    let same = c.in-Ok-open.ensures.core in (
+      subst (λ (n : ℕ). IsOpening n c.in-Ok-open.opening) (sym made.counted.0) made,
+      subst IsJustOpened (sym same) (fresh_begins (core_of c.args.engine) _ fresh (c.can_open.ensures.0 c.if-not-can_open.false)),
+      subst (λ (o : Opened). IsNewWriter h o c.in-Ok-into_writer.writer) (sym (ap opened_of same ∙ fresh.same))
+          (new_settled h _ c.in-Ok-into_writer.writer c.in-Ok-into_writer.ensures.written.settled),
+    )
+
+pub returns-in-Ok-into_writer-clause-opened : goal.returns-in-Ok-into_writer-clause-opened
+returns-in-Ok-into_writer-clause-opened g c =
+    let h = g.D.Device.past_of in
+    let written = c.in-Ok-into_writer.ensures.written in
+    let now = ap opened_of c.in-Ok-open.ensures.core ∙ c.in-Ok.ensures.fresh.same in
+    record {
+      most = omega arith;
+      seats = c.in-Ok-open.ensures.made.counted.0;
+      quiet = none_active _ _ c.core.ensures _ c.active_txns.ensures.number c.if-active_txns-gt0.false;
+      opened = now;
+      sound = subst CanOpen (sym now) (c.can_open.ensures.0 c.if-not-can_open.false);
+      stays = λ image crash. subst (Opens image) (sym now) (stays_settled h _ c.in-Ok-into_writer.writer written.settled image crash);
+      survives = written.survives;
+      well = written.quiet;
+      around = written.around;
+    }
+
+pub returns-then-active_txns-gt0-clause-refused : goal.returns-then-active_txns-gt0-clause-refused
+returns-then-active_txns-gt0-clause-refused g c = inl
+    (inl (refl, some_active _ _ c.core.ensures _ c.active_txns.ensures.number c.if-active_txns-gt0.true, refl))
+
+pub returns-then-not-can_open-clause-refused : goal.returns-then-not-can_open-clause-refused
+returns-then-not-can_open-clause-refused g c = (
+  none_active _ _ c.core.ensures _ c.active_txns.ensures.number c.if-active_txns-gt0.false,
+  λ can. false≢true (sym c.if-not-can_open.true ∙ c.can_open.ensures.1 can),
+  refl,
+)
+
+pub returns-in-Err-clause-refused : goal.returns-in-Err-clause-refused
+returns-in-Err-clause-refused g c =
+    inl (inr (
+      none_active _ _ c.core.ensures _ c.active_txns.ensures.number c.if-active_txns-gt0.false,
+      c.can_open.ensures.0 c.if-not-can_open.false,
+      inl (c.in-Err.ensures.no_memory, refl),
+    ))
+
+pub returns-in-Err-open-clause-refused : goal.returns-in-Err-open-clause-refused
+returns-in-Err-open-clause-refused g c =
+    inl (inr (
+      none_active _ _ c.core.ensures _ c.active_txns.ensures.number c.if-active_txns-gt0.false,
+      c.can_open.ensures.0 c.if-not-can_open.false,
+      inl (c.in-Err-open.ensures.no_memory, refl),
+    ))
+
+pub returns-in-Err-into_writer-clause-refused : goal.returns-in-Err-into_writer-clause-refused
+returns-in-Err-into_writer-clause-refused g c =
+    inl (inr (
+      none_active _ _ c.core.ensures _ c.active_txns.ensures.number c.if-active_txns-gt0.false,
+      c.can_open.ensures.0 c.if-not-can_open.false,
+      inr c.in-Err-into_writer.ensures.refused,
+    ))
+
+pub returns-then-seats-gt-SEATS_MAX-clause-refused : goal.returns-then-seats-gt-SEATS_MAX-clause-refused
+returns-then-seats-gt-SEATS_MAX-clause-refused g c = inr (refl, omega arith, refl)

@@ -1,0 +1,62 @@
+use Rattle.std.proofs.Common.{◌∙◌, ap, arith, inl, inr, refl, sym, subst, ℕ}
+use Rattle.std.proofs.lemmas.Bool.{false≢true}
+use Rattle.core_model.specs.Histories.{CanOpen, Opened}
+use Rattle.core_parts.specs.View.{CoreValue}
+use Rattle.restart.specs.Reopening.{IsTurned}
+use Rattle.restart.specs.Store.{over}
+use Rattle.sector_device.specs.Disk.{IsSynced}
+use Rattle.shared.specs.Openings.{IsJustOpened, IsOpening, opened_of}
+use Rattle.threads_lifetime.specs.Openings.{IsNewWriter, Opens}
+use Rattle.threads_lifetime.proofs.Opened.{just_opened, new_over_core, not_opened, opened_is, opens, sound_opened, unsound_opened}
+use Rattle.threads_lifetime.proofs.opening.open_store.Goals as goal
+
+pub invariant_of-result : goal.invariant_of-result
+invariant_of-result g c =
+    let is = c.in-Ok.ensures.opened in
+    let emptied = c.in-Ok.ensures.emptied in
+    let parted = c.in-Ok-take_apart.ensures in
+    let made = c.in-Ok-open.ensures.made in
+    let same = c.in-Ok-open.ensures.core in
+    let can : CanOpen (over is.geometry is.given) = sound_opened g.D.Device.past_of c.args.device c.in-Ok.engine is _ c.core.ensures
+    (c.can_open.ensures.0 c.if-not-can_open.false) in (
+      subst (λ (n : ℕ). IsOpening n c.in-Ok-open.opening) (sym made.counted.0) made,
+      subst IsJustOpened (sym same) (just_opened g.D.Device.past_of c.args.device c.in-Ok.engine is emptied can _ _ parted.parts parted.left),
+      subst (λ (v : CoreValue). IsNewWriter g.D.Device.past_of (opened_of v) c.in-Ok-take_apart.parts.1) (sym same)
+          (new_over_core g.D.Device.past_of c.args.device c.in-Ok.engine is emptied can _ _ parted.parts parted.left),
+    )
+
+pub returns-in-Ok-open-clause-opened : goal.returns-in-Ok-open-clause-opened
+returns-in-Ok-open-clause-opened g c =
+    let is = c.in-Ok.ensures.opened in
+    let emptied = c.in-Ok.ensures.emptied in
+    let parted = c.in-Ok-take_apart.ensures in
+    let can : CanOpen (over is.geometry is.given) = sound_opened g.D.Device.past_of c.args.device c.in-Ok.engine is _ c.core.ensures
+    (c.can_open.ensures.0 c.if-not-can_open.false) in
+    let over_engine = opened_is g.D.Device.past_of c.args.device c.in-Ok.engine is emptied can _ _ parted.parts parted.left in
+    let now = ap opened_of c.in-Ok-open.ensures.core ∙ over_engine in
+    record {
+      most = omega arith;
+      seats = c.in-Ok-open.ensures.made.counted.0;
+      opened = subst (λ (o : Opened). Opens (g.D.Device.past_of c.args.device).disk.content o) (sym now)
+          (opens g.D.Device.past_of c.args.device c.in-Ok.engine is);
+      sound = subst CanOpen (sym now) can;
+      device = subst (λ (d : g.row.D.Denot). IsTurned g.D.Device.past_of c.args.device d) (sym parted.parts.device) is.device;
+      synced = subst (λ (d : g.row.D.Denot). IsSynced (g.D.Device.past_of d).disk) (sym parted.parts.device) is.synced;
+      quiet = ap g.D.Device.failures parted.parts.device ∙ c.in-Ok.ensures.quiet;
+    }
+
+pub returns-then-not-can_open-clause-refused : goal.returns-then-not-can_open-clause-refused
+returns-then-not-can_open-clause-refused g c =
+    unsound_opened g.D.Device.past_of c.args.device c.in-Ok.engine c.in-Ok.ensures.opened _ c.core.ensures
+    (λ can. false≢true (sym c.if-not-can_open.true ∙ c.can_open.ensures.1 can)) g.D.Device.failures _ c.into_device.ensures.device c.in-Ok.ensures.quiet
+
+pub returns-in-Err-open-clause-refused : goal.returns-in-Err-open-clause-refused
+returns-in-Err-open-clause-refused g c = inl
+    (not_opened g.D.Device.past_of c.args.device c.in-Ok.engine c.in-Ok.ensures.opened g.D.Device.failures _ _
+    (c.into_device-in-Err-open.ensures.device ∙ c.in-Ok-take_apart.ensures.parts.device) c.in-Ok.ensures.quiet c.in-Err-open.ensures.no_memory)
+
+pub returns-then-seats-gt-SEATS_MAX-clause-refused : goal.returns-then-seats-gt-SEATS_MAX-clause-refused
+returns-then-seats-gt-SEATS_MAX-clause-refused g c = inr (refl, omega arith, refl)
+
+pub returns-in-Err-clause-refused : goal.returns-in-Err-clause-refused
+returns-in-Err-clause-refused g c = inl c.in-Err.ensures.refused

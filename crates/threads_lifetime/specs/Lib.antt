@@ -1,0 +1,4 @@
+pub mod Openings
+pub mod Gathered
+pub mod Written
+pub mod Closing

@@ -1,0 +1,42 @@
+//! A store that many threads have open.
+//!
+//! One call opens the store that a device holds, and gives what its threads need: what they share, a seat for each, the
+//! part of the thread that writes to the device, and the view of the one that builds the index.
+//!
+//! Proved: `open_store` opens a store as a restart does (`opened`), tells one that no core may begin with (`Unsound`),
+//! or refuses (`refused`). It has 16 seats at most. `open_engine` shares an engine that served: the store opens with
+//! what the engine holds, and no record up to its horizon is lost (`opened`); or the engine is given back (`refused`).
+//! What threads, or a crash within the opening, leave may be opened again (the laws `left_by_threads`,
+//! `left_by_an_opening`). `OpenStore::start` hands out new seats and a flusher's part with nothing popped (`seats`,
+//! `flush`). Neither: that `open_engine` doesn't read the device, and writes each sector once at most.
+//!
+//! The end of what many seats share: everything is taken back into one hand, every record is written out, and the
+//! commits of all seats are put in the order of their numbers.
+//!
+//! Proved: after an `Ok` of `finish` the commits of all seats are numbered 1 to n, each once, each seat's in order
+//! (`commits`). Each crash state gives the opened table with all of them set over it (`device`). Whatever the answer,
+//! at each moment a crash leaves what the first records made, with all that were synced as it began (`images`, `left`);
+//! each acknowledgement handed in is of such a record (`acked`). Neither: that `finish` returns. Two of its loops have
+//! no bound.
+//!
+//! Lemmas about its public words that crates above may cite, in `proofs`: `Orders`.
+#![tactic(auto)]
+
+mod closing;
+mod from_engine;
+mod gather;
+mod openable;
+mod opening;
+mod refusal;
+mod store;
+mod writing;
+
+pub use closing::{Closed, finish};
+pub use from_engine::open_engine;
+pub use openable::{
+    format_store, left_by_a_run, left_by_an_opening, left_by_threads, sound_or_not,
+};
+pub use opening::open_store;
+pub use refusal::OpenError;
+pub use shared::Parts;
+pub use store::OpenStore;

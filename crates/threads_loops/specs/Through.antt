@@ -1,0 +1,69 @@
+-- The states that the flush loop goes through.
+use Rattle.std.specs.Prelude.{◌≡◌, ◌⊎◌, ◌≤◌, ℕ, List, [], ◌∷◌, Result, IfErr, IfOk, OnErr, OnOk, false}
+use Rattle.record_values.specs.declared.error.Error.{Error}
+use Rattle.core_model.specs.Histories.{Opened}
+use Rattle.sector_device.specs.DevicePast.{DevicePast, LeavesOnly}
+use Rattle.store_image_model.specs.declared.chunk.Piece.{Piece}
+use Rattle.store_writer.specs.Parts.{device_of, halves_of, has_failed, synced_of}
+use Rattle.store_writer.specs.Writer.{HasFailed, IsAsBefore, IsBeforeFlush, IsChunk, IsFlipReply, IsFlushReply}
+use Rattle.store_writer.specs.Writer.{IsNotFlushed, IsStepReply}
+use Rattle.store_writer.specs.declared.writer.FlipReply.{FlipReply}
+use Rattle.store_writer.specs.declared.writer.FlushReply.{FlushReply}
+use Rattle.store_writer.specs.declared.writer.StepReply.{StepReply}
+use Rattle.threads_flusher.specs.Going.{TakesIn}
+use Rattle.threads_flusher.specs.Images.{IsHalfFull}
+use Rattle.threads_flusher.specs.Part.{FlushValue, FlushLeaves, Publishes, last_handed, run_of}
+
+-- One group was flushed, with this answer of the writer.
+pub record IsFlush {D A : Type 0} (failures : D → ℕ) (old new : FlushValue D A) : Type 0 where
+  pub result : Result FlushReply Error
+  pub flushed : IfOk result (λ reply. IsFlushReply reply old.writer new.writer)
+  pub sound : OnOk result ((has_failed old.writer ≡ false) × (has_failed new.writer ≡ false))
+  pub err : IfErr result (λ e. IsNotFlushed failures e old.writer new.writer)
+  pub left : OnErr result (IsBeforeFlush old.writer new.writer)
+
+-- One chunk of an image was offered that may be taken, with this answer. Half the slots of the log were full then, or
+-- more, unless the device had failed: so no image is begun earlier.
+pub record IsStep {D A : Type 0} (failures : D → ℕ) (o : Opened) (old new : FlushValue D A) : Type 0 where
+  pub number : ℕ
+  pub piece : Piece A
+  pub chunk : IsChunk (run_of o old) old.writer number piece
+  pub late : has_failed old.writer ≡ false → IsHalfFull old.writer
+  pub result : Result StepReply Error
+  pub stepped : IfOk result (λ reply. IsStepReply number piece reply old.writer new.writer)
+  pub sound : OnOk result ((has_failed old.writer ≡ false) × (has_failed new.writer ≡ false))
+  pub err : IfErr result (λ e. HasFailed failures e old.writer new.writer)
+  pub left : OnErr result (IsAsBefore old.writer new.writer)
+
+-- An image was to be made current, with this answer.
+pub record IsFlip {D A : Type 0} (failures : D → ℕ) (o : Opened) (old new : FlushValue D A) : Type 0 where
+  pub result : Result FlipReply Error
+  pub flipped : IfOk result (λ reply. IsFlipReply (last_handed o old) reply old.writer new.writer)
+  pub sound : OnOk result ((has_failed old.writer ≡ false) × (has_failed new.writer ≡ false))
+  pub err : IfErr result (λ e. HasFailed failures e old.writer new.writer)
+  pub left : OnErr result (IsAsBefore old.writer new.writer)
+
+-- One call of the writer: no record was popped or handed in, and what is published is what is synced now. A crash at
+-- any moment of it leaves what one before it could, with all that were synced then.
+pub record Calls {D A : Type 0} (past_of : D → DevicePast) (failures : D
+    → ℕ) (o : Opened) (old new : FlushValue D A) : Type 0 where
+  pub made : IsFlush failures old new ⊎ (IsStep failures o old new ⊎ IsFlip failures o old new)
+  pub publishes : Publishes old new
+  pub geometry : (halves_of new.writer).geometry ≡ (halves_of old.writer).geometry
+  pub rises : synced_of old.writer ≤ synced_of new.writer
+  pub images : LeavesOnly (past_of (device_of old.writer)) (past_of (device_of new.writer)) (FlushLeaves o old)
+  pub later : failures (device_of old.writer) ≤ failures (device_of new.writer)
+
+-- from each state to the next by records that were popped and handed in, or by one call of the writer; and it is the
+-- last one now
+abbrev pub GoesThrough : {D A : Type 0} → (D → DevicePast) → (D → ℕ) → Opened → FlushValue D A → List (FlushValue D A)
+    → FlushValue D A → Type 0
+GoesThrough past_of failures o old [] new = new ≡ old
+GoesThrough past_of failures o old (next ∷ states) new = (TakesIn old next ⊎ Calls past_of failures o old next)
+    × GoesThrough past_of failures o next states new
+
+-- there are such states
+pub record RunsThrough {D A : Type 0} (past_of : D → DevicePast) (failures : D
+    → ℕ) (o : Opened) (old new : FlushValue D A) : Type 0 where
+  pub states : List (FlushValue D A)
+  pub steps : GoesThrough past_of failures o old states new

@@ -1,0 +1,78 @@
+//! The loop that cleans the index.
+ghost use Rattle.std.specs.Prelude.{◌≡◌, false, true};
+ghost use Rattle.core_model.specs.Events.{Event};
+ghost use Rattle.core_parts.specs.Cleaning.{cleaner};
+ghost use Rattle.core_parts.specs.Replies.{reply_by};
+ghost use Rattle.shared.specs.Served.{WasServed};
+
+use crate::gate::{Gate, Point};
+use crate::rest::{Rest, has_ended, pause_cleaner};
+use nsf_core::CleanReply;
+use records::Error;
+use shared::{CleanPart, Group, Memory, Shared};
+use std::sync::Wait;
+use std::sync::atomic::AtomicU64;
+
+/// Makes steps of the cleaner, each under the lock anew, until the stop flag is read. What is refused it passes over.
+/// After some steps that removed nothing it leaves room for the others by a pause, and behind a round through the index
+/// that removed nothing it sleeps, longer each time.
+pub fn clean_loop<B: Group, R: Wait, G: Gate, A: Memory>(
+    rt: &R,
+    shared: &Shared<B, A>,
+    part: &mut CleanPart<B>,
+    gate: &G,
+)
+    ensures { part.new ≡ record part.old { stopped = true } }
+{
+    clean_until(rt, shared, part, gate, false, &AtomicU64::new(0));
+}
+
+/// The same, until the run ends, if it is in one.
+pub(crate) fn clean_until<B: Group, R: Wait, G: Gate, A: Memory>(
+    rt: &R,
+    shared: &Shared<B, A>,
+    part: &mut CleanPart<B>,
+    gate: &G,
+    in_run: bool,
+    ended: &AtomicU64,
+)
+    ensures part { part.new ≡ record part.old { stopped = part.new.stopped } }
+    ensures stopped { in_run ≡ false → part.new.stopped ≡ true }
+{
+    let bell = &shared.board().waits().resting;
+    let mut rest = Rest::new();
+    let mut steps = 0;
+    for _ in rt.forever() {
+        let rings = bell.rings();
+        if has_ended(in_run, ended) {
+            return;
+        }
+        let is_stopped = part.stopped(shared);
+        if is_stopped {
+            return;
+        }
+        gate.at(Point::CleanStep);
+        match clean_step(rt, shared, part) {
+            Ok(CleanReply::Cleaned(_)) => rest = Rest::new(),
+            Ok(CleanReply::Kept(_)) => steps = pause_cleaner(rt, bell, rings, steps),
+            Ok(CleanReply::Wrapped) | Err(_) => rest.sleep(rt, bell, rings),
+        }
+    }
+    unreachable!()
+}
+
+// One step of the cleaner.
+fn clean_step<B: Group, R: Wait, A: Memory>(
+    rt: &R,
+    shared: &Shared<B, A>,
+    part: &CleanPart<B>,
+) -> Result<CleanReply, Error>
+    ensures { ∥ WasServed B.site.opened Event.Clean (reply_by cleaner result) ∥₁ }
+{
+    let mut locked = shared.hold_to_clean(rt, part);
+    locked.push_outbox(rt, shared.queue());
+    let cleaned = locked.clean_step();
+    locked.push_outbox(rt, shared.queue());
+    drop(locked);
+    cleaned
+}

@@ -1,0 +1,37 @@
+//! The loops that threads run beside the seats: one writes the records and takes images, one builds the index, and one
+//! cleans it.
+//!
+//! Each goes round under `Wait` until something that it names ends it: the stop flag of the board, a device that
+//! failed, the end of the build. What a round does is a step of the layers below; a loop adds the order, and at each of
+//! its points calls a gate, with no lock held, so that a test can hold it there. [`run_beside`] runs all three beside
+//! what the seats do, each in a thread of its own.
+//!
+//! Proved: `flush_loop` ends with `Ok` only where the stop flag was read and the device has not failed, and with
+//! `DeviceFailed` where the device failed (`stopped`, `failed`); over all its rounds no record is lost and no horizon
+//! falls (`goes_on`); a crash within a call of its writer leaves all that was synced before that call, and no image is
+//! begun before half the log's slots are full (`through`). `build_loop` ends with a ticket only where some core that
+//! may lie under the lock answers that it completed the index (`done`). `run_beside` keeps what the clients promise
+//! (`clients`), and gives all back as it was where a thread is wanting (`not_run`); the refusal that
+//! `BuilderEnd::reason` tells is one that some such core gives. Neither: that a thread is started or a call returns,
+//! that the builder or the cleaner makes a step, that the flusher writes, that an image is taken, that progress is told
+//! before the end of a build, that a refusal ends the builder or is told, that a run lasts as long as its clients, and
+//! that a gate is called.
+//!
+//! Lemmas about its public words that crates above may cite, in `proofs`: `Crosses`.
+#![tactic(auto)]
+
+mod build;
+mod builder_end;
+mod clean;
+mod flush;
+mod gate;
+mod rest;
+mod run;
+mod start;
+
+pub use build::build_loop;
+pub use builder_end::BuilderEnd;
+pub use clean::clean_loop;
+pub use flush::flush_loop;
+pub use gate::{Gate, NoGate, Point};
+pub use run::{Ended, NotRun, run_beside};

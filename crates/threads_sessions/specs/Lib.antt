@@ -1,0 +1,5 @@
+pub mod Values
+pub mod Active
+pub mod Steps
+pub mod Halves
+pub mod Rule
