@@ -1,10 +1,12 @@
 #!/usr/bin/env python3
-"""Looks whether README.md and docs/*.md agree with the sources, and at the width of these. Usage: tools/check_docs.py, anywhere.
+"""Looks whether README.md and docs/*.md agree with the sources, at the width of these, and at what proofs cite of other crates. Usage:
+tools/check_docs.py, anywhere.
 
 Each word in backticks that could name an item, a crate or a file stands in the sources. At each place FILE:LINE that a table row
 names stands what the row is about, and a block of code behind such a place begins with that line. Each relative link leads
 somewhere. A row with functions and a file names functions of that file. A line of src or specs has at most 120 columns, one of
-proofs 160, strings aside. It prints how many words each page has, and ends with status 1 where something is missing or too wide.
+proofs 160, strings aside. Of another crate's proofs only the lemma files are cited that the head of its lib.rt names, and each of
+these is. It prints how many words each page has, and ends with status 1 where something is missing or too wide.
 """
 import fnmatch, pathlib, re, sys
 
@@ -86,6 +88,30 @@ def wide_lines():
                         yield f"{path.relative_to(TOP)}:{number} has {len(line)} columns"
 
 
+def cited_proofs():
+    """Each lemma file that another crate cites and the head of its own doesn't name, or that is named, or open, and not cited."""
+    crates = {path.name for path in (TOP / "crates").iterdir()}
+    cited, count = {}, 0
+    for path in sorted(TOP.glob("crates/*/**/*")):
+        crate = path.relative_to(TOP).parts[1]
+        if path.suffix in {".rt", ".antt"} and "out" not in path.relative_to(TOP).parts:
+            for other, file in re.findall(r"\bRattle\.(\w+)\.proofs\.([A-Z]\w*)", path.read_text()):
+                if other != crate and other in crates:
+                    count += 1
+                    cited.setdefault(other, {}).setdefault(file, crate)
+    for crate in sorted(crates):
+        head, lib = TOP / "crates" / crate / "src/lib.rt", TOP / "crates" / crate / "proofs/Lib.antt"
+        told = " ".join(line[3:] for line in head.read_text().splitlines() if line.startswith("//!")) if head.is_file() else ""
+        named = set(re.findall(r"`([A-Z]\w*)`", told.partition("crates above may cite")[2]))
+        opened = set(re.findall(r"^pub mod (\w+)", lib.read_text(), re.M)) if lib.is_file() else set()
+        for file, by in cited.get(crate, {}).items():
+            if file not in named:
+                yield f"{by} cites {file} of {crate}'s proofs, which its head doesn't name"
+        for file in (named | opened) - set(cited.get(crate, ())):
+            yield f"nothing cites {file} of {crate}'s proofs"
+    print(f"{count:6} imports of other crates' proofs, of {sum(map(len, cited.values()))} files that their heads name")
+
+
 def main():
     words, ends = sources()
     pages = [TOP / "README.md", *sorted((TOP / "docs").glob("*.md"))]
@@ -97,7 +123,7 @@ def main():
         for fault in faults(page, words, ends):
             wrong += 1
             print(f"       {fault}")
-    for fault in wide_lines():
+    for fault in (*wide_lines(), *cited_proofs()):
         wrong += 1
         print(f"       {fault}")
     print(f"{total:6} words, {wrong} faults")
