@@ -17,7 +17,7 @@ ghost use Rattle.node_parts.specs.Place.{place_in};
 use crate::spares::Spares;
 use node_parts::rows::{FULL, insert_at, split_into};
 use node_parts::search::precedes;
-use node_parts::{Child, Entry, Node, Parts};
+use node_parts::{Child, Entry, Node, NodeParts};
 use records::Pair;
 use std::alloc::Allocator;
 
@@ -42,7 +42,7 @@ fn split_children<A: Allocator>(
     ensures all { vec_len row.new + count upper.new ≡ 33 }
     ensures capacity { vec_capacity row.new ≡ vec_capacity row.old }
 {
-    let Parts::Inner(upper_row) = &mut upper.parts else {
+    let NodeParts::Inner(upper_row) = &mut upper.parts else {
         unreachable!()
     };
     split_into(row, place, child, upper_row);
@@ -105,7 +105,7 @@ fn insert_below<A: Allocator>(
     let [at, below @ ..] = path else {
         unreachable!()
     };
-    let Parts::Inner(row) = &mut node.parts else {
+    let NodeParts::Inner(row) = &mut node.parts else {
         return insert_in_leaf(node, *at, entry, spares);
     };
     let child = &mut row[*at];
@@ -156,7 +156,7 @@ fn push_two<A: Allocator>(top: &mut Node<A>, lower: Child<A>, upper: Child<A>)
     requires upper_label { least_of (entries upper.node.value) ≡ Some upper.least }
     ensures { top.new ≡ branch (more lower.node.value (more upper.node.value none)) }
 {
-    let Parts::Inner(row) = &mut top.parts else {
+    let NodeParts::Inner(row) = &mut top.parts else {
         unreachable!()
     };
     row.push_reserved(lower);

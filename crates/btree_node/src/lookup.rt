@@ -11,7 +11,7 @@ ghost use Rattle.std.specs.List.{prefix_len};
 use crate::LEVELS_MAX;
 use crate::inline::Inline;
 use node_parts::descent::Descent;
-use node_parts::{Entry, Node, Parts};
+use node_parts::{Entry, Node, NodeParts};
 use records::{Mark, Pair, compare_pairs};
 use smallvec::SmallVec;
 use std::alloc::Allocator;
@@ -53,8 +53,8 @@ pub fn levels<A: Allocator>(node: &Node<A>) -> u32
     ensures { result ≡ depth node.now }
 {
     match &node.parts {
-        Parts::Leaf(_) => 1,
-        Parts::Inner(row) => levels(&row[0].node) + 1,
+        NodeParts::Leaf(_) => 1,
+        NodeParts::Inner(row) => levels(&row[0].node) + 1,
     }
 }
 

@@ -4,7 +4,7 @@ ghost use Rattle.node_parts.specs.Tree.{entries, depth, count};
 ghost use Rattle.node_parts.specs.Balance.{IsTree};
 ghost use Rattle.node_parts.specs.Order.{mark_in, with_mark, IsAscending};
 
-use node_parts::{Node, Parts};
+use node_parts::{Node, NodeParts};
 use records::{Mark, Pair};
 use std::alloc::Allocator;
 
@@ -20,7 +20,7 @@ pub fn set_mark_in<A: Allocator>(node: &mut Node<A>, pair: &Pair, mark: Mark)
 {
     let at = node.place(pair);
     match &mut node.parts {
-        Parts::Leaf(row) => row[at].mark = mark,
-        Parts::Inner(row) => set_mark_in(&mut row[at].node, pair, mark),
+        NodeParts::Leaf(row) => row[at].mark = mark,
+        NodeParts::Inner(row) => set_mark_in(&mut row[at].node, pair, mark),
     }
 }

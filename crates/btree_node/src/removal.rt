@@ -11,7 +11,7 @@ ghost use Rattle.node_parts.specs.Balance.{IsTree, IsRoot, AreTrees, fewest};
 ghost use Rattle.node_parts.specs.Order.{mark_in, IsAscending};
 
 use node_parts::rows::{FULL, LEAST, insert_at};
-use node_parts::{Child, Node, Parts};
+use node_parts::{Child, Node, NodeParts};
 use records::Pair;
 use std::alloc::Allocator;
 
@@ -91,7 +91,7 @@ pub fn remove_below<A: Allocator>(node: &mut Node<A>, pair: &Pair)
     ensures count { count node.old ≤ count node.new + 1 }
 {
     let at = node.place(pair);
-    let Parts::Inner(row) = &mut node.parts else {
+    let NodeParts::Inner(row) = &mut node.parts else {
         node.remove_at(at);
         return;
     };
@@ -107,7 +107,7 @@ pub fn remove_below<A: Allocator>(node: &mut Node<A>, pair: &Pair)
 fn take_only<A: Allocator>(node: &mut Node<A>) -> Option<Box<Node<A>, A>>
     ensures { IsTaken node.old node.new result }
 {
-    let Parts::Inner(row) = &mut node.parts else {
+    let NodeParts::Inner(row) = &mut node.parts else {
         return None;
     };
     if row.len() != 1 {

@@ -10,7 +10,7 @@ ghost use Rattle.node_parts.specs.Order.{IsAscending};
 
 use crate::BTree;
 use node_parts::search::precedes;
-use node_parts::{Entry, Node, Parts};
+use node_parts::{Entry, Node, NodeParts};
 use records::Pair;
 use std::alloc::Allocator;
 
@@ -20,8 +20,8 @@ fn first_run<A: Allocator>(node: &Node<A>) -> &[Entry]
     ensures { IsFront (entries node.now) result.now }
 {
     match &node.parts {
-        Parts::Leaf(row) => row.as_slice(),
-        Parts::Inner(row) => first_run(&row[0].node),
+        NodeParts::Leaf(row) => row.as_slice(),
+        NodeParts::Inner(row) => first_run(&row[0].node),
     }
 }
 
@@ -43,8 +43,8 @@ fn run_in<'a, A: Allocator>(node: &'a Node<A>, pair: &Pair) -> &'a [Entry]
 {
     let at = node.place(pair);
     match &node.parts {
-        Parts::Leaf(row) => rest_above(row, pair),
-        Parts::Inner(row) => {
+        NodeParts::Leaf(row) => rest_above(row, pair),
+        NodeParts::Inner(row) => {
             let found = run_in(&row[at].node, pair);
             if !found.is_empty() || at + 1 == row.len() {
                 return found;

@@ -6,7 +6,7 @@ ghost use Rattle.node_parts.specs.Balance.{IsTree};
 ghost use Rattle.node_parts.specs.Order.{IsAscending};
 
 use node_parts::search::precedes;
-use node_parts::{Entry, Node, Parts};
+use node_parts::{Entry, Node, NodeParts};
 use records::Pair;
 use std::alloc::Allocator;
 
@@ -16,8 +16,8 @@ pub fn first_in<A: Allocator>(node: &Node<A>) -> Entry
     ensures { first_of (entries node.now) ≡ Some result }
 {
     match &node.parts {
-        Parts::Leaf(row) => row[0],
-        Parts::Inner(row) => first_in(&row[0].node),
+        NodeParts::Leaf(row) => row[0],
+        NodeParts::Inner(row) => first_in(&row[0].node),
     }
 }
 
@@ -39,8 +39,8 @@ pub fn above_in<A: Allocator>(node: &Node<A>, pair: &Pair) -> Option<Entry>
 {
     let at = node.place(pair);
     match &node.parts {
-        Parts::Leaf(row) => first_after(row, pair),
-        Parts::Inner(row) => {
+        NodeParts::Leaf(row) => first_after(row, pair),
+        NodeParts::Inner(row) => {
             let found = above_in(&row[at].node, pair);
             if found.is_some() || at + 1 == row.len() {
                 return found;

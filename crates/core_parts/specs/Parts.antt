@@ -1,9 +1,9 @@
 -- The core as a value.
 use Rattle.core_parts.specs.View.{CoreValue}
-use Rattle.core_parts.specs.declared.parts.Parts.{Parts}
+use Rattle.core_parts.specs.declared.parts.CoreParts.{CoreParts}
 
 -- what contracts see of the parts
-abbrev pub parts_of : {A : Type 0} → Parts A → CoreValue
+abbrev pub parts_of : {A : Type 0} → CoreParts A → CoreValue
 parts_of c = record {
   heap = c.heap;
   txns = c.txns;

@@ -16,7 +16,7 @@ ghost use Rattle.core_parts.specs.Builds.{built};
 ghost use Rattle.core_parts.specs.Private.{with_record, HasAttempted, HasPassed, HasPut, HasTaken, HasNextNumber};
 ghost use Rattle.core_parts.specs.Private.{IsUnplaced, IsUnrecorded, checkpointed, without_entry};
 
-use crate::parts::{Parts, Ticket};
+use crate::parts::{CoreParts, Ticket};
 use crate::reply::BuildReply;
 use marked_index::{Built, MarkedIndex};
 use model::Life;
@@ -57,7 +57,7 @@ fn take_out<A: Allocator + Clone>(index: &mut MarkedIndex<A>, pair: &Pair)
     };
 }
 
-impl<A: Allocator + Copy> Parts<A> {
+impl<A: Allocator + Copy> CoreParts<A> {
     /// Puts a record of the index into the outbox. `NoMemory` leaves all as before.
     pub(crate) fn record_index(
         &mut self,

@@ -13,7 +13,7 @@ ghost use Rattle.core_parts.specs.Parts.{parts_of};
 ghost use Rattle.core_parts.specs.Cleaning.{cleaner};
 ghost use Rattle.core_parts.specs.Private.{HasNextNumber, IsUnrecorded, MayClean, taken_out};
 
-use crate::parts::Parts;
+use crate::parts::CoreParts;
 use crate::reply::CleanReply;
 use model::Life;
 use records::{Error, IndexAction, Mark, Pair, Rid, compare_pairs};
@@ -32,7 +32,7 @@ pub(crate) fn is_passed(life: &Life, pair: &Pair) -> bool
     }
 }
 
-impl<A: Allocator + Copy> Parts<A> {
+impl<A: Allocator + Copy> CoreParts<A> {
     /// The least entry above the cleaner's place.
     pub fn next_entry(&self) -> Option<(Pair, Mark)>
         ensures { IsLeastAbove (parts_of self.now).index.entries (parts_of self.now).cleaned result }

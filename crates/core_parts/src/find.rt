@@ -7,11 +7,11 @@ ghost use Rattle.record_values.specs.declared.pair.Mark.{Mark};
 ghost use Rattle.marked_index.specs.Shown.{mark_at};
 ghost use Rattle.core_parts.specs.Parts.{parts_of};
 
-use crate::parts::Parts;
+use crate::parts::CoreParts;
 use records::{Error, Key, Rid};
 use std::alloc::Allocator;
 
-impl<A: Allocator + Copy> Parts<A> {
+impl<A: Allocator + Copy> CoreParts<A> {
     /// The places of the live entries of a key, ascending.
     pub fn live_of(&self, key: Key) -> Result<Vec<Rid, A>, Error>
         ensures in_order { IfOk result (λ rids. IsStrictlySortedBy rid_cmp rids.items) }

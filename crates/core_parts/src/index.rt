@@ -8,13 +8,13 @@ ghost use Rattle.core_parts.specs.Parts.{parts_of};
 ghost use Rattle.core_parts.specs.Private.{HasNextNumber, IsUncreatable, IsUndroppable, IsUnrecorded};
 ghost use Rattle.core_parts.specs.Private.{index_created, index_dropped};
 
-use crate::parts::{Detached, Parts, Ticket};
+use crate::parts::{CoreParts, Detached, Ticket};
 use model::Life;
 use records::{Error, IndexAction};
 use sorted_scan::Scan;
 use std::alloc::Allocator;
 
-impl<A: Allocator + Copy> Parts<A> {
+impl<A: Allocator + Copy> CoreParts<A> {
     /// Why no index can be created, but for want of a number or of memory.
     pub fn may_create(&self) -> Result<(), Error>
         ensures absent { OnOk result (pairs.is_indexed (parts_of self.now).life ≡ false) }

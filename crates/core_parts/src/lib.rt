@@ -21,5 +21,5 @@ mod reply;
 mod step;
 mod undo;
 
-pub use parts::{Detached, Parts, Ticket};
+pub use parts::{CoreParts, Detached, Ticket};
 pub use reply::{BuildReply, CleanReply, Owed, Undone};

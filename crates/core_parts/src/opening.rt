@@ -7,11 +7,11 @@ ghost use Rattle.core_parts.specs.Parts.{parts_of};
 ghost use Rattle.core_parts.specs.Opening.{EachIsShown, EachMayStand, IsRowShown, IsShown, MayStand};
 
 use crate::clean::is_passed;
-use crate::parts::Parts;
+use crate::parts::CoreParts;
 use records::{Mark, Pair, Rid, SLOTS_PER_PAGE};
 use std::alloc::Allocator;
 
-impl<A: Allocator + Copy> Parts<A> {
+impl<A: Allocator + Copy> CoreParts<A> {
     // Whether there is a row at the pair's place, with its key.
     fn is_of_row(&self, pair: &Pair) -> bool
         ensures { IsTrue result ↔ IsPairOf (parts_of self.now).heap.rows pair.now }

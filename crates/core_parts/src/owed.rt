@@ -9,12 +9,12 @@ ghost use Rattle.core_parts.specs.Replies.{reply_by};
 ghost use Rattle.core_parts.specs.Parts.{parts_of};
 
 use crate::change_steps::{new_entry, new_row};
-use crate::parts::{Parts, progress_after_row};
+use crate::parts::{CoreParts, progress_after_row};
 use records::{Change, Error, Mark, RecordNumber, Txn};
 use std::alloc::Allocator;
 use txn_table::Progress;
 
-impl<A: Allocator + Copy> Parts<A> {
+impl<A: Allocator + Copy> CoreParts<A> {
     /// The newest change of a transaction that owes a step of it.
     pub fn owed_change(&self, txn: Txn) -> Change
         requires safe { ∥ IsSafe (parts_of self.now) ∥₁ }

@@ -57,7 +57,7 @@ pub struct Detached<A: Allocator> {
 /// The rows, the active transactions, the index with its builder and cleaner, and the records that wait. What they keep
 /// together is told by the core that has them.
 #[derive(Drop)]
-pub struct Parts<A: Allocator> {
+pub struct CoreParts<A: Allocator> {
     pub alloc: A,
     pub heap: Heap<A>,
     pub txns: TxnTable<A>,
@@ -219,7 +219,7 @@ fn unmark<A: Allocator + Clone>(
     index.release(left);
 }
 
-impl<A: Allocator + Copy> Parts<A> {
+impl<A: Allocator + Copy> CoreParts<A> {
     /// Whether there is an index, be it still being built.
     pub fn indexed(&self) -> bool
         ensures { result ≡ pairs.is_indexed (parts_of self.now).life }

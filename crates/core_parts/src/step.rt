@@ -9,7 +9,7 @@ ghost use Rattle.core_parts.specs.Moves.{txn_shown};
 ghost use Rattle.core_parts.specs.Private.{entry_stepped, reserved_of, row_stepped};
 ghost use Rattle.core_parts.specs.Parts.{parts_of};
 
-use crate::parts::{Parts, record_of};
+use crate::parts::{CoreParts, record_of};
 use marked_index::{MarkedIndex, Stepped};
 use records::{Error, Mark, Pair, Record, RecordNumber, Rid, Row, Txn, TxnAction};
 use std::alloc::Allocator;
@@ -50,7 +50,7 @@ fn mark_in_reserved_place<A: Allocator + Copy>(
     }
 }
 
-impl<A: Allocator + Copy> Parts<A> {
+impl<A: Allocator + Copy> CoreParts<A> {
     /// A step of a transaction that sets a row; the transaction is so far then. `NoMemory` leaves all
     /// as before.
     pub(crate) fn set_row(

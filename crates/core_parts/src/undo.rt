@@ -12,7 +12,7 @@ ghost use Rattle.core_parts.specs.Undoing.{undone_reply};
 ghost use Rattle.core_parts.specs.Parts.{parts_of};
 
 use crate::change_steps::{new_mark, old_entry, old_row};
-use crate::parts::Parts;
+use crate::parts::CoreParts;
 use crate::reply::Undone;
 use records::{Change, Error, Mark, Part, RecordNumber, Txn};
 use std::alloc::Allocator;
@@ -31,7 +31,7 @@ fn part_to_undo(progress: Progress) -> Part
     }
 }
 
-impl<A: Allocator + Copy> Parts<A> {
+impl<A: Allocator + Copy> CoreParts<A> {
     // Sets the row as it was before the newest change. `NoMemory` leaves all as before.
     fn restore_row(&mut self, number: RecordNumber, txn: Txn, change: Change) -> Result<(), Error>
         requires safe { ∥ IsSafe (parts_of self.old) ∥₁ }

@@ -1,7 +1,6 @@
 mod ZeroRows
 mod Spelled
 mod Formats
-mod Fresh
 mod Nothing
 mod Wider
 pub mod Stores

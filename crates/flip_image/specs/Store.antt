@@ -157,14 +157,3 @@ IsRefused image e = IsRefusedIn Two image e
 -- the device failed
 abbrev pub IsDeviceFailure : ℕ → ℕ → Error → Type 0
 IsDeviceFailure before now e = (e ≡ DeviceFailed) × Rises before now
-
--- The first part of a half that is not as `format` leaves it: its header, its transaction heads, or a page, named by
--- its first sector.
-abbrev pub IsFirstUsed : GeometryValue → Half → CrashState → ℕ → Type 0
-IsFirstUsed g half image n =
-    ((n ≡ header_sector g half) × (¬ AreZeros image n HEADER_SECTORS))
-    ⊎ (((n ≡ heads_sector g half) × (¬ AreZeros image n HEADS_SECTORS)
-    × AreZeros image (header_sector g half) HEADER_SECTORS)
-    ⊎ ((page : ℕ) × (page < g.pages) × (n ≡ page_sector g half page) × (¬ AreZeros image n PAGE_SECTORS)
-    × AreZeros image (header_sector g half) HEADER_SECTORS × AreZeros image (heads_sector g half) HEADS_SECTORS
-    × ((earlier : ℕ) → earlier < page → AreZeros image (page_sector g half earlier) PAGE_SECTORS)))

@@ -1,5 +1,5 @@
-//! A store on a device: formatted, opened, and checked to be fresh.
-ghost use Rattle.std.specs.Prelude.{◌≡◌, ◌≢◌, ◌⊎◌, ◌↔◌, ◌+◌, ◌*◌, ◌^◌, ◌≤◌, ◌<◌, ℕ, length, OnOk, OnErr, IfOk, IfErr};
+//! A store on a device: formatted and opened.
+ghost use Rattle.std.specs.Prelude.{◌≡◌, ◌≢◌, ◌⊎◌, ◌↔◌, ◌+◌, ◌*◌, ◌^◌, ◌≤◌, ◌<◌, length, OnOk, OnErr, IfOk, IfErr};
 ghost use Rattle.sector_device.specs.Disk.{sector, IsSynced, SameOutside};
 ghost use Rattle.sector_device.specs.DevicePast.{OnlyReads, LeavesOnly, CountsFailure};
 ghost use Rattle.sector_device.specs.Values.{zero_sector};
@@ -8,15 +8,14 @@ ghost use Rattle.store_image_half.specs.Image.{no_cells};
 ghost use Rattle.store_image_half.specs.Layout.{image_end, image_end_in};
 ghost use Rattle.store_image_half.specs.Damage.{IsSoundIn, TheHeader, IsUnreadIn};
 ghost use Rattle.flip_image.specs.Layout.{other, header_sector_in, header_sector, log_first_in, log_first};
-ghost use Rattle.flip_image.specs.Store.{Names, flip_sector, IsFlipping, IsSuperblockIn, IsStore, IsStoreIn, IsFresh};
+ghost use Rattle.flip_image.specs.Store.{Names, flip_sector, IsFlipping, IsSuperblockIn, IsStore, IsStoreIn};
 ghost use Rattle.flip_image.specs.Store.{HoldsImageIn, IsFormatted, AreGatesClosed, AreLogGatesZero, IsFormatSector};
-ghost use Rattle.flip_image.specs.Store.{IsRefused, IsRefusedIn, IsSuperblockRefused, IsFirstUsed, AreZeros};
+ghost use Rattle.flip_image.specs.Store.{IsRefused, IsRefusedIn, IsSuperblockRefused};
 ghost use Rattle.flip_image.specs.Store.{IsDeviceFailure};
 
 use crate::flip::write_flip_sector;
 use crate::half::{FLIP_SECTOR, Half};
 use crate::superblock::{SUPERBLOCK_SECTOR, geometry_of, superblock};
-use crate::zeros::read_zeros;
 use records::{
     Error, FRONT_SECTORS, Geometry, HEADER_SECTORS, HEADS_SECTORS, PAGE_SECTORS, SLOT_SECTORS,
     Version,
@@ -124,26 +123,6 @@ impl Halves {
         ensures later { D.failures device.old ≤ D.failures device.new }
     {
         Halves::open_in(Version::Two, device)
-    }
-
-    /// Checks that the current half's image is as `format` leaves it. Nothing is written.
-    ///
-    /// `Damaged` names the first part that is not: the sector of the header, the sector of the transaction heads, or
-    /// the first sector of a page. `DeviceFailed` where the device failed in the call, and only then.
-    pub fn check_fresh<D: Device>(&self, device: &mut D) -> Result<(), Error>
-        requires inside { sectors_of self.now.geometry ≤ length (D.past_of device.old).disk.content }
-        ensures fresh { OnOk result (IsFresh self.now.geometry self.now.current (D.past_of device.old).disk.content) }
-        ensures accepted { IsFresh self.now.geometry self.now.current (D.past_of device.old).disk.content
-            → IfErr result (IsDeviceFailure (D.failures device.old) (D.failures device.new)) }
-        ensures refused { IfErr result (λ e. IsDeviceFailure (D.failures device.old) (D.failures device.new) e
-            ⊎ ((sector : ℕ) × (e ≡ Error.Damaged sector)
-            × IsFirstUsed self.now.geometry self.now.current (D.past_of device.old).disk.content sector)) }
-        ensures reads { OnlyReads (D.past_of device.old) (D.past_of device.new) }
-        ensures quiet { OnOk result (D.failures device.new ≡ D.failures device.old) }
-        ensures told { IfErr result (λ e. e ≢ Error.DeviceFailed → D.failures device.new ≡ D.failures device.old) }
-        ensures later { D.failures device.old ≤ D.failures device.new }
-    {
-        check_half(device, self.geometry, self.current)
     }
 
     /// Reads the image of the current half of a store of a version into an empty sink. The answer is the image's base,
@@ -331,65 +310,4 @@ fn read_flip_sector<D: Device>(device: &mut D) -> Result<Half, Error>
     } else {
         Ok(Half::A)
     }
-}
-
-// Refuses with the first of these sectors where they are not all zeros.
-fn check_zeros<D: Device>(device: &mut D, first: u64, count: u64) -> Result<(), Error>
-    requires inside { first + count ≤ length (D.past_of device.old).disk.content }
-    requires number { first + count < 2 ^ 64 }
-    ensures zeros { OnOk result (AreZeros (D.past_of device.old).disk.content first count) }
-    ensures refused { IfErr result (λ e. IsDeviceFailure (D.failures device.old) (D.failures device.new) e
-        ⊎ ((e ≡ Error.Damaged first) × (¬ AreZeros (D.past_of device.old).disk.content first count))) }
-    ensures reads { OnlyReads (D.past_of device.old) (D.past_of device.new) }
-    ensures quiet { OnOk result (D.failures device.new ≡ D.failures device.old) }
-    ensures told { IfErr result (λ e. e ≢ Error.DeviceFailed → D.failures device.new ≡ D.failures device.old) }
-    ensures later { D.failures device.old ≤ D.failures device.new }
-{
-    if read_zeros(device, first, count)? {
-        Ok(())
-    } else {
-        Err(Error::Damaged { sector: first })
-    }
-}
-
-// Refuses with the first of these pages that is not all zeros.
-fn check_pages<D: Device>(device: &mut D, first: u64, pages: u64) -> Result<(), Error>
-    requires inside { first + PAGE_SECTORS * pages ≤ length (D.past_of device.old).disk.content }
-    requires number { first + PAGE_SECTORS * pages < 2 ^ 64 }
-    ensures zeros { OnOk result ((page : ℕ) → page < pages
-        → AreZeros (D.past_of device.old).disk.content (first + PAGE_SECTORS * page) PAGE_SECTORS) }
-    ensures refused { IfErr result (λ e. IsDeviceFailure (D.failures device.old) (D.failures device.new) e
-        ⊎ ((page : ℕ) × (page < pages) × (e ≡ Error.Damaged (first + PAGE_SECTORS * page))
-        × (¬ AreZeros (D.past_of device.old).disk.content (first + PAGE_SECTORS * page) PAGE_SECTORS)
-        × ((earlier : ℕ) → earlier < page
-        → AreZeros (D.past_of device.old).disk.content (first + PAGE_SECTORS * earlier) PAGE_SECTORS))) }
-    ensures reads { OnlyReads (D.past_of device.old) (D.past_of device.new) }
-    ensures quiet { OnOk result (D.failures device.new ≡ D.failures device.old) }
-    ensures told { IfErr result (λ e. e ≢ Error.DeviceFailed → D.failures device.new ≡ D.failures device.old) }
-    ensures later { D.failures device.old ≤ D.failures device.new }
-{
-    for page in 0..pages {
-        check_zeros(device, first + PAGE_SECTORS * page, PAGE_SECTORS)?;
-    }
-    Ok(())
-}
-
-// What `check_fresh` does, for a half of a store.
-fn check_half<D: Device>(device: &mut D, geometry: Geometry, half: Half) -> Result<(), Error>
-    requires inside { sectors_of geometry ≤ length (D.past_of device.old).disk.content }
-    ensures fresh { OnOk result (IsFresh geometry half (D.past_of device.old).disk.content) }
-    ensures refused { IfErr result (λ e. IsDeviceFailure (D.failures device.old) (D.failures device.new) e
-        ⊎ ((sector : ℕ) × (e ≡ Error.Damaged sector)
-        × IsFirstUsed geometry half (D.past_of device.old).disk.content sector)) }
-    ensures reads { OnlyReads (D.past_of device.old) (D.past_of device.new) }
-    ensures quiet { OnOk result (D.failures device.new ≡ D.failures device.old) }
-    ensures told { IfErr result (λ e. e ≢ Error.DeviceFailed → D.failures device.new ≡ D.failures device.old) }
-    ensures later { D.failures device.old ≤ D.failures device.new }
-{
-    let header = half.header_sector(geometry);
-    check_zeros(device, header, HEADER_SECTORS)?;
-    let heads = half.heads_sector(geometry);
-    check_zeros(device, heads, HEADS_SECTORS)?;
-    let pages = half.pages_first(geometry);
-    check_pages(device, pages, u64::from(geometry.pages))
 }

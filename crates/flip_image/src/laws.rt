@@ -12,7 +12,6 @@ ghost use Rattle.flip_image.specs.declared.half.Half.{Half};
 ghost use Rattle.flip_image.specs.declared.half.Half.TheVariants.{A};
 ghost use Rattle.flip_image.specs.Layout.{other, InHalf, InHalfImage, InLog};
 ghost use Rattle.flip_image.specs.Store.{IsStore, IsStoreIn, IsFresh, HoldsImage, IsFormatted, IsRefused, IsRefusedIn};
-ghost use Rattle.flip_image.specs.Store.{IsFirstUsed};
 
 /// A law: an image is of one store of a version at most, with one half that is current, and then no reader of that
 /// version refuses it; and it is refused in one way at most. A store of version 1 is refused by a reader of version 2
@@ -41,14 +40,6 @@ pub fn log_apart()
         → IsFresh g half image → IsFresh g half other }
     ensures formatted { (g : GeometryValue) (image other : CrashState) → SameOutside (InLog g A) image other
         → IsFormatted g image → IsFormatted g other }
-{}
-
-/// A law: a half has at most one first part that is not as `format` leaves it, and a fresh half has none.
-pub fn one_used_part()
-    ensures fresh { (g : GeometryValue) (half : Half) (image : CrashState) (n : ℕ) → IsFresh g half image
-        → ¬ IsFirstUsed g half image n }
-    ensures sector { (g : GeometryValue) (half : Half) (image : CrashState) (m n : ℕ) → IsFirstUsed g half image m
-        → IsFirstUsed g half image n → m ≡ n }
 {}
 
 /// A law: no sector is of both halves, nor of a half and in front of them; and a half's image and its log lie in it and

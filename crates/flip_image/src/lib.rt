@@ -15,9 +15,8 @@ mod halves;
 mod idle;
 mod laws;
 mod superblock;
-mod zeros;
 
 pub use half::{FLIP_SECTOR, Half};
 pub use halves::Halves;
-pub use laws::{fresh_image, halves_apart, log_apart, one_store, one_used_part};
+pub use laws::{fresh_image, halves_apart, log_apart, one_store};
 pub use superblock::{SUPERBLOCK_SECTOR, VERSION};

@@ -1,7 +1,10 @@
 mod Told
 mod Rising
+mod Lawful
 mod Days
 mod Stopped
+mod Within
+mod Quiet
 mod Holding
 mod Torn
 mod Moving

@@ -15,7 +15,7 @@ use Rattle.sector_device.proofs.Sectors.{content_is_image}
 use Rattle.store_reader.specs.Contents.{Gives, IsUnreadable}
 use Rattle.shared.specs.Seats.{AckValue, SeatValue}
 use Rattle.threads_lifetime.specs.Closing.{GivesSome}
-use Rattle.restart.specs.declared.parts.Parts.{Parts}
+use Rattle.restart.specs.declared.parts.EngineParts.{EngineParts}
 use Rattle.restart.specs.Parts.{core_of}
 use Rattle.restart.specs.Reopening.{IsNotOpened, IsOpened}
 use Rattle.headline.specs.Stops.{IsFoundAs}
@@ -31,7 +31,7 @@ module _ {D : Type 0} (past_of : D → DevicePast) (o : Opened) (g : GeometryVal
 
   pub held : {A : Type 0} (one : (image : CrashState) (g h : GeometryValue) (x y : Given) → Gives image g x → Gives image h y → x ≡ y) (acks : List AckValue)
       → All (λ (a : AckValue). a.ticket.«record» ≤ floor) acks
-      → (engine : Parts D A) → IsOpened past_of found engine → ∥ HoldsSeats o.given.table seats acks (core_of engine) ∥₁
+      → (engine : EngineParts D A) → IsOpened past_of found engine → ∥ HoldsSeats o.given.table seats acks (core_of engine) ∥₁
   held one acks low engine is = ∥∥₁_map now by
     where
       by : GivesSome o g seats popped floor (past_of found).disk.content → HoldsSeats o.given.table seats acks (core_of engine)

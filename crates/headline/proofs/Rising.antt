@@ -6,10 +6,6 @@ use Rattle.std.proofs.lemmas.List.Elements.{All-cons, All-nil}
 use Rattle.model.specs.History.{AreRising, Item, up_to}
 use Rattle.model.proofs.HistoryLaws.{up_to_none}
 
-pub rising_first : (m : ℕ) (items later : List Item) → AreRising m (items ++ later) → AreRising m items
-rising_first m [] later rise = tt
-rising_first m (item ∷ items) later rise = (rise.0, rising_first item.number items later rise.1)
-
 abbrev pub IsAbove : ℕ → Item → Type 0
 IsAbove n item = n < item.number
 

@@ -1,5 +1,5 @@
 -- What requests and their replies tell is the history that the core's calls tell.
-use Rattle.std.proofs.Common.{◌≡◌, ◌≢◌, ℕ, ◌≤◌, List, [], ◌∷◌, ◌++◌, None, Option, Some, max, refl, sym, ap, ◌∙◌, append_assoc, take, zero, suc, arith}
+use Rattle.std.proofs.Common.{◌≡◌, ◌≢◌, ℕ, ◌≤◌, List, [], ◌∷◌, ◌++◌, None, Option, Some, max, refl, sym, ap, ◌∙◌, arith}
 use Rattle.record_values.specs.Values.{Place}
 use Rattle.model.specs.History.{Checkpointed, Completed, Deed, Item}
 use Rattle.core_model.specs.Events as core
@@ -118,27 +118,6 @@ told_is w [] (r ∷ replies) kinds = absurd kinds
 told_is w (e ∷ events) [] kinds = absurd kinds
 told_is w (e ∷ events) (r ∷ replies) kinds =
     ap (λ (l : List Item). told_by w e r ++ l) (told_is (written w e r) events replies kinds.1) ∙ sym (one_told w e r (core_calls events replies) kinds.0)
-
--- ---- the first of them
-
-pub kinds_take : {M : Type 0} (k : ℕ) (events : List Event) (replies : List (Reply M)) → AreOfKind events replies → AreOfKind (take k events) (take k replies)
-kinds_take zero events replies kinds = tt
-kinds_take (suc k) [] [] kinds = tt
-kinds_take (suc k) [] (r ∷ replies) kinds = absurd kinds
-kinds_take (suc k) (e ∷ events) [] kinds = absurd kinds
-kinds_take (suc k) (e ∷ events) (r ∷ replies) kinds = (kinds.0, kinds_take k events replies kinds.1)
-
-pub told_take : {M : Type 0} (k : ℕ) (w : Writes) (events : List Event) (replies : List (Reply M)) → (more : List Item)
-    × (told_over w events replies ≡ told_over w (take k events) (take k replies) ++ more)
-told_take zero w events replies = (told_over w events replies, refl)
-told_take (suc k) w [] replies = ([], refl)
-told_take (suc k) w (e ∷ events) [] = ([], refl)
-told_take (suc k) w (e ∷ events) (r ∷ replies) =
-    let rest = told_take k (written w e r) events replies in (
-      rest.0,
-      ap (λ (l : List Item). told_by w e r ++ l) rest.1
-          ∙ sym (append_assoc (told_by w e r) (told_over (written w e r) (take k events) (take k replies)) rest.0),
-    )
 
 -- ---- what is safe
 

@@ -1,47 +1,64 @@
 -- The days of a store, from one stop to the next: what was asked and answered in each, and what was kept of it.
 use Rattle.std.specs.List.{All}
-use Rattle.std.specs.Prelude.{◌≡◌, ◌⊎◌, false, ◌<◌, ◌≤◌, ◌+◌, ℕ, List, [], ◌∷◌, ◌++◌, length, take, Result, Ok, Err}
+use Rattle.std.specs.Prelude.{◌≡◌, ◌⊎◌, Bool, true, false, ◌<◌, ◌-◌, ℕ, List, [], ◌∷◌, ◌++◌, length, take}
+use Rattle.std.specs.Prelude.{Result, Ok, Err}
 use Rattle.std.specs.declared.vec.Vec.{Vec}
+use Rattle.record_values.specs.GeometryValue.{GeometryValue}
 use Rattle.record_values.specs.declared.error.Error.{Error}
 use Rattle.record_values.specs.declared.error.Error.TheVariants.{DeviceFailed, NoMemory}
-use Rattle.model.specs.History.{Item}
+use Rattle.model.specs.History.{Item, life_after, table_after}
 use Rattle.core_model.specs.Histories.{no_writes}
-use Rattle.restart.specs.declared.event.Event.{Event}
+use Rattle.sector_device.specs.DevicePast.{Rises}
 use Rattle.restart.specs.declared.event.Reply.{Reply}
 use Rattle.headline.specs.declared.day.Day.{Day}
+use Rattle.headline.specs.AtRest.{AtRest}
+use Rattle.headline.specs.Lawful.{AnswersLawfully}
 use Rattle.headline.specs.Told.{acknowledged, told_over}
 
 -- the replies of a day, or why nothing was served
 abbrev pub Answer : Type 0 → Type 0
 Answer M = Result (Vec (Reply M) M) Error
 
--- the replies of a day; none where nothing was served
-abbrev pub replies_of : {M : Type 0} → Answer M → List (Reply M)
-replies_of (Ok replies) = replies.items
-replies_of (Err e) = []
+-- the replies that came before the store stopped: all; or, where it stopped within the last request, those before it
+abbrev pub seen : {M : Type 0} → (within : Bool) → List (Reply M) → List (Reply M)
+seen false replies = replies
+seen true replies = take (length replies - 1) replies
 
--- each request has its reply; or nothing was served, for want of memory, or since the device failed
-abbrev pub IsAnswered : {M : Type 0} → List Event → Answer M → Type 0
-IsAnswered requests (Ok replies) = length replies.items ≡ length requests
-IsAnswered requests (Err e) = (e ≡ NoMemory) ⊎ (e ≡ DeviceFailed)
-
--- The day's requests were answered so until the store stopped, when the first of them were done, and one more may have
--- been begun; all were done, unless it stopped within the day. Of what they tell these items were kept: the first ones,
--- with each that was acknowledged.
-pub record IsDay {M : Type 0} (day : Day M) (answer : Answer M) (kept : List Item) : Type 0 where
-  pub answered : IsAnswered day.requests.items answer
-  pub done : ℕ
-  pub begun : ℕ
-  pub order : done ≤ begun
-  pub one : begun ≤ done + 1
-  pub whole : day.within ≡ false → done ≡ length day.requests.items
+-- The day was served, and each request had a lawful reply. Of what the replies tell these items were kept: the first
+-- ones, with each that was acknowledged before the store stopped.
+pub record IsServed {D M : Type 0} (failures : D → ℕ) (geometry : GeometryValue) (old : AtRest) (day : Day M)
+    (replies : List (Reply M)) (new : AtRest) : Type 0 where
+  pub lawful : AnswersLawfully failures geometry old day.requests.items replies new.failed
+  pub kept : List Item
   pub lost : List Item
-  pub told : told_over no_writes (take begun day.requests.items) (take begun (replies_of answer)) ≡ kept ++ lost
-  pub safe : All (λ (item : Item). acknowledged (take done (replies_of answer)) < item.number) lost
+  pub told : told_over no_writes day.requests.items replies ≡ kept ++ lost
+  pub safe : All (λ (item : Item). acknowledged (seen day.within replies) < item.number) lost
+  pub rows : new.rows ≡ table_after old.rows kept
+  pub life : new.life ≡ life_after old.life kept
 
--- These were the days, one after another; and this was kept of all of them.
-abbrev pub AreDays : {M : Type 0} → List (Day M) → List (Answer M) → List Item → Type 0
-AreDays [] [] kept = kept ≡ []
-AreDays (day ∷ days) (answer ∷ answers) kept = (today : List Item) × (later : List Item) × (kept ≡ today ++ later)
-    × IsDay day answer today × AreDays days answers later
-AreDays days answers kept = ⊥
+-- The store stopped within its opening: nothing was asked, and it rests as it did.
+pub record IsIdle {M : Type 0} (old : AtRest) (day : Day M) (replies : List (Reply M)) (new : AtRest) : Type 0 where
+  pub within : day.within ≡ true
+  pub none : day.requests.items ≡ []
+  pub silent : replies ≡ []
+  pub same : new ≡ old
+
+-- The day passed, and nothing was served: for want of memory, or since a call of the device failed.
+pub record IsPassed (old : AtRest) (e : Error) (new : AtRest) : Type 0 where
+  pub rows : new.rows ≡ old.rows
+  pub life : new.life ≡ old.life
+  pub why : ((e ≡ NoMemory) × (new.failed ≡ old.failed)) ⊎ ((e ≡ DeviceFailed) × Rises old.failed new.failed)
+
+-- what a day with this answer made of the store
+abbrev pub IsDay : {D M : Type 0} → (D → ℕ) → GeometryValue → AtRest → Day M → Answer M → AtRest → Type 0
+IsDay failures geometry old day (Ok replies) new = IsServed failures geometry old day replies.items new
+    ⊎ IsIdle old day replies.items new
+IsDay failures geometry old day (Err e) new = IsPassed old e new
+
+-- what these days, one after another, made of it
+abbrev pub AreDays : {D M : Type 0} → (D → ℕ) → GeometryValue → AtRest → List (Day M) → List (Answer M) → AtRest
+    → Type 0
+AreDays failures geometry old [] [] new = new ≡ old
+AreDays failures geometry old (day ∷ days) (answer ∷ answers) new = (mid : AtRest)
+    × IsDay failures geometry old day answer mid × AreDays failures geometry mid days answers new
+AreDays failures geometry old days answers new = ⊥

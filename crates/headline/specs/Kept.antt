@@ -1,31 +1,90 @@
 -- What a device keeps of a store's days. (No public clause cites these.)
-use Rattle.std.specs.Prelude.{◌≡◌, List}
+use Rattle.std.specs.Prelude.{◌≡◌, ◌≢◌, ◌⊎◌, ◌≤◌, ℕ, List, [], ◌∷◌, ◌++◌, Ok, Err}
 use Rattle.record_values.specs.GeometryValue.{GeometryValue}
+use Rattle.record_values.specs.declared.error.Error.{Error}
+use Rattle.record_values.specs.declared.error.Error.TheVariants.{Exhausted, IndexFull, NoIndex, NoMemory}
+use Rattle.record_values.specs.declared.number.TheConstants.{LAST_NUMBER}
 use Rattle.model.specs.Given.{Given}
-use Rattle.model.specs.History.{Item, life_after, table_after}
+use Rattle.model.specs.declared.life.Life.TheVariants.{Absent, Complete}
 use Rattle.core_model.specs.Histories.{CanOpen}
 use Rattle.sector_device.specs.Disk.{CrashState, IsCrashState}
 use Rattle.sector_device.specs.DevicePast.{DevicePast}
+use Rattle.core_parts.specs.View.{CoreValue}
 use Rattle.store_reader.specs.Contents.{Gives}
-use Rattle.restart.specs.Store.{over}
+use Rattle.restart.specs.declared.event.Event.{Event}
+use Rattle.restart.specs.declared.event.Reply.{Reply}
+use Rattle.restart.specs.declared.parts.EngineParts.{EngineParts}
+use Rattle.restart.specs.Building.{AreBuilt, IsIndexFull, builds}
+use Rattle.restart.specs.Lawful.{AreLawful, IsLawful}
+use Rattle.restart.specs.Parts.{device_of}
+use Rattle.restart.specs.Reopening.{IsEmptied, IsOpened}
+use Rattle.restart.specs.Store.{IsAt, Past, RunsOn, ServesOn, and_then, over}
 use Rattle.headline.specs.declared.day.Day.{Day}
 use Rattle.headline.specs.Days.{Answer, AreDays}
+use Rattle.headline.specs.AtRest.{AtRest, resting}
 
--- the crash state gives what the store began with, with the table and the index's life of what was kept of the days
--- since; and a core may begin with it
-pub record GivesDays {M : Type 0} (geometry : GeometryValue) (began : Given) (days : List (Day M))
-    (answers : List (Answer M)) (image : CrashState) : Type 0 where
+-- The crash state gives what the days have made of the store, on a device with this count of failures; and a core may
+-- begin with it.
+pub record GivesDays {D M : Type 0} (failures : D → ℕ) (geometry : GeometryValue) (began : AtRest) (days : List (Day M))
+    (answers : List (Answer M)) (failed : ℕ) (image : CrashState) : Type 0 where
   pub given : Given
   pub gives : Gives image geometry given
-  pub kept : List Item
-  pub days-are : AreDays days answers kept
-  pub table : given.table ≡ table_after began.table kept
-  pub life : given.life ≡ life_after began.life kept
+  pub days-are : AreDays failures geometry began days answers (resting given failed)
   pub opens : CanOpen (over geometry given)
 
 -- whatever a crash leaves of the device gives that; and its moments count from now on
-pub record KeepsDays {D M : Type 0} (past_of : D → DevicePast) (geometry : GeometryValue) (began : Given)
-    (days : List (Day M)) (answers : List (Answer M)) (device : D) : Type 0 where
+pub record KeepsDays {D M : Type 0} (past_of : D → DevicePast) (failures : D → ℕ) (geometry : GeometryValue)
+    (began : AtRest) (days : List (Day M)) (answers : List (Answer M)) (device : D) : Type 0 where
   pub anew : (past_of device).moment ≡ 0
   pub each : (image : CrashState) → IsCrashState (past_of device).disk image
-      → GivesDays geometry began days answers image
+      → GivesDays failures geometry began days answers (failures device) image
+
+-- the engine was opened from this device, and no call of it failed
+pub record IsBegun {D M : Type 0} (past_of : D → DevicePast) (failures : D → ℕ) (before : D)
+    (engine : EngineParts D M) : Type 0 where
+  pub opened : IsOpened past_of before engine
+  pub emptied : IsEmptied past_of before engine
+  pub quiet : failures (device_of engine) ≡ failures before
+
+-- Whatever days the device keeps as the day begins, it keeps this one too as it is found behind it.
+abbrev pub KeepsOneMore : {D M : Type 0} → (D → DevicePast) → (D → ℕ) → D → Day M → Answer M → D → Type 0
+KeepsOneMore {D} {M} past_of failures before day answer found = (geometry : GeometryValue) (began : AtRest)
+    (days : List (Day M)) (answers : List (Answer M)) → KeepsDays past_of failures geometry began days answers before
+    → KeepsDays past_of failures geometry began (days ++ day ∷ []) (answers ++ answer ∷ []) found
+
+-- These requests were answered so, and then one more. The mark is of the moment in between.
+pub record ServesWithin {D M : Type 0} (past_of : D → DevicePast) (failures : D → ℕ) (marks : ℕ → ℕ → Type 0)
+    (events : List Event) (last : Event) (replies : List (Reply M)) (mark : ℕ)
+    (old new : EngineParts D M) : Type 0 where
+  pub first : List (Reply M)
+  pub reply : Reply M
+  pub all : replies ≡ first ++ reply ∷ []
+  pub mid : EngineParts D M
+  pub lawful : AreLawful failures events first old mid
+  pub runs : RunsOn past_of events first old mid
+  pub marked : marks mark (past_of (device_of mid)).moment
+  pub lawful_last : IsLawful failures last reply mid new
+  pub serves : ServesOn past_of last reply mid new
+
+-- how the requests of a day were answered that ends within: none where there is none, or all; or there was no memory
+abbrev pub IsServedWithin : {D M : Type 0} → (D → DevicePast) → (D → ℕ) → (ℕ → ℕ → Type 0) → (opening : ℕ) → List Event
+    → Answer M → (mark : ℕ) → EngineParts D M → EngineParts D M → Type 0
+IsServedWithin past_of failures marks opening requests (Ok replies) mark old new =
+    ((requests ≡ []) × (replies.items ≡ []) × (mark ≡ opening) × (new ≡ old))
+    ⊎ ((events : List Event) × (last : Event) × (requests ≡ events ++ last ∷ [])
+    × ServesWithin past_of failures marks events last replies.items mark old new)
+IsServedWithin past_of failures marks opening requests (Err e) mark old new = (e ≡ NoMemory) × (mark ≡ opening)
+    × (new ≡ old)
+
+-- the builder made these steps, with which any run goes on
+pub record EndsBuild {D M : Type 0} (past_of : D → DevicePast) (old new : EngineParts D M) : Type 0 where
+  pub replies : List (Reply M)
+  pub each : AreBuilt replies old new
+  pub at : (past : Past M) → IsAt past_of past old → IsAt past_of (and_then past (builds replies) replies) new
+
+-- why a build was refused
+pub record WhyUnbuilt (error : Error) (old new : CoreValue) : Type 0 where
+  pub rows : new.heap.rows ≡ old.heap.rows
+  pub unfinished : old.life ≢ Complete
+  pub why : ((error ≡ NoIndex) × (old.life ≡ Absent)) ⊎ ((error ≡ IndexFull) × IsIndexFull new)
+      ⊎ ((error ≡ Exhausted) × (LAST_NUMBER ≤ new.last)) ⊎ (error ≡ NoMemory)

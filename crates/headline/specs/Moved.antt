@@ -7,42 +7,48 @@ use Rattle.record_values.specs.declared.error.Error.TheVariants as errors
 use Rattle.record_values.specs.declared.version.Version.TheVariants.{One}
 use Rattle.model.specs.Given.{Given}
 use Rattle.core_model.specs.Histories.{CanOpen}
-use Rattle.core_parts.specs.View.{CoreValue}
 use Rattle.sector_device.specs.Disk.{CrashState}
 use Rattle.store_reader.specs.Contents.{GivesIn}
 use Rattle.restart.specs.declared.migration.MigrateError.{MigrateError}
 use Rattle.restart.specs.declared.migration.MigrateError.TheVariants.{New, NoMemory, Old}
+use Rattle.restart.specs.declared.parts.EngineParts.{EngineParts}
 use Rattle.restart.specs.Migrating.{IsOldRefused}
 use Rattle.restart.specs.Store.{over}
 use Rattle.headline.specs.declared.day.Day.{Day}
 use Rattle.headline.specs.Days.{Answer}
-use Rattle.headline.specs.Held.{Holds, IsUnbuilt}
+use Rattle.headline.specs.Held.{HasFailed, HasLived, IsUnbuilt}
+use Rattle.headline.specs.AtRest.{resting}
 
--- The old device gives something by version 1. Where a core may begin with that, the store began with it, and holds
--- what its days have made of it; or the build of its index, which was to be carried on, was refused.
-pub record HoldsMoved {M : Type 0} (old : CrashState) (days : List (Day M)) (answers : List (Answer M)) (built : Bool)
-    (unbuilt : Option Error) (core : CoreValue) : Type 0 where
+-- The old device gives something by version 1. Where a core may begin with that, the store began with it, and the
+-- engine holds what its days have made of it; or the build of its index, which was to be carried on, was refused.
+pub record HoldsMoved {D M : Type 0} (failures : D → ℕ) (old : CrashState) (failed : ℕ) (days : List (Day M))
+    (answers : List (Answer M)) (built : Bool) (unbuilt : Option Error) (engine : EngineParts D M) : Type 0 where
   pub geometry : GeometryValue
   pub given : Given
   pub gave : GivesIn One old geometry given
-  pub holds : CanOpen (over geometry given) → unbuilt ≡ None → Holds given days answers built core
+  pub holds : CanOpen (over geometry given) → unbuilt ≡ None
+      → HasLived failures geometry (resting given failed) days answers built engine
   pub refused : CanOpen (over geometry given) → IfSome unbuilt (λ e. (built ≡ true)
-      × IsUnbuilt given days answers e core)
+      × IsUnbuilt failures geometry (resting given failed) days answers e engine)
 
 -- The old device gives something by version 1. The new one has too few sectors for it; or, where a core may begin with
--- that, it failed.
-pub record IsNewNotLived (old new : CrashState) (e : Error) : Type 0 where
+-- that, a call of the new one failed, in the move or in the last opening.
+pub record IsNewNotLived {D M : Type 0} (failures : D → ℕ) (old new : CrashState) (failed : ℕ) (days : List (Day M))
+    (e : Error) (device : D) : Type 0 where
   pub geometry : GeometryValue
   pub given : Given
   pub gave : GivesIn One old geometry given
   pub why : ((e ≡ DeviceTooSmall) × (length new < sectors_of geometry))
-      ⊎ (CanOpen (over geometry given) → e ≡ DeviceFailed)
+      ⊎ (CanOpen (over geometry given) → (e ≡ DeviceFailed)
+      × HasFailed failures geometry (resting given failed) days (failures device))
 
 -- why a store wasn't moved, or not opened behind its days
-abbrev pub IsNotLived : (old new : CrashState) → (old_before old_after : ℕ) → MigrateError → Type 0
-IsNotLived old new old_before old_after (Old e) = IsOldRefused old old_before old_after e
-IsNotLived old new old_before old_after (New e) = IsNewNotLived old new e
-IsNotLived old new old_before old_after NoMemory = Unit {0}
+abbrev pub IsNotLived : {D M : Type 0} → (D → ℕ) → (old new : CrashState) → (old_before old_after failed : ℕ)
+    → List (Day M) → MigrateError → D → Type 0
+IsNotLived failures old new old_before old_after failed days (Old e) device = IsOldRefused old old_before old_after e
+IsNotLived failures old new old_before old_after failed days (New e) device =
+    IsNewNotLived failures old new failed days e device
+IsNotLived failures old new old_before old_after failed days NoMemory device = Unit {0}
 
 -- what a refusal behind the move is told as (no public clause cites this)
 abbrev pub IsToldLater : Error → MigrateError → Type 0

@@ -8,8 +8,9 @@ pub record IsFoundAs (disk : Disk) (found : DevicePast) : Type 0 where
   pub anew : found.moment ≡ 0
   pub left : (image : CrashState) → IsCrashState found.disk image → IsCrashState disk image
 
--- it stopped at one of its moments, and is found as it was then, or as a crash left it
-pub record HasStopped (old found : DevicePast) : Type 0 where
+-- it stopped at one of its moments since this one, and is found as it was then, or as a crash left it
+pub record HasStopped (since : ℕ) (old found : DevicePast) : Type 0 where
   pub moment : ℕ
+  pub from : since ≤ moment
   pub until : moment ≤ old.moment
   pub found-as : IsFoundAs (old.disk_at moment) found

@@ -1,11 +1,12 @@
 //! The theorem of the store as the contract of one call: it formats a device, serves days of requests over it, each
 //! until the store stops at any moment or behind its last reply, and tells what is found in the end.
 //!
-//! Proved: `live_through` (`holds`, `unbuilt`, `refused`, `too_small`), and of a store that is moved from version 1
-//! `live_on` (`holds`, `kept`, `refused`, `room`, `too_small`, `told`, `quiet`). They are composed of public contracts
-//! alone. A day ends within, at any moment, or behind its last reply; of the second kind each acknowledged record is
-//! kept. Only tested (`test_headline`): days over a disk in memory. Neither: that a request is accepted, or anything
-//! acknowledged.
+//! Proved: `live_through` (`holds`, `unbuilt`, `refused`, `too_small`, `room`), and of a store that is moved from
+//! version 1 `live_on` (`holds`, `kept`, `refused`, `room`, `too_small`, `told`, `quiet`). They are composed of public
+//! contracts alone. A day ends behind its last reply, or within its last request, at any moment of it; each record that
+//! a reply had acknowledged before the stop is kept. The requests of each day are answered lawfully, and the device's
+//! failures are counted. Only tested (`test_headline`): days over a disk in memory. Neither: that memory is granted,
+//! or the device succeeds.
 //!
 //! What many threads leave, as the contract of one call: every seat is taken back, the power fails behind that, and the
 //! store is opened again.
@@ -16,6 +17,7 @@
 #![tactic(auto)]
 
 mod closed;
+mod daily;
 mod day;
 mod lives;
 mod mortal;

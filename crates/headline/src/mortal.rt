@@ -1,35 +1,57 @@
 //! Devices that stop.
+ghost use Rattle.std.specs.Prelude.{◌≡◌, ◌≤◌, ℕ};
 ghost use Rattle.headline.specs.Stops.{HasStopped, IsFoundAs};
 
 use sector_device::{Device, Fate, MemDisk};
 use std::alloc::Allocator;
 
-/// A device that may stop, as its power fails or the process that has it ends, and is found again.
+/// A device that may stop, as its power fails or the process that has it ends, and is found again. It keeps its count
+/// of failures.
 pub trait Mortal: Device + Drop {
+    /// Which of a device's moments a number may mark.
+    ghost marks: { ℕ → ℕ → Type 0 };
+
+    /// Marks the moment that it is.
+    fn mark(&self) -> u64
+        ensures { marks result (Self.past_of self.now).moment };
+
     /// It stops where it is, and is found as any crash of now may have left it. Its moments count anew.
     fn stop_now(&mut self)
-        ensures { IsFoundAs (Self.past_of self.old).disk (Self.past_of self.new) };
+        ensures found { IsFoundAs (Self.past_of self.old).disk (Self.past_of self.new) }
+        ensures failures { Self.failures self.new ≡ Self.failures self.old };
 
-    /// It stopped at one of its moments, and is found likewise: what was done later never came to it.
-    fn stop(&mut self)
-        ensures { HasStopped (Self.past_of self.old) (Self.past_of self.new) };
+    /// It stopped at one of its moments since the marked one, and is found likewise: what was done later never came to
+    /// it.
+    fn stop(&mut self, since: u64)
+        ensures stopped { (moment : ℕ) → marks since moment → moment ≤ (Self.past_of self.old).moment
+            → HasStopped moment (Self.past_of self.old) (Self.past_of self.new) }
+        ensures failures { Self.failures self.new ≡ Self.failures self.old };
 }
 
 /// What becomes in turn of the sectors of a disk in memory that are unsynced as it stops.
 const FATES: [Fate; 5] = [Fate::Zero, Fate::New, Fate::Junk, Fate::Old, Fate::Gate];
 
-/// A disk in memory stops where it is, and what it held unsynced is torn.
+/// A disk in memory stops where it is, whatever moment was marked, and what it held unsynced is torn.
 impl<A: Allocator + Copy> Mortal for MemDisk<A> {
-    ghost use Rattle.sector_device.specs.MemDisk.{past_of};
+    ghost use Rattle.sector_device.specs.MemDisk.{failures_of, past_of};
+
+    ghost marks = { λ mark moment. Unit {0} };
+
+    fn mark(&self) -> u64 {
+        0
+    }
 
     fn stop_now(&mut self)
-        ensures { IsFoundAs (past_of self.old).disk (past_of self.new) }
+        ensures found { IsFoundAs (past_of self.old).disk (past_of self.new) }
+        ensures failures { failures_of self.new ≡ failures_of self.old }
     {
         self.crash(&FATES);
     }
 
-    fn stop(&mut self)
-        ensures { HasStopped (past_of self.old) (past_of self.new) }
+    fn stop(&mut self, _since: u64)
+        ensures stopped { (moment : ℕ) → Unit {0} → moment ≤ (past_of self.old).moment
+            → HasStopped moment (past_of self.old) (past_of self.new) }
+        ensures failures { failures_of self.new ≡ failures_of self.old }
     {
         self.stop_now();
     }

@@ -2,7 +2,6 @@
 ghost use Rattle.std.specs.Prelude.{◌≡◌, ◌≢◌, IfErr, IfOk, OnOk};
 ghost use Rattle.sector_device.specs.DevicePast.{OnlyReads};
 ghost use Rattle.restart.specs.Migrating.{IsSmallAnswer, IsTooSmall};
-ghost use Rattle.restart.specs.Parts.{core_of};
 ghost use Rattle.headline.specs.Moved.{HoldsMoved, IsToldLater, IsNotLived};
 
 use crate::lives::{Lived, live_behind};
@@ -26,10 +25,11 @@ fn later(error: Error) -> MigrateError
 /// does behind the formatting: what the store then holds is what the old device gave, with the days' kept commits
 /// behind it, where a core may begin with that (`holds`). The old device is only read (`kept`).
 ///
-/// `Old` where the old device failed in the move, or gives nothing by version 1. `New` with `DeviceTooSmall` where the
-/// new device has too few sectors; and else, where a core may begin with what the old one gave, with `DeviceFailed`
-/// alone. `NoMemory` at any time (`refused`). Where the old device gives something and the new one has too few sectors
-/// for it, that is told, unless the old one failed or memory was wanting (`too_small`, `room`).
+/// A refusal gives the new device back. `Old` where the old device failed in the move, or gives nothing by version 1.
+/// `New` with `DeviceTooSmall` where the new device has too few sectors; and else, where a core may begin with what the
+/// old one gave, with `DeviceFailed` alone, where the new device's count of failures has risen. `NoMemory` at any time
+/// (`refused`). Where the old device gives something and the new one has too few sectors for it, that is told, unless
+/// the old one failed or memory was wanting (`too_small`, `room`).
 /// With any answer but `Old` with `DeviceFailed` the old device has not failed (`told`, `quiet`).
 ///
 /// [`live_through`]: crate::live_through
@@ -39,28 +39,28 @@ pub fn live_on<O: Device, D: Mortal, A: Allocator + Copy>(
     device: D,
     days: &[Day<A>],
     build: bool,
-) -> Result<Lived<D, A>, MigrateError>
-    ensures holds { IfOk result (λ lived.
-        HoldsMoved (O.past_of old.old).disk.content days.now lived.answers.items build lived.unbuilt
-        (core_of lived.engine)) }
+) -> Result<Lived<D, A>, (MigrateError, D)>
+    ensures holds { IfOk result (λ lived. HoldsMoved D.failures (O.past_of old.old).disk.content (D.failures device)
+        days.now lived.answers.items build lived.unbuilt lived.engine) }
     ensures kept { OnlyReads (O.past_of old.old) (O.past_of old.new) }
-    ensures refused { IfErr result (IsNotLived (O.past_of old.old).disk.content (D.past_of device).disk.content
-        (O.failures old.old) (O.failures old.new)) }
+    ensures refused { IfErr result (λ r. IsNotLived D.failures (O.past_of old.old).disk.content
+        (D.past_of device).disk.content (O.failures old.old) (O.failures old.new) (D.failures device) days.now r.0
+        r.1) }
     ensures room { OnOk result (IsTooSmall (O.past_of old.old).disk.content (D.past_of device).disk.content → ⊥) }
     ensures too_small { IsTooSmall (O.past_of old.old).disk.content (D.past_of device).disk.content
-        → IfErr result IsSmallAnswer }
+        → IfErr result (λ r. IsSmallAnswer r.0) }
     ensures quiet { OnOk result (O.failures old.new ≡ O.failures old.old) }
-    ensures told { IfErr result (λ e. e ≢ MigrateError.Old Error.DeviceFailed
+    ensures told { IfErr result (λ r. r.0 ≢ MigrateError.Old Error.DeviceFailed
         → O.failures old.new ≡ O.failures old.old) }
 {
     let engine = match migrate(alloc, old, device) {
         Ok(engine) => engine,
-        Err((error, _)) => return Err(error),
+        Err((error, device)) => return Err((error, device)),
     };
     let mut device = engine.into_device();
     device.stop_now();
     match live_behind(alloc, device, days, build) {
         Ok(lived) => Ok(lived),
-        Err(error) => Err(later(error)),
+        Err((error, device)) => Err((later(error), device)),
     }
 }

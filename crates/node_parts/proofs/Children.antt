@@ -9,8 +9,8 @@ use Rattle.node_parts.specs.Order.{is_below, mark_in, AllAbove, IsAscending}
 use Rattle.node_parts.specs.Tree.{Tree, branch, entries, forest_entries, forest_of, depth, forest_depth}
 use Rattle.node_parts.specs.Seen.{least_of, AreLabelled, tree_of, IsSound}
 use Rattle.std.specs.Prelude.{Vec, vec_len, vec_capacity}
-use Rattle.node_parts.specs.declared.Parts.{Parts}
-use Rattle.node_parts.specs.declared.Parts.TheVariants.{Inner}
+use Rattle.node_parts.specs.declared.NodeParts.{NodeParts}
+use Rattle.node_parts.specs.declared.NodeParts.TheVariants.{Inner}
 use Rattle.node_parts.proofs.Order.{mark_in-above, mark_in-below, mark_in-left, mark_in-right, AllAbove-from, AllBelow-upto, IsAscending-left}
 use Rattle.node_parts.proofs.Order.{IsAscending-right, below_head}
 
@@ -84,11 +84,11 @@ ascending_child (c ∷ cs) zero d h a = IsAscending-left (entries c.node.value) 
 ascending_child (c ∷ cs) (suc k) d h a = ascending_child cs k d (omega arith) (IsAscending-right (entries c.node.value) (all_entries cs) a)
 
 -- what an opened node was seen as
-pub seen_inner : {A : Type 0} (parts : Parts A) (cs : Vec (Child A) A) (t : Tree) → tree_of parts ≡ t → parts ≡ Inner cs
+pub seen_inner : {A : Type 0} (parts : NodeParts A) (cs : Vec (Child A) A) (t : Tree) → tree_of parts ≡ t → parts ≡ Inner cs
     → t ≡ branch (forest_of (map (λ c. c.node.value) cs.items))
 seen_inner parts cs t v e = sym v ∙ ap tree_of e
 
-pub sound_inner : {A : Type 0} (parts : Parts A) (cs : Vec (Child A) A) → IsSound parts → parts ≡ Inner cs → (vec_len cs ≤ 32) × (32 ≤ vec_capacity cs)
+pub sound_inner : {A : Type 0} (parts : NodeParts A) (cs : Vec (Child A) A) → IsSound parts → parts ≡ Inner cs → (vec_len cs ≤ 32) × (32 ≤ vec_capacity cs)
     × AreLabelled cs.items
 sound_inner parts cs h e = subst IsSound e h
 

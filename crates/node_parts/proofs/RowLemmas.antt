@@ -4,8 +4,8 @@ use Rattle.std.proofs.Common.{vec_capacity}
 use Rattle.std.specs.List.{insert}
 use Rattle.node_parts.specs.declared.Entry.{Entry}
 use Rattle.node_parts.specs.declared.Child.{Child}
-use Rattle.node_parts.specs.declared.Parts.{Parts}
-use Rattle.node_parts.specs.declared.Parts.TheVariants.{Leaf, Inner}
+use Rattle.node_parts.specs.declared.NodeParts.{NodeParts}
+use Rattle.node_parts.specs.declared.NodeParts.TheVariants.{Leaf, Inner}
 use Rattle.node_parts.specs.Tree.{Tree, leaf, branch, none, entries, forest_of, trees_of, count}
 use Rattle.node_parts.specs.Seen.{least_of, AreLabelled, tree_of, IsSound}
 use Rattle.node_parts.specs.Rows.{trees}
@@ -55,20 +55,21 @@ pub length-trees : {A : Type 0} (cs : List (Child A)) → length (trees_of (fore
 length-trees [] = refl
 length-trees (c ∷ cs) = ap suc (length-trees cs)
 
-pub no_children : {A : Type 0} (parts : Parts A) (cs : Vec (Child A) A) (t : Tree) → tree_of parts ≡ t → parts ≡ Inner cs → t ≡ branch none → cs.items ≡ []
+pub no_children : {A : Type 0} (parts : NodeParts A) (cs : Vec (Child A) A) (t : Tree) → tree_of parts ≡ t → parts ≡ Inner cs → t ≡ branch none → cs.items ≡ []
 no_children parts cs t v e z = no_trees cs.items (ap count (sym (ap tree_of e) ∙ v ∙ z))
   where
     no_trees : {A : Type 0} (cs : List (Child A)) → length (trees_of (forest_of (trees cs))) ≡ 0 → cs ≡ []
     no_trees [] h = refl
     no_trees (c ∷ cs) h = absurd (omega arith)
 
-pub leaf_is : {A : Type 0} (parts : Parts A) (es : Vec Entry A) (t : Tree) → tree_of parts ≡ t → parts ≡ Leaf es → t ≡ leaf es.items
+pub leaf_is : {A : Type 0} (parts : NodeParts A) (es : Vec Entry A) (t : Tree) → tree_of parts ≡ t → parts ≡ Leaf es → t ≡ leaf es.items
 leaf_is parts es t v e = sym v ∙ ap tree_of e
 
-pub sound_leaf : {A : Type 0} (parts : Parts A) (es : Vec Entry A) → IsSound parts → parts ≡ Leaf es → (vec_len es ≤ 32) × (32 ≤ vec_capacity es)
+pub sound_leaf : {A : Type 0} (parts : NodeParts A) (es : Vec Entry A) → IsSound parts → parts ≡ Leaf es → (vec_len es ≤ 32) × (32 ≤ vec_capacity es)
 sound_leaf parts es h e = subst IsSound e h
 
-pub inner_is : {A : Type 0} (parts : Parts A) (cs : Vec (Child A) A) (t : Tree) → tree_of parts ≡ t → parts ≡ Inner cs → t ≡ branch (forest_of (trees cs.items))
+pub inner_is : {A : Type 0} (parts : NodeParts A) (cs : Vec (Child A) A) (t : Tree) → tree_of parts ≡ t → parts ≡ Inner cs
+    → t ≡ branch (forest_of (trees cs.items))
 inner_is parts cs t v e = sym v ∙ ap tree_of e
 
 pub count_of : {A : Type 0} (cs : List (Child A)) (t : Tree) → t ≡ branch (forest_of (trees cs)) → count t ≡ length cs

@@ -3,10 +3,10 @@ use Rattle.std.specs.Prelude.{◌+◌, ◌≤◌, max, ◌∷◌, List, [], map}
 use Rattle.std.proofs.Common.{arith}
 use Rattle.std.specs.declared.alloc.Allocator.{Ghosts}
 use denote.Param.Weighed.{most}
-use Rattle.node_parts.specs.declared.Parts.{Parts}
-use Rattle.node_parts.specs.declared.Parts.TheVariants.{Leaf, Inner}
+use Rattle.node_parts.specs.declared.NodeParts.{NodeParts}
+use Rattle.node_parts.specs.declared.NodeParts.TheVariants.{Leaf, Inner}
 use Rattle.node_parts.specs.declared.Child.{Child}
-use Rattle.node_parts.specs.declared.Node.TheDeep.{deep-Parts, deep-Child}
+use Rattle.node_parts.specs.declared.Node.TheDeep.{deep-NodeParts, deep-Child}
 use Rattle.node_parts.specs.Tree.{depth, forest_depth, forest_of}
 use Rattle.node_parts.specs.Seen.{tree_of}
 
@@ -16,6 +16,6 @@ most_falls G [] = omega arith
 most_falls G (c ∷ cs) = omega (arith, most_falls G cs)
 
 -- how deep a node's parts are nested is at most the depth of its tree
-pub depth_falls : {A : Type 0} (G : Ghosts A) (n : Parts A) → max (deep-Parts A G n) 0 ≤ depth (tree_of n)
+pub depth_falls : {A : Type 0} (G : Ghosts A) (n : NodeParts A) → max (deep-NodeParts A G n) 0 ≤ depth (tree_of n)
 depth_falls G (Leaf es) = omega arith
 depth_falls G (Inner cs) = omega (arith, most_falls G cs.items)

@@ -3,12 +3,12 @@ use Rattle.std.specs.Prelude.{◌≡◌, ◌≤◌, List, [], ◌∷◌, map, ve
 use Rattle.node_parts.specs.Tree.{Tree, leaf, branch, forest_of, entries}
 use Rattle.record_values.specs.declared.pair.Pair.{Pair}
 use Rattle.node_parts.specs.declared.Entry.{Entry}
-use Rattle.node_parts.specs.declared.Parts.{Parts}
-use Rattle.node_parts.specs.declared.Parts.TheVariants.{Leaf, Inner}
+use Rattle.node_parts.specs.declared.NodeParts.{NodeParts}
+use Rattle.node_parts.specs.declared.NodeParts.TheVariants.{Leaf, Inner}
 use Rattle.node_parts.specs.declared.Child.{Child}
 
 -- the tree of a node's parts
-abbrev pub tree_of : {A : Type 0} → Parts A → Tree
+abbrev pub tree_of : {A : Type 0} → NodeParts A → Tree
 tree_of (Leaf es) = leaf es.items
 tree_of (Inner cs) = branch (forest_of (map (λ c. c.node.value) cs.items))
 
@@ -23,6 +23,6 @@ AreLabelled [] = Unit {0}
 AreLabelled (c ∷ cs) = (least_of (entries c.node.value) ≡ Some c.least) × AreLabelled cs
 
 -- a node has at most 32 items, and room for 32; each child has its label
-abbrev pub IsSound : {A : Type 0} → Parts A → Type 0
+abbrev pub IsSound : {A : Type 0} → NodeParts A → Type 0
 IsSound (Leaf es) = (vec_len es ≤ 32) × (32 ≤ vec_capacity es)
 IsSound (Inner cs) = (vec_len cs ≤ 32) × (32 ≤ vec_capacity cs) × AreLabelled cs.items

@@ -8,7 +8,7 @@ ghost use Rattle.node_parts.specs.Rows.{branches};
 ghost use Rattle.node_parts.specs.Tree.{count, entries, IsLeaf};
 
 use crate::rows::FULL;
-use crate::{Entry, Node, Parts};
+use crate::{Entry, Node, NodeParts};
 use records::Pair;
 use std::alloc::Allocator;
 use std::marker::Model;
@@ -71,7 +71,7 @@ impl<'a, A: Allocator> Descent<'a, A> {
         ensures unchanged { result ≡ false → self.new ≡ self.old }
     {
         let node = self.node;
-        let Parts::Inner(row) = &node.parts else {
+        let NodeParts::Inner(row) = &node.parts else {
             return false;
         };
         let Some(child) = row.get(at) else {
@@ -88,7 +88,7 @@ impl<'a, A: Allocator> Descent<'a, A> {
         ensures { result.now ≡ entries self.now.node }
     {
         let node = self.node;
-        let Parts::Leaf(row) = &node.parts else {
+        let NodeParts::Leaf(row) = &node.parts else {
             unreachable!()
         };
         row.as_slice()

@@ -37,14 +37,14 @@ pub struct Entry {
 #[cycle(node)]
 #[derive(Drop)]
 pub struct Node<A: Allocator> {
-    pub parts: Parts<A>,
+    pub parts: NodeParts<A>,
 }
 
 /// What a node holds: entries if it is a leaf, and else children. There are at most `FULL` of either, and
 /// the room for all of them was taken as the node was made.
 #[cycle(node)]
 #[derive(Drop)]
-pub enum Parts<A: Allocator> {
+pub enum NodeParts<A: Allocator> {
     Leaf(Vec<Entry, A>),
     Inner(Vec<Child<A>, A>),
 }
@@ -85,7 +85,7 @@ impl<A: Allocator> Node<A> {
         ensures no_memory { IfErr result (λ e. e ≡ Error.NoMemory) }
     {
         Ok(Node {
-            parts: Parts::Leaf(rows::empty_row(alloc)?),
+            parts: NodeParts::Leaf(rows::empty_row(alloc)?),
         })
     }
 
@@ -95,7 +95,7 @@ impl<A: Allocator> Node<A> {
         ensures no_memory { IfErr result (λ e. e ≡ Error.NoMemory) }
     {
         Ok(Node {
-            parts: Parts::Inner(rows::empty_row(alloc)?),
+            parts: NodeParts::Inner(rows::empty_row(alloc)?),
         })
     }
 
@@ -105,8 +105,8 @@ impl<A: Allocator> Node<A> {
         ensures most { result ≤ 32 }
     {
         match &self.parts {
-            Parts::Leaf(row) => row.len(),
-            Parts::Inner(row) => row.len(),
+            NodeParts::Leaf(row) => row.len(),
+            NodeParts::Inner(row) => row.len(),
         }
     }
 
@@ -116,8 +116,8 @@ impl<A: Allocator> Node<A> {
         ensures least { least_of (entries self.now) ≡ Some result }
     {
         match &self.parts {
-            Parts::Leaf(row) => row[0].pair,
-            Parts::Inner(row) => row[0].least,
+            NodeParts::Leaf(row) => row[0].pair,
+            NodeParts::Inner(row) => row[0].least,
         }
     }
 
@@ -128,8 +128,8 @@ impl<A: Allocator> Node<A> {
         ensures { result ≡ place_in self.now pair.now }
     {
         match &self.parts {
-            Parts::Leaf(row) => search::entry_place(row, pair),
-            Parts::Inner(row) => search::child_place(row, pair).saturating_sub(1),
+            NodeParts::Leaf(row) => search::entry_place(row, pair),
+            NodeParts::Inner(row) => search::child_place(row, pair).saturating_sub(1),
         }
     }
 
@@ -140,7 +140,7 @@ impl<A: Allocator> Node<A> {
         requires in_range { place ≤ count self.old }
         ensures { self.new ≡ leaf (insert (entries self.old) place entry) }
     {
-        let Parts::Leaf(row) = &mut self.parts else {
+        let NodeParts::Leaf(row) = &mut self.parts else {
             unreachable!()
         };
         rows::insert_at(row, place, entry);
@@ -152,7 +152,7 @@ impl<A: Allocator> Node<A> {
         requires in_range { place < count self.old }
         ensures { self.new ≡ leaf (remove (entries self.old) place) }
     {
-        let Parts::Leaf(row) = &mut self.parts else {
+        let NodeParts::Leaf(row) = &mut self.parts else {
             unreachable!()
         };
         row.remove(place);
@@ -171,10 +171,10 @@ impl<A: Allocator> Node<A> {
         ensures upper_low { 16 ≤ count upper.new }
         ensures all { count self.new + count upper.new ≡ 33 }
     {
-        let Parts::Leaf(row) = &mut self.parts else {
+        let NodeParts::Leaf(row) = &mut self.parts else {
             unreachable!()
         };
-        let Parts::Leaf(upper_row) = &mut upper.parts else {
+        let NodeParts::Leaf(upper_row) = &mut upper.parts else {
             unreachable!()
         };
         rows::split_into(row, place, entry, upper_row);
@@ -195,14 +195,14 @@ impl<A: Allocator> Node<A> {
             × (count right.new ≡ count right.old + 1) }
     {
         match &mut self.parts {
-            Parts::Leaf(row) => {
-                let Parts::Leaf(other) = &mut right.parts else {
+            NodeParts::Leaf(row) => {
+                let NodeParts::Leaf(other) = &mut right.parts else {
                     unreachable!()
                 };
                 rows::borrow(row, other);
             }
-            Parts::Inner(row) => {
-                let Parts::Inner(other) = &mut right.parts else {
+            NodeParts::Inner(row) => {
+                let NodeParts::Inner(other) = &mut right.parts else {
                     unreachable!()
                 };
                 rows::borrow(row, other);
@@ -221,14 +221,14 @@ impl<A: Allocator> Node<A> {
         ensures rest { count right.new ≡ 0 }
     {
         match &mut self.parts {
-            Parts::Leaf(row) => {
-                let Parts::Leaf(other) = &mut right.parts else {
+            NodeParts::Leaf(row) => {
+                let NodeParts::Leaf(other) = &mut right.parts else {
                     unreachable!()
                 };
                 rows::merge(row, other);
             }
-            Parts::Inner(row) => {
-                let Parts::Inner(other) = &mut right.parts else {
+            NodeParts::Inner(row) => {
+                let NodeParts::Inner(other) = &mut right.parts else {
                     unreachable!()
                 };
                 rows::merge(row, other);

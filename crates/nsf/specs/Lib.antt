@@ -19,6 +19,7 @@ pub use Rattle.shared.specs.Waits
 pub use Rattle.threads_flusher.specs.Going
 pub use Rattle.threads_flusher.specs.Part
 pub use Rattle.threads_loops.specs.Building as Builds
+pub use Rattle.threads_loops.specs.Telling
 pub use Rattle.threads_loops.specs.Through
 pub use Rattle.threads_lifetime.specs.Closing
 pub use Rattle.threads_lifetime.specs.Gathered

@@ -1,6 +1,6 @@
 //! Clients of a store, each in a thread of its own.
-ghost use Rattle.std.specs.Prelude.{◌≡◌, ◌<◌, IfErr, IfOk, ℕ, map, slice_index_or, vec_len};
-ghost use Rattle.record_values.specs.declared.error.Error.TheVariants.{NoMemory};
+ghost use Rattle.std.specs.Prelude.{◌≡◌, ◌<◌, Err, IfErr, IfOk, ℕ, map, slice_index_or, vec_len};
+ghost use Rattle.record_values.specs.declared.error.Error.TheVariants.{NoMemory, TooManyTxns};
 ghost use Rattle.core_model.specs.Histories.{Opened};
 ghost use Rattle.store_writer.specs.Parts.{device_of};
 ghost use Rattle.shared.specs.Seats.{AreNewSeats};
@@ -57,9 +57,10 @@ pub struct Served<C, D> {
 /// those up to some record (`leaves`). (That a client is called, and which seats are whose, no clause says.) A
 /// transaction that a client left active is taken back when the store is opened again.
 ///
-/// The errors are those of `open_store`, as where there are more than 16 clients, and `NoMemory`, also where no thread
-/// can be made for what runs beside the clients: then no client is called. The device is given back then; a crash at
-/// any moment of the call leaves what one before could, or what gives the same (`refused`).
+/// The errors are those of `open_store`, as `TooManyTxns` where there are more than 16 clients (`many`), and
+/// `NoMemory`, also where no thread can be made for what runs beside the clients: then no client is called. The device
+/// is given back then; a crash at any moment of the call leaves what one before could, or what gives the same
+/// (`refused`).
 pub fn serve<C: Client + Send + Drop, D: Device + Send + Drop, R: Threads + Wait + Sync>(
     rt: &R,
     alloc: Global,
@@ -70,6 +71,7 @@ pub fn serve<C: Client + Send + Drop, D: Device + Send + Drop, R: Threads + Wait
         × LeavesCommits D.past_of o s.device s.written) }
     ensures clients { IfOk result (λ s. vec_len s.clients ≡ vec_len clients) }
     ensures refused { IfErr result (λ r. IsNotShared D.past_of D.failures device (vec_len clients) r.1 r.0) }
+    ensures many { 16 < vec_len clients → result ≡ Err (Refused TooManyTxns, device) }
 {
     match open_store(alloc, device, clients.len()) {
         Ok(store) => begin::<Brand, C, D, R>(rt, alloc, store, clients),
@@ -241,7 +243,7 @@ fn run_all<
         { work_all(rt, shared, desks, builder) },
     );
     match ran {
-        Ok(ended) => Ok(ended),
+        Ok((ended, _)) => Ok(ended),
         Err(not_run) => {
             let NotRun { flush, .. } = not_run;
             Err(flush)

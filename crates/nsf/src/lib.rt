@@ -142,6 +142,7 @@ pub use threads_lifetime::{
     left_by_threads, open_engine, open_store, sound_or_not,
 };
 pub use threads_loops::{
-    BuilderEnd, Ended, Gate, NoGate, NotRun, Point, build_loop, clean_loop, flush_loop, run_beside,
+    BuilderEnd, Ended, Gate, NoGate, NoThread, NotRun, Point, Told, build_loop, clean_loop,
+    flush_loop, run_beside,
 };
 pub use threads_sessions::Commit;

@@ -31,7 +31,7 @@ ghost use Rattle.heap_pages.specs.Pages.{IsPlaceInside};
 ghost use Rattle.record_values.specs.Values.{Place};
 
 use btree_node::Entry;
-use core_parts::{BuildReply, CleanReply, Detached, Owed, Parts, Ticket, Undone};
+use core_parts::{BuildReply, CleanReply, CoreParts, Detached, Owed, Ticket, Undone};
 use heap_pages::Heap;
 use marked_index::MarkedIndex;
 use model::{Life, ROWS_PER_PAGE};
@@ -58,7 +58,7 @@ fn highest_of(life: &Life) -> Option<Pair>
 /// wait.
 #[derive(Drop)]
 pub struct Core<A: Allocator> {
-    parts: Parts<A>,
+    parts: CoreParts<A>,
     ghost safe: { ∥ IsSafe (parts_of parts) ∥₁ },
 }
 
@@ -73,7 +73,7 @@ impl<A: Allocator + Copy> Core<A> {
         ensures made { IfOk result (λ core. value_of core ≡ fresh geometry base) }
         ensures no_memory { IfErr result (λ e. e ≡ Error.NoMemory) }
     {
-        let parts = Parts {
+        let parts = CoreParts {
             alloc,
             heap: Heap::new(alloc, geometry.pages)?,
             txns: TxnTable::new(alloc),

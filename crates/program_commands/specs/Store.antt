@@ -12,12 +12,12 @@ use Rattle.restart.specs.Repeated as repeated
 use Rattle.restart.specs.Store.{KeepsRun}
 use Rattle.restart.specs.declared.event.Event.{Event}
 use Rattle.restart.specs.declared.event.Reply.{Reply}
-use Rattle.restart.specs.declared.parts.Parts.{Parts}
+use Rattle.restart.specs.declared.parts.EngineParts.{EngineParts}
 use Rattle.program_commands.specs.declared.store.Store.{Store}
 
 module _ {D : Type 0} where
   -- the engine that serves it
-  abbrev pub engine_of : Store D → Parts D Global
+  abbrev pub engine_of : Store D → EngineParts D Global
   engine_of s = s.engine
 
   -- the device below

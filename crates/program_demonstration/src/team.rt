@@ -410,7 +410,7 @@ fn run_all<
         ),
     );
     match ran {
-        Ok(ended) => Ok(ended),
+        Ok((ended, _)) => Ok(ended),
         Err(not_run) => {
             let NotRun { flush, .. } = not_run;
             Err(flush)

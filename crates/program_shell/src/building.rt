@@ -107,7 +107,7 @@ fn prepare<D: Device>(store: &mut Store<D>, build: Build) -> Result<(), Refused>
 
 /// Builds the index to its end, and answers how many pairs were attempted. What is shown of that stands on a line of
 /// its own.
-pub fn build_index<D: Device, E: Write>(
+pub(crate) fn build_index<D: Device, E: Write>(
     store: &mut Store<D>,
     build: Build,
     errors: &mut E,

@@ -10,7 +10,7 @@ use store_moving::{NotVersionOne, move_disk, old_geometry};
 
 /// Why a store wasn't moved, by the file that was refused.
 #[derive(Debug, Drop)]
-pub enum NotMoved {
+pub(crate) enum NotMoved {
     Old(Refused),
     New(Refused),
 }
@@ -84,7 +84,7 @@ fn move_to<R: Files<File = File> + AllocGlobal, O: Device>(
 /// Moves the store of version 1 in the old file, which is only read and locked to the end, to a new file. Where that is
 /// refused before the new file has its name, no file is left, if the draft can be removed. What is wrong with the old
 /// file is told before what is wrong with the new one.
-pub fn migrate_file<R: Files<File = File> + AllocGlobal>(
+pub(crate) fn migrate_file<R: Files<File = File> + AllocGlobal>(
     rt: &R,
     old: &str,
     new: &str,

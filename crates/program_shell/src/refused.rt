@@ -64,7 +64,7 @@ impl From<AllocError> for Refused {
 }
 
 /// The refusal that a reply tells, if it is one.
-pub fn granted(reply: Reply<Global>) -> Result<(), Refused> {
+pub(crate) fn granted(reply: Reply<Global>) -> Result<(), Refused> {
     match reply {
         Reply::Refused(error) => Err(Refused::Store(error)),
         _ => Ok(()),

@@ -23,7 +23,7 @@ fn at_line(error: Error, line: u64) -> Error {
 
 /// A store that serves an input, and what it has met.
 #[derive(Drop)]
-pub struct Service<D: Device> {
+pub(crate) struct Service<D: Device> {
     guarded: GuardedStore<D>,
     /// Whether each commit is flushed before it is answered.
     is_durable: bool,
@@ -59,7 +59,7 @@ impl Notice {
 }
 
 impl<D: Device + Troubled> Service<D> {
-    pub fn new(store: Store<D>, is_durable: bool) -> Self {
+    pub(crate) fn new(store: Store<D>, is_durable: bool) -> Self {
         Service {
             guarded: GuardedStore::new(store),
             is_durable,
@@ -163,7 +163,7 @@ impl<D: Device + Troubled> Service<D> {
     /// Serves the commands of the input until its end, each of which is answered before the next line is read, and
     /// tells whether each line was one of a script; a line that is none is answered with its number, and passed over.
     /// Where the index is full, the error stream tells once what helps, and where the device failed, why.
-    pub fn serve_lines<I: BufRead, W: Write, E: Write>(
+    pub(crate) fn serve_lines<I: BufRead, W: Write, E: Write>(
         &mut self,
         alloc: Global,
         input: &mut I,
@@ -185,7 +185,7 @@ impl<D: Device + Troubled> Service<D> {
     }
 
     /// Flushes what is not flushed yet.
-    pub fn flush(&mut self) -> Result<(), Refused> {
+    pub(crate) fn flush(&mut self) -> Result<(), Refused> {
         match granted(self.guarded.flush()) {
             Ok(()) => Ok(()),
             Err(refused) => Err(refused.because(self.guarded.store().device())),

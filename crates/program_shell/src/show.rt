@@ -10,7 +10,7 @@ use std::io::Write;
 
 /// What the file itself says, before the store is opened.
 #[derive(Clone, Copy, Debug, PartialEq, Eq)]
-pub struct Stored {
+pub(crate) struct Stored {
     pub geometry: Geometry,
     /// The slots of the log that hold records behind the last image.
     pub open_slots: u64,
@@ -81,7 +81,7 @@ fn write_counts<W: Write>(core: &Core<Global>, places: u32, output: &mut W) -> i
 }
 
 /// Prints what is told of the store, a line each.
-pub fn write_stat<W: Write>(
+pub(crate) fn write_stat<W: Write>(
     stored: &Stored,
     core: &Core<Global>,
     output: &mut W,

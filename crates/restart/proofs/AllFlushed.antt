@@ -11,7 +11,7 @@ use Rattle.restart.specs.Parts.{horizon_of, log_of, unwritten}
 use Rattle.restart.specs.declared.event.Event.TheVariants.{Flush}
 use Rattle.restart.specs.declared.event.Reply.{Reply}
 use Rattle.restart.specs.declared.event.Reply.TheVariants as reply
-use Rattle.restart.specs.declared.parts.Parts.{Parts}
+use Rattle.restart.specs.declared.parts.EngineParts.{EngineParts}
 use Rattle.restart.specs.Repeated.{AreCopied, FlushesOn, FlushesOnce, Serves, TakesImage, asks_again, behind, is_further}
 
 rising_cons : (x n : ℕ) (xs : List ℕ) → x < n → IsStrictlyIncreasing (n ∷ xs) → IsStrictlyIncreasing (x ∷ n ∷ xs)
@@ -49,7 +49,7 @@ module _ {D M : Type 0} (past_of : D → DevicePast) (failures : D → ℕ) wher
   -- ---- how far the records are synced
 
   -- no copy lets it fall
-  copy_rises : (r : Reply M) (old new : Parts D M) → IsCopyAnswer failures r old new → horizon_of old ≤ horizon_of new
+  copy_rises : (r : Reply M) (old new : EngineParts D M) → IsCopyAnswer failures r old new → horizon_of old ≤ horizon_of new
   copy_rises (reply.Txn t) old new is = absurd is
   copy_rises (reply.Rid r) old new is = absurd is
   copy_rises reply.Stepped old new is = absurd is
@@ -70,18 +70,18 @@ module _ {D M : Type 0} (past_of : D → DevicePast) (failures : D → ℕ) wher
   copy_rises reply.Skipped old new is = absurd is
   copy_rises (reply.Refused e) old new is = ⊎_elim (λ none. none.1.succeeds.keeps.horizon) (λ failed. failed.4.horizon) is
 
-  copies_rise : (replies : List (Reply M)) (old new : Parts D M) → AreCopied past_of failures replies old new → horizon_of old ≤ horizon_of new
-  copies_rise [] old new same = omega (arith, ap (λ (s : Parts D M). horizon_of s) same)
+  copies_rise : (replies : List (Reply M)) (old new : EngineParts D M) → AreCopied past_of failures replies old new → horizon_of old ≤ horizon_of new
+  copies_rise [] old new same = omega (arith, ap (λ (s : EngineParts D M). horizon_of s) same)
   copies_rise (r ∷ replies) old new (mid, wrote, on) = omega (arith, copy_rises r old mid wrote.lawful, copies_rise replies mid new on)
 
-  image_rises : (final : Reply M) (old new : Parts D M) → TakesImage past_of failures final old new → horizon_of old ≤ horizon_of new
+  image_rises : (final : Reply M) (old new : EngineParts D M) → TakesImage past_of failures final old new → horizon_of old ≤ horizon_of new
   image_rises final old new taken = omega (arith, copies_rise taken.replies old taken.mid taken.copied, copy_rises final taken.mid new taken.final_copy.lawful)
 
   -- what a flush tells is how far they are
-  told_by : (n : ℕ) (old new : Parts D M) → Serves past_of failures Flush (reply.Horizon n) old new → horizon_of new ≡ n
+  told_by : (n : ℕ) (old new : EngineParts D M) → Serves past_of failures Flush (reply.Horizon n) old new → horizon_of new ≡ n
   told_by n old new wrote = sym wrote.lawful.2
 
-  pub synced_by : (n : ℕ) (old new : Parts D M) → FlushesOnce past_of failures (reply.Horizon n) old new → horizon_of new ≡ n
+  pub synced_by : (n : ℕ) (old new : EngineParts D M) → FlushesOnce past_of failures (reply.Horizon n) old new → horizon_of new ≡ n
   synced_by n old new (inl flushed) = told_by n old new flushed.1
   synced_by n old new (inr (mid, full, inl (k, current, taken, wrote))) = told_by n current new wrote
   synced_by n old new (inr (mid, full, inr (no_flip, taken))) = absurd taken.final_copy.lawful
@@ -89,7 +89,7 @@ module _ {D M : Type 0} (past_of : D → DevicePast) (failures : D → ℕ) wher
   -- ---- one flush behind another
 
   -- an engine that has not flushed
-  pub none_flushed : (last : ℕ) (told : Option ℕ) (engine : Parts D M) → FlushesOn past_of failures last told engine engine
+  pub none_flushed : (last : ℕ) (told : Option ℕ) (engine : EngineParts D M) → FlushesOn past_of failures last told engine engine
   none_flushed last told engine = record {
     horizons = [];
     flushed = refl;
@@ -98,7 +98,8 @@ module _ {D M : Type 0} (past_of : D → DevicePast) (failures : D → ℕ) wher
   }
 
   -- a reply that asks for another flush, before those that follow
-  pub one_more : (last : ℕ) (told : Option ℕ) (old next new : Parts D M) (r : Reply M) → asks_again last told r ≡ true → FlushesOnce past_of failures r old next
+  pub one_more : (last : ℕ) (told : Option ℕ) (old next new : EngineParts D M) (r : Reply M) → asks_again last told r ≡ true
+      → FlushesOnce past_of failures r old next
       → FlushesOn past_of failures last (Some (horizon_of next)) next new → FlushesOn past_of failures last told old new
   one_more last told old next new (reply.Txn t) again flushed on = cc
   one_more last told old next new (reply.Rid r) again flushed on = cc
@@ -129,7 +130,7 @@ module _ {D M : Type 0} (past_of : D → DevicePast) (failures : D → ℕ) wher
   one_more last told old next new (reply.Refused e) again flushed on = cc
 
   -- a reply that asks for another flush tells of more than were told before, and not yet of all up to the last
-  pub rises : (last : ℕ) (told : Option ℕ) (old new : Parts D M) (r : Reply M) → asks_again last told r ≡ true → FlushesOnce past_of failures r old new
+  pub rises : (last : ℕ) (told : Option ℕ) (old new : EngineParts D M) (r : Reply M) → asks_again last told r ≡ true → FlushesOnce past_of failures r old new
       → (is_further told (horizon_of new) ≡ true) × (horizon_of new < last)
   rises last told old new (reply.Txn t) again flushed = cc
   rises last told old new (reply.Rid r) again flushed = cc
@@ -157,20 +158,20 @@ module _ {D M : Type 0} (past_of : D → DevicePast) (failures : D → ℕ) wher
   -- ---- the final flush
 
   -- a flush that synced none had none to sync
-  none_left : (n : ℕ) (old new : Parts D M) → Serves past_of failures Flush (reply.Horizon n) old new → n ≤ horizon_of old → unwritten new ≡ []
+  none_left : (n : ℕ) (old new : EngineParts D M) → Serves past_of failures Flush (reply.Horizon n) old new → n ≤ horizon_of old → unwritten new ≡ []
   none_left n old new wrote no_further =
       let answer : IsFlushAnswer failures (reply.Horizon n) old new = wrote.lawful in
       let none : unwritten old ≡ [] = empty_where (unwritten old) (λ some. absurd (omega (arith, answer.3 some, no_further))) in
       (answer.5 none).none.left ∙ ap (drop 0) none
 
   -- a final flush that told no more than the one before had none to sync
-  none_waits : (n : ℕ) (old new : Parts D M) → n ≤ horizon_of old → FlushesOnce past_of failures (reply.Horizon n) old new → unwritten new ≡ []
+  none_waits : (n : ℕ) (old new : EngineParts D M) → n ≤ horizon_of old → FlushesOnce past_of failures (reply.Horizon n) old new → unwritten new ≡ []
   none_waits n old new no_further (inl flushed) = none_left n old new flushed.1 no_further
   none_waits n old new no_further (inr (mid, full, inl (k, current, taken, wrote))) =
       none_left n current new wrote (omega (arith, no_further, full.lawful.4.keeps.horizon, image_rises (reply.Flipped k) mid current taken))
   none_waits n old new no_further (inr (mid, full, inr (no_flip, taken))) = absurd taken.final_copy.lawful
 
-  pub is_final : (last : ℕ) (told : Option ℕ) (old new : Parts D M) (r : Reply M) → asks_again last told r ≡ false
+  pub is_final : (last : ℕ) (told : Option ℕ) (old new : EngineParts D M) (r : Reply M) → asks_again last told r ≡ false
       → ((m : ℕ) → told ≡ Some m → horizon_of old ≡ m)
       → FlushesOnce past_of failures r old new → (n : ℕ) → r ≡ reply.Horizon n → (last ≤ n) ⊎ (unwritten new ≡ [])
   is_final last told old new r settled known flushed n is =
@@ -184,7 +185,7 @@ module _ {D M : Type 0} (past_of : D → DevicePast) (failures : D → ℕ) wher
           (subst (λ x. FlushesOnce past_of failures x old new) is flushed))
 
   -- behind an image the log has room
-  pub has_room : (old new : Parts D M) (r : Reply M) → FlushesOnce past_of failures r old new → r ≡ reply.LogFull → (log_of new).open_slots ≡ 0
+  pub has_room : (old new : EngineParts D M) (r : Reply M) → FlushesOnce past_of failures r old new → r ≡ reply.LogFull → (log_of new).open_slots ≡ 0
   has_room old new r flushed is = by (subst (λ x. FlushesOnce past_of failures x old new) is flushed)
     where
       by : FlushesOnce past_of failures reply.LogFull old new → (log_of new).open_slots ≡ 0

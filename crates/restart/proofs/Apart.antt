@@ -7,7 +7,7 @@ use Rattle.store_image_model.specs.Run.{end_of}
 use Rattle.sector_device.specs.DevicePast.{DevicePast}
 use Rattle.store_writer.specs.Parts as writer
 use Rattle.store_writer.specs.Writer.{IsWriter}
-use Rattle.restart.specs.declared.parts.Parts.{Parts}
+use Rattle.restart.specs.declared.parts.EngineParts.{EngineParts}
 use Rattle.restart.specs.Handing.{HandsOver}
 use Rattle.restart.specs.Parted.{ArePartsOf, IsGivenBack, LeavesParts}
 use Rattle.restart.specs.Parts.{core_of, unhanded, writer_of}
@@ -21,7 +21,7 @@ both_none : (a b : List RecordValue) → a ++ b ≡ [] → b ≡ []
 both_none [] b none = none
 both_none (x ∷ a) b none = absurd cc
 
-module _ {D M : Type 0} (past_of : D → DevicePast) (old new : Parts D M) (hands : HandsOver past_of old new) where
+module _ {D M : Type 0} (past_of : D → DevicePast) (old new : EngineParts D M) (hands : HandsOver past_of old new) where
   module _ (past : Past M) (is : IsAt past_of past old) where
     moved : (later : ℕ) × (is.handed ≤ later) × StandsAt past_of (run_of past is.made) later is.state is.standing new
     moved = hands.moves.stands (run_of past is.made) is.handed is.state is.standing is.stands
@@ -72,6 +72,7 @@ module _ {D M : Type 0} (past_of : D → DevicePast) (old new : Parts D M) (hand
     halves = hands.halves;
     log = hands.log;
     image = hands.image;
+    copying = hands.copying;
     synced = hands.horizon;
     failed = hands.failed;
   }

@@ -13,7 +13,7 @@ use Rattle.store_writer.specs.Parts as writer
 use Rattle.restart.specs.declared.event.Event.{Event}
 use Rattle.restart.specs.declared.event.Event.TheVariants as requests
 use Rattle.restart.specs.declared.event.Reply.{Reply}
-use Rattle.restart.specs.declared.parts.Parts.{Parts}
+use Rattle.restart.specs.declared.parts.EngineParts.{EngineParts}
 use Rattle.restart.specs.Handing.{HandsOver}
 use Rattle.restart.specs.History.{asked}
 use Rattle.restart.specs.Lawful.{IsInCore, IsInCoreBy}
@@ -25,7 +25,7 @@ pub no_copy_last : (events : List Event) (event : Event) → HaveNoCopy (events 
 no_copy_last [] event none = (tt, none.0)
 no_copy_last (e ∷ events) event none = let rest = no_copy_last events event none.1 in ((none.0, rest.0), rest.1)
 
-module _ {D M : Type 0} (past_of : D → DevicePast) (old new : Parts D M) where
+module _ {D M : Type 0} (past_of : D → DevicePast) (old new : EngineParts D M) where
   pub around_none : KeepsAround past_of old old
   around_none = none_written past_of (writer_of old) (writer_of old) refl refl refl refl
 
@@ -36,24 +36,25 @@ module _ {D M : Type 0} (past_of : D → DevicePast) (old new : Parts D M) where
   -- the core alone changed
   around_core : (o : Option core.Event) (reply : Reply M) → IsInCoreBy o reply old new → KeepsAround past_of old new
   around_core None reply given = absurd given
-  around_core (Some e) reply given = subst (λ (p : Parts D M). KeepsAround past_of old p) (sym given.rest) around_none
+  around_core (Some e) reply given = subst (λ (p : EngineParts D M). KeepsAround past_of old p) (sym given.rest) around_none
 
   pub around_in_core : (x : Event) (reply : Reply M) → IsInCore x reply old new → KeepsAround past_of old new
   around_in_core x reply given = around_core (asked x) reply given
 
 -- what the core is asked is no flush
-pub asks_core : {D M : Type 0} (past_of : D → DevicePast) (x : Event) (reply : Reply M) (old new : Parts D M) → IsInCore x reply old new → x ≡ requests.Flush
+pub asks_core : {D M : Type 0} (past_of : D → DevicePast) (x : Event) (reply : Reply M) (old new : EngineParts D M) → IsInCore x reply old new
+    → x ≡ requests.Flush
     → ⊥
 asks_core past_of x reply old new given flush = subst (λ (e : Event). IsInCore e reply old new) flush given
 
 -- ---- the slots that a flush opens
 
-module _ {D M : Type 0} (past_of : D → DevicePast) (old : Parts D M) where
+module _ {D M : Type 0} (past_of : D → DevicePast) (old : EngineParts D M) where
   pub slots_none : OpensSlotsAlone past_of old old
   slots_none = none_alone past_of (InOpenedSlots (writer_of old)) (device_of old)
 
   -- the writer took records first
-  module _ (mid : Parts D M) (over : HandsOver past_of old mid) where
+  module _ (mid : EngineParts D M) (over : HandsOver past_of old mid) where
     pub slots_over : OpensSlotsAlone past_of old mid
     slots_over = subst (λ d. WritesOnly past_of (InOpenedSlots (writer_of old)) (device_of old) d) (sym over.device) slots_none
 
@@ -70,7 +71,8 @@ module _ {D M : Type 0} (past_of : D → DevicePast) (old : Parts D M) where
 -- ---- how many sectors there are
 
 -- a request leaves their number, since each call that writes leaves it
-pub keeps_sectors : {D M : Type 0} (past_of : D → DevicePast) (event : Event) (old new : Parts D M) → (event ≢ requests.Copy → KeepsAround past_of old new)
+pub keeps_sectors : {D M : Type 0} (past_of : D → DevicePast) (event : Event) (old new : EngineParts D M)
+    → (event ≢ requests.Copy → KeepsAround past_of old new)
     → (event ≡ requests.Copy → CopiesAround past_of old new) → KeepsSectors past_of old new
 keeps_sectors past_of requests.Begin old new around copied = (around (λ e. cc)).now.sectors
 keeps_sectors past_of (requests.Insert txn key body) old new around copied = (around (λ e. cc)).now.sectors

@@ -22,7 +22,7 @@ use Rattle.nsf_core.proofs.Offered.{stands}
 use Rattle.sector_device.specs.DevicePast.{DevicePast, LeavesOnly}
 use Rattle.sector_device.proofs.Moments.{started}
 use Rattle.store_writer.specs.Parts as writer
-use Rattle.restart.specs.declared.parts.Parts.{Parts}
+use Rattle.restart.specs.declared.parts.EngineParts.{EngineParts}
 use Rattle.restart.specs.declared.event.Event.TheVariants as event
 use Rattle.restart.specs.declared.event.Reply.{Reply}
 use Rattle.restart.specs.Building.{AreBuilt, HasCome, IsIndexWhole, builds}
@@ -105,8 +105,8 @@ pub record ComesOn (v v' : CoreValue) : Type 0 where
   pub quiet : v.txns.active ≡ [] → v'.txns.active ≡ []
 
 module _ {D M : Type 0} where
-  pub comes_on : (replies : List (Reply M)) (old new : Parts D M) → AreBuilt replies old new → HasCome (core_of old) → ComesOn (core_of old) (core_of new)
-  comes_on [] old new same come = subst (λ (e : Parts D M). ComesOn (core_of old) (core_of e)) (sym same)
+  pub comes_on : (replies : List (Reply M)) (old new : EngineParts D M) → AreBuilt replies old new → HasCome (core_of old) → ComesOn (core_of old) (core_of new)
+  comes_on [] old new same come = subst (λ (e : EngineParts D M). ComesOn (core_of old) (core_of e)) (sym same)
       (record { come = come; rows = refl; quiet = λ none. none })
   comes_on (r ∷ replies) old new built come =
       let serves = built.1.serves in
@@ -118,20 +118,20 @@ module _ {D M : Type 0} where
         quiet = λ none. rest.quiet (none_active (core_of old) (core_of built.0) built.1.reply serves come none);
       }
 
-  pub one_more_built : (replies : List (Reply M)) (r : Reply M) (old mid new : Parts D M) → AreBuilt replies old mid → ServesInCore core.Build r mid new
+  pub one_more_built : (replies : List (Reply M)) (r : Reply M) (old mid new : EngineParts D M) → AreBuilt replies old mid → ServesInCore core.Build r mid new
       → AreBuilt (replies ++ r ∷ []) old new
-  one_more_built [] r old mid new same serves = (new, subst (λ (e : Parts D M). ServesInCore core.Build r e new) same serves, refl)
+  one_more_built [] r old mid new same serves = (new, subst (λ (e : EngineParts D M). ServesInCore core.Build r e new) same serves, refl)
   one_more_built (x ∷ replies) r old mid new built serves = (built.0, built.1, one_more_built replies r built.0 mid new built.2 serves)
 
-  pub writer_on : (replies : List (Reply M)) (old new : Parts D M) → AreBuilt replies old new → writer_of new ≡ writer_of old
-  writer_on [] old new same = ap (λ (e : Parts D M). writer_of e) same
-  writer_on (r ∷ replies) old new built = writer_on replies built.0 new built.2 ∙ ap (λ (e : Parts D M). writer_of e) built.1.rest
+  pub writer_on : (replies : List (Reply M)) (old new : EngineParts D M) → AreBuilt replies old new → writer_of new ≡ writer_of old
+  writer_on [] old new same = ap (λ (e : EngineParts D M). writer_of e) same
+  writer_on (r ∷ replies) old new built = writer_on replies built.0 new built.2 ∙ ap (λ (e : EngineParts D M). writer_of e) built.1.rest
 
   module _ (past_of : D → DevicePast) (failures : D → ℕ) where
-    laws_on : (old mid : Parts D M) → mid ≡ record old { core = mid.core } → Laws past_of (writer_of old) → Laws past_of (writer_of mid)
-    laws_on old mid rest laws = subst (Laws past_of) (sym (ap (λ (e : Parts D M). writer_of e) rest)) laws
+    laws_on : (old mid : EngineParts D M) → mid ≡ record old { core = mid.core } → Laws past_of (writer_of old) → Laws past_of (writer_of mid)
+    laws_on old mid rest laws = subst (Laws past_of) (sym (ap (λ (e : EngineParts D M). writer_of e) rest)) laws
 
-    pub at_built : (replies : List (Reply M)) (old new : Parts D M) → AreBuilt replies old new → Laws past_of (writer_of old) → (past : Past M)
+    pub at_built : (replies : List (Reply M)) (old new : EngineParts D M) → AreBuilt replies old new → Laws past_of (writer_of old) → (past : Past M)
         → IsAt past_of past old → IsAt past_of (and_then past (builds replies) replies) new
     at_built [] old new same laws past is = subst (λ (p : Past M). IsAt past_of p new) (sym (and_then_none past)) (subst (IsAt past_of past) (sym same) is)
     at_built (r ∷ replies) old new built laws past is =
@@ -139,14 +139,14 @@ module _ {D M : Type 0} where
         (at_built replies built.0 new built.2 (laws_on old built.0 built.1.rest laws) (and_then past (event.Build ∷ []) (r ∷ []))
         (served_by_core past_of failures event.Build r old built.0 built.1 laws past is).0)
 
-    pub can_run_built : (replies : List (Reply M)) (old new : Parts D M) → AreBuilt replies old new → Laws past_of (writer_of old) → CanRun past_of old
+    pub can_run_built : (replies : List (Reply M)) (old new : EngineParts D M) → AreBuilt replies old new → Laws past_of (writer_of old) → CanRun past_of old
         → CanRun past_of new
     can_run_built [] old new same laws can = subst (CanRun past_of) (sym same) can
     can_run_built (r ∷ replies) old new built laws can =
         can_run_built replies built.0 new built.2 (laws_on old built.0 built.1.rest laws)
         (can_run_by_core past_of failures event.Build r old built.0 built.1 laws can)
 
-    pub survives_built : (replies : List (Reply M)) (old new : Parts D M) → AreBuilt replies old new → Laws past_of (writer_of old) → (past : Past M)
+    pub survives_built : (replies : List (Reply M)) (old new : EngineParts D M) → AreBuilt replies old new → Laws past_of (writer_of old) → (past : Past M)
         → IsAt past_of past old
         → LeavesOnly (past_of (device_of old)) (past_of (device_of new)) (Survives (and_then past (builds replies) replies) (horizon_of old))
     survives_built replies old new built laws past is =

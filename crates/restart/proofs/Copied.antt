@@ -26,12 +26,12 @@ use Rattle.store_image_model.specs.declared.chunk.Piece.{Piece}
 use Rattle.store_image_model.specs.declared.chunk.Piece.TheVariants.{Entries, Page, Start, Whole}
 use Rattle.core_parts.specs.View.{CoreValue, IsState}
 use Rattle.sector_device.specs.DevicePast.{DevicePast}
-use Rattle.store_writer.specs.Copying.{IsCopying, IsPieceDue, next_place}
+use Rattle.store_writer.specs.Copying.{IsCopying, next_place}
 use Rattle.store_writer.specs.Image.{IsUnderway}
 use Rattle.store_writer.specs.Parts as writer
-use Rattle.store_writer.specs.Places.{AreEntriesNow, AreRowsNow, IsAtPiece, IsAtPlace}
+use Rattle.store_writer.specs.Places.{AreEntriesNow, AreRowsNow, IsAtPlace}
 use Rattle.store_writer.specs.Writer.{CanFlip, HasBegun, HasPiece, IsChunk, IsFlipReply, IsLogFull, IsEntriesChunk, IsPageChunk, IsStepReply, IsWholeChunk}
-use Rattle.store_writer.specs.Writer.{IsWriter, MustStartAgain}
+use Rattle.store_writer.specs.Writer.{IsWriter}
 use Rattle.store_writer.specs.declared.copying.Copying.TheVariants.{GivenUp, Idle, Steps}
 use Rattle.store_writer.specs.declared.image.Stage.TheVariants as stage
 use Rattle.store_writer.specs.declared.writer.FlipReply.TheVariants.{Flipped}
@@ -39,35 +39,28 @@ use Rattle.store_writer.specs.declared.writer.StepReply.TheVariants.{StartAgain,
 use Rattle.store_writer.specs.declared.image.NewImage.{NewImage}
 use Rattle.store_writer.specs.declared.writer.Writer.{Writer}
 use Rattle.txn_table.specs.Sound.{IsSound}
-use Rattle.restart.specs.declared.parts.Parts.{Parts}
-use Rattle.restart.specs.Copies.{CannotFlip, CannotTake, IsHalfOpen, IsPieceNow, MakesCurrent, MayFlip, TakesPiece, copies_left}
+use Rattle.restart.specs.declared.parts.EngineParts.{EngineParts}
+use Rattle.restart.specs.Copies.{CannotFlip, CannotTake, IsPieceNow, MakesCurrent, MayFlip, TakesPiece, copies_left}
 use Rattle.restart.specs.Copies.{copies_to_flip, left_at}
 use Rattle.store_image_model.specs.Places.{place_behind}
-use Rattle.restart.proofs.Fewer.{fewer_taken, flip_bounds, two_left}
-use Rattle.restart.proofs.Keeping.{keeps_same}
-use Rattle.restart.proofs.Moving.{StaysAtPlace}
+use Rattle.restart.proofs.Fewer.{IsPieceDue, due_there, fewer_taken, flip_bounds, two_left}
 use Rattle.restart.proofs.Numbers.{count_to_end}
 use Rattle.restart.specs.Parts.{core_of, has_failed, horizon_of, unhanded, unwritten, writer_of}
 use Rattle.restart.specs.Store.{CanRun, StandsAt}
 
--- a piece of an image that is there, at its place
-there : (pages : ℕ) (place : Option CopyPlace) (image : Option NewImage) → (image ≢ None) → (image ≡ None) ⊎ IsAtPlace pages place image
-    → IsAtPlace pages place image
-there pages place image some either = ⊎_elim (λ none. absurd (some none)) (λ is. is) either
-
 not_none : (image : Option NewImage) (i : NewImage) → image ≡ Some i → image ≢ None
 not_none image i is none = cc
 
-module _ {D M : Type 0} (past_of : D → DevicePast) (run : Run) (handed : ℕ) (s : State) (k : Standing) (engine : Parts D M)
+module _ {D M : Type 0} (past_of : D → DevicePast) (run : Run) (handed : ℕ) (s : State) (k : Standing) (engine : EngineParts D M)
     (is : StandsAt past_of run handed s k engine) (sound : has_failed engine ≡ false) (txns : IsSound (core_of engine).txns)
     (shown : (v : CoreValue) (s : State) (k : Standing) (cells : Cells) → IsSound v.txns → IsState v s k → HasCells s cells → HasLists s cells
     → IsCellsOf v cells)
     (one : (v : CoreValue) (a b : Cells) → IsCellsOf v a → IsCellsOf v b → a ≡ b)
     (page_next : (run : Run) (handed page : ℕ) (rows : Table) → IsWriter past_of run handed (writer_of engine) → has_failed engine ≡ false
-    → end_of run ≤ LAST_NUMBER → IsAtPlace run.geometry.pages (Some (at.Page page)) (writer.image_of (writer_of engine))
+    → end_of run ≤ LAST_NUMBER → next_place (writer.copying_of (writer_of engine)) ≡ Some (at.Page page)
     → AreRowsNow run page rows → (i : NewImage) → writer.image_of (writer_of engine) ≡ Some i → IsPageChunk run i (end_of run) page rows)
     (entries_next : (run : Run) (handed : ℕ) (above : Option Pair) (entries : List (Pair × Mark)) → IsWriter past_of run handed (writer_of engine)
-    → has_failed engine ≡ false → end_of run ≤ LAST_NUMBER → IsAtPlace run.geometry.pages (Some (at.Entries above)) (writer.image_of (writer_of engine))
+    → has_failed engine ≡ false → end_of run ≤ LAST_NUMBER → next_place (writer.copying_of (writer_of engine)) ≡ Some (at.Entries above)
     → AreEntriesNow run above entries → (i : NewImage) → writer.image_of (writer_of engine) ≡ Some i → IsEntriesChunk run i (end_of run) entries) where
   abbrev v : CoreValue
   v = core_of engine
@@ -113,7 +106,7 @@ module _ {D M : Type 0} (past_of : D → DevicePast) (run : Run) (handed : ℕ) 
 
   -- piece by piece
   pub next_chunk : {A : Type 0} (number : ℕ) (place : CopyPlace) (piece : Piece A) → number ≡ v.last
-      → IsPieceDue run.geometry.pages place (writer.image_of (writer_of engine)) → IsPieceOf v cells place piece → IsChunk run (writer_of engine) number piece
+      → next_place (writer.copying_of (writer_of engine)) ≡ Some place → IsPieceOf v cells place piece → IsChunk run (writer_of engine) number piece
   next_chunk number at.Start (Start life lists) told due of = record {
     late = omega (arith, late, told, last_is);
     made = omega (arith, told, last_is);
@@ -126,15 +119,11 @@ module _ {D M : Type 0} (past_of : D → DevicePast) (run : Run) (handed : ℕ) 
   next_chunk number (at.Page page) (Page copied rows) told due of = λ image there_is.
       subst (λ n. IsPageChunk run image n copied rows) (sym (told ∙ last_is))
       (subst (λ p. IsPageChunk run image (end_of run) p rows) (sym of.0)
-      (page_next run handed page rows is.writer sound small
-      (there run.geometry.pages (Some (at.Page page)) (writer.image_of (writer_of engine))
-      (not_none (writer.image_of (writer_of engine)) image there_is) due)
+      (page_next run handed page rows is.writer sound small due
       (record { rows-are = of.1.rows-are; slots = of.1.slots }) image there_is))
   next_chunk number (at.Entries above) (Entries entries) told due of = λ image there_is.
       subst (λ n. IsEntriesChunk run image n entries.items) (sym (told ∙ last_is))
-      (entries_next run handed above entries.items is.writer sound small
-      (there run.geometry.pages (Some (at.Entries above)) (writer.image_of (writer_of engine))
-      (not_none (writer.image_of (writer_of engine)) image there_is) due)
+      (entries_next run handed above entries.items is.writer sound small due
       (record {
         more = of.more;
         listed = of.listed;
@@ -156,120 +145,55 @@ module _ {D M : Type 0} (past_of : D → DevicePast) (run : Run) (handed : ℕ) 
   next_chunk number (at.Entries above) (Page page rows) told due of = absurd of
 
   pub next_of : {A : Type 0} (number : ℕ) (place : CopyPlace) (piece : Piece A) → number ≡ v.last
-      → IsPieceDue engine.geometry.pages place (writer.image_of (writer_of engine)) → ((cells : Cells) → IsCellsOf v cells → IsPieceOf v cells place piece)
+      → next_place (writer.copying_of (writer_of engine)) ≡ Some place → ((cells : Cells) → IsCellsOf v cells → IsPieceOf v cells place piece)
       → IsChunk run (writer_of engine) number piece
-  next_of number place piece told due of = next_chunk number place piece told
-      (subst (λ (x : GeometryValue). IsPieceDue x.pages place (writer.image_of (writer_of engine))) is.geometry due) (of cells cells_now)
+  next_of number place piece told due of = next_chunk number place piece told due (of cells cells_now)
 
 -- where the copying goes on its piece is due
-pub due_there : (pages : ℕ) (place : CopyPlace) (image : Option NewImage) → IsCopying pages (Steps (Some place)) image → IsPieceDue pages place image
-due_there pages at.Start image is = tt
-due_there pages (at.Page page) image is = is
-due_there pages (at.Entries above) image is = is
-
-pub due_now : {D M : Type 0} (past_of : D → DevicePast) (engine : Parts D M) (place : CopyPlace) → CanRun past_of engine → has_failed engine ≡ false
-    → engine.copying ≡ Steps (Some place) → IsPieceDue engine.geometry.pages place (writer.image_of (writer_of engine))
-due_now past_of engine place can sound copying =
+due_now : {D M : Type 0} (past_of : D → DevicePast) (engine : EngineParts D M) (place : CopyPlace) → CanRun past_of engine → has_failed engine ≡ false
+    → next_place engine.writer.copying ≡ Some place → IsPieceDue engine.geometry.pages place (writer.image_of (writer_of engine))
+due_now past_of engine place can sound next =
     let is : StandsAt past_of can.0 can.1 can.2 can.3 engine = can.4 in
-    due_there engine.geometry.pages place (writer.image_of (writer_of engine))
-    (subst (λ c. IsCopying engine.geometry.pages c (writer.image_of (writer_of engine))) copying
-    (subst (λ (x : GeometryValue). IsCopying x.pages engine.copying (writer.image_of (writer_of engine))) (sym is.geometry) (is.copying sound)))
-
--- a piece that is taken comes where the copying is
-pub at_piece : {A D M : Type 0} (v : CoreValue) (cells : Cells) (w : Writer D M) (pages : ℕ) (place : CopyPlace) (piece : Piece A)
-    → IsPieceOf v cells place piece → IsPieceDue pages place (writer.image_of w) → ¬ MustStartAgain piece w → IsAtPiece pages piece (writer.image_of w)
-at_piece v cells w pages at.Start (Start life lists) of due taken = tt
-at_piece v cells w pages (at.Page page) (Page copied rows) of due taken =
-    subst (λ p. IsAtPlace pages (Some (at.Page p)) (writer.image_of w)) (sym of.0)
-    (there pages (Some (at.Page page)) (writer.image_of w) (λ none. taken (inl none)) due)
-at_piece v cells w pages (at.Entries above) (Entries entries) of due taken =
-    (above, there pages (Some (at.Entries above)) (writer.image_of w) (λ none. taken (inl none)) due)
-at_piece v cells w pages at.Start (Whole copied) of due taken = absurd of
-at_piece v cells w pages at.Start (Page page rows) of due taken = absurd of
-at_piece v cells w pages at.Start (Entries entries) of due taken = absurd of
-at_piece v cells w pages (at.Page page) (Whole copied) of due taken = absurd of
-at_piece v cells w pages (at.Page page) (Start life lists) of due taken = absurd of
-at_piece v cells w pages (at.Page page) (Entries entries) of due taken = absurd of
-at_piece v cells w pages (at.Entries above) (Whole copied) of due taken = absurd of
-at_piece v cells w pages (at.Entries above) (Start life lists) of due taken = absurd of
-at_piece v cells w pages (at.Entries above) (Page page rows) of due taken = absurd of
+    due_there engine.geometry.pages engine.writer.copying place (writer.image_of (writer_of engine))
+    (subst (λ (x : GeometryValue). IsCopying x.pages engine.writer.copying (writer.image_of (writer_of engine))) (sym is.geometry)
+    (is.writer.holds sound).copying) next
 
 -- what the layers below say of a copy of this core and of this writer
-pub record CopyLaws {D M : Type 0} (past_of : D → DevicePast) (engine : Parts D M) : Type 0 where
+pub record CopyLaws {D M : Type 0} (past_of : D → DevicePast) (engine : EngineParts D M) : Type 0 where
   pub txns : IsSound (core_of engine).txns
   pub shown : (v : CoreValue) (s : State) (k : Standing) (cells : Cells) → IsSound v.txns → IsState v s k → HasCells s cells → HasLists s cells
       → IsCellsOf v cells
   pub one : (v : CoreValue) (a b : Cells) → IsCellsOf v a → IsCellsOf v b → a ≡ b
   pub page : (run : Run) (handed page : ℕ) (rows : Table) → IsWriter past_of run handed (writer_of engine) → has_failed engine ≡ false
-      → end_of run ≤ LAST_NUMBER → IsAtPlace run.geometry.pages (Some (at.Page page)) (writer.image_of (writer_of engine))
+      → end_of run ≤ LAST_NUMBER → next_place (writer.copying_of (writer_of engine)) ≡ Some (at.Page page)
       → AreRowsNow run page rows → (i : NewImage) → writer.image_of (writer_of engine) ≡ Some i → IsPageChunk run i (end_of run) page rows
   pub entries : (run : Run) (handed : ℕ) (above : Option Pair) (entries : List (Pair × Mark)) → IsWriter past_of run handed (writer_of engine)
-      → has_failed engine ≡ false → end_of run ≤ LAST_NUMBER → IsAtPlace run.geometry.pages (Some (at.Entries above)) (writer.image_of (writer_of engine))
+      → has_failed engine ≡ false → end_of run ≤ LAST_NUMBER → next_place (writer.copying_of (writer_of engine)) ≡ Some (at.Entries above)
       → AreEntriesNow run above entries → (i : NewImage) → writer.image_of (writer_of engine) ≡ Some i → IsEntriesChunk run i (end_of run) entries
 
--- a piece leaves the log of its image as it is, and the first one has none
-taken_open : {A D M : Type 0} (slots number : ℕ) (piece : Piece A) (old new : Writer D M) → IsStepReply number piece Taken old new → IsHalfOpen slots old.image
-    → IsHalfOpen slots new.image
-taken_open slots number (Whole cells) old new is was i there = let same : is.1.0 ≡ i = cc (is.1.1.0, there) in
-    omega (arith, ap (λ (x : NewImage). x.log.open_slots) (sym same) ∙ is.1.2.3)
-taken_open slots number (Start life lists) old new is was i there = let same : is.1.0 ≡ i = cc (is.1.1.0, there) in
-    omega (arith, ap (λ (x : NewImage). x.log.open_slots) (sym same) ∙ is.1.2.3)
-taken_open slots number (Page page rows) old new (may, (image, kept, (from, count, highest, life, from_is, at_stage, is))) was i there =
-    let same : image ≡ i = cc (kept.0, there) in
-    let level : i.log.open_slots ≡ from.log.open_slots = ap (λ (x : NewImage). x.log.open_slots) (sym same ∙ is) in
-    omega (arith, level, was from from_is)
-taken_open slots number (Entries entries) old new (may, (image, kept, (from, pages, count, over, life, from_is, at_stage, is))) was i there =
-    let same : image ≡ i = cc (kept.0, there) in
-    let level : i.log.open_slots ≡ from.log.open_slots = ap (λ (x : NewImage). x.log.open_slots) (sym same ∙ is) in
-    omega (arith, level, was from from_is)
-
 -- the next piece, whatever run the engine is of
-module _ {A D M : Type 0} (past_of : D → DevicePast) (engine : Parts D M) (laws : CopyLaws past_of engine) (sound : has_failed engine ≡ false) (number : ℕ)
+module _ {A D M : Type 0} (past_of : D → DevicePast) (engine : EngineParts D M) (laws : CopyLaws past_of engine) (sound : has_failed engine ≡ false)
+    (number : ℕ)
     (place : CopyPlace) (piece : Piece A) (told : number ≡ (core_of engine).last)
-    (due : IsPieceDue engine.geometry.pages place (writer.image_of (writer_of engine))) (of : (cells : Cells) → IsCellsOf (core_of engine) cells
+    (next : next_place (writer.copying_of (writer_of engine)) ≡ Some place) (of : (cells : Cells) → IsCellsOf (core_of engine) cells
     → IsPieceOf (core_of engine) cells place piece) where
   pub piece_is : (run : Run) (handed : ℕ) (s : State) (k : Standing) → StandsAt past_of run handed s k engine → IsChunk run (writer_of engine) number piece
-  piece_is run handed s k is = next_of past_of run handed s k engine is sound laws.txns laws.shown laws.one laws.page laws.entries number place piece told due
+  piece_is run handed s k is = next_of past_of run handed s k engine is sound laws.txns laws.shown laws.one laws.page laws.entries number place piece told next
       of
 
-  -- and where the copying goes on behind it
-  module _ (new : Parts D M) (size : new.geometry ≡ engine.geometry) (can : CanRun past_of engine) (behind : Option CopyPlace)
-      (copying : new.copying ≡ Steps behind) (behind_is : behind ≡ place_behind engine.geometry.pages piece)
-      (told_taken : IsStepReply number piece Taken (writer_of engine) (writer_of new))
-      (goes : (pages : ℕ) → pages ≡ (writer.halves_of (writer_of engine)).geometry.pages → IsAtPiece pages piece (writer.image_of (writer_of engine))
-      → IsAtPlace pages (place_behind pages piece) (writer.image_of (writer_of new))) where
-    pub stays_taken : StaysAtPlace engine new
-    stays_taken = record {
-      geometry = size;
-      place = λ was after. subst (λ c. IsCopying engine.geometry.pages c (writer.image_of (writer_of new))) (sym copying)
-          (inr (subst (λ b. IsAtPlace engine.geometry.pages b (writer.image_of (writer_of new))) (sym behind_is)
-          (goes engine.geometry.pages pages_same (at_piece (core_of engine) (cells_at can.0 (end_of can.0))
-          (writer_of engine) engine.geometry.pages place piece of_now due told_taken.0))));
-      carried = λ was _. taken_open engine.geometry.slots number piece (writer_of engine) (writer_of new) told_taken (was sound);
-    }
-      where
-        is : StandsAt past_of can.0 can.1 can.2 can.3 engine
-        is = can.4
-
-        of_now : IsPieceOf (core_of engine) (cells_at can.0 (end_of can.0)) place piece
-        of_now = of (cells_at can.0 (end_of can.0))
-            (cells_now past_of can.0 can.1 can.2 can.3 engine is sound laws.txns laws.shown laws.one laws.page laws.entries)
-
-        pages_same : engine.geometry.pages ≡ (writer.halves_of (writer_of engine)).geometry.pages
-        pages_same = ap (λ (x : GeometryValue). x.pages) (is.geometry ∙ sym is.writer.geometry-is)
-
 -- all at once, whatever run the engine is of
-module _ {A D M : Type 0} (past_of : D → DevicePast) (engine : Parts D M) (laws : CopyLaws past_of engine) (sound : has_failed engine ≡ false) (number : ℕ)
+module _ {A D M : Type 0} (past_of : D → DevicePast) (engine : EngineParts D M) (laws : CopyLaws past_of engine) (sound : has_failed engine ≡ false)
+    (number : ℕ)
     (piece : Piece A) (told : number ≡ (core_of engine).last) (of : IsWholeOf (core_of engine) piece) where
   pub whole_is : (run : Run) (handed : ℕ) (s : State) (k : Standing) → StandsAt past_of run handed s k engine → IsChunk run (writer_of engine) number piece
   whole_is run handed s k is = whole_chunk past_of run handed s k engine is sound laws.txns laws.shown laws.one laws.page laws.entries number piece told of
 
 -- ---- what is answered where a piece was due
 
-module _ {D M : Type 0} (old new : Parts D M) (number : ℕ) (place : CopyPlace) (piece : Piece M) where
+module _ {D M : Type 0} (old new : EngineParts D M) (number : ℕ) (place : CopyPlace) (piece : Piece M) where
   -- it was taken
-  pub takes_piece : number ≡ (core_of old).last → next_place old.copying ≡ Some place → IsPieceNow (core_of old) place piece
-      → IsStepReply number piece Taken (writer_of old) (writer_of new) → new.copying ≡ Steps (place_behind old.geometry.pages piece)
+  pub takes_piece : number ≡ (core_of old).last → next_place old.writer.copying ≡ Some place → IsPieceNow (core_of old) place piece
+      → IsStepReply number piece Taken (writer_of old) (writer_of new) → new.writer.copying ≡ Steps (place_behind old.geometry.pages piece)
       → horizon_of new ≡ horizon_of old
       → TakesPiece old new
   takes_piece told next of is behind level = record {
@@ -288,7 +212,7 @@ module _ {D M : Type 0} (old new : Parts D M) (number : ℕ) (place : CopyPlace)
   }
 
   -- or it couldn't be
-  pub cannot_take : next_place old.copying ≡ Some place → IsPieceNow (core_of old) place piece
+  pub cannot_take : next_place old.writer.copying ≡ Some place → IsPieceNow (core_of old) place piece
       → IsStepReply number piece StartAgain (writer_of old) (writer_of new) → CannotTake old new
   cannot_take next of is = record {
     place = place;
@@ -296,18 +220,23 @@ module _ {D M : Type 0} (old new : Parts D M) (number : ℕ) (place : CopyPlace)
     piece = piece;
     piece-is = of;
     must = is.1;
-    keeps = keeps_same old new is.0;
+    gone = ap (λ w. writer.image_of w) is.0;
+    device = ap (λ w. writer.device_of w) is.0;
+    halves = ap (λ w. writer.halves_of w) is.0;
+    log = ap (λ w. writer.log_of w) is.0;
+    horizon = ap (λ w. writer.synced_of w) is.0;
   }
 
 -- fewer copies are left behind a piece
-pub fewer_now : {D M : Type 0} (past_of : D → DevicePast) (old new : Parts D M) (laws : CopyLaws past_of old) (sound : has_failed old ≡ false) (number : ℕ)
-    (place : CopyPlace) (piece : Piece M) → number ≡ (core_of old).last → IsPieceDue old.geometry.pages place (writer.image_of (writer_of old))
-    → IsPieceNow (core_of old) place piece → next_place old.copying ≡ Some place → (can : CanRun past_of old)
-    → IsStepReply number piece Taken (writer_of old) (writer_of new) → new.copying ≡ Steps (place_behind old.geometry.pages piece)
+pub fewer_now : {D M : Type 0} (past_of : D → DevicePast) (old new : EngineParts D M) (laws : CopyLaws past_of old) (sound : has_failed old ≡ false)
+    (number : ℕ)
+    (place : CopyPlace) (piece : Piece M) → number ≡ (core_of old).last
+    → IsPieceNow (core_of old) place piece → next_place old.writer.copying ≡ Some place → (can : CanRun past_of old)
+    → IsStepReply number piece Taken (writer_of old) (writer_of new) → new.writer.copying ≡ Steps (place_behind old.geometry.pages piece)
     → new.geometry ≡ old.geometry → core_of new ≡ core_of old → copies_left new < copies_left old
-fewer_now past_of old new laws sound number place piece told due of next can is behind size same =
+fewer_now past_of old new laws sound number place piece told of next can is behind size same =
     subst (λ n. n < copies_left old) (sym now) (fewer_taken old.geometry (core_of old).last number is.1.0 (writer_of old) size_is
-    (core_of old) cells old.copying place piece next (of cells cells_are) told due is.0 is.1.2)
+    (core_of old) cells old.writer.copying place piece next (of cells cells_are) told (due_now past_of old place can sound next) is.0 is.1.2)
   where
     stands : StandsAt past_of can.0 can.1 can.2 can.3 old
     stands = can.4
@@ -323,13 +252,17 @@ fewer_now past_of old new laws sound number place piece told due of next can is 
 
     now : copies_left new ≡ left_at old.geometry (core_of old).last (Some is.1.0) (Steps (place_behind old.geometry.pages piece))
     now =
-        ap (λ g. left_at g (core_of new).last (writer.image_of (writer_of new)) new.copying) size
-        ∙ ap (λ (v : CoreValue). left_at old.geometry v.last (writer.image_of (writer_of new)) new.copying) same
-        ∙ ap (λ i. left_at old.geometry (core_of old).last i new.copying) is.1.1.0
+        ap (λ g. left_at g (core_of new).last (writer.image_of (writer_of new)) new.writer.copying) size
+        ∙ ap (λ (v : CoreValue). left_at old.geometry v.last (writer.image_of (writer_of new)) new.writer.copying) same
+        ∙ ap (λ i. left_at old.geometry (core_of old).last i new.writer.copying) is.1.1.0
         ∙ ap (left_at old.geometry (core_of old).last (Some is.1.0)) behind
 
+-- where an image was given up, one copy is left
+pub one_left : {D M : Type 0} (engine : EngineParts D M) → engine.writer.copying ≡ GivenUp → copies_left engine ≡ 1
+one_left engine given = ap (left_at engine.geometry (core_of engine).last (writer.image_of (writer_of engine))) given
+
 -- where the writer has every record, they are all handed in
-pub all_handed : {D M : Type 0} (past_of : D → DevicePast) (run : Run) (handed : ℕ) (s : State) (k : Standing) (engine : Parts D M)
+pub all_handed : {D M : Type 0} (past_of : D → DevicePast) (run : Run) (handed : ℕ) (s : State) (k : Standing) (engine : EngineParts D M)
     → StandsAt past_of run handed s k engine → unhanded engine ≡ [] → end_of run ≤ handed
 all_handed past_of run handed s k engine is all =
     omega (arith, is.writer.made, count_to_end run handed (omega (arith, is.writer.opened, is.writer.reached)), ap length (is.rest ∙ all))
@@ -372,7 +305,7 @@ whole_base v number (Entries entries) old mid of is = absurd of
 
 -- ---- an image that can't be made current
 
-module _ {D M : Type 0} (past_of : D → DevicePast) (run : Run) (handed : ℕ) (s : State) (k : Standing) (engine : Parts D M)
+module _ {D M : Type 0} (past_of : D → DevicePast) (run : Run) (handed : ℕ) (s : State) (k : Standing) (engine : EngineParts D M)
     (is : StandsAt past_of run handed s k engine) (sound : has_failed engine ≡ false) (all : unhanded engine ≡ [])
     (cannot : ¬ CanFlip handed (writer_of engine)) where
   -- its number is of a record that was made
@@ -395,12 +328,12 @@ module _ {D M : Type 0} (past_of : D → DevicePast) (run : Run) (handed : ℕ) 
   )
 
   -- so two copies are left
-  pub two_to_flip : engine.copying ≡ Steps None → 2 ≤ copies_left engine
+  pub two_to_flip : engine.writer.copying ≡ Steps None → 2 ≤ copies_left engine
   two_to_flip whole = subst (λ n. 2 ≤ n) (sym (ap (left_at engine.geometry (core_of engine).last (writer.image_of (writer_of engine))) whole))
       (two_left (core_of engine).last (writer.image_of (writer_of engine)) none)
     where
       at_end : (writer.image_of (writer_of engine) ≡ None) ⊎ IsAtPlace run.geometry.pages None (writer.image_of (writer_of engine))
-      at_end = subst (λ c. IsCopying run.geometry.pages c (writer.image_of (writer_of engine))) whole (is.copying sound)
+      at_end = subst (λ c. IsCopying run.geometry.pages c (writer.image_of (writer_of engine))) whole (is.writer.holds sound).copying
 
       none : (i : NewImage) → writer.image_of (writer_of engine) ≡ Some i → (core_of engine).last ≤ i.base → ⊥
       none i there_is late = ⊎_elim
@@ -418,11 +351,12 @@ module _ {D M : Type 0} (past_of : D → DevicePast) (run : Run) (handed : ℕ) 
 
 -- ---- an image that is current
 
-module _ {D M : Type 0} (old new : Parts D M) where
+module _ {D M : Type 0} (old new : EngineParts D M) where
   -- it was copied in steps
   pub flip_current : (handed n : ℕ) → IsFlipReply handed (Flipped n) (writer_of old) (writer_of new)
-      → (writer.halves_of (writer_of old)).geometry.slots ≡ old.geometry.slots → IsHalfOpen old.geometry.slots (writer.image_of (writer_of old))
-      → old.copying ≡ Steps None → new.copying ≡ Idle → MakesCurrent old new
+      → (writer.halves_of (writer_of old)).geometry.slots ≡ old.geometry.slots
+      → ((i : NewImage) → writer.image_of (writer_of old) ≡ Some i → i.log.open_slots ≤ old.geometry.slots / 2)
+      → old.writer.copying ≡ Steps None → new.writer.copying ≡ Idle → MakesCurrent old new
   flip_current handed n flipped size half_open whole idle = record {
     whole = ap next_place whole;
     turned = flipped.5.halves-are;
@@ -439,34 +373,43 @@ module _ {D M : Type 0} (old new : Parts D M) where
     all = λ given. absurd (stepped given);
   }
     where
-      stepped : old.copying ≡ GivenUp → ⊥
+      stepped : old.writer.copying ≡ GivenUp → ⊥
       stepped given = cc (whole, given)
 
   -- as many copies are left at most while groups are written
-  pub few_behind : old.copying ≡ Steps None → new.copying ≡ Steps None → 2 ≤ copies_left old → copies_left new ≤ copies_left old
+  pub few_behind : old.writer.copying ≡ Steps None → new.writer.copying ≡ Steps None → 2 ≤ copies_left old → copies_left new ≤ copies_left old
   few_behind whole still two =
       let now : copies_left new ≡ copies_to_flip (core_of new).last (writer.image_of (writer_of new)) =
       ap (left_at new.geometry (core_of new).last (writer.image_of (writer_of new))) still in
       omega (arith, now, two, (flip_bounds (core_of new).last (writer.image_of (writer_of new))).0)
 
-  -- it can't be, and no group more can be written
-  pub cannot_flip : old.copying ≡ Steps None → unhanded new ≡ [] → writer_of new ≡ writer_of old → ¬ MayFlip (writer_of old)
-      → (writer.waiting_of (writer_of new) ≡ []) ⊎ (IsLogFull (writer_of new) × (writer.waiting_of (writer_of new) ≢ [])) → CannotFlip old new
-  cannot_flip whole all same cannot why = record {
+  -- it can't be, and no group more can be written: it is given up
+  pub cannot_flip : old.writer.copying ≡ Steps None → unhanded new ≡ [] → writer_of new ≡ writer.without_image GivenUp (writer_of old)
+      → ¬ MayFlip (writer_of old)
+      → (writer.waiting_of (writer_of old) ≡ []) ⊎ (IsLogFull (writer_of old) × (writer.waiting_of (writer_of old) ≢ [])) → CannotFlip old new
+  cannot_flip whole all given cannot why = record {
     whole = whole;
+    gone = gone;
     could-not = cannot;
-    cannot = subst (λ w. ¬ MayFlip w) (sym same) cannot;
-    halves = ap (λ w. writer.halves_of w) same;
-    no_more = ⊎_elim (λ none. inl (waits ∙ none)) (λ full. inr (full.0, (λ none. full.1 (sym waits ∙ none)))) why;
+    cannot = λ may. not_none (writer.image_of (writer_of new)) may.0 may.1 gone;
+    halves = ap (λ w. writer.halves_of w) given;
+    no_more = ⊎_elim
+        (λ none. inl (waits ∙ none))
+        (λ full. inr (subst (λ w. IsLogFull w) (sym given) full.0, (λ none. full.1 (sym waits ∙ none))))
+        why;
   }
     where
-      waits : unwritten new ≡ writer.waiting_of (writer_of new)
+      gone : writer.image_of (writer_of new) ≡ None
+      gone = ap (λ w. writer.image_of w) given
+
+      waits : unwritten new ≡ writer.waiting_of (writer_of old)
       waits = ap (λ (l : List RecordValue). writer.waiting_of (writer_of new) ++ l) all ∙ append-nil (writer.waiting_of (writer_of new))
+          ∙ ap (λ w. writer.waiting_of w) given
 
   -- it was taken at once, and has every record made
   module _ {A : Type 0} (v : CoreValue) (mid : Writer D M) (handed number n : ℕ) (piece : Piece A) (of : IsWholeOf v piece)
       (taken : IsStepReply number piece Taken (writer_of old) mid) (flipped : IsFlipReply handed (Flipped n) mid (writer_of new)) where
-    pub whole_current : old.copying ≡ GivenUp → new.copying ≡ Idle → unwritten new ≡ [] → MakesCurrent old new
+    pub whole_current : old.writer.copying ≡ GivenUp → new.writer.copying ≡ Idle → unwritten new ≡ [] → MakesCurrent old new
     whole_current given idle all = record {
       whole = ap next_place given;
       turned = flipped.5.halves-are ∙ ap (λ h. record { geometry = h.geometry; current = other h.current }) taken.1.1.1;
@@ -479,14 +422,15 @@ module _ {D M : Type 0} (old new : Parts D M) where
       all = λ _. all;
     }
       where
-        stepped : old.copying ≡ Steps None → ⊥
+        stepped : old.writer.copying ≡ Steps None → ⊥
         stepped steps = cc (given, steps)
 
     pub whole_synced : number ≤ horizon_of new
     whole_synced = omega (arith, flipped.0, flipped.3 taken.1.0 taken.1.1.0, whole_base v number piece (writer_of old) mid of taken)
 
 -- where all records are synced, none waits
-pub none_unwritten : {D M : Type 0} (past_of : D → DevicePast) (run : Run) (handed : ℕ) (engine : Parts D M) → IsWriter past_of run handed (writer_of engine)
+pub none_unwritten : {D M : Type 0} (past_of : D → DevicePast) (run : Run) (handed : ℕ) (engine : EngineParts D M)
+    → IsWriter past_of run handed (writer_of engine)
     → handed ≤ horizon_of engine → unhanded engine ≡ [] → unwritten engine ≡ []
 none_unwritten past_of run handed engine is reached all =
     let none : handed - horizon_of engine ≡ 0 = omega (arith, reached) in

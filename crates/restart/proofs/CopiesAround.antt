@@ -9,7 +9,7 @@ use Rattle.store_writer.proofs.Alone.{alone_then, alone_wider, none_alone}
 use Rattle.store_writer.specs.Parts as writer
 use Rattle.store_writer.specs.Writer.{InLogs, WritesLogsAlone, WritesOnly}
 use Rattle.store_writer.specs.declared.writer.Writer.{Writer}
-use Rattle.restart.specs.declared.parts.Parts.{Parts}
+use Rattle.restart.specs.declared.parts.EngineParts.{EngineParts}
 use Rattle.restart.specs.Handing.{HandsOver}
 use Rattle.restart.specs.Parts.{device_of, has_failed, writer_of}
 use Rattle.restart.specs.Store.{CanRun, CopiesAround, InCopy, StandsAt}
@@ -39,15 +39,15 @@ module _ {D M : Type 0} (past_of : D → DevicePast) where
           inr (inl (log_inside (writer.halves_of old).geometry (other (writer.halves_of old).current) n there.1))) logs
 
   -- none
-  pub none_copied_around : (engine : Parts D M) → CopiesAround past_of engine engine
+  pub none_copied_around : (engine : EngineParts D M) → CopiesAround past_of engine engine
   none_copied_around engine = none_alone past_of (InCopy (writer.halves_of (writer_of engine))) (device_of engine)
 
-  pub device_copied : (old new : Parts D M) → device_of new ≡ device_of old → CopiesAround past_of old new
+  pub device_copied : (old new : EngineParts D M) → device_of new ≡ device_of old → CopiesAround past_of old new
   device_copied old new same = subst (λ d. WritesOnly past_of (InCopy (writer.halves_of (writer_of old))) (device_of old) d) (sym same) (none_copied_around old)
 
 -- ---- of an engine
 
-module _ {D M : Type 0} (past_of : D → DevicePast) (old mid new : Parts D M) (can : CanRun past_of mid) (sound : has_failed mid ≡ false)
+module _ {D M : Type 0} (past_of : D → DevicePast) (old mid new : EngineParts D M) (can : CanRun past_of mid) (sound : has_failed mid ≡ false)
     (same : writer.halves_of (writer_of mid) ≡ writer.halves_of (writer_of old)) where
   stands : StandsAt past_of can.0 can.1 can.2 can.3 mid
   stands = can.4
@@ -63,7 +63,7 @@ module _ {D M : Type 0} (past_of : D → DevicePast) (old mid new : Parts D M) (
       (subst (λ (h : HalvesValue). WritesOnly past_of (InCopy h) (device_of mid) (device_of new)) same second)
 
 -- behind a handing over
-pub copied_over : {D M : Type 0} (past_of : D → DevicePast) (old mid new : Parts D M) → HandsOver past_of old mid → CopiesAround past_of mid new
+pub copied_over : {D M : Type 0} (past_of : D → DevicePast) (old mid new : EngineParts D M) → HandsOver past_of old mid → CopiesAround past_of mid new
     → CopiesAround past_of old new
 copied_over past_of old mid new over wrote =
     subst (λ (h : HalvesValue). WritesOnly past_of (InCopy h) (device_of old) (device_of new)) over.halves

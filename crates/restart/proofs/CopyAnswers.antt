@@ -21,7 +21,7 @@ use Rattle.store_image_model.specs.declared.chunk.Piece.{Piece}
 use Rattle.store_image_model.specs.Places.{place_behind}
 use Rattle.restart.specs.declared.event.Reply.{Reply}
 use Rattle.restart.specs.declared.event.Reply.TheVariants as reply
-use Rattle.restart.specs.declared.parts.Parts.{Parts}
+use Rattle.restart.specs.declared.parts.EngineParts.{EngineParts}
 use Rattle.restart.specs.Copies.{CannotFlip, CannotTake, IsCopyAnswer, IsFlippedAtOnce, IsPieceNow, IsPutOff, KeepsAll, MakesCurrent, MayFlip, Succeeds}
 use Rattle.restart.specs.Copies.{TakesPiece, copies_left, left_at}
 use Rattle.restart.specs.Handing.{HandsOver}
@@ -40,7 +40,8 @@ between_later run m n handed low le high = sym
     ∙ ap (take (handed - n)) (drop-drop (n - m) (m - run.last) run.records ∙ ap (λ k. drop k run.records) (omega (arith, low, le))))
 
 module _ {D M : Type 0} (past_of : D → DevicePast) (failures : D
-    → ℕ) (old new : Parts D M) (all : unhanded old ≡ []) (can : CanRun past_of old) (core_is : core_of new ≡ core_of old) (rest : unhanded new ≡ unhanded old)
+    → ℕ) (old new : EngineParts D M) (all : unhanded old ≡ []) (can : CanRun past_of old) (core_is : core_of new ≡ core_of old)
+    (rest : unhanded new ≡ unhanded old)
     (after : IsWriter past_of can.0 can.1 (writer_of new)) (grows : horizon_of old ≤ horizon_of new)
     (later : failures (device_of old) ≤ failures (device_of new)) where
   -- no record is lost by the writer's calls
@@ -68,7 +69,7 @@ module _ {D M : Type 0} (past_of : D → DevicePast) (failures : D
   copy_failed e sound failed = inr (failed.0, failed.1, failed.2, (λ before. absurd (false≢true (sym sound ∙ before))), all_kept)
 
 -- the device fails at a call behind those that did not
-pub failed_later : {D M : Type 0} (past_of : D → DevicePast) (failures : D → ℕ) (old mid new : Parts D M) → unhanded old ≡ [] → (can : CanRun past_of old)
+pub failed_later : {D M : Type 0} (past_of : D → DevicePast) (failures : D → ℕ) (old mid new : EngineParts D M) → unhanded old ≡ [] → (can : CanRun past_of old)
     → core_of new ≡ core_of old → unhanded new ≡ unhanded old
     → IsWriter past_of can.0 can.1 (writer_of new) → horizon_of old ≤ horizon_of new → failures (device_of old) ≤ failures (device_of new) → (e : Error)
     → has_failed old ≡ false → has_failed mid ≡ false → failures (device_of mid) ≡ failures (device_of old)
@@ -85,13 +86,13 @@ failed_later past_of failures old mid new all can core_is rest after grows later
 -- ---- behind a group that was flushed
 
 -- how many records are not synced, where the writer has all
-pub count_left : {D M : Type 0} (past_of : D → DevicePast) (run : Run) (handed : ℕ) (engine : Parts D M) → IsWriter past_of run handed (writer_of engine)
+pub count_left : {D M : Type 0} (past_of : D → DevicePast) (run : Run) (handed : ℕ) (engine : EngineParts D M) → IsWriter past_of run handed (writer_of engine)
     → unhanded engine ≡ [] → length (unwritten engine) ≡ handed - horizon_of engine
 count_left past_of run handed engine is all =
     ap length (ap (λ (l : List RecordValue). writer.waiting_of (writer_of engine) ++ l) all ∙ append-nil (writer.waiting_of (writer_of engine)) ∙ is.waits)
     ∙ count_between run (horizon_of engine) handed is.opened is.made
 
-module _ {D M : Type 0} (failures : D → ℕ) (old mid new : Parts D M) where
+module _ {D M : Type 0} (failures : D → ℕ) (old mid new : EngineParts D M) where
   pub keeps_then : KeepsAll failures old mid → KeepsAll failures mid new → KeepsAll failures old new
   keeps_then first second = record {
     horizon = omega (arith, first.horizon, second.horizon);
@@ -112,14 +113,14 @@ module _ {D M : Type 0} (failures : D → ℕ) (old mid new : Parts D M) where
         ∙ first.quiet;
   }
 
-  no_next : mid.copying ≡ Steps None → (place : CopyPlace) → next_place mid.copying ≡ Some place → ⊥
+  no_next : mid.writer.copying ≡ Steps None → (place : CopyPlace) → next_place mid.writer.copying ≡ Some place → ⊥
   no_next whole place next = none (sym (ap next_place whole) ∙ next)
     where
       none : None ≡ Some place → ⊥
       none same = cc
 
   -- what is answered where a whole image was to be made current
-  pub answer_then : (r : Reply M) → Succeeds failures old mid → mid.copying ≡ Steps None → old.copying ≡ Steps None
+  pub answer_then : (r : Reply M) → Succeeds failures old mid → mid.writer.copying ≡ Steps None → old.writer.copying ≡ Steps None
       → writer.halves_of (writer_of mid) ≡ writer.halves_of (writer_of old) → copies_left mid ≤ copies_left old
       → (MayFlip (writer_of old) → mid ≡ old) → IsCopyAnswer failures r mid new → IsCopyAnswer failures r old new
   answer_then (reply.Txn t) first whole was halves left no_group is = absurd is
@@ -136,13 +137,13 @@ module _ {D M : Type 0} (failures : D → ℕ) (old mid new : Parts D M) where
   answer_then reply.Copied first whole was halves left no_group is = absurd (no_next whole is.1.place is.1.next)
   answer_then (reply.Flipped n) first whole was halves left no_group is = (well_then first is.0, is.1, current is.2)
     where
-      not_at_once : old.copying ≡ GivenUp → ⊥
+      not_at_once : old.writer.copying ≡ GivenUp → ⊥
       not_at_once given = cc (was, given)
 
       flipped_from : mid ≡ old → MayFlip (writer_of old) → (image : NewImage) → writer.image_of (writer_of old) ≡ Some image → IsFlippedAtOnce old new image
-      flipped_from same may image there = subst (λ (e : Parts D M). IsFlippedAtOnce e new image) same
-          (is.2.no-group whole (subst (λ (e : Parts D M). MayFlip (writer_of e)) (sym same) may) image
-          (ap (λ (e : Parts D M). writer.image_of (writer_of e)) same ∙ there))
+      flipped_from same may image there = subst (λ (e : EngineParts D M). IsFlippedAtOnce e new image) same
+          (is.2.no-group whole (subst (λ (e : EngineParts D M). MayFlip (writer_of e)) (sym same) may) image
+          (ap (λ (e : EngineParts D M). writer.image_of (writer_of e)) same ∙ there))
 
       current : MakesCurrent mid new → MakesCurrent old new
       current made = record {
@@ -161,7 +162,8 @@ module _ {D M : Type 0} (failures : D → ℕ) (old mid new : Parts D M) where
       given_up why = ⊎_elim (λ piece. absurd (no_next whole piece.place piece.next)) (λ flip.
           inr (record {
             whole = was;
-            could-not = λ may. flip.could-not (subst (λ (e : Parts D M). MayFlip (writer_of e)) (sym (no_group may)) may);
+            gone = flip.gone;
+            could-not = λ may. flip.could-not (subst (λ (e : EngineParts D M). MayFlip (writer_of e)) (sym (no_group may)) may);
             cannot = flip.cannot;
             halves = flip.halves ∙ halves;
             no_more = flip.no_more;
@@ -192,13 +194,13 @@ module _ {D M : Type 0} (failures : D → ℕ) (old mid new : Parts D M) where
 
 -- ---- behind a handing over
 
-keeps_none : {D M : Type 0} (failures : D → ℕ) (old : Parts D M) → KeepsAll failures old old
+keeps_none : {D M : Type 0} (failures : D → ℕ) (old : EngineParts D M) → KeepsAll failures old old
 keeps_none failures old =
     let none : 0 ≡ horizon_of old - horizon_of old = omega arith in
     record { horizon = omega arith; left = ap (λ n. drop n (unwritten old)) none; core = refl; later = omega arith }
 
-module _ {D M : Type 0} (past_of : D → DevicePast) (failures : D → ℕ) (old mid : Parts D M) (over : HandsOver past_of old mid) where
-  over_keeps : (new : Parts D M) → KeepsAll failures mid new → KeepsAll failures old new
+module _ {D M : Type 0} (past_of : D → DevicePast) (failures : D → ℕ) (old mid : EngineParts D M) (over : HandsOver past_of old mid) where
+  over_keeps : (new : EngineParts D M) → KeepsAll failures mid new → KeepsAll failures old new
   over_keeps new keeps = record {
     horizon = omega (arith, over.horizon, keeps.horizon);
     left = keeps.left ∙ ap (λ n. drop (horizon_of new - n) (unwritten mid)) over.horizon ∙ ap (drop (horizon_of new - horizon_of old)) over.unwritten-are;
@@ -206,7 +208,7 @@ module _ {D M : Type 0} (past_of : D → DevicePast) (failures : D → ℕ) (old
     later = omega (arith, keeps.later, ap failures over.device);
   }
 
-  over_well : (new : Parts D M) → Succeeds failures mid new → Succeeds failures old new
+  over_well : (new : EngineParts D M) → Succeeds failures mid new → Succeeds failures old new
   over_well new well = record {
     keeps = over_keeps new well.keeps;
     sound-before = sym over.failed ∙ well.sound-before;
@@ -217,16 +219,16 @@ module _ {D M : Type 0} (past_of : D → DevicePast) (failures : D → ℕ) (old
 
   left_same : copies_left mid ≡ copies_left old
   left_same =
-      ap (λ g. left_at g (core_of mid).last (writer.image_of (writer_of mid)) mid.copying) over.geometry
-      ∙ ap (λ (v : CoreValue). left_at old.geometry v.last (writer.image_of (writer_of mid)) mid.copying) over.moves.core
-      ∙ ap (λ i. left_at old.geometry (core_of old).last i mid.copying) over.image
+      ap (λ g. left_at g (core_of mid).last (writer.image_of (writer_of mid)) mid.writer.copying) over.geometry
+      ∙ ap (λ (v : CoreValue). left_at old.geometry v.last (writer.image_of (writer_of mid)) mid.writer.copying) over.moves.core
+      ∙ ap (λ i. left_at old.geometry (core_of old).last i mid.writer.copying) over.image
       ∙ ap (left_at old.geometry (core_of old).last (writer.image_of (writer_of old))) over.copying
 
   piece_over : (place : CopyPlace) (piece : Piece M) → IsPieceNow (core_of mid) place piece → IsPieceNow (core_of old) place piece
   piece_over place piece is = piece_before (core_of old) (core_of mid).outbox place piece
       (subst (λ (v : CoreValue). IsPieceNow v place piece) over.moves.core is)
 
-  takes_over : (new : Parts D M) → TakesPiece mid new → TakesPiece old new
+  takes_over : (new : EngineParts D M) → TakesPiece mid new → TakesPiece old new
   takes_over new takes = record {
     place = takes.place;
     next = ap next_place (sym over.copying) ∙ takes.next;
@@ -246,7 +248,7 @@ module _ {D M : Type 0} (past_of : D → DevicePast) (failures : D → ℕ) (old
   may_over : MayFlip (writer_of old) → MayFlip (writer_of mid)
   may_over (image, there, whole, reached) = (image, over.image ∙ there, whole, subst (λ n. image.number ≤ reach image n) (sym over.horizon) reached)
 
-  given_up_over : (new : Parts D M) → CannotTake mid new ⊎ CannotFlip mid new → CannotTake old new ⊎ CannotFlip old new
+  given_up_over : (new : EngineParts D M) → CannotTake mid new ⊎ CannotFlip mid new → CannotTake old new ⊎ CannotFlip old new
   given_up_over new why = ⊎_elim
       (λ cannot. inl (record {
         place = cannot.place;
@@ -254,10 +256,15 @@ module _ {D M : Type 0} (past_of : D → DevicePast) (failures : D → ℕ) (old
         piece = cannot.piece;
         piece-is = piece_over cannot.place cannot.piece cannot.piece-is;
         must = must_as cannot.piece (writer_of mid) (writer_of old) (sym over.image) (sym over.log) (sym over.halves) cannot.must;
-        keeps = keeps_both old mid new (keeps_over past_of old mid over) cannot.keeps;
+        gone = cannot.gone;
+        device = cannot.device ∙ over.device;
+        halves = cannot.halves ∙ over.halves;
+        log = cannot.log ∙ over.log;
+        horizon = cannot.horizon ∙ over.horizon;
       }))
       (λ cannot. inr (record {
         whole = sym over.copying ∙ cannot.whole;
+        gone = cannot.gone;
         could-not = λ may. cannot.could-not (may_over may);
         cannot = cannot.cannot;
         halves = cannot.halves ∙ over.halves;
@@ -265,7 +272,7 @@ module _ {D M : Type 0} (past_of : D → DevicePast) (failures : D → ℕ) (old
       }))
       why
 
-  current_over : (new : Parts D M) → MakesCurrent mid new → MakesCurrent old new
+  current_over : (new : EngineParts D M) → MakesCurrent mid new → MakesCurrent old new
   current_over new made = record {
     whole = ap next_place (sym over.copying) ∙ made.whole;
     turned = made.turned ∙ ap (λ h. record { geometry = h.geometry; current = other h.current }) over.halves;
@@ -278,7 +285,7 @@ module _ {D M : Type 0} (past_of : D → DevicePast) (failures : D → ℕ) (old
     all = λ given. made.all (over.copying ∙ given);
   }
 
-  put_off_over : (new : Parts D M) → IsPutOff failures mid new → IsPutOff failures old new
+  put_off_over : (new : EngineParts D M) → IsPutOff failures mid new → IsPutOff failures old new
   put_off_over new off = record {
     succeeds = over_well new off.succeeds;
     copying = off.copying ∙ over.copying;
@@ -287,7 +294,7 @@ module _ {D M : Type 0} (past_of : D → DevicePast) (failures : D → ℕ) (old
     keeps = λ other. keeps_both old mid new (keeps_over past_of old mid over) (off.keeps (λ stepped. other (sym over.copying ∙ stepped)));
   }
 
-  pub answer_over : (new : Parts D M) (r : Reply M) → IsCopyAnswer failures r mid new → has_failed mid ≡ false → IsCopyAnswer failures r old new
+  pub answer_over : (new : EngineParts D M) (r : Reply M) → IsCopyAnswer failures r mid new → has_failed mid ≡ false → IsCopyAnswer failures r old new
   answer_over new (reply.Txn t) is sound = absurd is
   answer_over new (reply.Rid r) is sound = absurd is
   answer_over new reply.Stepped is sound = absurd is
@@ -330,17 +337,18 @@ module _ {D M : Type 0} (past_of : D → DevicePast) (failures : D → ℕ) (old
     },
   )
 
-pub copy_failed_before : {D M : Type 0} (failures : D → ℕ) (old : Parts D M) → has_failed old ≡ true
+pub copy_failed_before : {D M : Type 0} (failures : D → ℕ) (old : EngineParts D M) → has_failed old ≡ true
     → IsCopyAnswer failures (reply.Refused DeviceFailed) old old
 copy_failed_before failures old failed = inr (refl, failed, (λ sound. absurd (false≢true (sym sound ∙ failed))), (λ _. refl), keeps_none failures old)
 
-pub none_well : {D M : Type 0} (failures : D → ℕ) (old : Parts D M) → has_failed old ≡ false → Succeeds failures old old
+pub none_well : {D M : Type 0} (failures : D → ℕ) (old : EngineParts D M) → has_failed old ≡ false → Succeeds failures old old
 none_well failures old sound = record { keeps = keeps_none failures old; sound-before = sound; sound = sound; quiet = refl }
 
 -- there was no memory, and the writer is as it was
-pub put_off_as : {D M : Type 0} (failures : D → ℕ) (old new : Parts D M) → Succeeds failures old new → writer_of new ≡ writer_of old → core_of new ≡ core_of old
-    → new.geometry ≡ old.geometry → new.copying ≡ old.copying → IsPutOff failures old new
-put_off_as failures old new well same core_is size copying = record {
+pub put_off_as : {D M : Type 0} (failures : D → ℕ) (old new : EngineParts D M) → Succeeds failures old new → writer_of new ≡ writer_of old
+    → core_of new ≡ core_of old
+    → new.geometry ≡ old.geometry → IsPutOff failures old new
+put_off_as failures old new well same core_is size = record {
   succeeds = well;
   copying = copying;
   left = omega (arith, level);
@@ -348,21 +356,24 @@ put_off_as failures old new well same core_is size copying = record {
   keeps = λ _. keeps_same old new same;
 }
   where
+    copying : new.writer.copying ≡ old.writer.copying
+    copying = ap (λ w. writer.copying_of w) same
+
     level : copies_left new ≡ copies_left old
     level =
-        ap (λ g. left_at g (core_of new).last (writer.image_of (writer_of new)) new.copying) size
-        ∙ ap (λ (v : CoreValue). left_at old.geometry v.last (writer.image_of (writer_of new)) new.copying) core_is
-        ∙ ap (λ w. left_at old.geometry (core_of old).last (writer.image_of w) new.copying) same
+        ap (λ g. left_at g (core_of new).last (writer.image_of (writer_of new)) new.writer.copying) size
+        ∙ ap (λ (v : CoreValue). left_at old.geometry v.last (writer.image_of (writer_of new)) new.writer.copying) core_is
+        ∙ ap (λ w. left_at old.geometry (core_of old).last (writer.image_of w) new.writer.copying) same
         ∙ ap (left_at old.geometry (core_of old).last (writer.image_of (writer_of old))) copying
 
 -- where nothing could be copied
-pub none_copied : {D M : Type 0} (failures : D → ℕ) (old : Parts D M) (e : Error) → e ≡ NoMemory → has_failed old ≡ false
+pub none_copied : {D M : Type 0} (failures : D → ℕ) (old : EngineParts D M) (e : Error) → e ≡ NoMemory → has_failed old ≡ false
     → IsCopyAnswer failures (reply.Refused e) old old
-none_copied failures old e none sound = inl (none, put_off_as failures old old (none_well failures old sound) refl refl refl refl)
+none_copied failures old e none sound = inl (none, put_off_as failures old old (none_well failures old sound) refl refl refl)
 
 -- ---- what a copy tells
 
-module _ {D M : Type 0} (failures : D → ℕ) (old new : Parts D M) where
+module _ {D M : Type 0} (failures : D → ℕ) (old new : EngineParts D M) where
   pub of_copy : (r : Reply M) → IsCopyAnswer failures r old new → IsOfCopy r
   of_copy (reply.Txn t) is = absurd is
   of_copy (reply.Rid r) is = absurd is

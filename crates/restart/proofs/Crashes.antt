@@ -5,7 +5,7 @@ use Rattle.sector_device.specs.Disk.{CrashState, Disk, IsCrashState}
 use Rattle.sector_device.specs.DevicePast.{DevicePast, Between, Spans}
 use Rattle.restart.specs.declared.event.Event.{Event}
 use Rattle.restart.specs.declared.event.Reply.{Reply}
-use Rattle.restart.specs.declared.parts.Parts.{Parts}
+use Rattle.restart.specs.declared.parts.EngineParts.{EngineParts}
 use Rattle.restart.specs.Store.{Past, acknowledged_by, Survives, IsAt, SurvivesAt, GoesOn}
 use Rattle.restart.specs.Ran.{SurvivesAnyCrash}
 use Rattle.restart.specs.Parts.{device_of, horizon_of}
@@ -31,7 +31,7 @@ no_borders : (disk_at : ℕ → Disk) (P : ℕ → CrashState → Type 0) (j fro
 no_borders disk_at P j from [] to none spans = spans
 no_borders disk_at P j from (next ∷ borders) to none spans = absurd (omega (arith, none))
 
-module _ {D M : Type 0} (past_of : D → DevicePast) (past : Past M) (old new : Parts D M) (is : IsAt past_of past old) where
+module _ {D M : Type 0} (past_of : D → DevicePast) (past : Past M) (old new : EngineParts D M) (is : IsAt past_of past old) where
   crash_within : (events : List Event) (replies : List (Reply M)) → GoesOn past_of past events replies old new
       → Between (past_of (device_of new)).disk_at (past_of (device_of old)).moment (past_of (device_of new)).moment (λ image. (j : ℕ) × (j ≤ length events)
       × SurvivesAt past events replies (horizon_of old) j image)
@@ -56,7 +56,7 @@ module _ {D M : Type 0} (past_of : D → DevicePast) (past : Past M) (old new : 
       (past_of (device_of new)).moment t image ran.spans (omega (arith, ran.one_each)) low high crash in
       (it.0, omega (arith, it.1, ran.one_each), it.2)
 
-pub survives_any_crash : {D M : Type 0} (past_of : D → DevicePast) (events : List Event) (replies : List (Reply M)) (old new : Parts D M)
+pub survives_any_crash : {D M : Type 0} (past_of : D → DevicePast) (events : List Event) (replies : List (Reply M)) (old new : EngineParts D M)
     → ((past : Past M) → IsAt past_of past old → GoesOn past_of past events replies old new) → SurvivesAnyCrash past_of events replies old new
 survives_any_crash past_of events replies old new ran past is = record {
   later = spans_rise (past_of (device_of new)).disk_at (SurvivesAt past events replies (horizon_of old)) 0 (past_of (device_of old)).moment goes.borders

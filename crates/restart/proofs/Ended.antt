@@ -21,7 +21,7 @@ use Rattle.core_parts.specs.declared.parts.Ticket.{Ticket}
 use Rattle.core_parts.specs.declared.reply.BuildReply.{BuildReply}
 use Rattle.core_parts.specs.declared.reply.BuildReply.TheVariants as build
 use Rattle.sector_device.specs.DevicePast.{DevicePast}
-use Rattle.restart.specs.declared.parts.Parts.{Parts}
+use Rattle.restart.specs.declared.parts.EngineParts.{EngineParts}
 use Rattle.restart.specs.declared.event.Reply.{Reply}
 use Rattle.restart.specs.declared.event.Reply.TheVariants as reply
 use Rattle.restart.specs.Building.{AreBuilt, BuildsWhole, EndsWith, HasCome, IsBuiltToEnd, IsUnderway, end_of, in_a_row}
@@ -55,7 +55,7 @@ module _ (v v' : CoreValue) (s : State) (k : Standing) (is : IsState v s k) (sca
 -- ---- the steps so far
 
 -- the builder has made these steps, none of them the last, and the index is not complete
-pub record HasBuilt {D M : Type 0} (old now : Parts D M) (scanned : ℕ) : Type 0 where
+pub record HasBuilt {D M : Type 0} (old now : EngineParts D M) (scanned : ℕ) : Type 0 where
   pub replies : List (Reply M)
   pub each : AreBuilt replies old now
   pub underway : All IsUnderway replies
@@ -64,7 +64,7 @@ pub record HasBuilt {D M : Type 0} (old now : Parts D M) (scanned : ℕ) : Type 
   pub unfinished : (core_of now).life ≢ Complete
   pub none : (core_of now).life ≡ Absent → (core_of old).life ≡ Absent
 
-pub none_built : {D M : Type 0} (old : Parts D M) → (core_of old).life ≢ Complete → HasBuilt old old 0
+pub none_built : {D M : Type 0} (old : EngineParts D M) → (core_of old).life ≢ Complete → HasBuilt old old 0
 none_built old unfinished = record {
   replies = [];
   each = refl;
@@ -78,7 +78,8 @@ none_built old unfinished = record {
     begins : (v : CoreValue) → IsSafe v → IsGoing v 0
     begins v safe = record { state = safe.state; standing = safe.standing; is = safe.is; so_many = omega arith }
 
-module _ {D M : Type 0} (old mid new : Parts D M) (scanned n : ℕ) (so_far : HasBuilt old mid scanned) (r : Reply M) (way : IsUnderway r) (reply : core.Reply)
+module _ {D M : Type 0} (old mid new : EngineParts D M) (scanned n : ℕ) (so_far : HasBuilt old mid scanned) (r : Reply M) (way : IsUnderway r)
+    (reply : core.Reply)
     (told : answered r ≡ Some reply) (rest : new ≡ record mid { core = new.core })
     (serves : view.Serves (core_of mid) core.Build reply (core_of new)) (less : (s : State) (k : Standing) (is : IsState (core_of mid) s k)
     → scanned ≤ k.scanned → IsLess (core_of mid) (core_of new) scanned n) where
@@ -100,11 +101,11 @@ module _ {D M : Type 0} (old mid new : Parts D M) (scanned n : ℕ) (so_far : Ha
   }
 
 -- a step that is not the last: less is left, and it is one more of those that were made
-pub record Stepped {D M : Type 0} (old mid new : Parts D M) (scanned n : ℕ) : Type 0 where
+pub record Stepped {D M : Type 0} (old mid new : EngineParts D M) (scanned n : ℕ) : Type 0 where
   pub falls : work_of (core_of new) n < work_of (core_of mid) scanned
   pub goes : HasBuilt old new n
 
-module _ {D M : Type 0} (old mid new : Parts D M) (scanned : ℕ) (so_far : HasBuilt old mid scanned) (rest : new ≡ record mid { core = new.core }) where
+module _ {D M : Type 0} (old mid new : EngineParts D M) (scanned : ℕ) (so_far : HasBuilt old mid scanned) (rest : new ≡ record mid { core = new.core }) where
   -- the step that a build made, and how far it is then
   module _ (n : ℕ) (b : BuildReply) (way : IsUnderway {M = M} (reply.Built b)) (serves : view.Serves (core_of mid) core.Build (built b) (core_of new))
       (less : (s : State) (k : Standing) → IsState (core_of mid) s k → scanned ≤ k.scanned → Answers (core_of mid) s k core.Build (built b) (core_of new)
@@ -221,7 +222,7 @@ is_done build.Idle ticket is = absurd cc
 
 -- ---- where the index was complete
 
-module _ {D M : Type 0} (past_of : D → DevicePast) (failures : D → ℕ) (old : Parts D M) (laws : Laws past_of (writer_of old)) where
+module _ {D M : Type 0} (past_of : D → DevicePast) (failures : D → ℕ) (old : EngineParts D M) (laws : Laws past_of (writer_of old)) where
   module _ (complete : (core_of old).life ≡ Complete) where
     pub complete_ends : (number : ℕ) → number ≡ (core_of old).last → IsBuiltToEnd past_of (Ok number) old old
     complete_ends number last = record {

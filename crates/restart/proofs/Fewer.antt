@@ -16,7 +16,7 @@ use Rattle.store_image_model.specs.declared.chunk.Piece.{Piece}
 use Rattle.store_image_model.specs.declared.chunk.Piece.TheVariants.{Entries, Page, Start, Whole}
 use Rattle.store_image_model.specs.Places.{place_behind}
 use Rattle.core_parts.specs.View.{CoreValue}
-use Rattle.store_writer.specs.Copying.{IsPieceDue, next_place}
+use Rattle.store_writer.specs.Copying.{IsCopying, next_place}
 use Rattle.store_writer.specs.Writer.{HasPiece, MustStartAgain}
 use Rattle.store_writer.specs.declared.copying.Copying.{Copying}
 use Rattle.store_writer.specs.declared.copying.Copying.TheVariants.{GivenUp, Idle, Steps}
@@ -24,6 +24,23 @@ use Rattle.store_writer.specs.declared.image.NewImage.{NewImage}
 use Rattle.store_writer.specs.declared.image.Stage.TheVariants as stage
 use Rattle.store_writer.specs.declared.writer.Writer.{Writer}
 use Rattle.restart.specs.Copies.{copies_to_flip, entries_at, entries_copied, left_at, most_copies}
+
+-- the piece of this place is due: the start always, and another as an image that is copied in steps is there
+abbrev pub IsPieceDue : (pages : ℕ) → CopyPlace → Option NewImage → Type 0
+IsPieceDue pages at.Start image = Unit {0}
+IsPieceDue pages (at.Page page) image = IsCopying pages (Steps (Some (at.Page page))) image
+IsPieceDue pages (at.Entries above) image = IsCopying pages (Steps (Some (at.Entries above))) image
+
+-- where the copying goes on its piece is due
+pub due_there : (pages : ℕ) (copying : Copying) (place : CopyPlace) (image : Option NewImage) → IsCopying pages copying image
+    → next_place copying ≡ Some place → IsPieceDue pages place image
+due_there pages copying at.Start image is next = tt
+due_there pages Idle (at.Page page) image is next = absurd cc
+due_there pages Idle (at.Entries above) image is next = absurd cc
+due_there pages (Steps p) (at.Page page) image is next = subst (λ q. IsCopying pages (Steps q) image) next is
+due_there pages (Steps p) (at.Entries above) image is next = subst (λ q. IsCopying pages (Steps q) image) next is
+due_there pages GivenUp (at.Page page) image is next = absurd cc
+due_there pages GivenUp (at.Entries above) image is next = absurd cc
 
 -- ---- from a whole image on
 

@@ -3,7 +3,7 @@ use Rattle.std.proofs.Common.{◌⊎◌, inl, inr, ⊎_elim, ℕ, ◌+◌, ◌�
 use Rattle.store_writer.specs.Parts.{image_of}
 use Rattle.restart.specs.declared.event.Reply.{Reply}
 use Rattle.restart.specs.declared.event.Reply.TheVariants as reply
-use Rattle.restart.specs.declared.parts.Parts.{Parts}
+use Rattle.restart.specs.declared.parts.EngineParts.{EngineParts}
 use Rattle.restart.specs.Copies.{HaveFlip, HaveNoRefusal, IsCopyAnswer, IsFlip, IsRefusal, copies, copies_left, most_copies}
 use Rattle.restart.specs.Lawful.{AreLawful}
 use Rattle.restart.specs.Parts.{core_of, writer_of}
@@ -11,7 +11,7 @@ use Rattle.restart.proofs.Fewer.{left_bounds}
 
 module _ {D M : Type 0} (failures : D → ℕ) where
   -- a copy flips, or leaves fewer
-  one_fewer : (r : Reply M) (old new : Parts D M) → IsCopyAnswer failures r old new → ¬ IsRefusal r → IsFlip r ⊎ (copies_left new < copies_left old)
+  one_fewer : (r : Reply M) (old new : EngineParts D M) → IsCopyAnswer failures r old new → ¬ IsRefusal r → IsFlip r ⊎ (copies_left new < copies_left old)
   one_fewer (reply.Txn t) old new is granted = absurd is
   one_fewer (reply.Rid r) old new is granted = absurd is
   one_fewer reply.Stepped old new is granted = absurd is
@@ -32,20 +32,20 @@ module _ {D M : Type 0} (failures : D → ℕ) where
   one_fewer reply.Skipped old new is granted = absurd is
   one_fewer (reply.Refused e) old new is granted = absurd (granted (e, refl))
 
-  flips_or_fewer : (replies : List (Reply M)) (old new : Parts D M) → AreLawful failures (copies replies) replies old new → HaveNoRefusal replies
+  flips_or_fewer : (replies : List (Reply M)) (old new : EngineParts D M) → AreLawful failures (copies replies) replies old new → HaveNoRefusal replies
       → HaveFlip replies ⊎ (copies_left new + length replies ≤ copies_left old)
-  flips_or_fewer [] old new same none = inr (omega (arith, ap (λ (e : Parts D M). copies_left e) same))
+  flips_or_fewer [] old new same none = inr (omega (arith, ap (λ (e : EngineParts D M). copies_left e) same))
   flips_or_fewer (r ∷ replies) old new (mid, is, rest) (granted, none) = ⊎_elim
       (λ flip. inl (inl flip))
       (λ fewer. ⊎_elim (λ later. inl (inr later)) (λ few. inr (omega (arith, fewer, few))) (flips_or_fewer replies mid new rest none))
       (one_fewer r old mid is granted)
 
-  pub flips : (replies : List (Reply M)) (old new : Parts D M) → AreLawful failures (copies replies) replies old new → HaveNoRefusal replies
+  pub flips : (replies : List (Reply M)) (old new : EngineParts D M) → AreLawful failures (copies replies) replies old new → HaveNoRefusal replies
       → most_copies old.geometry ≤ length replies → HaveFlip replies
   flips replies old new lawful none enough = ⊎_elim
       (λ flip. flip)
       (λ few.
-      let least = left_bounds new.geometry (core_of new).last (image_of (writer_of new)) new.copying in
-      let most = left_bounds old.geometry (core_of old).last (image_of (writer_of old)) old.copying in
+      let least = left_bounds new.geometry (core_of new).last (image_of (writer_of new)) new.writer.copying in
+      let most = left_bounds old.geometry (core_of old).last (image_of (writer_of old)) old.writer.copying in
       absurd (omega (arith, few, least.0, most.1, enough)))
       (flips_or_fewer replies old new lawful none)

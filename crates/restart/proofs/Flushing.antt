@@ -19,13 +19,13 @@ use Rattle.store_writer.specs.Writer.{IsBeforeFlush, IsFlushReply, IsLogFull, Is
 use Rattle.store_writer.specs.declared.writer.FlushReply.TheVariants.{Flushed, Nothing}
 use Rattle.store_writer.specs.declared.writer.FlushReply.TheVariants as flush
 use Rattle.restart.specs.declared.event.Reply.TheVariants as reply
-use Rattle.restart.specs.declared.parts.Parts.{Parts}
+use Rattle.restart.specs.declared.parts.EngineParts.{EngineParts}
 use Rattle.restart.specs.Handing.{HandsOver, MovesOn}
 use Rattle.restart.specs.Lawful.{FillsGroup, IsFlushAnswer, KeepsRecords, OpensOne, Writes, WritesNothing}
 use Rattle.restart.specs.Parts.{core_of, device_of, has_failed, horizon_of, log_of, unhanded, unwritten, writer_of}
 use Rattle.restart.specs.Store.{CanRun}
 use Rattle.restart.proofs.Keeping.{keeps_both, keeps_over, keeps_same}
-use Rattle.restart.proofs.Moving.{StaysAtPlace, moves_by, moves_then}
+use Rattle.restart.proofs.Moving.{moves_by, moves_then}
 
 -- where nothing was written no slot is open that was not
 no_slot : (old new : Log) → new ≡ old → OpensOne 0 old new
@@ -36,11 +36,11 @@ one_slot n old new some same = record { one = λ _. same; none = λ none. absurd
 
 -- ---- where the device had failed
 
-module _ {D M : Type 0} (past_of : D → DevicePast) (failures : D → ℕ) (old : Parts D M) where
+module _ {D M : Type 0} (past_of : D → DevicePast) (failures : D → ℕ) (old : EngineParts D M) where
   pub stays : MovesOn past_of old old
   stays = moves_by past_of old old refl refl (λ run handed w. w) (λ run handed w.
       started (past_of (device_of old)) (LeftBy run (horizon_of old) handed) w.images) (omega arith)
-      (record { geometry = refl; place = λ was. was; carried = λ was. was })
+      refl
 
   pub failed_before : has_failed old ≡ true → IsFlushAnswer failures (reply.Refused DeviceFailed) old old
   failed_before failed = inr (
@@ -53,7 +53,7 @@ module _ {D M : Type 0} (past_of : D → DevicePast) (failures : D → ℕ) (old
 
 -- ---- where not all records could be handed over
 
-module _ {D M : Type 0} (past_of : D → DevicePast) (failures : D → ℕ) (old mid : Parts D M) (over : HandsOver past_of old mid) where
+module _ {D M : Type 0} (past_of : D → DevicePast) (failures : D → ℕ) (old mid : EngineParts D M) (over : HandsOver past_of old mid) where
   pub nothing_written : WritesNothing failures old mid
   nothing_written = record {
     none = record {
@@ -81,14 +81,14 @@ module _ {D M : Type 0} (past_of : D → DevicePast) (failures : D → ℕ) (old
 
   -- ---- where all were
 
-  module _ (new : Parts D M) (all : unhanded mid ≡ []) (sound : has_failed old ≡ false) (core_is : core_of new ≡ core_of mid)
-      (rest : unhanded new ≡ unhanded mid) (copying : new.copying ≡ mid.copying)
+  module _ (new : EngineParts D M) (all : unhanded mid ≡ []) (sound : has_failed old ≡ false) (core_is : core_of new ≡ core_of mid)
+      (rest : unhanded new ≡ unhanded mid) (copying : writer.copying_of (writer_of new) ≡ writer.copying_of (writer_of mid))
       (can : CanRun past_of mid) (keeps : (run : Run) (handed : ℕ) → IsWriter past_of run handed (writer_of mid) → IsWriter past_of run handed (writer_of new))
       (images : (run : Run) (handed : ℕ) → IsWriter past_of run handed (writer_of mid)
       → LeavesOnly (past_of (device_of mid)) (past_of (device_of new)) (LeftBy run (horizon_of mid) handed))
-      (later : failures (device_of mid) ≤ failures (device_of new)) (place : StaysAtPlace mid new) where
+      (later : failures (device_of mid) ≤ failures (device_of new)) (size : new.geometry ≡ mid.geometry) where
     pub moves : horizon_of mid ≤ horizon_of new → MovesOn past_of old new
-    moves grows = moves_then past_of old mid new over.moves (moves_by past_of mid new core_is rest keeps images grows place)
+    moves grows = moves_then past_of old mid new over.moves (moves_by past_of mid new core_is rest keeps images grows size)
 
     waited : unwritten old ≡ writer.waiting_of (writer_of mid)
     waited = sym over.unwritten-are ∙ ap (λ (l : List RecordValue). writer.waiting_of (writer_of mid) ++ l) all ∙ append-nil (writer.waiting_of (writer_of mid))

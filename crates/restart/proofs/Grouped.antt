@@ -4,10 +4,10 @@ use Rattle.records.specs.RecordValue.{RecordValue}
 use Rattle.sector_device.specs.DevicePast.{DevicePast}
 use Rattle.store_writer.specs.Parts as writer
 use Rattle.store_writer.specs.Writer.{IsFlipReply}
-use Rattle.store_writer.specs.declared.copying.Copying.TheVariants.{Steps}
+use Rattle.store_writer.specs.declared.copying.Copying.TheVariants.{GivenUp, Steps}
 use Rattle.store_writer.specs.declared.writer.FlipReply.TheVariants.{Flipped}
 use Rattle.store_writer.specs.declared.writer.Writer.{Writer}
-use Rattle.restart.specs.declared.parts.Parts.{Parts}
+use Rattle.restart.specs.declared.parts.EngineParts.{EngineParts}
 use Rattle.restart.specs.Groups.{CopiesByGroups, HasAll, WritesByGroups, WritesGroups, no_more, one_more}
 use Rattle.restart.specs.Handing.{FlushesFirst, HandsOver}
 use Rattle.restart.specs.Parts.{unhanded, writer_of}
@@ -18,20 +18,24 @@ module _ {D M : Type 0} where
   pub by_none : (old new : Writer D M) → new ≡ old → WritesByGroups old new
   by_none old new same = record { last = old; groups = no_more; behind = inl same }
 
+  -- nor was one before the image was given up
+  pub by_giving_up : (old new : Writer D M) → new ≡ writer.without_image GivenUp old → WritesByGroups old new
+  by_giving_up old new given = record { last = old; groups = no_more; behind = inr (inl given) }
+
   -- nor was one before the device failed
   pub by_failure : (old new : Writer D M) → writer.has_failed new ≡ true → writer.synced_of new ≡ writer.synced_of old → WritesByGroups old new
-  by_failure old new failed level = record { last = old; groups = no_more; behind = inr (inr (failed, level)) }
+  by_failure old new failed level = record { last = old; groups = no_more; behind = inr (inr (inr (failed, level))) }
 
   -- nor was one before the image was made current
   pub at_once : (handed n : ℕ) (old new : Writer D M) → IsFlipReply handed (Flipped n) old new → WritesByGroups old new
   at_once handed n old new flipped = record {
     last = old;
     groups = no_more;
-    behind = inr (inl (record {
+    behind = inr (inr (inl (record {
       may = (flipped.2.0, flipped.2.1, flipped.2.2, flipped.2.4);
       flipped = flipped.5;
       reached = λ image there. sym flipped.0 ∙ flipped.3 image there;
-    }));
+    })));
   }
 
   -- groups behind others
@@ -45,18 +49,18 @@ module _ {D M : Type 0} where
   groups_then first mid new before then = record { last = then.last; groups = groups_both first mid then.last before then.groups; behind = then.behind }
 
   -- one group more
-  pub group_more : (failures : D → ℕ) (first : Writer D M) (mid new : Parts D M) → WritesGroups first (writer_of mid) → FlushesFirst failures mid new
+  pub group_more : (failures : D → ℕ) (first : Writer D M) (mid new : EngineParts D M) → WritesGroups first (writer_of mid) → FlushesFirst failures mid new
       → WritesGroups first (writer_of new)
   group_more failures first mid new groups flushes =
       one_more (writer_of mid) (writer_of new) flushes.flushed.0 groups flushes.could-not flushes.flushed.1.0 flushes.flushed.1.1
 
 -- nothing was done
-pub kept_store : {D M : Type 0} (engine : Parts D M) → CopiesByGroups engine engine
+pub kept_store : {D M : Type 0} (engine : EngineParts D M) → CopiesByGroups engine engine
 kept_store engine whole = inl (record { device = refl; halves = refl; log = refl; image = refl; horizon = refl })
 
 -- ---- where the writer took records first
 
-module _ {D M : Type 0} (past_of : D → DevicePast) (old mid : Parts D M) (over : HandsOver past_of old mid) where
+module _ {D M : Type 0} (past_of : D → DevicePast) (old mid : EngineParts D M) (over : HandsOver past_of old mid) where
   pub not_over_kept : CopiesByGroups old mid
   not_over_kept whole = inl (keeps_over past_of old mid over)
 
@@ -70,5 +74,6 @@ module _ {D M : Type 0} (past_of : D → DevicePast) (old mid : Parts D M) (over
     synced = over.horizon;
   }
 
-  pub groups_over : (new : Parts D M) → unhanded mid ≡ [] → (mid.copying ≡ Steps None → WritesByGroups (writer_of mid) (writer_of new)) → CopiesByGroups old new
+  pub groups_over : (new : EngineParts D M) → unhanded mid ≡ [] → (mid.writer.copying ≡ Steps None → WritesByGroups (writer_of mid) (writer_of new))
+      → CopiesByGroups old new
   groups_over new all wrote whole = inr (writer_of mid, has_all all, wrote (over.copying ∙ whole))

@@ -10,17 +10,16 @@ use Rattle.sector_device.specs.Disk.{CrashState}
 use Rattle.sector_device.specs.DevicePast.{DevicePast, LeavesOnly}
 use Rattle.sector_device.proofs.Moments.{started}
 use Rattle.store_writer.specs.Contents.{LeftBy}
-use Rattle.store_writer.specs.Copying.{IsCopying}
 use Rattle.store_writer.specs.Parts as writer
 use Rattle.store_writer.specs.Writer.{AreNext, IsWriter}
-use Rattle.restart.specs.declared.parts.Parts.{Parts}
+use Rattle.restart.specs.declared.parts.EngineParts.{EngineParts}
 use Rattle.restart.specs.Handing.{HandsOver}
 use Rattle.restart.specs.Parts.{core_of, device_of, horizon_of, unhanded, writer_of}
 use Rattle.restart.specs.Store.{StandsAt}
-use Rattle.restart.proofs.Moving.{StaysAtPlace, stands_with}
+use Rattle.restart.proofs.Moving.{stands_with}
 use Rattle.restart.proofs.Numbers.{first_behind, rest_behind, within_end}
 
-module _ {D M : Type 0} (past_of : D → DevicePast) (old : Parts D M) (core_then : CoreValue) (taken : List RecordValue)
+module _ {D M : Type 0} (past_of : D → DevicePast) (old : EngineParts D M) (core_then : CoreValue) (taken : List RecordValue)
     (hands : HandsOn (core_of old) core_then old.outgoing.items taken) where
   was : unhanded old ≡ taken ++ core_then.outbox
   was =
@@ -48,19 +47,11 @@ module _ {D M : Type 0} (past_of : D → DevicePast) (old : Parts D M) (core_the
     left : records_between run (handed + length taken) (end_of run) ≡ core_then.outbox
     left = rest_behind run handed low taken core_then.outbox split
 
-  module _ (new : Parts D M) (core_is : core_of new ≡ core_then) (device : device_of new ≡ device_of old)
+  module _ (new : EngineParts D M) (core_is : core_of new ≡ core_then) (device : device_of new ≡ device_of old)
       (halves : writer.halves_of (writer_of new) ≡ writer.halves_of (writer_of old)) (log : writer.log_of (writer_of new) ≡ writer.log_of (writer_of old))
       (horizon : horizon_of new ≡ horizon_of old) (failed : writer.has_failed (writer_of new) ≡ writer.has_failed (writer_of old))
       (image : writer.image_of (writer_of new) ≡ writer.image_of (writer_of old)) (size : new.geometry ≡ old.geometry)
-      (copying : new.copying ≡ old.copying) where
-    stays : StaysAtPlace old new
-    stays = record {
-      geometry = size;
-      place = λ was sound. subst (λ c. IsCopying old.geometry.pages c (writer.image_of (writer_of new))) (sym copying)
-          (subst (IsCopying old.geometry.pages old.copying) (sym image) (was (sym failed ∙ sound)));
-      carried = λ was sound i there. was (sym failed ∙ sound) i (sym image ∙ there);
-    }
-
+      (copying : writer.copying_of (writer_of new) ≡ writer.copying_of (writer_of old)) where
     others : core_of new ≡ record (core_of old) { outbox = (core_of new).outbox }
     others = core_is ∙ hands.others ∙ ap (λ (v : CoreValue). record (core_of old) { outbox = v.outbox }) (sym core_is)
 
@@ -86,7 +77,7 @@ module _ {D M : Type 0} (past_of : D → DevicePast) (old : Parts D M) (core_the
           handed + length taken,
           omega arith,
           stands_with past_of run handed (handed + length taken) s k old new is others (takes run handed is.writer (next run handed s k is))
-              (left run handed s k is ∙ sym (ap (λ (l : List RecordValue). l ++ (core_of new).outbox) none ∙ outbox_is)) stays,
+              (left run handed s k is ∙ sym (ap (λ (l : List RecordValue). l ++ (core_of new).outbox) none ∙ outbox_is)) size,
         );
         images = images;
         grows = omega (arith, horizon);
@@ -116,7 +107,7 @@ module _ {D M : Type 0} (past_of : D → DevicePast) (old : Parts D M) (core_the
         stands = λ run handed s k is. (
           handed,
           omega arith,
-          stands_with past_of run handed handed s k old new is others (keeps run handed is.writer) (is.rest ∙ sym now) stays,
+          stands_with past_of run handed handed s k old new is others (keeps run handed is.writer) (is.rest ∙ sym now) size,
         );
         images = images;
         grows = omega (arith, horizon);

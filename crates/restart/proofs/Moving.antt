@@ -1,7 +1,6 @@
 -- What the writer's calls leave of an engine.
-use Rattle.std.proofs.Common.{◌≡◌, ◌⊎◌, ⊎_elim, inl, false, true, ℕ, ◌+◌, ◌/◌, ◌≤◌, ◌<◌, List, Option, None, Some, [], ◌∷◌, ◌++◌, refl, sym, ◌∙◌, ap, subst}
+use Rattle.std.proofs.Common.{◌≡◌, false, ℕ, ◌/◌, ◌≤◌, List, Option, None, Some, IfSome, [], ◌∷◌, ◌++◌, sym, ◌∙◌, ap, subst}
 use Rattle.std.proofs.Common.{arith, append-nil}
-use Rattle.std.proofs.lemmas.Bool.{cases_lt, false≢true}
 use Rattle.record_values.specs.GeometryValue.{GeometryValue}
 use Rattle.records.specs.RecordValue.{RecordValue}
 use Rattle.core_model.specs.States.{State}
@@ -14,21 +13,16 @@ use Rattle.sector_device.specs.Disk.{CrashState}
 use Rattle.sector_device.specs.DevicePast.{DevicePast, LeavesOnly}
 use Rattle.sector_device.proofs.Moments.{joined, weaker}
 use Rattle.store_writer.specs.Contents.{LeftBy}
-use Rattle.store_writer.specs.Copying.{IsCopying}
 use Rattle.store_writer.specs.Parts as writer
 use Rattle.store_writer.specs.Writer.{IsWriter}
 use Rattle.restart.specs.declared.event.Event.{Event}
 use Rattle.restart.specs.declared.event.Reply.{Reply}
-use Rattle.restart.specs.declared.parts.Parts.{Parts}
+use Rattle.restart.specs.declared.parts.EngineParts.{EngineParts}
 use Rattle.restart.specs.History.{IsOfKind, acknowledged, answered, asked, both, core_calls}
-use Rattle.store_writer.specs.Image.{BecomesImage}
+use Rattle.flip_image.specs.Layout.{other}
+use Rattle.store_writer.specs.Image.{IsUnderway}
 use Rattle.store_writer.specs.Parts.{image_of}
-use Rattle.store_writer.specs.Places.{IsAtPlace}
-use Rattle.store_writer.specs.declared.copying.Copying.{Copying}
-use Rattle.store_writer.specs.declared.copying.Copying.TheVariants.{GivenUp, Idle, Steps}
 use Rattle.store_writer.specs.declared.image.NewImage.{NewImage}
-use Rattle.store_image_model.specs.declared.chunk.CopyPlace.{CopyPlace}
-use Rattle.restart.specs.Copies.{IsHalfOpen}
 use Rattle.restart.specs.Handing.{MovesOn}
 use Rattle.restart.specs.Parts.{core_of, device_of, has_failed, horizon_of, unhanded, writer_of}
 use Rattle.restart.specs.Store.{CanRun, IsAt, StandsAt, Survives, ServesOn, acknowledged_by, and_then, over, run_of}
@@ -72,25 +66,13 @@ lower run n m handed image le left = record {
   gives = left.gives;
 }
 
--- the copying goes on where it did
-pub record StaysAtPlace {D M : Type 0} (old new : Parts D M) : Type 0 where
-  pub geometry : new.geometry ≡ old.geometry
-  pub place : (has_failed old ≡ false → IsCopying old.geometry.pages old.copying (image_of (writer_of old))) → has_failed new ≡ false
-      → IsCopying old.geometry.pages new.copying (image_of (writer_of new))
-  pub carried : (has_failed old ≡ false → IsHalfOpen old.geometry.slots (image_of (writer_of old))) → has_failed new ≡ false
-      → IsHalfOpen old.geometry.slots (image_of (writer_of new))
-
--- no image has no log
-pub none_open : (slots : ℕ) (image : Option NewImage) → image ≡ None → IsHalfOpen slots image
-none_open slots image none i there = absurd cc
-
 module _ {D M : Type 0} (past_of : D → DevicePast) where
   -- the writer has gone on, and holds more of the records
-  pub stands_with : (run : Run) (handed later : ℕ) (s : State) (k : Standing) (old new : Parts D M) → StandsAt past_of run handed s k old
+  pub stands_with : (run : Run) (handed later : ℕ) (s : State) (k : Standing) (old new : EngineParts D M) → StandsAt past_of run handed s k old
       → core_of new ≡ record (core_of old) { outbox = (core_of new).outbox }
-      → IsWriter past_of run later (writer_of new) → records_between run later (end_of run) ≡ unhanded new → StaysAtPlace old new
+      → IsWriter past_of run later (writer_of new) → records_between run later (end_of run) ≡ unhanded new → new.geometry ≡ old.geometry
       → StandsAt past_of run later s k new
-  stands_with run handed later s k old new is others w rest stays = record {
+  stands_with run handed later s k old new is others w rest size = record {
     writer = w;
     rest = rest;
     shown = subst (λ (v : CoreValue). IsState v s k) (sym others) (same_state (core_of old) (core_of new).outbox s k is.shown);
@@ -99,25 +81,20 @@ module _ {D M : Type 0} (past_of : D → DevicePast) where
     places = is.places;
     made = is.made;
     lists = is.lists;
-    geometry = stays.geometry ∙ is.geometry;
-    copying = subst (λ (x : GeometryValue). has_failed new ≡ false → IsCopying x.pages new.copying (image_of (writer_of new))) is.geometry
-        (stays.place (subst (λ (x : GeometryValue). has_failed old ≡ false
-        → IsCopying x.pages old.copying (image_of (writer_of old))) (sym is.geometry) is.copying));
-    carried = subst (λ (x : GeometryValue). has_failed new ≡ false → IsHalfOpen x.slots (image_of (writer_of new))) is.geometry
-        (stays.carried (subst (λ (x : GeometryValue). has_failed old ≡ false → IsHalfOpen x.slots (image_of (writer_of old))) (sym is.geometry) is.carried));
+    geometry = size ∙ is.geometry;
   }
 
   -- a call of the writer that takes no record
-  pub moves_by : (old new : Parts D M) → core_of new ≡ core_of old → unhanded new ≡ unhanded old
+  pub moves_by : (old new : EngineParts D M) → core_of new ≡ core_of old → unhanded new ≡ unhanded old
       → ((run : Run) (handed : ℕ) → IsWriter past_of run handed (writer_of old) → IsWriter past_of run handed (writer_of new))
       → ((run : Run) (handed : ℕ) → IsWriter past_of run handed (writer_of old)
       → LeavesOnly (past_of (device_of old)) (past_of (device_of new)) (LeftBy run (horizon_of old) handed))
-      → horizon_of old ≤ horizon_of new → StaysAtPlace old new → MovesOn past_of old new
-  moves_by old new same rest keeps images grows stays = record {
+      → horizon_of old ≤ horizon_of new → new.geometry ≡ old.geometry → MovesOn past_of old new
+  moves_by old new same rest keeps images grows size = record {
     stands = λ run handed s k is. (
       handed,
       omega arith,
-      stands_with run handed handed s k old new is others (keeps run handed is.writer) (is.rest ∙ sym rest) stays,
+      stands_with run handed handed s k old new is others (keeps run handed is.writer) (is.rest ∙ sym rest) size,
     );
     images = λ run handed s k is. weaker (past_of (device_of old)) (past_of (device_of new)) (LeftBy run (horizon_of old) handed) (λ (image : CrashState).
         (later : ℕ) × (later ≤ end_of run) × LeftBy run (horizon_of old) later image)
@@ -130,16 +107,16 @@ module _ {D M : Type 0} (past_of : D → DevicePast) where
       others = same ∙ ap (λ (o : List RecordValue). record (core_of old) { outbox = o }) (ap (λ (v : CoreValue). v.outbox) (sym same))
 
   -- a call of the writer that takes no record, of whatever the state of the core allows
-  pub moves_at : (old new : Parts D M) → core_of new ≡ core_of old → unhanded new ≡ unhanded old
+  pub moves_at : (old new : EngineParts D M) → core_of new ≡ core_of old → unhanded new ≡ unhanded old
       → ((run : Run) (handed : ℕ) (s : State) (k : Standing) → StandsAt past_of run handed s k old → IsWriter past_of run handed (writer_of new))
       → ((run : Run) (handed : ℕ) → IsWriter past_of run handed (writer_of old)
       → LeavesOnly (past_of (device_of old)) (past_of (device_of new)) (LeftBy run (horizon_of old) handed))
-      → horizon_of old ≤ horizon_of new → StaysAtPlace old new → MovesOn past_of old new
-  moves_at old new same rest keeps images grows stays = record {
+      → horizon_of old ≤ horizon_of new → new.geometry ≡ old.geometry → MovesOn past_of old new
+  moves_at old new same rest keeps images grows size = record {
     stands = λ run handed s k is. (
       handed,
       omega arith,
-      stands_with run handed handed s k old new is others (keeps run handed s k is) (is.rest ∙ sym rest) stays,
+      stands_with run handed handed s k old new is others (keeps run handed s k is) (is.rest ∙ sym rest) size,
     );
     images = λ run handed s k is. weaker (past_of (device_of old)) (past_of (device_of new)) (LeftBy run (horizon_of old) handed) (λ (image : CrashState).
         (later : ℕ) × (later ≤ end_of run) × LeftBy run (horizon_of old) later image)
@@ -152,7 +129,7 @@ module _ {D M : Type 0} (past_of : D → DevicePast) where
       others = same ∙ ap (λ (o : List RecordValue). record (core_of old) { outbox = o }) (ap (λ (v : CoreValue). v.outbox) (sym same))
 
   -- one after another
-  pub moves_then : (old mid new : Parts D M) → MovesOn past_of old mid → MovesOn past_of mid new → MovesOn past_of old new
+  pub moves_then : (old mid new : EngineParts D M) → MovesOn past_of old mid → MovesOn past_of mid new → MovesOn past_of old new
   moves_then old mid new first second = record {
     stands = λ run handed s k is.
         let a = first.stands run handed s k is in
@@ -169,11 +146,11 @@ module _ {D M : Type 0} (past_of : D → DevicePast) where
     core = second.core ∙ ap (λ (v : CoreValue). record v { outbox = (core_of new).outbox }) first.core;
   }
 
-  pub can_run_on : (old new : Parts D M) → MovesOn past_of old new → CanRun past_of old → CanRun past_of new
+  pub can_run_on : (old new : EngineParts D M) → MovesOn past_of old new → CanRun past_of old → CanRun past_of new
   can_run_on old new moves can = let a = moves.stands can.0 can.1 can.2 can.3 can.4 in (can.0, a.0, can.2, can.3, a.2)
 
   -- a request that asks the core for nothing
-  pub serves_by : (old new : Parts D M) (x : Event) (r : Reply M) → MovesOn past_of old new → asked x ≡ None → IsOfKind x r
+  pub serves_by : (old new : EngineParts D M) (x : Event) (r : Reply M) → MovesOn past_of old new → asked x ≡ None → IsOfKind x r
       → ((n : ℕ) → n ≤ horizon_of new → acknowledged n (r ∷ []) ≤ horizon_of new) → ServesOn past_of x r old new
   serves_by old new x r moves none kind safe past is = (at, leaves, moves.grows)
     where
@@ -195,107 +172,17 @@ module _ {D M : Type 0} (past_of : D → DevicePast) where
           (horizon_of old) is.stands.writer.opened left.1 c left.2)
           (moves.images (run_of past is.made) is.handed is.state is.standing is.stands)
 
--- ---- where the copying goes on
-
--- a flush carries a group only where there is room in half the slots
-still_open : (slots synced count : ℕ) (old new : Option NewImage) → BecomesImage slots synced count old new → (all : ℕ) → slots ≡ all → IsHalfOpen all old
-    → IsHalfOpen all new
-still_open slots synced count None new becomes all same was i there = none_open all new (becomes.none refl) i there
-still_open slots synced count (Some old) new becomes all same was i there = ⊎_elim
-    (λ above. ⊎_elim
-    (λ room.
-    let carried = becomes.carried old refl above room in
-    let is : carried.0 ≡ i = cc (carried.1, there) in
-    let slots_are : i.log.open_slots ≡ old.log.open_slots + 1 = ap (λ (x : NewImage). x.log.open_slots) (sym is) ∙ carried.5 in
-    omega (arith, slots_are, half_of room))
-    (λ full. absurd (gone (becomes.given-up old refl above full)))
-    (cases_lt old.log.open_slots (slots / 2)))
-    (λ below. was i (sym (becomes.stays old refl below) ∙ there))
-    (cases_lt old.base (synced + count))
-  where
-    gone : new ≡ None → ⊥
-    gone none = cc (none, there)
-
-    half_of : old.log.open_slots < slots / 2 → old.log.open_slots < all / 2
-    half_of less = subst (λ n. old.log.open_slots < n / 2) same less
-
--- what the type keeps of an image's log
-pub open_now : {D M : Type 0} (past_of : D → DevicePast) (engine : Parts D M) → CanRun past_of engine → has_failed engine ≡ false
-    → IsHalfOpen engine.geometry.slots (image_of (writer_of engine))
-open_now past_of engine can sound = subst (λ (x : GeometryValue). IsHalfOpen x.slots (image_of (writer_of engine))) (sym can.4.geometry) (can.4.carried sound)
+-- the log of an image under way has groups in half its slots at most
+pub open_now : {D M : Type 0} (past_of : D → DevicePast) (engine : EngineParts D M) → CanRun past_of engine → has_failed engine ≡ false
+    → (i : NewImage) → image_of (writer_of engine) ≡ Some i → i.log.open_slots ≤ engine.geometry.slots / 2
+open_now past_of engine can sound i there =
+    let w = writer_of engine in
+    let under : IsUnderway can.0 (other w.halves.current) (past_of w.device).disk.content w.synced i =
+    subst (λ (t : Option NewImage). IfSome t (IsUnderway can.0 (other w.halves.current) (past_of w.device).disk.content w.synced)) there
+    (can.4.writer.holds sound).image in
+    subst (λ (x : GeometryValue). i.log.open_slots ≤ x.slots / 2) (sym can.4.geometry) under.half-open
 
 -- so many slots as the engine's geometry has
-pub slots_are : {D M : Type 0} (past_of : D → DevicePast) (engine : Parts D M) → CanRun past_of engine
+pub slots_are : {D M : Type 0} (past_of : D → DevicePast) (engine : EngineParts D M) → CanRun past_of engine
     → (writer.halves_of (writer_of engine)).geometry.slots ≡ engine.geometry.slots
 slots_are past_of engine can = ap (λ (x : GeometryValue). x.slots) (can.4.writer.geometry-is ∙ sym can.4.geometry)
-
-module _ {D M : Type 0} (mid new : Parts D M) (size : new.geometry ≡ mid.geometry) (copying : new.copying ≡ mid.copying) where
-  same_open : writer_of new ≡ writer_of mid → (has_failed mid ≡ false → IsHalfOpen mid.geometry.slots (image_of (writer_of mid))) → has_failed new ≡ false
-      → IsHalfOpen mid.geometry.slots (image_of (writer_of new))
-  same_open same was sound i there = was (sym (ap (λ w. writer.has_failed w) same) ∙ sound) i (sym (ap (λ w. image_of w) same) ∙ there)
-
-  -- the writer is as it was
-  pub stays_same : writer_of new ≡ writer_of mid → StaysAtPlace mid new
-  stays_same same = record {
-    geometry = size;
-    place = λ was sound. subst (λ c. IsCopying mid.geometry.pages c (image_of (writer_of new))) (sym copying)
-        (subst (λ w. IsCopying mid.geometry.pages mid.copying (image_of w)) (sym same) (was (sym (ap (λ w. writer.has_failed w) same) ∙ sound)));
-    carried = same_open same;
-  }
-
-  -- it has failed
-  pub stays_failed : has_failed new ≡ true → StaysAtPlace mid new
-  stays_failed failed = record {
-    geometry = size;
-    place = λ was sound. absurd (false≢true (sym sound ∙ failed));
-    carried = λ was sound.
-        absurd (false≢true (sym sound ∙ failed));
-  }
-
-  -- a group was flushed
-  pub stays_flushed : (slots synced count : ℕ) → slots ≡ mid.geometry.slots → has_failed mid ≡ false
-      → BecomesImage slots synced count (image_of (writer_of mid)) (image_of (writer_of new))
-      → ((pages slots synced count : ℕ) (place : Option CopyPlace) (old new : Option NewImage) → BecomesImage slots synced count old new
-      → IsAtPlace pages place old → (new ≡ None) ⊎ IsAtPlace pages place new) → StaysAtPlace mid new
-  stays_flushed slots synced count size_is sound becomes kept = record {
-    geometry = size;
-    place = λ was _. subst (λ c. IsCopying mid.geometry.pages c (image_of (writer_of new))) (sym copying) (by mid.copying (was sound));
-    carried = λ was _. still_open slots synced count (image_of (writer_of mid)) (image_of (writer_of new)) becomes mid.geometry.slots size_is (was sound);
-  }
-    where
-      by : (c : Copying) → IsCopying mid.geometry.pages c (image_of (writer_of mid)) → IsCopying mid.geometry.pages c (image_of (writer_of new))
-      by Idle is = tt
-      by (Steps place) is = ⊎_elim (λ none. inl (becomes.none none)) (λ there.
-          kept mid.geometry.pages slots synced count place (image_of (writer_of mid)) (image_of (writer_of new)) becomes there) is
-      by GivenUp is = tt
-
--- where none is under way, or all are given up, nothing is asked of its place
-module _ {D M : Type 0} (mid new : Parts D M) (size : new.geometry ≡ mid.geometry)
-    (carried : (has_failed mid ≡ false → IsHalfOpen mid.geometry.slots (image_of (writer_of mid))) → has_failed new ≡ false
-    → IsHalfOpen mid.geometry.slots (image_of (writer_of new))) where
-  given_up_by : new.copying ≡ GivenUp → StaysAtPlace mid new
-  given_up_by given = record {
-    geometry = size;
-    place = λ was sound. subst (λ c. IsCopying mid.geometry.pages c (image_of (writer_of new))) (sym given) tt;
-    carried = carried;
-  }
-
-  idle_by : new.copying ≡ Idle → StaysAtPlace mid new
-  idle_by idle = record {
-    geometry = size;
-    place = λ was sound. subst (λ c. IsCopying mid.geometry.pages c (image_of (writer_of new))) (sym idle) tt;
-    carried = carried;
-  }
-
-module _ {D M : Type 0} (mid new : Parts D M) (size : new.geometry ≡ mid.geometry) where
-  pub stays_given_up : new.copying ≡ GivenUp → writer_of new ≡ writer_of mid → StaysAtPlace mid new
-  stays_given_up given same = given_up_by mid new size (λ was sound i there.
-      was (sym (ap (λ w. writer.has_failed w) same) ∙ sound) i (sym (ap (λ w. image_of w) same) ∙ there)) given
-
-  -- a whole image was begun
-  pub stays_begun : new.copying ≡ GivenUp → (image : NewImage) → image_of (writer_of new) ≡ Some image → image.log.open_slots ≡ 0 → StaysAtPlace mid new
-  stays_begun given image image_is empty = given_up_by mid new size (λ was sound i there. let same : image ≡ i = cc (image_is, there) in
-      omega (arith, ap (λ (x : NewImage). x.log.open_slots) (sym same) ∙ empty)) given
-
-  pub stays_idle : new.copying ≡ Idle → image_of (writer_of new) ≡ None → StaysAtPlace mid new
-  stays_idle idle none = idle_by mid new size (λ was sound. none_open mid.geometry.slots (image_of (writer_of new)) none) idle

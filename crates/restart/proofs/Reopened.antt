@@ -1,13 +1,11 @@
 -- Where the engine that a restart makes begins.
-use Rattle.std.proofs.Common.{◌≡◌, ◌⊎◌, ℕ, ◌<◌, List, [], ◌++◌, Option, None, false, inl, refl, sym, ◌∙◌, ap, subst, arith, ⊎_elim}
+use Rattle.std.proofs.Common.{◌≡◌, ℕ, List, [], ◌++◌, Option, None, false, inl, refl, sym, ◌∙◌, ap, subst, arith}
 use Rattle.std.proofs.lemmas.List.{nil_from_length}
 use Rattle.std.specs.FinMap as map
 use Rattle.std.specs.Ordering.{nat_cmp}
 use Rattle.records.specs.ChangeValue.{ChangeValue}
 use Rattle.record_values.specs.GeometryValue.{GeometryValue}
 use Rattle.records.specs.RecordValue.{RecordValue}
-use Rattle.record_values.specs.declared.error.Error.{Error}
-use Rattle.record_values.specs.declared.error.Error.TheVariants.{IndexFull, NoMemory}
 use Rattle.model.specs.Cells.{Cells}
 use Rattle.model.specs.Given.{Given, IsBeginning, opening_cells}
 use Rattle.core_model.specs.Histories.{CanOpen, Opened, opened}
@@ -22,23 +20,21 @@ use Rattle.core_loader.specs.Loaded.{holding}
 use Rattle.sector_device.specs.Disk.{Disk, CrashState, IsCrashState, IsSynced}
 use Rattle.sector_device.specs.DevicePast.{DevicePast, LeavesOnly}
 use Rattle.sector_device.proofs.Moments.{weaker}
-use Rattle.gate_log.specs.Area.{Log, Refuses}
+use Rattle.gate_log.specs.Area.{Log}
 use Rattle.flip_image.specs.Layout.{HalvesValue}
 use Rattle.store_image_model.specs.Run.{end_of, records_between}
 use Rattle.store_opener.specs.Reopening.{ReopeningLeaves}
 use Rattle.store_reader.specs.Contents.{Gives, GivesIn}
 use Rattle.record_values.specs.declared.version.Version.TheVariants.{One, Two}
 use Rattle.store_reader.proofs.Readings.{one_geometry, one_given}
-use Rattle.store_writer.specs.Copying.{IsCopying}
 use Rattle.store_writer.specs.Parts as writer
 use Rattle.store_writer.specs.Writer.{IsOpenedAt, IsWriter, opened_run}
 use Rattle.store_writer.specs.declared.copying.Copying.TheVariants.{Idle}
-use Rattle.restart.specs.declared.parts.Parts.{Parts}
+use Rattle.restart.specs.declared.parts.EngineParts.{EngineParts}
 use Rattle.restart.specs.Building.{HasCome}
 use Rattle.restart.specs.Parts.{core_of, device_of, horizon_of, writer_of}
 use Rattle.restart.specs.Reopening.{IsCoreOf, IsOpened, IsTurned, Recovers, opening}
 use Rattle.restart.specs.Migrating.{IsMigrated}
-use Rattle.restart.proofs.Moving.{none_open}
 use Rattle.restart.proofs.Numbers.{count_to_end}
 use Rattle.restart.specs.Store.{CanRun, IsAt, Past, StandsAt, Survives, items_told, over, run_of}
 
@@ -53,11 +49,11 @@ begins_with pages places given = record {
 
 -- ---- the engine
 
-module _ {D M : Type 0} (past_of : D → DevicePast) (before : CrashState) (engine : Parts D M) (halves : HalvesValue) (log : Log)
+module _ {D M : Type 0} (past_of : D → DevicePast) (before : CrashState) (engine : EngineParts D M) (halves : HalvesValue) (log : Log)
     (is : IsCoreOf before (past_of (device_of engine)) halves log (core_of engine))
     (half : (pages base : ℕ) (cells : Cells) (s : State) → HasCells s cells → IsLogOf pages base cells [] s)
     (lists : (o : Opened) → HasLists (opened o) (opening_cells o.given))
-    (size : engine.geometry ≡ halves.geometry) (idle : engine.copying ≡ Idle) (no_image : writer.image_of (writer_of engine) ≡ None)
+    (size : engine.geometry ≡ halves.geometry) (idle : engine.writer.copying ≡ Idle) (no_image : writer.image_of (writer_of engine) ≡ None)
     (takes : (cells : Cells) → IsOpenedAt (past_of (device_of engine)) halves log is.given.last cells
     → IsWriter past_of (opened_run halves is.given.last cells) is.given.last (writer_of engine))
     (none : engine.outgoing.items ≡ []) (reached : horizon_of engine ≡ is.given.last) (sound : writer.has_failed (writer_of engine) ≡ false) where
@@ -79,8 +75,6 @@ module _ {D M : Type 0} (past_of : D → DevicePast) (before : CrashState) (engi
     made = omega arith;
     lists = lists (over g is.given);
     geometry = size;
-    copying = λ _. subst (λ c. IsCopying g.pages c (writer.image_of (writer_of engine))) (sym idle) tt;
-    carried = λ _. none_open g.slots (writer.image_of (writer_of engine)) no_image;
   }
 
   pub can_run_opened : CanRun past_of engine
@@ -139,10 +133,10 @@ module _ {D M : Type 0} (past_of : D → DevicePast) (before : CrashState) (engi
 
 -- ---- what is made of what was opened
 
-module _ {D M : Type 0} (past_of : D → DevicePast) (before after : D) (engine : Parts D M) (halves : HalvesValue) (log : Log)
+module _ {D M : Type 0} (past_of : D → DevicePast) (before after : D) (engine : EngineParts D M) (halves : HalvesValue) (log : Log)
     (found : IsCoreOf (past_of before).disk.content (past_of after) halves log (core_of engine)) (device : device_of engine ≡ after)
     (half : (pages base : ℕ) (cells : Cells) (s : State) → HasCells s cells → IsLogOf pages base cells [] s) (lists : (o : Opened)
-    → HasLists (opened o) (opening_cells o.given)) (size : engine.geometry ≡ halves.geometry) (idle : engine.copying ≡ Idle)
+    → HasLists (opened o) (opening_cells o.given)) (size : engine.geometry ≡ halves.geometry) (idle : engine.writer.copying ≡ Idle)
     (no_image : writer.image_of (writer_of engine) ≡ None)
     (synced : ℕ) (synced_is : synced ≡ (core_of engine).last) (writes : (cells : Cells) → IsOpenedAt (past_of after) halves log synced cells
     → IsWriter past_of (opened_run halves synced cells) synced (writer_of engine))
@@ -204,10 +198,10 @@ still past_of d = record {
   now = inl refl;
 }
 
-module _ {D M : Type 0} (past_of : D → DevicePast) (new : D) (engine : Parts D M) (halves : HalvesValue) (log : Log)
+module _ {D M : Type 0} (past_of : D → DevicePast) (new : D) (engine : EngineParts D M) (halves : HalvesValue) (log : Log)
     (found : IsCoreOf (past_of new).disk.content (past_of new) halves log (core_of engine)) (device : device_of engine ≡ new)
     (half : (pages base : ℕ) (cells : Cells) (s : State) → HasCells s cells → IsLogOf pages base cells [] s) (lists : (o : Opened)
-    → HasLists (opened o) (opening_cells o.given)) (size : engine.geometry ≡ halves.geometry) (idle : engine.copying ≡ Idle)
+    → HasLists (opened o) (opening_cells o.given)) (size : engine.geometry ≡ halves.geometry) (idle : engine.writer.copying ≡ Idle)
     (no_image : writer.image_of (writer_of engine) ≡ None)
     (synced : ℕ) (synced_is : synced ≡ (core_of engine).last) (writes : (cells : Cells) → IsOpenedAt (past_of new) halves log synced cells
     → IsWriter past_of (opened_run halves synced cells) synced (writer_of engine))

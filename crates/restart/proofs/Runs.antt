@@ -7,7 +7,7 @@ use Rattle.sector_device.specs.DevicePast.{DevicePast, LeavesOnly, Spans}
 use Rattle.sector_device.proofs.Moments.{spans_kept, spans_push}
 use Rattle.restart.specs.declared.event.Event.{Event}
 use Rattle.restart.specs.declared.event.Reply.{Reply}
-use Rattle.restart.specs.declared.parts.Parts.{Parts}
+use Rattle.restart.specs.declared.parts.EngineParts.{EngineParts}
 use Rattle.restart.specs.Lawful.{IsLawful, AreLawful}
 use Rattle.restart.specs.Parts.{device_of, horizon_of}
 use Rattle.restart.specs.Store.{Past, acknowledged_by, and_then, Survives, IsAt, ServesOn, SurvivesAt, GoesOn, AreServed}
@@ -69,7 +69,7 @@ survives_last past horizon es rs event reply j c even last was =
     (subst (λ (p : Past _). Survives p (max horizon (acknowledged_by (and_then past es rs))) c) (and_then_both past es (event ∷ []) rs (reply ∷ [])) was)))
 
 module _ {D M : Type 0} (past_of : D → DevicePast) (past : Past M) where
-  pub goes_nowhere : (old : Parts D M) → IsAt past_of past old → GoesOn past_of past [] [] old old
+  pub goes_nowhere : (old : EngineParts D M) → IsAt past_of past old → GoesOn past_of past [] [] old old
   goes_nowhere old is = record {
     at = subst (λ (p : Past _). IsAt past_of p old) (sym (and_then_none past)) is;
     kept = λ t le. refl;
@@ -79,7 +79,7 @@ module _ {D M : Type 0} (past_of : D → DevicePast) (past : Past M) where
     grows = omega arith;
   }
 
-  pub goes_further : (es : List Event) (rs : List (Reply M)) (old mid new : Parts D M) (event : Event) (reply : Reply M) → length rs ≡ length es
+  pub goes_further : (es : List Event) (rs : List (Reply M)) (old mid new : EngineParts D M) (event : Event) (reply : Reply M) → length rs ≡ length es
       → GoesOn past_of past es rs old mid → ServesOn past_of event reply mid new → GoesOn past_of past (es ++ event ∷ []) (rs ++ reply ∷ []) old new
   goes_further es rs old mid new event reply even ran serves = record {
     at = subst (λ (p : Past _). IsAt past_of p new) (and_then_both past es (event ∷ []) rs (reply ∷ [])) served.0;
@@ -114,7 +114,7 @@ module _ {D M : Type 0} (past_of : D → DevicePast) (past : Past M) where
           (Survives (and_then (and_then past es rs) (event ∷ []) (reply ∷ [])) (horizon_of mid)) × (horizon_of mid ≤ horizon_of new)
       served = serves (and_then past es rs) ran.at
 
-pub lawful_last : {D M : Type 0} (failures : D → ℕ) (es : List Event) (rs : List (Reply M)) (event : Event) (reply : Reply M) (old mid new : Parts D M)
+pub lawful_last : {D M : Type 0} (failures : D → ℕ) (es : List Event) (rs : List (Reply M)) (event : Event) (reply : Reply M) (old mid new : EngineParts D M)
     → AreLawful failures es rs old mid → IsLawful failures event reply mid new → AreLawful failures (es ++ event ∷ []) (rs ++ reply ∷ []) old new
 lawful_last failures [] [] event reply old mid new so_far lawful = (new, subst (λ e. IsLawful failures event reply e new) so_far lawful, refl)
 lawful_last failures [] (r ∷ rs) event reply old mid new so_far lawful = absurd so_far
@@ -123,7 +123,7 @@ lawful_last failures (e ∷ es) (r ∷ rs) event reply old mid new so_far lawful
     (so_far.0, so_far.1, lawful_last failures es rs event reply so_far.0 mid new so_far.2 lawful)
 
 pub served_last : {D M : Type 0} (past_of : D → DevicePast) (failures : D
-    → ℕ) (past : Past M) (es : List Event) (rs : List (Reply M)) (event : Event) (reply : Reply M) (old mid new : Parts D M) → IsAt past_of past old
+    → ℕ) (past : Past M) (es : List Event) (rs : List (Reply M)) (event : Event) (reply : Reply M) (old mid new : EngineParts D M) → IsAt past_of past old
     → AreServed past_of failures past es rs old mid → IsLawful failures event reply mid new → ServesOn past_of event reply mid new
     → AreServed past_of failures past (es ++ event ∷ []) (rs ++ reply ∷ []) old new
 served_last past_of failures past [] [] event reply old mid new at so_far lawful serves =

@@ -12,7 +12,7 @@ use Rattle.store_writer.specs.Parts.{device_of}
 use Rattle.restart.specs.declared.event.Event.{Event}
 use Rattle.restart.specs.declared.event.Event.TheVariants as event
 use Rattle.restart.specs.declared.event.Reply.{Reply}
-use Rattle.restart.specs.declared.parts.Parts.{Parts}
+use Rattle.restart.specs.declared.parts.EngineParts.{EngineParts}
 use Rattle.restart.specs.History.{IsOfKind, acknowledged, answered, asked, both, core_calls}
 use Rattle.restart.specs.Lawful.{ServesInCore}
 use Rattle.restart.specs.Parts.{core_of, horizon_of, writer_of}
@@ -44,7 +44,7 @@ of_kind (event.Get rid) r e told p q = λ none. cc
 of_kind (event.Find key) r e told p q = λ none. cc
 of_kind event.Life r e told p q = λ none. cc
 
-module _ {D M : Type 0} (past_of : D → DevicePast) (x : Event) (e : core.Event) (r : Reply M) (old new : Parts D M) (asks : asked x ≡ Some e)
+module _ {D M : Type 0} (past_of : D → DevicePast) (x : Event) (e : core.Event) (r : Reply M) (old new : EngineParts D M) (asks : asked x ≡ Some e)
     (in_core : ServesInCore e r old new) (laws : Laws past_of (writer_of old)) where
   pub can_run_then : CanRun past_of old → CanRun past_of new
   can_run_then can =
@@ -66,7 +66,7 @@ module _ {D M : Type 0} (past_of : D → DevicePast) (x : Event) (e : core.Event
         (core_calls past.events past.replies) is.state is.standing is.served e in_core.reply answer.step answer.allowed)
 
     same_horizon : horizon_of new ≡ horizon_of old
-    same_horizon = ap (λ (e : Parts D M). horizon_of e) in_core.rest
+    same_horizon = ap (λ (e : EngineParts D M). horizon_of e) in_core.rest
 
     pub at_then : IsAt past_of (and_then past (x ∷ []) (r ∷ [])) new
     at_then = at_next past_of past old new x r (of_kind x r e in_core.reply asks in_core.reply_is) is
@@ -77,7 +77,7 @@ module _ {D M : Type 0} (past_of : D → DevicePast) (x : Event) (e : core.Event
     pub leaves_then : LeavesOnly (past_of (device_of (writer_of old))) (past_of (device_of (writer_of new)))
         (Survives (and_then past (x ∷ []) (r ∷ [])) (horizon_of old))
     leaves_then = subst (λ w. LeavesOnly (past_of (device_of w)) (past_of (device_of (writer_of new)))
-        (Survives (and_then past (x ∷ []) (r ∷ [])) (horizon_of old))) (ap (λ (e : Parts D M). writer_of e) in_core.rest)
+        (Survives (and_then past (x ∷ []) (r ∷ [])) (horizon_of old))) (ap (λ (e : EngineParts D M). writer_of e) in_core.rest)
         (started (past_of (device_of (writer_of new))) (Survives (and_then past (x ∷ []) (r ∷ [])) (horizon_of old))
         (λ image crash. crash_since past_of (and_then past (x ∷ []) (r ∷ [])) new at_then (horizon_of old) (omega (arith, same_horizon)) image crash))
 

@@ -2,7 +2,7 @@
 use Rattle.std.proofs.Common.{None, Option, Some, refl, subst, sym, ℕ, [], ◌∷◌, ◌≡◌, ◌≢◌}
 use Rattle.core_model.specs.Events as core
 use Rattle.sector_device.specs.DevicePast.{DevicePast}
-use Rattle.restart.specs.declared.parts.Parts.{Parts}
+use Rattle.restart.specs.declared.parts.EngineParts.{EngineParts}
 use Rattle.restart.specs.declared.event.Event.{Event}
 use Rattle.restart.specs.declared.event.Event.TheVariants as event
 use Rattle.restart.specs.declared.event.Reply.{Reply}
@@ -36,7 +36,7 @@ quiet (reply.Life life) x is n = refl
 quiet reply.Skipped x is n = refl
 quiet (reply.Refused e) x is n = refl
 
-module _ {D M : Type 0} (failures : D → ℕ) (r : Reply M) (old new : Parts D M) where
+module _ {D M : Type 0} (failures : D → ℕ) (r : Reply M) (old new : EngineParts D M) where
   lawful_in_core : (x : Event) → IsInCore x r old new → IsLawful failures x r old new
   lawful_in_core event.Begin is = is
   lawful_in_core (event.Insert txn key body) is = is
@@ -56,7 +56,8 @@ module _ {D M : Type 0} (failures : D → ℕ) (r : Reply M) (old new : Parts D 
   lawful_in_core (event.Find key) is = is
   lawful_in_core event.Life is = is
 
-module _ {D M : Type 0} (past_of : D → DevicePast) (failures : D → ℕ) (x : Event) (r : Reply M) (old new : Parts D M) (in_core : IsInCore x r old new) where
+module _ {D M : Type 0} (past_of : D → DevicePast) (failures : D
+    → ℕ) (x : Event) (r : Reply M) (old new : EngineParts D M) (in_core : IsInCore x r old new) where
   by_core : (o : Option core.Event) → asked x ≡ o → IsInCoreBy o r old new → (e : core.Event) × (asked x ≡ Some e) × ServesInCore e r old new
   by_core None is given = absurd given
   by_core (Some e) is given = (e, is, given)
@@ -92,7 +93,7 @@ is_flush (event.Find key) none other = absurd cc
 is_flush event.Life none other = absurd cc
 
 -- what is answered to a request, where it is known which one it is
-module _ {D M : Type 0} (x y : Event) (r : Reply M) (old mid new : Parts D M) (is : x ≡ y) (same : mid ≡ old) where
+module _ {D M : Type 0} (x y : Event) (r : Reply M) (old mid new : EngineParts D M) (is : x ≡ y) (same : mid ≡ old) where
   pub serves_as : (past_of : D → DevicePast) → ServesOn past_of y r mid new → ServesOn past_of x r old new
   serves_as past_of serves = subst (λ e. ServesOn past_of e r old new) (sym is) (subst (λ e. ServesOn past_of y r e new) same serves)
 

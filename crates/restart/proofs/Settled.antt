@@ -43,6 +43,7 @@ use Rattle.store_writer.specs.Contents.{HalfHas, LeftBy, StoreHas}
 use Rattle.store_writer.specs.Image.{IsUnderway}
 use Rattle.store_writer.specs.Parts as writer
 use Rattle.store_writer.specs.Writer.{IsWriter, StandsFor}
+use Rattle.store_writer.specs.declared.copying.Copying.TheVariants.{GivenUp, Idle}
 use Rattle.store_writer.specs.declared.image.NewImage.{NewImage}
 use Rattle.store_writer.specs.declared.writer.Writer.{Writer}
 use Rattle.txn_table.specs.Sound.{IsSound}
@@ -50,7 +51,7 @@ use Rattle.txn_table.specs.Table.{state_of}
 use Rattle.restart.specs.declared.event.Event.TheVariants.{Copy}
 use Rattle.restart.specs.declared.event.Reply.{Reply}
 use Rattle.restart.specs.declared.event.Reply.TheVariants as reply
-use Rattle.restart.specs.declared.parts.Parts.{Parts}
+use Rattle.restart.specs.declared.parts.EngineParts.{EngineParts}
 use Rattle.restart.specs.Copies.{CannotFlip, CannotTake, IsCopyAnswer}
 use Rattle.restart.specs.History.{core_calls, standing_over}
 use Rattle.restart.specs.Parts.{core_of, device_of, has_failed, horizon_of, unhanded, unwritten, writer_of}
@@ -62,11 +63,13 @@ use Rattle.restart.proofs.Told.{pairs_last}
 
 -- ---- an image under way is given up
 
-module _ {D M : Type 0} (past_of : D → DevicePast) (engine : Parts D M) where
+module _ {D M : Type 0} (past_of : D → DevicePast) (engine : EngineParts D M)
+    (gives : (run : Run) (handed : ℕ) → IsWriter past_of run handed (writer_of engine)
+    → IsWriter past_of run handed (writer.without_image GivenUp (writer_of engine))) where
   stands_giving_up : (run : Run) (handed : ℕ) (s : State) (k : Standing) → StandsAt past_of run handed s k engine
       → StandsAt past_of run handed s k (giving_up engine)
   stands_giving_up run handed s k is = record {
-    writer = is.writer;
+    writer = gives run handed is.writer;
     rest = is.rest;
     shown = is.shown;
     log = is.log;
@@ -75,8 +78,6 @@ module _ {D M : Type 0} (past_of : D → DevicePast) (engine : Parts D M) where
     made = is.made;
     lists = is.lists;
     geometry = is.geometry;
-    copying = λ _. tt;
-    carried = is.carried;
   }
 
   pub can_give_up : CanRun past_of engine → CanRun past_of (giving_up engine)
@@ -96,11 +97,11 @@ module _ {D M : Type 0} (past_of : D → DevicePast) (engine : Parts D M) where
     safe = is.safe;
   }
 
-  pub serves_anew : (r : Reply M) (new : Parts D M) → ServesOn past_of Copy r (giving_up engine) new → ServesOn past_of Copy r engine new
+  pub serves_anew : (r : Reply M) (new : EngineParts D M) → ServesOn past_of Copy r (giving_up engine) new → ServesOn past_of Copy r engine new
   serves_anew r new serves past is = serves past (at_giving_up past is)
 
 -- such a copy takes the whole image, or is refused
-pub whole_or_refused : {D M : Type 0} (failures : D → ℕ) (r : Reply M) (old new : Parts D M) → IsCopyAnswer failures r (giving_up old) new
+pub whole_or_refused : {D M : Type 0} (failures : D → ℕ) (r : Reply M) (old new : EngineParts D M) → IsCopyAnswer failures r (giving_up old) new
     → ((n : ℕ) × (r ≡ reply.Flipped n)) ⊎ ((e : Error) × (r ≡ reply.Refused e))
 whole_or_refused failures (reply.Flipped n) old new is = inl (n, refl)
 whole_or_refused failures (reply.Refused e) old new is = inr (e, refl)
@@ -190,7 +191,7 @@ given_held x = ap (recovered (opening_cells x)) (let more : x.last ≡ x.last + 
 
 -- ---- a core made anew
 
-module _ {D M : Type 0} (past_of : D → DevicePast) (engine : Parts D M) (can : CanRun past_of engine) where
+module _ {D M : Type 0} (past_of : D → DevicePast) (engine : EngineParts D M) (can : CanRun past_of engine) where
   abbrev v : CoreValue
   v = core_of engine
 
@@ -235,7 +236,7 @@ module _ {D M : Type 0} (past_of : D → DevicePast) (engine : Parts D M) (can :
   -- ---- a writer with everything, once a whole image is current
 
   module _ (quiet : IsQuiet v) (all : unwritten engine ≡ []) (sound : has_failed engine ≡ false) (empty : (writer.log_of (writer_of engine)).open_slots ≡ 0)
-      (none : writer.image_of (writer_of engine) ≡ None)
+      (none : writer.image_of (writer_of engine) ≡ None) (idle : writer.copying_of (writer_of engine) ≡ Idle)
       (txns : IsSound v.txns)
       (shown : (v : CoreValue) (s : State) (k : Standing) (cells : Cells) → IsSound v.txns → IsState v s k → HasCells s cells → HasLists s cells
       → IsCellsOf v cells)
@@ -320,6 +321,7 @@ module _ {D M : Type 0} (past_of : D → DevicePast) (engine : Parts D M) (can :
           loose = now.loose;
           image = subst (λ (i : Option NewImage). IfSome i (IsUnderway (begun run.geometry) (other w.halves.current) (past_of w.device).disk.content w.synced))
               (sym none) tt;
+          copying = now.copying;
         }
 
     writes : IsWriter past_of (begun run.geometry) v.last w
@@ -358,10 +360,11 @@ module _ {D M : Type 0} (past_of : D → DevicePast) (engine : Parts D M) (can :
       sound = sound;
       empty = empty;
       idle = none;
+      copying = idle;
     }
 
 -- a copy that was answered so leaves the writer with everything
-pub written_whole : {D M : Type 0} (past_of : D → DevicePast) (failures : D → ℕ) (r : Reply M) (n : ℕ) (old new : Parts D M) → r ≡ reply.Flipped n
+pub written_whole : {D M : Type 0} (past_of : D → DevicePast) (failures : D → ℕ) (r : Reply M) (n : ℕ) (old new : EngineParts D M) → r ≡ reply.Flipped n
     → CopiesAnew past_of failures r old new → CanRun past_of new → IsQuiet (core_of old) → IsSound (core_of old).txns
     → ((v : CoreValue) (s : State) (k : Standing) (cells : Cells) → IsSound v.txns → IsState v s k → HasCells s cells → HasLists s cells → IsCellsOf v cells)
     → ((v : CoreValue) (a b : Cells) → IsCellsOf v a → IsCellsOf v b → a ≡ b)
@@ -374,7 +377,7 @@ written_whole past_of failures r n old new is told can quiet txns shown one =
     record {
       settled = subst (λ (o : Opened). IsSettled past_of o (writer_of new)) (ap opened_of core_is)
           (settled past_of new can (ap (λ (v : CoreValue). v.txns.active) core_is ∙ quiet) (current.all refl) well.sound (current.emptied refl) current.none
-          (subst IsSound (sym (ap (λ (v : CoreValue). v.txns) core_is)) txns) shown one);
+          current.idle (subst IsSound (sym (ap (λ (v : CoreValue). v.txns) core_is)) txns) shown one);
       quiet = well.quiet;
       survives = λ past is. weaker (past_of (device_of old)) (past_of (device_of new)) _ (Survives past (horizon_of old))
           (survives_without past (reply.Flipped n) is.answered (horizon_of old)) (copies.runs past is).1;

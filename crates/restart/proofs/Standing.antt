@@ -1,5 +1,5 @@
 -- Where a step of the core leaves the records and the state that they made.
-use Rattle.std.proofs.Common.{◌≡◌, false, ℕ, ◌+◌, ◌≤◌, List, [], ◌∷◌, ◌++◌, Option, None, Some, length, sym, ◌∙◌, ap, subst, arith, append-nil, append_assoc}
+use Rattle.std.proofs.Common.{◌≡◌, ℕ, ◌+◌, ◌≤◌, List, [], ◌∷◌, ◌++◌, Option, None, Some, length, sym, ◌∙◌, ap, subst, arith, append-nil, append_assoc}
 use Rattle.std.proofs.Common.{length-append}
 use Rattle.std.specs.FinMap.{len}
 use Rattle.records.specs.RecordValue.{RecordValue}
@@ -22,13 +22,10 @@ use Rattle.store_image_model.specs.Run.{IsRun, Run}
 use Rattle.core_parts.specs.View.{Answers}
 use Rattle.nsf_core.proofs.Offered.{stands}
 use Rattle.sector_device.specs.DevicePast.{DevicePast}
-use Rattle.store_writer.specs.Copying.{IsCopying}
 use Rattle.store_writer.specs.Writer.{IsWriter, longer}
 use Rattle.store_writer.specs.declared.writer.Writer.{Writer}
-use Rattle.restart.specs.declared.parts.Parts.{Parts}
-use Rattle.restart.specs.Parts.{core_of, has_failed, unhanded, writer_of}
-use Rattle.store_writer.specs.Parts.{image_of}
-use Rattle.restart.specs.Copies.{IsHalfOpen}
+use Rattle.restart.specs.declared.parts.EngineParts.{EngineParts}
+use Rattle.restart.specs.Parts.{core_of, unhanded, writer_of}
 use Rattle.restart.specs.Store.{StandsAt}
 use Rattle.restart.proofs.Numbers.{with_more}
 use Rattle.restart.proofs.Sizes.{of_one_size}
@@ -57,7 +54,7 @@ count_any : (s : State) (last : ℕ) (step : Option MachineStep) → number_afte
 count_any s last None = omega arith
 count_any s last (Some e) = count_one last (action_of s e)
 
-module _ {D M : Type 0} (past_of : D → DevicePast) (run : Run) (handed : ℕ) (s : State) (k : Standing) (old : Parts D M)
+module _ {D M : Type 0} (past_of : D → DevicePast) (run : Run) (handed : ℕ) (s : State) (k : Standing) (old : EngineParts D M)
     (is : StandsAt past_of run handed s k old)
     (laws : Laws past_of (writer_of old)) where
   log_any : (step : Option MachineStep) → IsEnabledAny s step
@@ -74,7 +71,7 @@ module _ {D M : Type 0} (past_of : D → DevicePast) (run : Run) (handed : ℕ) 
   lists_any (Some e) enabled = subst (HasLists (after s e)) (cells_one run.cells run.records k.made (action_of s e))
       (laws.lists s e (cells_after run.cells run.records) is.shown.fit enabled is.lists)
 
-  module _ (new : Parts D M) (e : core.Event) (reply : core.Reply) (a : Answers (core_of old) s k e reply (core_of new))
+  module _ (new : EngineParts D M) (e : core.Event) (reply : core.Reply) (a : Answers (core_of old) s k e reply (core_of new))
       (rest : new ≡ record old { core = new.core }) where
     move : IsMove s k a.step (standing_after k reply)
     move = is_move s k e reply a.step is.shown.fit is.shown.standing a.allowed
@@ -86,12 +83,12 @@ module _ {D M : Type 0} (past_of : D → DevicePast) (run : Run) (handed : ℕ) 
     log_then = log_any a.step move.enabled
 
     writer_then : IsWriter past_of (longer run more) handed (writer_of new)
-    writer_then = subst (IsWriter past_of (longer run more) handed) (sym (ap (λ (e : Parts D M). writer_of e) rest))
+    writer_then = subst (IsWriter past_of (longer run more) handed) (sym (ap (λ (e : EngineParts D M). writer_of e) rest))
         (laws.goes run handed more is.writer (record { following = log_then.in_order; placed = is.writer.run-is.placed }))
 
     outbox_then : unhanded new ≡ unhanded old ++ more
     outbox_then =
-        ap (λ (e : Parts D M). e.outgoing.items ++ (core_of new).outbox) rest ∙ ap (λ (l : List RecordValue). old.outgoing.items ++ l) a.outbox
+        ap (λ (e : EngineParts D M). e.outgoing.items ++ (core_of new).outbox) rest ∙ ap (λ (l : List RecordValue). old.outgoing.items ++ l) a.outbox
         ∙ sym (append_assoc old.outgoing.items (core_of old).outbox (records_by s k.made a.step))
 
     pub stands_then : StandsAt past_of (longer run (records_by s k.made a.step)) handed (after_any s a.step) (standing_after k reply) new
@@ -102,9 +99,7 @@ module _ {D M : Type 0} (past_of : D → DevicePast) (run : Run) (handed : ℕ) 
       shown = stands (core_of old) (core_of new) s k e reply is.shown a;
       log = log_then;
       lists = lists_any a.step move.enabled;
-      geometry = ap (λ (e : Parts D M). e.geometry) rest ∙ is.geometry;
-      copying = subst (λ (e : Parts D M). has_failed e ≡ false → IsCopying run.geometry.pages e.copying (image_of (writer_of e))) (sym rest) is.copying;
-      carried = subst (λ (e : Parts D M). has_failed e ≡ false → IsHalfOpen run.geometry.slots (image_of (writer_of e))) (sym rest) is.carried;
+      geometry = ap (λ (e : EngineParts D M). e.geometry) rest ∙ is.geometry;
       pages = is.pages ∙ sym (of_one_size s a.step).pages;
       places = is.places ∙ sym (of_one_size s a.step).places;
       made = omega (arith, is.made, move.made, count_any s k.made a.step, length-append run.records (records_by s k.made a.step));

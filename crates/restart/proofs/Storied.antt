@@ -20,7 +20,7 @@ use Rattle.sector_device.proofs.Sectors.{content_is_image, crash_synced}
 use Rattle.gate_log.specs.Area.{Refuses}
 use Rattle.store_opener.specs.Reopening.{ReopeningLeaves, IsWrittenBack}
 use Rattle.store_reader.specs.Contents.{Gives, IsUnreadable}
-use Rattle.restart.specs.declared.parts.Parts.{Parts}
+use Rattle.restart.specs.declared.parts.EngineParts.{EngineParts}
 use Rattle.restart.specs.Building.{HasCome}
 use Rattle.restart.specs.History.{core_calls}
 use Rattle.restart.specs.Parts.{core_of}
@@ -114,7 +114,7 @@ module _ {D : Type 0} (past_of : D → DevicePast) (story : Story) (before : D) 
   refused_well failures after e readable not = ⊎_elim (λ refuses. refuses) (λ unreadable.
       absurd (readable (past_of before).disk.content story.geometry now_gives.given e now_gives.gives unreadable)) not.why
 
-  pub begins_over : {M : Type 0} (engine : Parts D M) → OneAnswer → IsOpened past_of before engine → BeginsOver past_of story engine
+  pub begins_over : {M : Type 0} (engine : EngineParts D M) → OneAnswer → IsOpened past_of before engine → BeginsOver past_of story engine
   begins_over engine one is = record {
     given = now_gives.given;
     left = now_gives.left;
@@ -165,7 +165,7 @@ module _ {M : Type 0} (story : Story) (past : Past M) (floor : ℕ) (image : Cra
 
 -- ---- the core of an engine that a run left
 
-pub come_by : {D M : Type 0} (past_of : D → DevicePast) (past : Past M) (engine : Parts D M) → IsAt past_of past engine → HasCome (core_of engine)
+pub come_by : {D M : Type 0} (past_of : D → DevicePast) (past : Past M) (engine : EngineParts D M) → IsAt past_of past engine → HasCome (core_of engine)
 come_by past_of past engine is = record {
   opening = over past.geometry past.given;
   opens = is.opens;

@@ -18,7 +18,7 @@ use Rattle.store_writer.specs.Contents.{LeftBy}
 use Rattle.store_writer.specs.Parts.{device_of}
 use Rattle.restart.specs.declared.event.Event.{Event}
 use Rattle.restart.specs.declared.event.Reply.{Reply}
-use Rattle.restart.specs.declared.parts.Parts.{Parts}
+use Rattle.restart.specs.declared.parts.EngineParts.{EngineParts}
 use Rattle.restart.specs.History.{IsOfKind, acknowledged, answered, asked, both, core_calls}
 use Rattle.restart.specs.Parts.{horizon_of, writer_of}
 use Rattle.restart.specs.Store.{Past, items_told, acknowledged_by, and_then, last_made, over, run_of, Survives, IsAt, StandsAt}
@@ -74,7 +74,7 @@ module _ {M : Type 0} (past : Past M) (made : List RecordValue) (s : State) (k :
 
 -- ---- one request more
 
-module _ {D M : Type 0} (past_of : D → DevicePast) (past : Past M) (old new : Parts D M) (x : Event) (r : Reply M) (kind : IsOfKind x r)
+module _ {D M : Type 0} (past_of : D → DevicePast) (past : Past M) (old new : EngineParts D M) (x : Event) (r : Reply M) (kind : IsOfKind x r)
     (is : IsAt past_of past old) where
   abbrev later : Past M
   later = and_then past (x ∷ []) (r ∷ [])
@@ -110,7 +110,7 @@ module _ {D M : Type 0} (past_of : D → DevicePast) (past : Past M) (old new : 
 -- ---- at any time
 
 -- what a crash leaves of an engine as it is, with all up to what is safe
-pub crash_since : {D M : Type 0} (past_of : D → DevicePast) (past : Past M) (engine : Parts D M) → IsAt past_of past engine → (floor : ℕ)
+pub crash_since : {D M : Type 0} (past_of : D → DevicePast) (past : Past M) (engine : EngineParts D M) → IsAt past_of past engine → (floor : ℕ)
     → floor ≤ horizon_of engine → (image : CrashState) → IsCrashState (past_of (device_of (writer_of engine))).disk image
     → Survives past floor image
 crash_since past_of past engine is floor safe image crash =

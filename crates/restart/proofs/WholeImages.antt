@@ -7,11 +7,11 @@ use Rattle.restart.specs.declared.event.Event.TheVariants.{Copy}
 use Rattle.restart.specs.declared.event.Reply.{Reply}
 use Rattle.restart.specs.declared.event.Reply.TheVariants as reply
 use Rattle.restart.specs.Repeated.{is_on_the_way, TakesImage, Serves}
-use Rattle.restart.specs.declared.parts.Parts.{Parts}
+use Rattle.restart.specs.declared.parts.EngineParts.{EngineParts}
 
 module _ {D M : Type 0} (past_of : D → DevicePast) (failures : D → ℕ) where
   -- the final copy
-  pub last_copy : (final : Reply M) (old new : Parts D M) → is_on_the_way final ≡ false → Serves past_of failures Copy final old new
+  pub last_copy : (final : Reply M) (old new : EngineParts D M) → is_on_the_way final ≡ false → Serves past_of failures Copy final old new
       → TakesImage past_of failures final old new
   last_copy final old new ends wrote = record {
     mid = old;
@@ -23,7 +23,7 @@ module _ {D M : Type 0} (past_of : D → DevicePast) (failures : D → ℕ) wher
   }
 
   -- one copy before those that follow
-  pub one_copy_more : (final told : Reply M) (old next new : Parts D M) → is_on_the_way told ≡ true → Serves past_of failures Copy told old next
+  pub one_copy_more : (final told : Reply M) (old next new : EngineParts D M) → is_on_the_way told ≡ true → Serves past_of failures Copy told old next
       → TakesImage past_of failures final next new → TakesImage past_of failures final old new
   one_copy_more final told old next new on_the_way wrote on = record {
     mid = on.mid;
@@ -35,7 +35,7 @@ module _ {D M : Type 0} (past_of : D → DevicePast) (failures : D → ℕ) wher
   }
 
   -- fewer copies are left behind one that is on the way
-  pub fewer_left : (told : Reply M) (old new : Parts D M) → is_on_the_way told ≡ true → Serves past_of failures Copy told old new
+  pub fewer_left : (told : Reply M) (old new : EngineParts D M) → is_on_the_way told ≡ true → Serves past_of failures Copy told old new
       → copies_left new < copies_left old
   fewer_left reply.Copied old new e wrote = wrote.lawful.2
   fewer_left reply.Again old new e wrote = wrote.lawful.3

@@ -18,7 +18,7 @@ use Rattle.core_parts.specs.View.{CoreValue, IsState}
 use Rattle.core_parts.specs.declared.parts.Ticket.{Ticket}
 use Rattle.core_parts.specs.declared.reply.BuildReply.{BuildReply}
 use Rattle.core_parts.specs.declared.reply.BuildReply.TheVariants as build
-use Rattle.restart.specs.declared.parts.Parts.{Parts}
+use Rattle.restart.specs.declared.parts.EngineParts.{EngineParts}
 use Rattle.restart.specs.declared.event.Event.{Event}
 use Rattle.restart.specs.declared.event.Event.TheVariants as event
 use Rattle.restart.specs.declared.event.Reply.{Reply}
@@ -35,9 +35,9 @@ builds [] = []
 builds (r ∷ replies) = event.Build ∷ builds replies
 
 -- each of these replies in turn is one that the core could give to a request to build
-abbrev pub AreBuilt : {D M : Type 0} → List (Reply M) → Parts D M → Parts D M → Type 0
+abbrev pub AreBuilt : {D M : Type 0} → List (Reply M) → EngineParts D M → EngineParts D M → Type 0
 AreBuilt [] old new = new ≡ old
-AreBuilt {D} {M} (r ∷ replies) old new = (mid : Parts D M) × ServesInCore core.Build r old mid
+AreBuilt {D} {M} (r ∷ replies) old new = (mid : EngineParts D M) × ServesInCore core.Build r old mid
     × AreBuilt replies mid new
 
 -- the ticket of the build's end, where the reply tells of it
@@ -118,7 +118,7 @@ IsEnd (Err e) replies old = (old.life ≢ Complete) × EndsWith (reply.Refused e
 -- goes on with these requests. A crash at any moment leaves a prefix of the history with them, with every record up to
 -- the horizon before, and so what was acknowledged.
 pub record IsBuiltToEnd {D M : Type 0} (past_of : D
-    → DevicePast) (result : Result ℕ Error) (old new : Parts D M) : Type 0 where
+    → DevicePast) (result : Result ℕ Error) (old new : EngineParts D M) : Type 0 where
   pub replies : List (Reply M)
   pub each : AreBuilt replies old new
   pub ends : IsEnd result replies (core_of old)

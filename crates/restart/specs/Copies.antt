@@ -29,12 +29,9 @@ use Rattle.restart.specs.declared.event.Event.{Event}
 use Rattle.restart.specs.declared.event.Event.TheVariants as event
 use Rattle.restart.specs.declared.event.Reply.{Reply}
 use Rattle.restart.specs.declared.event.Reply.TheVariants as reply
-use Rattle.restart.specs.declared.parts.Parts.{Parts}
-use Rattle.restart.specs.Parts.{KeepsStore, core_of, device_of, has_failed, horizon_of, log_of, unwritten, writer_of}
-
--- the log of an image under way has groups in half its slots at most
-abbrev pub IsHalfOpen : (slots : ℕ) → Option NewImage → Type 0
-IsHalfOpen slots image = (i : NewImage) → image ≡ Some i → i.log.open_slots ≤ slots / 2
+use Rattle.restart.specs.declared.parts.EngineParts.{EngineParts}
+use Rattle.restart.specs.Parts.{KeepsStore, copying_of, core_of, device_of, has_failed, horizon_of, log_of, unwritten}
+use Rattle.restart.specs.Parts.{writer_of}
 
 -- ---- how many copies are left
 
@@ -70,21 +67,21 @@ left_at g last image (Steps (Some (at.Entries above))) =
 left_at g last image GivenUp = 1
 
 -- How many copies are left to a flip, if they come one behind another and none is refused: no more than these.
-abbrev pub copies_left : {D M : Type 0} → Parts D M → ℕ
-copies_left engine = left_at engine.geometry (core_of engine).last (image_of (writer_of engine)) engine.copying
+abbrev pub copies_left : {D M : Type 0} → EngineParts D M → ℕ
+copies_left engine = left_at engine.geometry (core_of engine).last (image_of (writer_of engine)) (copying_of engine)
 
 -- ---- what a copy leaves
 
 -- No record is lost: those that are synced now wait no more, and the others wait. The core keeps the rest of its state,
 -- and the device's count of failures doesn't fall.
-pub record KeepsAll {D M : Type 0} (failures : D → ℕ) (old new : Parts D M) : Type 0 where
+pub record KeepsAll {D M : Type 0} (failures : D → ℕ) (old new : EngineParts D M) : Type 0 where
   pub horizon : horizon_of old ≤ horizon_of new
   pub left : unwritten new ≡ drop (horizon_of new - horizon_of old) (unwritten old)
   pub core : core_of new ≡ record (core_of old) { outbox = (core_of new).outbox }
   pub later : failures (device_of old) ≤ failures (device_of new)
 
 -- and no call of the device failed
-pub record Succeeds {D M : Type 0} (failures : D → ℕ) (old new : Parts D M) : Type 0 where
+pub record Succeeds {D M : Type 0} (failures : D → ℕ) (old new : EngineParts D M) : Type 0 where
   pub keeps : KeepsAll failures old new
   pub sound-before : has_failed old ≡ false
   pub sound : has_failed new ≡ false
@@ -96,29 +93,33 @@ IsPieceNow v place piece = (cells : Cells) → IsCellsOf v cells → IsPieceOf v
 
 -- The next piece may be taken, and it was: the image has it as the last record made left it, and the copying goes on
 -- behind it. No group was written.
-pub record TakesPiece {D M : Type 0} (old new : Parts D M) : Type 0 where
+pub record TakesPiece {D M : Type 0} (old new : EngineParts D M) : Type 0 where
   pub place : CopyPlace
-  pub next : next_place old.copying ≡ Some place
+  pub next : next_place (copying_of old) ≡ Some place
   pub piece : Piece M
   pub piece-is : IsPieceNow (core_of old) place piece
   pub may : ¬ MustStartAgain piece (writer_of old)
   pub image : NewImage
   pub image-is : image_of (writer_of new) ≡ Some image
   pub has : HasPiece (core_of old).last piece (writer_of old) image
-  pub behind : new.copying ≡ Steps (place_behind old.geometry.pages piece)
+  pub behind : copying_of new ≡ Steps (place_behind old.geometry.pages piece)
   pub halves : halves_of (writer_of new) ≡ halves_of (writer_of old)
   pub log : log_of new ≡ log_of old
   pub horizon : horizon_of new ≡ horizon_of old
 
 -- The next piece can't be taken: every slot of the current log is open, a flush gave the image up, or its entries would
--- pass the geometry's. Nothing was written.
-pub record CannotTake {D M : Type 0} (old new : Parts D M) : Type 0 where
+-- pass the geometry's. The image is given up, and nothing was written.
+pub record CannotTake {D M : Type 0} (old new : EngineParts D M) : Type 0 where
   pub place : CopyPlace
-  pub next : next_place old.copying ≡ Some place
+  pub next : next_place (copying_of old) ≡ Some place
   pub piece : Piece M
   pub piece-is : IsPieceNow (core_of old) place piece
   pub must : MustStartAgain piece (writer_of old)
-  pub keeps : KeepsStore old new
+  pub gone : image_of (writer_of new) ≡ None
+  pub device : device_of new ≡ device_of old
+  pub halves : halves_of (writer_of new) ≡ halves_of (writer_of old)
+  pub log : log_of new ≡ log_of old
+  pub horizon : horizon_of new ≡ horizon_of old
 
 -- an image is whole, and the records above its base, up to its last piece, are synced
 abbrev pub MayFlip : {D M : Type 0} → Writer D M → Type 0
@@ -126,47 +127,48 @@ MayFlip w = (image : NewImage) × (w.image ≡ Some image) × (image.stage ≡ s
     × (image.number ≤ reach image w.synced)
 
 -- Every piece was taken, and the image can't be made current, before and now: no group more can be written, since no
--- record waits or every slot of the log is open. The same half is current.
-pub record CannotFlip {D M : Type 0} (old new : Parts D M) : Type 0 where
-  pub whole : old.copying ≡ Steps None
+-- record waits or every slot of the log is open. It is given up, and the same half is current.
+pub record CannotFlip {D M : Type 0} (old new : EngineParts D M) : Type 0 where
+  pub whole : copying_of old ≡ Steps None
+  pub gone : image_of (writer_of new) ≡ None
   pub could-not : ¬ MayFlip (writer_of old)
   pub cannot : ¬ MayFlip (writer_of new)
   pub halves : halves_of (writer_of new) ≡ halves_of (writer_of old)
   pub no_more : (unwritten new ≡ []) ⊎ (IsLogFull (writer_of new) × (unwritten new ≢ []))
 
 -- The image was made current without a group more: its log is the log, and what it reached is synced.
-pub record IsFlippedAtOnce {D M : Type 0} (old new : Parts D M) (image : NewImage) : Type 0 where
+pub record IsFlippedAtOnce {D M : Type 0} (old new : EngineParts D M) (image : NewImage) : Type 0 where
   pub log : log_of new ≡ image.log
   pub reached : horizon_of new ≡ reach image (horizon_of old)
 
 -- The half of a whole image is current, and its log has groups in half the slots at most: where there is more than one
 -- slot, or the image was taken at once, room for a group. An image that was copied in steps and could be made current
 -- waited for no group; one that was taken at once has every record made, and its log is empty.
-pub record MakesCurrent {D M : Type 0} (old new : Parts D M) : Type 0 where
-  pub whole : next_place old.copying ≡ None
+pub record MakesCurrent {D M : Type 0} (old new : EngineParts D M) : Type 0 where
+  pub whole : next_place (copying_of old) ≡ None
   pub turned : halves_of (writer_of new) ≡ record {
     geometry = (halves_of (writer_of old)).geometry;
     current = other (halves_of (writer_of old)).current;
   }
   pub none : image_of (writer_of new) ≡ None
-  pub idle : new.copying ≡ Idle
+  pub idle : copying_of new ≡ Idle
   pub room : (log_of new).open_slots ≤ (halves_of (writer_of new)).geometry.slots / 2
-  pub no-group : old.copying ≡ Steps None → MayFlip (writer_of old) → (image : NewImage)
+  pub no-group : copying_of old ≡ Steps None → MayFlip (writer_of old) → (image : NewImage)
       → image_of (writer_of old) ≡ Some image → IsFlippedAtOnce old new image
-  pub emptied : old.copying ≡ GivenUp → (log_of new).open_slots ≡ 0
-  pub all : old.copying ≡ GivenUp → unwritten new ≡ []
+  pub emptied : copying_of old ≡ GivenUp → (log_of new).open_slots ≡ 0
+  pub all : copying_of old ≡ GivenUp → unwritten new ≡ []
 
 -- There was no memory, and the copying is where it was, with no more copies left. Nothing was written, but where a
 -- whole image waits for groups: then some may have been, and one of them may have given the image up.
-pub record IsPutOff {D M : Type 0} (failures : D → ℕ) (old new : Parts D M) : Type 0 where
+pub record IsPutOff {D M : Type 0} (failures : D → ℕ) (old new : EngineParts D M) : Type 0 where
   pub succeeds : Succeeds failures old new
-  pub copying : new.copying ≡ old.copying
+  pub copying : copying_of new ≡ copying_of old
   pub left : copies_left new ≤ copies_left old
   pub halves : halves_of (writer_of new) ≡ halves_of (writer_of old)
-  pub keeps : old.copying ≢ Steps None → KeepsStore old new
+  pub keeps : copying_of old ≢ Steps None → KeepsStore old new
 
 -- which answer a copy gives, and what it leaves
-abbrev pub IsCopyAnswer : {D M : Type 0} → (D → ℕ) → Reply M → Parts D M → Parts D M → Type 0
+abbrev pub IsCopyAnswer : {D M : Type 0} → (D → ℕ) → Reply M → EngineParts D M → EngineParts D M → Type 0
 -- A piece of an image was taken. Fewer copies are left.
 IsCopyAnswer failures reply.Copied old new = Succeeds failures old new × TakesPiece old new
     × (copies_left new < copies_left old)
@@ -176,7 +178,7 @@ IsCopyAnswer failures (reply.Flipped n) old new = Succeeds failures old new × (
 -- An image that was copied in steps is given up, behind the groups that it waited for; one that is taken at once isn't.
 -- Fewer copies are left.
 IsCopyAnswer failures reply.Again old new = Succeeds failures old new × (CannotTake old new ⊎ CannotFlip old new)
-    × (new.copying ≡ GivenUp) × (copies_left new < copies_left old)
+    × (copying_of new ≡ GivenUp) × (copies_left new < copies_left old)
 -- There was no memory to hand the records over, for a copy, or for a group; or the device failed, and an engine whose
 -- device failed answers so from then on, and leaves it alone.
 IsCopyAnswer failures (reply.Refused e) old new =

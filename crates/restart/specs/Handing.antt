@@ -12,14 +12,14 @@ use Rattle.store_writer.specs.Parts.{halves_of, log_of, has_failed, image_of}
 use Rattle.store_writer.specs.Writer.{IsFlushReply}
 use Rattle.store_writer.specs.declared.copying.Copying.TheVariants.{Steps}
 use Rattle.store_writer.specs.declared.writer.FlushReply.TheVariants.{Flushed}
-use Rattle.restart.specs.declared.parts.Parts.{Parts}
+use Rattle.restart.specs.declared.parts.EngineParts.{EngineParts}
 use Rattle.restart.specs.Copies.{MayFlip, Succeeds, copies_left}
-use Rattle.restart.specs.Parts.{core_of, device_of, horizon_of, unhanded, unwritten, writer_of}
+use Rattle.restart.specs.Parts.{copying_of, core_of, device_of, horizon_of, unhanded, unwritten, writer_of}
 use Rattle.restart.specs.Store.{StandsAt}
 
 -- The core is in the state that it was in, and the writer may have more of the records made. A crash at any moment
 -- leaves what some of those that the writer has made, with all that were synced at first.
-pub record MovesOn {D M : Type 0} (past_of : D → DevicePast) (old new : Parts D M) : Type 0 where
+pub record MovesOn {D M : Type 0} (past_of : D → DevicePast) (old new : EngineParts D M) : Type 0 where
   pub stands : (run : Run) (handed : ℕ) (s : State) (k : Standing) → StandsAt past_of run handed s k old → (later : ℕ)
       × (handed ≤ later) × StandsAt past_of run later s k new
   pub images : (run : Run) (handed : ℕ) (s : State) (k : Standing) → StandsAt past_of run handed s k old
@@ -29,7 +29,7 @@ pub record MovesOn {D M : Type 0} (past_of : D → DevicePast) (old new : Parts 
   pub core : core_of new ≡ record (core_of old) { outbox = (core_of new).outbox }
 
 -- The writer has some more of the records that were made, and nothing else changed.
-pub record HandsOver {D M : Type 0} (past_of : D → DevicePast) (old new : Parts D M) : Type 0 where
+pub record HandsOver {D M : Type 0} (past_of : D → DevicePast) (old new : EngineParts D M) : Type 0 where
   pub moves : MovesOn past_of old new
   pub unwritten-are : unwritten new ≡ unwritten old
   pub device : device_of new ≡ device_of old
@@ -39,15 +39,15 @@ pub record HandsOver {D M : Type 0} (past_of : D → DevicePast) (old new : Part
   pub failed : has_failed (writer_of new) ≡ has_failed (writer_of old)
   pub image : image_of (writer_of new) ≡ image_of (writer_of old)
   pub geometry : new.geometry ≡ old.geometry
-  pub copying : new.copying ≡ old.copying
+  pub copying : copying_of new ≡ copying_of old
 
 -- a group more is synced, and a whole image is yet to be made current
-pub record FlushesFirst {D M : Type 0} (failures : D → ℕ) (old new : Parts D M) : Type 0 where
+pub record FlushesFirst {D M : Type 0} (failures : D → ℕ) (old new : EngineParts D M) : Type 0 where
   pub well : Succeeds failures old new
   pub further : horizon_of old < horizon_of new
   pub fewer : length (unwritten new) < length (unwritten old)
   pub all : unhanded new ≡ []
-  pub copying : new.copying ≡ Steps None
+  pub copying : copying_of new ≡ Steps None
   pub could-not : ¬ MayFlip (writer_of old)
   pub flushed : (number : ℕ) × (IsFlushReply (Flushed number) (writer_of old) (writer_of new)
       × BecomesImage (halves_of (writer_of old)).geometry.slots (horizon_of old) (number - horizon_of old)

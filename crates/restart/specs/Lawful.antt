@@ -1,5 +1,5 @@
 -- Which replies a request may have, and what each leaves.
-use Rattle.std.specs.Prelude.{◌≡◌, ◌≢◌, ◌⊎◌, ◌<◌, ◌≤◌, ◌+◌, ℕ, Bool, true, false, List, [], ◌∷◌, length, take, drop}
+use Rattle.std.specs.Prelude.{◌≡◌, ◌≢◌, ◌⊎◌, ◌<◌, ◌≤◌, ◌+◌, ℕ, true, false, List, [], ◌∷◌, length, take, drop}
 use Rattle.std.specs.Prelude.{Option, None, Some}
 use Rattle.records.specs.RecordValue.{RecordValue}
 use Rattle.record_values.specs.declared.error.Error.TheVariants.{NoMemory, DeviceFailed}
@@ -16,31 +16,11 @@ use Rattle.restart.specs.declared.event.Event.{Event}
 use Rattle.restart.specs.declared.event.Event.TheVariants as event
 use Rattle.restart.specs.declared.event.Reply.{Reply}
 use Rattle.restart.specs.declared.event.Reply.TheVariants as reply
-use Rattle.restart.specs.declared.parts.Parts.{Parts}
+use Rattle.restart.specs.declared.parts.EngineParts.{EngineParts}
 use Rattle.restart.specs.Copies.{IsCopyAnswer}
 use Rattle.restart.specs.History.{answered, asked}
 use Rattle.restart.specs.Parts.{KeepsStore, core_of, device_of, log_of, unhanded, unwritten, writer_of, horizon_of}
-use Rattle.restart.specs.Parts.{has_failed}
-
--- whether a request only reads
-abbrev pub is_read : Event → Bool
-is_read event.Begin = false
-is_read (event.Insert txn key body) = false
-is_read (event.Delete txn rid) = false
-is_read (event.Update txn rid key body) = false
-is_read (event.Step txn) = false
-is_read (event.Undo txn) = false
-is_read (event.End txn) = false
-is_read (event.Commit txn) = false
-is_read event.Create = false
-is_read event.Drop = false
-is_read event.Build = false
-is_read event.Clean = false
-is_read event.Flush = false
-is_read event.Copy = false
-is_read (event.Get rid) = true
-is_read (event.Find key) = true
-is_read event.Life = true
+use Rattle.restart.specs.Parts.{copying_of, has_failed}
 
 -- The first n of the records fill one group, or are none: they fit it, and with one more they take too many bytes, or
 -- there is no other.
@@ -56,34 +36,34 @@ pub record OpensOne (n : ℕ) (old new : Log) : Type 0 where
 -- So many of the records that were not synced, the first of them, now are, in one slot of the log; the core keeps the
 -- rest of its state, and the device's count of failures doesn't fall. The copying of an image stays where it is, and
 -- the image becomes what such a group makes of it: its log has the records above its base too, or it is given up.
-pub record Writes {D M : Type 0} (failures : D → ℕ) (old new : Parts D M) (n : ℕ) : Type 0 where
+pub record Writes {D M : Type 0} (failures : D → ℕ) (old new : EngineParts D M) (n : ℕ) : Type 0 where
   pub within : n ≤ length (unwritten old)
   pub horizon : horizon_of new ≡ horizon_of old + n
   pub left : unwritten new ≡ drop n (unwritten old)
   pub slots : OpensOne n (log_of old) (log_of new)
   pub core : core_of new ≡ record (core_of old) { outbox = (core_of new).outbox }
   pub later : failures (device_of old) ≤ failures (device_of new)
-  pub copying : new.copying ≡ old.copying
+  pub copying : copying_of new ≡ copying_of old
   pub image : 0 < n → BecomesImage (halves_of (writer_of old)).geometry.slots (horizon_of old) n
       (image_of (writer_of old)) (image_of (writer_of new))
 
 -- Nothing was written; some of the records may wait elsewhere than in the core.
-pub record WritesNothing {D M : Type 0} (failures : D → ℕ) (old new : Parts D M) : Type 0 where
+pub record WritesNothing {D M : Type 0} (failures : D → ℕ) (old new : EngineParts D M) : Type 0 where
   pub none : Writes failures old new 0
   pub keeps : KeepsStore old new
 
 -- No record was synced, and none is lost; the core keeps the rest of its state, and the device's count of failures
 -- doesn't fall. The copying and the image under way stay.
-pub record KeepsRecords {D M : Type 0} (failures : D → ℕ) (old new : Parts D M) : Type 0 where
+pub record KeepsRecords {D M : Type 0} (failures : D → ℕ) (old new : EngineParts D M) : Type 0 where
   pub horizon : horizon_of new ≡ horizon_of old
   pub unwritten-are : unwritten new ≡ unwritten old
   pub core : core_of new ≡ record (core_of old) { outbox = (core_of new).outbox }
   pub later : failures (device_of old) ≤ failures (device_of new)
-  pub copying : new.copying ≡ old.copying
+  pub copying : copying_of new ≡ copying_of old
   pub image : image_of (writer_of new) ≡ image_of (writer_of old)
 
 -- what is answered to a flush
-abbrev pub IsFlushAnswer : {D M : Type 0} → (D → ℕ) → Reply M → Parts D M → Parts D M → Type 0
+abbrev pub IsFlushAnswer : {D M : Type 0} → (D → ℕ) → Reply M → EngineParts D M → EngineParts D M → Type 0
 -- A flush that succeeds writes as many of the records that are not synced as fill one group, one at least where there
 -- is one, in one slot of the log, and leaves the device alone where there is none; no call of the device failed.
 IsFlushAnswer failures (reply.Horizon n) old new = (has_failed old ≡ false) × (has_failed new ≡ false)
@@ -118,23 +98,23 @@ IsFlushAnswer failures (reply.Life life) old new = ⊥
 IsFlushAnswer failures reply.Skipped old new = ⊥
 
 -- the core serves it, with a reply that is allowed, and nothing else of the engine changes
-pub record ServesInCore {D M : Type 0} (e : core.Event) (answer : Reply M) (old new : Parts D M) : Type 0 where
+pub record ServesInCore {D M : Type 0} (e : core.Event) (answer : Reply M) (old new : EngineParts D M) : Type 0 where
   pub reply : core.Reply
   pub reply_is : answered answer ≡ Some reply
   pub serves : view.Serves (core_of old) e reply (core_of new)
   pub rest : new ≡ record old { core = new.core }
 
 -- what is answered to a request that asks the core for something
-abbrev pub IsInCoreBy : {D M : Type 0} → Option core.Event → Reply M → Parts D M → Parts D M → Type 0
+abbrev pub IsInCoreBy : {D M : Type 0} → Option core.Event → Reply M → EngineParts D M → EngineParts D M → Type 0
 IsInCoreBy None answer old new = ⊥
 IsInCoreBy (Some e) answer old new = ServesInCore e answer old new
 
 -- so of a request in the engine's own words
-abbrev pub IsInCore : {D M : Type 0} → Event → Reply M → Parts D M → Parts D M → Type 0
+abbrev pub IsInCore : {D M : Type 0} → Event → Reply M → EngineParts D M → EngineParts D M → Type 0
 IsInCore request answer old new = IsInCoreBy (asked request) answer old new
 
 -- what is answered to a request
-abbrev pub IsLawful : {D M : Type 0} → (D → ℕ) → Event → Reply M → Parts D M → Parts D M → Type 0
+abbrev pub IsLawful : {D M : Type 0} → (D → ℕ) → Event → Reply M → EngineParts D M → EngineParts D M → Type 0
 IsLawful failures event.Begin answer old new = IsInCore event.Begin answer old new
 IsLawful failures (event.Insert txn key body) answer old new = IsInCore (event.Insert txn key body) answer old new
 IsLawful failures (event.Delete txn rid) answer old new = IsInCore (event.Delete txn rid) answer old new
@@ -155,9 +135,10 @@ IsLawful failures (event.Find key) answer old new = IsInCore (event.Find key) an
 IsLawful failures event.Life answer old new = IsInCore event.Life answer old new
 
 -- each request in turn was answered lawfully
-abbrev pub AreLawful : {D M : Type 0} → (D → ℕ) → List Event → List (Reply M) → Parts D M → Parts D M → Type 0
+abbrev pub AreLawful : {D M : Type 0} → (D → ℕ) → List Event → List (Reply M) → EngineParts D M → EngineParts D M
+    → Type 0
 AreLawful failures [] [] old new = new ≡ old
-AreLawful {D} {M} failures (request ∷ requests) (answer ∷ answers) old new = (mid : Parts D M)
+AreLawful {D} {M} failures (request ∷ requests) (answer ∷ answers) old new = (mid : EngineParts D M)
     × IsLawful failures request answer old mid × AreLawful failures requests answers mid new
 AreLawful failures [] (answer ∷ answers) old new = ⊥
 AreLawful failures (request ∷ requests) [] old new = ⊥

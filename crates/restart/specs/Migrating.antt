@@ -12,24 +12,26 @@ use Rattle.gate_log.specs.Area.{Log}
 use Rattle.flip_image.specs.Layout.{HalvesValue}
 use Rattle.store_reader.specs.Contents.{GivesIn, IsUnreadableIn}
 use Rattle.core_parts.specs.View.{CoreValue}
-use Rattle.restart.specs.declared.parts.Parts.{Parts}
+use Rattle.restart.specs.declared.parts.EngineParts.{EngineParts}
 use Rattle.restart.specs.declared.migration.MigrateError.{MigrateError}
 use Rattle.restart.specs.declared.migration.MigrateError.TheVariants.{Old, New, NoMemory}
 use Rattle.store_writer.specs.Parts.{image_of}
 use Rattle.store_writer.specs.declared.copying.Copying.TheVariants.{Idle}
-use Rattle.restart.specs.Parts.{device_of, log_of, writer_of}
+use Rattle.restart.specs.Parts.{copying_of, device_of, log_of, writer_of}
 use Rattle.restart.specs.Reopening.{IsCoreOf, IsOpened}
 
 -- The engine is as one that was opened over its own device, which gives what the old device gives by version 1: the
 -- same rows, the same entries with their states, the same life with its highest pair, and the same number of the last
 -- record. Its device is synced, so that each crash of it gives the same.
-pub record IsMigrated {E M : Type 0} (old : CrashState) (past_of : E → DevicePast) (engine : Parts E M) : Type 0 where
+pub record IsMigrated {E M : Type 0} (old : CrashState) (past_of : E
+    → DevicePast) (engine : EngineParts E M) : Type 0 where
   pub opened : IsOpened past_of (device_of engine) engine
   pub gave : GivesIn One old opened.geometry opened.given
 
 -- the engine's log is empty, and no image is under way, nor is a whole one to be taken
-abbrev pub BeginsEmpty : {D M : Type 0} → Parts D M → Type 0
-BeginsEmpty engine = ((log_of engine).open_slots ≡ 0) × (image_of (writer_of engine) ≡ None) × (engine.copying ≡ Idle)
+abbrev pub BeginsEmpty : {D M : Type 0} → EngineParts D M → Type 0
+BeginsEmpty engine = ((log_of engine).open_slots ≡ 0) × (image_of (writer_of engine) ≡ None)
+    × (copying_of engine ≡ Idle)
 
 -- no sector of the new device changed but those of the store
 abbrev pub WritesTheStoreAlone : {E : Type 0} → CrashState → (E → DevicePast) → E → E → Type 0

@@ -4,14 +4,15 @@ use Rattle.sector_device.specs.Disk.{CrashState, IsCrashState}
 use Rattle.sector_device.specs.DevicePast.{DevicePast, LeavesOnly}
 use Rattle.restart.specs.declared.event.Event.{Event}
 use Rattle.restart.specs.declared.event.Reply.{Reply}
-use Rattle.restart.specs.declared.parts.Parts.{Parts}
+use Rattle.restart.specs.declared.parts.EngineParts.{EngineParts}
 use Rattle.restart.specs.Parts.{device_of, horizon_of}
 use Rattle.restart.specs.Store.{Past, SurvivesAt, and_then, Survives, IsAt}
 
 -- These requests were answered so, whatever was answered before. A crash at any moment of the call leaves what the run
 -- left up to one of the requests, with every record up to the horizon before the call, and all that was acknowledged
 -- before that request.
-abbrev pub SurvivesAnyCrash : {D M : Type 0} → (D → DevicePast) → List Event → List (Reply M) → Parts D M → Parts D M
+abbrev pub SurvivesAnyCrash : {D M : Type 0} → (D → DevicePast) → List Event → List (Reply M) → EngineParts D M
+    → EngineParts D M
     → Type 0
 SurvivesAnyCrash {D} {M} past_of events replies old new = (past : Past M) → IsAt past_of past old
     → LeavesOnly (past_of (device_of old)) (past_of (device_of new)) (λ image. (j : ℕ) × (j ≤ length events)
@@ -20,7 +21,8 @@ SurvivesAnyCrash {D} {M} past_of events replies old new = (past : Past M) → Is
 -- These requests were answered so, whatever was answered before. A crash once the call has ended leaves a prefix of the
 -- whole run, with every record up to the horizon then, and so with all that a reply has told to be safe, those of this
 -- call too (`safe` of `IsAt`).
-abbrev pub KeepsWholeRun : {D M : Type 0} → (D → DevicePast) → List Event → List (Reply M) → Parts D M → Parts D M
+abbrev pub KeepsWholeRun : {D M : Type 0} → (D → DevicePast) → List Event → List (Reply M) → EngineParts D M
+    → EngineParts D M
     → Type 0
 KeepsWholeRun {D} {M} past_of events replies old new = (past : Past M) → IsAt past_of past old → (image : CrashState)
     → IsCrashState (past_of (device_of new)).disk image

@@ -16,10 +16,10 @@ use Rattle.core_model.specs.Histories.{CanOpen, opened}
 use Rattle.core_model.specs.Events.{standing_at}
 use Rattle.core_parts.specs.View.{CoreValue, IsState}
 use Rattle.store_writer.specs.Writer.{IsOpenedAt}
-use Rattle.restart.specs.declared.parts.Parts.{Parts}
+use Rattle.restart.specs.declared.parts.EngineParts.{EngineParts}
 use Rattle.store_writer.specs.Parts.{halves_of, image_of}
 use Rattle.store_writer.specs.declared.copying.Copying.TheVariants.{Idle}
-use Rattle.restart.specs.Parts.{core_of, device_of, log_of, horizon_of, has_failed, writer_of}
+use Rattle.restart.specs.Parts.{copying_of, core_of, device_of, log_of, horizon_of, has_failed, writer_of}
 use Rattle.restart.specs.Building.{HasCome}
 use Rattle.restart.specs.Store.{Past, items_told, last_made, over, Survives, IsAt}
 
@@ -43,7 +43,7 @@ pub record IsUnwritten {D : Type 0} (past_of : D → DevicePast) (before after :
 -- The engine holds what its device gave, and no transaction. Where what was given is something that a core may begin
 -- with, a run begins over it; and the core has come to where it is, so that a build that goes on to its end leaves the
 -- index whole.
-pub record IsOpened {D M : Type 0} (past_of : D → DevicePast) (before : D) (engine : Parts D M) : Type 0 where
+pub record IsOpened {D M : Type 0} (past_of : D → DevicePast) (before : D) (engine : EngineParts D M) : Type 0 where
   pub geometry : GeometryValue
   pub given : Given
   pub gives : Gives (past_of before).disk.content geometry given
@@ -56,10 +56,10 @@ pub record IsOpened {D M : Type 0} (past_of : D → DevicePast) (before : D) (en
   pub come : CanOpen (over geometry given) → HasCome (core_of engine)
 
 -- the half that wasn't current now is, its log is empty, and no image is under way, nor is a whole one to be taken
-abbrev pub IsEmptied : {D M : Type 0} → (D → DevicePast) → D → Parts D M → Type 0
+abbrev pub IsEmptied : {D M : Type 0} → (D → DevicePast) → D → EngineParts D M → Type 0
 IsEmptied past_of before engine = IsStore (halves_of (writer_of engine)).geometry
     (other (halves_of (writer_of engine)).current) (past_of before).disk.content × ((log_of engine).open_slots ≡ 0)
-    × (image_of (writer_of engine) ≡ None) × (engine.copying ≡ Idle)
+    × (image_of (writer_of engine) ≡ None) × (copying_of engine ≡ Idle)
 
 -- Why nothing was opened: there was no memory, the device failed in the call, or it gives nothing. With any answer but
 -- `DeviceFailed` no call of the device failed, and the device is synced.
@@ -75,7 +75,7 @@ pub record IsNotOpened {D : Type 0} (past_of : D → DevicePast) (failures : D
 -- built, it shows the pair of each row, and no other. A run begins over it; and the core has come to where it is, so
 -- that a build that goes on to its end leaves the index whole.
 pub record Recovers {D M : Type 0} (past_of : D → DevicePast) (past : Past M) (floor : ℕ)
-    (engine : Parts D M) : Type 0 where
+    (engine : EngineParts D M) : Type 0 where
   pub given : Given
   pub beginning : IsBeginning past.given (items_told past) floor given
   pub within : given.last ≤ last_made past
@@ -85,7 +85,7 @@ pub record Recovers {D M : Type 0} (past_of : D → DevicePast) (past : Past M) 
   pub come : HasCome (core_of engine)
 
 -- Whatever run left the device so, the engine holds a prefix of its history, with all up to the floor.
-abbrev pub RecoversAnyRun : {D M : Type 0} → (D → DevicePast) → D → Parts D M → Type 0
+abbrev pub RecoversAnyRun : {D M : Type 0} → (D → DevicePast) → D → EngineParts D M → Type 0
 RecoversAnyRun {D} {M} past_of before engine = (past : Past M) (floor : ℕ)
     → Survives past floor (past_of before).disk.content → Recovers past_of past floor engine
 

@@ -10,7 +10,7 @@ use Rattle.restart.specs.declared.event.Event.{Event}
 use Rattle.restart.specs.declared.event.Event.TheVariants.{Flush, Copy}
 use Rattle.restart.specs.declared.event.Reply.{Reply}
 use Rattle.restart.specs.declared.event.Reply.TheVariants.{Horizon, LogFull, Copied, Flipped, Again}
-use Rattle.restart.specs.declared.parts.Parts.{Parts}
+use Rattle.restart.specs.declared.parts.EngineParts.{EngineParts}
 
 -- whether a number is above the one that was told before, if there was one
 abbrev pub is_further : Option ℕ → ℕ → Bool
@@ -38,19 +38,19 @@ module _ {D M : Type 0} (past_of : D → DevicePast) (failures : D → ℕ) wher
   -- reply behind it. A crash of the device at any moment of it leaves what a prefix of the run left, with every record
   -- up to the horizon before, and so with all that an earlier reply has told to be safe. The device has as many sectors
   -- as before.
-  pub record Serves (event : Event) (reply : Reply M) (old new : Parts D M) : Type 0 where
+  pub record Serves (event : Event) (reply : Reply M) (old new : EngineParts D M) : Type 0 where
     pub lawful : IsLawful failures event reply old new
     pub runs : ServesOn past_of event reply old new
     pub sectors : KeepsSectors past_of old new
 
   -- One copy after another had these replies.
-  abbrev pub AreCopied : List (Reply M) → Parts D M → Parts D M → Type 0
+  abbrev pub AreCopied : List (Reply M) → EngineParts D M → EngineParts D M → Type 0
   AreCopied [] old new = new ≡ old
-  AreCopied (reply ∷ replies) old new = (mid : Parts D M) × Serves Copy reply old mid × AreCopied replies mid new
+  AreCopied (reply ∷ replies) old new = (mid : EngineParts D M) × Serves Copy reply old mid × AreCopied replies mid new
 
   -- Copies were made until the image was current, or a copy was refused: that is the final reply.
-  pub record TakesImage (final : Reply M) (old new : Parts D M) : Type 0 where
-    pub mid : Parts D M
+  pub record TakesImage (final : Reply M) (old new : EngineParts D M) : Type 0 where
+    pub mid : EngineParts D M
     pub replies : List (Reply M)
     pub copied : AreCopied replies old mid
     pub on_the_way : All (λ reply. is_on_the_way reply ≡ true) replies
@@ -59,23 +59,24 @@ module _ {D M : Type 0} (past_of : D → DevicePast) (failures : D → ℕ) wher
 
   -- An image was taken and made current, and the flush behind it had this reply; or the final copy had it, and made
   -- none current.
-  abbrev pub FlushesBehindImage : Reply M → Parts D M → Parts D M → Type 0
-  FlushesBehindImage reply old new = ((n : ℕ) × (mid : Parts D M) × TakesImage (Flipped n) old mid
+  abbrev pub FlushesBehindImage : Reply M → EngineParts D M → EngineParts D M → Type 0
+  FlushesBehindImage reply old new = ((n : ℕ) × (mid : EngineParts D M) × TakesImage (Flipped n) old mid
       × Serves Flush reply mid new)
       ⊎ (((n : ℕ) → reply ≢ Flipped n) × TakesImage reply old new)
 
   -- One flush had this reply; or the log was full, and the one behind an image had it.
-  abbrev pub FlushesOnce : Reply M → Parts D M → Parts D M → Type 0
+  abbrev pub FlushesOnce : Reply M → EngineParts D M → EngineParts D M → Type 0
   FlushesOnce reply old new = ((reply ≢ LogFull) × Serves Flush reply old new)
-      ⊎ ((mid : Parts D M) × Serves Flush LogFull old mid × FlushesBehindImage reply mid new)
+      ⊎ ((mid : EngineParts D M) × Serves Flush LogFull old mid × FlushesBehindImage reply mid new)
 
   -- One flush after another had these replies.
-  abbrev pub AreFlushed : List (Reply M) → Parts D M → Parts D M → Type 0
+  abbrev pub AreFlushed : List (Reply M) → EngineParts D M → EngineParts D M → Type 0
   AreFlushed [] old new = new ≡ old
-  AreFlushed (reply ∷ replies) old new = (mid : Parts D M) × FlushesOnce reply old mid × AreFlushed replies mid new
+  AreFlushed (reply ∷ replies) old new = (mid : EngineParts D M) × FlushesOnce reply old mid
+      × AreFlushed replies mid new
 
   -- One flush after another told of more synced records than the one before, and not yet of all up to the last.
-  pub record FlushesOn (last : ℕ) (told : Option ℕ) (old new : Parts D M) : Type 0 where
+  pub record FlushesOn (last : ℕ) (told : Option ℕ) (old new : EngineParts D M) : Type 0 where
     pub horizons : List ℕ
     pub flushed : AreFlushed (map Horizon horizons) old new
     pub rising : IsStrictlyIncreasing (behind told horizons)
@@ -84,8 +85,8 @@ module _ {D M : Type 0} (past_of : D → DevicePast) (failures : D → ℕ) wher
   -- Flushes were made until all records up to the last were synced, or one was refused. A final flush that told how far
   -- the records are synced told of all up to the last, or no record waits behind it. None ends with a full log, but
   -- where the log has no slot at all.
-  pub record FlushesAll (last : ℕ) (final : Reply M) (old new : Parts D M) : Type 0 where
-    pub mid : Parts D M
+  pub record FlushesAll (last : ℕ) (final : Reply M) (old new : EngineParts D M) : Type 0 where
+    pub mid : EngineParts D M
     pub before : FlushesOn last None old mid
     pub final_flush : FlushesOnce final mid new
     pub ends : (n : ℕ) → final ≡ Horizon n → (last ≤ n) ⊎ (unwritten new ≡ [])

@@ -15,14 +15,14 @@ use Rattle.sector_device.specs.Disk.{CrashState, IsCrashState}
 use Rattle.sector_device.specs.DevicePast.{DevicePast, LeavesOnly}
 use Rattle.store_reader.specs.Contents.{Gives}
 use Rattle.store_writer.specs.Parts as parts
-use Rattle.store_writer.specs.Parts.{halves_of, image_of, log_of, synced_of}
+use Rattle.store_writer.specs.Parts.{copying_of, halves_of, image_of, log_of, synced_of, without_image}
 use Rattle.store_writer.specs.Writer.{IsWriter, WritesOnly, opened_run}
-use Rattle.store_writer.specs.declared.copying.Copying.TheVariants.{GivenUp}
+use Rattle.store_writer.specs.declared.copying.Copying.TheVariants.{GivenUp, Idle}
 use Rattle.store_writer.specs.declared.writer.Writer.{Writer}
 use Rattle.restart.specs.declared.event.Event.TheVariants.{Copy}
 use Rattle.restart.specs.declared.event.Reply.{Reply}
 use Rattle.restart.specs.declared.event.Reply.TheVariants.{Refused}
-use Rattle.restart.specs.declared.parts.Parts.{Parts}
+use Rattle.restart.specs.declared.parts.EngineParts.{EngineParts}
 use Rattle.restart.specs.Copies.{IsCopyAnswer}
 use Rattle.restart.specs.Parts.{core_of, device_of, horizon_of, writer_of}
 use Rattle.restart.specs.Store.{CopiesAround, InCopy, IsAt, Past, ServesOn, Survives}
@@ -36,7 +36,7 @@ pub record IsFresh (old new : CoreValue) : Type 0 where
   pub stands : IsState new (opened (opened_of old)) (standing_at old.last)
 
 -- A writer that has got no record since its store held this, all of which is synced: a crash of the device leaves what
--- gives it. No slot of the log is open, and no image is under way.
+-- gives it. No slot of the log is open, and no image is under way, nor is a whole one to be taken.
 pub record IsSettled {D M : Type 0} (past_of : D → DevicePast) (o : Opened) (w : Writer D M) : Type 0 where
   pub writer : IsWriter past_of (opened_run (halves_of w) o.given.last (opening_cells o.given)) o.given.last w
   pub gives : (image : CrashState) → IsCrashState (past_of (parts.device_of w)).disk image
@@ -48,15 +48,16 @@ pub record IsSettled {D M : Type 0} (past_of : D → DevicePast) (o : Opened) (w
   pub sound : parts.has_failed w ≡ false
   pub empty : (log_of w).open_slots ≡ 0
   pub idle : image_of w ≡ None
+  pub copying : copying_of w ≡ Idle
 
 -- an image under way is given up, and a whole one is to be taken at once
-abbrev pub giving_up : {D M : Type 0} → Parts D M → Parts D M
-giving_up engine = record engine { copying = GivenUp }
+abbrev pub giving_up : {D M : Type 0} → EngineParts D M → EngineParts D M
+giving_up engine = record engine { writer = without_image GivenUp (writer_of engine) }
 
 -- An image under way was given up, and the copy that takes a whole one at once had this reply, and wrote no sector but
 -- those that a copy writes.
 pub record CopiesAnew {D M : Type 0} (past_of : D → DevicePast) (failures : D
-    → ℕ) (reply : Reply M) (old new : Parts D M) : Type 0 where
+    → ℕ) (reply : Reply M) (old new : EngineParts D M) : Type 0 where
   pub answer : IsCopyAnswer failures reply (giving_up old) new
   pub runs : ServesOn past_of Copy reply old new
   pub around : CopiesAround past_of old new
@@ -65,7 +66,7 @@ pub record CopiesAnew {D M : Type 0} (past_of : D → DevicePast) (failures : D
 -- No call of the device failed, and a crash at any moment leaves a prefix of whatever run the engine served, with every
 -- record up to its horizon, and so with everything acknowledged. No sector was written but those that a copy writes.
 pub record WritesWhole {D M : Type 0} (past_of : D → DevicePast) (failures : D
-    → ℕ) (engine : Parts D M) (w : Writer D M) : Type 0 where
+    → ℕ) (engine : EngineParts D M) (w : Writer D M) : Type 0 where
   pub settled : IsSettled past_of (opened_of (core_of engine)) w
   pub quiet : failures (parts.device_of w) ≡ failures (device_of engine)
   pub survives : (past : Past M) → IsAt past_of past engine
@@ -73,12 +74,14 @@ pub record WritesWhole {D M : Type 0} (past_of : D → DevicePast) (failures : D
   pub around : WritesOnly past_of (InCopy (halves_of (writer_of engine))) (device_of engine) (parts.device_of w)
 
 -- there was no memory for it, or the device failed: the engine's run goes on, by a copy that was refused so
-abbrev pub IsNotWritten : {D M : Type 0} → (D → DevicePast) → (D → ℕ) → Parts D M → Parts D M → Error → Type 0
+abbrev pub IsNotWritten : {D M : Type 0} → (D → DevicePast) → (D → ℕ) → EngineParts D M → EngineParts D M → Error
+    → Type 0
 IsNotWritten past_of failures old new e = CopiesAnew past_of failures (Refused e) old new
 
 -- A transaction is active, and the engine is as it was. Or none is: then there was no memory for a core, and it is as
 -- it was; or what it holds could not be written, and its run goes on.
-abbrev pub IsNotParted : {D M : Type 0} → (D → DevicePast) → (D → ℕ) → Parts D M → Parts D M → Error → Type 0
+abbrev pub IsNotParted : {D M : Type 0} → (D → DevicePast) → (D → ℕ) → EngineParts D M → EngineParts D M → Error
+    → Type 0
 IsNotParted past_of failures old new e =
     ((e ≡ TxnsActive) × (IsQuiet (core_of old) → ⊥) × (new ≡ old))
     ⊎ (IsQuiet (core_of old) × (((e ≡ NoMemory) × (new ≡ old)) ⊎ IsNotWritten past_of failures old new e))

@@ -1,5 +1,5 @@
 -- What the store has done so far, and what a crash of its device leaves.
-use Rattle.std.specs.Prelude.{false, max, ◌≡◌, ◌≢◌, ◌⊎◌, ◌≤◌, ◌+◌, ℕ, List, [], ◌∷◌, ◌++◌, length, take}
+use Rattle.std.specs.Prelude.{max, ◌≡◌, ◌≢◌, ◌⊎◌, ◌≤◌, ◌+◌, ℕ, List, [], ◌∷◌, ◌++◌, length, take}
 use Rattle.record_values.specs.GeometryValue.{GeometryValue}
 use Rattle.records.specs.RecordValue.{RecordValue}
 use Rattle.model.specs.Given.{Given, IsBeginning, opening_cells}
@@ -17,19 +17,17 @@ use Rattle.sector_device.specs.DevicePast.{DevicePast, LeavesOnly, Spans}
 use Rattle.store_reader.specs.Contents.{Gives}
 use Rattle.flip_image.specs.Layout.{HalvesValue, InHalf, InLog, other}
 use Rattle.flip_image.specs.declared.half.TheConstants.{FLIP_SECTOR}
-use Rattle.store_writer.specs.Copying.{IsCopying}
-use Rattle.store_writer.specs.Parts.{halves_of, image_of}
+use Rattle.store_writer.specs.Parts.{halves_of}
 use Rattle.store_writer.specs.Writer.{InOpenedSlots, IsWriter, WritesLogsAlone, WritesOnly}
 use Rattle.core_copies.specs.Lists.{HasLists}
 use Rattle.model.specs.Cells.{cells_after}
 use Rattle.restart.specs.declared.event.Event.{Event}
 use Rattle.restart.specs.declared.event.Event.TheVariants as requests
 use Rattle.restart.specs.declared.event.Reply.{Reply}
-use Rattle.restart.specs.declared.parts.Parts.{Parts}
-use Rattle.restart.specs.Copies.{IsHalfOpen}
+use Rattle.restart.specs.declared.parts.EngineParts.{EngineParts}
 use Rattle.restart.specs.History.{AreOfKind, acknowledged, core_calls, standing_over}
 use Rattle.restart.specs.Lawful.{IsLawful}
-use Rattle.restart.specs.Parts.{core_of, device_of, has_failed, horizon_of, unhanded, writer_of}
+use Rattle.restart.specs.Parts.{core_of, device_of, horizon_of, unhanded, writer_of}
 
 -- A run: how large the store is, what it began with, what was asked, and what was answered.
 pub record Past (M : Type 0) : Type 0 where
@@ -70,7 +68,7 @@ pub record Survives {M : Type 0} (past : Past M) (floor : ℕ) (image : CrashSta
 -- The engine's core is in this state, which the records of the run set, and they alone. Those up to number `handed`
 -- were handed to the writer; the others are on their way to it.
 pub record StandsAt {D M : Type 0} (past_of : D → DevicePast) (run : Run) (handed : ℕ) (s : State) (k : Standing)
-    (engine : Parts D M) : Type 0 where
+    (engine : EngineParts D M) : Type 0 where
   pub writer : IsWriter past_of run handed (writer_of engine)
   pub rest : records_between run handed (end_of run) ≡ unhanded engine
   pub shown : IsState (core_of engine) s k
@@ -80,10 +78,7 @@ pub record StandsAt {D M : Type 0} (past_of : D → DevicePast) (run : Run) (han
   pub made : end_of run ≡ k.made
   -- the log has the lists that the state's transactions have
   pub lists : HasLists s (cells_after run.cells run.records)
-  -- an image under way is where the copying goes on, and its log is half open at most
   pub geometry : engine.geometry ≡ run.geometry
-  pub copying : has_failed engine ≡ false → IsCopying run.geometry.pages engine.copying (image_of (writer_of engine))
-  pub carried : has_failed engine ≡ false → IsHalfOpen run.geometry.slots (image_of (writer_of engine))
 
 -- the records of a run, over what it began with
 abbrev pub run_of : {M : Type 0} → Past M → List RecordValue → Run
@@ -95,7 +90,7 @@ run_of past made = record {
 }
 
 -- The engine is where this run leaves it.
-pub record IsAt {D M : Type 0} (past_of : D → DevicePast) (past : Past M) (engine : Parts D M) : Type 0 where
+pub record IsAt {D M : Type 0} (past_of : D → DevicePast) (past : Past M) (engine : EngineParts D M) : Type 0 where
   pub answered : length past.replies ≡ length past.events
   pub kinds : AreOfKind past.events past.replies
   pub opens : CanOpen (over past.geometry past.given)
@@ -110,14 +105,14 @@ pub record IsAt {D M : Type 0} (past_of : D → DevicePast) (past : Past M) (eng
   pub safe : acknowledged_by past ≤ horizon_of engine
 
 -- What every engine keeps, whatever its store gave as it was opened.
-abbrev pub CanRun : {D M : Type 0} → (D → DevicePast) → Parts D M → Type 0
+abbrev pub CanRun : {D M : Type 0} → (D → DevicePast) → EngineParts D M → Type 0
 CanRun {D} {M} past_of engine = (run : Run) × (handed : ℕ) × (s : State) × (k : Standing)
     × StandsAt past_of run handed s k engine
 
 -- One request was answered so: the engine is where it leaves it; a crash at any moment of it leaves a prefix of the
 -- history with it, which holds every record up to the horizon that the engine had before, and so what was acknowledged
 -- (`safe` of `IsAt`); and the horizon doesn't fall.
-abbrev pub ServesOn : {D M : Type 0} → (D → DevicePast) → Event → Reply M → Parts D M → Parts D M → Type 0
+abbrev pub ServesOn : {D M : Type 0} → (D → DevicePast) → Event → Reply M → EngineParts D M → EngineParts D M → Type 0
 ServesOn {D} {M} past_of event reply old new = (past : Past M) → IsAt past_of past old
     → IsAt past_of (and_then past (event ∷ []) (reply ∷ [])) new
     × LeavesOnly (past_of (device_of old)) (past_of (device_of new))
@@ -126,12 +121,12 @@ ServesOn {D} {M} past_of event reply old new = (past : Past M) → IsAt past_of 
 
 -- Only the store's log was written, and where an image is under way that of its half: each other sector of the device
 -- holds what it held before, and so it does after a crash at any moment of the call, if it was synced before.
-abbrev pub KeepsAround : {D M : Type 0} → (D → DevicePast) → Parts D M → Parts D M → Type 0
+abbrev pub KeepsAround : {D M : Type 0} → (D → DevicePast) → EngineParts D M → EngineParts D M → Type 0
 KeepsAround past_of old new = WritesLogsAlone past_of (writer_of old) (writer_of new)
 
 -- No sector was written but those of the slot that a flush opens, in the log and, where an image is under way, in the
 -- log of its half: so it is at each moment of the call, as above.
-abbrev pub OpensSlotsAlone : {D M : Type 0} → (D → DevicePast) → Parts D M → Parts D M → Type 0
+abbrev pub OpensSlotsAlone : {D M : Type 0} → (D → DevicePast) → EngineParts D M → EngineParts D M → Type 0
 OpensSlotsAlone past_of old new = WritesOnly past_of (InOpenedSlots (writer_of old)) (device_of old) (device_of new)
 
 -- a sector of the current half's log or of the other half, or the one that tells which half is current
@@ -140,11 +135,11 @@ InCopy h n = InLog h.geometry h.current n ⊎ (InHalf h.geometry (other h.curren
 
 -- Of these alone some were written: each other sector of the device holds what it held before, and so it does after a
 -- crash at any moment of the call, if it was synced before.
-abbrev pub CopiesAround : {D M : Type 0} → (D → DevicePast) → Parts D M → Parts D M → Type 0
+abbrev pub CopiesAround : {D M : Type 0} → (D → DevicePast) → EngineParts D M → EngineParts D M → Type 0
 CopiesAround past_of old new = WritesOnly past_of (InCopy (halves_of (writer_of old))) (device_of old) (device_of new)
 
 -- the device has as many sectors as before
-abbrev pub KeepsSectors : {D M : Type 0} → (D → DevicePast) → Parts D M → Parts D M → Type 0
+abbrev pub KeepsSectors : {D M : Type 0} → (D → DevicePast) → EngineParts D M → EngineParts D M → Type 0
 KeepsSectors past_of old new = length (past_of (device_of new)).disk.content
     ≡ length (past_of (device_of old)).disk.content
 
@@ -162,7 +157,7 @@ SurvivesAt past events replies horizon j = Survives (and_then past (take (j + 1)
 -- The run went on by these requests: the engine is where they leave it; and there are moments that rise from the call's
 -- start to its end, one for each request, between which each crash leaves such a prefix. The horizon doesn't fall.
 pub record GoesOn {D M : Type 0} (past_of : D → DevicePast) (past : Past M) (events : List Event)
-    (replies : List (Reply M)) (old new : Parts D M) : Type 0 where
+    (replies : List (Reply M)) (old new : EngineParts D M) : Type 0 where
   pub at : IsAt past_of (and_then past events replies) new
   pub kept : (t : ℕ) → t ≤ (past_of (device_of old)).moment
       → (past_of (device_of new)).disk_at t ≡ (past_of (device_of old)).disk_at t
@@ -174,11 +169,12 @@ pub record GoesOn {D M : Type 0} (past_of : D → DevicePast) (past : Past M) (e
 
 -- Each request in turn was answered lawfully, from where the run had left the engine to where it leaves it then; a
 -- crash at any moment of it leaves every record up to the horizon that the engine had as this request began.
-abbrev pub AreServed : {D M : Type 0} → (D → DevicePast) → (D → ℕ) → Past M → List Event → List (Reply M) → Parts D M
-    → Parts D M → Type 0
+abbrev pub AreServed : {D M : Type 0} → (D → DevicePast) → (D → ℕ) → Past M → List Event → List (Reply M)
+    → EngineParts D M
+    → EngineParts D M → Type 0
 AreServed past_of failures past [] [] old new = new ≡ old
 AreServed {D} {M} past_of failures past (event ∷ events) (reply ∷ replies) old new =
-    (mid : Parts D M) × IsLawful failures event reply old mid
+    (mid : EngineParts D M) × IsLawful failures event reply old mid
     × IsAt past_of (and_then past (event ∷ []) (reply ∷ [])) mid
     × LeavesOnly (past_of (device_of old)) (past_of (device_of mid))
     (Survives (and_then past (event ∷ []) (reply ∷ [])) (horizon_of old))
@@ -187,19 +183,20 @@ AreServed past_of failures past [] (reply ∷ replies) old new = ⊥
 AreServed past_of failures past (event ∷ events) [] old new = ⊥
 
 -- whatever run left the engine so, it went on by these requests
-abbrev pub RunsOn : {D M : Type 0} → (D → DevicePast) → List Event → List (Reply M) → Parts D M → Parts D M → Type 0
+abbrev pub RunsOn : {D M : Type 0} → (D → DevicePast) → List Event → List (Reply M) → EngineParts D M → EngineParts D M
+    → Type 0
 RunsOn {D} {M} past_of events replies old new = (past : Past M) → IsAt past_of past old
     → GoesOn past_of past events replies old new
 
 -- so it is of any run that left the engine where it was
-abbrev pub RunsLawfully : {D M : Type 0} → (D → DevicePast) → (D → ℕ) → List Event → List (Reply M) → Parts D M
-    → Parts D M
+abbrev pub RunsLawfully : {D M : Type 0} → (D → DevicePast) → (D → ℕ) → List Event → List (Reply M) → EngineParts D M
+    → EngineParts D M
     → Type 0
 RunsLawfully {D} {M} past_of failures events replies old new = (past : Past M) → IsAt past_of past old
     → AreServed past_of failures past events replies old new
 
 -- Whatever run left the engine so, a crash of the device leaves a prefix of it with every record up to the horizon, and
 -- so with everything acknowledged (`safe` of `IsAt`).
-abbrev pub KeepsRun : {D M : Type 0} → (D → DevicePast) → Parts D M → D → Type 0
+abbrev pub KeepsRun : {D M : Type 0} → (D → DevicePast) → EngineParts D M → D → Type 0
 KeepsRun {D} {M} past_of engine device = (past : Past M) (image : CrashState) → IsAt past_of past engine
     → IsCrashState (past_of device).disk image → Survives past (horizon_of engine) image

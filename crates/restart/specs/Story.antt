@@ -10,7 +10,7 @@ use Rattle.core_model.specs.Histories.{CanOpen}
 use Rattle.sector_device.specs.Disk.{CrashState, IsCrashState}
 use Rattle.sector_device.specs.DevicePast.{DevicePast}
 use Rattle.store_reader.specs.Contents.{Gives}
-use Rattle.restart.specs.declared.parts.Parts.{Parts}
+use Rattle.restart.specs.declared.parts.EngineParts.{EngineParts}
 use Rattle.restart.specs.Building.{HasCome}
 use Rattle.restart.specs.Parts.{core_of}
 use Rattle.restart.specs.Reopening.{opening}
@@ -52,7 +52,8 @@ KeepsStory past_of story device = (image : CrashState) → IsCrashState (past_of
     → GivesStory story image
 
 -- A run begins at the engine over what was left of the story, and the core has come to where it is.
-pub record BeginsOver {D M : Type 0} (past_of : D → DevicePast) (story : Story) (engine : Parts D M) : Type 0 where
+pub record BeginsOver {D M : Type 0} (past_of : D → DevicePast) (story : Story)
+    (engine : EngineParts D M) : Type 0 where
   pub given : Given
   pub left : IsLeftOf story given
   pub at : IsAt past_of (opening story.geometry given) engine

@@ -3,14 +3,14 @@ ghost use Rattle.std.specs.Prelude.{◌≡◌, IfSome, IfNone, None};
 ghost use Rattle.core_model.specs.Events as events;
 ghost use Rattle.core_parts.specs.Moves.{IsReadyOrNone, IsUnready, OwesNone, OwesOrNone, txn_shown};
 
-use crate::parts::Parts;
+use crate::parts::EngineParts;
 use crate::{Event, Reply};
 use nsf_core::Undone;
 use records::{Body, Error, Key, Rid, Txn};
 use sector_device::Device;
 use std::alloc::Allocator;
 
-impl<D: Device, A: Allocator + Copy> Parts<D, A> {
+impl<D: Device, A: Allocator + Copy> EngineParts<D, A> {
     ghost use Rattle.std.specs.Prelude.{IsTrue, false};
     ghost use Rattle.restart.specs.Parts.{core_of};
     ghost use Rattle.restart.specs.History.{asked};

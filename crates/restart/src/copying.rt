@@ -1,18 +1,18 @@
 //! An image of the store is taken from the core, and made current.
 ghost use Rattle.std.specs.Prelude.{◌≡◌, ◌≤◌, ◌<◌, List, [], length, false, None, Some, IfSome, IfNone};
 ghost use Rattle.restart.specs.declared.event.Reply.{Reply as ReplyValue};
-ghost use Rattle.restart.specs.declared.parts.Parts.{Parts as PartsValue};
+ghost use Rattle.restart.specs.declared.parts.EngineParts.{EngineParts as PartsValue};
 ghost use Rattle.restart.specs.Copies.{HaveFlip, HaveNoRefusal, copies, most_copies};
 ghost use Rattle.restart.specs.Lawful.{AreLawful};
 
 use crate::Reply;
-use crate::parts::Parts;
+use crate::parts::EngineParts;
 use core_copies::{Copies, each_list, one_copy};
 use records::Error;
 use sector_device::Device;
 use std::alloc::Allocator;
 use store_image_model::{Chunk, CopyPlace};
-use store_writer::{Copying, FlipReply, FlushReply, StepReply, kept_place};
+use store_writer::{Copying, FlipReply, FlushReply, StepReply};
 
 /// A law: of as many copies in a row as an image takes at most, none of them refused, one makes an image current: its
 /// start, its pages, its entries by chunks, and the flip.
@@ -22,16 +22,15 @@ pub fn copies_flip<D: Device, A: Allocator>()
         → most_copies old.geometry ≤ length replies → HaveFlip replies }
 {}
 
-impl<D: Device, A: Allocator + Copy> Parts<D, A> {
+impl<D: Device, A: Allocator + Copy> EngineParts<D, A> {
     ghost use Rattle.store_image_model.specs.declared.chunk.CopyPlace.{CopyPlace};
-    ghost use Rattle.store_writer.specs.Copying.{IsPieceDue, next_place};
-    ghost use Rattle.store_writer.specs.Parts.{image_of};
+    ghost use Rattle.store_writer.specs.Copying.{next_place};
     ghost use Rattle.store_writer.specs.declared.copying.Copying.TheVariants.{Steps, GivenUp};
     ghost use Rattle.restart.specs.declared.event.Event.TheVariants as event;
     ghost use Rattle.restart.specs.Copies.{IsCopyAnswer};
     ghost use Rattle.restart.specs.Groups.{CopiesByGroups, WritesByGroups};
     ghost use Rattle.restart.specs.Handing.{FlushesFirst, MovesOn};
-    ghost use Rattle.restart.specs.Parts.{has_failed, unhanded, writer_of};
+    ghost use Rattle.restart.specs.Parts.{copying_of, has_failed, unhanded, writer_of};
     ghost use Rattle.restart.specs.Store.{CanRun, CopiesAround, ServesOn};
 
     /// Takes the next piece of an image, or makes it current.
@@ -59,10 +58,10 @@ impl<D: Device, A: Allocator + Copy> Parts<D, A> {
         requires sound { has_failed self.old ≡ false }
         ensures moves { MovesOn D.past_of self.old self.new }
         ensures answer { IsCopyAnswer D.failures result self.old self.new }
-        ensures groups { self.old.copying ≡ Steps None → WritesByGroups (writer_of self.old) (writer_of self.new) }
+        ensures groups { copying_of self.old ≡ Steps None → WritesByGroups (writer_of self.old) (writer_of self.new) }
         ensures around { CopiesAround D.past_of self.old self.new }
     {
-        match self.copying {
+        match self.writer.copying() {
             Copying::Idle => self.copy_piece(CopyPlace::Start),
             Copying::Steps(next) => match next {
                 Some(place) => self.copy_piece(place),
@@ -77,8 +76,7 @@ impl<D: Device, A: Allocator + Copy> Parts<D, A> {
         requires runs { CanRun D.past_of self.old }
         requires all { unhanded self.old ≡ [] }
         requires sound { has_failed self.old ≡ false }
-        requires due { IsPieceDue self.old.geometry.pages place (image_of (writer_of self.old)) }
-        requires next { next_place self.old.copying ≡ Some place }
+        requires next { next_place (copying_of self.old) ≡ Some place }
         ensures moves { MovesOn D.past_of self.old self.new }
         ensures answer { IsCopyAnswer D.failures result self.old self.new }
         ensures around { CopiesAround D.past_of self.old self.new }
@@ -90,16 +88,9 @@ impl<D: Device, A: Allocator + Copy> Parts<D, A> {
             Ok(chunk) => chunk,
             Err(error) => return Reply::Refused(error),
         };
-        let behind = chunk.place_behind(self.geometry);
         match self.writer.checkpoint_step(chunk) {
-            Ok(StepReply::Taken) => {
-                self.copying = Copying::Steps(behind);
-                Reply::Copied
-            }
-            Ok(StepReply::StartAgain) => {
-                self.copying = Copying::GivenUp;
-                Reply::Again
-            }
+            Ok(StepReply::Taken) => Reply::Copied,
+            Ok(StepReply::StartAgain) => Reply::Again,
             Err(error) => Reply::Refused(error),
         }
     }
@@ -109,7 +100,7 @@ impl<D: Device, A: Allocator + Copy> Parts<D, A> {
         requires runs { CanRun D.past_of self.old }
         requires all { unhanded self.old ≡ [] }
         requires sound { has_failed self.old ≡ false }
-        requires given_up { self.old.copying ≡ GivenUp }
+        requires given_up { copying_of self.old ≡ GivenUp }
         ensures moves { MovesOn D.past_of self.old self.new }
         ensures answer { IsCopyAnswer D.failures result self.old self.new }
         ensures around { CopiesAround D.past_of self.old self.new }
@@ -127,10 +118,7 @@ impl<D: Device, A: Allocator + Copy> Parts<D, A> {
             Err(error) => return Reply::Refused(error),
         }
         match self.writer.checkpoint_flip() {
-            Ok(FlipReply::Flipped(number)) => {
-                self.copying = Copying::Idle;
-                Reply::Flipped(number)
-            }
+            Ok(FlipReply::Flipped(number)) => Reply::Flipped(number),
             Ok(FlipReply::Behind) => unreachable!(),
             Err(error) => Reply::Refused(error),
         }
@@ -141,7 +129,7 @@ impl<D: Device, A: Allocator + Copy> Parts<D, A> {
         requires runs { CanRun D.past_of self.old }
         requires all { unhanded self.old ≡ [] }
         requires sound { has_failed self.old ≡ false }
-        requires whole { self.old.copying ≡ Steps None }
+        requires whole { copying_of self.old ≡ Steps None }
         ensures moves { MovesOn D.past_of self.old self.new }
         ensures answer { IsCopyAnswer D.failures result self.old self.new }
         ensures groups { WritesByGroups (writer_of self.old) (writer_of self.new) }
@@ -160,30 +148,26 @@ impl<D: Device, A: Allocator + Copy> Parts<D, A> {
         requires runs { CanRun D.past_of self.old }
         requires all { unhanded self.old ≡ [] }
         requires sound { has_failed self.old ≡ false }
-        requires whole { self.old.copying ≡ Steps None }
+        requires whole { copying_of self.old ≡ Steps None }
         ensures moves { MovesOn D.past_of self.old self.new }
         ensures answer { IfSome result (λ reply. IsCopyAnswer D.failures reply self.old self.new) }
         ensures flushed { IfNone result (FlushesFirst D.failures self.old self.new) }
         ensures groups { IfSome result (λ reply. WritesByGroups (writer_of self.old) (writer_of self.new)) }
         ensures around { CopiesAround D.past_of self.old self.new }
     {
-        kept_place();
         match self.writer.checkpoint_flip() {
-            Ok(FlipReply::Flipped(number)) => {
-                self.copying = Copying::Idle;
-                return Some(Reply::Flipped(number));
-            }
+            Ok(FlipReply::Flipped(number)) => return Some(Reply::Flipped(number)),
             Ok(FlipReply::Behind) => {}
             Err(error) => return Some(Reply::Refused(error)),
         }
         match self.writer.flush_group(self.alloc) {
             Ok(FlushReply::Flushed(_)) => None,
             Ok(FlushReply::Nothing) => {
-                self.copying = Copying::GivenUp;
+                self.writer.give_up();
                 Some(Reply::Again)
             }
             Ok(FlushReply::LogFull) => {
-                self.copying = Copying::GivenUp;
+                self.writer.give_up();
                 Some(Reply::Again)
             }
             Err(error) => Some(Reply::Refused(error)),

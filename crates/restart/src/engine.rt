@@ -2,7 +2,7 @@
 ghost use Rattle.std.specs.Prelude.{◌≡◌, ◌≢◌, ◌⊎◌, ◌≤◌, [], OnErr, OnOk, IfOk, IfErr};
 
 use crate::build::{end_of, in_a_row};
-use crate::parts::Parts;
+use crate::parts::EngineParts;
 use crate::{Event, Reply};
 use core_copies::each_list;
 use core_model::each_half;
@@ -20,16 +20,16 @@ use store_writer::StoreWriter;
 /// opened: its type keeps that, and no call asks it of its caller.
 #[derive(Drop)]
 pub struct Engine<D: Device, A: Allocator> {
-    pub(crate) parts: Parts<D, A>,
+    pub(crate) parts: EngineParts<D, A>,
 }
 
 impl<D: Device, A: Allocator> Model for Engine<D, A> {
     ghost use Rattle.std.specs.Coded.{codes};
-    ghost use Rattle.restart.specs.declared.parts.Parts.{Parts};
+    ghost use Rattle.restart.specs.declared.parts.EngineParts.{EngineParts};
     ghost use Rattle.std.specs.FinMap as map;
     ghost use Rattle.restart.specs.Store.{CanRun};
 
-    ghost Value = { Parts D A };
+    ghost Value = { EngineParts D A };
 
     ghost coded = { Prim.hlevel (codes, map.code) };
 
@@ -181,8 +181,8 @@ impl<D: Device, A: Allocator + Copy> Engine<D, A> {
     }
 
     /// The core, and the writer that owns the device, with every record that the core made (`left`): the device is as
-    /// it was, and so is an image under way. The core goes on counting its transactions and commits; one that served
-    /// nothing is as `restart` loaded it.
+    /// it was, and so are an image under way and the place of its copying. The core goes on counting its transactions
+    /// and commits; one that served nothing is as `restart` loaded it.
     ///
     /// An `Err` gives the engine back, for want of memory to hand the records over: no record is lost, and the run goes
     /// on (`back`).
@@ -194,7 +194,7 @@ impl<D: Device, A: Allocator + Copy> Engine<D, A> {
         let Engine { mut parts } = self;
         let all = parts.hand_over();
         if all {
-            let Parts { core, writer, .. } = parts;
+            let EngineParts { core, writer, .. } = parts;
             Ok((core, writer))
         } else {
             let engine = Engine { parts };
@@ -210,7 +210,7 @@ impl<D: Device, A: Allocator + Copy> Engine<D, A> {
         ensures survives { KeepsRun D.past_of self result }
     {
         let Engine { parts } = self;
-        let Parts { writer, .. } = parts;
+        let EngineParts { writer, .. } = parts;
         writer.into_device()
     }
 }

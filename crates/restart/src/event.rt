@@ -1,7 +1,4 @@
 //! What is asked of the store, and what it answers.
-ghost use Rattle.std.specs.Prelude.{◌≡◌};
-ghost use Rattle.restart.specs.Lawful.{is_read};
-
 use model::Life;
 use nsf_core::{BuildReply, CleanReply, Ticket};
 use records::{Body, Error, Key, Rid, Row, Txn};
@@ -72,31 +69,6 @@ pub enum Event {
     },
     /// Asks how far the index is.
     Life,
-}
-
-impl Event {
-    /// Whether the request only reads.
-    pub fn is_read(&self) -> bool
-        ensures { result ≡ is_read self.now }
-    {
-        match self {
-            Event::Get { .. } | Event::Find { .. } | Event::Life => true,
-            Event::Begin
-            | Event::Insert { .. }
-            | Event::Delete { .. }
-            | Event::Update { .. }
-            | Event::Step { .. }
-            | Event::Undo { .. }
-            | Event::End { .. }
-            | Event::Commit { .. }
-            | Event::Create
-            | Event::Drop
-            | Event::Build
-            | Event::Clean
-            | Event::Flush
-            | Event::Copy => false,
-        }
-    }
 }
 
 /// The answer to a request.

@@ -15,7 +15,7 @@ ghost use Rattle.restart.specs.Migrating.{BeginsEmpty, IsFilled, IsMigrated, IsM
 ghost use Rattle.restart.specs.Migrating.{IsNotMigrated, IsSmallAnswer, IsToldOfOld, IsTooSmall, WritesTheStoreAlone};
 
 use crate::Engine;
-use crate::parts::Parts;
+use crate::parts::EngineParts;
 use core_copies::each_list;
 use core_loader::load;
 use core_model::each_half;
@@ -27,7 +27,7 @@ use sector_device::Device;
 use std::alloc::Allocator;
 use store_opener::write_over;
 use store_reader::{Restored, one_old_answer, read_store_in, room_for_given};
-use store_writer::{Copying, StoreWriter};
+use store_writer::StoreWriter;
 
 /// Why a store wasn't moved.
 #[derive(Clone, Copy, Debug, PartialEq, Eq, thiserror::Error)]
@@ -92,13 +92,12 @@ pub fn migrate<O: Device, N: Device, A: Allocator + Copy>(
             let outgoing = Vec::new(alloc);
             let writer = StoreWriter::new(alloc, new, halves, log, synced);
             Ok(Engine {
-                parts: Parts {
+                parts: EngineParts {
                     core,
                     writer,
                     outgoing,
                     alloc,
                     geometry: halves.geometry(),
-                    copying: Copying::Idle,
                 },
             })
         }

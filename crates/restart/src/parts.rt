@@ -7,21 +7,20 @@ use records::{Error, Geometry, Record};
 use sector_device::Device;
 use std::alloc::Allocator;
 use std::mem;
-use store_writer::{Copying, FlushReply, StoreWriter, kept_place};
+use store_writer::{FlushReply, StoreWriter};
 
 /// A core, and the writer that owns the device.
 #[derive(Drop)]
-pub(crate) struct Parts<D: Device, A: Allocator> {
+pub(crate) struct EngineParts<D: Device, A: Allocator> {
     pub(crate) core: Core<A>,
     pub(crate) writer: StoreWriter<D, A>,
     // The records that were taken from the core, and that the writer doesn't have yet.
     pub(crate) outgoing: Vec<Record, A>,
     pub(crate) alloc: A,
     pub(crate) geometry: Geometry,
-    pub(crate) copying: Copying,
 }
 
-impl<D: Device, A: Allocator + Copy> Parts<D, A> {
+impl<D: Device, A: Allocator + Copy> EngineParts<D, A> {
     ghost use Rattle.restart.specs.declared.event.Event.TheVariants.{Flush};
     ghost use Rattle.restart.specs.Parts.{unhanded};
     ghost use Rattle.restart.specs.Lawful.{IsFlushAnswer};
@@ -61,7 +60,6 @@ impl<D: Device, A: Allocator + Copy> Parts<D, A> {
         ensures slot { OpensSlotsAlone D.past_of self.old self.new }
         ensures can_run { CanRun D.past_of self.new }
     {
-        kept_place();
         if self.writer.has_failed() {
             return Reply::Refused(Error::DeviceFailed);
         }

@@ -13,7 +13,7 @@ ghost use Rattle.restart.specs.Reopening.{IsCoreOf, IsTurned, IsOpened, IsEmptie
 ghost use Rattle.restart.specs.Reopening.{RecoversAnyRun, RefusesNoRun, StaysOfAnyRun};
 
 use crate::Engine;
-use crate::parts::Parts;
+use crate::parts::EngineParts;
 use core_copies::each_list;
 use core_loader::load;
 use core_model::each_half;
@@ -24,7 +24,7 @@ use records::Error;
 use sector_device::Device;
 use std::alloc::Allocator;
 use store_opener::{reopen, written_back};
-use store_writer::{Copying, StoreWriter};
+use store_writer::StoreWriter;
 
 /// Opens the store on the device: syncs it, reads it, and takes back what the transactions did that neither committed
 /// nor ended. What is left is written into the half that wasn't current, with an empty log, and that half is made
@@ -64,13 +64,12 @@ pub fn restart<D: Device, A: Allocator + Copy>(
             let outgoing = Vec::new(alloc);
             let writer = StoreWriter::new(alloc, device, halves, log, synced);
             Ok(Engine {
-                parts: Parts {
+                parts: EngineParts {
                     core,
                     writer,
                     outgoing,
                     alloc,
                     geometry: halves.geometry(),
-                    copying: Copying::Idle,
                 },
             })
         }

@@ -8,7 +8,7 @@ ghost use Rattle.restart.specs.Settling.{CopiesAnew, IsFresh, IsNotParted, IsNot
 ghost use Rattle.restart.specs.Store.{CanRun};
 ghost use Rattle.store_writer.specs.Parts.{image_of};
 
-use crate::parts::Parts;
+use crate::parts::EngineParts;
 use crate::{Engine, Reply};
 use core_copies::{Copies, each_list, one_copy};
 use core_loader::load;
@@ -19,16 +19,16 @@ use sector_device::Device;
 use std::alloc::Allocator;
 use store_image_model::{Chunk, Piece};
 use store_reader::Restored;
-use store_writer::{Copying, StoreWriter};
+use store_writer::StoreWriter;
 
-impl<D: Device, A: Allocator + Copy> Parts<D, A> {
+impl<D: Device, A: Allocator + Copy> EngineParts<D, A> {
     // Gives an image under way up, and takes a whole one at once.
     fn copy_anew(&mut self) -> Reply<A>
         requires { CanRun D.past_of self.old }
         ensures copies { CopiesAnew D.past_of D.failures result self.old self.new }
         ensures can_run { CanRun D.past_of self.new }
     {
-        self.copying = Copying::GivenUp;
+        self.writer.give_up();
         self.copy()
     }
 }
@@ -80,7 +80,7 @@ impl<D: Device, A: Allocator + Copy> Engine<D, A> {
         let _txns = parts.core.active_txns();
         match parts.copy_anew() {
             Reply::Flipped(_) => {
-                let Parts { writer, .. } = parts;
+                let EngineParts { writer, .. } = parts;
                 Ok(writer)
             }
             Reply::Refused(error) => Err((error, Engine { parts })),

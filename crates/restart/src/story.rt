@@ -10,7 +10,7 @@ ghost use Rattle.model.specs.declared.life.Life.TheVariants.{Building};
 ghost use Rattle.gate_log.specs.Area.{Refuses};
 ghost use Rattle.flip_image.specs.declared.half.Half.TheVariants as half;
 ghost use Rattle.flip_image.specs.Store.{IsFormatted, AreGatesClosed};
-ghost use Rattle.restart.specs.declared.parts.Parts.{Parts as PartsValue};
+ghost use Rattle.restart.specs.declared.parts.EngineParts.{EngineParts as PartsValue};
 ghost use Rattle.restart.specs.Building.{HasCome};
 ghost use Rattle.restart.specs.Migrating.{IsMigrated};
 ghost use Rattle.restart.specs.Parts.{core_of, device_of};

@@ -1,6 +1,6 @@
 -- Calls that write certain sectors alone.
 use Rattle.std.proofs.Common.{◌≡◌, ◌⊎◌, inl, inr, ⊎_elim, ℕ, List, true, false, refl, sym, subst}
-use Rattle.sector_device.specs.Disk.{CrashState, Disk, SameOutside}
+use Rattle.sector_device.specs.Disk.{CrashState, SameOutside}
 use Rattle.sector_device.specs.DevicePast.{DevicePast, LeavesOnly, RunsWithin}
 use Rattle.sector_device.proofs.Moments.{joined, started, weaker}
 use Rattle.sector_device.proofs.Sectors.{crash_outside, outside_unsynced, same_outside_then, same_outside_wider}

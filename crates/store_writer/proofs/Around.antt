@@ -4,7 +4,7 @@ use Rattle.std.proofs.Common.{length-set}
 use Rattle.std.proofs.lemmas.Bool.{false≢true, cases_eq, cases_lt}
 use Rattle.std.proofs.lemmas.List.{get_or-set_other, get_or_past}
 use Rattle.std.proofs.lemmas.Grind.{get_or-set_at}
-use Rattle.sector_device.specs.Disk.{CrashState, sector, IsSector, Disk, IsCrashState, SameOutside}
+use Rattle.sector_device.specs.Disk.{CrashState, sector, IsSector, IsCrashState, SameOutside}
 use Rattle.sector_device.specs.DevicePast.{DevicePast, LeavesOnly}
 use Rattle.sector_device.proofs.Moments.{started, joined, weaker, at_end}
 use Rattle.sector_device.proofs.Sectors.{crash_outside, outside_unsynced, same_outside_then, same_outside_wider}

@@ -15,13 +15,16 @@ use Rattle.flip_image.proofs.Sides.{other_apart, log_inside}
 use Rattle.store_image_model.specs.Run.{Run, cells_at, records_between}
 use Rattle.store_reader.specs.Contents.{log_area}
 use Rattle.store_writer.specs.declared.writer.Writer.{Writer}
+use Rattle.store_writer.specs.declared.copying.Copying.{Copying}
 use Rattle.store_writer.specs.declared.image.NewImage.{NewImage}
 use Rattle.store_writer.specs.Contents.{HalfHas, LeftBy}
-use Rattle.store_writer.specs.Image.{IsUnderway, InNewLog}
+use Rattle.store_writer.specs.Copying.{IsCopying}
+use Rattle.store_writer.specs.Image.{IsUnderway, InNewLog, StaysAtStage}
 use Rattle.store_writer.specs.Writer.{StandsFor, IsWriter, HasAppended}
 use Rattle.store_writer.proofs.Numbers.{front_between, back_between, length_between}
 use Rattle.store_writer.proofs.Halves.{SameIn, in_from_outside, half_apart, store_apart, log_room}
 use Rattle.store_writer.proofs.Underway.{new_log_in_half}
+use Rattle.store_writer.proofs.Places.{kept_copying}
 use Rattle.store_writer.proofs.Left.{left_by}
 
 module _ {D M : Type 0} (past_of : D → DevicePast) (run : Run) (handed count : ℕ) (w : Writer D M) (is : HasAppended past_of run handed count w) where
@@ -90,7 +93,8 @@ module _ {D M : Type 0} (past_of : D → DevicePast) (run : Run) (handed count :
   module _ (new : Writer D M) (halves_is : new.halves ≡ w.halves) (log_is : new.log ≡ w.log) (synced_is : new.synced ≡ w.synced + count)
       (waiting_is : new.waiting.items ≡ drop count w.waiting.items)
       (same : SameOutside (InNewLog w.image) content (past_of new.device).disk.content) (all : IsSynced (past_of new.device).disk)
-      (image : IfSome new.image (IsUnderway run (other half) (past_of new.device).disk.content (w.synced + length (take count w.waiting.items)))) where
+      (image : IfSome new.image (IsUnderway run (other half) (past_of new.device).disk.content (w.synced + length (take count w.waiting.items))))
+      (copying_is : new.copying ≡ w.copying) (stays : StaysAtStage w.image new.image) where
     abbrev now : CrashState
     now = (past_of new.device).disk.content
 
@@ -106,6 +110,8 @@ module _ {D M : Type 0} (past_of : D → DevicePast) (run : Run) (handed count :
       image = subst (λ n. IfSome new.image (IsUnderway run (other new.halves.current) now n)) (ap (λ n. w.synced + n) long
           ∙ sym synced_is) (subst (λ (h : HalvesValue). IfSome new.image
           (IsUnderway run (other h.current) now (w.synced + length (take count w.waiting.items)))) (sym halves_is) image);
+      copying = subst (λ (at : Copying). IsCopying g.pages at new.image) (sym copying_is)
+          (kept_copying g.pages w.copying w.image new.image stays is.copying);
     }
 
     pub carried_one : IsWriter past_of run handed new

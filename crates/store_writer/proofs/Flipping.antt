@@ -21,6 +21,9 @@ use Rattle.store_reader.specs.Contents.{log_area}
 use Rattle.store_writer.specs.declared.writer.Writer.{Writer}
 use Rattle.store_writer.specs.declared.image.NewImage.{NewImage}
 use Rattle.store_writer.specs.Contents.{HalfHas, LeftBy}
+use Rattle.store_writer.specs.declared.copying.Copying.{Copying}
+use Rattle.store_writer.specs.declared.copying.Copying.TheVariants.{Idle}
+use Rattle.store_writer.specs.Copying.{IsCopying}
 use Rattle.store_writer.specs.declared.image.Stage.TheVariants.{Whole}
 use Rattle.store_writer.specs.Image.{IsImageWhole, IsContent, IsUnderway, reach}
 use Rattle.store_writer.specs.Writer.{StandsFor, IsWriter}
@@ -100,6 +103,7 @@ module _ {D M : Type 0} (past_of : D → DevicePast) (run : Run) (handed : ℕ) 
   -- the flip was done
   module _ (new : Writer D M) (halves_is : new.halves ≡ record { geometry = old.halves.geometry; current = to }) (log_is : new.log ≡ image.log)
       (synced_is : new.synced ≡ n) (waiting_is : new.waiting.items ≡ drop (n - old.synced) old.waiting.items) (none : new.image ≡ None)
+      (idle : new.copying ≡ Idle)
       (same : SameOutside (λ k. k ≡ 1) content (past_of new.device).disk.content) (named : Names (sector (past_of new.device).disk.content 1) to)
       (all : IsSynced (past_of new.device).disk) where
     abbrev now : CrashState
@@ -135,6 +139,7 @@ module _ {D M : Type 0} (past_of : D → DevicePast) (run : Run) (handed : ℕ) 
       stands = subst (λ (l : Log). Stands l now there.groups) (sym log_is) log_now;
       loose = λ k unsynced. absurd (false≢true (sym (all k) ∙ unsynced));
       image = subst (λ (t : Option NewImage). IfSome t (IsUnderway run (other new.halves.current) now new.synced)) (sym none) tt;
+      copying = subst (λ (at : Copying). IsCopying g.pages at new.image) (sym idle) none;
     }
 
     pub flipped_one : IsWriter past_of run handed new

@@ -25,7 +25,11 @@ use Rattle.store_writer.specs.declared.image.Stage.{Stage}
 use Rattle.store_writer.specs.declared.image.Stage.TheVariants.{Whole, Partly}
 use Rattle.store_image_model.specs.Run.{IsCopiedFrom, records_above}
 use Rattle.store_writer.specs.declared.image.NewImage.{NewImage}
+use Rattle.store_writer.specs.declared.copying.Copying.{Copying}
+use Rattle.store_writer.specs.declared.copying.Copying.TheVariants.{Idle}
+use Rattle.store_writer.specs.Copying.{IsCopying}
 use Rattle.store_writer.specs.Image.{IsContent, IsUnderway, reach}
+use Rattle.store_writer.specs.Parts.{without_image}
 use Rattle.store_writer.proofs.Numbers.{between_split, none_between}
 use Rattle.store_writer.proofs.Left.{left_by}
 
@@ -133,6 +137,7 @@ module _ (run : Run) (more : List RecordValue) where
     groups = is.groups;
     stands = is.stands;
     carried = is.carried ∙ sym (same_between new.base (reach new synced) is.low (omega (arith, is.rise, is.made)) (omega (arith, is.rise, is.made, made)));
+    half-open = is.half-open;
   }
 
   if_underway : (half : Half) (image : CrashState) (synced : ℕ) (new : Option NewImage) → synced ≤ end_of run → IfSome new (IsUnderway run half image synced)
@@ -161,6 +166,7 @@ module _ (run : Run) (more : List RecordValue) where
             stands = stood.stands;
             loose = stood.loose;
             image = if_underway (other w.halves.current) (past_of w.device).disk.content w.synced w.image (omega (arith, is.reached, is.made)) stood.image;
+            copying = stood.copying;
           };
       images = λ image crash. longer_left w.synced handed image is.made (is.images image crash);
     }
@@ -205,15 +211,41 @@ module _ {D M : Type 0} (past_of : D → DevicePast) (run : Run) (handed : ℕ) 
         left_by run new.synced handed left.number image (omega (arith, left.least, s)) left.most left.has;
   }
 
+-- what has no image, and its copying where none is, is a writer still
+pub without : {D M : Type 0} (past_of : D → DevicePast) (run : Run) (handed : ℕ) (copying : Copying) (w : Writer D M)
+    → IsCopying run.geometry.pages copying None → IsWriter past_of run handed w → IsWriter past_of run handed (without_image copying w)
+without past_of run handed copying w none is = record {
+  run-is = is.run-is;
+  geometry-is = is.geometry-is;
+  opened = is.opened;
+  reached = is.reached;
+  made = is.made;
+  small = is.small;
+  waits = is.waits;
+  holds = λ sound.
+      let stood = is.holds sound in
+      record {
+        store = stood.store;
+        has = stood.has;
+        area-is = stood.area-is;
+        groups = stood.groups;
+        stands = stood.stands;
+        loose = stood.loose;
+        image = tt;
+        copying = none;
+      };
+  images = is.images;
+}
+
 -- ---- the beginning
 
 no_record : (n : ℕ) (cells : Cells) → cells ≡ cells_after cells (take (n - n) [])
 no_record n cells = let zero : 0 ≡ n - n = omega arith in ap (λ k. cells_after cells (take k [])) zero
 
 pub opened_writer : {D M : Type 0} (past_of : D → DevicePast) (cells : Cells) (w : Writer D M) → IsOpenedAt (past_of w.device) w.halves w.log w.synced cells
-    → w.waiting.items ≡ [] → w.image ≡ None
+    → w.waiting.items ≡ [] → w.image ≡ None → w.copying ≡ Idle
     → IsWriter past_of (opened_run w.halves w.synced cells) w.synced w
-opened_writer past_of cells w is empty none = record {
+opened_writer past_of cells w is empty none idle = record {
   run-is = record { following = tt; placed = is.placed };
   geometry-is = refl;
   opened = omega arith;
@@ -230,6 +262,7 @@ opened_writer past_of cells w is empty none = record {
     loose = λ n unsynced. absurd (false≢true (sym (is.all_synced n) ∙ unsynced));
     image = subst (λ (t : Option NewImage).
         IfSome t (IsUnderway (opened_run w.halves w.synced cells) (other w.halves.current) (past_of w.device).disk.content w.synced)) (sym none) tt;
+    copying = subst (λ (at : Copying). IsCopying w.halves.geometry.pages at w.image) (sym idle) none;
   };
   images = λ image crash.
       let same : image ≡ (past_of w.device).disk.content = crash_synced (past_of w.device).disk image is.all_synced crash in

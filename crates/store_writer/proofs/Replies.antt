@@ -1,16 +1,16 @@
 -- What the answers of a writer say of it.
-use Rattle.std.proofs.Common.{Result, Ok, Err, OnOk, OnErr, IfOk, ◌≡◌, ◌≢◌, None, ℕ, ◌+◌, ◌-◌, ◌<◌, drop, refl, sym, ap, subst, ◌∙◌, arith}
+use Rattle.std.proofs.Common.{Result, Ok, Err, OnOk, OnErr, IfOk, ◌≡◌, ◌≢◌, Option, None, ℕ, ◌+◌, ◌-◌, ◌<◌, drop, refl, sym, ap, subst, ◌∙◌, arith}
 use Rattle.record_values.specs.declared.error.Error.{Error}
-use Rattle.model.specs.Table.{Table}
 use Rattle.gate_log.specs.Area.{Area, Log}
+use Rattle.store_image_model.specs.Places.{place_behind}
+use Rattle.store_image_model.specs.declared.chunk.CopyPlace.{CopyPlace}
 use Rattle.store_image_model.specs.declared.chunk.Piece.{Piece}
-use Rattle.store_image_model.specs.declared.chunk.Piece.TheVariants.{Page}
+use Rattle.store_writer.specs.declared.copying.Copying.TheVariants.{Steps}
+use Rattle.store_writer.specs.declared.image.NewImage.{NewImage}
 use Rattle.store_writer.specs.declared.writer.Writer.{Writer}
 use Rattle.store_writer.specs.declared.writer.FlushReply.{FlushReply}
 use Rattle.store_writer.specs.declared.writer.FlushReply.TheVariants.{Flushed}
-use Rattle.store_writer.specs.declared.writer.StepReply.{StepReply}
-use Rattle.store_writer.specs.declared.writer.StepReply.TheVariants.{Taken, StartAgain}
-use Rattle.store_writer.specs.Writer.{IsPageAnswered, IsStepReply, FillsGroup, IsFlushReply, IsAsBefore, IsBeforeFlush}
+use Rattle.store_writer.specs.Writer.{FillsGroup, HasKept, HasPiece, HasTaken, IsAsBefore, IsBeforeFlush, IsFlushReply}
 
 -- a log of the same area with one open slot more
 pub log_more : (old new : Log) → new.area ≡ old.area → new.open_slots ≡ old.open_slots + 1 → new ≡ record old { open_slots = old.open_slots + 1 }
@@ -51,11 +51,11 @@ module _ {D M : Type 0} (old mid new : Writer D M) (count : ℕ) where
     log-is = λ none. absurd (some (ap (λ (w : Writer D M). w.image) mid_is ∙ none));
   }
 
--- what is answered of a page is answered of the piece that has its rows
-pub page_answered : {A D M : Type 0} (number page : ℕ) (rows : Table) (piece : Piece A) (old new : Writer D M) (result : Result StepReply Error)
-    → piece ≡ Page page rows
-    → IfOk result (λ reply. IsPageAnswered number page reply old new) → IfOk result (λ reply. IsStepReply number piece reply old new)
-page_answered {A} number page rows piece old new (Ok Taken) is answered = subst (λ (p : Piece A). IsStepReply number p Taken old new) (sym is) answered
-page_answered {A} number page rows piece old new (Ok StartAgain) is answered =
-    subst (λ (p : Piece A). IsStepReply number p StartAgain old new) (sym is) answered
-page_answered number page rows piece old new (Err e) is answered = tt
+-- a piece of this shape was taken
+pub taken_as : {A D M T E : Type 0} (number : ℕ) (piece shape : Piece A) (behind : Option CopyPlace) (old new : Writer D M) (result : Result T E)
+    → piece ≡ shape → behind ≡ place_behind old.halves.geometry.pages piece
+    → OnOk result ((image : NewImage) × HasKept image old new × HasPiece number shape old image × (new.copying ≡ Steps behind))
+    → OnOk result (HasTaken number piece old new)
+taken_as number piece shape behind old new (Ok x) is at (image, kept, has, copying) =
+    (image, kept, subst (λ (p : Piece _). HasPiece number p old image) (sym is) has, copying ∙ ap Steps at)
+taken_as number piece shape behind old new (Err e) is at taken = tt

@@ -1,14 +1,12 @@
 -- An image under way, with one piece more.
-use Rattle.std.proofs.Common.{Result, Ok, Err, IfOk, ◌≡◌, ⊎_elim, ℕ, ◌+◌, ◌-◌, ◌%◌, ◌<◌, ◌≤◌, List, [], ◌++◌, length, take, Option, Some, None, refl, sym, ap}
+use Rattle.std.proofs.Common.{◌≡◌, ⊎_elim, ℕ, ◌+◌, ◌-◌, ◌%◌, ◌<◌, ◌≤◌, List, [], ◌++◌, length, take, Option, Some, None, refl, sym, ap}
 use Rattle.std.proofs.Common.{subst, ◌∙◌, arith, length-append}
 use Rattle.std.proofs.lemmas.Bool.{cases_eq}
 use Rattle.std.proofs.lemmas.Option.{none-some, slice_get_within, slice_get_cases}
 use Rattle.std.specs.Prelude.{slice_get}
 use Rattle.std.specs.FinMap as map
 use Rattle.std.specs.Option.{option_map_or}
-use Rattle.std.specs.declared.vec.Vec.{Vec}
 use Rattle.sector_device.specs.Disk.{CrashState, SameOutside}
-use Rattle.record_values.specs.declared.error.Error.{Error}
 use Rattle.record_values.specs.Values.{Place}
 use Rattle.record_values.specs.Maps.{rid_exact}
 use Rattle.record_values.specs.Orders.{pair_cmp}
@@ -29,8 +27,6 @@ use Rattle.store_image_half.proofs.PartByPart.{part_page}
 use Rattle.flip_image.specs.declared.half.Half.{Half}
 use Rattle.flip_image.specs.Layout.{header_sector}
 use Rattle.flip_image.specs.Store.{HoldsImage}
-use Rattle.store_image_model.specs.declared.chunk.Piece.{Piece}
-use Rattle.store_image_model.specs.declared.chunk.Piece.TheVariants.{Entries}
 use Rattle.store_image_model.specs.Partly.{joined, IsPartlyCopied, ArePageRows, AreNextEntries, AreLastEntries}
 use Rattle.store_image_model.specs.Run.{Run, end_of, cells_at, records_above}
 use Rattle.store_image_model.proofs.Steps.{get_first, get_second, nothing_copied, page_copied, entries_copied, last_copied}
@@ -41,10 +37,7 @@ use Rattle.store_writer.specs.declared.image.NewImage.{NewImage}
 use Rattle.store_writer.specs.declared.image.Stage.{Stage}
 use Rattle.store_writer.specs.declared.image.Stage.TheVariants.{Whole, Partly}
 use Rattle.store_writer.specs.Image.{IsImageWhole, IsPart, IsContent, IsUnderway, reach}
-use Rattle.store_writer.specs.declared.writer.Writer.{Writer}
-use Rattle.store_writer.specs.declared.writer.StepReply.{StepReply}
-use Rattle.store_writer.specs.declared.writer.StepReply.TheVariants.{Taken, StartAgain}
-use Rattle.store_writer.specs.Writer.{IsStartChunk, IsEntriesChunk, stage_behind, AreEntriesAnswered, IsStepReply}
+use Rattle.store_writer.specs.Writer.{IsStartChunk, IsEntriesChunk, stage_behind}
 use Rattle.store_writer.proofs.Numbers.{none_between}
 
 -- ---- it begins
@@ -80,6 +73,7 @@ start_taken run half image synced new life lists opened one stage_is chunk part 
       groups = [];
       stands = stands;
       carried = sym (none_between run new.base (reach new synced) (omega (arith, chunk.late)));
+      half-open = omega (arith, stands.counted);
     }
 
 -- ---- it goes on
@@ -98,6 +92,7 @@ at_stage run half image c synced i is number stage later made stands content = r
   groups = is.groups;
   stands = stands;
   carried = is.carried;
+  half-open = is.half-open;
 }
 
 module _ (run : Run) (half : Half) (image c : CrashState) (base to number : ℕ) (low : run.last ≤ base) (rise : base ≤ to) (later : to ≤ number) where
@@ -270,17 +265,3 @@ with_entries run half image c i number entries chunk low rise is geometry g_is p
     subst (IsContent run half c i.base number) same (with_chunk run half image c i number entries chunk low rise is
     (λ long counted all. here now index long is.part (sym count_is ∙ counted) all)
     (λ short counted all life_at. there now index short is.part (sym count_is ∙ counted) all (sym life_is ∙ life_at)))
-
--- what is answered of entries is answered of the piece that has them
-pub entries_answered : {A D M : Type 0} (number : ℕ) (entries : Vec (Pair × Mark) A) (list : List (Pair × Mark)) (piece : Piece A) (old new : Writer D M)
-    (result : Result StepReply Error) → list ≡ entries.items → piece ≡ Entries entries
-    → IfOk result (λ reply. AreEntriesAnswered number list reply old new) → IfOk result (λ reply. IsStepReply number piece reply old new)
-entries_answered {A} number entries list piece old new result same is answered =
-    subst (λ (p : Piece A). IfOk result (λ reply. IsStepReply number p reply old new)) (sym is)
-    (by result (subst (λ (l : List (Pair × Mark)). IfOk result (λ reply. AreEntriesAnswered number l reply old new)) same answered))
-  where
-    by : (result : Result StepReply Error) → IfOk result (λ reply. AreEntriesAnswered number entries.items reply old new)
-        → IfOk result (λ reply. IsStepReply number (Entries entries) reply old new)
-    by (Ok Taken) is = is
-    by (Ok StartAgain) is = is
-    by (Err e) is = is

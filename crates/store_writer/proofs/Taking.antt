@@ -18,6 +18,7 @@ use Rattle.store_writer.specs.declared.writer.Writer.{Writer}
 use Rattle.store_writer.specs.declared.image.NewImage.{NewImage}
 use Rattle.store_writer.specs.Contents.{HalfHas, LeftBy}
 use Rattle.store_writer.specs.declared.image.Stage.TheVariants.{Whole}
+use Rattle.store_writer.specs.Copying.{IsCopying}
 use Rattle.store_writer.specs.Image.{IsContent, IsUnderway, reach}
 use Rattle.store_writer.specs.Writer.{StandsFor, IsWriter}
 use Rattle.store_writer.proofs.Numbers.{none_between}
@@ -42,6 +43,7 @@ whole_taken run half image synced new copied opened late one whole made is holds
   groups = [];
   stands = stands;
   carried = sym (none_between run new.base (reach new synced) (omega (arith, late)));
+  half-open = omega (arith, stands.counted);
 }
 
 module _ {D M : Type 0} (past_of : D → DevicePast) (run : Run) (handed : ℕ) (old : Writer D M) (is : IsWriter past_of run handed old)
@@ -87,8 +89,9 @@ module _ {D M : Type 0} (past_of : D → DevicePast) (run : Run) (handed : ℕ) 
   pub stands_with : (new : Writer D M) → new.halves ≡ old.halves → new.log ≡ old.log → new.synced ≡ old.synced
       → SameOutside (InHalf g (other half)) content (past_of new.device).disk.content
       → ((n : ℕ) → (past_of new.device).disk.unsynced n ≡ true → InHalfImage g (other half) n)
-      → IfSome new.image (IsUnderway run (other half) (past_of new.device).disk.content old.synced) → StandsFor past_of run new
-  stands_with new halves_is log_is synced_is same loose image =
+      → IfSome new.image (IsUnderway run (other half) (past_of new.device).disk.content old.synced)
+      → IsCopying run.geometry.pages new.copying new.image → StandsFor past_of run new
+  stands_with new halves_is log_is synced_is same loose image copying =
       let c = (past_of new.device).disk.content in
       record {
         store = subst (λ (h : HalvesValue). IsStore g h.current c) (sym halves_is) (store_kept c same);
@@ -100,4 +103,5 @@ module _ {D M : Type 0} (past_of : D → DevicePast) (run : Run) (handed : ℕ) 
         loose = λ n unsynced. subst (λ (h : HalvesValue). InHalfImage g (other h.current) n) (sym halves_is) (loose n unsynced);
         image = subst (λ n. IfSome new.image (IsUnderway run (other new.halves.current) c n)) (sym synced_is)
             (subst (λ (h : HalvesValue). IfSome new.image (IsUnderway run (other h.current) c old.synced)) (sym halves_is) image);
+        copying = copying;
       }

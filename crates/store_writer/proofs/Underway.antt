@@ -1,5 +1,5 @@
 -- What becomes of an image under way where the records above its base are carried on.
-use Rattle.std.proofs.Common.{◌≡◌, ◌⊎◌, ⊎_elim, ℕ, ◌+◌, ◌-◌, ◌<◌, ◌≤◌, List, [], ◌∷◌, ◌++◌, length, take, drop, Option, Some, None, IfSome, refl, sym, ap}
+use Rattle.std.proofs.Common.{◌≡◌, ◌⊎◌, ⊎_elim, ℕ, ◌+◌, ◌-◌, ◌/◌, ◌<◌, ◌≤◌, List, [], ◌∷◌, ◌++◌, length, take, drop, Option, Some, None, IfSome, refl, sym, ap}
 use Rattle.std.proofs.Common.{subst, ◌∙◌, arith, length-drop, length-append}
 use Rattle.std.proofs.lemmas.Bool.{false≢true}
 use Rattle.std.specs.List.{flat_map}
@@ -108,6 +108,7 @@ module _ (run : Run) (half : Half) (image c : CrashState) (synced : ℕ) (new : 
       counted = is.stands.counted;
     };
     carried = is.carried;
+    half-open = is.half-open;
   }
 
   -- the last synced record is later, and still no later than the base
@@ -121,14 +122,15 @@ module _ (run : Run) (half : Half) (image c : CrashState) (synced : ℕ) (new : 
     groups = is.groups;
     stands = is.stands;
     carried = is.carried ∙ ap (records_between run new.base) (let e : reach new synced ≡ reach new n = omega arith in e);
+    half-open = is.half-open;
   }
 
   -- the records above the base are carried
   pub carried_more : (log : Log) (group : List RecordValue) (count : ℕ) → run.last ≤ synced → group ≡ records_between run synced (synced + count)
-      → synced + count ≤ end_of run → new.base < synced + count
+      → synced + count ≤ end_of run → new.base < synced + count → new.log.open_slots < run.geometry.slots / 2
       → SameOutside (InArea new.log.area) image c → log.area ≡ new.log.area → Stands log c (is.groups ++ drop (new.base - synced) group ∷ [])
       → IsUnderway run half c (synced + count) (record { base = new.base; number = new.number; stage = new.stage; log = log })
-  carried_more log group count opened group_is made above same area stands = record {
+  carried_more log group count opened group_is made above room same area stands = record {
     low = is.low;
     rise = is.rise;
     made = is.made;
@@ -149,6 +151,13 @@ module _ (run : Run) (half : Half) (image c : CrashState) (synced : ℕ) (new : 
         ∙ ap (λ (t : List RecordValue). records_between run new.base mid ++ t) rest
         ∙ sym (between_split run new.base mid (synced + count) is.low (omega arith) (omega arith))
         ∙ ap (records_between run new.base) (sym last);
+    half-open = omega (
+      arith,
+      stands.counted,
+      is.stands.counted,
+      length-append is.groups (drop (new.base - synced) group ∷ []),
+      room,
+    );
   }
 
 -- the rest of a list, as a slice of it

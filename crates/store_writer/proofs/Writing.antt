@@ -21,7 +21,9 @@ use Rattle.store_image_model.proofs.Runs.{reached}
 use Rattle.store_reader.specs.Contents.{log_area}
 use Rattle.store_writer.specs.declared.writer.Writer.{Writer}
 use Rattle.store_writer.specs.Contents.{HalfHas, LeftBy}
+use Rattle.store_writer.specs.declared.copying.Copying.{Copying}
 use Rattle.store_writer.specs.declared.image.NewImage.{NewImage}
+use Rattle.store_writer.specs.Copying.{IsCopying}
 use Rattle.store_writer.specs.Image.{IsUnderway}
 use Rattle.store_writer.specs.Writer.{StandsFor, IsWriter, HasAppended}
 use Rattle.store_writer.proofs.Numbers.{length_between, front_between, between_following}
@@ -147,7 +149,7 @@ module _ {D M : Type 0} (past_of : D → DevicePast) (run : Run) (handed : ℕ) 
 
     -- after the append was done
     module _ (new : Writer D M) (halves_is : new.halves ≡ old.halves) (same_area : new.log.area ≡ old.log.area) (synced_is : new.synced ≡ old.synced)
-        (waiting_is : new.waiting.items ≡ old.waiting.items) (image_is : new.image ≡ old.image)
+        (waiting_is : new.waiting.items ≡ old.waiting.items) (image_is : new.image ≡ old.image) (copying_is : new.copying ≡ old.copying)
         (slot : SameOutside (InSlot old.log.area old.log.open_slots) disk.content (past_of new.device).disk.content)
         (stands_new : Stands new.log (past_of new.device).disk.content (stood.has.groups ++ group ∷ [])) (all : IsSynced (past_of new.device).disk) where
       abbrev content : CrashState
@@ -186,6 +188,8 @@ module _ {D M : Type 0} (past_of : D → DevicePast) (run : Run) (handed : ℕ) 
         image = subst (λ (t : Option NewImage). IfSome t (IsUnderway run (other new.halves.current) content new.synced)) (sym image_is)
             (subst (λ n. IfSome old.image (IsUnderway run (other new.halves.current) content n)) (sym synced_is)
             (subst (λ (h : HalvesValue). IfSome old.image (IsUnderway run (other h.current) content old.synced)) (sym halves_is) image_kept));
+        copying = subst (λ (t : Option NewImage). IsCopying g.pages new.copying t) (sym image_is)
+            (subst (λ (at : Copying). IsCopying g.pages at old.image) (sym copying_is) stood.copying);
       }
 
 -- after a call that left records and numbers alone

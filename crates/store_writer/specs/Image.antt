@@ -55,7 +55,8 @@ IsContent run half image base to Whole = IsImageWhole run half image base to
 IsContent run half image base to (Partly pages count highest life) =
     IsPart run half image base to pages count highest life
 
--- The image is in this half, and the half's log has the records above its base that are synced.
+-- The image is in this half, and the half's log has the records above its base that are synced, in half its slots at
+-- most.
 pub record IsUnderway (run : Run) (half : Half) (image : CrashState) (synced : ℕ) (new : NewImage) : Type 0 where
   pub low : run.last ≤ new.base
   pub rise : new.base ≤ new.number
@@ -65,6 +66,7 @@ pub record IsUnderway (run : Run) (half : Half) (image : CrashState) (synced : �
   pub groups : List (List RecordValue)
   pub stands : Stands new.log image groups
   pub carried : records_of groups ≡ records_between run new.base (reach new synced)
+  pub half-open : new.log.open_slots ≤ run.geometry.slots / 2
 
 -- a sector of the log of an image's half
 abbrev pub InNewLog : Option NewImage → ℕ → Type 0
@@ -95,3 +97,7 @@ pub record BecomesImage (slots synced count : ℕ) (old new : Option NewImage) :
   pub carried : (i : NewImage) → old ≡ Some i → i.base < synced + count → i.log.open_slots < slots / 2
       → (n : NewImage) × (new ≡ Some n) × (n.base ≡ i.base) × (n.number ≡ i.number) × (n.stage ≡ i.stage)
       × (n.log.open_slots ≡ i.log.open_slots + 1)
+
+-- an image that is there now was there, at the stage that it is at (no public clause cites this)
+abbrev pub StaysAtStage : (old new : Option NewImage) → Type 0
+StaysAtStage old new = (n : NewImage) → new ≡ Some n → (i : NewImage) × (old ≡ Some i) × (n.stage ≡ i.stage)

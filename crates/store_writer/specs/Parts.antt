@@ -1,8 +1,9 @@
 -- The parts of a writer.
-use Rattle.std.specs.Prelude.{ℕ, Bool, List, Option}
+use Rattle.std.specs.Prelude.{ℕ, Bool, List, Option, None}
 use Rattle.records.specs.RecordValue.{RecordValue}
 use Rattle.gate_log.specs.Area.{Log}
 use Rattle.flip_image.specs.Layout.{HalvesValue}
+use Rattle.store_writer.specs.declared.copying.Copying.{Copying}
 use Rattle.store_writer.specs.declared.image.NewImage.{NewImage}
 use Rattle.store_writer.specs.declared.writer.Writer.{Writer}
 
@@ -32,3 +33,11 @@ module _ {D M : Type 0} where
   -- the image under way
   abbrev pub image_of : Writer D M → Option NewImage
   image_of w = w.image
+
+  -- how far its copying has come
+  abbrev pub copying_of : Writer D M → Copying
+  copying_of w = w.copying
+
+  -- with no image under way, and its copying here
+  abbrev pub without_image : Copying → Writer D M → Writer D M
+  without_image copying w = record w { image = None; copying = copying }

@@ -13,8 +13,6 @@ use Rattle.store_image_model.specs.Partly.{ArePageRows, AreNextEntries, AreLastE
 use Rattle.store_image_model.specs.declared.chunk.TheConstants.{CHUNK_ENTRIES}
 use Rattle.store_image_model.specs.declared.chunk.CopyPlace.{CopyPlace}
 use Rattle.store_image_model.specs.declared.chunk.CopyPlace.TheVariants as at
-use Rattle.store_image_model.specs.declared.chunk.Piece.{Piece}
-use Rattle.store_image_model.specs.declared.chunk.Piece.TheVariants.{Whole, Start, Page, Entries}
 use Rattle.store_writer.specs.declared.image.NewImage.{NewImage}
 use Rattle.store_writer.specs.declared.image.Stage.TheVariants as stage
 
@@ -27,13 +25,6 @@ IsAtPlace pages (Some (at.Page page)) image = (page < pages)
     × ((i : NewImage) × (life : Life) × (image ≡ Some i) × (i.stage ≡ stage.Partly page 0 None life))
 IsAtPlace pages (Some (at.Entries above)) image = (i : NewImage) × (count : ℕ) × (life : Life) × (image ≡ Some i)
     × (i.stage ≡ stage.Partly pages count above life)
-
--- the image is at the place of this piece; a whole image and the start of one come at any place
-abbrev pub IsAtPiece : {A : Type 0} → (pages : ℕ) → Piece A → Option NewImage → Type 0
-IsAtPiece pages (Whole cells) image = Unit {0}
-IsAtPiece pages (Start life lists) image = Unit {0}
-IsAtPiece pages (Page page rows) image = IsAtPlace pages (Some (at.Page page)) image
-IsAtPiece pages (Entries entries) image = (above : Option Pair) × IsAtPlace pages (Some (at.Entries above)) image
 
 -- these are the rows of a page as the last record made left them
 pub record AreRowsNow (run : Run) (page : ℕ) (rows : Table) : Type 0 where

@@ -25,6 +25,7 @@ use Rattle.gate_log.specs.Group.{FitsGroup, spellings}
 use Rattle.gate_log.specs.declared.group.TheConstants.{GROUP_MAX}
 use Rattle.flip_image.specs.Layout.{HalvesValue, other, InHalfImage, InLog}
 use Rattle.flip_image.specs.Store.{IsStore}
+use Rattle.store_image_model.specs.Places.{place_behind}
 use Rattle.store_image_model.specs.Run.{Run, IsRun, end_of, cells_at, records_between}
 use Rattle.store_reader.specs.Contents.{log_area}
 use Rattle.store_writer.specs.declared.writer.Writer.{Writer}
@@ -43,13 +44,16 @@ use Rattle.store_image_model.specs.declared.chunk.Piece.TheVariants.{Whole, Star
 use Rattle.model.specs.Redo.{cells_of}
 use Rattle.store_writer.specs.declared.writer.FlipReply.{FlipReply}
 use Rattle.store_writer.specs.declared.writer.FlipReply.TheVariants.{Flipped, Behind}
+use Rattle.store_writer.specs.declared.copying.Copying.TheVariants.{Idle, Steps, GivenUp}
+use Rattle.store_writer.specs.Copying.{IsCopying}
 use Rattle.store_writer.specs.Image.{InNewSlot, IsUnderway, reach}
+use Rattle.store_writer.specs.Parts.{without_image}
 
 -- ---- what it stands for
 
 module _ {D M : Type 0} (past_of : D → DevicePast) (run : Run) where
   -- The current half has the cells after the last synced record, and the log knows its open slots. No sector is
-  -- unsynced but of the other half's image, and an image under way is in that half.
+  -- unsynced but of the other half's image, and an image under way is in that half, where its copying is.
   pub record StandsFor (w : Writer D M) : Type 0 where
     pub store : IsStore run.geometry w.halves.current (past_of w.device).disk.content
     pub has : HalfHas run.geometry w.halves.current (past_of w.device).disk.content w.synced (cells_at run w.synced)
@@ -59,6 +63,7 @@ module _ {D M : Type 0} (past_of : D → DevicePast) (run : Run) where
     pub loose : (n : ℕ) → (past_of w.device).disk.unsynced n ≡ true
         → InHalfImage run.geometry (other w.halves.current) n
     pub image : IfSome w.image (IsUnderway run (other w.halves.current) (past_of w.device).disk.content w.synced)
+    pub copying : IsCopying run.geometry.pages w.copying w.image
 
   -- The records of the run up to number `handed` were handed in. The device stands for those up to the last synced one,
   -- unless it failed, and the others wait. A crash now leaves the cells after one of them, no earlier than the last
@@ -93,6 +98,7 @@ module _ {D M : Type 0} (past_of : D → DevicePast) (run : Run) where
     pub stands : Stands w.log (past_of w.device).disk.content groups
     pub all_synced : IsSynced (past_of w.device).disk
     pub image : IfSome w.image (IsUnderway run (other w.halves.current) (past_of w.device).disk.content w.synced)
+    pub copying : IsCopying run.geometry.pages w.copying w.image
 
 -- some records of some run were handed in
 abbrev pub IsSomewhere : {D M : Type 0} → (D → DevicePast) → Writer D M → Type 0
@@ -303,39 +309,23 @@ IsPast w more = (image : NewImage) × (pages count : ℕ) × (highest : Option P
     × (w.image ≡ Some image) × (image.stage ≡ stage.Partly pages count highest life)
     × (w.halves.geometry.entries < count + more)
 
--- so many more entries can't be taken
-abbrev pub AreRefused : {D M : Type 0} → ℕ → Writer D M → Type 0
-AreRefused more w = (w.image ≡ None) ⊎ (IsLogFull w ⊎ IsPast w more)
-
--- the rows of a page can't be
-abbrev pub IsPageRefused : {D M : Type 0} → Writer D M → Type 0
-IsPageRefused w = (w.image ≡ None) ⊎ IsLogFull w
-
 -- Why an image is to be copied from its start: every slot of the current log is open; or it was given up, and there is
 -- none; or its entries would pass the geometry's. A whole image is taken always.
 abbrev pub MustStartAgain : {A D M : Type 0} → Piece A → Writer D M → Type 0
 MustStartAgain (Whole cells) w = ⊥
 MustStartAgain (Start life lists) w = IsLogFull w
-MustStartAgain (Page page rows) w = IsPageRefused w
-MustStartAgain (Entries entries) w = AreRefused (length entries.items) w
+MustStartAgain (Page page rows) w = (w.image ≡ None) ⊎ IsLogFull w
+MustStartAgain (Entries entries) w = (w.image ≡ None) ⊎ (IsLogFull w ⊎ IsPast w (length entries.items))
 
--- the piece is in the image, and all else but the device is as it was; or nothing changed
+-- the piece is in the image, whose copying goes on behind it, and all else but the device is as it was
+abbrev pub HasTaken : {A D M : Type 0} → ℕ → Piece A → Writer D M → Writer D M → Type 0
+HasTaken number piece old new = (image : NewImage) × HasKept image old new × HasPiece number piece old image
+    × (new.copying ≡ Steps (place_behind old.halves.geometry.pages piece))
+
+-- it was taken; or the image is given up, and all else is as it was
 abbrev pub IsStepReply : {A D M : Type 0} → ℕ → Piece A → StepReply → Writer D M → Writer D M → Type 0
-IsStepReply number piece Taken old new = (¬ MustStartAgain piece old)
-    × ((image : NewImage) × HasKept image old new × HasPiece number piece old image)
-IsStepReply number piece StartAgain old new = (new ≡ old) × MustStartAgain piece old
-
--- so it is of a page and of entries (no public clause cites these)
-abbrev pub IsPageAnswered : {D M : Type 0} → ℕ → (page : ℕ) → StepReply → Writer D M → Writer D M → Type 0
-IsPageAnswered number page Taken old new = (¬ IsPageRefused old)
-    × ((image : NewImage) × HasKept image old new × HasRows number page old image)
-IsPageAnswered number page StartAgain old new = (new ≡ old) × IsPageRefused old
-
--- so it is of entries (no public clause cites it)
-abbrev pub AreEntriesAnswered : {D M : Type 0} → ℕ → List (Pair × Mark) → StepReply → Writer D M → Writer D M → Type 0
-AreEntriesAnswered number entries Taken old new = (¬ AreRefused (length entries) old)
-    × ((image : NewImage) × HasKept image old new × HaveEntries number entries old image)
-AreEntriesAnswered number entries StartAgain old new = (new ≡ old) × AreRefused (length entries) old
+IsStepReply number piece Taken old new = (¬ MustStartAgain piece old) × HasTaken number piece old new
+IsStepReply number piece StartAgain old new = (new ≡ without_image GivenUp old) × MustStartAgain piece old
 
 -- what a flip wants: there is a whole image, every record up to its last step was handed in, and those above its base
 -- are synced
@@ -343,11 +333,13 @@ abbrev pub CanFlip : {D M : Type 0} → ℕ → Writer D M → Type 0
 CanFlip handed w = (image : NewImage) × (w.image ≡ Some image) × (image.stage ≡ stage.Whole) × (image.number ≤ handed)
     × (image.number ≤ reach image w.synced)
 
--- The image's half is current, and its log is the log. The records up to the new last synced one wait no more.
+-- The image's half is current, and its log is the log. The records up to the new last synced one wait no more, and no
+-- image is copied.
 pub record HasFlipped {D M : Type 0} (old new : Writer D M) : Type 0 where
   pub halves-are : new.halves ≡ record { geometry = old.halves.geometry; current = other old.halves.current }
   pub log-is : (image : NewImage) → old.image ≡ Some image → new.log ≡ image.log
   pub waiting-are : new.waiting.items ≡ drop (new.synced - old.synced) old.waiting.items
+  pub copying-is : new.copying ≡ Idle
 
 -- the image is current, or there is none that can be
 abbrev pub IsFlipReply : {D M : Type 0} → ℕ → FlipReply → Writer D M → Writer D M → Type 0

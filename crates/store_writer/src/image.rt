@@ -27,7 +27,7 @@ ghost use Rattle.store_image_model.specs.Run.{Run, end_of, records_between};
 ghost use Rattle.store_image_model.specs.declared.chunk.TheConstants.{CHUNK_ENTRIES};
 ghost use Rattle.store_reader.specs.Contents.{log_area};
 ghost use Rattle.store_writer.specs.declared.image.Stage.TheVariants.{Partly};
-ghost use Rattle.store_writer.specs.Image.{IsUnderway, InNewLog, InNewSlot, IsPlan, BecomesImage};
+ghost use Rattle.store_writer.specs.Image.{IsUnderway, InNewLog, InNewSlot, IsPlan, BecomesImage, StaysAtStage};
 ghost use Rattle.store_writer.specs.Writer.{WritesOnly};
 ghost use Rattle.store_writer.specs.Writer.{stage_behind};
 
@@ -121,7 +121,7 @@ pub(crate) fn carry<D: Device, A: Allocator>(
     ensures carried { IfOk result (λ new. (slots synced : ℕ) (group : List RecordValue)
         → IsPlan image slots synced group plan
         → (run : Run) (half : Half) → IfSome image (IsUnderway run half (D.past_of device.old).disk.content synced)
-        → run.last ≤ synced → synced + length group ≤ end_of run
+        → slots ≡ run.geometry.slots → run.last ≤ synced → synced + length group ≤ end_of run
         → group ≡ records_between run synced (synced + length group)
         → IfSome new (IsUnderway run half (D.past_of device.new).disk.content (synced + length group))) }
     ensures becomes { IfOk result (λ new. (slots synced : ℕ) (group : List RecordValue)
@@ -129,6 +129,7 @@ pub(crate) fn carry<D: Device, A: Allocator>(
         → (run : Run) (half : Half) → IfSome image (IsUnderway run half (D.past_of device.old).disk.content synced)
         → slots ≡ run.geometry.slots → 0 < length group → BecomesImage slots synced (length group) image new) }
     ensures none { IfOk result (λ new. image ≡ None → new ≡ None) }
+    ensures stage { IfOk result (λ new. StaysAtStage image new) }
     ensures synced { OnOk result (IsSynced (D.past_of device.new).disk) }
     ensures outside { SameOutside (InNewLog image) (D.past_of device.old).disk.content
         (D.past_of device.new).disk.content }

@@ -11,11 +11,7 @@ ghost use Rattle.gate_log.specs.Area.{Log, Stands};
 ghost use Rattle.flip_image.specs.Layout.{HalvesValue};
 ghost use Rattle.flip_image.specs.Store.{IsStore, HoldsImage};
 ghost use Rattle.store_image_model.specs.Run.{Run, IsRun, end_of, cells_at};
-ghost use Rattle.store_image_model.specs.declared.chunk.CopyPlace.{CopyPlace};
 ghost use Rattle.store_reader.specs.Contents.{IsFound, log_area};
-ghost use Rattle.store_writer.specs.declared.image.NewImage.{NewImage};
-ghost use Rattle.store_writer.specs.Image.{BecomesImage};
-ghost use Rattle.store_writer.specs.Places.{IsAtPlace};
 ghost use Rattle.store_writer.specs.Writer.{IsOpenedAt, longer, AreNext};
 
 use store_reader::image_inside;
@@ -50,11 +46,4 @@ pub fn longer_run()
         → AreFollowing run.geometry.pages (end_of run) (cells_at run (end_of run)) more → IsRun (longer run more) }
     ensures next { (run : Run) (more : List RecordValue) → end_of run + length more ≤ LAST_NUMBER
         → AreNext (longer run more) (end_of run) more }
-{}
-
-/// A law: an image that is copied in steps stays at its place where a group is flushed, or is given up.
-pub fn kept_place()
-    ensures { (pages slots synced count : ℕ) (place : Option CopyPlace) (old new : Option NewImage)
-        → BecomesImage slots synced count old new → IsAtPlace pages place old → (new ≡ None)
-        ⊎ IsAtPlace pages place new }
 {}

@@ -5,8 +5,8 @@
 //! writes in one slot of each log alone (`slot`). `checkpoint_step` takes an image piece by piece (`stepped`).
 //! `checkpoint_flip` makes it current just where its log has all it needs (`flipped`, `behind`). No record is lost for
 //! want of memory (`back`). Only tested, through a store: that calls succeed where there is memory.
-//! `Copying` tells how far the copying of an image has come; who copies one keeps it. `opened_by_reader`: what a reader
-//! found is a premise of `StoreWriter::new`.
+//! It keeps how far the copying of an image has come (`Copying`): its own calls alone move it on. `opened_by_reader`:
+//! what a reader found is a premise of `StoreWriter::new`.
 //!
 //! Lemmas about its public words that crates above may cite, in `proofs`: `Alone` and `Around`.
 #![tactic(auto)]
@@ -20,6 +20,6 @@ mod writer;
 
 pub use copying::Copying;
 pub use image::write_whole;
-pub use laws::{kept_place, longer_run, opened_by_image, opened_by_reader};
+pub use laws::{longer_run, opened_by_image, opened_by_reader};
 pub use store::StoreWriter;
 pub use writer::{FlipReply, FlushReply, StepReply};

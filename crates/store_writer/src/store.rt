@@ -11,25 +11,26 @@ ghost use Rattle.record_values.specs.declared.pair.Mark.{Mark as MarkValue};
 ghost use Rattle.model.specs.Table.{Table};
 ghost use Rattle.store_image_model.specs.declared.chunk.CopyPlace.{CopyPlace};
 ghost use Rattle.store_image_model.specs.Run.{Run, IsRun, end_of};
-ghost use Rattle.store_image_model.specs.Places.{place_behind};
 ghost use Rattle.flip_image.specs.Layout.{other, InHalf};
 ghost use Rattle.flip_image.specs.declared.half.TheConstants.{FLIP_SECTOR};
 ghost use Rattle.store_writer.specs.Contents.{LeftBy};
 ghost use Rattle.store_writer.specs.declared.image.NewImage.{NewImage};
-ghost use Rattle.store_writer.specs.Places.{IsAtPlace, IsAtPiece, AreRowsNow, AreEntriesNow};
+ghost use Rattle.store_writer.specs.Copying.{next_place};
+ghost use Rattle.store_writer.specs.Places.{AreRowsNow, AreEntriesNow};
 ghost use Rattle.store_writer.specs.Image.{BecomesImage};
 ghost use Rattle.store_writer.specs.Parts.{device_of, halves_of, log_of, waiting_of, synced_of, has_failed, image_of};
+ghost use Rattle.store_writer.specs.Parts.{copying_of, without_image};
 
 use crate::image::{Stage, plan_for};
 use crate::writer::{Writer, is_full};
-use crate::{FlipReply, FlushReply, StepReply};
+use crate::{Copying, FlipReply, FlushReply, StepReply};
 use flip_image::Halves;
 use gate_log::{Appended, LogArea, group_len, spell};
 use records::{Error, Geometry, Record};
 use sector_device::Device;
 use std::alloc::Allocator;
 use std::marker::Model;
-use store_image_model::{Chunk, Piece};
+use store_image_model::Chunk;
 
 /// The one that owns a store's device, and takes the records that are made.
 ///
@@ -77,6 +78,7 @@ impl<D: Device, A: Allocator + Copy> StoreWriter<D, A> {
         ensures waiting { waiting_of result ≡ [] }
         ensures synced { synced_of result ≡ synced }
         ensures image { image_of result ≡ None }
+        ensures copying { copying_of result ≡ Copying.Idle }
         ensures sound { has_failed result ≡ false }
     {
         let writer = Writer {
@@ -86,6 +88,7 @@ impl<D: Device, A: Allocator + Copy> StoreWriter<D, A> {
             waiting: Vec::new(alloc),
             synced,
             image: None,
+            copying: Copying::Idle,
             failed: false,
         };
         StoreWriter { writer }
@@ -101,12 +104,12 @@ impl<D: Device, A: Allocator + Copy> StoreWriter<D, A> {
     pub fn next_pieces(&self)
         ensures page { (run : Run) (handed page : ℕ) (rows : Table) → IsWriter D.past_of run handed self.now
             → has_failed self.now ≡ false → end_of run ≤ LAST_NUMBER
-            → IsAtPlace run.geometry.pages (Some (CopyPlace.Page page)) (image_of self.now)
+            → next_place (copying_of self.now) ≡ Some (CopyPlace.Page page)
             → AreRowsNow run page rows → (i : NewImage) → (image_of self.now) ≡ Some i
             → IsPageChunk run i (end_of run) page rows }
         ensures entries { (run : Run) (handed : ℕ) (above : Option PairValue) (entries : List (PairValue × MarkValue))
             → IsWriter D.past_of run handed self.now → has_failed self.now ≡ false → end_of run ≤ LAST_NUMBER
-            → IsAtPlace run.geometry.pages (Some (CopyPlace.Entries above)) (image_of self.now)
+            → next_place (copying_of self.now) ≡ Some (CopyPlace.Entries above)
             → AreEntriesNow run above entries → (i : NewImage) → (image_of self.now) ≡ Some i
             → IsEntriesChunk run i (end_of run) entries }
     {}
@@ -130,6 +133,7 @@ impl<D: Device, A: Allocator + Copy> StoreWriter<D, A> {
         ensures log { log_of self.new ≡ log_of self.old }
         ensures synced { synced_of self.new ≡ synced_of self.old }
         ensures image { image_of self.new ≡ image_of self.old }
+        ensures copying { copying_of self.new ≡ copying_of self.old }
         ensures failed { has_failed self.new ≡ has_failed self.old }
     {
         if records.is_empty() {
@@ -161,6 +165,7 @@ impl<D: Device, A: Allocator + Copy> StoreWriter<D, A> {
         ensures image { (n : ℕ) → result ≡ Ok (FlushReply.Flushed n)
             → BecomesImage (halves_of self.old).geometry.slots (synced_of self.old) (n - synced_of self.old)
             (image_of self.old) (image_of self.new) }
+        ensures copying { copying_of self.new ≡ copying_of self.old }
         ensures nothing { result ≡ Ok FlushReply.Nothing → (run : Run) (handed : ℕ)
             → IsWriter D.past_of run handed self.old → synced_of self.old ≡ handed }
         ensures idle { (run : Run) (handed : ℕ) → IsWriter D.past_of run handed self.old → has_failed self.old ≡ false
@@ -211,12 +216,12 @@ impl<D: Device, A: Allocator + Copy> StoreWriter<D, A> {
     /// Takes what was copied into an image, into the half that isn't current. All cells, as the record of the chunk's
     /// number left them, make a whole image; life and lists begin one that is copied in steps; either gives up an image
     /// that was under way, and its log is empty. Then come the rows of each page in order, and the entries in order,
-    /// the last ones fewer than a chunk takes: with them the image is whole.
+    /// the last ones fewer than a chunk takes: with them the image is whole. Its copying goes on behind the piece.
     ///
     /// `StartAgain` where the image is copied in steps and every slot of the current log is open, or it was given up,
-    /// or its entries would pass the geometry's: nothing changes, and a whole image is wanted. `DeviceFailed` comes
-    /// where the device fails in the call, and from then on. Whatever the answer is, no sector is written but those of
-    /// the half that isn't current (`around`).
+    /// or its entries would pass the geometry's: the image is given up, nothing is written, and a whole image is
+    /// wanted. `DeviceFailed` comes where the device fails in the call, and from then on. Whatever the answer is, no
+    /// sector is written but those of the half that isn't current (`around`).
     pub fn checkpoint_step(&mut self, chunk: Chunk<A>) -> Result<StepReply, Error>
         requires { (run : Run) × (handed : ℕ) × IsWriter D.past_of run handed self.old
             × IsChunk run self.old chunk.number chunk.piece }
@@ -227,10 +232,6 @@ impl<D: Device, A: Allocator + Copy> StoreWriter<D, A> {
             (LeftBy run (synced_of self.old) handed) }
         ensures stepped { IfOk result (λ reply. IsStepReply chunk.number chunk.piece reply self.old self.new) }
         ensures sound { OnOk result ((has_failed self.old ≡ false) × (has_failed self.new ≡ false)) }
-        ensures place { result ≡ Ok StepReply.Taken
-            → IsAtPiece (halves_of self.old).geometry.pages chunk.piece (image_of self.old)
-            → IsAtPlace (halves_of self.old).geometry.pages (place_behind
-            (halves_of self.old).geometry.pages chunk.piece) (image_of self.new) }
         ensures again { has_failed self.old ≡ false → MustStartAgain chunk.piece self.old
             → result ≡ Ok StepReply.StartAgain }
         ensures err { IfErr result (λ e. HasFailed D.failures e self.old self.new) }
@@ -244,22 +245,35 @@ impl<D: Device, A: Allocator + Copy> StoreWriter<D, A> {
         if self.writer.failed {
             return Err(Error::DeviceFailed);
         }
+        let behind = chunk.place_behind(self.writer.halves.geometry());
         let Chunk { number, piece } = chunk;
-        match piece {
-            Piece::Whole { cells } => {
-                self.writer.take_whole(number, &cells)?;
-                Ok(StepReply::Taken)
-            }
-            Piece::Start { life, lists } => {
-                if is_full(self.writer.log, self.writer.halves.geometry()) {
-                    return Ok(StepReply::StartAgain);
-                }
-                self.writer.take_start(number, life, lists)?;
-                Ok(StepReply::Taken)
-            }
-            Piece::Page { page, rows } => self.writer.take_page(number, page, rows),
-            Piece::Entries { entries } => self.writer.take_entries(number, &entries),
+        if self.writer.must_start_again(&piece) {
+            self.writer.image = None;
+            self.writer.copying = Copying::GivenUp;
+            return Ok(StepReply::StartAgain);
         }
+        self.writer.take(number, piece, behind)?;
+        Ok(StepReply::Taken)
+    }
+
+    /// Gives up an image under way: a whole one is to be taken at once. No sector is written.
+    pub fn give_up(&mut self)
+        ensures writer { (run : Run) (handed : ℕ) → IsWriter D.past_of run handed self.old
+            → IsWriter D.past_of run handed self.new }
+        ensures gives_up { self.new ≡ without_image Copying.GivenUp self.old }
+    {
+        self.writer.image = None;
+        self.writer.copying = Copying::GivenUp;
+    }
+
+    /// Forgets an image under way: the next one is copied from its start. No sector is written.
+    pub fn forget_image(&mut self)
+        ensures writer { (run : Run) (handed : ℕ) → IsWriter D.past_of run handed self.old
+            → IsWriter D.past_of run handed self.new }
+        ensures forgets { self.new ≡ without_image Copying.Idle self.old }
+    {
+        self.writer.image = None;
+        self.writer.copying = Copying::Idle;
     }
 
     /// Makes the image current, and drops the records that wait and are in it. From then on what a crash leaves has
@@ -309,6 +323,7 @@ impl<D: Device, A: Allocator + Copy> StoreWriter<D, A> {
             .drain(..(reached - self.writer.synced) as usize);
         self.writer.log = image.log;
         self.writer.image = None;
+        self.writer.copying = Copying::Idle;
         self.writer.synced = reached;
         Ok(FlipReply::Flipped(reached))
     }
@@ -325,6 +340,13 @@ impl<D: Device, A: Allocator + Copy> StoreWriter<D, A> {
         ensures { result ≡ has_failed self.now }
     {
         self.writer.failed
+    }
+
+    /// How far the copying of an image has come.
+    pub fn copying(&self) -> Copying
+        ensures { result ≡ copying_of self.now }
+    {
+        self.writer.copying
     }
 
     /// How large the store is.

@@ -1,35 +1,28 @@
 //! A device, its log, and the records that wait for it.
-ghost use Rattle.std.specs.Prelude.{◌≡◌, ◌≢◌, ◌↔◌, ◌+◌, ◌-◌, ◌≤◌, ◌<◌, ◌++◌, List, [], ℕ, length, take, drop, true};
-ghost use Rattle.std.specs.Prelude.{false, Option, Some, None, IsTrue, OnOk, OnErr, IfOk, IfErr};
+ghost use Rattle.std.specs.Prelude.{◌≡◌, ◌≢◌, ◌↔◌, ◌+◌, ◌≤◌, ◌<◌, ℕ, length, take, drop, true};
+ghost use Rattle.std.specs.Prelude.{false, Some, None, IsTrue, OnOk, OnErr, IfOk, IfErr};
 ghost use Rattle.sector_device.specs.DevicePast.{LeavesOnly, Rises};
-ghost use Rattle.records.specs.RecordValue.{RecordValue};
-ghost use Rattle.model.specs.Cells.{Cells};
 ghost use Rattle.model.specs.Redo.{cells_of};
-ghost use Rattle.record_values.specs.declared.number.TheConstants.{LAST_NUMBER};
-ghost use Rattle.record_values.specs.declared.pair.Pair.{Pair as PairValue};
-ghost use Rattle.record_values.specs.declared.pair.Mark.{Mark as MarkValue};
-ghost use Rattle.model.specs.Table.{Table};
-ghost use Rattle.store_image_model.specs.declared.chunk.CopyPlace.{CopyPlace};
-ghost use Rattle.store_image_model.specs.Run.{Run, IsRun, end_of};
+ghost use Rattle.store_image_model.specs.Run.{Run};
 ghost use Rattle.store_image_model.specs.Places.{place_behind};
 ghost use Rattle.flip_image.specs.Layout.{other, InHalf};
-ghost use Rattle.flip_image.specs.declared.half.TheConstants.{FLIP_SECTOR};
 ghost use Rattle.store_writer.specs.Contents.{LeftBy};
-ghost use Rattle.store_writer.specs.Places.{IsAtPlace, IsAtPiece, AreRowsNow, AreEntriesNow};
+ghost use Rattle.store_writer.specs.Copying.{entries_behind, page_behind};
 ghost use Rattle.store_writer.specs.Image.{InNewSlot, IsPlan, BecomesImage};
 
+use crate::Copying;
 use crate::image::{
-    NewImage, Plan, Stage, carry, lists_alone, plan_for, stage_behind, with_page, write_first,
-    write_next, write_whole,
+    NewImage, Plan, Stage, carry, lists_alone, stage_behind, with_page, write_first, write_next,
+    write_whole,
 };
 use crate::page::write_rows;
 use flip_image::Halves;
-use gate_log::{Appended, LogArea, group_len, spell};
+use gate_log::LogArea;
 use model::{CellMaps, Life, ListMap};
 use records::{Error, Geometry, Mark, Pair, Record};
 use sector_device::Device;
 use std::alloc::Allocator;
-use store_image_model::{Chunk, PageRows, Piece};
+use store_image_model::{CopyPlace, PageRows, Piece};
 use store_image_parts::Header;
 
 /// What became of a flush.
@@ -76,6 +69,8 @@ pub(crate) struct Writer<D, A: Allocator> {
     pub(crate) synced: u64,
     // The image in the half that isn't current, if one is under way.
     pub(crate) image: Option<NewImage>,
+    // How far its copying has come.
+    pub(crate) copying: Copying,
     // Whether the device has failed.
     pub(crate) failed: bool,
 }
@@ -96,19 +91,17 @@ fn has_no_room(geometry: Geometry, count: u32, more: usize) -> bool
 }
 
 impl<D: Device, A: Allocator + Copy> Writer<D, A> {
-    ghost use Rattle.store_writer.specs.Writer.{IsWriter, HasAppended, IsOpenedAt, opened_run, longer, AreNext};
-    ghost use Rattle.store_writer.specs.Writer.{IsWholeChunk, IsStartChunk, IsPageChunk, IsEntriesChunk, IsFlushReply};
-    ghost use Rattle.store_writer.specs.Writer.{IsNotFlushed, CanFlip, IsFlipReply, HasKept, HasBegun, IsLogFull};
-    ghost use Rattle.store_writer.specs.Writer.{IsPageRefused, AreRefused, MustStartAgain, IsPageAnswered};
-    ghost use Rattle.store_writer.specs.Writer.{AreEntriesAnswered, IsChunk, IsStepReply, HasFailed, InOpenedSlots};
-    ghost use Rattle.store_writer.specs.Writer.{WritesLogsAlone, WritesOnly, IsAsBefore, IsBeforeFlush};
+    ghost use Rattle.store_writer.specs.Writer.{IsWriter, HasAppended, HasBegun, HasKept, HasRows, HasTaken};
+    ghost use Rattle.store_writer.specs.Writer.{HaveEntries, IsAsBefore, IsChunk, IsEntriesChunk, IsLogFull, IsPast};
+    ghost use Rattle.store_writer.specs.Writer.{IsPageChunk, IsStartChunk, IsWholeChunk, MustStartAgain, HasFailed};
+    ghost use Rattle.store_writer.specs.Writer.{WritesLogsAlone, WritesOnly};
 
     // The first waiting records, a group, were added to the current half's log: those above the base of an image go
     // into the log of its half, as planned.
     pub(crate) fn carry_on(&mut self, count: usize, plan: Plan<A>) -> Result<FlushReply, Error>
         requires appended { (run : Run) × (handed : ℕ) × HasAppended D.past_of run handed count self.old }
-        requires planned { (slots : ℕ)
-            × IsPlan self.old.image slots self.old.synced (take count self.old.waiting.items) plan }
+        requires planned { IsPlan self.old.image self.old.halves.geometry.slots self.old.synced
+            (take count self.old.waiting.items) plan }
         requires sound { self.old.failed ≡ false }
         ensures writer { (run : Run) (handed : ℕ) → HasAppended D.past_of run handed count self.old
             → IsWriter D.past_of run handed self.new }
@@ -124,6 +117,7 @@ impl<D: Device, A: Allocator + Copy> Writer<D, A> {
             → BecomesImage slots self.old.synced count self.old.image self.new.image) }
         ensures err { IfErr result (λ e. (e ≡ Error.DeviceFailed) × (self.new.failed ≡ true)
             × (self.new.synced ≡ self.old.synced) × Rises (D.failures self.old.device) (D.failures self.new.device)) }
+        ensures copying { self.new.copying ≡ self.old.copying }
         ensures quiet { OnOk result (D.failures self.new.device ≡ D.failures self.old.device) }
         ensures later { D.failures self.old.device ≤ D.failures self.new.device }
         ensures around { WritesLogsAlone D.past_of self.old self.new }
@@ -144,6 +138,67 @@ impl<D: Device, A: Allocator + Copy> Writer<D, A> {
         }
     }
 
+    // Whether an image is to be copied from its start, so that this piece isn't taken.
+    pub(crate) fn must_start_again(&self, piece: &Piece<A>) -> bool
+        ensures { IsTrue result ↔ MustStartAgain piece.now self.now }
+    {
+        let geometry = self.halves.geometry();
+        match piece {
+            Piece::Whole { .. } => false,
+            Piece::Start { .. } => is_full(self.log, geometry),
+            Piece::Page { .. } => self.image.is_none() || is_full(self.log, geometry),
+            Piece::Entries { entries } => {
+                self.image.is_none() || is_full(self.log, geometry) || self.is_past(entries.len())
+            }
+        }
+    }
+
+    // Whether the image's entries with so many more pass the geometry's.
+    fn is_past(&self, more: usize) -> bool
+        ensures { IsTrue result ↔ IsPast self.now more }
+    {
+        let Some(image) = self.image else {
+            return false;
+        };
+        let Stage::Partly { entries, .. } = image.stage else {
+            return false;
+        };
+        has_no_room(self.halves.geometry(), entries, more)
+    }
+
+    // Takes a piece that may be taken.
+    pub(crate) fn take(
+        &mut self,
+        number: u64,
+        piece: Piece<A>,
+        behind: Option<CopyPlace>,
+    ) -> Result<(), Error>
+        requires sound { self.old.failed ≡ false }
+        requires chunk { (run : Run) × (handed : ℕ) × IsWriter D.past_of run handed self.old
+            × IsChunk run self.old number piece }
+        requires goes_on { ¬ MustStartAgain piece self.old }
+        requires behind { behind ≡ place_behind self.old.halves.geometry.pages piece }
+        ensures writer { (run : Run) (handed : ℕ) → IsWriter D.past_of run handed self.old
+            → IsChunk run self.old number piece → IsWriter D.past_of run handed self.new }
+        ensures images { (run : Run) (handed : ℕ) → IsWriter D.past_of run handed self.old
+            → LeavesOnly (D.past_of self.old.device) (D.past_of self.new.device) (LeftBy run self.old.synced handed) }
+        ensures taken { OnOk result (HasTaken number piece self.old self.new) }
+        ensures synced { self.new.synced ≡ self.old.synced }
+        ensures err { IfErr result (λ e. HasFailed D.failures e self.old self.new) }
+        ensures quiet { OnOk result (D.failures self.new.device ≡ D.failures self.old.device) }
+        ensures later { D.failures self.old.device ≤ D.failures self.new.device }
+        ensures around { WritesOnly D.past_of (InHalf self.old.halves.geometry (other self.old.halves.current))
+            self.old.device self.new.device }
+        ensures left { OnErr result (IsAsBefore self.old self.new) }
+    {
+        match piece {
+            Piece::Whole { cells } => self.take_whole(number, &cells),
+            Piece::Start { life, lists } => self.take_start(number, life, lists),
+            Piece::Page { page, rows } => self.take_page(number, page, rows, behind),
+            Piece::Entries { entries } => self.take_entries(number, &entries, behind),
+        }
+    }
+
     /// Writes the image of these cells, which the record `number` left, into the half that isn't current, whose log is
     /// then empty. An image that was under way is given up.
     pub(crate) fn take_whole(&mut self, number: u64, cells: &CellMaps<A>) -> Result<(), Error>
@@ -155,7 +210,7 @@ impl<D: Device, A: Allocator + Copy> Writer<D, A> {
         ensures images { (run : Run) (handed : ℕ) → IsWriter D.past_of run handed self.old
             → LeavesOnly (D.past_of self.old.device) (D.past_of self.new.device) (LeftBy run self.old.synced handed) }
         ensures taken { OnOk result ((image : NewImage) × HasKept image self.old self.new
-            × HasBegun number Stage.Whole image) }
+            × HasBegun number Stage.Whole image × (self.new.copying ≡ Copying.Steps None)) }
         ensures synced { self.new.synced ≡ self.old.synced }
         ensures err { IfErr result (λ e. HasFailed D.failures e self.old self.new) }
         ensures quiet { OnOk result (D.failures self.new.device ≡ D.failures self.old.device) }
@@ -172,6 +227,7 @@ impl<D: Device, A: Allocator + Copy> Writer<D, A> {
                     stage: Stage::Whole,
                     log,
                 });
+                self.copying = Copying::Steps(None);
                 Ok(())
             }
             Err(_) => {
@@ -197,7 +253,8 @@ impl<D: Device, A: Allocator + Copy> Writer<D, A> {
         ensures images { (run : Run) (handed : ℕ) → IsWriter D.past_of run handed self.old
             → LeavesOnly (D.past_of self.old.device) (D.past_of self.new.device) (LeftBy run self.old.synced handed) }
         ensures taken { OnOk result ((image : NewImage) × HasKept image self.old self.new
-            × HasBegun number (Stage.Partly 0 0 None life) image) }
+            × HasBegun number (Stage.Partly 0 0 None life) image
+            × (self.new.copying ≡ Copying.Steps (Some (CopyPlace.Page 0)))) }
         ensures synced { self.new.synced ≡ self.old.synced }
         ensures err { IfErr result (λ e. HasFailed D.failures e self.old self.new) }
         ensures quiet { OnOk result (D.failures self.new.device ≡ D.failures self.old.device) }
@@ -223,6 +280,7 @@ impl<D: Device, A: Allocator + Copy> Writer<D, A> {
                     stage,
                     log,
                 });
+                self.copying = Copying::Steps(Some(CopyPlace::Page(0)));
                 Ok(())
             }
             Err(_) => {
@@ -232,24 +290,27 @@ impl<D: Device, A: Allocator + Copy> Writer<D, A> {
         }
     }
 
-    /// Takes the rows of the image's next page, as they are after the record `number`.
+    /// Takes the rows of the image's next page, as they are after the record `number`. The copying goes on behind it.
     pub(crate) fn take_page(
         &mut self,
         number: u64,
         page: u32,
         rows: PageRows<A>,
-    ) -> Result<StepReply, Error>
+        behind: Option<CopyPlace>,
+    ) -> Result<(), Error>
         requires sound { self.old.failed ≡ false }
+        requires some { self.old.image ≢ None }
         requires page { (run : Run) × (handed : ℕ) × IsWriter D.past_of run handed self.old
             × ((image : NewImage) → self.old.image ≡ Some image → IsPageChunk run image number page rows) }
+        requires behind { behind ≡ page_behind self.old.halves.geometry.pages page }
         ensures writer { (run : Run) (handed : ℕ) → IsWriter D.past_of run handed self.old
             → ((image : NewImage) → self.old.image ≡ Some image → IsPageChunk run image number page rows)
             → IsWriter D.past_of run handed self.new }
         ensures images { (run : Run) (handed : ℕ) → IsWriter D.past_of run handed self.old
             → LeavesOnly (D.past_of self.old.device) (D.past_of self.new.device) (LeftBy run self.old.synced handed) }
-        ensures stepped { IfOk result (λ reply. IsPageAnswered number page reply self.old self.new) }
+        ensures taken { OnOk result ((image : NewImage) × HasKept image self.old self.new
+            × HasRows number page self.old image × (self.new.copying ≡ Copying.Steps behind)) }
         ensures synced { self.new.synced ≡ self.old.synced }
-        ensures again { IsPageRefused self.old → result ≡ Ok StepReply.StartAgain }
         ensures err { IfErr result (λ e. HasFailed D.failures e self.old self.new) }
         ensures quiet { OnOk result (D.failures self.new.device ≡ D.failures self.old.device) }
         ensures later { D.failures self.old.device ≤ D.failures self.new.device }
@@ -258,17 +319,15 @@ impl<D: Device, A: Allocator + Copy> Writer<D, A> {
         ensures left { OnErr result (IsAsBefore self.old self.new) }
     {
         let Some(image) = self.image else {
-            return Ok(StepReply::StartAgain);
+            unreachable!()
         };
-        if is_full(self.log, self.halves.geometry()) {
-            return Ok(StepReply::StartAgain);
-        }
         if write_rows(&mut self.device, self.halves, page, &rows).is_err() {
             self.failed = true;
             return Err(Error::DeviceFailed);
         }
         self.image = Some(with_page(image, number, page));
-        Ok(StepReply::Taken)
+        self.copying = Copying::Steps(behind);
+        Ok(())
     }
 
     /// Takes the image's next entries, as they are after the record `number`: behind the last ones it is whole.
@@ -276,18 +335,22 @@ impl<D: Device, A: Allocator + Copy> Writer<D, A> {
         &mut self,
         number: u64,
         entries: &[(Pair, Mark)],
-    ) -> Result<StepReply, Error>
+        behind: Option<CopyPlace>,
+    ) -> Result<(), Error>
         requires sound { self.old.failed ≡ false }
+        requires some { self.old.image ≢ None }
+        requires room { ¬ IsPast self.old (length entries.now) }
         requires entries { (run : Run) × (handed : ℕ) × IsWriter D.past_of run handed self.old
             × ((image : NewImage) → self.old.image ≡ Some image → IsEntriesChunk run image number entries.now) }
+        requires behind { behind ≡ entries_behind entries.now }
         ensures writer { (run : Run) (handed : ℕ) → IsWriter D.past_of run handed self.old
             → ((image : NewImage) → self.old.image ≡ Some image → IsEntriesChunk run image number entries.now)
             → IsWriter D.past_of run handed self.new }
         ensures images { (run : Run) (handed : ℕ) → IsWriter D.past_of run handed self.old
             → LeavesOnly (D.past_of self.old.device) (D.past_of self.new.device) (LeftBy run self.old.synced handed) }
-        ensures stepped { IfOk result (λ reply. AreEntriesAnswered number entries.now reply self.old self.new) }
+        ensures taken { OnOk result ((image : NewImage) × HasKept image self.old self.new
+            × HaveEntries number entries.now self.old image × (self.new.copying ≡ Copying.Steps behind)) }
         ensures synced { self.new.synced ≡ self.old.synced }
-        ensures again { AreRefused (length entries.now) self.old → result ≡ Ok StepReply.StartAgain }
         ensures err { IfErr result (λ e. HasFailed D.failures e self.old self.new) }
         ensures quiet { OnOk result (D.failures self.new.device ≡ D.failures self.old.device) }
         ensures later { D.failures self.old.device ≤ D.failures self.new.device }
@@ -296,7 +359,7 @@ impl<D: Device, A: Allocator + Copy> Writer<D, A> {
         ensures left { OnErr result (IsAsBefore self.old self.new) }
     {
         let Some(image) = self.image else {
-            return Ok(StepReply::StartAgain);
+            unreachable!()
         };
         let NewImage {
             base,
@@ -313,10 +376,6 @@ impl<D: Device, A: Allocator + Copy> Writer<D, A> {
         else {
             unreachable!()
         };
-        let geometry = self.halves.geometry();
-        if is_full(self.log, geometry) || has_no_room(geometry, count, entries.len()) {
-            return Ok(StepReply::StartAgain);
-        }
         let header = Header {
             life,
             base,
@@ -333,6 +392,7 @@ impl<D: Device, A: Allocator + Copy> Writer<D, A> {
             stage,
             log,
         });
-        Ok(StepReply::Taken)
+        self.copying = Copying::Steps(behind);
+        Ok(())
     }
 }

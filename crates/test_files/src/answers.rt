@@ -15,6 +15,8 @@ pub struct Answers<'a, R> {
     path: &'a str,
     /// Whether the file is cut once a row has its place.
     pub cuts: bool,
+    /// How often it was flushed.
+    pub flushes: usize,
 }
 
 impl<'a, R: Files<File = File> + AllocGlobal> Answers<'a, R> {
@@ -25,6 +27,7 @@ impl<'a, R: Files<File = File> + AllocGlobal> Answers<'a, R> {
             held: Vec::new(rt.alloc()),
             path,
             cuts: false,
+            flushes: 0,
         }
     }
 
@@ -49,6 +52,7 @@ impl<R: Files<File = File> + AllocGlobal> Write for Answers<'_, R> {
     }
 
     fn flush(&mut self) -> io::Result<()> {
+        self.flushes = self.flushes.saturating_add(1);
         Ok(())
     }
 }

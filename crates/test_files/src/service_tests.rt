@@ -162,6 +162,8 @@ fn a_durable_commit_is_safe_once_it_is_answered(rt: HostRuntime) -> Result<(), F
         assert_eq!(rt; answers.text.as_slice(), wanted.answers.as_bytes());
         assert_eq!(rt; said.as_slice(), wanted.said.as_bytes());
         assert_eq!(rt; status, wanted.status);
+        // Each line is answered before the next one is read.
+        assert!(rt; answers.flushes >= wanted.script.lines().count());
         assert!(rt; wanted.is_cut || answers.held == fs::read(&rt, "d")?);
         fs::remove_file(&rt, "d")?;
     }

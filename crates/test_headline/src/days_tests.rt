@@ -30,10 +30,12 @@ fn lived<D: Mortal>(
     geometry: Geometry,
     days: &[Day<Global>],
 ) -> Result<Engine<D, Global>, Error> {
-    let lived = live_through(alloc, device, geometry, days, true)?;
-    match lived.unbuilt {
-        Some(error) => Err(error),
-        None => Ok(lived.engine),
+    match live_through(alloc, device, geometry, days, true) {
+        Ok(lived) => match lived.unbuilt {
+            Some(error) => Err(error),
+            None => Ok(lived.engine),
+        },
+        Err((error, _)) => Err(error),
     }
 }
 
@@ -79,6 +81,46 @@ fn three_days_and_a_build(rt: HostRuntime) -> Result<(), Fail> {
         (keys[0], Rid { page: 0, slot: 0 }),
         (keys[2], Rid { page: 0, slot: 1 }),
     ];
+    assert_eq!(rt; found.as_slice(), wanted.as_slice());
+    Ok(())
+}
+
+// A device that is too small is told, and given back.
+#[test]
+fn a_device_that_is_too_small(rt: HostRuntime) -> Result<(), Fail> {
+    let alloc = rt.alloc();
+    let geometry = Geometry::new(1, 64, 4)?;
+    let few = geometry.sectors() - 1;
+    let disk = MemDisk::new(alloc, few, 16)?;
+    let days: [Day<Global>; 0] = [];
+    match live_through(alloc, disk, geometry, &days, false) {
+        Ok(_) => Err("a store on too small a device".into()),
+        Err((error, disk)) => {
+            assert!(rt; error == Error::DeviceTooSmall);
+            assert!(rt; disk.sectors() == few);
+            Ok(())
+        }
+    }
+}
+
+// Of a day that ends within its opening nothing is answered, and nothing changes.
+#[test]
+fn a_day_within_its_opening(rt: HostRuntime) -> Result<(), Fail> {
+    let alloc = rt.alloc();
+    let geometry = Geometry::new(1, 64, 4)?;
+    let disk = MemDisk::new(alloc, geometry.sectors(), 4_096)?;
+    let idle = Day {
+        requests: Vec::new(alloc),
+        within: true,
+    };
+    let days = [
+        day(alloc, b"ant", &[Event::Create, Event::Flush], false)?,
+        idle,
+    ];
+    let keys = [Key::new(b"ant")?];
+    let (life, found) = found_behind(alloc, disk, geometry, &days, &keys)?;
+    assert!(rt; life == Life::Complete);
+    let wanted = [(keys[0], Rid { page: 0, slot: 0 })];
     assert_eq!(rt; found.as_slice(), wanted.as_slice());
     Ok(())
 }

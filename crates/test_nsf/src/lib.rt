@@ -4,6 +4,8 @@
 #![tactic(auto)]
 
 #[cfg(test)]
+mod full_index;
+#[cfg(test)]
 mod many_threads;
 #[cfg(test)]
 mod one_thread;

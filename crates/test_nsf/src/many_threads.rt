@@ -34,8 +34,8 @@ impl Put {
         }
     }
 
-    // The same in a transaction of its own, which is taken back where it isn't put.
-    fn put<B: Group, R: Wait>(
+    /// The same in a transaction of its own, which is taken back where it isn't put.
+    pub fn put<B: Group, R: Wait>(
         &self,
         rt: &R,
         shared: &Shared<B>,

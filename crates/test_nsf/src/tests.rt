@@ -1,7 +1,8 @@
 //! The examples of README.
+use crate::full_index::serve_a_crowd;
 use crate::many_threads::put_two;
 use crate::one_thread::{filled, find};
-use nsf::Fate;
+use nsf::{Error, Fate};
 use std::test::Fail;
 
 // One thread leaves a store, threads go on with it behind a crash, and behind another one each row is found once.
@@ -15,5 +16,14 @@ fn threads_go_on_with_what_one_thread_left(rt: HostRuntime) -> Result<(), Fail> 
     for rids in &find(alloc, disk, &[b"ant", b"bee", b"cat"])? {
         assert_eq!(&rt; rids.len(), 1);
     }
+    Ok(())
+}
+
+// A client that waits for an index is told why the builder has ended, and that is what the run ends with.
+#[test]
+fn a_client_is_told_that_the_index_is_full(rt: HostRuntime) -> Result<(), Fail> {
+    let (told, built) = serve_a_crowd(&rt, rt.alloc())?;
+    assert_eq!(&rt; told, Some(Error::IndexFull));
+    assert_eq!(&rt; built, Err(Error::IndexFull));
     Ok(())
 }

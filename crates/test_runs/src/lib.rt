@@ -56,24 +56,26 @@ pub fn run<
     } = loops;
     let told = BuilderEnd::new();
     match run_beside(rt, shared, flush, build, clean, &told, gate, clients) {
-        Ok(
-            Ended {
+        Ok((ended, _)) => {
+            let Ended {
                 clients,
                 flush,
                 build,
                 clean,
                 flushed,
                 built: _,
-            },
-        ) => Ok(Ran {
-            clients,
-            loops: LoopParts {
+            } = ended;
+            let loops = LoopParts {
                 flush,
                 build,
                 clean,
-            },
-            flushed,
-        }),
+            };
+            Ok(Ran {
+                clients,
+                loops,
+                flushed,
+            })
+        }
         Err(not_run) => {
             forget(not_run);
             Err(Error::NoMemory)

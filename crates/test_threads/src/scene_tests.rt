@@ -45,6 +45,8 @@ fn loops_that_are_held_hold_no_seat(rt: HostRuntime) -> Result<(), Fail> {
         assert!(&rt; stage.holds());
         assert!(&rt; !stage.is_late());
         assert_eq!(&rt; seen, wanted);
+        // An image begins as half the 16 slots are open, each of a group.
+        assert_eq!(&rt; stage.groups(), 8);
     }
     Ok(())
 }

@@ -3,7 +3,7 @@ ghost use Rattle.std.specs.Prelude.{◌≡◌, ◌<◌, ℕ, IfOk, map, slice_in
 ghost use Rattle.threads_lifetime.specs.Gathered.{AreAllSeats};
 
 use crate::calls::{insert, make_anew, reads};
-use crate::stage::Stage;
+use crate::stage::{Place, Stage};
 use model::Life;
 use nsf_core::Ticket;
 use program_demonstration::{key_of, set_up};
@@ -16,6 +16,7 @@ use std::thread::{Threads, for_each_mut};
 use test_seat_calls::{
     abort, await_ack, begin, commit, find, has_failed, is_acked, life, progress, remove,
 };
+use threads_loops::Point;
 
 /// How many seats write.
 pub const WRITERS: u16 = 4;
@@ -174,7 +175,7 @@ fn fill<B: Group, R: Wait + Clock>(
 
 // While both loops are held, a row is inserted and read back. Then the flusher is let go, and while the builder is held
 // a row that it has scanned is deleted, the commit is acknowledged, and the cleaner goes on twice. Whether it was
-// acknowledged, and not refused for the device's failure.
+// acknowledged, and not refused for the device's failure. A builder that is held behind an attempt has told of it.
 fn lead<B: Group, R: Wait + Clock>(
     rt: &R,
     shared: &Shared<B>,
@@ -184,6 +185,9 @@ fn lead<B: Group, R: Wait + Clock>(
     ensures { seat.new.number ≡ seat.old.number }
 {
     fill(rt, shared, seat, stage)?;
+    if stage.builder.is_at(Place::At(Point::BuildAttempt)) && progress(shared, seat) == 0 {
+        return Err(Error::NoIndex);
+    }
     let txn = begin(rt, shared, seat)?;
     let rid = insert(rt, shared, seat, txn, LEADING, 0)?;
     if !reads(rt, shared, seat, rid, LEADING, 0)? {

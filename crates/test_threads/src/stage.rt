@@ -40,6 +40,11 @@ impl Hold {
         }
     }
 
+    /// Whether a thread is to be held at this place.
+    pub fn is_at(&self, place: Place) -> bool {
+        self.place == Some(place)
+    }
+
     /// Whether a thread was held.
     pub fn holds(&self) -> bool {
         self.held.load(Ordering::SeqCst)
@@ -50,8 +55,8 @@ impl Hold {
     }
 }
 
-/// Where flusher and builder are held, once they are to be; how many steps the cleaner has begun, and whether the
-/// writers may begin, and have ended.
+/// Where flusher and builder are held, once they are to be; how many steps the cleaner has begun; how many groups were
+/// flushed before the first chunk of an image; and whether the writers may begin, and have ended.
 #[derive(Drop)]
 pub struct Stage<'a, R> {
     rt: &'a R,
@@ -60,6 +65,8 @@ pub struct Stage<'a, R> {
     armed: AtomicBool,
     late: AtomicBool,
     cleaned: AtomicU64,
+    groups: AtomicU64,
+    copied: AtomicBool,
     begun: AtomicBool,
     written: AtomicBool,
 }
@@ -73,6 +80,8 @@ impl<'a, R: Clock> Stage<'a, R> {
             armed: AtomicBool::new(false),
             late: AtomicBool::new(false),
             cleaned: AtomicU64::new(0),
+            groups: AtomicU64::new(0),
+            copied: AtomicBool::new(false),
             begun: AtomicBool::new(false),
             written: AtomicBool::new(false),
         }
@@ -106,6 +115,11 @@ impl<'a, R: Clock> Stage<'a, R> {
     /// Whether a loop is to be held.
     pub fn is_set(&self) -> bool {
         self.flusher.place.is_some()
+    }
+
+    /// How many groups were flushed before the first chunk of an image was to be copied.
+    pub fn groups(&self) -> u64 {
+        self.groups.load(Ordering::SeqCst)
     }
 
     /// From now on the loops are held.
@@ -173,8 +187,15 @@ impl<'a, R: Clock> Stage<'a, R> {
 
 impl<R: Clock> Gate for Stage<'_, R> {
     fn at(&self, point: Point) {
-        if point == Point::CleanStep {
-            self.cleaned.fetch_add(1, Ordering::SeqCst);
+        match point {
+            Point::CleanStep => {
+                self.cleaned.fetch_add(1, Ordering::SeqCst);
+            }
+            Point::FlushGate if !self.copied.load(Ordering::SeqCst) => {
+                self.groups.fetch_add(1, Ordering::SeqCst);
+            }
+            Point::CopyStep => self.copied.store(true, Ordering::SeqCst),
+            _ => {}
         }
         self.pass(&self.flusher, Place::At(point));
         self.pass(&self.builder, Place::At(point));

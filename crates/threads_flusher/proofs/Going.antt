@@ -25,7 +25,8 @@ use Rattle.store_writer.specs.declared.writer.FlipReply.TheVariants.{Flipped, Be
 use Rattle.store_writer.specs.declared.writer.StepReply.{StepReply}
 use Rattle.store_writer.specs.declared.writer.StepReply.TheVariants.{Taken, StartAgain}
 use Rattle.store_writer.specs.declared.writer.Writer.{Writer}
-use Rattle.threads_flusher.specs.Going.{GoesOn, TakesIn}
+use Rattle.store_writer.specs.declared.copying.Copying.{Copying}
+use Rattle.threads_flusher.specs.Going.{GoesOn, LeavesImage, TakesIn}
 use Rattle.threads_flusher.specs.Part.{FlushValue, GivesBeginning, IsFlusher, FlushLeaves, Publishes, popped_by}
 use Rattle.threads_flusher.proofs.Keeping.{is_left}
 
@@ -41,7 +42,7 @@ module _ {D A : Type 0} (old new : Writer D A) where
   pub step_geometry : {A : Type 0} (number : ℕ) (piece : Piece A) (result : Result StepReply Error)
       → IfOk result (λ reply. IsStepReply number piece reply old new) → OnErr result (IsAsBefore old new) → (halves_of new).geometry ≡ (halves_of old).geometry
   step_geometry number piece (Ok Taken) is left = ap (λ (h : HalvesValue). h.geometry) is.1.1.1
-  step_geometry number piece (Ok StartAgain) is left = same_geometry is.0
+  step_geometry number piece (Ok StartAgain) is left = ap (λ (w : Writer D _). (halves_of w).geometry) is.0
   step_geometry number piece (Err e) is left = left_geometry left
 
   pub flip_geometry : (n : ℕ) (result : Result FlipReply Error) → IfOk result (λ reply. IsFlipReply n reply old new) → OnErr result (IsAsBefore old new)
@@ -117,6 +118,24 @@ module _ {D A : Type 0} (past_of : D → DevicePast) (failures : D → ℕ) (o :
     later = omega arith;
     counted = counted_same (has_failed f.writer) (has_failed f.writer) (failures (device_of f.writer)) (failures (device_of f.writer)) refl;
   }
+
+  -- as an image is given up, or forgotten
+  pub goes_by_leaving : (copying : Copying) (old new : FlushValue D A) → IsFlusher past_of o old → LeavesImage copying old new
+      → GoesOn past_of failures o old new
+  goes_by_leaving copying old new is leaves =
+      let here = goes_nowhere old is in
+      subst (GoesOn past_of failures o old) (sym leaves) (record {
+        popped = here.popped;
+        popped-are = here.popped-are;
+        more = here.more;
+        handed = here.handed;
+        geometry = here.geometry;
+        rises = here.rises;
+        horizon = here.horizon;
+        images = here.images;
+        later = here.later;
+        counted = here.counted;
+      })
 
   -- by records that are popped and handed in
   pub goes_by_taking : (old new : FlushValue D A) → IsFlusher past_of o new → TakesIn old new → GoesOn past_of failures o old new

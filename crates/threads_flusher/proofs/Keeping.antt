@@ -322,6 +322,16 @@ module _ {D : Type 0} (past_of : D → DevicePast) (o : Opened) where
       goes_on past_of o (flush_value popped held w v) new now kept.1 stands (omega (arith, horizon)) failed,
     )
 
+    -- it writes nothing
+    pub kept_without : ((run : Run) (n : ℕ) → IsWriter past_of run n w → IsWriter past_of run n new) → synced_of new ≡ synced_of w
+        → has_failed new ≡ has_failed w → AreKept popped held new v
+    kept_without keeps synced failed =
+        let f : FlushValue D A = flush_value popped held w v in (
+          kept.0,
+          goes_on past_of o f new v kept.1 (keeps (run_of o f) (last_handed o f) kept.1.writer)
+              (subst (λ n. v.horizon ≤ n) (sym synced) kept.1.horizon) (kept.1.failed ∙ sym failed),
+        )
+
     -- what is published may be raised to what the writer has synced
     pub may_publish : synced_of w ≤ synced_of new → v.horizon ≤ synced_of new
     may_publish rises = omega (arith, rises, kept.1.horizon)

@@ -1,6 +1,7 @@
 -- What is copied under the lock may be taken, where every record made was handed in.
-use Rattle.std.proofs.Common.{◌≡◌, ◌≢◌, ◌≤◌, ◌<◌, ◌+◌, ℕ, false, List, [], ◌∷◌, ◌++◌, length, take, Option, None, Some, inl, refl, sym, ap, ◌∙◌, subst, arith}
-use Rattle.std.proofs.Common.{append-nil, length-append, length-take, ⊎_elim}
+use Rattle.std.proofs.Common.{◌≡◌, ◌⊎◌, ◌≤◌, ◌<◌, ◌+◌, ℕ, false, List, [], ◌∷◌, ◌++◌, length, take, None, Option, Some, refl, sym, ap, ◌∙◌, subst, arith}
+use Rattle.std.proofs.Common.{⊎_elim}
+use Rattle.std.proofs.Common.{append-nil, length-append, length-take}
 use Rattle.std.proofs.lemmas.List.{take_all}
 use Rattle.record_values.specs.GeometryValue.{GeometryValue}
 use Rattle.records.specs.RecordValue.{RecordValue}
@@ -8,7 +9,6 @@ use Rattle.model.specs.Cells.{Cells}
 use Rattle.model.specs.Inside.{AreInside}
 use Rattle.model.specs.Redo.{cells_of}
 use Rattle.core_model.specs.Histories.{Opened}
-use Rattle.core_parts.specs.View.{CoreValue}
 use Rattle.core_copies.specs.Pieces.{IsPieceOf}
 use Rattle.core_copies.specs.Shown.{IsOfGeometry}
 use Rattle.sector_device.specs.DevicePast.{DevicePast}
@@ -21,13 +21,13 @@ use Rattle.store_image_model.specs.declared.chunk.Piece.TheVariants.{Entries, Pa
 use Rattle.locked_core.specs.Locked.{LockedValue}
 use Rattle.locked_core.specs.Made.{IsAllOf}
 use Rattle.locked_core.specs.Made as lock
-use Rattle.store_writer.specs.Copying.{IsCopying, IsPieceDue}
-use Rattle.store_writer.specs.Parts.{halves_of, has_failed, image_of}
-use Rattle.store_writer.specs.Places.{IsAtPiece, IsAtPlace}
-use Rattle.store_writer.specs.Writer.{IsChunk, IsPageChunk, MustStartAgain}
-use Rattle.store_writer.specs.declared.copying.Copying.TheVariants.{Steps}
+use Rattle.store_writer.specs.Copying.{next_place}
+use Rattle.store_writer.specs.Parts.{copying_of, halves_of, has_failed, image_of}
+use Rattle.store_writer.specs.Writer.{IsChunk, IsPageChunk}
 use Rattle.store_writer.specs.declared.image.NewImage.{NewImage}
-use Rattle.threads_flusher.specs.Images.{TakesNext}
+use Rattle.store_writer.specs.declared.copying.Copying.{Copying}
+use Rattle.threads_flusher.specs.Going.{TakesIn}
+use Rattle.threads_flusher.specs.Images.{IsPieceDue, TakesNext}
 use Rattle.threads_flusher.specs.Part.{FlushValue, IsFlusher, last_handed, run_of}
 
 -- ---- every record made was handed in
@@ -47,12 +47,9 @@ all_made handed pushed outbox is long =
 
 -- ---- pieces
 
-not_none : (image : Option NewImage) (i : NewImage) → image ≡ Some i → image ≢ None
-not_none image i is none = cc
-
--- an image that is there is at its place
-there : (pages : ℕ) (place : Option CopyPlace) (image : Option NewImage) → image ≢ None → IsCopying pages (Steps place) image → IsAtPlace pages place image
-there pages place image some either = ⊎_elim (λ none. absurd (some none)) (λ is. is) either
+-- where an image is under way, the copying has come to the place
+come_to : (image : Option NewImage) (i : NewImage) (P : Type 0) → image ≡ Some i → (image ≡ None) ⊎ P → P
+come_to image i P there due = ⊎_elim (λ none. absurd cc) (λ come. come) due
 
 module _ {D A : Type 0} (past_of : D → DevicePast) (o : Opened) (f : FlushValue D A) (is : IsFlusher past_of o f) (l : LockedValue)
     (all : l.pushed ++ l.core.outbox ≡ f.handed) (last : (g : GeometryValue) → l.core.last ≡ end_of (lock.run_of g o l))
@@ -84,19 +81,12 @@ module _ {D A : Type 0} (past_of : D → DevicePast) (o : Opened) (f : FlushValu
   whole_chunk (Page page rows) of = absurd of
   whole_chunk (Entries entries) of = absurd of
 
-  pub whole_at : {A : Type 0} (pages : ℕ) (image : Option NewImage) (piece : Piece A) → IsAllOf l.core (cells_at (lock.run_of g o l) number) piece
-      → IsAtPiece pages piece image
-  whole_at pages image (Whole copied) of = tt
-  whole_at pages image (Start life lists) of = absurd of
-  whole_at pages image (Page page rows) of = absurd of
-  whole_at pages image (Entries entries) of = absurd of
-
   -- piece by piece
   module _ (sound : has_failed f.writer ≡ false) (next : TakesNext o f) where
     abbrev cells : Cells
     cells = cells_at (run_of o f) (last_handed o f)
 
-    piece_then : {A : Type 0} (place : CopyPlace) (piece : Piece A) → IsPieceDue g.pages place (image_of f.writer) → IsPieceOf l.core cells place piece
+    piece_then : {A : Type 0} (place : CopyPlace) (piece : Piece A) → IsPieceDue place f.writer → IsPieceOf l.core cells place piece
         → IsChunk (run_of o f) f.writer (last_handed o f) piece
     piece_then at.Start (Start life lists) due of = record {
       late = is.writer.reached;
@@ -109,10 +99,10 @@ module _ {D A : Type 0} (past_of : D → DevicePast) (o : Opened) (f : FlushValu
     }
     piece_then (at.Page page) (Page copied rows) due of = λ image there_is.
         subst (λ p. IsPageChunk (run_of o f) image (last_handed o f) p rows) (sym of.0)
-        (next.page page rows sound (there g.pages (Some (at.Page page)) (image_of f.writer) (not_none (image_of f.writer) image there_is) due)
+        (next.page page rows sound (come_to (image_of f.writer) image (next_place (copying_of f.writer) ≡ Some (at.Page page)) there_is due)
         (record { rows-are = of.1.rows-are; slots = of.1.slots }) image there_is)
     piece_then (at.Entries above) (Entries entries) due of = λ image there_is.
-        next.entries above entries.items sound (there g.pages (Some (at.Entries above)) (image_of f.writer) (not_none (image_of f.writer) image there_is) due)
+        next.entries above entries.items sound (come_to (image_of f.writer) image (next_place (copying_of f.writer) ≡ Some (at.Entries above)) there_is due)
         (record {
           more = of.more;
           listed = of.listed;
@@ -132,28 +122,18 @@ module _ {D A : Type 0} (past_of : D → DevicePast) (o : Opened) (f : FlushValu
     piece_then (at.Entries above) (Start life lists) due of = absurd of
     piece_then (at.Entries above) (Page page rows) due of = absurd of
 
-    pub piece_chunk : {A : Type 0} (place : CopyPlace) (piece : Piece A) → IsPieceDue g.pages place (image_of f.writer)
+    pub piece_chunk : {A : Type 0} (place : CopyPlace) (piece : Piece A) → IsPieceDue place f.writer
         → IsPieceOf l.core (cells_at (lock.run_of g o l) number) place piece → IsChunk (run_of o f) f.writer number piece
     piece_chunk {A} place piece due of =
         let now : IsPieceOf l.core cells place piece = subst (λ n. IsPieceOf l.core (cells_at (run_of o f) n) place piece) number_is
         (subst (λ (r : Run). IsPieceOf l.core (cells_at r number) place piece) same_run of) in
         subst (λ n. IsChunk (run_of o f) f.writer n piece) (sym number_is) (piece_then place piece due now)
 
--- a piece that may be taken comes where the image is
-pub at_piece : {A D : Type 0} (v : CoreValue) (cells : Cells) (f : FlushValue D A) (pages : ℕ) (place : CopyPlace) (piece : Piece A)
-    → IsPieceOf v cells place piece → IsPieceDue pages place (image_of f.writer) → ¬ MustStartAgain piece f.writer → IsAtPiece pages piece (image_of f.writer)
-at_piece v now f pages at.Start (Start life lists) of due may = tt
-at_piece v now f pages (at.Page page) (Page copied rows) of due may =
-    subst (λ p. IsAtPlace pages (Some (at.Page p)) (image_of f.writer)) (sym of.0)
-    (there pages (Some (at.Page page)) (image_of f.writer) (λ none. may (inl none)) due)
-at_piece v now f pages (at.Entries above) (Entries entries) of due may =
-    (above, there pages (Some (at.Entries above)) (image_of f.writer) (λ none. may (inl none)) due)
-at_piece v now f pages at.Start (Whole copied) of due may = absurd of
-at_piece v now f pages at.Start (Page page rows) of due may = absurd of
-at_piece v now f pages at.Start (Entries entries) of due may = absurd of
-at_piece v now f pages (at.Page page) (Whole copied) of due may = absurd of
-at_piece v now f pages (at.Page page) (Start life lists) of due may = absurd of
-at_piece v now f pages (at.Page page) (Entries entries) of due may = absurd of
-at_piece v now f pages (at.Entries above) (Whole copied) of due may = absurd of
-at_piece v now f pages (at.Entries above) (Start life lists) of due may = absurd of
-at_piece v now f pages (at.Entries above) (Page page rows) of due may = absurd of
+-- the piece that was due still is, as records were popped and handed in
+pub due_still : {D A : Type 0} (place : CopyPlace) (old new : FlushValue D A) → TakesIn old new → IsPieceDue place old.writer → IsPieceDue place new.writer
+due_still at.Start old new takes due = tt
+due_still (at.Page page) old new takes due = subst (λ (c : Copying). (image_of new.writer ≡ None) ⊎ (next_place c ≡ Some (at.Page page))) (sym takes.copying)
+    (subst (λ (i : Option NewImage). (i ≡ None) ⊎ (next_place (copying_of old.writer) ≡ Some (at.Page page))) (sym takes.got.image) due)
+due_still (at.Entries above) old new takes due =
+    subst (λ (c : Copying). (image_of new.writer ≡ None) ⊎ (next_place c ≡ Some (at.Entries above))) (sym takes.copying)
+    (subst (λ (i : Option NewImage). (i ≡ None) ⊎ (next_place (copying_of old.writer) ≡ Some (at.Entries above))) (sym takes.got.image) due)

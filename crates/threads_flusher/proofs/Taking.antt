@@ -1,10 +1,10 @@
 -- Records that are popped and handed in, under the lock.
-use Rattle.std.proofs.Common.{◌≡◌, List, [], ◌++◌, length, take, Result, Ok, Err, OnOk, OnErr, refl, sym, ap, ◌∙◌, subst, append-nil, append_assoc}
+use Rattle.std.proofs.Common.{◌≡◌, List, [], ◌++◌, Result, Ok, Err, OnOk, OnErr, refl, sym, ap, ◌∙◌, subst, append-nil, append_assoc}
 use Rattle.records.specs.RecordValue.{RecordValue}
 use Rattle.record_values.specs.declared.error.Error.{Error}
 use Rattle.board.specs.Views.{FlusherCount}
 use Rattle.store_writer.specs.declared.writer.Writer.{Writer}
-use Rattle.store_writer.specs.Parts.{waiting_of}
+use Rattle.store_writer.specs.Parts.{copying_of, waiting_of}
 use Rattle.threads_flusher.specs.Going.{TakesIn}
 use Rattle.threads_flusher.specs.Part.{FlushValue, HasGot, LooksForStop, popped_by}
 
@@ -24,6 +24,7 @@ module _ {D A : Type 0} where
     more = [];
     handed = sym (append-nil f.handed);
     got = got_none f.writer;
+    copying = refl;
     published = refl;
   }
 
@@ -36,6 +37,7 @@ module _ {D A : Type 0} where
         more = [];
         handed = sym (append-nil old.handed);
         got = got_none old.writer;
+        copying = refl;
         published = refl;
       })
 
@@ -51,10 +53,11 @@ module _ {D A : Type 0} where
       more = [];
       handed = ap (λ (f : FlushValue D A). f.handed) is ∙ sym (append-nil old.handed);
       got = subst (λ (f : FlushValue D A). HasGot [] old.writer f.writer) (sym is) (got_none old.writer);
+      copying = ap (λ (f : FlushValue D A). copying_of f.writer) is;
       published = told_same old.published mid.published (ap (λ (f : FlushValue D A). f.published) is);
     }
 
-    module _ (new : FlushValue D A) (told : new.published ≡ mid.published) where
+    module _ (new : FlushValue D A) (told : new.published ≡ mid.published) (still : copying_of new.writer ≡ copying_of mid.writer) where
       published_is : new.published ≡ old.published
       published_is = told ∙ ap (λ (f : FlushValue D A). f.published) is
 
@@ -66,6 +69,7 @@ module _ {D A : Type 0} where
         more = old.held ++ popped;
         handed = ok.0 ∙ ap popped_by is;
         got = subst (λ (f : FlushValue D A). HasGot f.held f.writer new.writer) is got;
+        copying = still ∙ ap (λ (f : FlushValue D A). copying_of f.writer) is;
         published = told_same old.published new.published published_is;
       }
 
@@ -77,6 +81,7 @@ module _ {D A : Type 0} where
         more = [];
         handed = err.0 ∙ ap (λ (f : FlushValue D A). f.handed) is ∙ sym (append-nil old.handed);
         got = subst (λ (f : FlushValue D A). HasGot [] f.writer new.writer) is got;
+        copying = still ∙ ap (λ (f : FlushValue D A). copying_of f.writer) is;
         published = told_same old.published new.published published_is;
       }
 
@@ -84,17 +89,8 @@ module _ {D A : Type 0} where
           → OnOk result (HasGot mid.held mid.writer new.writer) → OnErr result ((new.handed ≡ mid.handed) × (new.held ≡ mid.held))
           → OnErr result (HasGot [] mid.writer new.writer)
           → TakesIn old new
-      took_in (Ok x) ok got err still = got_all ok got
-      took_in (Err e) ok got err still = got_nothing err still
-
-  -- what was handed in is a beginning of what was pushed
-  pub begins : (mid new : FlushValue D A) (pushed now : List RecordValue) (result : Result (Unit {0}) Error)
-      → OnOk result ((new.handed ≡ popped_by mid) × (new.held ≡ [])) → popped_by mid ≡ take (length (popped_by mid)) pushed → now ≡ pushed
-      → OnOk result (new.handed ≡ take (length new.handed) now)
-  begins mid new pushed now (Ok x) ok beginning same =
-      subst (λ (l : List RecordValue). new.handed ≡ take (length new.handed) l) (sym same)
-      (subst (λ (l : List RecordValue). l ≡ take (length l) pushed) (sym ok.0) beginning)
-  begins mid new pushed now (Err e) ok beginning same = tt
+      took_in (Ok x) ok got err kept = got_all ok got
+      took_in (Err e) ok got err kept = got_nothing err kept
 
   -- some were popped and handed in, and then more
   pub took_then : (old mid new : FlushValue D A) → TakesIn old mid → TakesIn mid new → TakesIn old new
@@ -112,5 +108,6 @@ module _ {D A : Type 0} where
       failed = second.got.failed ∙ first.got.failed;
       image = second.got.image ∙ first.got.image;
     };
+    copying = second.copying ∙ first.copying;
     published = second.published ∙ ap (λ (c : FlusherCount). record c { stopped = new.published.stopped }) first.published;
   }

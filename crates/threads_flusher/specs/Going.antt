@@ -3,7 +3,8 @@ use Rattle.std.specs.Prelude.{◌≡◌, ◌≤◌, ◌++◌, ℕ, List, false, 
 use Rattle.records.specs.RecordValue.{RecordValue}
 use Rattle.core_model.specs.Histories.{Opened}
 use Rattle.sector_device.specs.DevicePast.{DevicePast, LeavesOnly, Rises}
-use Rattle.store_writer.specs.Parts.{device_of, halves_of, has_failed, synced_of}
+use Rattle.store_writer.specs.Parts.{copying_of, device_of, halves_of, has_failed, synced_of, without_image}
+use Rattle.store_writer.specs.declared.copying.Copying.{Copying}
 use Rattle.threads_flusher.specs.Part.{FlushValue, GivesBeginning, HasGot, popped_by}
 
 -- Some records more were popped, and the writer has got some more of those that were popped. Nothing else of it
@@ -14,7 +15,12 @@ pub record TakesIn {D A : Type 0} (old new : FlushValue D A) : Type 0 where
   pub more : List RecordValue
   pub handed : new.handed ≡ old.handed ++ more
   pub got : HasGot more old.writer new.writer
+  pub copying : copying_of new.writer ≡ copying_of old.writer
   pub published : new.published ≡ record old.published { stopped = new.published.stopped }
+
+-- No image is under way, its copying is here, and all else is as it was: nothing was written.
+abbrev pub LeavesImage : {D A : Type 0} → Copying → FlushValue D A → FlushValue D A → Type 0
+LeavesImage copying old new = new ≡ record old { writer = without_image copying old.writer }
 
 -- It has gone on, by as many calls as there were: more records were popped and handed in, or as many, and none was
 -- lost; no horizon went back, and the store is the same. A crash at any moment since leaves what some of the records

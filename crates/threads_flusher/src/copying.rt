@@ -4,11 +4,9 @@ ghost use Rattle.record_values.specs.GeometryValue.{GeometryValue};
 ghost use Rattle.store_image_model.specs.Run.{cells_at};
 ghost use Rattle.core_copies.specs.Pieces.{IsPieceOf};
 ghost use Rattle.nsf_core.specs.Outbox.{HandsOn};
-ghost use Rattle.store_writer.specs.Copying.{IsPieceDue};
-ghost use Rattle.store_writer.specs.Parts.{halves_of, has_failed, image_of};
-ghost use Rattle.store_writer.specs.Places.{IsAtPiece};
-ghost use Rattle.store_writer.specs.Writer.{IsChunk, MustStartAgain};
-ghost use Rattle.threads_flusher.specs.Images.{IsHalfFull, TakesNext};
+ghost use Rattle.store_writer.specs.Parts.{copying_of, halves_of, has_failed};
+ghost use Rattle.store_writer.specs.Writer.{IsChunk};
+ghost use Rattle.threads_flusher.specs.Images.{IsHalfFull, IsPieceDue, TakesNext};
 
 use crate::part::FlushPart;
 use locked_core::{Group, Locked, Memory};
@@ -16,13 +14,20 @@ use records::{Error, Geometry};
 use sector_device::Device;
 use std::sync::Wait;
 use store_image_model::{Chunk, CopyPlace};
+use store_writer::Copying;
 use threads_queue::RecordQueue;
+
+/// Shows that a flusher has looked under the lock for records. `FlushPart::look` alone makes one.
+#[derive(Drop)]
+pub struct Looked {
+    _seen: (),
+}
 
 impl<B: Group, D: Device, A: Memory> FlushPart<B, D, A> {
     ghost use Rattle.locked_core.specs.Locked.{locked_of};
     ghost use Rattle.locked_core.specs.Made.{IsAllOf};
     ghost use Rattle.locked_core.specs.Made as made;
-    ghost use Rattle.threads_flusher.specs.Going.{TakesIn};
+    ghost use Rattle.threads_flusher.specs.Going.{LeavesImage, TakesIn};
     ghost use Rattle.threads_flusher.specs.Part.{last_handed, run_of};
 
     // Where a chunk gets its memory.
@@ -58,6 +63,27 @@ impl<B: Group, D: Device, A: Memory> FlushPart<B, D, A> {
         !self.held.is_empty()
     }
 
+    /// How far the copying of an image has come.
+    pub fn copying(&self) -> Copying
+        ensures { result ≡ copying_of self.now.writer }
+    {
+        self.writer.copying()
+    }
+
+    /// Gives up an image under way: a whole one is to be taken at once.
+    pub fn give_up(&mut self)
+        ensures { LeavesImage Copying.GivenUp self.old self.new }
+    {
+        self.writer.give_up();
+    }
+
+    /// Forgets an image under way: the next one is copied from its start.
+    pub fn forget_image(&mut self)
+        ensures { LeavesImage Copying.Idle self.old self.new }
+    {
+        self.writer.forget_image();
+    }
+
     /// Whether half the slots of the current half's log are open: then an image begins, which empties it.
     pub fn wants_image(&self) -> bool
         ensures begins { IsTrue result ↔ IsHalfFull self.now.writer }
@@ -66,16 +92,17 @@ impl<B: Group, D: Device, A: Memory> FlushPart<B, D, A> {
         self.writer.open_slots() >= slots / 2
     }
 
-    /// Pushes records that wait in the core to the queue, pops records that wait there, and hands in all that is held.
-    /// No clause says how many are pushed or popped: one that the queue refuses waits on in the core.
+    /// Looks under the lock for records: pushes those that wait in the core to the queue, pops those that wait there,
+    /// and hands in all that is held. No clause says how many are pushed or popped: one that the queue refuses waits on
+    /// in the core.
     ///
     /// The one error is `NoMemory`. Then what was popped is held, and none was handed in.
-    pub fn take_in<R: Wait>(
+    pub fn look<R: Wait>(
         &mut self,
         rt: &R,
         queue: &RecordQueue<A>,
         locked: &mut Locked<B, A>,
-    ) -> Result<(), Error>
+    ) -> Result<Looked, Error>
         requires { queue.now ≡ B.site.queue }
         ensures takes { TakesIn self.old self.new }
         ensures published { self.new.published ≡ self.old.published }
@@ -90,7 +117,8 @@ impl<B: Group, D: Device, A: Memory> FlushPart<B, D, A> {
     {
         locked.push_outbox(rt, queue);
         self.take(rt, queue)?;
-        self.hand_in(rt, queue, locked)
+        self.hand_in(rt, queue, locked)?;
+        Ok(Looked { _seen: () })
     }
 
     /// Copies all cells, as the last record made left them, as a chunk that may be taken: that record was handed in
@@ -113,14 +141,12 @@ impl<B: Group, D: Device, A: Memory> FlushPart<B, D, A> {
         ensures whole { IfOk result (λ chunk. (g : GeometryValue)
             → IsAllOf (locked_of locked.new).core
             (cells_at (made.run_of g B.site.opened (locked_of locked.new)) chunk.number) chunk.piece) }
-        ensures at { IfOk result (λ chunk. IsAtPiece (halves_of self.new.writer).geometry.pages chunk.piece
-            (image_of self.new.writer)) }
         ensures no_memory { IfErr result (λ e. e ≡ Error.NoMemory) }
         ensures pushed { HandsOn (locked_of locked.old).core (locked_of locked.new).core (locked_of locked.old).pushed
             (locked_of locked.new).pushed }
         ensures book { (locked_of locked.new).book ≡ (locked_of locked.old).book }
     {
-        self.take_in(rt, queue, locked)?;
+        self.look(rt, queue, locked)?;
         self.stands();
         locked.each_hold();
         let chunk = locked.copy_whole(self.allocator())?;
@@ -140,7 +166,7 @@ impl<B: Group, D: Device, A: Memory> FlushPart<B, D, A> {
     ) -> Result<Chunk<A>, Error>
         requires queue { queue.now ≡ B.site.queue }
         requires sound { has_failed self.old.writer ≡ false }
-        requires due { IsPieceDue (halves_of self.old.writer).geometry.pages place (image_of self.old.writer) }
+        requires due { IsPieceDue place self.old.writer }
         ensures takes { TakesIn self.old self.new }
         ensures published { self.new.published ≡ self.old.published }
         ensures number { IfOk result (λ chunk. chunk.number ≡ last_handed B.site.opened self.new) }
@@ -150,14 +176,12 @@ impl<B: Group, D: Device, A: Memory> FlushPart<B, D, A> {
         ensures piece { IfOk result (λ chunk. (g : GeometryValue)
             → IsPieceOf (locked_of locked.new).core
             (cells_at (made.run_of g B.site.opened (locked_of locked.new)) chunk.number) place chunk.piece) }
-        ensures at { IfOk result (λ chunk. ¬ MustStartAgain chunk.piece self.new.writer
-            → IsAtPiece (halves_of self.new.writer).geometry.pages chunk.piece (image_of self.new.writer)) }
         ensures no_memory { IfErr result (λ e. e ≡ Error.NoMemory) }
         ensures pushed { HandsOn (locked_of locked.old).core (locked_of locked.new).core (locked_of locked.old).pushed
             (locked_of locked.new).pushed }
         ensures book { (locked_of locked.new).book ≡ (locked_of locked.old).book }
     {
-        self.take_in(rt, queue, locked)?;
+        self.look(rt, queue, locked)?;
         self.stands();
         self.next_pieces();
         locked.each_hold();

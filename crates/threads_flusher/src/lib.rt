@@ -19,5 +19,6 @@ mod ends;
 mod part;
 mod settling;
 
+pub use copying::Looked;
 pub use ends::FlushEnds;
 pub use part::FlushPart;

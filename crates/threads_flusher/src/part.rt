@@ -6,12 +6,11 @@ ghost use Rattle.sector_device.specs.Disk.{CrashState, IsCrashState};
 ghost use Rattle.sector_device.specs.DevicePast.{LeavesOnly};
 ghost use Rattle.records.specs.RecordValue.{RecordValue};
 ghost use Rattle.model.specs.Given.{opening_cells};
-ghost use Rattle.store_image_model.specs.Places.{place_behind};
 ghost use Rattle.board.specs.Views.{FlusherCount};
 ghost use Rattle.threads_flusher.specs.Part.{count_of};
 ghost use Rattle.store_writer.specs.Image.{BecomesImage};
-ghost use Rattle.store_writer.specs.Parts.{device_of, halves_of, has_failed, image_of, synced_of, waiting_of};
-ghost use Rattle.store_writer.specs.Places.{IsAtPiece, IsAtPlace};
+ghost use Rattle.store_writer.specs.Parts.{copying_of, device_of, halves_of, has_failed, image_of, synced_of};
+ghost use Rattle.store_writer.specs.Parts.{waiting_of};
 ghost use Rattle.flip_image.specs.Layout.{InHalf, other};
 ghost use Rattle.flip_image.specs.declared.half.TheConstants.{FLIP_SECTOR};
 ghost use Rattle.store_writer.specs.Writer.{CanFlip, HasFailed, InOpenedSlots, IsAsBefore, IsBeforeFlush, IsChunk};
@@ -177,6 +176,7 @@ impl<B: Group, D: Device, A: Memory> FlushPart<B, D, A> {
         ensures kept { OnErr result ((self.new.handed ≡ self.old.handed) × (self.new.held ≡ self.old.held)) }
         ensures still { OnErr result (HasGot [] self.old.writer self.new.writer) }
         ensures no_memory { IfErr result (λ e. e ≡ Error.NoMemory) }
+        ensures copying { copying_of self.new.writer ≡ copying_of self.old.writer }
         ensures published { self.new.published ≡ self.old.published }
         ensures beginning { popped_by self.old ≡ take (length (popped_by self.old)) (locked_of locked.old).pushed }
         ensures locked { locked_of locked.new ≡ locked_of locked.old }
@@ -212,6 +212,7 @@ impl<B: Group, D: Device, A: Memory> FlushPart<B, D, A> {
         ensures image { (n : ℕ) → result ≡ Ok (FlushReply.Flushed n)
             → BecomesImage (halves_of self.old.writer).geometry.slots (synced_of self.old.writer)
             (n - synced_of self.old.writer) (image_of self.old.writer) (image_of self.new.writer) }
+        ensures copying { copying_of self.new.writer ≡ copying_of self.old.writer }
         ensures nothing { result ≡ Ok FlushReply.Nothing → synced_of self.old.writer
             ≡ last_handed B.site.opened self.old }
         ensures idle { has_failed self.old.writer ≡ false → synced_of self.old.writer
@@ -245,10 +246,6 @@ impl<B: Group, D: Device, A: Memory> FlushPart<B, D, A> {
             (FlushLeaves B.site.opened self.old) }
         ensures stepped { IfOk result (λ reply.
             IsStepReply chunk.number chunk.piece reply self.old.writer self.new.writer) }
-        ensures place { result ≡ Ok StepReply.Taken
-            → IsAtPiece (halves_of self.old.writer).geometry.pages chunk.piece (image_of self.old.writer)
-            → IsAtPlace (halves_of self.old.writer).geometry.pages
-            (place_behind (halves_of self.old.writer).geometry.pages chunk.piece) (image_of self.new.writer) }
         ensures again { has_failed self.old.writer ≡ false → MustStartAgain chunk.piece self.old.writer
             → result ≡ Ok StepReply.StartAgain }
         ensures sound { OnOk result ((has_failed self.old.writer ≡ false) × (has_failed self.new.writer ≡ false)) }

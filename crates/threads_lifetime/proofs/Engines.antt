@@ -44,6 +44,7 @@ module _ {D A : Type 0} (past_of : D → DevicePast) (o : Opened) (w : Writer D 
     sound = is.sound;
     empty = is.empty;
     idle = is.idle;
+    copying = is.copying;
   }
 
   pub stays_settled : (image : CrashState) → IsCrashState (past_of (device_of w)).disk image → Opens image o

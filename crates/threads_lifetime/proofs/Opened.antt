@@ -19,7 +19,7 @@ use Rattle.sector_device.specs.DevicePast.{DevicePast}
 use Rattle.store_writer.specs.declared.writer.Writer.{Writer}
 use Rattle.store_writer.specs.Writer.{IsWriter}
 use Rattle.gate_log.specs.Area.{Log}
-use Rattle.restart.specs.declared.parts.Parts.{Parts}
+use Rattle.restart.specs.declared.parts.EngineParts.{EngineParts}
 use Rattle.restart.specs.Parted.{ArePartsOf, LeavesParts, LeavesPartsOf}
 use Rattle.core_parts.specs.Opening as held
 use Rattle.restart.specs.Parts.{core_of, device_of}
@@ -32,7 +32,7 @@ use Rattle.threads_lifetime.specs.Openings.{IsNewWriter, IsUnsound, Opens}
 both_same : {s new : State} {k next : Standing} → ServesAll s k [] new next → (new ≡ s) × (next ≡ k)
 both_same nothing = (refl, refl)
 
-module _ {D A : Type 0} (past_of : D → DevicePast) (before : D) (engine : Parts D A) (is : IsOpened past_of before engine) where
+module _ {D A : Type 0} (past_of : D → DevicePast) (before : D) (engine : EngineParts D A) (is : IsOpened past_of before engine) where
   pub opens : Opens (past_of before).disk.content (over is.geometry is.given)
   opens = record { geometry = is.geometry; given = is.given; gives = is.gives; opened = refl }
 
@@ -47,17 +47,17 @@ module _ {D A : Type 0} (past_of : D → DevicePast) (before : D) (engine : Part
   }
 
 -- what the core that was opened holds is what the store opened with
-held_is : {D A : Type 0} (past_of : D → DevicePast) (before : D) (engine : Parts D A) (is : IsOpened past_of before engine) (core : CoreValue)
+held_is : {D A : Type 0} (past_of : D → DevicePast) (before : D) (engine : EngineParts D A) (is : IsOpened past_of before engine) (core : CoreValue)
     → core ≡ core_of engine → held.opened_of core ≡ over is.geometry is.given
 held_is past_of before engine is core same = ap held.opened_of (same ∙ is.core)
 
 -- the core was tested, and a core may begin with what it holds
-pub sound_opened : {D A : Type 0} (past_of : D → DevicePast) (before : D) (engine : Parts D A) (is : IsOpened past_of before engine) (core : CoreValue)
+pub sound_opened : {D A : Type 0} (past_of : D → DevicePast) (before : D) (engine : EngineParts D A) (is : IsOpened past_of before engine) (core : CoreValue)
     → core ≡ core_of engine → CanOpen (held.opened_of core) → CanOpen (over is.geometry is.given)
 sound_opened past_of before engine is core same can = subst CanOpen (held_is past_of before engine is core same) can
 
 -- the core was tested, and no core may begin with what it holds
-pub unsound_opened : {D A : Type 0} (past_of : D → DevicePast) (before : D) (engine : Parts D A) (is : IsOpened past_of before engine) (core : CoreValue)
+pub unsound_opened : {D A : Type 0} (past_of : D → DevicePast) (before : D) (engine : EngineParts D A) (is : IsOpened past_of before engine) (core : CoreValue)
     → core ≡ core_of engine → (CanOpen (held.opened_of core) → ⊥)
     → (failures : D → ℕ) (after : D) → after ≡ device_of engine → failures (device_of engine) ≡ failures before → IsUnsound past_of failures before after
 unsound_opened past_of before engine is core held_by cannot failures after same quiet = record {
@@ -69,7 +69,7 @@ unsound_opened past_of before engine is core held_by cannot failures after same 
   quiet = ap failures same ∙ quiet;
 }
 
-module _ {D A : Type 0} (past_of : D → DevicePast) (before : D) (engine : Parts D A) (is : IsOpened past_of before engine)
+module _ {D A : Type 0} (past_of : D → DevicePast) (before : D) (engine : EngineParts D A) (is : IsOpened past_of before engine)
     (emptied : IsEmptied past_of before engine)
     (can : CanOpen (over is.geometry is.given))
     (core : CoreValue) (w : Writer D A) (parts : ArePartsOf engine core w) (left : LeavesPartsOf past_of engine core w) where
@@ -118,6 +118,7 @@ module _ {D A : Type 0} (past_of : D → DevicePast) (before : D) (engine : Part
     sound = parts.failed ∙ is.sound;
     empty = ap (λ (l : Log). l.open_slots) parts.log ∙ emptied.1;
     idle = parts.image ∙ emptied.2;
+    copying = parts.copying ∙ emptied.3;
   }
 
   pub new_over_core : IsNewWriter past_of (opened_of core) w

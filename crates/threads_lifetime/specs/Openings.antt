@@ -13,15 +13,16 @@ use Rattle.sector_device.specs.Disk.{Disk, CrashState, IsCrashState, IsSynced}
 use Rattle.sector_device.specs.DevicePast.{DevicePast, LeavesOnly}
 use Rattle.store_reader.specs.Contents.{Gives}
 use Rattle.store_writer.specs.declared.writer.Writer.{Writer}
-use Rattle.store_writer.specs.Parts.{halves_of, has_failed, image_of, log_of, synced_of}
+use Rattle.store_writer.specs.Parts.{copying_of, halves_of, has_failed, image_of, log_of, synced_of}
 use Rattle.store_writer.specs.Writer.{IsWriter, WritesOnly, opened_run}
+use Rattle.store_writer.specs.declared.copying.Copying.TheVariants.{Idle}
 use Rattle.threads_flusher.specs.Part.{FlushValue}
 use Rattle.locked_core.specs.Names.{Names}
 use Rattle.restart.specs.Parts.{core_of, device_of, horizon_of, writer_of}
 use Rattle.restart.specs.Reopening.{IsNotOpened, IsTurned}
 use Rattle.restart.specs.Settling.{IsNotWritten}
 use Rattle.restart.specs.Store.{InCopy, IsAt, Past, Survives, over}
-use Rattle.restart.specs.declared.parts.Parts.{Parts}
+use Rattle.restart.specs.declared.parts.EngineParts.{EngineParts}
 use Rattle.threads_lifetime.specs.declared.refusal.OpenError.{OpenError}
 use Rattle.threads_lifetime.specs.declared.refusal.OpenError.TheVariants.{Refused, Unsound}
 
@@ -47,7 +48,7 @@ abbrev pub StaysOpenable : Disk → Type 0
 StaysOpenable disk = (image : CrashState) → IsCrashState disk image → IsOpenable image
 
 -- A flusher's part that has popped nothing: all that was opened is synced, and is published so, and the device has not
--- failed. No slot of the log is open, and no image is under way.
+-- failed. No slot of the log is open, and no image is under way, nor is a whole one to be taken.
 pub record IsNewFlusher {D A : Type 0} (board : TableId) (o : Opened) (f : FlushValue D A) : Type 0 where
   pub handed : f.handed ≡ []
   pub held : f.held ≡ []
@@ -56,8 +57,10 @@ pub record IsNewFlusher {D A : Type 0} (board : TableId) (o : Opened) (f : Flush
   pub sound : has_failed f.writer ≡ false
   pub empty : (log_of f.writer).open_slots ≡ 0
   pub idle : image_of f.writer ≡ None
+  pub copying : copying_of f.writer ≡ Idle
 
--- A writer that has got no record yet, over what was opened. No slot of the log is open, and no image is under way.
+-- A writer that has got no record yet, over what was opened. No slot of the log is open, and no image is under way, nor
+-- is a whole one to be taken.
 pub record IsNewWriter {D A : Type 0} (past_of : D → DevicePast) (o : Opened) (w : Writer D A) : Type 0 where
   pub writer : IsWriter past_of (opened_run (halves_of w) o.given.last (opening_cells o.given)) o.given.last w
   pub pages : (halves_of w).geometry.pages ≡ o.pages
@@ -67,6 +70,7 @@ pub record IsNewWriter {D A : Type 0} (past_of : D → DevicePast) (o : Opened) 
   pub sound : has_failed w ≡ false
   pub empty : (log_of w).open_slots ≡ 0
   pub idle : image_of w ≡ None
+  pub copying : copying_of w ≡ Idle
 
 -- A store that is open, before its threads have it: what its seats, its queue, their table and its board are called,
 -- with what it was opened with; and its device.
@@ -109,7 +113,7 @@ IsNotShared past_of failures before count after Unsound = IsUnsound past_of fail
 -- every record up to its horizon, and so with everything acknowledged; no call of the device failed. No sector was
 -- written but those that a copy writes.
 pub record IsOpenedFrom {D A : Type 0} (past_of : D → DevicePast) (failures : D
-    → ℕ) (engine : Parts D A) (count : ℕ) (s : StoreValue D) : Type 0 where
+    → ℕ) (engine : EngineParts D A) (count : ℕ) (s : StoreValue D) : Type 0 where
   pub most : count ≤ 16
   pub seats : s.site.seats ≡ count
   pub quiet : IsQuiet (core_of engine)
@@ -123,14 +127,16 @@ pub record IsOpenedFrom {D A : Type 0} (past_of : D → DevicePast) (failures : 
 
 -- A transaction is active, and the engine is as it was. Or none is, and what the engine holds is sound: then there was
 -- no memory, and it is as it was; or what it holds could not be written, and its run goes on.
-abbrev pub IsRefusedFrom : {D A : Type 0} → (D → DevicePast) → (D → ℕ) → Parts D A → Parts D A → Error → Type 0
+abbrev pub IsRefusedFrom : {D A : Type 0} → (D → DevicePast) → (D → ℕ) → EngineParts D A → EngineParts D A → Error
+    → Type 0
 IsRefusedFrom past_of failures old new e =
     ((e ≡ TxnsActive) × (IsQuiet (core_of old) → ⊥) × (new ≡ old))
     ⊎ (IsQuiet (core_of old) × CanOpen (opened_of (core_of old))
     × (((e ≡ NoMemory) × (new ≡ old)) ⊎ IsNotWritten past_of failures old new e))
 
 -- why no engine was shared by so many seats; it is given back
-abbrev pub IsNotOpenedFrom : {D A : Type 0} → (D → DevicePast) → (D → ℕ) → Parts D A → (count : ℕ) → Parts D A
+abbrev pub IsNotOpenedFrom : {D A : Type 0} → (D → DevicePast) → (D → ℕ) → EngineParts D A → (count : ℕ)
+    → EngineParts D A
     → OpenError
     → Type 0
 IsNotOpenedFrom past_of failures old count new (Refused e) = IsRefusedFrom past_of failures old new e

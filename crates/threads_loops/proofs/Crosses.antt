@@ -33,7 +33,7 @@ use Rattle.nsf_core.below.marked_index.specs.contracts.index.MarkedIndex as Mark
 use Rattle.nsf_core.below.heap_pages.proofs.heap.Heap.TheSendSync as pages
 use Rattle.nsf_core.below.txn_table.proofs.table.TxnTable.TheSendSync as table
 use Rattle.nsf_core.below.sorted_scan.proofs.scan.Scan.TheSendSync as scan
-use Rattle.core_parts.specs.contracts.parts.Parts as CoreParts
+use Rattle.core_parts.specs.contracts.parts.CoreParts as CoreParts
 use Rattle.nsf_core.specs.contracts.store.Core as Core
 use Rattle.threads_flusher.below.threads_queue.specs.declared.memory.Memory as memory
 use Rattle.threads_flusher.below.threads_queue.proofs.queue.Pusher.TheSendSync as pusher
@@ -69,11 +69,12 @@ module _ (p : Parts (knot.frame H ghosts)) (n : IsSend (rows (knot.frame H ghost
         (as_row_send (row_field (Box.the_row h H ghosts)) (Box-send h n), tt),
       ))
 
-  parts_send : IsSend (knot.at-Parts H ghosts p)
+  parts_send : IsSend (knot.at-NodeParts H ghosts p)
   parts_send =
       let h = knot.at-Child H ghosts p in
-      rejoined_send (knot.layer-Parts H ghosts h) _ (deep.split-Parts H.Denot ghosts) (deep.join-Parts H.Denot ghosts) (deep.joins-Parts H.Denot ghosts)
-      (variants_send (knot.type-Parts H ghosts h) (
+      rejoined_send (knot.layer-NodeParts H ghosts h) _ (deep.split-NodeParts H.Denot ghosts) (deep.join-NodeParts H.Denot ghosts)
+      (deep.joins-NodeParts H.Denot ghosts)
+      (variants_send (knot.type-NodeParts H ghosts h) (
         (
           as_row_send (row_field (as_row (Vec.the_field Entry.the_row H ghosts)))
               (as_row_send (Vec.the_field Entry.the_row H ghosts) (Vec-send Entry.the_row entry.the_send)),
@@ -84,7 +85,7 @@ module _ (p : Parts (knot.frame H ghosts)) (n : IsSend (rows (knot.frame H ghost
 
   inside_send : IsSend (knot.at-Node H ghosts p)
   inside_send =
-      let h = knot.at-Parts H ghosts p in
+      let h = knot.at-NodeParts H ghosts p in
       rejoined_send (knot.layer-Node H ghosts h) _ (deep.split-Node H.Denot ghosts) (deep.join-Node H.Denot ghosts) (deep.joins-Node H.Denot ghosts)
       (declared_send (knot.type-Node H ghosts h) (as_row_send (row_field h) parts_send, tt))
 

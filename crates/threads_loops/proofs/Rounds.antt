@@ -1,40 +1,32 @@
--- Where the copying of an image is, after each call of the flusher's part.
-use Rattle.std.proofs.Common.{◌≡◌, ◌⊎◌, ℕ, ◌+◌, ◌-◌, ap, arith, false, true, Option, None, Some, Result, Ok, Err, IfOk, IfErr, OnOk, inl, inr, refl, sym, subst}
-use Rattle.std.proofs.Common.{◌∙◌, ⊎_elim}
+-- When an image is copied, after each call of the flusher's part.
+use Rattle.std.proofs.Common.{◌≡◌, ◌≢◌, ℕ, ◌+◌, ap, arith, false, true, Option, None, Result, Ok, Err, IfOk, IfErr, OnOk, inl, inr, sym, subst, ◌∙◌}
 use Rattle.std.proofs.lemmas.Bool.{false≢true}
 use Rattle.record_values.specs.declared.error.Error.{Error}
-use Rattle.record_values.specs.GeometryValue.{GeometryValue}
-use Rattle.flip_image.specs.Layout.{HalvesValue}
-use Rattle.store_image_model.specs.Places.{place_behind}
+use Rattle.flip_image.specs.Layout.{HalvesValue, other}
 use Rattle.store_image_model.specs.declared.chunk.CopyPlace.{CopyPlace}
-use Rattle.store_image_model.specs.declared.chunk.CopyPlace.TheVariants as at
+use Rattle.store_image_model.specs.Places.{place_behind}
 use Rattle.store_image_model.specs.declared.chunk.Piece.{Piece}
-use Rattle.store_writer.specs.Copying.{IsCopying, IsPieceDue}
-use Rattle.store_writer.specs.Image.{BecomesImage}
-use Rattle.store_writer.specs.Parts.{halves_of, has_failed, image_of, log_of, synced_of}
-use Rattle.store_writer.specs.Places.{IsAtPiece, IsAtPlace}
+use Rattle.store_image_model.specs.declared.chunk.Piece.TheVariants.{Whole, Start, Page, Entries}
+use Rattle.model.specs.Cells.{Cells}
+use Rattle.core_parts.specs.View.{CoreValue}
+use Rattle.locked_core.specs.Made.{IsAllOf}
+use Rattle.store_writer.specs.Parts.{copying_of, halves_of, has_failed, log_of}
 use Rattle.store_writer.specs.Writer.{HasFailed, IsFlipReply, IsFlushReply, IsNotFlushed, IsStepReply, MustStartAgain}
 use Rattle.store_writer.specs.declared.copying.Copying.{Copying}
 use Rattle.store_writer.specs.declared.copying.Copying.TheVariants.{Idle, Steps, GivenUp}
-use Rattle.store_writer.specs.declared.image.NewImage.{NewImage}
 use Rattle.store_writer.specs.declared.writer.FlipReply.{FlipReply}
-use Rattle.store_writer.specs.declared.writer.FlipReply.TheVariants.{Behind}
+use Rattle.store_writer.specs.declared.writer.FlipReply.TheVariants.{Behind, Flipped}
 use Rattle.store_writer.specs.declared.writer.FlushReply.{FlushReply}
 use Rattle.store_writer.specs.declared.writer.FlushReply.TheVariants.{Flushed, Nothing, LogFull}
 use Rattle.store_writer.specs.declared.writer.StepReply.{StepReply}
 use Rattle.store_writer.specs.declared.writer.StepReply.TheVariants.{StartAgain, Taken}
 use Rattle.store_writer.specs.declared.writer.Writer.{Writer}
-use Rattle.threads_flusher.specs.Going.{TakesIn}
+use Rattle.threads_flusher.specs.Going.{LeavesImage, TakesIn}
 use Rattle.threads_flusher.specs.Images.{IsHalfFull}
 use Rattle.threads_flusher.specs.Part.{FlushValue}
-use Rattle.threads_loops.specs.Copying.{HasBegun, IsDue, StandsBy}
+use Rattle.threads_loops.specs.Copying.{HasImage, IsAll, IsCopied, IsDue, IsWanted, StandsBy}
 
--- an image that is copied in steps stays at its place where a group is flushed, or is given up
-abbrev pub KeepsPlace : Type 0
-KeepsPlace = (pages slots synced count : ℕ) (place : Option CopyPlace) (old new : Option NewImage) → BecomesImage slots synced count old new
-    → IsAtPlace pages place old → (new ≡ None) ⊎ IsAtPlace pages place new
-
--- half the slots of the log are full, where those of another writer are
+-- half the slots of the log are open, where those of another writer are
 module _ {D A : Type 0} (old new : Writer D A) (halves : halves_of new ≡ halves_of old) (half : IsHalfFull old) where
   -- and the log is the same
   half_as : log_of new ≡ log_of old → IsHalfFull new
@@ -44,115 +36,140 @@ module _ {D A : Type 0} (old new : Writer D A) (halves : halves_of new ≡ halve
   half_more : log_of new ≡ record (log_of old) { open_slots = (log_of old).open_slots + 1 } → IsHalfFull new
   half_more more = omega (arith, half, ap (λ l. l.open_slots) more, ap (λ (h : HalvesValue). h.geometry.slots) halves)
 
--- an image began at half the slots, where it did in another writer
-begun_on : {D A : Type 0} (copying : Copying) (old new : Writer D A) → (IsHalfFull old → IsHalfFull new) → HasBegun copying old → HasBegun copying new
-begun_on Idle old new on was = tt
-begun_on (Steps place) old new on was = on was
-begun_on GivenUp old new on was = on was
+steps_on : (place : Option CopyPlace) → Steps place ≢ Idle
+steps_on place same = cc
 
-module _ {D A : Type 0} (copying : Copying) (old new : FlushValue D A) (was : StandsBy copying old) where
-  -- records were popped and handed in
-  pub stands_by_taking : TakesIn old new → StandsBy copying new
-  stands_by_taking takes sound =
-      let before = was (sym takes.got.failed ∙ sound) in (
-        subst (λ (i : Option NewImage). IsCopying (halves_of new.writer).geometry.pages copying i) (sym takes.got.image)
-            (subst (λ (h : HalvesValue). IsCopying h.geometry.pages copying (image_of old.writer)) (sym takes.got.halves) before.0),
-        begun_on copying old.writer new.writer (λ half. half_as old.writer new.writer takes.got.halves half takes.got.log) before.1,
-      )
+given_on : GivenUp ≢ Idle
+given_on same = cc
 
-  -- nothing changed
-  pub stands_still : new.writer ≡ old.writer → StandsBy copying new
-  stands_still same = subst (λ (w : Writer D A). has_failed w ≡ false → IsCopying (halves_of w).geometry.pages copying (image_of w) × HasBegun copying w)
-      (sym same) was
-
-  -- the device failed
-  pub stands_failed : has_failed new.writer ≡ true → StandsBy copying new
-  stands_failed failed sound = absurd (false≢true (sym sound ∙ failed))
-
--- a group was flushed
-carried : (copying : Copying) (pages slots synced count : ℕ) (old new : Option NewImage) → KeepsPlace → BecomesImage slots synced count old new
-    → IsCopying pages copying old → IsCopying pages copying new
-carried Idle pages slots synced count old new keeps becomes was = tt
-carried GivenUp pages slots synced count old new keeps becomes was = tt
-carried (Steps place) pages slots synced count old new keeps becomes was =
-    ⊎_elim (λ none. inl (becomes.none none)) (λ at. keeps pages slots synced count place old new becomes at) was
-
--- the device had not failed where a group was flushed
-pub flush_before : {D A : Type 0} (old new : Writer D A) (result : Result FlushReply Error) → OnOk result ((has_failed old ≡ false) × (has_failed new ≡ false))
-    → IfOk result (λ _. has_failed old ≡ false)
-flush_before old new (Ok reply) sound = sound.0
-flush_before old new (Err e) sound = tt
-
-module _ {D A : Type 0} (failures : D → ℕ) (keeps : KeepsPlace) (copying : Copying) (old new : FlushValue D A)
-    (halves : halves_of new.writer ≡ halves_of old.writer) where
-  pub stands_by_flush : (result : Result FlushReply Error) → IfOk result (λ reply. IsFlushReply reply old.writer new.writer)
-      → IfOk result (λ _. has_failed old.writer ≡ false)
-      → ((n : ℕ) → result ≡ Ok (Flushed n)
-      → BecomesImage (halves_of old.writer).geometry.slots (synced_of old.writer) (n - synced_of old.writer) (image_of old.writer) (image_of new.writer))
-      → IfErr result (λ e. IsNotFlushed failures e old.writer new.writer) → StandsBy copying old → StandsBy copying new
-  stands_by_flush (Ok (Flushed n)) is before image err was = λ sound. (
-    subst (λ (h : HalvesValue). IsCopying h.geometry.pages copying (image_of new.writer)) (sym halves)
-        (carried copying (halves_of old.writer).geometry.pages (halves_of old.writer).geometry.slots (synced_of old.writer) (n - synced_of old.writer)
-        (image_of old.writer) (image_of new.writer) keeps (image n refl) (was before).0),
-    begun_on copying old.writer new.writer (λ half. half_more old.writer new.writer halves half is.3.log-is) (was before).1,
-  )
-  stands_by_flush (Ok Nothing) is before image err was = stands_still copying old new was is.0
-  stands_by_flush (Ok LogFull) is before image err was = stands_still copying old new was is.0
-  stands_by_flush (Err e) is before image (inl none) was = stands_still copying old new was none.4
-  stands_by_flush (Err e) is before image (inr device) was = stands_failed copying old new was device.1
-
--- a chunk may still be taken behind one, which was taken or not
-pub due_behind : {D A M : Type 0} (failures : D → ℕ) (old new : FlushValue D A) (number : ℕ) (piece : Piece M) (result : Result StepReply Error)
-    → IfOk result (λ reply. IsStepReply number piece reply old.writer new.writer) → IfErr result (λ e. HasFailed failures e old.writer new.writer) → IsDue old
-    → IsDue new
-due_behind failures old new number piece (Ok Taken) stepped err due sound =
-    let kept = stepped.1.1 in half_as old.writer new.writer kept.1 (due (sym kept.5 ∙ sound)) kept.2
-due_behind failures old new number piece (Ok StartAgain) stepped err due sound = subst (λ (w : Writer _ _). IsHalfFull w) (sym stepped.0)
-    (due (sym (ap (λ (w : Writer _ _). has_failed w) stepped.0) ∙ sound))
-due_behind failures old new number piece (Err e) stepped err due sound = absurd (false≢true (sym sound ∙ err.1))
-
--- the image began where the copying is under way
-pub begun_at : {D A : Type 0} (copying there : Copying) (f : FlushValue D A) → copying ≡ there → StandsBy copying f → StandsBy there f
-begun_at copying there f is was = subst (λ (x : Copying). StandsBy x f) is was
+pub stands_due : {D A : Type 0} (f : FlushValue D A) → IsDue f → StandsBy f
+stands_due f due sound copied = due sound
 
 module _ {D A : Type 0} (old new : FlushValue D A) where
-  -- a piece was taken
-  pub stands_by_piece : {A : Type 0} (number : ℕ) (piece : Piece A) (behind : Option CopyPlace) (result : Result StepReply Error) → result ≡ Ok Taken
-      → IfOk result (λ reply. IsStepReply number piece reply old.writer new.writer)
-      → (¬ MustStartAgain piece old.writer → IsAtPiece (halves_of old.writer).geometry.pages piece (image_of old.writer))
-      → (result ≡ Ok Taken → IsAtPiece (halves_of old.writer).geometry.pages piece (image_of old.writer)
-      → IsAtPlace (halves_of old.writer).geometry.pages (place_behind (halves_of old.writer).geometry.pages piece) (image_of new.writer))
-      → behind ≡ place_behind (halves_of old.writer).geometry.pages piece → IsDue new → StandsBy (Steps behind) new
-  stands_by_piece number piece behind result is stepped at place told due sound =
-      let now : IsStepReply number piece Taken old.writer new.writer =
-      subst (λ (r : Result StepReply Error). IfOk r (λ reply. IsStepReply number piece reply old.writer new.writer)) is stepped in
-      let halves : halves_of new.writer ≡ halves_of old.writer = now.1.1.1 in (
-        subst (λ (p : Option CopyPlace). IsCopying (halves_of new.writer).geometry.pages (Steps p) (image_of new.writer)) (sym told)
-            (subst (λ (h : HalvesValue). IsCopying h.geometry.pages (Steps (place_behind (halves_of old.writer).geometry.pages piece)) (image_of new.writer))
-            (sym halves) (inr (place is (at now.0)))),
-        due sound,
+  -- records were popped and handed in
+  module _ (takes : TakesIn old new) where
+    pub due_by_taking : IsDue old → IsDue new
+    due_by_taking due sound = half_as old.writer new.writer takes.got.halves (due (sym takes.got.failed ∙ sound)) takes.got.log
+
+    pub stands_by_taking : StandsBy old → StandsBy new
+    stands_by_taking was sound copied = half_as old.writer new.writer takes.got.halves
+        (was (sym takes.got.failed ∙ sound) (λ idle. copied (takes.copying ∙ idle))) takes.got.log
+
+    pub wanted_by_taking : IsWanted old → IsWanted new
+    wanted_by_taking was idle = half_as old.writer new.writer takes.got.halves (was (sym takes.copying ∙ idle)) takes.got.log
+
+    pub copied_by_taking : (last : FlushValue D A) → IsCopied new last → IsCopied old last
+    copied_by_taking last is = (is.0, is.1 ∙ takes.got.halves)
+
+  -- nothing changed
+  pub stands_still : new.writer ≡ old.writer → StandsBy old → StandsBy new
+  stands_still same was = subst (λ (w : Writer D A). has_failed w ≡ false → copying_of w ≢ Idle → IsHalfFull w) (sym same) was
+
+  pub wanted_still : new.writer ≡ old.writer → IsWanted old → IsWanted new
+  wanted_still same was = subst (λ (w : Writer D A). copying_of w ≡ Idle → IsHalfFull w) (sym same) was
+
+  -- the device failed
+  pub stands_failed : has_failed new.writer ≡ true → StandsBy new
+  stands_failed failed sound = absurd (false≢true (sym sound ∙ failed))
+
+  pub due_failed : has_failed new.writer ≡ true → IsDue new
+  due_failed failed sound = absurd (false≢true (sym sound ∙ failed))
+
+  -- a group was flushed
+  module _ (failures : D → ℕ) (halves : halves_of new.writer ≡ halves_of old.writer) (copying : copying_of new.writer ≡ copying_of old.writer) where
+    pub stands_by_flush : (result : Result FlushReply Error) → IfOk result (λ reply. IsFlushReply reply old.writer new.writer)
+        → OnOk result ((has_failed old.writer ≡ false) × (has_failed new.writer ≡ false))
+        → IfErr result (λ e. IsNotFlushed failures e old.writer new.writer) → StandsBy old → StandsBy new
+    stands_by_flush (Ok (Flushed n)) is sound err was = λ _ copied.
+        half_more old.writer new.writer halves (was sound.0 (λ idle. copied (copying ∙ idle))) is.3.log-is
+    stands_by_flush (Ok Nothing) is sound err was = stands_still is.0 was
+    stands_by_flush (Ok LogFull) is sound err was = stands_still is.0 was
+    stands_by_flush (Err e) is sound (inl none) was = stands_still none.4 was
+    stands_by_flush (Err e) is sound (inr device) was = stands_failed device.1
+
+    pub wanted_by_flush : (reply : FlushReply) → IsFlushReply reply old.writer new.writer → IsWanted old → IsWanted new
+    wanted_by_flush (Flushed n) is was = λ idle. half_more old.writer new.writer halves (was (sym copying ∙ idle)) is.3.log-is
+    wanted_by_flush Nothing is was = wanted_still is.0 was
+    wanted_by_flush LogFull is was = wanted_still is.0 was
+
+  -- a chunk was offered, which was taken or not
+  module _ {M : Type 0} (failures : D → ℕ) (number : ℕ) (piece : Piece M) where
+    pub due_behind : (result : Result StepReply Error) → IfOk result (λ reply. IsStepReply number piece reply old.writer new.writer)
+        → IfErr result (λ e. HasFailed failures e old.writer new.writer) → IsDue old → IsDue new
+    due_behind (Ok Taken) stepped err due sound = let kept = stepped.1.1 in half_as old.writer new.writer kept.1 (due (sym kept.5 ∙ sound)) kept.2
+    due_behind (Ok StartAgain) stepped err due sound = subst (λ (w : Writer D A). IsHalfFull w) (sym stepped.0)
+        (due (sym (ap (λ (w : Writer D A). has_failed w) stepped.0) ∙ sound))
+    due_behind (Err e) stepped err due sound = absurd (false≢true (sym sound ∙ err.1))
+
+    pub copied_behind : (reply : StepReply) → IsStepReply number piece reply old.writer new.writer → IsCopied old new
+    copied_behind Taken is = ((λ idle. steps_on _ (sym is.1.3 ∙ idle)), is.1.1.1)
+    copied_behind StartAgain is = (
+      (λ idle. given_on (sym (ap (λ (w : Writer D A). copying_of w) is.0) ∙ idle)),
+      ap (λ (w : Writer D A). halves_of w) is.0,
+    )
+
+  -- an image was made current
+  module _ (handed : ℕ) where
+    pub stands_flipped : (n : ℕ) → IsFlipReply handed (Flipped n) old.writer new.writer → StandsBy new
+    stands_flipped n is sound copied = absurd (copied is.5.copying-is)
+
+    pub image_flipped : (n : ℕ) → IsFlipReply handed (Flipped n) old.writer new.writer → HasImage old new
+    image_flipped n is = inr (is.5.copying-is, ap (λ (h : HalvesValue). h.current) is.5.halves-are)
+
+    -- or it couldn't be
+    pub stands_behind : IsFlipReply handed Behind old.writer new.writer → IsDue old → StandsBy new
+    stands_behind is due = stands_still is.0 (stands_due old due)
+
+    pub image_behind : IsFlipReply handed Behind old.writer new.writer → copying_of old.writer ≢ Idle → HasImage old new
+    image_behind is copied = inl ((λ idle. copied (sym (ap (λ (w : Writer D A). copying_of w) is.0) ∙ idle)), ap (λ (w : Writer D A). halves_of w) is.0)
+
+    -- and was given up
+    module _ (last : FlushValue D A) (is : IsFlipReply handed Behind old.writer new.writer) (leaves : LeavesImage GivenUp new last) where
+      pub stands_given : IsDue old → StandsBy last
+      stands_given due = subst (λ (f : FlushValue D A). StandsBy f) (sym leaves)
+          (λ sound copied. subst (λ (w : Writer D A). IsHalfFull w) (sym is.0) (due (sym (ap (λ (w : Writer D A). has_failed w) is.0) ∙ sound)))
+
+      pub image_given : HasImage old last
+      image_given = inl (
+        (λ idle. given_on (sym (ap (λ (f : FlushValue D A). copying_of f.writer) leaves) ∙ idle)),
+        ap (λ (f : FlushValue D A). halves_of f.writer) leaves ∙ ap (λ (w : Writer D A). halves_of w) is.0,
       )
 
-  -- no flip was made
-  pub stands_behind : (copying : Copying) (handed : ℕ) (result : Result FlipReply Error) → result ≡ Ok Behind
-      → IfOk result (λ reply. IsFlipReply handed reply old.writer new.writer) → StandsBy copying old → StandsBy copying new
-  stands_behind copying handed result is flipped was =
-      let now : IsFlipReply handed Behind old.writer new.writer =
-      subst (λ (r : Result FlipReply Error). IfOk r (λ reply. IsFlipReply handed reply old.writer new.writer)) is flipped in
-      stands_still copying old new was now.0
+-- some steps were made
+module _ {D A : Type 0} (old mid new : FlushValue D A) where
+  pub image_then : IsCopied old mid → HasImage mid new → HasImage old new
+  image_then first (inl is) = inl (is.0, is.1 ∙ first.1)
+  image_then first (inr is) = inr (is.0, is.1 ∙ ap (λ (h : HalvesValue). other h.current) first.1)
 
--- the place behind a piece, in a store that is as large
-pub behind_is : {A : Type 0} (piece : Piece A) (g now : GeometryValue) (behind : Option CopyPlace) → behind ≡ place_behind g.pages piece → g ≡ now
-    → behind ≡ place_behind now.pages piece
-behind_is piece g now behind told is = subst (λ (x : GeometryValue). behind ≡ place_behind x.pages piece) is told
+  pub image_again : copying_of mid.writer ≢ Idle → HasImage old mid → (IsWanted mid → HasImage mid new) → HasImage old new
+  image_again copied (inl is) then = image_then is (then (λ idle. absurd (copied idle)))
+  image_again copied (inr is) then = absurd (copied is.0)
 
--- the piece that is due
-is_due : (pages : ℕ) (place : CopyPlace) (image : Option NewImage) → IsCopying pages (Steps (Some place)) image → IsPieceDue pages place image
-is_due pages at.Start image is = tt
-is_due pages (at.Page page) image is = is
-is_due pages (at.Entries above) image is = is
+-- before it the store was the same
+pub image_from : {D A : Type 0} (old mid new : FlushValue D A) → halves_of mid.writer ≡ halves_of old.writer → HasImage mid new → HasImage old new
+image_from old mid new same (inl is) = inl (is.0, is.1 ∙ same)
+image_from old mid new same (inr is) = inr (is.0, is.1 ∙ ap (λ (h : HalvesValue). other h.current) same)
 
-pub due_of : {D A : Type 0} (copying : Copying) (place : CopyPlace) (f : FlushValue D A) → copying ≡ Steps (Some place) → StandsBy copying f
-    → has_failed f.writer ≡ false → IsPieceDue (halves_of f.writer).geometry.pages place (image_of f.writer)
-due_of copying place f is was sound = is_due (halves_of f.writer).geometry.pages place (image_of f.writer)
-    (subst (λ (x : Copying). IsCopying (halves_of f.writer).geometry.pages x (image_of f.writer)) is (was sound).0)
+-- ---- a whole image
+
+-- a piece of all cells is one
+pub all_of : {A : Type 0} (v : CoreValue) (cells : Cells) (piece : Piece A) → IsAllOf v cells piece → IsAll piece
+all_of v cells (Whole copied) is = tt
+all_of v cells (Start life lists) is = absurd is
+all_of v cells (Page page rows) is = absurd is
+all_of v cells (Entries entries) is = absurd is
+
+-- where a piece was taken that could be, the copying goes on behind it
+pub copying_behind : {D A M : Type 0} (old new : FlushValue D A) (number : ℕ) (piece : Piece M) (reply : StepReply)
+    → IsStepReply number piece reply old.writer new.writer → ¬ MustStartAgain piece old.writer
+    → copying_of new.writer ≡ Steps (place_behind (halves_of old.writer).geometry.pages piece)
+copying_behind old new number piece Taken is may = is.1.3
+copying_behind old new number piece StartAgain is may = absurd (may is.1)
+
+-- and behind all cells there is nothing
+pub whole_behind : {D A M : Type 0} (old new : Writer D A) (piece : Piece M) → IsAll piece
+    → (¬ MustStartAgain piece old → copying_of new ≡ Steps (place_behind (halves_of old).geometry.pages piece)) → copying_of new ≡ Steps None
+whole_behind old new (Whole cells) is behind = behind (λ must. must)
+whole_behind old new (Start life lists) is behind = absurd is
+whole_behind old new (Page page rows) is behind = absurd is
+whole_behind old new (Entries entries) is behind = absurd is

@@ -12,8 +12,9 @@ use Rattle.core_parts.specs.Replies.{reply_by}
 use Rattle.core_parts.specs.declared.parts.Ticket.{Ticket}
 use Rattle.core_parts.specs.declared.reply.BuildReply.{BuildReply}
 use Rattle.core_parts.specs.declared.reply.BuildReply.TheVariants as reply
+use Rattle.shared.specs.Seats.{BuildValue}
 use Rattle.shared.specs.Served.{WasServed}
-use Rattle.threads_loops.specs.Building.{EndsBuilder, EndsRun, HasAttempted, HasPublished, HasStepped}
+use Rattle.threads_loops.specs.Building.{BuildsOn, EndsBuilder, EndsRun, HasAttempted, HasBuilt, HasPublished, HasStepped, reason_of}
 
 module _ (o : Opened) (step : Result BuildReply Error) (attempts : ℕ) (was : ∥ HasStepped o (reply_by built step) attempts ∥₁) where
   -- as it was served, the step being so
@@ -112,3 +113,26 @@ pub why_told : (W : Error → Type 0) (completed : Option Ticket) (error : Error
     → IfErr result (λ e. (e ≡ error) × (error ≡ Stopped → completed ≡ None)) → W error → IfErr result W
 why_told W completed error (Ok ticket) is why = tt
 why_told W completed error (Err e) is why = subst W (sym is.0) why
+
+-- a builder that was stopped may end so
+pub stopped_ends : (o : Opened) → EndsBuilder o Stopped
+stopped_ends o not = absurd (not refl)
+
+-- so a builder has gone on that ended by this reason
+pub built_on : (o : Opened) (old new : BuildValue) (completed : Option Ticket) (error : Error) (result : Result Ticket Error) → HasBuilt o old completed new
+    → EndsBuilder o error → IfOk result (λ ticket. (completed ≡ Some ticket) × (error ≡ Stopped))
+    → IfErr result (λ e. (e ≡ error) × (error ≡ Stopped → completed ≡ None)) → BuildsOn o old result new
+built_on o old new completed error result has why ok err = record {
+  done = last_told (λ ticket. ∥ WasServed o Event.Build (built (reply.Done ticket)) ∥₁) completed error result ok has.done;
+  published = last_told (λ ticket. ∥ HasPublished o ticket new.progress ∥₁) completed error result ok has.published;
+  why = why_told (EndsBuilder o) completed error result err why;
+  rises = has.rises;
+  attempted = has.attempted;
+}
+
+-- and this is why it is told to have ended
+pub told_reason : (completed : Option Ticket) (error : Error) (result : Result Ticket Error)
+    → IfOk result (λ ticket. (completed ≡ Some ticket) × (error ≡ Stopped))
+    → IfErr result (λ e. (e ≡ error) × (error ≡ Stopped → completed ≡ None)) → error ≡ reason_of result
+told_reason completed error (Ok ticket) ok err = ok.1
+told_reason completed error (Err e) ok err = sym err.0

@@ -1,27 +1,32 @@
 -- The states that the flush loop goes through.
-use Rattle.std.proofs.Common.{◌≡◌, ◌⊎◌, ◌≤◌, ℕ, List, [], ◌∷◌, ◌++◌, Result, IfErr, IfOk, OnErr, OnOk, false, true, inl, inr, refl, ap, subst, arith}
+use Rattle.std.proofs.Common.{◌≡◌, ◌⊎◌, ◌≤◌, ◌+◌, ℕ, List, [], ◌∷◌, ◌++◌, length, None, Result, IfErr, IfOk, OnErr, OnOk, false, true, inl, inr, refl, sym, ap}
+use Rattle.std.proofs.Common.{◌∙◌, subst, arith}
 use Rattle.record_values.specs.declared.error.Error.{Error}
 use Rattle.core_model.specs.Histories.{Opened}
 use Rattle.sector_device.specs.DevicePast.{DevicePast, LeavesOnly, Rises}
 use Rattle.flip_image.specs.Layout.{HalvesValue}
 use Rattle.store_image_model.specs.declared.chunk.Piece.{Piece}
-use Rattle.store_writer.specs.Parts.{device_of, halves_of, has_failed, synced_of}
-use Rattle.store_writer.specs.Writer.{HasFailed, IsAsBefore, IsBeforeFlush, IsChunk, IsFlipReply, IsFlushReply, IsNotFlushed, IsStepReply}
+use Rattle.store_writer.specs.Parts.{copying_of, device_of, halves_of, has_failed, synced_of}
+use Rattle.store_writer.specs.Writer.{CanFlip, HasFailed, IsAsBefore, IsBeforeFlush, IsChunk, IsFlipReply, IsFlushReply, IsNotFlushed, IsStepReply}
 use Rattle.store_writer.specs.declared.writer.FlipReply.{FlipReply}
 use Rattle.store_writer.specs.declared.writer.FlushReply.{FlushReply}
 use Rattle.store_writer.specs.declared.writer.StepReply.{StepReply}
 use Rattle.threads_flusher.proofs.Going.{counted_by_call, counted_by_flush, flip_geometry, goes_by_call, step_geometry}
 use Rattle.threads_flusher.proofs.Keeping.{flip_rises, flush_rises}
-use Rattle.threads_flusher.specs.Going.{GoesOn, TakesIn}
+use Rattle.store_writer.specs.declared.copying.Copying.TheVariants.{GivenUp, Idle, Steps}
+use Rattle.store_writer.specs.declared.writer.FlipReply.TheVariants.{Behind}
+use Rattle.store_writer.specs.declared.writer.Writer.{Writer}
+use Rattle.records.specs.RecordValue.{RecordValue}
+use Rattle.threads_flusher.specs.Going.{GoesOn, LeavesImage, TakesIn}
 use Rattle.threads_flusher.specs.Images.{IsHalfFull}
 use Rattle.threads_flusher.specs.Part.{FlushValue, FlushLeaves, Publishes, last_handed, run_of}
-use Rattle.threads_loops.specs.Through.{Calls, GoesThrough, IsFlip, IsFlush, IsStep, RunsThrough}
+use Rattle.threads_loops.specs.Through.{Calls, GoesThrough, IsFlip, IsFlush, IsStep, PassesThrough, RunsThrough}
 
 module _ {D A : Type 0} (past_of : D → DevicePast) (failures : D → ℕ) (o : Opened) where
-  pub through_none : (f : FlushValue D A) → RunsThrough past_of failures o f f
+  pub through_none : (f : FlushValue D A) → PassesThrough past_of failures o f f
   through_none f = record { states = []; steps = refl }
 
-  pub through_taking : (old new : FlushValue D A) → TakesIn old new → RunsThrough past_of failures o old new
+  pub through_taking : (old new : FlushValue D A) → TakesIn old new → PassesThrough past_of failures o old new
   through_taking old new takes = record { states = new ∷ []; steps = (inl takes, refl) }
 
   steps_then : (old mid new : FlushValue D A) (states more : List (FlushValue D A)) → GoesThrough past_of failures o old states mid
@@ -29,18 +34,34 @@ module _ {D A : Type 0} (past_of : D → DevicePast) (failures : D → ℕ) (o :
   steps_then old mid new [] more is then = subst (λ (f : FlushValue D A). GoesThrough past_of failures o f more new) is then
   steps_then old mid new (next ∷ states) more is then = (is.0, steps_then next mid new states more is.1 then)
 
-  pub through_then : (old mid new : FlushValue D A) → RunsThrough past_of failures o old mid → RunsThrough past_of failures o mid new
-      → RunsThrough past_of failures o old new
+  pub through_then : (old mid new : FlushValue D A) → PassesThrough past_of failures o old mid → PassesThrough past_of failures o mid new
+      → PassesThrough past_of failures o old new
   through_then old mid new first second = record {
     states = first.states ++ second.states;
     steps = steps_then old mid new first.states second.states first.steps second.steps;
   }
 
+  -- a whole image was given up, as its flip was refused
+  pub through_giving : (old mid new : FlushValue D A) → copying_of old.writer ≡ Steps None → Publishes old mid
+      → IsFlipReply (last_handed o old) Behind old.writer mid.writer → LeavesImage GivenUp mid new → PassesThrough past_of failures o mid new
+  through_giving old mid new whole publishes behind leaves =
+      let same : last_handed o mid ≡ last_handed o old = ap (λ (l : List RecordValue). o.given.last + length l) publishes.handed in
+      let cannot : ¬ CanFlip (last_handed o mid) mid.writer = subst (λ (n : ℕ). ¬ CanFlip n mid.writer) (sym same)
+      (subst (λ (w : Writer D A). ¬ CanFlip (last_handed o old) w) (sym behind.0) behind.1) in
+      record {
+        states = new ∷ [];
+        steps = (inr (inr (ap (λ (w : Writer D A). copying_of w) behind.0 ∙ whole, cannot, leaves)), refl);
+      }
+
+  -- an image of an earlier loop was forgotten
+  pub through_forgetting : (old new : FlushValue D A) → LeavesImage Idle old new → RunsThrough past_of failures o old new
+  through_forgetting old new leaves = record { states = []; steps = leaves }
+
   -- ---- calls of the writer
 
   module _ (old new : FlushValue D A) where
-    pub through_call : Calls past_of failures o old new → RunsThrough past_of failures o old new
-    through_call call = record { states = new ∷ []; steps = (inr call, refl) }
+    pub through_call : Calls past_of failures o old new → PassesThrough past_of failures o old new
+    through_call call = record { states = new ∷ []; steps = (inr (inl call), refl) }
 
     counted : Calls past_of failures o old new → has_failed new.writer ≡ true → has_failed old.writer ≡ false
         → Rises (failures (device_of old.writer)) (failures (device_of new.writer))

@@ -1,5 +1,6 @@
 -- What a step of the builder means to the loop.
-use Rattle.std.specs.Prelude.{◌≡◌, ◌≢◌, ◌⊎◌, ◌<◌, ◌≤◌, Bool, false, true, ℕ, Result, Ok, Err, IfErr, IfOk}
+use Rattle.std.specs.Prelude.{◌≡◌, ◌≢◌, ◌⊎◌, ◌<◌, ◌≤◌, Bool, false, true, ℕ, Option, Result, Ok, Err, IfErr, IfOk}
+use Rattle.std.specs.Prelude.{IfSome}
 use Rattle.record_values.specs.declared.error.Error.{Error}
 use Rattle.record_values.specs.declared.error.Error.TheVariants.{IndexFull, NoIndex, NoMemory, Stopped}
 use Rattle.record_values.specs.declared.pair.Pair.{Pair}
@@ -55,6 +56,19 @@ pub record BuildsOn (o : Opened) (old : BuildValue) (result : Result Ticket Erro
   pub done : IfOk result (λ ticket. ∥ WasServed o Event.Build (built (reply.Done ticket)) ∥₁)
   pub published : IfOk result (λ ticket. ∥ HasPublished o ticket new.progress ∥₁)
   pub why : IfErr result (EndsBuilder o)
+  pub rises : old.progress ≤ new.progress
+  pub attempted : old.progress < new.progress → ∥ HasAttempted o new.progress ∥₁
+
+-- why a builder ended that ended so: it was stopped, where it tells an index
+abbrev pub reason_of : Result Ticket Error → Error
+reason_of (Ok ticket) = Stopped
+reason_of (Err e) = e
+
+-- So it has gone on where it completed this index last, if any, and may have ended by whatever reason. (No public
+-- clause cites this.)
+pub record HasBuilt (o : Opened) (old : BuildValue) (completed : Option Ticket) (new : BuildValue) : Type 0 where
+  pub done : IfSome completed (λ ticket. ∥ WasServed o Event.Build (built (reply.Done ticket)) ∥₁)
+  pub published : IfSome completed (λ ticket. ∥ HasPublished o ticket new.progress ∥₁)
   pub rises : old.progress ≤ new.progress
   pub attempted : old.progress < new.progress → ∥ HasAttempted o new.progress ∥₁
 

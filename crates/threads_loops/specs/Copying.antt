@@ -1,24 +1,37 @@
--- Where the copying of an image is (no public clause cites these).
-use Rattle.std.specs.Prelude.{◌≡◌, false}
+-- When an image of the flush loop begins (no public clause cites these).
+use Rattle.std.specs.Prelude.{◌≡◌, ◌≢◌, ◌⊎◌, false}
+use Rattle.flip_image.specs.Layout.{other}
+use Rattle.store_image_model.specs.declared.chunk.Piece.{Piece}
+use Rattle.store_image_model.specs.declared.chunk.Piece.TheVariants.{Whole, Start, Page, Entries}
 use Rattle.threads_flusher.specs.Images.{IsHalfFull}
 use Rattle.threads_flusher.specs.Part.{FlushValue}
-use Rattle.store_writer.specs.Copying.{IsCopying}
-use Rattle.store_writer.specs.Parts.{halves_of, has_failed, image_of}
-use Rattle.store_writer.specs.declared.copying.Copying.{Copying}
-use Rattle.store_writer.specs.declared.copying.Copying.TheVariants.{Idle, Steps, GivenUp}
-use Rattle.store_writer.specs.declared.writer.Writer.{Writer}
+use Rattle.store_writer.specs.Parts.{copying_of, halves_of, has_failed}
+use Rattle.store_writer.specs.declared.copying.Copying.TheVariants.{Idle}
 
--- it began as half the log's slots were full, and they are still
-abbrev pub HasBegun : {D A : Type 0} → Copying → Writer D A → Type 0
-HasBegun Idle w = Unit {0}
-HasBegun (Steps place) w = IsHalfFull w
-HasBegun GivenUp w = IsHalfFull w
+-- an image began as half the log's slots were open, and they are still, unless the device failed
+abbrev pub StandsBy : {D A : Type 0} → FlushValue D A → Type 0
+StandsBy f = has_failed f.writer ≡ false → copying_of f.writer ≢ Idle → IsHalfFull f.writer
 
--- so it is of the flusher's image, unless its device failed
-abbrev pub StandsBy : {D A : Type 0} → Copying → FlushValue D A → Type 0
-StandsBy copying f = has_failed f.writer ≡ false
-    → IsCopying (halves_of f.writer).geometry.pages copying (image_of f.writer) × HasBegun copying f.writer
-
--- a chunk of an image may be taken into it, for half the log's slots are full, unless the device failed
+-- a chunk of an image may be taken into it, for half the log's slots are open, unless the device failed
 abbrev pub IsDue : {D A : Type 0} → FlushValue D A → Type 0
 IsDue f = has_failed f.writer ≡ false → IsHalfFull f.writer
+
+-- an image is wanted: one is copied, or half the log's slots are open
+abbrev pub IsWanted : {D A : Type 0} → FlushValue D A → Type 0
+IsWanted f = copying_of f.writer ≡ Idle → IsHalfFull f.writer
+
+-- one is copied, and the same half is current
+abbrev pub IsCopied : {D A : Type 0} → FlushValue D A → FlushValue D A → Type 0
+IsCopied old new = (copying_of new.writer ≢ Idle) × (halves_of new.writer ≡ halves_of old.writer)
+
+-- one is copied; or it was made current, and none is
+abbrev pub HasImage : {D A : Type 0} → FlushValue D A → FlushValue D A → Type 0
+HasImage old new = IsCopied old new
+    ⊎ ((copying_of new.writer ≡ Idle) × ((halves_of new.writer).current ≡ other (halves_of old.writer).current))
+
+-- the piece is of all cells
+abbrev pub IsAll : {A : Type 0} → Piece A → Type 0
+IsAll (Whole cells) = Unit {0}
+IsAll (Start life lists) = ⊥
+IsAll (Page page rows) = ⊥
+IsAll (Entries entries) = ⊥

@@ -1,3 +1,4 @@
 pub mod Copying
 pub mod Building
 pub mod Through
+pub mod Telling

@@ -1,16 +1,17 @@
 -- The states that the flush loop goes through.
-use Rattle.std.specs.Prelude.{◌≡◌, ◌⊎◌, ◌≤◌, ℕ, List, [], ◌∷◌, Result, IfErr, IfOk, OnErr, OnOk, false}
+use Rattle.std.specs.Prelude.{◌≡◌, ◌⊎◌, ◌≤◌, ℕ, List, [], ◌∷◌, None, Result, IfErr, IfOk, OnErr, OnOk, false}
 use Rattle.record_values.specs.declared.error.Error.{Error}
 use Rattle.core_model.specs.Histories.{Opened}
 use Rattle.sector_device.specs.DevicePast.{DevicePast, LeavesOnly}
 use Rattle.store_image_model.specs.declared.chunk.Piece.{Piece}
-use Rattle.store_writer.specs.Parts.{device_of, halves_of, has_failed, synced_of}
-use Rattle.store_writer.specs.Writer.{HasFailed, IsAsBefore, IsBeforeFlush, IsChunk, IsFlipReply, IsFlushReply}
+use Rattle.store_writer.specs.Parts.{copying_of, device_of, halves_of, has_failed, synced_of, without_image}
+use Rattle.store_writer.specs.Writer.{CanFlip, HasFailed, IsAsBefore, IsBeforeFlush, IsChunk, IsFlipReply, IsFlushReply}
 use Rattle.store_writer.specs.Writer.{IsNotFlushed, IsStepReply}
 use Rattle.store_writer.specs.declared.writer.FlipReply.{FlipReply}
 use Rattle.store_writer.specs.declared.writer.FlushReply.{FlushReply}
 use Rattle.store_writer.specs.declared.writer.StepReply.{StepReply}
-use Rattle.threads_flusher.specs.Going.{TakesIn}
+use Rattle.store_writer.specs.declared.copying.Copying.TheVariants.{GivenUp, Idle, Steps}
+use Rattle.threads_flusher.specs.Going.{LeavesImage, TakesIn}
 use Rattle.threads_flusher.specs.Images.{IsHalfFull}
 use Rattle.threads_flusher.specs.Part.{FlushValue, FlushLeaves, Publishes, last_handed, run_of}
 
@@ -54,16 +55,30 @@ pub record Calls {D A : Type 0} (past_of : D → DevicePast) (failures : D
   pub images : LeavesOnly (past_of (device_of old.writer)) (past_of (device_of new.writer)) (FlushLeaves o old)
   pub later : failures (device_of old.writer) ≤ failures (device_of new.writer)
 
--- from each state to the next by records that were popped and handed in, or by one call of the writer; and it is the
--- last one now
+-- A whole image, which can't be made current yet, was given up: another is to be taken at once.
+abbrev pub DropsImage : {D A : Type 0} → Opened → FlushValue D A → FlushValue D A → Type 0
+DropsImage o old new = (copying_of old.writer ≡ Steps None) × (¬ CanFlip (last_handed o old) old.writer)
+    × LeavesImage GivenUp old new
+
+-- from each state to the next by records that were popped and handed in, or by one call of the writer, or as an image
+-- was given up; and it is the last one now
 abbrev pub GoesThrough : {D A : Type 0} → (D → DevicePast) → (D → ℕ) → Opened → FlushValue D A → List (FlushValue D A)
     → FlushValue D A → Type 0
 GoesThrough past_of failures o old [] new = new ≡ old
-GoesThrough past_of failures o old (next ∷ states) new = (TakesIn old next ⊎ Calls past_of failures o old next)
+GoesThrough past_of failures o old (next ∷ states) new = (TakesIn old next
+    ⊎ (Calls past_of failures o old next ⊎ DropsImage o old next))
     × GoesThrough past_of failures o next states new
 
 -- there are such states
-pub record RunsThrough {D A : Type 0} (past_of : D → DevicePast) (failures : D
+pub record PassesThrough {D A : Type 0} (past_of : D → DevicePast) (failures : D
     → ℕ) (o : Opened) (old new : FlushValue D A) : Type 0 where
   pub states : List (FlushValue D A)
   pub steps : GoesThrough past_of failures o old states new
+
+-- the flusher, whose image, if one was under way, is forgotten
+abbrev pub forgotten : {D A : Type 0} → FlushValue D A → FlushValue D A
+forgotten f = record f { writer = without_image Idle f.writer }
+
+-- A loop forgets an image of an earlier one as it begins, and goes on through such states.
+abbrev pub RunsThrough : {D A : Type 0} → (D → DevicePast) → (D → ℕ) → Opened → FlushValue D A → FlushValue D A → Type 0
+RunsThrough past_of failures o old new = PassesThrough past_of failures o (forgotten old) new

@@ -1,15 +1,16 @@
 //! The loop that writes the records and takes images.
-ghost use Rattle.std.specs.Prelude.{◌≡◌, ◌<◌, ◌≤◌, ◌-◌, ◌*◌, ◌/◌, true, false, IsTrue, OnOk, IfOk, IfErr};
+ghost use Rattle.std.specs.Prelude.{◌≡◌, ◌≢◌, ◌↔◌, ◌<◌, ◌≤◌, ◌-◌, ◌*◌, ◌/◌, true, false, None, Some, IsSome};
+ghost use Rattle.std.specs.Prelude.{IfErr, IfOk, IsTrue, OnOk};
 ghost use Rattle.record_values.specs.declared.error.Error.TheVariants.{DeviceFailed};
-ghost use Rattle.store_writer.specs.Copying.{IsPieceDue, steps_of_image};
-ghost use Rattle.store_writer.specs.Parts.{halves_of, has_failed, image_of};
-ghost use Rattle.store_writer.specs.Places.{IsAtPiece};
+ghost use Rattle.store_image_model.specs.Places.{place_behind};
+ghost use Rattle.store_writer.specs.Copying.{next_place, steps_of_image};
+ghost use Rattle.store_writer.specs.Parts.{copying_of, halves_of, has_failed, synced_of};
 ghost use Rattle.store_writer.specs.Writer.{IsChunk, MustStartAgain};
 ghost use Rattle.threads_flusher.specs.Going.{GoesOn, TakesIn};
-ghost use Rattle.threads_flusher.specs.Part.{run_of};
-ghost use Rattle.threads_loops.specs.Copying.{IsDue, StandsBy};
-ghost use Rattle.threads_loops.specs.Through.{RunsThrough};
-ghost use Rattle.store_writer.specs.declared.copying.Copying.{Copying as CopyingValue};
+ghost use Rattle.store_writer.specs.declared.copying.Copying.TheVariants.{Idle, Steps};
+ghost use Rattle.threads_flusher.specs.Part.{last_handed, run_of};
+ghost use Rattle.threads_loops.specs.Copying.{HasImage, IsAll, IsCopied, IsDue, IsWanted, StandsBy};
+ghost use Rattle.threads_loops.specs.Through.{PassesThrough, RunsThrough};
 
 use crate::gate::{Gate, Point};
 use crate::rest::{Found, has_ended, rest_flusher};
@@ -19,8 +20,8 @@ use shared::{Group, Memory, Shared};
 use std::sync::Wait;
 use std::sync::atomic::AtomicU64;
 use store_image_model::{CHUNK_ENTRIES, Chunk, CopyPlace};
-use store_writer::{Copying, FlipReply, FlushReply, StepReply, kept_place};
-use threads_flusher::FlushPart;
+use store_writer::{Copying, FlipReply, FlushReply};
+use threads_flusher::{FlushPart, Looked};
 
 // After so many rounds the lock is taken though no record was popped: one that the queue refused may wait in the core,
 // and nobody else may call again.
@@ -66,7 +67,7 @@ pub(crate) fn flush_until<B: Group, D: Device, R: Wait, G: Gate, A: Memory>(
 {
     part.stands();
     let bell = &shared.board().waits().pushed;
-    let mut copying = Copying::Idle;
+    part.forget_image();
     let mut rounds: u32 = 0;
     let mut quiet = 0;
     let mut taken = 0;
@@ -85,12 +86,12 @@ pub(crate) fn flush_until<B: Group, D: Device, R: Wait, G: Gate, A: Memory>(
         let synced = part.synced();
         let handed = part.last_handed();
         let looks = rounds % LOOK_EVERY == 0;
-        let takes = looks || rings != taken || matches!(copying, Copying::Idle);
+        let takes = looks || rings != taken || is_idle(part.copying());
         if synced == handed && takes {
             taken = rings;
         }
-        let went = round(rt, shared, part, &mut copying, takes, looks, gate).is_ok();
-        let seen = found(part, synced, handed, copying, went);
+        let went = round(rt, shared, part, takes, looks, gate).is_ok();
+        let seen = found(part, synced, handed, went);
         quiet = rest_flusher(rt, bell, rings, seen, quiet);
     }
     unreachable!()
@@ -102,8 +103,8 @@ fn is_stopped<B: Group, D: Device, A: Memory>(
     part: &mut FlushPart<B, D, A>,
 ) -> bool
     ensures goes_on { GoesOn D.past_of D.failures B.site.opened part.old part.new }
-    ensures through { RunsThrough D.past_of D.failures B.site.opened part.old part.new }
-    ensures copying { (copying : CopyingValue) → StandsBy copying part.old → StandsBy copying part.new }
+    ensures through { PassesThrough D.past_of D.failures B.site.opened part.old part.new }
+    ensures copying { StandsBy part.old → StandsBy part.new }
     ensures writer { part.new.writer ≡ part.old.writer }
     ensures seen { part.new.published.stopped ≡ result }
 {
@@ -119,13 +120,12 @@ fn found<B: Group, D: Device, A: Memory>(
     part: &FlushPart<B, D, A>,
     synced: u64,
     handed: u64,
-    copying: Copying,
     went: bool,
 ) -> Found {
     let waits = part.synced() != part.last_handed();
     let has_written = part.synced() != synced;
     let took_none = synced != handed;
-    match copying {
+    match part.copying() {
         _ if went && (waits || (has_written && took_none)) => Found::More,
         Copying::Idle if has_written => Found::Records,
         Copying::Idle => Found::Nothing,
@@ -134,26 +134,28 @@ fn found<B: Group, D: Device, A: Memory>(
     }
 }
 
-// One round: the records that wait are handed in, where they are to be taken, a group of them is written, and some
-// steps of an image are made where they are due. Beside an image records are taken where the bell has rung, so that a
-// few of the builder's take no group of their own.
+// One round: the records that wait are taken, where they are to be, a group of them is written, and some steps of an
+// image are made where they are due. Beside an image records are taken where the bell has rung, so that a few of the
+// builder's take no group of their own. Where half the slots are open as it begins and no image is copied, it begins
+// one (`image`).
 fn round<B: Group, D: Device, R: Wait, G: Gate, A: Memory>(
     rt: &R,
     shared: &Shared<B, A>,
     part: &mut FlushPart<B, D, A>,
-    copying: &mut Copying,
     takes: bool,
     looks: bool,
     gate: &G,
 ) -> Result<(), Error>
-    requires copying { StandsBy copying.old part.old }
+    requires copying { StandsBy part.old }
     ensures goes_on { GoesOn D.past_of D.failures B.site.opened part.old part.new }
-    ensures through { RunsThrough D.past_of D.failures B.site.opened part.old part.new }
-    ensures copying { StandsBy copying.new part.new }
+    ensures through { PassesThrough D.past_of D.failures B.site.opened part.old part.new }
+    ensures copying { StandsBy part.new }
+    ensures image { OnOk result (IsWanted part.old → HasImage part.old part.new) }
 {
-    hand_in(rt, shared, part, takes, looks);
+    let _looked = take_records(rt, shared, part, takes, looks);
+    part.stands();
     let is_full = write(shared, part, gate)?;
-    copy_some(rt, shared, part, copying, is_full, gate)
+    copy_some(rt, shared, part, is_full, gate)
 }
 
 // How many steps of an image are made a round: so many that an image, also of a full index, is whole before a quarter
@@ -166,69 +168,68 @@ fn steps_a_round(geometry: Geometry) -> u32
     steps / (geometry.slots / 4) + 1
 }
 
+// Whether no image is copied.
+fn is_idle(copying: Copying) -> bool
+    ensures { IsTrue result ↔ (copying ≡ Idle) }
+{
+    match copying {
+        Copying::Idle => true,
+        Copying::Steps(_) | Copying::GivenUp => false,
+    }
+}
+
 // Makes some steps of an image, where as many are due.
 fn copy_some<B: Group, D: Device, R: Wait, G: Gate, A: Memory>(
     rt: &R,
     shared: &Shared<B, A>,
     part: &mut FlushPart<B, D, A>,
-    copying: &mut Copying,
     is_full: bool,
     gate: &G,
 ) -> Result<(), Error>
-    requires copying { StandsBy copying.old part.old }
+    requires copying { StandsBy part.old }
     ensures goes_on { GoesOn D.past_of D.failures B.site.opened part.old part.new }
-    ensures through { RunsThrough D.past_of D.failures B.site.opened part.old part.new }
-    ensures copying { StandsBy copying.new part.new }
+    ensures through { PassesThrough D.past_of D.failures B.site.opened part.old part.new }
+    ensures copying { StandsBy part.new }
+    ensures image { OnOk result (IsWanted part.old → HasImage part.old part.new) }
 {
-    part.stands();
-    for _ in 0..steps_a_round(part.geometry()) {
-        copy(rt, shared, part, copying, is_full, gate)?;
-        if matches!(*copying, Copying::Idle) {
+    let steps = steps_a_round(part.geometry());
+    copy(rt, shared, part, is_full, gate)?;
+    for _ in 1..steps {
+        if is_idle(part.copying()) {
             return Ok(());
         }
+        copy(rt, shared, part, is_full, gate)?;
     }
     Ok(())
 }
 
-// Pops the records that wait, and hands them in. What memory is wanting for waits for a later round.
-fn hand_in<B: Group, D: Device, R: Wait, A: Memory>(
+// Pops the records that wait, and hands them in. Takes none while records wait for the writer, which are to be written
+// first; and takes the lock only where some were popped, or where it is to look. What memory is wanting for waits for a
+// later round.
+fn take_records<B: Group, D: Device, R: Wait, A: Memory>(
     rt: &R,
     shared: &Shared<B, A>,
     part: &mut FlushPart<B, D, A>,
     takes: bool,
     looks: bool,
-)
-    ensures goes_on { GoesOn D.past_of D.failures B.site.opened part.old part.new }
-    ensures through { RunsThrough D.past_of D.failures B.site.opened part.old part.new }
-    ensures copying { (copying : CopyingValue) → StandsBy copying part.old → StandsBy copying part.new }
-{
-    let _ = take_in(rt, shared, part, takes, looks);
-    part.stands();
-}
-
-// Takes none while records wait for the writer, which are to be written first; and takes the lock only where some were
-// popped, or where it is to look.
-fn take_in<B: Group, D: Device, R: Wait, A: Memory>(
-    rt: &R,
-    shared: &Shared<B, A>,
-    part: &mut FlushPart<B, D, A>,
-    takes: bool,
-    looks: bool,
-) -> Result<(), Error>
-    ensures { TakesIn part.old part.new }
+) -> Result<Option<Looked>, Error>
+    ensures takes { TakesIn part.old part.new }
+    ensures looks { synced_of part.old.writer ≡ last_handed B.site.opened part.old → IsTrue takes → IsTrue looks
+        → IfOk result (λ looked. IsSome looked) }
 {
     let waits = part.synced() != part.last_handed();
     let passes = waits || !takes;
     if passes {
-        return Ok(());
+        return Ok(None);
     }
     part.take(rt, shared.queue())?;
     let wanted = looks || part.holds_some();
     if !wanted {
-        return Ok(());
+        return Ok(None);
     }
     let mut locked = shared.hold_to_flush(rt, part);
-    part.take_in(rt, shared.queue(), &mut *locked)
+    let looked = part.look(rt, shared.queue(), &mut *locked)?;
+    Ok(Some(looked))
 }
 
 // Writes a group, where records wait, and tells whether one waits that the log has no room for.
@@ -238,14 +239,15 @@ fn write<B: Group, D: Device, G: Gate, A: Memory>(
     gate: &G,
 ) -> Result<bool, Error>
     ensures goes_on { GoesOn D.past_of D.failures B.site.opened part.old part.new }
-    ensures through { RunsThrough D.past_of D.failures B.site.opened part.old part.new }
-    ensures copying { (copying : CopyingValue) → StandsBy copying part.old → StandsBy copying part.new }
+    ensures through { PassesThrough D.past_of D.failures B.site.opened part.old part.new }
+    ensures copying { StandsBy part.old → StandsBy part.new }
+    ensures half { halves_of part.new.writer ≡ halves_of part.old.writer }
+    ensures image { OnOk result (IsWanted part.old → IsWanted part.new) }
 {
     part.stands();
     if part.synced() == part.last_handed() {
         return Ok(false);
     }
-    kept_place();
     gate.at(Point::FlushSync);
     let flushed = part.flush(shared.board());
     gate.at(Point::FlushGate);
@@ -253,34 +255,33 @@ fn write<B: Group, D: Device, G: Gate, A: Memory>(
     Ok(reply == FlushReply::LogFull)
 }
 
-// Takes the next chunk of an image, or makes it current; or begins one, where half the slots are full.
+// Takes the next chunk of an image, or makes it current; or begins one, where half the slots are open.
 fn copy<B: Group, D: Device, R: Wait, G: Gate, A: Memory>(
     rt: &R,
     shared: &Shared<B, A>,
     part: &mut FlushPart<B, D, A>,
-    copying: &mut Copying,
     is_full: bool,
     gate: &G,
 ) -> Result<(), Error>
-    requires copying { StandsBy copying.old part.old }
+    requires copying { StandsBy part.old }
     ensures goes_on { GoesOn D.past_of D.failures B.site.opened part.old part.new }
-    ensures through { RunsThrough D.past_of D.failures B.site.opened part.old part.new }
-    ensures copying { StandsBy copying.new part.new }
+    ensures through { PassesThrough D.past_of D.failures B.site.opened part.old part.new }
+    ensures copying { StandsBy part.new }
+    ensures image { OnOk result (IsWanted part.old → HasImage part.old part.new) }
 {
     part.stands();
-    let now = *copying;
-    match now {
+    match part.copying() {
         Copying::Idle => {
             if !part.wants_image() {
                 return Ok(());
             }
-            copy_piece(rt, shared, part, copying, CopyPlace::Start, gate)
+            copy_piece(rt, shared, part, CopyPlace::Start, gate)
         }
-        Copying::Steps(Some(place)) => copy_piece(rt, shared, part, copying, place, gate),
-        Copying::Steps(None) => flip(shared, part, copying, is_full),
+        Copying::Steps(Some(place)) => copy_piece(rt, shared, part, place, gate),
+        Copying::Steps(None) => flip(shared, part, is_full),
         Copying::GivenUp => {
-            copy_all(rt, shared, part, copying, gate)?;
-            flip(shared, part, copying, is_full)
+            copy_all(rt, shared, part, gate)?;
+            flip(shared, part, is_full)
         }
     }
 }
@@ -290,21 +291,19 @@ fn copy_piece<B: Group, D: Device, R: Wait, G: Gate, A: Memory>(
     rt: &R,
     shared: &Shared<B, A>,
     part: &mut FlushPart<B, D, A>,
-    copying: &mut Copying,
     place: CopyPlace,
     gate: &G,
 ) -> Result<(), Error>
-    requires copying { StandsBy copying.old part.old }
-    requires due { has_failed part.old.writer ≡ false
-        → IsPieceDue (halves_of part.old.writer).geometry.pages place (image_of part.old.writer) }
+    requires due { next_place (copying_of part.old.writer) ≡ Some place }
     requires late { IsDue part.old }
     ensures goes_on { GoesOn D.past_of D.failures B.site.opened part.old part.new }
-    ensures through { RunsThrough D.past_of D.failures B.site.opened part.old part.new }
-    ensures copying { StandsBy copying.new part.new }
+    ensures through { PassesThrough D.past_of D.failures B.site.opened part.old part.new }
+    ensures copying { StandsBy part.new }
+    ensures image { OnOk result (IsCopied part.old part.new) }
 {
     gate.at(Point::CopyStep);
     let chunk = copied_piece(rt, shared, part, place)?;
-    take_chunk(shared, part, copying, chunk)
+    take_chunk(shared, part, chunk)
 }
 
 // Copies all cells, and takes them.
@@ -312,19 +311,19 @@ fn copy_all<B: Group, D: Device, R: Wait, G: Gate, A: Memory>(
     rt: &R,
     shared: &Shared<B, A>,
     part: &mut FlushPart<B, D, A>,
-    copying: &mut Copying,
     gate: &G,
 ) -> Result<(), Error>
-    requires copying { StandsBy copying.old part.old }
     requires late { IsDue part.old }
     ensures goes_on { GoesOn D.past_of D.failures B.site.opened part.old part.new }
-    ensures through { RunsThrough D.past_of D.failures B.site.opened part.old part.new }
-    ensures copying { StandsBy copying.new part.new }
+    ensures through { PassesThrough D.past_of D.failures B.site.opened part.old part.new }
+    ensures copying { StandsBy part.new }
+    ensures image { OnOk result (IsCopied part.old part.new) }
     ensures late { IsDue part.new }
+    ensures whole { OnOk result (copying_of part.new.writer ≡ Steps None) }
 {
     gate.at(Point::CopyStep);
     let chunk = copied_whole(rt, shared, part)?;
-    take_chunk(shared, part, copying, chunk)
+    take_chunk(shared, part, chunk)
 }
 
 // Copies the piece of this place, under the lock.
@@ -334,15 +333,12 @@ fn copied_piece<B: Group, D: Device, R: Wait, A: Memory>(
     part: &mut FlushPart<B, D, A>,
     place: CopyPlace,
 ) -> Result<Chunk<A>, Error>
-    requires due { has_failed part.old.writer ≡ false
-        → IsPieceDue (halves_of part.old.writer).geometry.pages place (image_of part.old.writer) }
+    requires due { next_place (copying_of part.old.writer) ≡ Some place }
     ensures goes_on { GoesOn D.past_of D.failures B.site.opened part.old part.new }
-    ensures through { RunsThrough D.past_of D.failures B.site.opened part.old part.new }
-    ensures copying { (copying : CopyingValue) → StandsBy copying part.old → StandsBy copying part.new }
+    ensures through { PassesThrough D.past_of D.failures B.site.opened part.old part.new }
+    ensures takes { TakesIn part.old part.new }
     ensures chunk { IfOk result (λ chunk.
         IsChunk (run_of B.site.opened part.new) part.new.writer chunk.number chunk.piece) }
-    ensures at { IfOk result (λ chunk. ¬ MustStartAgain chunk.piece part.new.writer
-        → IsAtPiece (halves_of part.new.writer).geometry.pages chunk.piece (image_of part.new.writer)) }
 {
     part.stands();
     if part.has_failed() {
@@ -361,12 +357,11 @@ fn copied_whole<B: Group, D: Device, R: Wait, A: Memory>(
     part: &mut FlushPart<B, D, A>,
 ) -> Result<Chunk<A>, Error>
     ensures goes_on { GoesOn D.past_of D.failures B.site.opened part.old part.new }
-    ensures through { RunsThrough D.past_of D.failures B.site.opened part.old part.new }
-    ensures copying { (copying : CopyingValue) → StandsBy copying part.old → StandsBy copying part.new }
+    ensures through { PassesThrough D.past_of D.failures B.site.opened part.old part.new }
+    ensures takes { TakesIn part.old part.new }
     ensures chunk { IfOk result (λ chunk.
         IsChunk (run_of B.site.opened part.new) part.new.writer chunk.number chunk.piece) }
-    ensures at { IfOk result (λ chunk. IsAtPiece (halves_of part.new.writer).geometry.pages chunk.piece
-        (image_of part.new.writer)) }
+    ensures whole { IfOk result (λ chunk. IsAll chunk.piece) }
 {
     let mut locked = shared.hold_to_flush(rt, part);
     let copied = part.copy_whole(rt, shared.queue(), &mut *locked);
@@ -374,62 +369,50 @@ fn copied_whole<B: Group, D: Device, R: Wait, A: Memory>(
     copied
 }
 
-// Takes a chunk that was copied. Where it can't be taken, a whole image is to be.
+// Takes a chunk that was copied, or gives the image up.
 fn take_chunk<B: Group, D: Device, A: Memory>(
     shared: &Shared<B, A>,
     part: &mut FlushPart<B, D, A>,
-    copying: &mut Copying,
     chunk: Chunk<A>,
 ) -> Result<(), Error>
-    requires copying { StandsBy copying.old part.old }
     requires chunk { IsChunk (run_of B.site.opened part.old) part.old.writer chunk.number chunk.piece }
-    requires at { ¬ MustStartAgain chunk.piece part.old.writer
-        → IsAtPiece (halves_of part.old.writer).geometry.pages chunk.piece (image_of part.old.writer) }
     requires late { IsDue part.old }
     ensures goes_on { GoesOn D.past_of D.failures B.site.opened part.old part.new }
-    ensures through { RunsThrough D.past_of D.failures B.site.opened part.old part.new }
-    ensures copying { StandsBy copying.new part.new }
+    ensures through { PassesThrough D.past_of D.failures B.site.opened part.old part.new }
+    ensures copying { StandsBy part.new }
+    ensures image { OnOk result (IsCopied part.old part.new) }
     ensures late { IsDue part.new }
+    ensures behind { OnOk result (¬ MustStartAgain chunk.piece part.old.writer → copying_of part.new.writer
+        ≡ Steps (place_behind (halves_of part.old.writer).geometry.pages chunk.piece)) }
 {
     part.stands();
-    let behind = chunk.place_behind(part.geometry());
-    match part.take_piece(shared.board(), chunk)? {
-        StepReply::Taken => {
-            *copying = Copying::Steps(behind);
-            Ok(())
-        }
-        StepReply::StartAgain => {
-            *copying = Copying::GivenUp;
-            Ok(())
-        }
-    }
+    part.take_piece(shared.board(), chunk)?;
+    Ok(())
 }
 
 // Makes the image current. Where it can't be, and no group more can be written, a whole one is to be taken.
 fn flip<B: Group, D: Device, A: Memory>(
     shared: &Shared<B, A>,
     part: &mut FlushPart<B, D, A>,
-    copying: &mut Copying,
     is_full: bool,
 ) -> Result<(), Error>
-    requires copying { StandsBy copying.old part.old }
+    requires whole { copying_of part.old.writer ≡ Steps None }
     requires late { IsDue part.old }
     ensures goes_on { GoesOn D.past_of D.failures B.site.opened part.old part.new }
-    ensures through { RunsThrough D.past_of D.failures B.site.opened part.old part.new }
-    ensures copying { StandsBy copying.new part.new }
+    ensures through { PassesThrough D.past_of D.failures B.site.opened part.old part.new }
+    ensures copying { StandsBy part.new }
+    ensures image { OnOk result (copying_of part.old.writer ≢ Idle → HasImage part.old part.new) }
 {
     part.stands();
     let may_wait = !is_full && part.synced() < part.last_handed();
     match part.flip(shared.board())? {
-        FlipReply::Flipped(_) => {
-            *copying = Copying::Idle;
-            Ok(())
-        }
+        FlipReply::Flipped(_) => Ok(()),
         FlipReply::Behind => {
             if may_wait {
                 return Ok(());
             }
-            *copying = Copying::GivenUp;
+            part.stands();
+            part.give_up();
             Ok(())
         }
     }

@@ -11,11 +11,12 @@
 //! falls (`goes_on`); a crash within a call of its writer leaves all that was synced before that call, and no image is
 //! begun before half the log's slots are full (`through`). `build_loop` ends with a ticket only where some core that
 //! may lie under the lock answers that it completed the index (`done`). `run_beside` keeps what the clients promise
-//! (`clients`), and gives all back as it was where a thread is wanting (`not_run`); the refusal that
-//! `BuilderEnd::reason` tells is one that some such core gives. Neither: that a thread is started or a call returns,
-//! that the builder or the cleaner makes a step, that the flusher writes, that an image is taken, that progress is told
-//! before the end of a build, that a refusal ends the builder or is told, that a run lasts as long as its clients, and
-//! that a gate is called.
+//! (`clients`), and gives all back as it was where a thread is wanting (`not_run`), with a `NoThread`; the reason that
+//! `BuilderEnd::reason` tells is the one that the run ends with (`told`, `reason`, `one_reason`), and a refusal that
+//! some such core gives. Neither: that a thread is started or a call returns, that `threads` makes a `NoThread` where a
+//! start was refused alone (no other module can make one), that the builder or the cleaner makes a step, that the
+//! flusher looks, writes or takes an image, that progress is told before the end of a build, that a refusal ends the
+//! builder or is told in time, that a run lasts as long as its clients, and that a gate is called.
 //!
 //! Lemmas about its public words that crates above may cite, in `proofs`: `Crosses`.
 #![tactic(auto)]
@@ -25,13 +26,17 @@ mod builder_end;
 mod clean;
 mod flush;
 mod gate;
+mod reason;
 mod rest;
 mod run;
 mod start;
+mod threads;
 
 pub use build::build_loop;
 pub use builder_end::BuilderEnd;
 pub use clean::clean_loop;
 pub use flush::flush_loop;
 pub use gate::{Gate, NoGate, Point};
+pub use reason::Told;
 pub use run::{Ended, NotRun, run_beside};
+pub use threads::NoThread;

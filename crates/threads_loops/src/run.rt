@@ -3,23 +3,21 @@ ghost use Rattle.std.specs.Prelude.{◌≡◌, None, Some, IfErr, IfOk, OnOk, fa
 ghost use Rattle.record_values.specs.declared.error.Error.TheVariants.{DeviceFailed, Stopped};
 ghost use Rattle.store_writer.specs.Parts.{has_failed};
 ghost use Rattle.threads_flusher.specs.Going.{GoesOn};
-ghost use Rattle.threads_loops.specs.Building.{BuildsOn};
+ghost use Rattle.threads_loops.specs.Building.{BuildsOn, HasBuilt, reason_of};
+ghost use Rattle.threads_loops.specs.Telling.{IsToldBy};
 ghost use Rattle.threads_loops.specs.Through.{RunsThrough};
 
-use crate::build::build_until;
 use crate::builder_end::BuilderEnd;
-use crate::clean::clean_until;
-use crate::flush::flush_until;
 use crate::gate::Gate;
+use crate::reason::Told;
 use crate::start::{Run, called_off, ran};
+use crate::threads::{Building, Flushed, NoThread, start_builder, start_cleaner, start_flusher};
 use nsf_core::Ticket;
 use records::Error;
 use sector_device::Device;
 use shared::{BuildPart, CleanPart, Group, Shared};
-use std::snapshot::Snapshot;
 use std::sync::Wait;
-use std::sync::atomic::AtomicU64;
-use std::thread::{Promise, Scope, Threads, scope, scope_env};
+use std::thread::{Scope, Threads, scope, scope_env};
 use threads_flusher::FlushPart;
 
 /// What is left of the loops, and what the clients returned.
@@ -47,6 +45,8 @@ pub struct NotRun<B: Group, D: Device, F> {
     pub clean: CleanPart<B>,
     /// The clients, which were not called.
     pub clients: F,
+    /// The thread that was wanting.
+    pub want: NoThread,
 }
 
 /// Runs flusher, cleaner and builder beside the clients, each in a thread of its own, until the clients have ended;
@@ -54,18 +54,116 @@ pub struct NotRun<B: Group, D: Device, F> {
 /// the thread of the caller, once each loop has its thread.
 ///
 /// Where a thread is wanting for a loop, nothing is run: no loop makes a step, no client is called, and all that was
-/// given comes back as it was (`not_run`).
+/// given comes back as it was (`not_run`), with a `NoThread`, which `threads` alone makes, where a start was refused.
 ///
 /// Flusher and builder end as `flush_loop` and `build_loop` do, or with the clients. That there is no index is no
 /// reason to end for the builder, nor that it is full while a transaction is active, whose end may give places back
-/// (`builder`). What ends the builder is told to the clients (`BuilderEnd::reason`). Nobody but this call, or a seat's
-/// `stop`, ends the run.
+/// (`builder`). What ends the builder is told to the clients (`BuilderEnd::reason`), and it is what the call answers
+/// (`told`, `reason`). Nobody but this call, or a seat's `stop`, ends the run.
 ///
 /// Not proved: that a loop makes a step and that the call returns; that a build under way is carried on, and each that
 /// a client begins, also where it dropped an index that was complete; that the builder waits where the index is
 /// complete or there is none; and that another refusal than those ends it, so that what is to be built then waits for
 /// the next run.
 pub fn run_beside<
+    't,
+    B: Group + Send + Sync,
+    D: Device + Send + Drop,
+    R: Threads + Wait + Sync,
+    G: Gate + Sync,
+    X,
+    F: FnOnce() -> X,
+>(
+    rt: &R,
+    shared: &Shared<B>,
+    flush: FlushPart<B, D>,
+    build: BuildPart<B>,
+    clean: CleanPart<B>,
+    told: &'t BuilderEnd<B>,
+    gate: &G,
+    clients: F,
+) -> Result<(Ended<B, D, X>, Told<'t, B>), NotRun<B, D, F>>
+    requires clients { F.pre clients }
+    ensures not_run { IfErr result (λ n. (n.flush ≡ flush) × (n.build ≡ build) × (n.clean ≡ clean)
+        × (n.clients ≡ clients)) }
+    ensures clients { IfOk result (λ r. F.post clients r.0.clients) }
+    ensures goes_on { IfOk result (λ r. GoesOn D.past_of D.failures B.site.opened flush r.0.flush) }
+    ensures through { IfOk result (λ r. RunsThrough D.past_of D.failures B.site.opened flush r.0.flush) }
+    ensures sound { IfOk result (λ r. OnOk r.0.flushed (has_failed r.0.flush.writer ≡ false)) }
+    ensures failed { IfOk result (λ r. IfErr r.0.flushed (λ error.
+        (error ≡ DeviceFailed) × (has_failed r.0.flush.writer ≡ true))) }
+    ensures builder { IfOk result (λ r. BuildsOn B.site.opened build r.0.built r.0.build) }
+    ensures cleaner { IfOk result (λ r. r.0.clean ≡ record clean { stopped = r.0.clean.stopped }) }
+    ensures told { IfOk result (λ r. IsToldBy told.now r.1) }
+    ensures reason { IfOk result (λ r. r.1.error ≡ reason_of r.0.built) }
+{
+    match run_loops(rt, shared, flush, build, clean, told, gate, clients) {
+        Ok(ran) => {
+            let told = told.tell(rt, Error::Stopped);
+            Ok((ended_by(ran, told.error), told))
+        }
+        Err(not_run) => Err(not_run),
+    }
+}
+
+// What is left of the loops, and what the clients returned, with the index that was completed last, if any.
+#[derive(Drop)]
+struct Ran<B: Group, D: Device, X> {
+    clients: X,
+    flush: FlushPart<B, D>,
+    build: BuildPart<B>,
+    clean: CleanPart<B>,
+    flushed: Result<(), Error>,
+    completed: Option<Ticket>,
+}
+
+// How a builder ended that completed this index last, if any, and could then make no step more.
+fn end_of(completed: Option<Ticket>, error: Error) -> Result<Ticket, Error>
+    ensures ok { IfOk result (λ ticket. (completed ≡ Some ticket) × (error ≡ Stopped)) }
+    ensures err { IfErr result (λ e. (e ≡ error) × (error ≡ Stopped → completed ≡ None)) }
+{
+    match completed {
+        None => Err(error),
+        Some(ticket) => match error {
+            Error::Stopped => Ok(ticket),
+            other => Err(other),
+        },
+    }
+}
+
+// The same with how the builder ended, where this was told to be why it did.
+fn ended_by<B: Group, D: Device, X>(ran: Ran<B, D, X>, error: Error) -> Ended<B, D, X>
+    ensures same { result ≡ record {
+      clients = ran.clients;
+      flush = ran.flush;
+      build = ran.build;
+      clean = ran.clean;
+      flushed = ran.flushed;
+      built = result.built;
+    } }
+    ensures ok { IfOk result.built (λ ticket. (ran.completed ≡ Some ticket) × (error ≡ Stopped)) }
+    ensures err { IfErr result.built (λ e. (e ≡ error) × (error ≡ Stopped → ran.completed ≡ None)) }
+{
+    let Ran {
+        clients,
+        flush,
+        build,
+        clean,
+        flushed,
+        completed,
+    } = ran;
+    Ended {
+        clients,
+        flush,
+        build,
+        clean,
+        flushed,
+        built: end_of(completed, error),
+    }
+}
+
+// Runs the three loops beside the clients, and tells which index was completed last, if any.
+fn run_loops<
     B: Group + Send + Sync,
     D: Device + Send + Drop,
     R: Threads + Wait + Sync,
@@ -81,36 +179,36 @@ pub fn run_beside<
     told: &BuilderEnd<B>,
     gate: &G,
     clients: F,
-) -> Result<Ended<B, D, X>, NotRun<B, D, F>>
+) -> Result<Ran<B, D, X>, NotRun<B, D, F>>
     requires clients { F.pre clients }
     ensures not_run { IfErr result (λ n. (n.flush ≡ flush) × (n.build ≡ build) × (n.clean ≡ clean)
         × (n.clients ≡ clients)) }
-    ensures clients { IfOk result (λ e. F.post clients e.clients) }
-    ensures goes_on { IfOk result (λ e. GoesOn D.past_of D.failures B.site.opened flush e.flush) }
-    ensures through { IfOk result (λ e. RunsThrough D.past_of D.failures B.site.opened flush e.flush) }
-    ensures sound { IfOk result (λ e. OnOk e.flushed (has_failed e.flush.writer ≡ false)) }
-    ensures failed { IfOk result (λ e. IfErr e.flushed (λ error.
-        (error ≡ DeviceFailed) × (has_failed e.flush.writer ≡ true))) }
-    ensures builder { IfOk result (λ e. BuildsOn B.site.opened build e.built e.build) }
-    ensures cleaner { IfOk result (λ e. e.clean ≡ record clean { stopped = e.clean.stopped }) }
+    ensures clients { IfOk result (λ r. F.post clients r.clients) }
+    ensures goes_on { IfOk result (λ r. GoesOn D.past_of D.failures B.site.opened flush r.flush) }
+    ensures through { IfOk result (λ r. RunsThrough D.past_of D.failures B.site.opened flush r.flush) }
+    ensures sound { IfOk result (λ r. OnOk r.flushed (has_failed r.flush.writer ≡ false)) }
+    ensures failed { IfOk result (λ r. IfErr r.flushed (λ error.
+        (error ≡ DeviceFailed) × (has_failed r.flush.writer ≡ true))) }
+    ensures builder { IfOk result (λ r. HasBuilt B.site.opened build r.completed r.build) }
+    ensures cleaner { IfOk result (λ r. r.clean ≡ record clean { stopped = r.clean.stopped }) }
 {
     let run = Run::new();
     let run = &run;
     scope(
         scope_env(),
         rt,
-        move |scope| -> Result<Ended<B, D, X>, NotRun<B, D, F>>
+        move |scope| -> Result<Ran<B, D, X>, NotRun<B, D, F>>
             requires { F.pre clients }
             ensures not_run { IfErr result (λ n. (n.flush ≡ flush) × (n.build ≡ build) × (n.clean ≡ clean)
                 × (n.clients ≡ clients)) }
-            ensures clients { IfOk result (λ e. F.post clients e.clients) }
-            ensures goes_on { IfOk result (λ e. GoesOn D.past_of D.failures B.site.opened flush e.flush) }
-            ensures through { IfOk result (λ e. RunsThrough D.past_of D.failures B.site.opened flush e.flush) }
-            ensures sound { IfOk result (λ e. OnOk e.flushed (has_failed e.flush.writer ≡ false)) }
-            ensures failed { IfOk result (λ e. IfErr e.flushed (λ error.
-                (error ≡ DeviceFailed) × (has_failed e.flush.writer ≡ true))) }
-            ensures builder { IfOk result (λ e. BuildsOn B.site.opened build e.built e.build) }
-            ensures cleaner { IfOk result (λ e. e.clean ≡ record clean { stopped = e.clean.stopped }) }
+            ensures clients { IfOk result (λ r. F.post clients r.clients) }
+            ensures goes_on { IfOk result (λ r. GoesOn D.past_of D.failures B.site.opened flush r.flush) }
+            ensures through { IfOk result (λ r. RunsThrough D.past_of D.failures B.site.opened flush r.flush) }
+            ensures sound { IfOk result (λ r. OnOk r.flushed (has_failed r.flush.writer ≡ false)) }
+            ensures failed { IfOk result (λ r. IfErr r.flushed (λ error.
+                (error ≡ DeviceFailed) × (has_failed r.flush.writer ≡ true))) }
+            ensures builder { IfOk result (λ r. HasBuilt B.site.opened build r.completed r.build) }
+            ensures cleaner { IfOk result (λ r. r.clean ≡ record clean { stopped = r.clean.stopped }) }
         {
             flush_beside(
                 rt, scope, shared, flush, build, clean, told, gate, run, clients,
@@ -120,53 +218,6 @@ pub fn run_beside<
 }
 
 // ---- the flusher
-
-// How the flusher ended.
-#[derive(Drop)]
-struct Flushed<B: Group, D: Device> {
-    flush: FlushPart<B, D>,
-    ended: Result<(), Error>,
-}
-
-// What the flusher's thread gives back.
-#[derive(Drop)]
-struct FlushesOn<B: Group, D: Device>(Snapshot<FlushPart<B, D>>);
-
-impl<B: Group, D: Device> Promise<Result<Flushed<B, D>, FlushPart<B, D>>> for FlushesOn<B, D> {
-    ghost use Rattle.std.specs.Prelude.{◌≡◌, IfErr, IfOk, OnOk, false, true};
-    ghost use Rattle.record_values.specs.declared.error.Error.TheVariants.{DeviceFailed};
-    ghost use Rattle.store_writer.specs.Parts.{has_failed};
-    ghost use Rattle.threads_flusher.specs.Going.{GoesOn};
-    ghost use Rattle.threads_loops.specs.Through.{RunsThrough};
-
-    ghost kept_by = { λ p result. IfErr result (λ part. part ≡ p.0.value)
-        × IfOk result (λ f. GoesOn D.past_of D.failures B.site.opened p.0.value f.flush)
-        × IfOk result (λ f. RunsThrough D.past_of D.failures B.site.opened p.0.value f.flush)
-        × IfOk result (λ f. OnOk f.ended (has_failed f.flush.writer ≡ false))
-        × IfOk result (λ f. IfErr f.ended (λ e. (e ≡ DeviceFailed) × (has_failed f.flush.writer ≡ true))) };
-}
-
-// What the flusher does in its thread: nothing, where the run was called off.
-fn flush_in_run<B: Group, D: Device, R: Wait, G: Gate>(
-    rt: &R,
-    shared: &Shared<B>,
-    mut flush: FlushPart<B, D>,
-    gate: &G,
-    run: &Run,
-) -> Result<Flushed<B, D>, FlushPart<B, D>>
-    ensures called_off { IfErr result (λ part. part ≡ flush) }
-    ensures goes_on { IfOk result (λ f. GoesOn D.past_of D.failures B.site.opened flush f.flush) }
-    ensures through { IfOk result (λ f. RunsThrough D.past_of D.failures B.site.opened flush f.flush) }
-    ensures sound { IfOk result (λ f. OnOk f.ended (has_failed f.flush.writer ≡ false)) }
-    ensures failed { IfOk result (λ f. IfErr f.ended (λ e.
-        (e ≡ DeviceFailed) × (has_failed f.flush.writer ≡ true))) }
-{
-    if !run.begins(rt) {
-        return Err(flush);
-    }
-    let ended = flush_until(rt, shared, &mut flush, gate, true, &run.ended);
-    Ok(Flushed { flush, ended })
-}
 
 // Runs the flusher beside cleaner, builder and clients.
 fn flush_beside<
@@ -189,68 +240,66 @@ fn flush_beside<
     gate: &'e G,
     run: &'e Run,
     clients: F,
-) -> Result<Ended<B, D, X>, NotRun<B, D, F>>
+) -> Result<Ran<B, D, X>, NotRun<B, D, F>>
     requires clients { F.pre clients }
     ensures not_run { IfErr result (λ n. (n.flush ≡ flush) × (n.build ≡ build) × (n.clean ≡ clean)
         × (n.clients ≡ clients)) }
-    ensures clients { IfOk result (λ e. F.post clients e.clients) }
-    ensures goes_on { IfOk result (λ e. GoesOn D.past_of D.failures B.site.opened flush e.flush) }
-    ensures through { IfOk result (λ e. RunsThrough D.past_of D.failures B.site.opened flush e.flush) }
-    ensures sound { IfOk result (λ e. OnOk e.flushed (has_failed e.flush.writer ≡ false)) }
-    ensures failed { IfOk result (λ e. IfErr e.flushed (λ error.
-        (error ≡ DeviceFailed) × (has_failed e.flush.writer ≡ true))) }
-    ensures builder { IfOk result (λ e. BuildsOn B.site.opened build e.built e.build) }
-    ensures cleaner { IfOk result (λ e. e.clean ≡ record clean { stopped = e.clean.stopped }) }
+    ensures clients { IfOk result (λ r. F.post clients r.clients) }
+    ensures goes_on { IfOk result (λ r. GoesOn D.past_of D.failures B.site.opened flush r.flush) }
+    ensures through { IfOk result (λ r. RunsThrough D.past_of D.failures B.site.opened flush r.flush) }
+    ensures sound { IfOk result (λ r. OnOk r.flushed (has_failed r.flush.writer ≡ false)) }
+    ensures failed { IfOk result (λ r. IfErr r.flushed (λ error.
+        (error ≡ DeviceFailed) × (has_failed r.flush.writer ≡ true))) }
+    ensures builder { IfOk result (λ r. HasBuilt B.site.opened build r.completed r.build) }
+    ensures cleaner { IfOk result (λ r. r.clean ≡ record clean { stopped = r.clean.stopped }) }
 {
-    let promise = FlushesOn(Snapshot::of(&flush));
-    match scope.spawn_with(promise, move || flush_in_run(rt, shared, flush, gate, run)) {
+    match start_flusher(rt, scope, shared, flush, gate, run) {
         Ok(flushing) => {
             match clean_beside(rt, scope, shared, build, clean, told, gate, run, clients) {
-                Ok(beside) => Ok(all_ended(ran(rt, flushing.join(rt)), beside)),
-                Err((build, clean, clients)) => Err(NotRun {
+                Ok(beside) => Ok(all_ran(ran(rt, flushing.join(rt)), beside)),
+                Err((build, clean, clients, want)) => Err(NotRun {
                     flush: called_off(rt, flushing.join(rt)),
                     build,
                     clean,
                     clients,
+                    want,
                 }),
             }
         }
-        Err(refused) => {
-            run.call_off();
-            Err(NotRun {
-                flush: called_off(rt, (refused.value)()),
-                build,
-                clean,
-                clients,
-            })
-        }
+        Err((flush, want)) => Err(NotRun {
+            flush,
+            build,
+            clean,
+            clients,
+            want,
+        }),
     }
 }
 
-fn all_ended<B: Group, D: Device, X>(flushed: Flushed<B, D>, beside: Beside<B, X>) -> Ended<B, D, X>
+fn all_ran<B: Group, D: Device, X>(flushed: Flushed<B, D>, beside: Beside<B, X>) -> Ran<B, D, X>
     ensures { result ≡ record {
       clients = beside.clients;
       flush = flushed.flush;
       build = beside.build;
       clean = beside.clean;
       flushed = flushed.ended;
-      built = beside.built;
+      completed = beside.completed;
     } }
 {
     let Flushed { flush, ended } = flushed;
     let Beside {
         build,
         clean,
-        built,
+        completed,
         clients,
     } = beside;
-    Ended {
+    Ran {
         clients,
         flush,
         build,
         clean,
         flushed: ended,
-        built,
+        completed,
     }
 }
 
@@ -260,37 +309,8 @@ fn all_ended<B: Group, D: Device, X>(flushed: Flushed<B, D>, beside: Beside<B, X
 struct Beside<B: Group, X> {
     build: BuildPart<B>,
     clean: CleanPart<B>,
-    built: Result<Ticket, Error>,
+    completed: Option<Ticket>,
     clients: X,
-}
-
-// What the cleaner's thread gives back.
-#[derive(Drop)]
-struct CleansOn<B: Group>(Snapshot<CleanPart<B>>);
-
-impl<B: Group> Promise<Result<CleanPart<B>, CleanPart<B>>> for CleansOn<B> {
-    ghost use Rattle.std.specs.Prelude.{◌≡◌, IfErr, IfOk};
-
-    ghost kept_by = { λ p result. IfErr result (λ part. part ≡ p.0.value)
-        × IfOk result (λ part. part ≡ record p.0.value { stopped = part.stopped }) };
-}
-
-// What the cleaner does in its thread: nothing, where the run was called off.
-fn clean_in_run<B: Group, R: Wait, G: Gate>(
-    rt: &R,
-    shared: &Shared<B>,
-    mut clean: CleanPart<B>,
-    gate: &G,
-    run: &Run,
-) -> Result<CleanPart<B>, CleanPart<B>>
-    ensures called_off { IfErr result (λ part. part ≡ clean) }
-    ensures ran { IfOk result (λ part. part ≡ record clean { stopped = part.stopped }) }
-{
-    if !run.begins(rt) {
-        return Err(clean);
-    }
-    clean_until(rt, shared, &mut clean, gate, true, &run.ended);
-    Ok(clean)
 }
 
 // Runs the cleaner beside the builder and the clients.
@@ -312,65 +332,33 @@ fn clean_beside<
     gate: &'e G,
     run: &'e Run,
     clients: F,
-) -> Result<Beside<B, X>, (BuildPart<B>, CleanPart<B>, F)>
+) -> Result<Beside<B, X>, (BuildPart<B>, CleanPart<B>, F, NoThread)>
     requires clients { F.pre clients }
     ensures not_run { IfErr result (λ n. (n.0 ≡ build) × (n.1 ≡ clean) × (n.2 ≡ clients)) }
     ensures clients { IfOk result (λ b. F.post clients b.clients) }
-    ensures builder { IfOk result (λ b. BuildsOn B.site.opened build b.built b.build) }
+    ensures builder { IfOk result (λ b. HasBuilt B.site.opened build b.completed b.build) }
     ensures cleaner { IfOk result (λ b. b.clean ≡ record clean { stopped = b.clean.stopped }) }
 {
-    let promise = CleansOn(Snapshot::of(&clean));
-    match scope.spawn_with(promise, move || clean_in_run(rt, shared, clean, gate, run)) {
+    match start_cleaner(rt, scope, shared, clean, gate, run) {
         Ok(cleaning) => match build_beside(rt, scope, shared, build, told, gate, run, clients) {
             Ok((building, clients)) => {
-                let Building { build, ended } = building;
+                let Building { build, completed } = building;
                 Ok(Beside {
                     build,
                     clean: ran(rt, cleaning.join(rt)),
-                    built: ended,
+                    completed,
                     clients,
                 })
             }
-            Err((build, clients)) => Err((build, called_off(rt, cleaning.join(rt)), clients)),
+            Err((build, clients, want)) => {
+                Err((build, called_off(rt, cleaning.join(rt)), clients, want))
+            }
         },
-        Err(refused) => {
-            run.call_off();
-            Err((build, called_off(rt, (refused.value)()), clients))
-        }
+        Err((clean, want)) => Err((build, clean, clients, want)),
     }
 }
 
 // ---- the builder
-
-// What the builder's thread gives back.
-#[derive(Drop)]
-struct BuildsFrom<B: Group>(Snapshot<BuildPart<B>>);
-
-impl<B: Group> Promise<Result<Building<B>, BuildPart<B>>> for BuildsFrom<B> {
-    ghost use Rattle.std.specs.Prelude.{◌≡◌, IfErr, IfOk};
-    ghost use Rattle.threads_loops.specs.Building.{BuildsOn};
-
-    ghost kept_by = { λ p result. IfErr result (λ part. part ≡ p.0.value)
-        × IfOk result (λ b. BuildsOn B.site.opened p.0.value b.ended b.build) };
-}
-
-// What the builder does in its thread: nothing, where the run was called off.
-fn build_in_run<B: Group, R: Wait, G: Gate>(
-    rt: &R,
-    shared: &Shared<B>,
-    build: BuildPart<B>,
-    told: &BuilderEnd<B>,
-    gate: &G,
-    run: &Run,
-) -> Result<Building<B>, BuildPart<B>>
-    ensures called_off { IfErr result (λ part. part ≡ build) }
-    ensures ran { IfOk result (λ b. BuildsOn B.site.opened build b.ended b.build) }
-{
-    if !run.begins(rt) {
-        return Err(build);
-    }
-    Ok(build_until_end(rt, shared, build, told, gate, &run.ended))
-}
 
 // Runs the builder beside the clients, which end the run.
 fn build_beside<
@@ -390,17 +378,13 @@ fn build_beside<
     gate: &'e G,
     run: &'e Run,
     clients: F,
-) -> Result<(Building<B>, X), (BuildPart<B>, F)>
+) -> Result<(Building<B>, X), (BuildPart<B>, F, NoThread)>
     requires clients { F.pre clients }
     ensures not_run { IfErr result (λ n. (n.0 ≡ build) × (n.1 ≡ clients)) }
     ensures clients { IfOk result (λ r. F.post clients r.1) }
-    ensures builder { IfOk result (λ r. BuildsOn B.site.opened build r.0.ended r.0.build) }
+    ensures builder { IfOk result (λ r. HasBuilt B.site.opened build r.0.completed r.0.build) }
 {
-    let promise = BuildsFrom(Snapshot::of(&build));
-    match scope.spawn_with(
-        promise,
-        move || build_in_run(rt, shared, build, told, gate, run),
-    ) {
+    match start_builder(rt, scope, shared, build, told, gate, run) {
         Ok(building) => {
             run.begin();
             let returned = clients();
@@ -408,55 +392,6 @@ fn build_beside<
             shared.board().waits().ring_all();
             Ok((ran(rt, building.join(rt)), returned))
         }
-        Err(refused) => {
-            run.call_off();
-            Err((called_off(rt, (refused.value)()), clients))
-        }
-    }
-}
-
-// How the builder ended.
-#[derive(Drop)]
-struct Building<B: Group> {
-    build: BuildPart<B>,
-    ended: Result<Ticket, Error>,
-}
-
-// Builds until the builder is ended, and tells why it is.
-fn build_until_end<B: Group, R: Wait, G: Gate>(
-    rt: &R,
-    shared: &Shared<B>,
-    mut build: BuildPart<B>,
-    told: &BuilderEnd<B>,
-    gate: &G,
-    ended: &AtomicU64,
-) -> Building<B>
-    ensures { BuildsOn B.site.opened build result.ended result.build }
-{
-    let mut completed = None;
-    for _ in rt.forever() {
-        match build_until(rt, shared, &mut build, gate, true, ended) {
-            Ok(ticket) => completed = Some(ticket),
-            Err(error) => {
-                told.tell(error);
-                let ended = end_of(completed, error);
-                return Building { build, ended };
-            }
-        }
-    }
-    unreachable!()
-}
-
-// How a builder ended that completed this index last, if any, and could then make no step more.
-fn end_of(completed: Option<Ticket>, error: Error) -> Result<Ticket, Error>
-    ensures ok { IfOk result (λ ticket. (completed ≡ Some ticket) × (error ≡ Stopped)) }
-    ensures err { IfErr result (λ e. (e ≡ error) × (error ≡ Stopped → completed ≡ None)) }
-{
-    match completed {
-        None => Err(error),
-        Some(ticket) => match error {
-            Error::Stopped => Ok(ticket),
-            other => Err(other),
-        },
+        Err((build, want)) => Err((build, clients, want)),
     }
 }

@@ -1,8 +1,7 @@
-use Rattle.std.proofs.Common.{refl, sym, ap, subst, ◌∙◌}
+use Rattle.std.proofs.Common.{sym, ap, subst, ◌∙◌}
 use Rattle.model.specs.Given.{opening_cells}
 use Rattle.store_writer.specs.Writer.{IsOpenedAt}
-use Rattle.store_writer.specs.declared.copying.Copying.TheVariants.{Idle}
-use Rattle.restart.specs.declared.parts.Parts.{Parts}
+use Rattle.restart.specs.declared.parts.EngineParts.{EngineParts}
 use Rattle.restart.specs.Migrating.{WritesTheStoreAlone}
 use Rattle.restart.proofs.Reopened.{can_run_made, migrated}
 use Rattle.restart.proofs.migration.migrate.Goals as goal
@@ -20,31 +19,31 @@ pub invariant_of-result : goal.invariant_of-result
 invariant_of-result g c =
     let h = g.N.Device.past_of in
     let new = c.move_store.new.new in
-    let engine : Parts g.row.N.Denot g.row.A.Denot = record {
+    let engine : EngineParts g.row.N.Denot g.row.A.Denot = record {
       core = c.in-Ok.core;
       writer = c.new-writer.result;
       outgoing = c.new-outgoing.result;
       alloc = c.args.alloc;
       geometry = c.geometry.result;
-      copying = Idle;
     } in
     can_run_made h new new engine c.in-Ok.halves c.in-Ok.log c.in-Ok.ensures.moved.moved c.new-writer.ensures.device c.each_half.ensures.begins
-    c.each_list.ensures.begins c.geometry.ensures refl c.new-writer.ensures.image c.last-synced.result c.last-synced.ensures c.new-writer.ensures.writer
+    c.each_list.ensures.begins c.geometry.ensures c.new-writer.ensures.copying c.new-writer.ensures.image c.last-synced.result c.last-synced.ensures
+    c.new-writer.ensures.writer
     c.new-outgoing.ensures.items c.new-writer.ensures.synced c.new-writer.ensures.sound
 
 pub returns-in-Ok-clause-migrated : goal.returns-in-Ok-clause-migrated
 returns-in-Ok-clause-migrated g c =
     let h = g.N.Device.past_of in
-    let engine : Parts g.row.N.Denot g.row.A.Denot = record {
+    let engine : EngineParts g.row.N.Denot g.row.A.Denot = record {
       core = c.in-Ok.core;
       writer = c.new-writer.result;
       outgoing = c.new-outgoing.result;
       alloc = c.args.alloc;
       geometry = c.geometry.result;
-      copying = Idle;
     } in
     migrated h c.move_store.new.new engine c.in-Ok.halves c.in-Ok.log c.in-Ok.ensures.moved.moved c.new-writer.ensures.device c.each_half.ensures.begins
-    c.each_list.ensures.begins c.geometry.ensures refl c.new-writer.ensures.image c.last-synced.result c.last-synced.ensures c.new-writer.ensures.writer
+    c.each_list.ensures.begins c.geometry.ensures c.new-writer.ensures.copying c.new-writer.ensures.image c.last-synced.result c.last-synced.ensures
+    c.new-writer.ensures.writer
     c.new-outgoing.ensures.items c.new-writer.ensures.synced c.new-writer.ensures.sound
     (g.O.Device.past_of c.args.old.now).disk.content c.in-Ok.ensures.moved.gave
 

@@ -1,4 +1,4 @@
-use Rattle.std.proofs.Common.{◌<◌, ◌∙◌, ap, arith, inl, inr, length, refl, sym, subst, ⊎_elim}
+use Rattle.std.proofs.Common.{◌<◌, ◌∙◌, ap, arith, inl, inr, length, sym, subst, ⊎_elim}
 use Rattle.sector_device.specs.Disk.{SameOutside}
 use Rattle.record_values.specs.GeometryValue.{GeometryValue, sectors_of}
 use Rattle.record_values.specs.declared.version.Version.TheVariants.{One}

@@ -1,8 +1,7 @@
-use Rattle.std.proofs.Common.{refl, sym, ap, subst, ◌∙◌}
+use Rattle.std.proofs.Common.{sym, ap, subst, ◌∙◌}
 use Rattle.model.specs.Given.{opening_cells}
 use Rattle.store_writer.specs.Writer.{IsOpenedAt}
-use Rattle.store_writer.specs.declared.copying.Copying.TheVariants.{Idle}
-use Rattle.restart.specs.declared.parts.Parts.{Parts}
+use Rattle.restart.specs.declared.parts.EngineParts.{EngineParts}
 use Rattle.restart.specs.Reopening.{StaysOfAnyRun}
 use Rattle.restart.proofs.Reopened.{can_run_made, opened_made, recovers_made, stays_left}
 use Rattle.restart.proofs.reopen.restart.Goals as goal
@@ -19,46 +18,46 @@ new-writer-requires g c =
 pub invariant_of-result : goal.invariant_of-result
 invariant_of-result g c =
     let h = g.D.Device.past_of in
-    let engine : Parts g.row.D.Denot g.row.A.Denot = record {
+    let engine : EngineParts g.row.D.Denot g.row.A.Denot = record {
       core = c.in-Ok.core;
       writer = c.new-writer.result;
       outgoing = c.new-outgoing.result;
       alloc = c.args.alloc;
       geometry = c.geometry.result;
-      copying = Idle;
     } in
     can_run_made h c.args.device c.open_core.new.device engine c.in-Ok.halves c.in-Ok.log c.in-Ok.ensures.found c.new-writer.ensures.device
-    c.each_half.ensures.begins c.each_list.ensures.begins c.geometry.ensures refl c.new-writer.ensures.image c.last-synced.result c.last-synced.ensures
+    c.each_half.ensures.begins c.each_list.ensures.begins c.geometry.ensures c.new-writer.ensures.copying c.new-writer.ensures.image c.last-synced.result
+    c.last-synced.ensures
     c.new-writer.ensures.writer c.new-outgoing.ensures.items c.new-writer.ensures.synced c.new-writer.ensures.sound
 
 pub returns-in-Ok-clause-opened : goal.returns-in-Ok-clause-opened
 returns-in-Ok-clause-opened g c =
     let h = g.D.Device.past_of in
-    let engine : Parts g.row.D.Denot g.row.A.Denot = record {
+    let engine : EngineParts g.row.D.Denot g.row.A.Denot = record {
       core = c.in-Ok.core;
       writer = c.new-writer.result;
       outgoing = c.new-outgoing.result;
       alloc = c.args.alloc;
       geometry = c.geometry.result;
-      copying = Idle;
     } in
     opened_made h c.args.device c.open_core.new.device engine c.in-Ok.halves c.in-Ok.log c.in-Ok.ensures.found c.new-writer.ensures.device
-    c.each_half.ensures.begins c.each_list.ensures.begins c.geometry.ensures refl c.new-writer.ensures.image c.last-synced.result c.last-synced.ensures
+    c.each_half.ensures.begins c.each_list.ensures.begins c.geometry.ensures c.new-writer.ensures.copying c.new-writer.ensures.image c.last-synced.result
+    c.last-synced.ensures
     c.new-writer.ensures.writer c.new-outgoing.ensures.items c.new-writer.ensures.synced c.new-writer.ensures.sound c.open_core.ensures.turned
 
 pub returns-in-Ok-clause-recovers : goal.returns-in-Ok-clause-recovers
 returns-in-Ok-clause-recovers g c past floor left =
     let h = g.D.Device.past_of in
-    let engine : Parts g.row.D.Denot g.row.A.Denot = record {
+    let engine : EngineParts g.row.D.Denot g.row.A.Denot = record {
       core = c.in-Ok.core;
       writer = c.new-writer.result;
       outgoing = c.new-outgoing.result;
       alloc = c.args.alloc;
       geometry = c.geometry.result;
-      copying = Idle;
     } in
     recovers_made h c.args.device c.open_core.new.device engine c.in-Ok.halves c.in-Ok.log c.in-Ok.ensures.found c.new-writer.ensures.device
-    c.each_half.ensures.begins c.each_list.ensures.begins c.geometry.ensures refl c.new-writer.ensures.image c.last-synced.result c.last-synced.ensures
+    c.each_half.ensures.begins c.each_list.ensures.begins c.geometry.ensures c.new-writer.ensures.copying c.new-writer.ensures.image c.last-synced.result
+    c.last-synced.ensures
     c.new-writer.ensures.writer c.new-outgoing.ensures.items c.new-writer.ensures.synced c.new-writer.ensures.sound past floor left
 
 pub returns-in-Ok-clause-stays : goal.returns-in-Ok-clause-stays

@@ -1,4 +1,5 @@
-use Rattle.std.proofs.Common.{◌≡◌, ◌≢◌, ◌+◌, ◌-◌, ◌<◌, ◌∷◌, [], ℕ, List, length, drop, Option, Some, None, IfSome, Ok, refl, length-append, sym, ap, subst, ◌∙◌}
+use Rattle.std.proofs.Common.{◌≡◌, ◌≢◌, ◌+◌, ◌-◌, ◌/◌, ◌<◌, ◌∷◌, [], ℕ, List, length, drop, Option, Some, None, IfSome, Ok, refl, length-append, sym, ap, subst}
+use Rattle.std.proofs.Common.{◌∙◌}
 use Rattle.std.proofs.Common.{arith, inl, inr, ⊎_elim}
 use Rattle.std.proofs.lemmas.Bool.{cases_lt}
 use Rattle.sector_device.specs.Disk.{SameOutside}
@@ -14,13 +15,13 @@ use Rattle.store_writer.proofs.Underway.{if_not_carried, carried_more, append_ou
 use Rattle.store_writer.proofs.image.carry.Goals as goal
 
 pub returns-in-Keep-clause-carried : goal.returns-in-Keep-clause-carried
-returns-in-Keep-clause-carried g c = λ slots synced group planned run half is opened made group_is.
+returns-in-Keep-clause-carried g c = λ slots synced group planned run half is slots_is opened made group_is.
     let keep = subst (IsPlan c.args.image slots synced group) c.in-Keep.is planned in
     if_not_carried run half (g.D.Device.past_of c.args.device.now).disk.content synced (synced + length group) c.args.image (omega arith)
     (λ i it. ⊎_elim (λ above. inl (omega (arith, above, keep i it))) (λ low. inr (omega (arith, low, keep i it))) (cases_lt synced i.base)) is
 
 pub returns-in-Ok-Done-clause-carried : goal.returns-in-Ok-Done-clause-carried
-returns-in-Ok-Done-clause-carried g c = λ slots synced group plan run half is opened made group_is.
+returns-in-Ok-Done-clause-carried g c = λ slots synced group plan run half is slots_is opened made group_is.
     let h = g.D.Device.past_of c.args.device.now in
     let now = (g.D.Device.past_of c.append_spelled.new.device).disk.content in
     let new : NewImage = c.in-Some.image in
@@ -38,6 +39,7 @@ returns-in-Ok-Done-clause-carried g c = λ slots synced group plan run half is o
     let room : new.log.open_slots < new.log.area.slots = omega (arith, closed, c.requires.room new c.in-Some.is) in
     carried_more run half h.disk.content now synced new there c.append_spelled.new.self group (length group) opened group_is made
     (omega (arith, planned.2, base))
+    (subst (λ (n : ℕ). new.log.open_slots < n / 2) slots_is (subst (λ (i : NewImage). i.log.open_slots < slots / 2) same planned.3))
     (append_outside new.log h c.requires.synced room now c.append_spelled.ensures.outside) c.append_spelled.ensures.area
     (c.append_spelled.ensures.done done records there.groups spelled there.stands)
 

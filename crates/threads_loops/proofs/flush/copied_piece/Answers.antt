@@ -1,5 +1,5 @@
 use Rattle.threads_flusher.proofs.Going.{goes_by_taking, goes_nowhere}
-use Rattle.threads_loops.proofs.Rounds.{stands_by_taking}
+use Rattle.threads_flusher.proofs.Taking.{took_none}
 use Rattle.threads_loops.proofs.Through.{through_none, through_taking}
 use Rattle.threads_loops.proofs.flush.copied_piece.Goals as goal
 
@@ -17,5 +17,5 @@ pub returns-clause-through : goal.returns-clause-through
 returns-clause-through g c = through_taking g.D.Device.past_of g.D.Device.failures g.B.Group.site.opened c.args.part.now c.copy_step-copied.new.self
     c.copy_step-copied.ensures.takes
 
-pub returns-clause-copying : goal.returns-clause-copying
-returns-clause-copying g c = λ copying was. stands_by_taking copying c.args.part.now c.copy_step-copied.new.self was c.copy_step-copied.ensures.takes
+pub returns-then-has_failed-clause-takes : goal.returns-then-has_failed-clause-takes
+returns-then-has_failed-clause-takes g c = took_none c.args.part.now

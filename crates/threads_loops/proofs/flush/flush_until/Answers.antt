@@ -1,5 +1,9 @@
-use Rattle.threads_flusher.proofs.Going.{goes_nowhere, goes_then}
-use Rattle.threads_loops.proofs.Through.{through_none, through_then}
+use Rattle.std.proofs.Common.{ap}
+use Rattle.store_writer.specs.Parts.{copying_of}
+use Rattle.store_writer.specs.declared.copying.Copying.TheVariants.{Idle}
+use Rattle.threads_flusher.specs.Part.{FlushValue}
+use Rattle.threads_flusher.proofs.Going.{goes_by_leaving, goes_then}
+use Rattle.threads_loops.proofs.Through.{through_forgetting, through_then}
 use Rattle.threads_loops.proofs.flush.flush_until.Goals as goal
 
 pub returns-then-has_failed-clause-stopped : goal.returns-then-has_failed-clause-stopped
@@ -14,13 +18,15 @@ returns-then-is_stopped-clause-through g c =
     through_then g.D.Device.past_of g.D.Device.failures g.B.Group.site.opened _ _ _ c.loop.invariant.through c.is_stopped.ensures.through
 
 pub round-requires : goal.round-requires
-round-requires g c = record { copying = c.is_stopped.ensures.copying c.loop.copying c.loop.invariant.copying }
+round-requires g c = record { copying = c.is_stopped.ensures.copying c.loop.invariant.copying }
 
 pub loop-init : goal.loop-init
 loop-init g c = record {
-  goes_on = goes_nowhere g.D.Device.past_of g.D.Device.failures g.B.Group.site.opened c.args.part.now c.stands.ensures;
-  through = through_none g.D.Device.past_of g.D.Device.failures g.B.Group.site.opened c.args.part.now;
-  copying = λ sound. (tt, tt);
+  goes_on = goes_by_leaving g.D.Device.past_of g.D.Device.failures g.B.Group.site.opened Idle c.args.part.now c.forget_image.new.self c.stands.ensures
+      c.forget_image.ensures;
+  through = through_forgetting g.D.Device.past_of g.D.Device.failures g.B.Group.site.opened c.args.part.now c.forget_image.new.self
+      c.forget_image.ensures;
+  copying = λ _ copied. absurd (copied (ap (λ (f : FlushValue _ _). copying_of f.writer) c.forget_image.ensures));
 }
 
 pub loop-preserved : goal.loop-preserved

@@ -16,7 +16,7 @@ returns-clause-through g c = through_taking g.D.Device.past_of g.D.Device.failur
     (took_look _ _ c.stopped-is_stopped.ensures.looks)
 
 pub returns-clause-copying : goal.returns-clause-copying
-returns-clause-copying g c = λ copying was. stands_by_taking copying c.args.part.now c.stopped-is_stopped.new.self was
+returns-clause-copying g c = stands_by_taking c.args.part.now c.stopped-is_stopped.new.self
     (took_look _ _ c.stopped-is_stopped.ensures.looks)
 
 pub returns-clause-writer : goal.returns-clause-writer

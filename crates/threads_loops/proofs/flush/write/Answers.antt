@@ -1,5 +1,5 @@
 use Rattle.threads_flusher.proofs.Going.{goes_nowhere}
-use Rattle.threads_loops.proofs.Rounds.{flush_before, stands_by_flush}
+use Rattle.threads_loops.proofs.Rounds.{stands_by_flush, wanted_by_flush}
 use Rattle.threads_loops.proofs.Through.{by_flush, goes_by, through_call, through_none}
 use Rattle.threads_loops.proofs.flush.write.Goals as goal
 
@@ -58,13 +58,25 @@ returns-clause-through g c =
     is.left)
 
 pub returns-in_err-reply-clause-copying : goal.returns-in_err-reply-clause-copying
-returns-in_err-reply-clause-copying g c = λ copying was.
+returns-in_err-reply-clause-copying g c =
     let is = c.flush-flushed.ensures in
-    stands_by_flush g.D.Device.failures c.kept_place.ensures copying c.args.part.now c.flush-flushed.new.self is.around.halves-are c.flush-flushed.result
-    is.flushed (flush_before c.args.part.now.writer c.flush-flushed.new.self.writer c.flush-flushed.result is.sound) is.image is.err was
+    stands_by_flush c.args.part.now c.flush-flushed.new.self g.D.Device.failures is.around.halves-are is.copying c.flush-flushed.result is.flushed is.sound
+    is.err
 
 pub returns-clause-copying : goal.returns-clause-copying
-returns-clause-copying g c = λ copying was.
+returns-clause-copying g c =
     let is = c.flush-flushed.ensures in
-    stands_by_flush g.D.Device.failures c.kept_place.ensures copying c.args.part.now c.flush-flushed.new.self is.around.halves-are c.flush-flushed.result
-    is.flushed (flush_before c.args.part.now.writer c.flush-flushed.new.self.writer c.flush-flushed.result is.sound) is.image is.err was
+    stands_by_flush c.args.part.now c.flush-flushed.new.self g.D.Device.failures is.around.halves-are is.copying c.flush-flushed.result is.flushed is.sound
+    is.err
+
+pub returns-in_err-reply-clause-half : goal.returns-in_err-reply-clause-half
+returns-in_err-reply-clause-half g c = c.flush-flushed.ensures.around.halves-are
+
+pub returns-clause-half : goal.returns-clause-half
+returns-clause-half g c = c.flush-flushed.ensures.around.halves-are
+
+pub returns-clause-image : goal.returns-clause-image
+returns-clause-image g c =
+    let is = c.flush-flushed.ensures in
+    wanted_by_flush c.args.part.now c.flush-flushed.new.self g.D.Device.failures is.around.halves-are is.copying c.in_ok-reply.reply
+    c.in_ok-reply.ensures.flushed

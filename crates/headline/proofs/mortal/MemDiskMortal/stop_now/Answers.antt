@@ -2,5 +2,6 @@ use Rattle.sector_device.specs.MemDisk.{past_of}
 use Rattle.headline.proofs.Torn.{found_torn}
 use Rattle.headline.proofs.mortal.MemDiskMortal.stop_now.Goals as goal
 
-pub returns : goal.returns
-returns g c = found_torn (past_of c.args.self.now) (past_of c.crash.new.self) c.crash.ensures.crash c.crash.ensures.synced c.crash.ensures.moment
+pub returns-clause-found : goal.returns-clause-found
+returns-clause-found g c =
+    found_torn (past_of c.args.self.now) (past_of c.crash.new.self) c.crash.ensures.crash c.crash.ensures.synced c.crash.ensures.moment

@@ -7,7 +7,7 @@ use Rattle.core_model.specs.Events.{Build}
 use Rattle.core_parts.specs.Builds.{built}
 use Rattle.core_parts.specs.View.{Serves}
 use Rattle.restart.specs.Building.{IsBuiltToEnd, IsIndexFull}
-use Rattle.restart.specs.declared.parts.Parts.{Parts}
+use Rattle.restart.specs.declared.parts.EngineParts.{EngineParts}
 use Rattle.restart.specs.declared.event.Reply.TheVariants.{Built, Refused}
 use Rattle.core_parts.specs.declared.reply.BuildReply.TheVariants.{Done}
 use Rattle.restart.specs.Parts.{core_of, writer_of}
@@ -41,7 +41,7 @@ pub steps-smaller : goal.steps-smaller
 steps-smaller g c =
     let old = c.args.self.now in
     let mid = c.steps.self-inside.parts in
-    let new : Parts g.row.D.Denot g.row.A.Denot = record c.steps.self-inside.parts { core = c.build_step.new.self } in
+    let new : EngineParts g.row.D.Denot g.row.A.Denot = record c.steps.self-inside.parts { core = c.build_step.new.self } in
     (stepped old mid new c.steps.scanned c.steps.invariant refl c.in_ok-reply.reply c.in_a_row-scanned.result (sym c.end_of.ensures
     ∙ c.in-None.is) c.in_a_row-scanned.ensures c.in_ok-reply.ensures).falls
 
@@ -49,7 +49,7 @@ pub steps-preserved : goal.steps-preserved
 steps-preserved g c =
     let old = c.args.self.now in
     let mid = c.steps.self-inside.parts in
-    let new : Parts g.row.D.Denot g.row.A.Denot = record c.steps.self-inside.parts { core = c.build_step.new.self } in
+    let new : EngineParts g.row.D.Denot g.row.A.Denot = record c.steps.self-inside.parts { core = c.build_step.new.self } in
     (stepped old mid new c.steps.scanned c.steps.invariant refl c.in_ok-reply.reply c.in_a_row-scanned.result (sym c.end_of.ensures
     ∙ c.in-None.is) c.in_a_row-scanned.ensures c.in_ok-reply.ensures).goes
 
@@ -59,8 +59,8 @@ returns-in_err-reply-clause-built g c =
     let failures = g.D.Device.failures in
     let old = c.args.self.now in
     let mid = c.steps.self-inside.parts in
-    let new : Parts g.row.D.Denot g.row.A.Denot = record c.steps.self-inside.parts { core = c.build_step.new.self } in
-    let laws : Laws past_of (writer_of old) = subst (λ (parts : Parts g.row.D.Denot g.row.A.Denot). Laws past_of (writer_of parts)) c.self.view_is
+    let new : EngineParts g.row.D.Denot g.row.A.Denot = record c.steps.self-inside.parts { core = c.build_step.new.self } in
+    let laws : Laws past_of (writer_of old) = subst (λ (parts : EngineParts g.row.D.Denot g.row.A.Denot). Laws past_of (writer_of parts)) c.self.view_is
     (record { half = c.each_half.ensures.goes_on; lists = c.each_list.ensures.goes_on; goes = c.goes_on.ensures }) in
     let p = err_from_is_err_and c.from_residual.result c.from_residual.ensures.1 in
     rw p.1 (subst (λ e. IsBuiltToEnd past_of (Err e) old new) (sym p.2)
@@ -72,8 +72,8 @@ invariant_of-self g c =
     let failures = g.D.Device.failures in
     let old = c.args.self.now in
     let mid = c.steps.self-inside.parts in
-    let new : Parts g.row.D.Denot g.row.A.Denot = record c.steps.self-inside.parts { core = c.build_step.new.self } in
-    let laws : Laws past_of (writer_of old) = subst (λ (parts : Parts g.row.D.Denot g.row.A.Denot). Laws past_of (writer_of parts)) c.self.view_is
+    let new : EngineParts g.row.D.Denot g.row.A.Denot = record c.steps.self-inside.parts { core = c.build_step.new.self } in
+    let laws : Laws past_of (writer_of old) = subst (λ (parts : EngineParts g.row.D.Denot g.row.A.Denot). Laws past_of (writer_of parts)) c.self.view_is
     (record { half = c.each_half.ensures.goes_on; lists = c.each_list.ensures.goes_on; goes = c.goes_on.ensures }) in
     let can : CanRun past_of old = subst (CanRun past_of) c.self.view_is c.self.invariant in
     can_run_built past_of failures _ old new (all_built old mid new c.steps.scanned c.steps.invariant refl (Refused _) _ refl c.in_err-reply.ensures) laws can
@@ -84,8 +84,8 @@ returns-in-Some-clause-built g c =
     let failures = g.D.Device.failures in
     let old = c.args.self.now in
     let mid = c.steps.self-inside.parts in
-    let new : Parts g.row.D.Denot g.row.A.Denot = record c.steps.self-inside.parts { core = c.build_step.new.self } in
-    let laws : Laws past_of (writer_of old) = subst (λ (parts : Parts g.row.D.Denot g.row.A.Denot). Laws past_of (writer_of parts)) c.self.view_is
+    let new : EngineParts g.row.D.Denot g.row.A.Denot = record c.steps.self-inside.parts { core = c.build_step.new.self } in
+    let laws : Laws past_of (writer_of old) = subst (λ (parts : EngineParts g.row.D.Denot g.row.A.Denot). Laws past_of (writer_of parts)) c.self.view_is
     (record { half = c.each_half.ensures.goes_on; lists = c.each_list.ensures.goes_on; goes = c.goes_on.ensures }) in
     let done : Serves (core_of mid) Build (built (Done c.in-Some.ticket)) (core_of new) = subst (λ b. Serves (core_of mid) Build (built b) (core_of new))
     (is_done c.in_ok-reply.reply c.in-Some.ticket (sym c.end_of.ensures ∙ c.in-Some.is)) c.in_ok-reply.ensures in
@@ -95,7 +95,7 @@ pub returns-in-Some-clause-whole : goal.returns-in-Some-clause-whole
 returns-in-Some-clause-whole g c =
     let old = c.args.self.now in
     let mid = c.steps.self-inside.parts in
-    let new : Parts g.row.D.Denot g.row.A.Denot = record c.steps.self-inside.parts { core = c.build_step.new.self } in
+    let new : EngineParts g.row.D.Denot g.row.A.Denot = record c.steps.self-inside.parts { core = c.build_step.new.self } in
     let done : Serves (core_of mid) Build (built (Done c.in-Some.ticket)) (core_of new) = subst (λ b. Serves (core_of mid) Build (built b) (core_of new))
     (is_done c.in_ok-reply.reply c.in-Some.ticket (sym c.end_of.ensures ∙ c.in-Some.is)) c.in_ok-reply.ensures in
     done_whole old mid new c.steps.scanned c.steps.invariant refl c.in-Some.ticket done
@@ -106,8 +106,8 @@ invariant_of-self-in-Some g c =
     let failures = g.D.Device.failures in
     let old = c.args.self.now in
     let mid = c.steps.self-inside.parts in
-    let new : Parts g.row.D.Denot g.row.A.Denot = record c.steps.self-inside.parts { core = c.build_step.new.self } in
-    let laws : Laws past_of (writer_of old) = subst (λ (parts : Parts g.row.D.Denot g.row.A.Denot). Laws past_of (writer_of parts)) c.self.view_is
+    let new : EngineParts g.row.D.Denot g.row.A.Denot = record c.steps.self-inside.parts { core = c.build_step.new.self } in
+    let laws : Laws past_of (writer_of old) = subst (λ (parts : EngineParts g.row.D.Denot g.row.A.Denot). Laws past_of (writer_of parts)) c.self.view_is
     (record { half = c.each_half.ensures.goes_on; lists = c.each_list.ensures.goes_on; goes = c.goes_on.ensures }) in
     let can : CanRun past_of old = subst (CanRun past_of) c.self.view_is c.self.invariant in
     let done : Serves (core_of mid) Build (built (Done c.in-Some.ticket)) (core_of new) = subst (λ b. Serves (core_of mid) Build (built b) (core_of new))
@@ -118,14 +118,14 @@ pub returns-in_err-reply-clause-come : goal.returns-in_err-reply-clause-come
 returns-in_err-reply-clause-come g c =
     let old = c.args.self.now in
     let mid = c.steps.self-inside.parts in
-    let new : Parts g.row.D.Denot g.row.A.Denot = record c.steps.self-inside.parts { core = c.build_step.new.self } in
+    let new : EngineParts g.row.D.Denot g.row.A.Denot = record c.steps.self-inside.parts { core = c.build_step.new.self } in
     comes_to old mid new c.steps.scanned c.steps.invariant refl (Refused _) _ refl c.in_err-reply.ensures
 
 pub returns-in-Some-clause-come : goal.returns-in-Some-clause-come
 returns-in-Some-clause-come g c =
     let old = c.args.self.now in
     let mid = c.steps.self-inside.parts in
-    let new : Parts g.row.D.Denot g.row.A.Denot = record c.steps.self-inside.parts { core = c.build_step.new.self } in
+    let new : EngineParts g.row.D.Denot g.row.A.Denot = record c.steps.self-inside.parts { core = c.build_step.new.self } in
     let done : Serves (core_of mid) Build (built (Done c.in-Some.ticket)) (core_of new) = subst (λ b. Serves (core_of mid) Build (built b) (core_of new))
     (is_done c.in_ok-reply.reply c.in-Some.ticket (sym c.end_of.ensures ∙ c.in-Some.is)) c.in_ok-reply.ensures in
     comes_to old mid new c.steps.scanned c.steps.invariant refl (Built (Done c.in-Some.ticket)) _ refl done
@@ -134,14 +134,14 @@ pub returns-in_err-reply-clause-rows : goal.returns-in_err-reply-clause-rows
 returns-in_err-reply-clause-rows g c =
     let old = c.args.self.now in
     let mid = c.steps.self-inside.parts in
-    let new : Parts g.row.D.Denot g.row.A.Denot = record c.steps.self-inside.parts { core = c.build_step.new.self } in
+    let new : EngineParts g.row.D.Denot g.row.A.Denot = record c.steps.self-inside.parts { core = c.build_step.new.self } in
     rows_stay old mid new c.steps.scanned c.steps.invariant refl (Refused _) _ refl c.in_err-reply.ensures
 
 pub returns-in-Some-clause-rows : goal.returns-in-Some-clause-rows
 returns-in-Some-clause-rows g c =
     let old = c.args.self.now in
     let mid = c.steps.self-inside.parts in
-    let new : Parts g.row.D.Denot g.row.A.Denot = record c.steps.self-inside.parts { core = c.build_step.new.self } in
+    let new : EngineParts g.row.D.Denot g.row.A.Denot = record c.steps.self-inside.parts { core = c.build_step.new.self } in
     let done : Serves (core_of mid) Build (built (Done c.in-Some.ticket)) (core_of new) = subst (λ b. Serves (core_of mid) Build (built b) (core_of new))
     (is_done c.in_ok-reply.reply c.in-Some.ticket (sym c.end_of.ensures ∙ c.in-Some.is)) c.in_ok-reply.ensures in
     rows_stay old mid new c.steps.scanned c.steps.invariant refl (Built (Done c.in-Some.ticket)) _ refl done
@@ -156,7 +156,7 @@ pub returns-in_err-reply-clause-no_index : goal.returns-in_err-reply-clause-no_i
 returns-in_err-reply-clause-no_index g c =
     let old = c.args.self.now in
     let mid = c.steps.self-inside.parts in
-    let new : Parts g.row.D.Denot g.row.A.Denot = record c.steps.self-inside.parts { core = c.build_step.new.self } in
+    let new : EngineParts g.row.D.Denot g.row.A.Denot = record c.steps.self-inside.parts { core = c.build_step.new.self } in
     let p = err_from_is_err_and c.from_residual.result c.from_residual.ensures.1 in
     rw p.1 (subst (λ e. e ≡ NoIndex → (core_of old).life ≡ Absent) (sym p.2) (λ is.
     c.steps.invariant.none (refused_none (core_of mid) (core_of new) _ mid.core.safe c.in_err-reply.ensures is)))
@@ -164,14 +164,14 @@ returns-in_err-reply-clause-no_index g c =
 pub returns-in_err-reply-clause-full : goal.returns-in_err-reply-clause-full
 returns-in_err-reply-clause-full g c =
     let mid = c.steps.self-inside.parts in
-    let new : Parts g.row.D.Denot g.row.A.Denot = record c.steps.self-inside.parts { core = c.build_step.new.self } in
+    let new : EngineParts g.row.D.Denot g.row.A.Denot = record c.steps.self-inside.parts { core = c.build_step.new.self } in
     let p = err_from_is_err_and c.from_residual.result c.from_residual.ensures.1 in
     rw p.1 (subst (λ e. e ≡ IndexFull → IsIndexFull (core_of new)) (sym p.2) (refused_full (core_of mid) (core_of new) _ mid.core.safe c.in_err-reply.ensures))
 
 pub returns-in_err-reply-clause-exhausted : goal.returns-in_err-reply-clause-exhausted
 returns-in_err-reply-clause-exhausted g c =
     let mid = c.steps.self-inside.parts in
-    let new : Parts g.row.D.Denot g.row.A.Denot = record c.steps.self-inside.parts { core = c.build_step.new.self } in
+    let new : EngineParts g.row.D.Denot g.row.A.Denot = record c.steps.self-inside.parts { core = c.build_step.new.self } in
     let p = err_from_is_err_and c.from_residual.result c.from_residual.ensures.1 in
     rw p.1 (subst (λ e. e ≡ Exhausted → LAST_NUMBER ≤ (core_of new).last) (sym p.2)
     (refused_out (core_of mid) (core_of new) _ mid.core.safe c.in_err-reply.ensures))

@@ -3,7 +3,7 @@ use Rattle.nsf_core.specs.Loading.{IsQuiet}
 use Rattle.restart.specs.Parts.{core_of}
 use Rattle.restart.specs.Settling.{CopiesAnew}
 use Rattle.restart.specs.declared.event.Reply.{Reply}
-use Rattle.restart.specs.declared.parts.Parts.{Parts}
+use Rattle.restart.specs.declared.parts.EngineParts.{EngineParts}
 use Rattle.restart.proofs.Settled.{whole_or_refused, written_whole}
 use Rattle.restart.proofs.engine.Engine.into_writer.Goals as goal
 
@@ -15,7 +15,7 @@ unreachable-requires g c =
 pub returns-in-Flipped-clause-written : goal.returns-in-Flipped-clause-written
 returns-in-Flipped-clause-written g c =
     let quiet : IsQuiet (core_of c.self.inside.parts) =
-    subst (λ (parts : Parts g.row.D.Denot g.row.A.Denot). IsQuiet (core_of parts)) (sym c.self.view_is) c.requires in
+    subst (λ (parts : EngineParts g.row.D.Denot g.row.A.Denot). IsQuiet (core_of parts)) (sym c.self.view_is) c.requires in
     rw (← c.self.view_is) (
     written_whole g.D.Device.past_of g.D.Device.failures c.copy_anew.result _ c.self.inside.parts c.copy_anew.new.self c.in-Flipped.is
     c.copy_anew.ensures.copies

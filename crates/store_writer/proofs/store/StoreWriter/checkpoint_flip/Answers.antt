@@ -4,6 +4,7 @@ use Rattle.sector_device.specs.Disk.{sector}
 use Rattle.sector_device.proofs.Moments.{started}
 use Rattle.flip_image.specs.Layout.{HalvesValue, other}
 use Rattle.flip_image.specs.Store.{Names}
+use Rattle.store_writer.specs.declared.copying.Copying.TheVariants.{Idle}
 use Rattle.store_writer.specs.declared.writer.Writer.{Writer}
 use Rattle.store_writer.specs.declared.image.NewImage.{NewImage}
 use Rattle.store_writer.specs.declared.image.Stage.TheVariants.{Whole}
@@ -76,6 +77,7 @@ returns-then-is_err-clause-writer g c =
       waiting = old.waiting;
       synced = old.synced;
       image = old.image;
+      copying = old.copying;
       failed = true;
     } in
     carried_on g.D.Device.past_of run handed old new is (from_err _ _ (sym c.is_err.ensures.value ∙ c.if-is_err.true) c.flip.ensures.err) refl refl (λ sound.
@@ -114,6 +116,7 @@ returns-clause-writer g c =
       waiting = c.drop-drain.new.self.0;
       synced = c.max-reached.result;
       image = None;
+      copying = Idle;
       failed = old.failed;
     } in
     let whole : image.stage ≡ Whole = c.in-Whole.is in
@@ -123,7 +126,7 @@ returns-clause-writer g c =
     subst (λ (h : HalvesValue). Names (sector (past_of new.device).disk.content 1) h.current) halves_is (from_ok _ _ good c.flip.ensures.named) in
     flipped_one past_of run handed old is c.if-self.false image there whole (omega (arith, c.if-reached-image.false, c.max-reached.ensures))
     (omega (arith, c.if-handed-image.false, c.len.ensures, ap length is.waits, count, is.reached)) new halves_is refl c.max-reached.ensures
-    (c.drop-drain.ensures.items ∙ c.drain.ensures.kept ∙ ap (λ (k : ℕ). drop (k - old.synced) old.waiting.items) c.max-reached.ensures) refl
+    (c.drop-drain.ensures.items ∙ c.drain.ensures.kept ∙ ap (λ (k : ℕ). drop (k - old.synced) old.waiting.items) c.max-reached.ensures) refl refl
     c.flip.ensures.outside named (from_ok _ _ good c.flip.ensures.synced))
 
 pub returns-clause-flipped : goal.returns-clause-flipped
@@ -148,6 +151,7 @@ returns-clause-flipped g c =
         halves-are = from_ok _ _ (sym c.is_err.ensures.value ∙ c.if-is_err.false) c.flip.ensures.flipped;
         log-is = λ t it. let same : image ≡ t = cc (c.in-Some.is, it) in ap (λ (x : NewImage). x.log) same;
         waiting-are = c.drop-drain.ensures.items ∙ c.drain.ensures.kept;
+        copying-is = refl;
       },
     ))
 
@@ -199,6 +203,7 @@ returns-then-is_err-clause-left g c =
       waiting = old.waiting;
       synced = old.synced;
       image = old.image;
+      copying = old.copying;
       failed = true;
     }) same)
 
@@ -213,6 +218,7 @@ invariant_of-self g c =
       waiting = old.waiting;
       synced = old.synced;
       image = old.image;
+      copying = old.copying;
       failed = true;
     } in (
       run,
@@ -238,6 +244,7 @@ invariant_of-self-2 g c =
       waiting = c.drop-drain.new.self.0;
       synced = c.max-reached.result;
       image = None;
+      copying = Idle;
       failed = old.failed;
     } in
     let whole : image.stage ≡ Whole = c.in-Whole.is in
@@ -249,6 +256,6 @@ invariant_of-self-2 g c =
       handed,
       flipped_one past_of run handed old is c.if-self.false image there whole (omega (arith, c.if-reached-image.false, c.max-reached.ensures))
           (omega (arith, c.if-handed-image.false, c.len.ensures, ap length is.waits, count, is.reached)) new halves_is refl c.max-reached.ensures
-          (c.drop-drain.ensures.items ∙ c.drain.ensures.kept ∙ ap (λ (k : ℕ). drop (k - old.synced) old.waiting.items) c.max-reached.ensures) refl
+          (c.drop-drain.ensures.items ∙ c.drain.ensures.kept ∙ ap (λ (k : ℕ). drop (k - old.synced) old.waiting.items) c.max-reached.ensures) refl refl
           c.flip.ensures.outside named (from_ok _ _ good c.flip.ensures.synced),
     )

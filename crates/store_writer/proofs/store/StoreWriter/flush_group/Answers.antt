@@ -71,12 +71,11 @@ returns-then-count-eq0-clause-nothing g c =
     ))
 
 pub carry_on-requires-clause-planned : goal.carry_on-requires-clause-planned
-carry_on-requires-clause-planned g c = (
-  c.geometry-2.result.slots,
-  subst (λ (rs : List RecordValue).
-      IsPlan c.self.inside.writer.image c.geometry-2.result.slots c.self.inside.writer.synced rs c.in_ok-plan.plan)
-      (ap (take c.group_len-count.result) c.deref-3.ensures.value) c.in_ok-plan.ensures.planned,
-)
+carry_on-requires-clause-planned g c =
+    subst (λ (x : GeometryValue). IsPlan c.self.inside.writer.image x.slots c.self.inside.writer.synced
+    (take c.group_len-count.result c.self.inside.writer.waiting.items) c.in_ok-plan.plan) c.geometry-2.ensures
+    (subst (λ (rs : List RecordValue). IsPlan c.self.inside.writer.image c.geometry-2.result.slots c.self.inside.writer.synced rs c.in_ok-plan.plan)
+    (ap (take c.group_len-count.result) c.deref-3.ensures.value) c.in_ok-plan.ensures.planned)
 
 pub returns-in-Ok-Done-clause-err : goal.returns-in-Ok-Done-clause-err
 returns-in-Ok-Done-clause-err g c =
@@ -114,6 +113,7 @@ carry_on-requires-clause-appended g c =
       waiting = old.waiting;
       synced = old.synced;
       image = old.image;
+      copying = old.copying;
       failed = old.failed;
     } in
     let closed : old.log.open_slots ≢ old.log.area.slots = λ all. cc (c.append_spelled.ensures.full.1 all, done) in
@@ -121,7 +121,7 @@ carry_on-requires-clause-appended g c =
     let spelled : IsGroup group c.deref-4.result.now = subst (IsGroup group) (sym c.deref-4.ensures.value) (c.in_ok-body.ensures.ok) in
     let has : HasAppended past_of run handed count mid =
     has_appended past_of run handed old is c.if-self.false count group
-    (ap (take count) c.deref-2.ensures.value) within closed mid refl c.append_spelled.ensures.area refl refl refl c.append_spelled.ensures.outside
+    (ap (take count) c.deref-2.ensures.value) within closed mid refl c.append_spelled.ensures.area refl refl refl refl c.append_spelled.ensures.outside
     (c.append_spelled.ensures.done done group _ spelled (stands past_of run handed old is c.if-self.false)) (c.append_spelled.ensures.synced done) in
     (run, handed, has)
 
@@ -141,6 +141,7 @@ returns-in-Ok-Done-clause-writer g c =
       waiting = old.waiting;
       synced = old.synced;
       image = old.image;
+      copying = old.copying;
       failed = old.failed;
     } in
     let closed : old.log.open_slots ≢ old.log.area.slots = λ all. cc (c.append_spelled.ensures.full.1 all, done) in
@@ -148,7 +149,7 @@ returns-in-Ok-Done-clause-writer g c =
     let spelled : IsGroup group c.deref-4.result.now = subst (IsGroup group) (sym c.deref-4.ensures.value) (c.in_ok-body.ensures.ok) in
     let has : HasAppended past_of run handed count mid =
     has_appended past_of run handed old is c.if-self.false count group
-    (ap (take count) c.deref-2.ensures.value) within closed mid refl c.append_spelled.ensures.area refl refl refl c.append_spelled.ensures.outside
+    (ap (take count) c.deref-2.ensures.value) within closed mid refl c.append_spelled.ensures.area refl refl refl refl c.append_spelled.ensures.outside
     (c.append_spelled.ensures.done done group _ spelled (stands past_of run handed old is c.if-self.false)) (c.append_spelled.ensures.synced done) in
     c.carry_on.ensures.writer run handed has)
 
@@ -170,6 +171,7 @@ returns-in-Ok-Done-clause-image g c =
       waiting = old.waiting;
       synced = old.synced;
       image = old.image;
+      copying = old.copying;
       failed = old.failed;
     } in
     let closed : old.log.open_slots ≢ old.log.area.slots = λ all. cc (c.append_spelled.ensures.full.1 all, done) in
@@ -177,7 +179,7 @@ returns-in-Ok-Done-clause-image g c =
     let spelled : IsGroup group c.deref-4.result.now = subst (IsGroup group) (sym c.deref-4.ensures.value) (c.in_ok-body.ensures.ok) in
     let has : HasAppended past_of run handed count mid =
     has_appended past_of run handed old is c.if-self.false count group
-    (ap (take count) c.deref-2.ensures.value) within closed mid refl c.append_spelled.ensures.area refl refl refl c.append_spelled.ensures.outside
+    (ap (take count) c.deref-2.ensures.value) within closed mid refl c.append_spelled.ensures.area refl refl refl refl c.append_spelled.ensures.outside
     (c.append_spelled.ensures.done done group _ spelled (stands past_of run handed old is c.if-self.false)) (c.append_spelled.ensures.synced done) in
     let planned : IsPlan old.image slots old.synced (take count old.waiting.items) c.in_ok-plan.plan =
     subst (λ (rs : List RecordValue). IsPlan old.image slots old.synced rs c.in_ok-plan.plan)
@@ -209,6 +211,7 @@ returns-in-Ok-Done-clause-images g c =
       waiting = old.waiting;
       synced = old.synced;
       image = old.image;
+      copying = old.copying;
       failed = old.failed;
     } in
     let closed : old.log.open_slots ≢ old.log.area.slots = λ all. cc (c.append_spelled.ensures.full.1 all, done) in
@@ -216,7 +219,7 @@ returns-in-Ok-Done-clause-images g c =
     let spelled : IsGroup group c.deref-4.result.now = subst (IsGroup group) (sym c.deref-4.ensures.value) (c.in_ok-body.ensures.ok) in
     let has : HasAppended past_of run handed count mid =
     has_appended past_of run handed old is c.if-self.false count group
-    (ap (take count) c.deref-2.ensures.value) within closed mid refl c.append_spelled.ensures.area refl refl refl c.append_spelled.ensures.outside
+    (ap (take count) c.deref-2.ensures.value) within closed mid refl c.append_spelled.ensures.area refl refl refl refl c.append_spelled.ensures.outside
     (c.append_spelled.ensures.done done group _ spelled (stands past_of run handed old is c.if-self.false)) (c.append_spelled.ensures.synced done) in
     joined (past_of old.device) (past_of mid.device) (past_of c.carry_on.new.self.device) (LeftBy run old.synced handed)
     (leaves past_of run handed old is c.if-self.false count group (ap (take count) c.deref-2.ensures.value) within closed (past_of mid.device)
@@ -249,6 +252,7 @@ returns-clause-writer g c =
       waiting = old.waiting;
       synced = old.synced;
       image = old.image;
+      copying = old.copying;
       failed = true;
     } in
     let count = c.group_len-count.result in
@@ -280,6 +284,7 @@ returns-in-Ok-Done-clause-flushed g c =
       waiting = old.waiting;
       synced = old.synced;
       image = old.image;
+      copying = old.copying;
       failed = old.failed;
     } in
     let some : 0 < count = omega (arith, c.if-count-eq0.false) in
@@ -341,6 +346,7 @@ returns-in-Ok-Done-clause-around g c =
       waiting = old.waiting;
       synced = old.synced;
       image = old.image;
+      copying = old.copying;
       failed = old.failed;
     } in
     let closed : old.log.open_slots ≢ old.log.area.slots = λ all. cc (c.append_spelled.ensures.full.1 all, done) in
@@ -363,6 +369,7 @@ returns-clause-around g c =
       waiting = old.waiting;
       synced = old.synced;
       image = old.image;
+      copying = old.copying;
       failed = true;
     } in
     let closed : old.log.open_slots ≢ old.log.area.slots = λ all. cc (c.append_spelled.ensures.full.1 all, c.in-Err.is) in
@@ -382,6 +389,7 @@ returns-in-Ok-Done-clause-left g c =
       waiting = old.waiting;
       synced = old.synced;
       image = old.image;
+      copying = old.copying;
       failed = old.failed;
     } in
     failed_behind old mid c.carry_on.new.self c.group_len-count.result c.carry_on.result refl c.carry_on.ensures.left)
@@ -466,6 +474,7 @@ invariant_of-self g c =
       waiting = old.waiting;
       synced = old.synced;
       image = old.image;
+      copying = old.copying;
       failed = old.failed;
     } in
     let closed : old.log.open_slots ≢ old.log.area.slots = λ all. cc (c.append_spelled.ensures.full.1 all, done) in
@@ -473,7 +482,7 @@ invariant_of-self g c =
     let spelled : IsGroup group c.deref-4.result.now = subst (IsGroup group) (sym c.deref-4.ensures.value) (c.in_ok-body.ensures.ok) in
     let has : HasAppended past_of run handed count mid =
     has_appended past_of run handed old is c.if-self.false count group
-    (ap (take count) c.deref-2.ensures.value) within closed mid refl c.append_spelled.ensures.area refl refl refl c.append_spelled.ensures.outside
+    (ap (take count) c.deref-2.ensures.value) within closed mid refl c.append_spelled.ensures.area refl refl refl refl c.append_spelled.ensures.outside
     (c.append_spelled.ensures.done done group _ spelled (stands past_of run handed old is c.if-self.false)) (c.append_spelled.ensures.synced done) in
     (run, handed, c.carry_on.ensures.writer run handed has)
 
@@ -488,6 +497,7 @@ invariant_of-self-in-Err g c =
       waiting = old.waiting;
       synced = old.synced;
       image = old.image;
+      copying = old.copying;
       failed = true;
     } in
     let count = c.group_len-count.result in

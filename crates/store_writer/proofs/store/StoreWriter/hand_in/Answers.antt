@@ -15,6 +15,7 @@ returns-clause-writer g c =
       waiting = c.append.new.self;
       synced = old.synced;
       image = old.image;
+      copying = old.copying;
       failed = old.failed;
     } in
     handed_writer g.D.Device.past_of run handed old is new c.args.records.items refl refl refl (λ sound.
@@ -27,6 +28,7 @@ returns-clause-writer g c =
       stands = stood.stands;
       loose = stood.loose;
       image = stood.image;
+      copying = stood.copying;
     }) c.in-Ok.ensures.items next)
 
 pub invariant_of-self-2 : goal.invariant_of-self-2
@@ -40,6 +42,7 @@ invariant_of-self-2 g c =
       waiting = c.append.new.self;
       synced = old.synced;
       image = old.image;
+      copying = old.copying;
       failed = old.failed;
     } in (
       run,
@@ -54,6 +57,7 @@ invariant_of-self-2 g c =
             stands = stood.stands;
             loose = stood.loose;
             image = stood.image;
+            copying = stood.copying;
           }) c.in-Ok.ensures.items next,
     )
 
@@ -69,6 +73,7 @@ returns-in-Err-clause-unchanged g c =
       waiting = c.append.new.self;
       synced = old.synced;
       image = old.image;
+      copying = old.copying;
       failed = old.failed;
     } in
     kept_writer g.D.Device.past_of run handed old is new refl refl refl (λ sound.
@@ -81,6 +86,7 @@ returns-in-Err-clause-unchanged g c =
       stands = stood.stands;
       loose = stood.loose;
       image = stood.image;
+      copying = stood.copying;
     }) c.in-Err.ensures.items)
 
 pub invariant_of-self : goal.invariant_of-self
@@ -94,6 +100,7 @@ invariant_of-self g c =
       waiting = c.append.new.self;
       synced = old.synced;
       image = old.image;
+      copying = old.copying;
       failed = old.failed;
     } in (
       run,
@@ -108,5 +115,6 @@ invariant_of-self g c =
             stands = stood.stands;
             loose = stood.loose;
             image = stood.image;
+            copying = stood.copying;
           }) c.in-Err.ensures.items,
     )

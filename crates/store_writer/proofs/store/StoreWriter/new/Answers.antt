@@ -1,4 +1,5 @@
 use Rattle.std.proofs.Common.{false, None, refl}
+use Rattle.store_writer.specs.declared.copying.Copying.TheVariants.{Idle}
 use Rattle.store_writer.specs.declared.writer.Writer.{Writer}
 use Rattle.store_writer.specs.Writer.{opened_run}
 use Rattle.store_writer.proofs.Opening.{opened_writer}
@@ -13,9 +14,10 @@ returns-clause-writer g c = λ cells is.
       waiting = c.new.result;
       synced = c.args.synced;
       image = None;
+      copying = Idle;
       failed = false;
     } in
-    opened_writer g.D.Device.past_of cells w is c.new.ensures.items refl
+    opened_writer g.D.Device.past_of cells w is c.new.ensures.items refl refl
 
 pub invariant_of-result : goal.invariant_of-result
 invariant_of-result g c = let (cells, is) = c.requires in (opened_run c.args.halves c.args.synced cells, c.args.synced, returns-clause-writer g c cells is)

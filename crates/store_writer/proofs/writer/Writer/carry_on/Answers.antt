@@ -1,4 +1,5 @@
-use Rattle.std.proofs.Common.{true, ◌+◌, Option, IfSome, List, length, take, refl, subst, ◌∙◌, arith}
+use Rattle.std.proofs.Common.{true, ◌+◌, Option, IfSome, List, length, take, refl, ap, subst, ◌∙◌, arith}
+use Rattle.record_values.specs.GeometryValue.{GeometryValue}
 use Rattle.records.specs.RecordValue.{RecordValue}
 use Rattle.flip_image.specs.Layout.{other}
 use Rattle.store_writer.specs.declared.image.NewImage.{NewImage}
@@ -28,6 +29,7 @@ returns-in-Err-clause-writer g c = λ run handed is.
       waiting = w.waiting;
       synced = w.synced;
       image = w.image;
+      copying = w.copying;
       failed = true;
     } in
     failed_one g.D.Device.past_of run handed c.args.count w is new refl refl refl refl (returns-in-Err-clause-images g c run handed is)
@@ -38,7 +40,6 @@ returns-in-Ok-clause-writer g c = λ run handed is.
     let w = c.args.self.now in
     let count = c.args.count in
     let group : List RecordValue = take count w.waiting.items in
-    let (slots, planned) = c.requires.planned in
     let now = (past_of c.carry.new.device).disk.content in
     let new : Writer g.row.D.Denot g.row.A.Denot = record {
       device = c.carry.new.device;
@@ -47,13 +48,15 @@ returns-in-Ok-clause-writer g c = λ run handed is.
       waiting = c.drop-drain.new.self.0;
       synced = w.synced + count;
       image = c.in-Ok.image;
+      copying = w.copying;
       failed = w.failed;
     } in
     let image : IfSome c.in-Ok.image (IsUnderway run (other w.halves.current) now (w.synced + length group)) =
-    c.in-Ok.ensures.carried slots w.synced group planned run (other w.halves.current) is.image is.opened
+    c.in-Ok.ensures.carried w.halves.geometry.slots w.synced group c.requires.planned run (other w.halves.current) is.image
+    (ap (λ (x : GeometryValue). x.slots) is.geometry-is) is.opened
     (omega (arith, long past_of run handed count w is, is.within, is.made)) (group_between past_of run handed count w is) in
     carried_one past_of run handed count w is new refl refl refl (c.drop-drain.ensures.items
-    ∙ c.drain.ensures.kept) c.carry.ensures.outside c.in-Ok.ensures.synced image
+    ∙ c.drain.ensures.kept) c.carry.ensures.outside c.in-Ok.ensures.synced image refl c.in-Ok.ensures.stage
 
 pub returns-in-Ok-clause-image : goal.returns-in-Ok-clause-image
 returns-in-Ok-clause-image g c = λ run handed slots is slots_is some planned.
@@ -86,6 +89,7 @@ returns-in-Ok-clause-around g c =
       waiting = c.drop-drain.new.self.0;
       synced = w.synced + c.args.count;
       image = c.in-Ok.image;
+      copying = w.copying;
       failed = w.failed;
     } in
     carried_around g.D.Device.past_of run handed c.args.count w is new refl refl c.in-Ok.ensures.none c.carry.ensures.outside c.carry.ensures.any_moment
@@ -101,6 +105,7 @@ returns-in-Err-clause-around g c =
       waiting = w.waiting;
       synced = w.synced;
       image = w.image;
+      copying = w.copying;
       failed = true;
     } in
     carried_around g.D.Device.past_of run handed c.args.count w is new refl refl (λ none. none) c.carry.ensures.outside c.carry.ensures.any_moment

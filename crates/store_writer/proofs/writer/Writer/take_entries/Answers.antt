@@ -1,58 +1,34 @@
-use Rattle.std.proofs.Common.{true, ◌≡◌, ◌⊎◌, inl, inr, ◌+◌, ◌<◌, ℕ, length, Option, Some, IfSome, refl, sym, ap, subst, ◌∙◌, arith}
-use Rattle.std.proofs.lemmas.Bool.{false≢true}
+use Rattle.std.proofs.Common.{true, ◌≡◌, ◌⊎◌, ⊎_elim, inr, ◌+◌, ◌-◌, ◌<◌, ◌≤◌, ℕ, length, Option, Some, IfSome, refl, sym, ap, subst, ◌∙◌, arith}
+use Rattle.std.proofs.lemmas.Bool.{cases_lt, false≢true}
 use Rattle.std.specs.Prelude.{slice_get}
 use Rattle.sector_device.specs.Disk.{CrashState}
 use Rattle.sector_device.specs.DevicePast.{RunsWithin}
-use Rattle.sector_device.proofs.Moments.{started}
 use Rattle.record_values.specs.GeometryValue.{GeometryValue}
 use Rattle.record_values.specs.declared.pair.Pair.{Pair}
 use Rattle.record_values.specs.declared.pair.Mark.{Mark}
-use Rattle.flip_image.specs.Layout.{other, InHalf, InHalfImage}
+use Rattle.flip_image.specs.Layout.{other, InHalfImage}
+use Rattle.store_image_model.specs.declared.chunk.CopyPlace.{CopyPlace}
+use Rattle.store_image_model.specs.declared.chunk.TheConstants.{CHUNK_ENTRIES}
+use Rattle.store_writer.specs.Copying.{IsCopying}
+use Rattle.store_writer.specs.Writer.{stage_behind}
+use Rattle.store_writer.specs.declared.copying.Copying.TheVariants.{Steps}
 use Rattle.store_writer.specs.declared.writer.Writer.{Writer}
 use Rattle.store_writer.specs.declared.image.NewImage.{NewImage}
 use Rattle.store_writer.specs.declared.image.Stage.TheVariants.{Whole, Partly}
-use Rattle.store_writer.specs.Contents.{LeftBy}
 use Rattle.store_writer.specs.Image.{IsPart, IsContent, IsUnderway}
 use Rattle.store_writer.proofs.Idle.{from_ok, writing, written_outside, written_loose, written_log}
+use Rattle.store_writer.proofs.Places.{behind_entries}
 use Rattle.store_writer.proofs.Stepwise.{at_stage, with_entries}
 use Rattle.store_writer.proofs.Writing.{stood, carried_on}
 use Rattle.store_writer.proofs.Taking.{leaves_kept, stands_with}
-use Rattle.store_writer.proofs.Alone.{none_alone, part_alone}
+use Rattle.store_writer.proofs.Alone.{part_alone}
 use Rattle.store_writer.proofs.writer.Writer.take_entries.Goals as goal
-use Rattle.store_writer.proofs.writer.Writer.take_entries.Goals.{then-is_full-via-then-is_full, then-is_full-via-else-is_full+then-has_no_room}
 
-pub returns-in_default-clause-images : goal.returns-in_default-clause-images
-returns-in_default-clause-images g c = λ run handed is. started (g.D.Device.past_of c.args.self.now.device) (LeftBy run c.args.self.now.synced handed) is.images
-
-pub unreachable-requires : goal.unreachable-requires
-unreachable-requires g c =
+pub unreachable-requires-in_default-stage : goal.unreachable-requires-in_default-stage
+unreachable-requires-in_default-stage g c =
     let (run, handed, is, asked) = c.requires.entries in
     let no : Whole ≡ _ = sym c.in_default-stage.is ∙ (asked c.in-Some.image c.in-Some.is).next in
     cc no
-
-pub returns-then-is_full-clause-images : goal.returns-then-is_full-clause-images
-returns-then-is_full-clause-images g c = λ run handed is.
-    started (g.D.Device.past_of c.args.self.now.device) (LeftBy run c.args.self.now.synced handed) is.images
-
-pub returns-then-is_full-clause-stepped : goal.returns-then-is_full-clause-stepped
-returns-then-is_full-clause-stepped g c = (
-  refl,
-  elim c.then-is_full.branch [
-    | then-is_full-via-then-is_full w ↦ inr (inl (w.if-is_full.ensures.0 refl ∙ ap (λ (x : GeometryValue). x.slots) c.geometry-geometry.ensures))
-    | then-is_full-via-else-is_full+then-has_no_room w ↦ inr
-        (inr (
-          c.in-Some.image,
-          c.in-Partly.pages,
-          c.in-Partly.count,
-          c.in-Partly.highest,
-          c.in-Partly.life,
-          c.in-Some.is,
-          c.in-Partly.is,
-          subst (λ (x : GeometryValue). x.entries < c.in-Partly.count + length c.args.entries.now) c.geometry-geometry.ensures
-              (w.if-has_no_room.ensures.0 refl),
-        ))
-  ],
-)
 
 pub write_next-requires-clause-pages : goal.write_next-requires-clause-pages
 write_next-requires-clause-pages g c =
@@ -92,6 +68,7 @@ returns-then-is_err-clause-writer g c = λ run handed is asked.
       waiting = old.waiting;
       synced = old.synced;
       image = old.image;
+      copying = old.copying;
       failed = true;
     } in
     carried_on g.D.Device.past_of run handed old new is refl refl refl (λ sound. absurd (false≢true (sym sound)))
@@ -135,6 +112,13 @@ returns-clause-writer g c = λ run handed is asked.
     c.in-Partly.pages c.in-Partly.count c.in-Partly.highest c.in-Partly.life at
     (from_ok _ _ good c.write_next.ensures.part) (from_ok _ _ good c.write_next.ensures.whole) c.stage_behind-stage.result c.stage_behind-stage.ensures in
     let taken : NewImage = record { base = image.base; number = c.args.number; stage = c.stage_behind-stage.result; log = image.log } in
+    let pages : c.in-Partly.pages ≡ run.geometry.pages = cc at in
+    let further : taken.stage ≡ stage_behind run.geometry.pages c.in-Partly.count c.in-Partly.life c.args.entries.now =
+    subst (λ (k : ℕ). taken.stage ≡ stage_behind k c.in-Partly.count c.in-Partly.life c.args.entries.now) pages c.stage_behind-stage.ensures in
+    let copied : IsCopying run.geometry.pages (Steps c.args.behind) (Some taken) =
+    subst (λ (p : Option CopyPlace). IsCopying run.geometry.pages (Steps p) (Some taken)) (sym c.requires.behind)
+    (inr (behind_entries run.geometry.pages (Some taken) taken refl (c.in-Partly.count + length c.args.entries.now) c.in-Partly.life
+    (slice_get c.args.entries.now (CHUNK_ENTRIES - 1)) further)) in
     let new : Writer g.row.D.Denot g.row.A.Denot = record {
       device = c.write_next.new.device;
       halves = old.halves;
@@ -142,22 +126,16 @@ returns-clause-writer g c = λ run handed is asked.
       waiting = old.waiting;
       synced = old.synced;
       image = Some taken;
+      copying = Steps c.args.behind;
       failed = old.failed;
     } in
     carried_on past_of run handed old new is refl refl refl
     (λ sound. stands_with past_of run handed old is c.requires.sound new refl refl refl
     (written_outside run.geometry half (past_of old.device) (past_of c.write_next.new.device) stand.loose within)
     (written_loose run.geometry half (past_of old.device) (past_of c.write_next.new.device) stand.loose within)
-    (at_stage run half before after old.synced image there c.args.number taken.stage chunk.later chunk.made log content))
+    (at_stage run half before after old.synced image there c.args.number taken.stage chunk.later chunk.made log content)
+    copied)
     (returns-clause-images g c run handed is)
-
-pub returns-in_default-clause-around : goal.returns-in_default-clause-around
-returns-in_default-clause-around g c = none_alone g.D.Device.past_of
-    (InHalf c.args.self.now.halves.geometry (other c.args.self.now.halves.current)) c.args.self.now.device
-
-pub returns-then-is_full-clause-around : goal.returns-then-is_full-clause-around
-returns-then-is_full-clause-around g c = none_alone g.D.Device.past_of
-    (InHalf c.args.self.now.halves.geometry (other c.args.self.now.halves.current)) c.args.self.now.device
 
 pub returns-then-is_err-clause-around : goal.returns-then-is_err-clause-around
 returns-then-is_err-clause-around g c =
@@ -168,3 +146,37 @@ pub returns-clause-around : goal.returns-clause-around
 returns-clause-around g c =
     let (run, handed, is, asked) = c.requires.entries in
     part_alone g.D.Device.past_of run handed c.args.self.now is c.requires.sound c.write_next.new.device c.write_next.ensures.within
+
+pub write_next-requires-clause-room : goal.write_next-requires-clause-room
+write_next-requires-clause-room g c = ⊎_elim
+    (λ past. absurd (c.requires.room (
+      c.in-Some.image,
+      c.in-Partly.pages,
+      c.in-Partly.count,
+      c.in-Partly.highest,
+      c.in-Partly.life,
+      c.in-Some.is,
+      c.in-Partly.is,
+      past,
+    )))
+    (λ within. within)
+    (cases_lt c.args.self.now.halves.geometry.entries (c.in-Partly.count + length c.args.entries.now))
+
+pub stage_behind-stage-requires : goal.stage_behind-stage-requires
+stage_behind-stage-requires g c =
+    let (run, handed, is, asked) = c.requires.entries in
+    let within : c.in-Partly.count + length c.args.entries.now ≤ c.args.self.now.halves.geometry.entries = ⊎_elim
+    (λ past. absurd (c.requires.room (
+      c.in-Some.image,
+      c.in-Partly.pages,
+      c.in-Partly.count,
+      c.in-Partly.highest,
+      c.in-Partly.life,
+      c.in-Some.is,
+      c.in-Partly.is,
+      past,
+    )))
+    (λ within. within)
+    (cases_lt c.args.self.now.halves.geometry.entries (c.in-Partly.count + length c.args.entries.now)) in
+    let most = (stood g.D.Device.past_of run handed c.args.self.now is c.requires.sound).store.limits.most_entries in
+    omega (arith, within, most, ap (λ (x : GeometryValue). x.entries) is.geometry-is)

@@ -1,30 +1,26 @@
-use Rattle.std.proofs.Common.{true, ◌≡◌, ◌⊎◌, ⊎_elim, ◌+◌, Option, Some, IfSome, refl, sym, ap, subst, ◌∙◌}
+use Rattle.std.proofs.Common.{true, ◌≡◌, ◌⊎◌, inr, ◌+◌, Option, Some, None, IfSome, refl, sym, ap, subst, ◌∙◌}
+use Rattle.std.specs.Prelude.{nat_lt}
 use Rattle.std.proofs.lemmas.Bool.{false≢true}
 use Rattle.sector_device.specs.Disk.{SameOutside}
 use Rattle.sector_device.specs.DevicePast.{RunsWithin}
-use Rattle.sector_device.proofs.Moments.{started}
 use Rattle.record_values.specs.GeometryValue.{GeometryValue}
 use Rattle.store_image_half.specs.Layout.{InPage}
 use Rattle.store_image_half.specs.Part.{HasPage}
-use Rattle.flip_image.specs.Layout.{other, header_sector, InHalf, InHalfImage}
+use Rattle.flip_image.specs.Layout.{other, header_sector, InHalfImage}
+use Rattle.store_image_model.specs.declared.chunk.CopyPlace.{CopyPlace}
+use Rattle.store_writer.specs.Copying.{IsCopying, page_behind}
+use Rattle.store_writer.specs.declared.copying.Copying.TheVariants.{Steps}
 use Rattle.store_writer.specs.declared.writer.Writer.{Writer}
 use Rattle.store_writer.specs.declared.image.NewImage.{NewImage}
 use Rattle.store_writer.specs.declared.image.Stage.TheVariants.{Partly}
-use Rattle.store_writer.specs.Contents.{LeftBy}
 use Rattle.store_writer.specs.Image.{IsPart, IsContent, IsUnderway}
 use Rattle.store_writer.proofs.Idle.{from_ok, writing, written_outside, written_loose, written_log}
+use Rattle.store_writer.proofs.Places.{at_page, behind_page}
 use Rattle.store_writer.proofs.Stepwise.{at_stage, page_part}
 use Rattle.store_writer.proofs.Writing.{stood, carried_on}
 use Rattle.store_writer.proofs.Taking.{leaves_kept, stands_with}
-use Rattle.store_writer.proofs.Alone.{none_alone, part_alone}
+use Rattle.store_writer.proofs.Alone.{part_alone}
 use Rattle.store_writer.proofs.writer.Writer.take_page.Goals as goal
-
-pub returns-in_default-clause-images : goal.returns-in_default-clause-images
-returns-in_default-clause-images g c = λ run handed is. started (g.D.Device.past_of c.args.self.now.device) (LeftBy run c.args.self.now.synced handed) is.images
-
-pub returns-then-is_full-clause-images : goal.returns-then-is_full-clause-images
-returns-then-is_full-clause-images g c = λ run handed is.
-    started (g.D.Device.past_of c.args.self.now.device) (LeftBy run c.args.self.now.synced handed) is.images
 
 pub returns-then-is_err-clause-images : goal.returns-then-is_err-clause-images
 returns-then-is_err-clause-images g c = λ run handed is.
@@ -47,6 +43,7 @@ returns-then-is_err-clause-writer g c = λ run handed is page.
       waiting = old.waiting;
       synced = old.synced;
       image = old.image;
+      copying = old.copying;
       failed = true;
     } in
     carried_on g.D.Device.past_of run handed old new is refl refl refl (λ sound. absurd (false≢true (sym sound)))
@@ -95,6 +92,16 @@ returns-clause-writer g c = λ run handed is asked.
     let taken : NewImage = c.with_page.result in
     let taken_is : record image { number = c.args.number; stage = Partly (c.args.page + 1) count highest life } ≡ taken =
     sym (c.with_page.ensures c.args.page count highest life at) in
+    let (below, (j, began, came, from)) = at_page run.geometry.pages old.copying old.image stand.copying image c.in-Some.is c.args.page count highest life at
+    chunk.below in
+    let here : image.stage ≡ Partly c.args.page 0 None began = cc (came, c.in-Some.is, from) in
+    let further : taken.stage ≡ Partly (c.args.page + 1) 0 None began =
+    ap (λ (x : NewImage). x.stage) (c.with_page.ensures c.args.page 0 None began here) in
+    let behind : c.args.behind ≡ page_behind run.geometry.pages c.args.page =
+    c.requires.behind ∙ ap (λ (x : GeometryValue). page_behind x.pages c.args.page) is.geometry-is in
+    let copied : IsCopying run.geometry.pages (Steps c.args.behind) (Some taken) =
+    subst (λ (p : Option CopyPlace). IsCopying run.geometry.pages (Steps p) (Some taken)) (sym behind)
+    (inr (behind_page run.geometry.pages (Some taken) taken refl c.args.page began below further (nat_lt (c.args.page + 1) run.geometry.pages) refl)) in
     let new : Writer g.row.D.Denot g.row.A.Denot = record {
       device = c.write_rows.new.device;
       halves = old.halves;
@@ -102,6 +109,7 @@ returns-clause-writer g c = λ run handed is asked.
       waiting = old.waiting;
       synced = old.synced;
       image = Some taken;
+      copying = Steps c.args.behind;
       failed = old.failed;
     } in
     carried_on past_of run handed old new is refl refl refl
@@ -109,7 +117,8 @@ returns-clause-writer g c = λ run handed is asked.
     (written_outside run.geometry half (past_of old.device) (past_of c.write_rows.new.device) stand.loose within)
     (written_loose run.geometry half (past_of old.device) (past_of c.write_rows.new.device) stand.loose within)
     (subst (IsUnderway run half after old.synced) taken_is
-    (at_stage run half before after old.synced image there c.args.number (Partly (c.args.page + 1) count highest life) chunk.later chunk.made log next)))
+    (at_stage run half before after old.synced image there c.args.number (Partly (c.args.page + 1) count highest life) chunk.later chunk.made log next))
+    copied)
     (returns-clause-images g c run handed is)
 
 pub with_page-requires-clause-partly : goal.with_page-requires-clause-partly
@@ -117,27 +126,6 @@ with_page-requires-clause-partly g c =
     let (run, handed, is, asked) = c.requires.page in
     let (count, highest, life, at) = (asked c.in-Some.image c.in-Some.is).next in
     (c.args.page, count, highest, life, at)
-
-pub returns-clause-stepped : goal.returns-clause-stepped
-returns-clause-stepped g c =
-    let (run, handed, is, asked) = c.requires.page in
-    let (count, highest, life, at) = (asked c.in-Some.image c.in-Some.is).next in (
-      (λ refused. ⊎_elim (λ none. cc (none, c.in-Some.is)) (λ full.
-          false≢true (c.if-is_full.ensures.1 (full ∙ sym (ap (λ (x : GeometryValue). x.slots) c.geometry.ensures)))) refused),
-      (
-        c.with_page.result,
-        (refl, refl, refl, refl, refl, refl),
-        (c.in-Some.image, count, highest, life, c.in-Some.is, at, c.with_page.ensures c.args.page count highest life at),
-      ),
-    )
-
-pub returns-in_default-clause-around : goal.returns-in_default-clause-around
-returns-in_default-clause-around g c = none_alone g.D.Device.past_of
-    (InHalf c.args.self.now.halves.geometry (other c.args.self.now.halves.current)) c.args.self.now.device
-
-pub returns-then-is_full-clause-around : goal.returns-then-is_full-clause-around
-returns-then-is_full-clause-around g c = none_alone g.D.Device.past_of
-    (InHalf c.args.self.now.halves.geometry (other c.args.self.now.halves.current)) c.args.self.now.device
 
 pub returns-then-is_err-clause-around : goal.returns-then-is_err-clause-around
 returns-then-is_err-clause-around g c =
@@ -148,3 +136,13 @@ pub returns-clause-around : goal.returns-clause-around
 returns-clause-around g c =
     let (run, handed, is, asked) = c.requires.page in
     part_alone g.D.Device.past_of run handed c.args.self.now is c.requires.sound c.write_rows.new.device c.write_rows.ensures.within
+
+pub returns-clause-taken : goal.returns-clause-taken
+returns-clause-taken g c =
+    let (run, handed, is, asked) = c.requires.page in
+    let (count, highest, life, at) = (asked c.in-Some.image c.in-Some.is).next in (
+      c.with_page.result,
+      (refl, refl, refl, refl, refl, refl),
+      (c.in-Some.image, count, highest, life, c.in-Some.is, at, c.with_page.ensures c.args.page count highest life at),
+      refl,
+    )

@@ -1,4 +1,4 @@
-use Rattle.std.proofs.Common.{true, ◌≡◌, ℕ, Some, None, refl, sym, ap, subst}
+use Rattle.std.proofs.Common.{true, ◌≡◌, inr, ℕ, Some, None, refl, sym, ap, subst, arith}
 use Rattle.std.proofs.lemmas.Bool.{false≢true}
 use Rattle.std.specs.FinMap as map
 use Rattle.sector_device.specs.Disk.{SameOutside}
@@ -10,11 +10,13 @@ use Rattle.model.specs.declared.life.Life.{Life}
 use Rattle.store_image_half.specs.Part.{IsImagePart}
 use Rattle.flip_image.specs.Layout.{other, header_sector, InHalf, InHalfImage}
 use Rattle.store_reader.specs.Contents.{log_area}
+use Rattle.store_image_model.specs.declared.chunk.CopyPlace.TheVariants as at
+use Rattle.store_writer.specs.declared.copying.Copying.TheVariants.{Steps}
 use Rattle.store_writer.specs.declared.writer.Writer.{Writer}
 use Rattle.store_writer.specs.declared.image.NewImage.{NewImage}
 use Rattle.store_writer.specs.declared.image.Stage.TheVariants.{Partly}
 use Rattle.store_writer.proofs.Stepwise.{start_taken}
-use Rattle.store_writer.proofs.Writing.{carried_on}
+use Rattle.store_writer.proofs.Writing.{stood, carried_on}
 use Rattle.store_writer.proofs.Taking.{leaves_kept, stands_with}
 use Rattle.store_writer.proofs.Alone.{these_alone}
 use Rattle.store_writer.proofs.writer.Writer.take_start.Goals as goal
@@ -45,6 +47,7 @@ returns-clause-writer g c = λ run handed is start.
       waiting = old.waiting;
       synced = old.synced;
       image = old.image;
+      copying = old.copying;
       failed = true;
     } in
     carried_on g.D.Device.past_of run handed old new is refl refl refl (λ sound. absurd (false≢true (sym sound))) (returns-clause-images g c run handed is)
@@ -64,6 +67,7 @@ returns-in-Ok-clause-writer g c = λ run handed is start.
       waiting = old.waiting;
       synced = old.synced;
       image = Some image;
+      copying = Steps (Some (at.Page 0));
       failed = old.failed;
     } in
     let cells_are = c.lists_alone-cells.ensures in
@@ -78,7 +82,8 @@ returns-in-Ok-clause-writer g c = λ run handed is start.
     (subst (λ (x : GeometryValue). SameOutside (InHalf x half) (past_of old.device).disk.content now.content) is.geometry-is c.write_first.ensures.outside)
     (subst (λ (x : GeometryValue). (n : ℕ) → now.unsynced n ≡ true → InHalfImage x half n) is.geometry-is c.in-Ok.ensures.loose)
     (start_taken run half now.content old.synced image c.args.life c.args.lists is.opened refl
-    (ap (λ (l : Life). Partly 0 0 None l) (ap (λ (x : Cells). x.life) cells_are)) start part area c.in-Ok.ensures.empty))
+    (ap (λ (l : Life). Partly 0 0 None l) (ap (λ (x : Cells). x.life) cells_are)) start part area c.in-Ok.ensures.empty)
+    (inr (omega (arith, (stood past_of run handed old is c.requires.sound).store.limits.some_page), (image, life, refl, refl))))
     (returns-in-Ok-clause-images g c run handed is)
 
 pub returns-in-Ok-clause-around : goal.returns-in-Ok-clause-around

@@ -1,4 +1,4 @@
-use Rattle.std.proofs.Common.{true, ◌≡◌, ℕ, Some, refl, sym, subst}
+use Rattle.std.proofs.Common.{true, ◌≡◌, inr, ℕ, Some, None, refl, sym, subst}
 use Rattle.std.proofs.lemmas.Bool.{false≢true}
 use Rattle.sector_device.specs.Disk.{SameOutside}
 use Rattle.sector_device.specs.DevicePast.{LeavesOnly}
@@ -7,6 +7,7 @@ use Rattle.model.specs.Redo.{cells_of}
 use Rattle.flip_image.specs.Layout.{other, InHalf, InHalfImage}
 use Rattle.flip_image.specs.Store.{HoldsImage}
 use Rattle.store_reader.specs.Contents.{log_area}
+use Rattle.store_writer.specs.declared.copying.Copying.TheVariants.{Steps}
 use Rattle.store_writer.specs.declared.writer.Writer.{Writer}
 use Rattle.store_writer.specs.declared.image.NewImage.{NewImage}
 use Rattle.store_writer.specs.declared.image.Stage.TheVariants.{Whole}
@@ -41,6 +42,7 @@ returns-in-Err-clause-writer g c = λ run handed is whole.
       waiting = old.waiting;
       synced = old.synced;
       image = old.image;
+      copying = old.copying;
       failed = true;
     } in
     carried_on g.D.Device.past_of run handed old new is refl refl refl (λ sound. absurd (false≢true (sym sound)))
@@ -61,6 +63,7 @@ returns-in-Ok-clause-writer g c = λ run handed is whole.
       waiting = old.waiting;
       synced = old.synced;
       image = Some image;
+      copying = Steps None;
       failed = old.failed;
     } in
     let holds : HoldsImage run.geometry half now.content c.args.number cells =
@@ -71,13 +74,14 @@ returns-in-Ok-clause-writer g c = λ run handed is whole.
     (λ sound. stands_with past_of run handed old is c.requires.sound new refl refl refl
     (subst (λ (x : GeometryValue). SameOutside (InHalf x half) (past_of old.device).disk.content now.content) is.geometry-is c.write_whole.ensures.outside)
     (subst (λ (x : GeometryValue). (n : ℕ) → now.unsynced n ≡ true → InHalfImage x half n) is.geometry-is c.in-Ok.ensures.loose)
-    (whole_taken run half now.content old.synced image cells is.opened whole.late refl refl whole.made whole.cells-are holds area c.in-Ok.ensures.empty))
+    (whole_taken run half now.content old.synced image cells is.opened whole.late refl refl whole.made whole.cells-are holds area c.in-Ok.ensures.empty)
+    (inr (image, refl, refl)))
     (returns-in-Ok-clause-images g c run handed is)
 
 pub returns-in-Ok-clause-taken : goal.returns-in-Ok-clause-taken
 returns-in-Ok-clause-taken g c =
     let image : NewImage = record { base = c.args.number; number = c.args.number; stage = Whole; log = c.in-Ok.log } in
-    (image, (refl, refl, refl, refl, refl, refl), (refl, refl, refl, c.in-Ok.ensures.empty.counted))
+    (image, (refl, refl, refl, refl, refl, refl), (refl, refl, refl, c.in-Ok.ensures.empty.counted), refl)
 
 pub write_whole-requires-clause-current : goal.write_whole-requires-clause-current
 write_whole-requires-clause-current g c =

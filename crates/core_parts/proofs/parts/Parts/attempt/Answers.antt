@@ -1,5 +1,0 @@
-use Rattle.std.proofs.Common.{rules}
-use Rattle.core_parts.proofs.parts.Parts.attempt.Goals as goal
-
-pub returns-clause-attempted : goal.returns-clause-attempted
-returns-clause-attempted c = search rules

@@ -1,5 +1,0 @@
-use Rattle.std.proofs.Common.{rules}
-use Rattle.core_parts.proofs.parts.Parts.is_unheld.Goals as goal
-
-pub returns : goal.returns
-returns g c = search rules

@@ -1,9 +1,0 @@
-use Rattle.std.proofs.Common.{◌<◌}
-use Rattle.record_values.specs.Values.{Place}
-use Rattle.record_values.specs.declared.rid.TheConstants.{SLOTS_PER_PAGE}
-use Rattle.core_parts.specs.Opening.{IsRowShown}
-use Rattle.core_parts.specs.Parts.{parts_of}
-use Rattle.core_parts.proofs.parts.Parts.rows_are_shown.Given as goal
-
-abbrev pub invariant-loop-page : goal.invariant-loop-page
-invariant-loop-page g l = (r : Place) → r.page < l.page → r.slot < SLOTS_PER_PAGE → IsRowShown (parts_of l.self) r

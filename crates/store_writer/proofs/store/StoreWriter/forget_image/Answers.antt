@@ -1,0 +1,14 @@
+use Rattle.std.proofs.Common.{refl}
+use Rattle.store_writer.specs.declared.copying.Copying.TheVariants.{Idle}
+use Rattle.store_writer.proofs.Opening.{without}
+use Rattle.store_writer.proofs.store.StoreWriter.forget_image.Goals as goal
+
+pub returns-clause-writer : goal.returns-clause-writer
+returns-clause-writer g c =
+    rw (← c.self.view_is) (
+    λ run handed is. without g.D.Device.past_of run handed Idle c.self.inside.writer refl is)
+
+pub invariant_of-self : goal.invariant_of-self
+invariant_of-self g c =
+    let (run, handed, is) = c.self.invariant in
+    (run, handed, without g.D.Device.past_of run handed Idle c.self.inside.writer refl is)
