@@ -4,11 +4,10 @@ use Rattle.std.proofs.Common.{None, Some, refl, sym, ap, subst, ◌∙◌}
 use Rattle.std.proofs.lemmas.Bool.{cases_lt}
 use Rattle.record_values.specs.GeometryValue.{GeometryValue}
 use Rattle.record_values.specs.declared.error.Error.{Error}
-use Rattle.record_values.specs.declared.error.Error.TheVariants.{DeviceTooSmall}
+use Rattle.record_values.specs.declared.error.Error.TheVariants.{DeviceTooSmall, NoMemory}
 use Rattle.model.specs.Given.{Given}
 use Rattle.model.specs.declared.life.Life.{Life}
 use Rattle.model.specs.declared.life.Life.TheVariants.{Absent, Complete}
-use Rattle.gate_log.specs.Area.{Refuses}
 use Rattle.core_model.specs.Histories.{CanOpen}
 use Rattle.core_parts.specs.View.{CoreValue}
 use Rattle.sector_device.specs.Disk.{CrashState, IsCrashState, IsSynced}
@@ -20,7 +19,7 @@ use Rattle.restart.specs.Building.{BuildsWhole, EndsWhole, HasCome}
 use Rattle.restart.specs.Parts.{core_of, device_of}
 use Rattle.restart.specs.Store.{over}
 use Rattle.headline.specs.declared.day.Day.{Day}
-use Rattle.headline.specs.Days.{Answer}
+use Rattle.headline.specs.Days.{Answer, IsUnopened}
 use Rattle.headline.specs.Fitting.{IsIndexOf}
 use Rattle.headline.specs.Held.{HasLived, IsNotReopened, IsQuiet, IsUnbuilt}
 use Rattle.headline.specs.Kept.{EndsBuild, GivesDays, IsBegun, KeepsDays, WhyUnbuilt}
@@ -49,6 +48,23 @@ begun {D} M past_of failures g given failed old found gives opens synced is coun
       opens = opens;
     }
 
+-- ---- a store that no day was lived through with
+
+pub at_once : {D M : Type 0} (failures : D → ℕ) (g : GeometryValue) (began : AtRest) (days : List (Day M)) (answers : List (Answer M)) (e : Error) (now : ℕ)
+    → answers ≡ [] → IsUnopened e began.failed now → IsNotReopened failures g began days answers e now
+at_once {D} {M} failures g began days answers e now none why =
+    subst (λ (rs : List (Answer M)). IsNotReopened failures g began days rs e now) (sym none)
+    (record { gone = []; which = inl refl; store = began; days-are = refl; why = why })
+
+-- there was no memory for the answers
+pub none_lived : {D M : Type 0} (past_of : D → DevicePast) (failures : D → ℕ) (g : GeometryValue) (began : AtRest) (device : D)
+    → KeepsDays {M = M} past_of failures g began [] [] device → (days : List (Day M)) (answers : List (Answer M)) (e : Error) (found : D)
+    → answers ≡ [] → e ≡ NoMemory → found ≡ device → IsNotReopened failures g began days answers e (failures found)
+none_lived past_of failures g began device keeps days answers e found none memory same =
+    let gives = now_gives past_of failures g began [] [] device keeps in
+    at_once failures g began days answers e (failures found) none
+    (inl (memory, ap failures same ∙ ap (λ (s : AtRest). s.failed) gives.days-are))
+
 -- ---- a store that was opened
 
 module _ {D M : Type 0} (past_of : D → DevicePast) (failures : D → ℕ) (g : GeometryValue) (began : AtRest) (days : List (Day M))
@@ -57,19 +73,14 @@ module _ {D M : Type 0} (past_of : D → DevicePast) (failures : D → ℕ) (g :
   gives = now_gives past_of failures g began days answers before keeps
 
   -- it isn't
-  pub not_reopened : (e : Error) (after : D) → Refuses (failures before) (failures after) e → IsNotReopened failures g began days e after
-  not_reopened e after = ⊎_elim (λ memory. inl memory)
-      (λ failed. inr (
-        failed.0,
-        record {
-          gone = days;
-          which = inr refl;
-          answers = answers;
-          store = resting gives.given (failures before);
-          days-are = gives.days-are;
-          rises = failed.1;
-        },
-      ))
+  pub not_reopened : (e : Error) (now : ℕ) → IsUnopened e (failures before) now → IsNotReopened failures g began days answers e now
+  not_reopened e now why = record {
+    gone = days;
+    which = inr refl;
+    store = resting gives.given (failures before);
+    days-are = gives.days-are;
+    why = why;
+  }
 
   module _ (engine : EngineParts D M) (is : IsBegun past_of failures before engine) where
     over-it : IsOpenedOver failures g (resting gives.given (failures before)) engine
@@ -88,6 +99,9 @@ module _ {D M : Type 0} (past_of : D → DevicePast) (failures : D → ℕ) (g :
     held = record {
       store = resting gives.given (failures before);
       days-are = gives.days-are;
+      opened = engine;
+      begins = over-it;
+      since = refl;
       holds = record {
         rows = rows;
         life = ap (λ (v : CoreValue). v.life) over-it.core ∙ over-it.life;
@@ -103,7 +117,7 @@ module _ {D M : Type 0} (past_of : D → DevicePast) (failures : D → ℕ) (g :
     }
 
     -- steps of the builder were made
-    module _ (after : EngineParts D M) (ends : EndsBuild past_of engine after) where
+    module _ (after : EngineParts D M) (why : Option Error) (ends : EndsBuild past_of why engine after) where
       quiet : IsQuiet g (core_of after)
       quiet = settled past_of g gives.given after ends.replies
           (ends.at _ (begins past_of failures g began days answers before keeps images engine is))
@@ -115,6 +129,9 @@ module _ {D M : Type 0} (past_of : D → DevicePast) (failures : D → ℕ) (g :
       built whole = record {
         store = resting gives.given (failures before);
         days-are = gives.days-are;
+        opened = engine;
+        begins = over-it;
+        since = (ends.replies, ends.each);
         holds = record {
           rows = whole.rows ∙ rows;
           life = whole.complete;
@@ -129,26 +146,30 @@ module _ {D M : Type 0} (past_of : D → DevicePast) (failures : D → ℕ) (g :
       }
 
     -- it was left as it was opened, or its build was carried to its end
-    pub behind : (build : Bool) (after : EngineParts D M) → (build ≡ false → after ≡ engine) → (build ≡ true → EndsBuild past_of engine after)
+    pub behind : (build : Bool) (after : EngineParts D M) (why : Option Error) → (build ≡ false → after ≡ engine)
+        → (build ≡ true → EndsBuild past_of why engine after)
         → (build ≡ true → BuildsWhole (core_of engine) (core_of after)) → HasLived failures g began days answers build after
-    behind false after same ends builds = subst (λ (e : EngineParts D M). HasLived failures g began days answers false e) (sym (same refl)) held
-    behind true after same ends builds = built after (ends refl) (builds refl come none_active)
+    behind false after why same ends builds = subst (λ (e : EngineParts D M). HasLived failures g began days answers false e) (sym (same refl)) held
+    behind true after why same ends builds = built after why (ends refl) (builds refl come none_active)
 
     -- its build was refused, or wasn't
-    pub unbuilt : (build : Bool) (after : EngineParts D M) (why : Option Error) → (build ≡ true → EndsBuild past_of engine after)
+    pub unbuilt : (build : Bool) (after : EngineParts D M) (why : Option Error) → (build ≡ true → EndsBuild past_of why engine after)
         → IfSome why (λ e. build ≡ true)
         → IfSome why (λ e. HasCome (core_of engine) → WhyUnbuilt e (core_of engine) (core_of after))
         → IfSome why (λ e. (build ≡ true) × IsUnbuilt failures g began days answers e after)
     unbuilt build after None ends wanted refused = tt
     unbuilt build after (Some e) ends wanted refused =
-        let ended : EndsBuild past_of engine after = ends wanted in
+        let ended : EndsBuild past_of (Some e) engine after = ends wanted in
         let because : WhyUnbuilt e (core_of engine) (core_of after) = refused come in (
           wanted,
           record {
             opened = engine;
             lived = held;
-            refused = record { rows = because.rows; quiet = quiet after ended; unfinished = because.unfinished; why = because.why };
-            failed = unfailed after ended;
+            replies = ended.replies;
+            built = ended.each;
+            ends = ended.refused;
+            refused = record { rows = because.rows; quiet = quiet after (Some e) ended; unfinished = because.unfinished; why = because.why };
+            failed = unfailed after (Some e) ended;
           },
         )
 
@@ -165,10 +186,13 @@ err_at P Q (Err e) less is = less e is
 -- ---- a device that was large enough
 
 -- a want of memory or a failure isn't a want of sectors
-pub not_small : {D M : Type 0} (failures : D → ℕ) (g : GeometryValue) (began : AtRest) (days : List (Day M)) (e : Error) (after : D)
-    → IsNotReopened failures g began days e after → e ≡ DeviceTooSmall → ⊥
-not_small failures g began days e after (inl memory) small = cc
-not_small failures g began days e after (inr failed) small = let it = failed.0 in cc
+unopened_small : (e : Error) (before now : ℕ) → IsUnopened e before now → e ≡ DeviceTooSmall → ⊥
+unopened_small e before now (inl memory) small = let it = memory.0 in cc
+unopened_small e before now (inr failed) small = let it = failed.0 in cc
+
+pub not_small : {D M : Type 0} (failures : D → ℕ) (g : GeometryValue) (began : AtRest) (days : List (Day M)) (answers : List (Answer M)) (e : Error)
+    (now : ℕ) → IsNotReopened failures g began days answers e now → e ≡ DeviceTooSmall → ⊥
+not_small failures g began days answers e now is = unopened_small e is.store.failed now is.why
 
 -- the formatting has told, and nothing else says so
 module _ {U : Type 0} (sectors all : ℕ) (formatting : Result U Error) (told : (formatting ≡ Err DeviceTooSmall) ↔ (sectors < all)) (u : U)

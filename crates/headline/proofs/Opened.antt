@@ -1,25 +1,31 @@
 -- What is opened behind a crash of what threads left.
-use Rattle.std.proofs.Common.{◌≡◌, ◌⊎◌, ⊎_elim, inl, inr, ℕ, ◌≤◌, ◌+◌, All, List, ap, ◌∙◌, arith}
-use Rattle.std.proofs.Math.Logic.{∥∥₁_elim, ∥∥₁_map}
+use Rattle.std.proofs.Common.{◌≡◌, ◌⊎◌, ⊎_elim, inl, inr, ℕ, ◌≤◌, ◌+◌, ◌++◌, All, List, length, take, sym, ap, subst, ◌∙◌, arith, length-take}
+use Rattle.std.proofs.Math.Logic.{∥∥₁_elim, ∥∥₁_map, ∥∥₁_prop}
 use Rattle.std.proofs.lemmas.List.Elements.{All-weaker}
 use Rattle.record_values.specs.GeometryValue.{GeometryValue}
 use Rattle.records.specs.RecordValue.{RecordValue}
 use Rattle.record_values.specs.declared.error.Error.{Error}
 use Rattle.record_values.specs.declared.error.Error.TheVariants.{DeviceFailed, NoMemory}
-use Rattle.model.specs.Given.{Given}
-use Rattle.core_model.specs.Histories.{Opened}
+use Rattle.model.specs.Given.{Given, given_after}
+use Rattle.core_model.specs.Histories.{CanOpen, Opened}
+use Rattle.core_model.proofs.ReplyLaws.{served_recovers}
 use Rattle.core_parts.specs.View.{CoreValue}
 use Rattle.sector_device.specs.Disk.{CrashState, IsCrashState}
 use Rattle.sector_device.specs.DevicePast.{DevicePast}
 use Rattle.sector_device.proofs.Sectors.{content_is_image}
 use Rattle.store_reader.specs.Contents.{Gives, IsUnreadable}
 use Rattle.shared.specs.Seats.{AckValue, SeatValue}
-use Rattle.threads_lifetime.specs.Closing.{GivesSome}
+use Rattle.model.specs.Table.{Table}
+use Rattle.threads_sessions.specs.Values.{CommitValue}
+use Rattle.threads_lifetime.specs.Closing.{GivesAll, GivesSome, table_with, up_to}
+use Rattle.threads_lifetime.specs.Gathered.{AreCommitsOf}
 use Rattle.restart.specs.declared.parts.EngineParts.{EngineParts}
 use Rattle.restart.specs.Parts.{core_of}
 use Rattle.restart.specs.Reopening.{IsNotOpened, IsOpened}
+use Rattle.headline.specs.Fitting.{IsIndexOf}
 use Rattle.headline.specs.Stops.{IsFoundAs}
-use Rattle.headline.specs.Seats.{HoldsSeats}
+use Rattle.headline.specs.Seats.{GivesAllSeats, HoldsAllSeats, HoldsSeats}
+use Rattle.headline.proofs.Quiet.{index_over}
 
 module _ {D : Type 0} (past_of : D → DevicePast) (o : Opened) (g : GeometryValue) (seats : List SeatValue) (popped : List RecordValue) (floor : ℕ)
     (old found : D)
@@ -29,23 +35,66 @@ module _ {D : Type 0} (past_of : D → DevicePast) (o : Opened) (g : GeometryVal
   now : ∥ GivesSome o g seats popped floor (past_of found).disk.content ∥₁
   now = some (past_of found).disk.content (found-as.left (past_of found).disk.content (content_is_image (past_of found).disk (past_of found).whole))
 
-  pub held : {A : Type 0} (one : (image : CrashState) (g h : GeometryValue) (x y : Given) → Gives image g x → Gives image h y → x ≡ y) (acks : List AckValue)
-      → All (λ (a : AckValue). a.ticket.«record» ≤ floor) acks
-      → (engine : EngineParts D A) → IsOpened past_of found engine → ∥ HoldsSeats o.given.table seats acks (core_of engine) ∥₁
-  held one acks low engine is = ∥∥₁_map now by
-    where
-      by : GivesSome o g seats popped floor (past_of found).disk.content → HoldsSeats o.given.table seats acks (core_of engine)
-      by left =
-          let number : ℕ = o.given.last + left.count in
-          let same = one (past_of found).disk.content is.geometry g is.given _ is.gives left.gives in
-          record {
-            commits = left.commits;
-            of-seats = left.all;
-            number = number;
-            safe = All-weaker (λ (a : AckValue). a.ticket.«record» ≤ floor) (λ (a : AckValue). a.ticket.«record» ≤ number) (λ a below.
-                omega (arith, below, left.least)) acks low;
-            rows = ap (λ (v : CoreValue). v.heap.rows) is.core ∙ ap (λ (x : Given). x.table) same ∙ left.table;
-          }
+  module _ (size : (image : CrashState) (g h : GeometryValue) (x y : Given) → Gives image g x → Gives image h y → g ≡ h)
+      (one : (image : CrashState) (g h : GeometryValue) (x y : Given) → Gives image g x → Gives image h y → x ≡ y)
+      (acks : List AckValue) (low : All (λ (a : AckValue). a.ticket.«record» ≤ floor) acks) {A : Type 0} (engine : EngineParts D A)
+      (is : IsOpened past_of found engine) (left : GivesSome o g seats popped floor (past_of found).disk.content) where
+    abbrev core : CoreValue
+    core = core_of engine
+
+    abbrev records : List RecordValue
+    records = left.pushed ++ left.core.outbox
+
+    abbrev given : Given
+    given = given_after o.given (take left.count records)
+
+    same : is.given ≡ given
+    same = one (past_of found).disk.content is.geometry g is.given given is.gives left.gives
+
+    same_size : is.geometry ≡ g
+    same_size = size (past_of found).disk.content is.geometry g is.given given is.gives left.gives
+
+    can : CanOpen (record o { given = given })
+    can =
+        let so = left.shared.register.kept.replied in
+        (served_recovers o left.shared.opens records left.shared.register.kept.calls so.state so.standing so.served left.count left.most).1
+
+    last : core.last ≡ o.given.last + left.count
+    last =
+        let of_given : core.last ≡ o.given.last + length (take left.count records) =
+        ap (λ (v : CoreValue). v.last) is.core ∙ ap (λ (x : Given). x.last) same in
+        omega (arith, of_given, length-take left.count records, left.most)
+
+    rows : core.heap.rows ≡ table_with o.given.table (up_to core.last left.commits)
+    rows =
+        ap (λ (v : CoreValue). v.heap.rows) is.core ∙ ap (λ (x : Given). x.table) same ∙ left.table
+        ∙ ap (λ (n : ℕ). table_with o.given.table (up_to n left.commits)) (sym last)
+
+    index : IsIndexOf core.heap.rows core.life core.index.entries
+    index = subst (λ (v : CoreValue). IsIndexOf v.heap.rows v.life v.index.entries) (sym is.core)
+        (subst (λ (x : Given). IsIndexOf x.table x.life x.entries) (sym same) (index_over (record o { given = given }) can))
+
+    held_so : HoldsSeats o.given.table g seats floor acks core
+    held_so = record {
+      commits = left.commits;
+      of-seats = left.all;
+      rows = rows;
+      kept = omega (arith, left.least, last);
+      safe = All-weaker (λ (a : AckValue). a.ticket.«record» ≤ floor) (λ (a : AckValue). a.ticket.«record» ≤ core.last) (λ a below.
+          omega (arith, below, left.least, last)) acks low;
+      index = index;
+      quiet = record {
+        active = ap (λ (v : CoreValue). v.txns.active) is.core;
+        pages = ap (λ (v : CoreValue). v.heap.pages) is.core ∙ ap (λ (x : GeometryValue). x.pages) same_size;
+        places = ap (λ (v : CoreValue). v.index.capacity) is.core ∙ ap (λ (x : GeometryValue). x.entries) same_size;
+      };
+    }
+
+  pub held : (size : (image : CrashState) (g h : GeometryValue) (x y : Given) → Gives image g x → Gives image h y → g ≡ h)
+      → (one : (image : CrashState) (g h : GeometryValue) (x y : Given) → Gives image g x → Gives image h y → x ≡ y)
+      → (acks : List AckValue) → All (λ (a : AckValue). a.ticket.«record» ≤ floor) acks → {A : Type 0} (engine : EngineParts D A)
+      → IsOpened past_of found engine → ∥ HoldsSeats o.given.table g seats floor acks (core_of engine) ∥₁
+  held size one acks low engine is = ∥∥₁_map now (held_so size one acks low engine is)
 
   pub refused_so : (readable : (image : CrashState) (g : GeometryValue) (given : Given) (e : Error) → Gives image g given
       → ¬ IsUnreadable image e) (failures : D
@@ -56,3 +105,26 @@ module _ {D : Type 0} (past_of : D → DevicePast) (o : Opened) (g : GeometryVal
       (λ unreadable. absurd (∥∥₁_elim now (λ (a b : ⊥). absurd a) (λ (left : GivesSome o g seats popped floor (past_of found).disk.content).
       readable (past_of found).disk.content g _ e left.gives unreadable)))
       not.why
+
+-- ---- all was written
+
+pub all_given : (o : Opened) (g : GeometryValue) (seats : List SeatValue) (core : CoreValue) (commits : List CommitValue)
+    → ∥ AreCommitsOf seats commits ∥₁ → (image : CrashState) → ∥ GivesAll o g core commits image ∥₁ → ∥ GivesAllSeats o.given.table g seats image ∥₁
+all_given o g seats core commits of-seats image gives =
+    ∥∥₁_elim of-seats ∥∥₁_prop (λ (are : AreCommitsOf seats commits). ∥∥₁_map gives (λ (left : GivesAll o g core commits image).
+    record { given = left.given; gives = left.gives; commits = commits; of-seats = are; table = left.table }))
+
+module _ {D : Type 0} (past_of : D → DevicePast) (opened : Table) (g : GeometryValue) (seats : List SeatValue) (old found : D)
+    (found-as : IsFoundAs (past_of old).disk (past_of found))
+    (all : (image : CrashState) → IsCrashState (past_of old).disk image → ∥ GivesAllSeats opened g seats image ∥₁) where
+  pub held_all : (one : (image : CrashState) (g h : GeometryValue) (x y : Given) → Gives image g x → Gives image h y → x ≡ y) → {A : Type 0}
+      (engine : EngineParts D A) → IsOpened past_of found engine → ∥ HoldsAllSeats opened seats (core_of engine) ∥₁
+  held_all one engine is =
+      ∥∥₁_map (all (past_of found).disk.content (found-as.left (past_of found).disk.content (content_is_image (past_of found).disk (past_of found).whole)))
+      (λ (left : GivesAllSeats opened g seats (past_of found).disk.content).
+      let same : is.given ≡ left.given = one (past_of found).disk.content is.geometry g is.given left.given is.gives left.gives in
+      record {
+        commits = left.commits;
+        of-seats = left.of-seats;
+        rows = ap (λ (v : CoreValue). v.heap.rows) is.core ∙ ap (λ (x : Given). x.table) same ∙ left.table;
+      })

@@ -11,7 +11,7 @@ use Rattle.model.specs.declared.life.Life.{Life}
 use Rattle.model.specs.declared.life.Life.TheVariants.{Absent, Building, Complete}
 use Rattle.core_model.specs.Events as core
 use Rattle.core_model.specs.Events.{Standing, after_build, standing_after, standing_at}
-use Rattle.core_model.specs.Histories.{CanOpen, IsCovered, highest_of}
+use Rattle.core_model.specs.Histories.{CanOpen, IsCovered, Opened, highest_of}
 use Rattle.core_model.specs.Replies.{IsAllowed, accepted, no_memory, refused, refused_last, skipped, unknown}
 use Rattle.core_model.specs.Served.{ServesAll, nothing, served}
 use Rattle.core_model.specs.States.{State}
@@ -35,15 +35,19 @@ covered (Building None) pair built = absurd built
 covered (Building (Some highest)) pair built = built
 covered Complete pair built = tt
 
-pub index_of : (g : GeometryValue) (given : Given) → CanOpen (over g given) → IsIndexOf given.table given.life given.entries
-index_of g given opens = record { sound = opens.sound; whole = shown; gone = opens.empty }
+pub index_over : (o : Opened) → CanOpen o → IsIndexOf o.given.table o.given.life o.given.entries
+index_over o opens = record { sound = opens.sound; whole = shown; gone = opens.empty }
   where
-    shown : (pair : Pair) → IsBuiltTo given.life pair → IsPairOf given.table pair → map.get given.entries pair ≡ Some Live
+    shown : (pair : Pair) → IsBuiltTo o.given.life pair → IsPairOf o.given.table pair → map.get o.given.entries pair ≡ Some Live
     shown pair built is =
         let of_row : Pair = record { key = is.row.key; rid = pair.rid } in
         let same : of_row ≡ pair = ap (λ (key : List ℕ). let p : Pair = record { key = key; rid = pair.rid } in p) is.has_key in
-        subst (λ (p : Pair). map.get given.entries p ≡ Some Live) same
-        (opens.complete pair.rid is.row is.is_there (subst (IsCovered given.life (highest_of given.life)) (sym same) (covered given.life pair built)))
+        subst (λ (p : Pair). map.get o.given.entries p ≡ Some Live) same
+        (opens.complete pair.rid is.row is.is_there
+        (subst (IsCovered o.given.life (highest_of o.given.life)) (sym same) (covered o.given.life pair built)))
+
+pub index_of : (g : GeometryValue) (given : Given) → CanOpen (over g given) → IsIndexOf given.table given.life given.entries
+index_of g given opens = index_over (over g given) opens
 
 -- ---- an engine that served nothing
 

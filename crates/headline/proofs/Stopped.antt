@@ -1,16 +1,15 @@
 -- What a device keeps of a store's days, as one day more goes by.
-use Rattle.std.proofs.Common.{◌≡◌, ◌⊎◌, ⊎_elim, inl, inr, ℕ, ◌+◌, ◌<◌, ◌≤◌, List, [], ◌∷◌, ◌++◌, Ok, Err, length, get_or, take, sym, refl, ap, subst, ◌∙◌}
+use Rattle.std.proofs.Common.{◌≡◌, ⊎_elim, inl, inr, ℕ, ◌+◌, ◌<◌, ◌≤◌, List, [], ◌∷◌, ◌++◌, Ok, Err, length, get_or, take, sym, refl, ap, subst, ◌∙◌}
 use Rattle.std.proofs.lemmas.List.{take_more}
 use Rattle.std.specs.declared.vec.Vec.{Vec}
 use Rattle.record_values.specs.GeometryValue.{GeometryValue}
 use Rattle.record_values.specs.declared.error.Error.{Error}
-use Rattle.record_values.specs.declared.error.Error.TheVariants.{NoMemory, DeviceFailed}
 use Rattle.gate_log.specs.Area.{Refuses}
 use Rattle.model.specs.Given.{Given}
 use Rattle.core_model.specs.Histories.{CanOpen}
 use Rattle.core_loader.specs.Loaded.{holding}
 use Rattle.sector_device.specs.Disk.{CrashState, IsCrashState}
-use Rattle.sector_device.specs.DevicePast.{DevicePast, LeavesOnly, Rises}
+use Rattle.sector_device.specs.DevicePast.{DevicePast, LeavesOnly}
 use Rattle.sector_device.proofs.Moments.{weaker}
 use Rattle.sector_device.proofs.Sectors.{content_is_image}
 use Rattle.store_opener.specs.Reopening.{ReopeningLeaves, IsWrittenBack}
@@ -22,7 +21,7 @@ use Rattle.restart.specs.Parts.{device_of}
 use Rattle.restart.specs.Reopening.{IsNotOpened, IsTurned, opening}
 use Rattle.restart.specs.Store.{IsAt, Survives, and_then, over}
 use Rattle.headline.specs.declared.day.Day.{Day}
-use Rattle.headline.specs.Days.{Answer, AreDays, IsDay, seen}
+use Rattle.headline.specs.Days.{Answer, AreDays, IsDay, IsUnopened, seen}
 use Rattle.headline.specs.Kept.{GivesDays, IsBegun, KeepsDays}
 use Rattle.headline.specs.AtRest.{AtRest, resting}
 use Rattle.headline.specs.Lawful.{IsOpenedOver}
@@ -63,9 +62,15 @@ module _ {D M : Type 0} (past_of : D → DevicePast) (failures : D → ℕ) (g :
             opens = now_gives.opens;
           })
 
-  pub refused_so : Images → (after : D) (e : Error) → IsNotOpened past_of failures before after e → Refuses (failures before) (failures after) e
+  refused_so : Images → (after : D) (e : Error) → IsNotOpened past_of failures before after e → Refuses (failures before) (failures after) e
   refused_so images after e not = ⊎_elim (λ refuses. refuses)
       (λ unreadable. absurd (images.readable (past_of before).disk.content g now_gives.given e now_gives.gives unreadable)) not.why
+
+  pub why_unopened : Images → (after : D) (e : Error) → IsNotOpened past_of failures before after e → IsUnopened e (failures before) (failures after)
+  why_unopened images after e not = ⊎_elim
+      (λ memory. inl (memory, not.told (λ failed. let both = sym memory ∙ failed in cc)))
+      (λ failed. inr failed)
+      (refused_so images after e not)
 
   module _ (images : Images) (engine : EngineParts D M) (is : IsBegun past_of failures before engine) where
     size : is.opened.geometry ≡ g
@@ -86,6 +91,7 @@ module _ {D M : Type 0} (past_of : D → DevicePast) (failures : D → ℕ) (g :
       given = now_gives.given;
       rows = refl;
       life = refl;
+      last = refl;
       opens = now_gives.opens;
       core =
           is.opened.core ∙ ap (λ (x : GeometryValue). holding x is.opened.given) size ∙ ap (λ (x : Given). holding g x) same;
@@ -133,10 +139,10 @@ module _ {D M : Type 0} (past_of : D → DevicePast) (failures : D → ℕ) (g :
   -- nothing was served, for want of memory, or since the device failed
   pub passed : (today : Day M) (e : Error) (after found : D)
       → LeavesOnly (past_of before) (past_of after) (GivesDays failures g began days answers (failures before))
-      → ((e ≡ NoMemory) × (failures found ≡ failures before)) ⊎ ((e ≡ DeviceFailed) × Rises (failures before) (failures found))
+      → IsUnopened e (failures before) (failures found)
       → HasStopped (past_of before).moment (past_of after) (past_of found)
       → KeepsDays past_of failures g began (days ++ today ∷ []) (answers ++ Err e ∷ []) found
-  passed today e after found leaves why = unserved today (Err e) after found leaves (λ given. record { rows = refl; life = refl; why = why })
+  passed today e after found leaves why = unserved today (Err e) after found leaves (λ given. record { rows = refl; life = refl; last = refl; why = why })
 
   -- the store wasn't opened, and the device stopped within that
   pub unopened : Images → GivesBack → (today : Day M) (e : Error) (after found : D) → IsNotOpened past_of failures before after e
@@ -145,9 +151,7 @@ module _ {D M : Type 0} (past_of : D → DevicePast) (failures : D → ℕ) (g :
       → KeepsDays past_of failures g began (days ++ today ∷ []) (answers ++ Err e ∷ []) found
   unopened images back today e after found not count stop =
       passed today e after found (between back after not.device)
-      (⊎_elim (λ memory. inl (memory, count ∙ not.told (λ failed. let both = sym memory ∙ failed in cc)))
-      (λ failed. inr (failed.0, subst (Rises (failures before)) (sym count) failed.1))
-      (refused_so images after e not))
+      (subst (IsUnopened e (failures before)) (sym count) (why_unopened images after e not))
       (stop not.device.images.later)
 
   -- ---- a day that is served
@@ -156,17 +160,18 @@ module _ {D M : Type 0} (past_of : D → DevicePast) (failures : D → ℕ) (g :
       (replies : Vec (Reply M) M) (after : EngineParts D M)
       (at : IsAt past_of (and_then (opening g now_gives.given) today.requests.items replies.items) after)
       (lawful : AreLawful failures today.requests.items replies.items engine after) where
-    pub survived : (floor failed : ℕ) (image : CrashState) → acknowledged (seen today.within replies.items) ≤ floor → failed ≡ failures (device_of after)
+    pub survived : (floor failed : ℕ) (image : CrashState) → acknowledged (seen today.within replies.items) ≤ floor → now_gives.given.last ≤ floor
+        → failed ≡ failures (device_of after)
         → Survives (and_then (opening g now_gives.given) today.requests.items replies.items) floor image
         → GivesDays failures g began (days ++ today ∷ []) (answers ++ Ok replies ∷ []) failed image
-    survived floor failed image safe count left = record {
+    survived floor failed image safe later count left = record {
       given = left.given;
       gives = left.gives;
       days-are = subst (λ (n : ℕ). AreDays failures g began (days ++ today ∷ []) (answers ++ Ok replies ∷ []) (resting left.given n)) (sym count)
           (day_last failures g began days answers (resting now_gives.given (failures before)) (resting left.given (failures (device_of after))) today
           (Ok replies) now_gives.days-are
           (inl (served_day past_of failures g now_gives.given (failures before) today replies.items engine after (opened_over images engine is) lawful rise at
-          floor image left safe)));
+          floor image left safe later)));
       opens = left.opens;
     }
 

@@ -102,6 +102,11 @@ module _ {D M : Type 0} (past_of : D → DevicePast) (failures : D → ℕ) (g :
             let told : run.acknowledged given.last w.first ≤ horizon_of w.mid = mid.safe in
             omega (arith, ap acknowledged first, (safe_both given.last w.first).1, told)
 
+        later : given.last ≤ horizon_of w.mid
+        later =
+            let told : run.acknowledged given.last w.first ≤ horizon_of w.mid = mid.safe in
+            omega (arith, (safe_both given.last w.first).0, told)
+
         last_request : KeepsDays past_of failures g began (days ++ today ∷ []) (answers ++ Ok replies ∷ []) found
         last_request =
             stopped past_of failures g began days answers before keeps today (Ok replies) (past_of (device_of w.mid)).moment (device_of after) found
@@ -110,7 +115,7 @@ module _ {D M : Type 0} (past_of : D → DevicePast) (failures : D → ℕ) (g :
             (moved (λ es rs. IsAt past_of (and_then (opening g given) es rs) after) serves.0)
             (moved (λ es rs. AreLawful failures es rs engine after)
             (lawful_more failures events w.first last w.reply engine w.mid after w.lawful w.lawful_last))
-            (horizon_of w.mid) (failures found) image safe count
+            (horizon_of w.mid) (failures found) image safe later count
             (moved (λ es rs. Survives (and_then (opening g given) es rs) (horizon_of w.mid) image) (serves.1.each t image from to crash)))
             (stop (past_of (device_of w.mid)).moment w.marked serves.1.later)
 
@@ -130,11 +135,12 @@ module _ {D M : Type 0} (past_of : D → DevicePast) (failures : D → ℕ) (g :
         let told : run.acknowledged given.last replies.items ≤ horizon_of after = new.safe in
         let safe : acknowledged (seen today.within replies.items) ≤ horizon_of after =
         omega (arith, ap acknowledged (seen_behind today.within replies.items so), (safe_both given.last replies.items).1, told) in
+        let later : given.last ≤ horizon_of after = omega (arith, (safe_both given.last replies.items).0, told) in
         record {
           anew = stop.anew;
           each = λ image crash.
               survived past_of failures g began days answers before keeps images rise today engine is replies after new lawful (horizon_of after)
-              (failures found) image safe count (whole (opening g given) at image (stop.left image crash));
+              (failures found) image safe later count (whole (opening g given) at image (stop.left image crash));
         }
 
     pub ended_behind : (answer : Answer M) → IfOk answer (λ replies. KeepsWholeRun past_of today.requests.items replies.items engine after)

@@ -1,6 +1,6 @@
 -- The days of a store, from one stop to the next: what was asked and answered in each, and what was kept of it.
 use Rattle.std.specs.List.{All}
-use Rattle.std.specs.Prelude.{◌≡◌, ◌⊎◌, Bool, true, false, ◌<◌, ◌-◌, ℕ, List, [], ◌∷◌, ◌++◌, length, take}
+use Rattle.std.specs.Prelude.{◌≡◌, ◌⊎◌, Bool, true, false, ◌<◌, ◌≤◌, ◌-◌, ℕ, List, [], ◌∷◌, ◌++◌, length, take}
 use Rattle.std.specs.Prelude.{Result, Ok, Err}
 use Rattle.std.specs.declared.vec.Vec.{Vec}
 use Rattle.record_values.specs.GeometryValue.{GeometryValue}
@@ -10,6 +10,7 @@ use Rattle.model.specs.History.{Item, life_after, table_after}
 use Rattle.core_model.specs.Histories.{no_writes}
 use Rattle.sector_device.specs.DevicePast.{Rises}
 use Rattle.restart.specs.declared.event.Reply.{Reply}
+use Rattle.restart.specs.Parts.{core_of}
 use Rattle.headline.specs.declared.day.Day.{Day}
 use Rattle.headline.specs.AtRest.{AtRest}
 use Rattle.headline.specs.Lawful.{AnswersLawfully}
@@ -24,15 +25,20 @@ abbrev pub seen : {M : Type 0} → (within : Bool) → List (Reply M) → List (
 seen false replies = replies
 seen true replies = take (length replies - 1) replies
 
--- The day was served, and each request had a lawful reply. Of what the replies tell these items were kept: the first
--- ones, with each that was acknowledged before the store stopped.
+-- The day was served, and each request had a lawful reply. Records were kept up to a last one, which the day began with
+-- or made. Each that was acknowledged before the store stopped is among them. Of what the replies tell, just the items
+-- up to that record were kept.
 pub record IsServed {D M : Type 0} (failures : D → ℕ) (geometry : GeometryValue) (old : AtRest) (day : Day M)
     (replies : List (Reply M)) (new : AtRest) : Type 0 where
   pub lawful : AnswersLawfully failures geometry old day.requests.items replies new.failed
   pub kept : List Item
   pub lost : List Item
   pub told : told_over no_writes day.requests.items replies ≡ kept ++ lost
-  pub safe : All (λ (item : Item). acknowledged (seen day.within replies) < item.number) lost
+  pub before : All (λ (item : Item). item.number ≤ new.last) kept
+  pub behind : All (λ (item : Item). new.last < item.number) lost
+  pub safe : acknowledged (seen day.within replies) ≤ new.last
+  pub later : old.last ≤ new.last
+  pub made : new.last ≤ (core_of lawful.closed).last
   pub rows : new.rows ≡ table_after old.rows kept
   pub life : new.life ≡ life_after old.life kept
 
@@ -43,11 +49,16 @@ pub record IsIdle {M : Type 0} (old : AtRest) (day : Day M) (replies : List (Rep
   pub silent : replies ≡ []
   pub same : new ≡ old
 
--- The day passed, and nothing was served: for want of memory, or since a call of the device failed.
+-- why a store wasn't opened: there was no memory, or a call of the device failed
+abbrev pub IsUnopened : Error → (before now : ℕ) → Type 0
+IsUnopened e before now = ((e ≡ NoMemory) × (now ≡ before)) ⊎ ((e ≡ DeviceFailed) × Rises before now)
+
+-- The day passed, and nothing was served.
 pub record IsPassed (old : AtRest) (e : Error) (new : AtRest) : Type 0 where
   pub rows : new.rows ≡ old.rows
   pub life : new.life ≡ old.life
-  pub why : ((e ≡ NoMemory) × (new.failed ≡ old.failed)) ⊎ ((e ≡ DeviceFailed) × Rises old.failed new.failed)
+  pub last : new.last ≡ old.last
+  pub why : IsUnopened e old.failed new.failed
 
 -- what a day with this answer made of the store
 abbrev pub IsDay : {D M : Type 0} → (D → ℕ) → GeometryValue → AtRest → Day M → Answer M → AtRest → Type 0

@@ -1,5 +1,5 @@
 -- What a device keeps of a store's days. (No public clause cites these.)
-use Rattle.std.specs.Prelude.{◌≡◌, ◌≢◌, ◌⊎◌, ◌≤◌, ℕ, List, [], ◌∷◌, ◌++◌, Ok, Err}
+use Rattle.std.specs.Prelude.{◌≡◌, ◌≢◌, ◌⊎◌, ◌≤◌, ℕ, List, [], ◌∷◌, ◌++◌, Ok, Err, Option, IfSome}
 use Rattle.record_values.specs.GeometryValue.{GeometryValue}
 use Rattle.record_values.specs.declared.error.Error.{Error}
 use Rattle.record_values.specs.declared.error.Error.TheVariants.{Exhausted, IndexFull, NoIndex, NoMemory}
@@ -13,8 +13,9 @@ use Rattle.core_parts.specs.View.{CoreValue}
 use Rattle.store_reader.specs.Contents.{Gives}
 use Rattle.restart.specs.declared.event.Event.{Event}
 use Rattle.restart.specs.declared.event.Reply.{Reply}
+use Rattle.restart.specs.declared.event.Reply.TheVariants.{Refused}
 use Rattle.restart.specs.declared.parts.EngineParts.{EngineParts}
-use Rattle.restart.specs.Building.{AreBuilt, IsIndexFull, builds}
+use Rattle.restart.specs.Building.{AreBuilt, EndsWith, IsIndexFull, builds}
 use Rattle.restart.specs.Lawful.{AreLawful, IsLawful}
 use Rattle.restart.specs.Parts.{device_of}
 use Rattle.restart.specs.Reopening.{IsEmptied, IsOpened}
@@ -76,10 +77,12 @@ IsServedWithin past_of failures marks opening requests (Ok replies) mark old new
 IsServedWithin past_of failures marks opening requests (Err e) mark old new = (e ≡ NoMemory) × (mark ≡ opening)
     × (new ≡ old)
 
--- the builder made these steps, with which any run goes on
-pub record EndsBuild {D M : Type 0} (past_of : D → DevicePast) (old new : EngineParts D M) : Type 0 where
+-- The builder made these steps, with which any run goes on; where the build was refused, the last of them was.
+pub record EndsBuild {D M : Type 0} (past_of : D → DevicePast) (refusal : Option Error)
+    (old new : EngineParts D M) : Type 0 where
   pub replies : List (Reply M)
   pub each : AreBuilt replies old new
+  pub refused : IfSome refusal (λ e. EndsWith (Refused e) replies)
   pub at : (past : Past M) → IsAt past_of past old → IsAt past_of (and_then past (builds replies) replies) new
 
 -- why a build was refused

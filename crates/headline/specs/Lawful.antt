@@ -15,13 +15,14 @@ use Rattle.restart.specs.Store.{over}
 use Rattle.headline.specs.AtRest.{AtRest}
 
 -- The engine was opened over the store at rest. Its core begins with the rows, an index that fits them, and no
--- transaction. All records are synced, the log is empty, no image is under way, and no call of the device has failed in
--- the opening.
+-- transaction; its records go on behind the last one that was kept. All records are synced, the log is empty, no image
+-- is under way, and no call of the device has failed in the opening.
 pub record IsOpenedOver {D M : Type 0} (failures : D → ℕ) (geometry : GeometryValue) (store : AtRest)
     (engine : EngineParts D M) : Type 0 where
   pub given : Given
   pub rows : given.table ≡ store.rows
   pub life : given.life ≡ store.life
+  pub last : given.last ≡ store.last
   pub opens : CanOpen (over geometry given)
   pub core : core_of engine ≡ holding geometry given
   pub horizon : horizon_of engine ≡ given.last

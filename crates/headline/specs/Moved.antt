@@ -1,5 +1,5 @@
 -- What a store holds, behind the days since it was moved from an older device.
-use Rattle.std.specs.Prelude.{◌≡◌, ◌≢◌, ◌⊎◌, ◌<◌, Bool, true, ℕ, List, length, None, Option, IfSome}
+use Rattle.std.specs.Prelude.{◌≡◌, ◌≢◌, ◌⊎◌, ◌<◌, Bool, true, ℕ, List, [], length, None, Option, IfSome}
 use Rattle.record_values.specs.GeometryValue.{GeometryValue, sectors_of}
 use Rattle.record_values.specs.declared.error.Error.{Error}
 use Rattle.record_values.specs.declared.error.Error.TheVariants.{DeviceFailed, DeviceTooSmall}
@@ -16,7 +16,7 @@ use Rattle.restart.specs.Migrating.{IsOldRefused}
 use Rattle.restart.specs.Store.{over}
 use Rattle.headline.specs.declared.day.Day.{Day}
 use Rattle.headline.specs.Days.{Answer}
-use Rattle.headline.specs.Held.{HasFailed, HasLived, IsUnbuilt}
+use Rattle.headline.specs.Held.{HasLived, IsNotReopened, IsUnbuilt}
 use Rattle.headline.specs.AtRest.{resting}
 
 -- The old device gives something by version 1. Where a core may begin with that, the store began with it, and the
@@ -31,24 +31,34 @@ pub record HoldsMoved {D M : Type 0} (failures : D → ℕ) (old : CrashState) (
   pub refused : CanOpen (over geometry given) → IfSome unbuilt (λ e. (built ≡ true)
       × IsUnbuilt failures geometry (resting given failed) days answers e engine)
 
--- The old device gives something by version 1. The new one has too few sectors for it; or, where a core may begin with
--- that, a call of the new one failed, in the move or in the last opening.
-pub record IsNewNotLived {D M : Type 0} (failures : D → ℕ) (old new : CrashState) (failed : ℕ) (days : List (Day M))
-    (e : Error) (device : D) : Type 0 where
+-- The old device gives something by version 1. The new one has too few sectors for it, and is as it was; or, where a
+-- core may begin with that, a call of the new one failed, in the move or in the last opening.
+pub record IsNewNotLived {D M : Type 0} (failures : D → ℕ) (old new : CrashState) (before : D) (days : List (Day M))
+    (answers : List (Answer M)) (e : Error) (device : D) : Type 0 where
   pub geometry : GeometryValue
   pub given : Given
   pub gave : GivesIn One old geometry given
-  pub why : ((e ≡ DeviceTooSmall) × (length new < sectors_of geometry))
+  pub why : ((e ≡ DeviceTooSmall) × (length new < sectors_of geometry) × (answers ≡ []) × (device ≡ before))
       ⊎ (CanOpen (over geometry given) → (e ≡ DeviceFailed)
-      × HasFailed failures geometry (resting given failed) days (failures device))
+      × IsNotReopened failures geometry (resting given (failures before)) days answers e (failures device))
+
+-- There was no memory: in the move, and the new device is as it was; or, where a core may begin with what the old one
+-- gives, in the last opening.
+abbrev pub IsMemoryNotLived : {D M : Type 0} → (D → ℕ) → (old : CrashState) → (before : D) → List (Day M)
+    → List (Answer M) → D → Type 0
+IsMemoryNotLived failures old before days answers device = ((answers ≡ []) × (device ≡ before))
+    ⊎ ((geometry : GeometryValue) × (given : Given) × GivesIn One old geometry given × (CanOpen (over geometry given)
+    → IsNotReopened failures geometry (resting given (failures before)) days answers errors.NoMemory (failures device)))
 
 -- why a store wasn't moved, or not opened behind its days
-abbrev pub IsNotLived : {D M : Type 0} → (D → ℕ) → (old new : CrashState) → (old_before old_after failed : ℕ)
-    → List (Day M) → MigrateError → D → Type 0
-IsNotLived failures old new old_before old_after failed days (Old e) device = IsOldRefused old old_before old_after e
-IsNotLived failures old new old_before old_after failed days (New e) device =
-    IsNewNotLived failures old new failed days e device
-IsNotLived failures old new old_before old_after failed days NoMemory device = Unit {0}
+abbrev pub IsNotLived : {D M : Type 0} → (D → ℕ) → (old new : CrashState) → (old_before old_after : ℕ) → (before : D)
+    → List (Day M) → List (Answer M) → MigrateError → D → Type 0
+IsNotLived failures old new old_before old_after before days answers (Old e) device =
+    IsOldRefused old old_before old_after e × (answers ≡ []) × (device ≡ before)
+IsNotLived failures old new old_before old_after before days answers (New e) device =
+    IsNewNotLived failures old new before days answers e device
+IsNotLived failures old new old_before old_after before days answers NoMemory device =
+    IsMemoryNotLived failures old before days answers device
 
 -- what a refusal behind the move is told as (no public clause cites this)
 abbrev pub IsToldLater : Error → MigrateError → Type 0

@@ -1,13 +1,13 @@
 //! The end of threads, and what is opened behind it.
-ghost use Rattle.std.specs.Prelude.{◌≡◌, ◌⊎◌, ◌≤◌, All, IfErr, IfOk};
+ghost use Rattle.std.specs.Prelude.{◌≡◌, ◌⊎◌, ◌≤◌, All, None, IfErr, IfOk, IfSome};
 ghost use Rattle.sector_device.specs.Disk.{CrashState, IsCrashState};
 ghost use Rattle.record_values.specs.declared.error.Error.TheVariants.{DeviceFailed, NoMemory};
-ghost use Rattle.store_writer.specs.Parts.{halves_of, synced_of};
+ghost use Rattle.store_writer.specs.Parts.{device_of, halves_of, has_failed, synced_of};
 ghost use Rattle.threads_flusher.specs.Part.{popped_by};
 ghost use Rattle.threads_lifetime.specs.Closing.{GivesSome};
 ghost use Rattle.threads_lifetime.specs.Gathered.{AreAllSeats};
-ghost use Rattle.restart.specs.Parts.{core_of};
-ghost use Rattle.headline.specs.Seats.{HoldsSeats};
+ghost use Rattle.restart.specs.Parts as engines;
+ghost use Rattle.headline.specs.Seats.{GivesAllSeats, HoldsAllSeats, HoldsSeats, IsUnwritten};
 
 use crate::Mortal;
 use records::Error;
@@ -18,49 +18,69 @@ use std::sync::Wait;
 use store_reader::one_answer;
 use threads_lifetime::finish;
 
-// The device, with all that the seats made written out, or as much as could be.
+/// A store that was opened again behind its threads. Where not all that they made had been written out before, why.
+#[derive(Drop)]
+pub struct Reopened<D: Mortal, A: Memory> {
+    pub engine: Engine<D, A>,
+    pub unwritten: Option<Error>,
+}
+
+// The device, with all that the seats made written out, or as much as could be; and why it wasn't all.
 fn finish_device<B: Group, D: Device, R: Wait, A: Memory>(
     rt: &R,
     alloc: A,
     shared: Shared<B, A>,
     parts: Parts<B, D, A>,
     acks: Vec<Ack<B>, A>,
-) -> D
+) -> (D, Option<Error>)
     requires seats { AreAllSeats B.site.seats parts.seats.items }
-    ensures some { (image : CrashState) → IsCrashState (D.past_of result).disk image
+    ensures some { (image : CrashState) → IsCrashState (D.past_of result.0).disk image
         → ∥ GivesSome B.site.opened (halves_of parts.flush.writer).geometry parts.seats.items (popped_by parts.flush)
         (synced_of parts.flush.writer) image ∥₁ }
     ensures acked { All (λ a. a.ticket.«record» ≤ synced_of parts.flush.writer) acks.items }
+    ensures all { result.1 ≡ None → (image : CrashState) → IsCrashState (D.past_of result.0).disk image
+        → ∥ GivesAllSeats B.site.opened.given.table (halves_of parts.flush.writer).geometry parts.seats.items image ∥₁ }
+    ensures why { IfSome result.1 (IsUnwritten (has_failed parts.flush.writer)
+        (D.failures (device_of parts.flush.writer)) (D.failures result.0)) }
 {
     match finish(rt, alloc, shared, parts, acks) {
-        Ok(closed) => closed.device,
-        Err((_, device)) => device,
+        Ok(closed) => (closed.device, None),
+        Err((error, device)) => (device, Some(error)),
     }
 }
 
 /// Takes every seat and every part back and writes out what they made, as `finish` does. Whatever that answers, the
 /// power then fails; and the store is opened again.
 ///
-/// What it holds are the rows that the threads began with, with the first commits of all seats set over them, in the
-/// order of their numbers; and each whose acknowledgement is handed in is among them (`holds`). `NoMemory` and
-/// `DeviceFailed` are those of the opening.
+/// What it holds are the rows that the threads began with, and over them the first commits of all seats, in the order
+/// of their numbers. Each that was synced before is among them, and so each whose acknowledgement is handed in.
+/// Each visible entry of the index is the pair of a row; as far as the index is built, the pair of each row is visible.
+/// No transaction is active (`holds`).
+///
+/// Where all was written out, the commits of all seats are among them (`whole`); else `unwritten` is what `finish`
+/// answered: `DeviceFailed` where the device failed, now or earlier, and else `NoMemory` (`unwritten`). A refusal,
+/// `NoMemory` or `DeviceFailed`, is that of the opening.
 pub fn finish_and_open<B: Group, D: Mortal, R: Wait, A: Memory>(
     rt: &R,
     alloc: A,
     shared: Shared<B, A>,
     parts: Parts<B, D, A>,
     acks: Vec<Ack<B>, A>,
-) -> Result<Engine<D, A>, Error>
+) -> Result<Reopened<D, A>, Error>
     requires seats { AreAllSeats B.site.seats parts.seats.items }
-    ensures holds { IfOk result (λ engine. ∥ HoldsSeats B.site.opened.given.table parts.seats.items acks.items
-        (core_of engine) ∥₁) }
+    ensures holds { IfOk result (λ r. ∥ HoldsSeats B.site.opened.given.table (halves_of parts.flush.writer).geometry
+        parts.seats.items (synced_of parts.flush.writer) acks.items (engines.core_of r.engine) ∥₁) }
+    ensures whole { IfOk result (λ r. r.unwritten ≡ None
+        → ∥ HoldsAllSeats B.site.opened.given.table parts.seats.items (engines.core_of r.engine) ∥₁) }
+    ensures unwritten { IfOk result (λ r. IfSome r.unwritten (IsUnwritten (has_failed parts.flush.writer)
+        (D.failures (device_of parts.flush.writer)) (D.failures (engines.device_of r.engine)))) }
     ensures refused { IfErr result (λ e. (e ≡ NoMemory) ⊎ (e ≡ DeviceFailed)) }
 {
     one_answer();
-    let mut device = finish_device(rt, alloc, shared, parts, acks);
+    let (mut device, unwritten) = finish_device(rt, alloc, shared, parts, acks);
     device.stop_now();
     match restart(alloc, device) {
-        Ok(engine) => Ok(engine),
+        Ok(engine) => Ok(Reopened { engine, unwritten }),
         Err((error, _)) => Err(error),
     }
 }

@@ -4,7 +4,7 @@ ghost use Rattle.record_values.specs.GeometryValue.{GeometryValue};
 ghost use Rattle.headline.specs.Kept.{IsBegun, IsServedWithin, KeepsDays, KeepsOneMore, ServesWithin};
 ghost use Rattle.headline.specs.AtRest.{AtRest};
 
-use crate::lives::Answer;
+use crate::lives::{Answer, NotLived, unopened};
 use crate::{Day, Mortal};
 use core_model::service::all_replies;
 use records::Error;
@@ -70,7 +70,8 @@ fn serve_day<D: Mortal, A: Allocator + Copy>(
     one_answer();
     written_back();
     all_replies();
-    if day.within {
+    let within = day.within;
+    if within {
         let (answer, since) = serve_within(alloc, &mut engine, &day.requests, opening);
         let mut device = engine.into_device();
         device.stop(since);
@@ -105,14 +106,16 @@ pub(crate) fn live_each_day<D: Mortal, A: Allocator + Copy>(
     alloc: A,
     mut device: D,
     days: &[Day<A>],
-) -> Result<(Vec<Answer<A>, A>, D), (Error, D)>
+) -> Result<(Vec<Answer<A>, A>, D), NotLived<Error, D, A>>
     ensures days { IfOk result (λ r. (g : GeometryValue) (began : AtRest)
         → KeepsDays {M = A} D.past_of D.failures g began [] [] device
         → KeepsDays D.past_of D.failures g began days.now r.0.items r.1) }
-    ensures no_memory { IfErr result (λ r. r.0 ≡ Error.NoMemory) }
+    ensures no_memory { IfErr result (λ r. r.error ≡ Error.NoMemory) }
+    ensures none { IfErr result (λ r. r.answers.items ≡ []) }
+    ensures unchanged { IfErr result (λ r. r.device ≡ device) }
 {
     let Ok(mut answers) = Vec::with_capacity(alloc, days.len()) else {
-        return Err((Error::NoMemory, device));
+        return Err(unopened(alloc, Error::NoMemory, device));
     };
     for day in days {
         let (answer, found) = live_one_day(alloc, device, day);

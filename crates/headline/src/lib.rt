@@ -1,19 +1,19 @@
 //! The theorem of the store as the contract of one call: it formats a device, serves days of requests over it, each
 //! until the store stops at any moment or behind its last reply, and tells what is found in the end.
 //!
-//! Proved: `live_through` (`holds`, `unbuilt`, `refused`, `too_small`, `room`), and of a store that is moved from
-//! version 1 `live_on` (`holds`, `kept`, `refused`, `room`, `too_small`, `told`, `quiet`). They are composed of public
-//! contracts alone. A day ends behind its last reply, or within its last request, at any moment of it; each record that
-//! a reply had acknowledged before the stop is kept. The requests of each day are answered lawfully, and the device's
-//! failures are counted. Only tested (`test_headline`): days over a disk in memory. Neither: that memory is granted,
-//! or the device succeeds.
+//! Proved: `live_through` (`holds`, `unbuilt`, `refused`, `too_small`, `unchanged`, `room`); and of a store that is
+//! moved from version 1 `live_on` (`holds`, `kept`, `refused`, `room`, `too_small`, `told`, `quiet`). They are composed
+//! of public contracts alone. A day ends behind its last reply, or within its last request, at any moment of it; each
+//! record that a reply had acknowledged before the stop is kept. The requests of each day are answered lawfully, record
+//! numbers go on from day to day, and the device's failures are counted. Only tested (`test_headline`): days over a
+//! disk in memory. Neither: that memory is granted, or the device succeeds.
 //!
 //! What many threads leave, as the contract of one call: every seat is taken back, the power fails behind that, and the
 //! store is opened again.
 //!
-//! Proved: `finish_and_open` (`holds`). The store has the rows that the threads began with and the first commits of all
-//! seats by number, each among them whose acknowledgement is handed in. It says nothing of the index. Neither: that it
-//! is ever called.
+//! Proved: `finish_and_open` (`holds`, `whole`, `unwritten`, `refused`). The store has the rows that the threads began
+//! with and the first commits of all seats by number. Each that was synced, or whose acknowledgement is handed in, is
+//! among them; and where all was written out, each. The index fits the rows. Neither: that it is ever called.
 #![tactic(auto)]
 
 mod closed;
@@ -23,8 +23,8 @@ mod lives;
 mod mortal;
 mod moved;
 
-pub use closed::finish_and_open;
+pub use closed::{Reopened, finish_and_open};
 pub use day::Day;
-pub use lives::{Answer, Lived, live_through};
+pub use lives::{Answer, Lived, NotLived, live_through};
 pub use mortal::Mortal;
 pub use moved::live_on;

@@ -35,7 +35,7 @@ fn lived<D: Mortal>(
             Some(error) => Err(error),
             None => Ok(lived.engine),
         },
-        Err((error, _)) => Err(error),
+        Err(refusal) => Err(refusal.error),
     }
 }
 
@@ -95,9 +95,10 @@ fn a_device_that_is_too_small(rt: HostRuntime) -> Result<(), Fail> {
     let days: [Day<Global>; 0] = [];
     match live_through(alloc, disk, geometry, &days, false) {
         Ok(_) => Err("a store on too small a device".into()),
-        Err((error, disk)) => {
-            assert!(rt; error == Error::DeviceTooSmall);
-            assert!(rt; disk.sectors() == few);
+        Err(refusal) => {
+            assert!(rt; refusal.error == Error::DeviceTooSmall);
+            assert!(rt; refusal.answers.is_empty());
+            assert!(rt; refusal.device.sectors() == few);
             Ok(())
         }
     }

@@ -1,11 +1,20 @@
 use Rattle.sector_device.proofs.Moments.{at_end}
-use Rattle.store_writer.specs.Parts.{device_of}
+use Rattle.store_writer.specs.Parts.{device_of, halves_of}
+use Rattle.headline.proofs.Opened.{all_given}
 use Rattle.headline.proofs.closed.finish_device.Goals as goal
 
 pub returns-in-Ok-clause-some : goal.returns-in-Ok-clause-some
 returns-in-Ok-clause-some g c = λ image crash.
     at_end (g.D.Device.past_of (device_of c.args.parts.flush.writer)) (g.D.Device.past_of c.in-Ok.closed.device) _ c.in-Ok.ensures.images image crash
 
+pub returns-in-Ok-clause-all : goal.returns-in-Ok-clause-all
+returns-in-Ok-clause-all g c = λ none image crash.
+    all_given g.B.Group.site.opened (halves_of c.args.parts.flush.writer).geometry c.args.parts.seats.items _ c.in-Ok.closed.commits.items
+    c.in-Ok.ensures.commits image (c.in-Ok.ensures.device image crash)
+
 pub returns-in-Err-clause-some : goal.returns-in-Err-clause-some
 returns-in-Err-clause-some g c = λ image crash.
     at_end (g.D.Device.past_of (device_of c.args.parts.flush.writer)) (g.D.Device.past_of c.in-Err.device) _ c.in-Err.ensures.left image crash
+
+pub returns-in-Err-clause-why : goal.returns-in-Err-clause-why
+returns-in-Err-clause-why g c = c.in-Err.ensures.err

@@ -6,13 +6,14 @@ use Rattle.restart.specs.Store.{over}
 use Rattle.headline.specs.AtRest.{resting}
 use Rattle.headline.specs.Kept.{KeepsDays}
 use Rattle.headline.proofs.Holding.{begun}
-use Rattle.headline.proofs.Moving.{not_moved, not_opened}
+use Rattle.headline.proofs.Moving.{not_opened, told_at_once}
 use Rattle.headline.proofs.moved.live_on.Goals as goal
 
 pub returns-in-Err-clause-refused : goal.returns-in-Err-clause-refused
 returns-in-Err-clause-refused g c =
-    not_moved g.D.Device.past_of g.D.Device.failures (g.O.Device.past_of c.args.old.now).disk.content (g.O.Device.failures c.args.old.now)
-    (g.O.Device.failures c.migrate.new.old) c.args.device c.args.days.now c.in-Err.error c.in-Err.device c.in-Err.ensures.refused
+    told_at_once g.D.Device.past_of g.D.Device.failures (g.O.Device.past_of c.args.old.now).disk.content (g.O.Device.failures c.args.old.now)
+    (g.O.Device.failures c.migrate.new.old) c.args.device c.args.days.now c.unopened.result.answers.items c.unopened.ensures.none c.in-Err.error
+    c.unopened.result.error c.in-Err.device c.unopened.result.device c.unopened.ensures.error c.unopened.ensures.device c.in-Err.ensures.refused
 
 pub returns-in-Ok-live_behind-clause-holds : goal.returns-in-Ok-live_behind-clause-holds
 returns-in-Ok-live_behind-clause-holds g c =
@@ -51,8 +52,9 @@ returns-in-Err-live_behind-clause-refused g c =
     (subst (λ d. IsSynced (past_of d).disk) device is.opened.synced) c.stop_now.ensures.found
     (c.stop_now.ensures.failures ∙ ap failures c.into_device-device.ensures.device ∙ c.in-Ok.ensures.quiet.1) in
     not_opened past_of failures (g.O.Device.past_of c.args.old.now).disk.content (g.O.Device.failures c.args.old.now)
-    (g.O.Device.failures c.migrate.new.old) c.args.device c.args.days.now size given is.gave c.in-Err-live_behind.error c.later.result
-    c.in-Err-live_behind.device c.later.ensures (λ can. c.in-Err-live_behind.ensures.refused size first (kept can))
+    (g.O.Device.failures c.migrate.new.old) c.args.device c.args.days.now c.in-Err-live_behind.refusal.answers.items size given is.gave
+    c.in-Err-live_behind.refusal.error c.later.result c.in-Err-live_behind.refusal.device c.later.ensures
+    (λ can. c.in-Err-live_behind.ensures.refused size first (kept can))
 
 pub returns-in-Err-live_behind-clause-too_small : goal.returns-in-Err-live_behind-clause-too_small
 returns-in-Err-live_behind-clause-too_small g c = λ small. absurd (c.in-Ok.ensures.room small)
