@@ -48,12 +48,13 @@ TakesImage reply old new = TakesImageGuarded past_of failures_of reply old new
 abbrev pub Tells : Reply Global → ℕ → Told → Type 0
 Tells reply status told = (status ≡ status_of reply) × (told ≡ told_of reply)
 
--- The event that is asked for was served.
+-- What is asked for is an event, and no reason is there to refuse it as none; and that event was served.
 pub record IsServed (asked : Asked) (key body : List ℕ) (status : ℕ) (told : Told) (room spots : List Spot)
     (old new : Handle) : Type 0 where
   pub event : Event
   pub reply : Reply Global
   pub asks : Asks asked key body event
+  pub fine : (number : ℕ) → ¬ IsBad asked key body number
   pub serves : Moves (Serves event reply) old new
   pub tells : Tells reply status told
   pub fills : FillsWith reply room spots

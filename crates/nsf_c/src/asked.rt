@@ -1,5 +1,5 @@
 //! What C asks for.
-ghost use Rattle.std.specs.Prelude.{◌≡◌, ◌<◌, ◌≤◌, IfOk, IfErr, OnOk, length};
+ghost use Rattle.std.specs.Prelude.{◌≡◌, ◌<◌, ◌≤◌, ℕ, IfOk, IfErr, OnOk, length};
 ghost use Rattle.nsf_c.specs.Asked.{Asks, IsBad, IsOfTxn, place_of};
 
 use crate::kind::{
@@ -31,6 +31,7 @@ fn key_of(bytes: &[u8]) -> Result<Key, u32>
 
 fn body_of(bytes: &[u8]) -> Result<Body, u32>
     ensures ok { IfOk result (λ body. body ≡ bytes.now) }
+    ensures fits { OnOk result (length bytes.now ≤ BODY_MAX) }
     ensures too_long { IfErr result (λ n. (n ≡ 15) × (BODY_MAX < length bytes.now)) }
 {
     match Body::new(bytes) {
@@ -69,6 +70,7 @@ impl Asked {
     fn change(&self, key: &[u8], body: &[u8]) -> Result<Event, u32>
         requires { IsOfTxn self.now.kind }
         ensures asks { IfOk result (Asks self.now key.now body.now) }
+        ensures fine { OnOk result ((n : ℕ) → ¬ IsBad self.now key.now body.now n) }
         ensures bad { IfErr result (IsBad self.now key.now body.now) }
     {
         let txn = self.txn()?;
@@ -100,6 +102,7 @@ impl Asked {
     /// Of several it is the first in this order.
     pub(crate) fn event(&self, key: &[u8], body: &[u8]) -> Result<Event, u32>
         ensures asks { IfOk result (Asks self.now key.now body.now) }
+        ensures fine { OnOk result ((n : ℕ) → ¬ IsBad self.now key.now body.now n) }
         ensures bad { IfErr result (IsBad self.now key.now body.now) }
     {
         if INSERT <= self.kind && self.kind <= COMMIT {

@@ -1,10 +1,10 @@
 //! The engine as C calls it: a store stands behind a handle, which C keeps.
 //!
 //! Proved: each call meets the contract of the engine's call that `docs/C.md` names, over a disk whose reads are
-//! answered from memory. Trusted: what `include/nsf.h` asks of who calls, and that the other end of a line does what it
-//! is asked before it says so. One thread at a time is in a call of a handle, and all calls of a handle are of one
-//! thread. By hand: five functions of `handle.rt` and `loose.rt`, by which a pointer is a box again. Neither proved nor
-//! built by `rt ci`: what is C.
+//! answered from memory; and what C asks for is one event, or none for one reason (the law `one_event`). Trusted: what
+//! `include/nsf.h` asks of who calls, and that the other end of a line does what it is asked before it says so. One
+//! thread at a time is in a call of a handle, and all calls of a handle are of one thread. By hand: five functions of
+//! `handle.rt` and `loose.rt`, by which a pointer is a box again. Neither proved nor built by `rt ci`: what is C.
 #![tactic(auto)]
 
 mod asked;
@@ -12,6 +12,7 @@ mod below;
 mod handle;
 mod held;
 mod kind;
+mod laws;
 mod loose;
 mod opening;
 mod saving;
@@ -23,6 +24,7 @@ pub use asked::Asked;
 pub use below::Below;
 pub use handle::Handle;
 pub use held::Held;
+pub use laws::one_event;
 pub use opening::{nsf_close, nsf_create, nsf_open, nsf_sectors};
 pub use saving::nsf_save;
 pub use serving_calls::{nsf_can_open, nsf_flush, nsf_image, nsf_serve, nsf_stat};

@@ -1,7 +1,6 @@
 //! What a seat learns from the board. No call here takes the lock.
-ghost use Rattle.std.specs.Prelude.{◌≡◌, ◌≤◌, ◌↔◌, ◌<◌, false, true, IfErr, IfNone, IfOk, IfSome, IsTrue, OnErr};
-ghost use Rattle.board.specs.Views.{leaves_as, stays_as};
-ghost use Rattle.shared.specs.Waits.{HasReadWhy};
+ghost use Rattle.std.specs.Prelude.{◌≡◌, ◌≤◌, ◌↔◌, ◌<◌, false, true, IfErr, IfNone, IfOk, IfSome, IsTrue};
+ghost use Rattle.shared.specs.Waits.{HasReadWhy, IsAcked, IsNotAcked};
 
 use crate::seat::{Ack, Seat};
 use crate::shared::Shared;
@@ -39,19 +38,7 @@ impl<B: Group, A: Memory> Shared<B, A> {
 
     // An acknowledgement, where the horizon that is read reaches the record.
     fn try_ack(&self, seat: &mut Seat<B, A>, ticket: &Ticket) -> Option<Ack<B>>
-        ensures ticket { IfSome result (λ ack. ack.ticket ≡ ticket.now) }
-        ensures reached { IfSome result (λ ack. ticket.now.«record» ≤ ack.sight.horizon) }
-        ensures stays { IfSome result (λ ack. seat.new ≡ record seat.old {
-          sight = record seat.old.sight {
-            horizon = ack.sight.horizon;
-            checked = false;
-            name = stays_as seat.old.sight.name;
-          };
-        }) }
-        ensures leaves { IfSome result (λ ack. ack.sight ≡ record seat.new.sight {
-          name = leaves_as seat.old.sight.name;
-          stops = false;
-        }) }
+        ensures acked { IfSome result (λ ack. IsAcked ticket.now seat.old seat.new ack) }
         ensures none { IfNone result (seat.new.sight.horizon < ticket.now.«record») }
         ensures seen { IfNone result (seat.new ≡ record seat.old
             { sight = record seat.old.sight { horizon = seat.new.sight.horizon; checked = false } }) }
@@ -97,23 +84,8 @@ impl<B: Group, A: Memory> Shared<B, A> {
         seat: &mut Seat<B, A>,
         ticket: Ticket,
     ) -> Result<Ack<B>, Error>
-        ensures ticket { IfOk result (λ ack. ack.ticket ≡ ticket) }
-        ensures reached { IfOk result (λ ack. ticket.«record» ≤ ack.sight.horizon) }
-        ensures stays { IfOk result (λ ack. seat.new ≡ record seat.old {
-          sight = record seat.old.sight {
-            horizon = ack.sight.horizon;
-            checked = false;
-            name = stays_as seat.old.sight.name;
-          };
-        }) }
-        ensures leaves { IfOk result (λ ack. ack.sight ≡ record seat.new.sight {
-          name = leaves_as seat.old.sight.name;
-          stops = false;
-        }) }
-        ensures why { IfErr result (λ e.
-            HasReadWhy e (record seat.old { sight = record seat.old.sight { horizon = seat.new.sight.horizon } })
-            seat.new) }
-        ensures late { OnErr result (seat.new.sight.horizon < ticket.«record») }
+        ensures acked { IfOk result (λ ack. IsAcked ticket seat.old seat.new ack) }
+        ensures refused { IfErr result (λ e. IsNotAcked ticket seat.old seat.new e) }
         ensures seat { seat.new ≡ record seat.old { sight = seat.new.sight } }
         ensures rises { seat.old.sight.horizon ≤ seat.new.sight.horizon }
     {

@@ -1,12 +1,15 @@
-//! A law of what refused calls leave.
+//! Laws of what refused calls leave, and of what a wait is answered.
 ghost use Rattle.std.specs.Prelude.{◌≡◌, ◌⊎◌, Option, Some, ℕ};
 ghost use Rattle.record_values.specs.declared.error.Error.{Error};
 ghost use Rattle.model.specs.declared.write.Write.{Write};
 ghost use Rattle.core_model.specs.Events.{Event, Refused};
 ghost use Rattle.core_model.specs.Histories.{Opened};
+ghost use Rattle.core_parts.specs.declared.parts.Ticket.{Ticket};
 ghost use Rattle.threads_sessions.specs.Values.{SessionValue};
 ghost use Rattle.shared.specs.Changed.{HasChanged, IsGoingBack};
+ghost use Rattle.shared.specs.Seats.{AckValue, SeatValue};
 ghost use Rattle.shared.specs.Served.{HasUndone, WasAborted, WasServed, WasServedTo};
+ghost use Rattle.shared.specs.Waits.{IsAcked, IsNotAcked};
 
 use nsf_core::refused_calls;
 
@@ -28,3 +31,14 @@ pub fn each_refusal()
 {
     refused_calls();
 }
+
+/// A law: a wait for a ticket has one answer. What the seat had seen before it, and has seen behind it, leaves one
+/// acknowledgement (`ack`) or one error (`error`), and not both (`either`).
+pub fn one_wait()
+    ensures ack { (ticket : Ticket) (before after : SeatValue) (a b : AckValue) → IsAcked ticket before after a
+        → IsAcked ticket before after b → a ≡ b }
+    ensures error { (ticket : Ticket) (before after : SeatValue) (d e : Error) → IsNotAcked ticket before after d
+        → IsNotAcked ticket before after e → d ≡ e }
+    ensures either { (ticket : Ticket) (before after : SeatValue) (ack : AckValue) (e : Error)
+        → IsAcked ticket before after ack → ¬ IsNotAcked ticket before after e }
+{}

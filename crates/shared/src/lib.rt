@@ -7,9 +7,10 @@
 //!
 //! Proved: what an `Ok` makes of the seat's session (`ok`, `changed`). Each reply is one that some core which may lie
 //! under the lock gives (`served`). `get` of a place that the seat holds answers its own row (`own`). An
-//! acknowledgement is of a ticket that a horizon reached (`reached`), and no horizon falls (`rises`). Neither: that a
-//! call which takes the lock or waits returns; fairness; that `find` or `get` of another's place is of now; that a
-//! dropped seat gives its transactions back (they stay active until the store is opened again).
+//! acknowledgement is of a ticket that a horizon reached (`acked`), no horizon falls (`rises`), and what the seat has
+//! seen leaves a wait one answer (the law `one_wait`). Neither: that a call which takes the lock or waits returns;
+//! fairness; that `find` or `get` of another's place is of now; that a dropped seat gives its transactions back (they
+//! stay active until the store is opened again).
 #![tactic(auto)]
 
 mod abort;
@@ -30,7 +31,7 @@ mod views;
 pub use builder::BuildPart;
 pub use changes::Change;
 pub use cleaner::CleanPart;
-pub use laws::each_refusal;
+pub use laws::{each_refusal, one_wait};
 pub use locked_core::{Group, Memory};
 pub use opening::{FirstParts, Opening, open};
 pub use parts::Parts;

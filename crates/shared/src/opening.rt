@@ -56,9 +56,24 @@ pub fn open<A: Memory>(alloc: A, core: Core<A>, count: usize) -> Result<Opening<
     ensures core { IfOk result (λ o. value_of o.core ≡ value_of core) }
     ensures no_memory { IfErr result (λ e. e ≡ NoMemory) }
 {
-    let (queue, pusher, popper) = RecordQueue::new(alloc)?;
-    let (registry, book, halves) = Registry::open(alloc, count)?;
-    let (board, flush, build, view) = Board::new(alloc)?;
+    let Ok(queues) = RecordQueue::new(alloc) else {
+        drop(core);
+        return Err(Error::NoMemory);
+    };
+    let Ok(table) = Registry::open(alloc, count) else {
+        drop(queues);
+        drop(core);
+        return Err(Error::NoMemory);
+    };
+    let Ok(boards) = Board::new(alloc) else {
+        drop(table);
+        drop(queues);
+        drop(core);
+        return Err(Error::NoMemory);
+    };
+    let (queue, pusher, popper) = queues;
+    let (registry, book, halves) = table;
+    let (board, flush, build, view) = boards;
     Ok(Opening {
         alloc,
         core,
@@ -106,7 +121,19 @@ impl<A: Memory> Opening<A> {
             mut view,
         } = self;
         let clean_view = board.another(&mut view);
-        let seats = seats_of::<B, A>(alloc, &board, view, halves)?;
+        let seats = match seats_of::<B, A>(alloc, &board, view, halves) {
+            Ok(seats) => seats,
+            Err(error) => {
+                drop(board);
+                drop(book);
+                drop(registry);
+                drop(popper);
+                drop(pusher);
+                drop(queue);
+                drop(core);
+                return Err(error);
+            }
+        };
         let locked = Locked::<B, A>::new(core, pusher, book);
         let shared = Shared {
             locked: Mutex::new(locked),

@@ -30,7 +30,7 @@ gives_soundly image g given gives can = record {
 
 module _ (one : AnswersOne) where
   -- what a store opens with that opens soundly is sound
-  sound_opening : (image : CrashState) (o : Opened) → Opens image o → OpensSoundly image → CanOpen o
+  pub sound_opening : (image : CrashState) (o : Opened) → Opens image o → OpensSoundly image → CanOpen o
   sound_opening image o opens soundly =
       let sizes : soundly.opens.geometry ≡ opens.geometry =
       one.0 image soundly.opens.geometry opens.geometry soundly.opens.given opens.given soundly.opens.gives opens.gives in

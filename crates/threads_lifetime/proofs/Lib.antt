@@ -10,3 +10,4 @@ mod Pieces
 mod Tables
 mod Ending
 pub mod Orders
+mod Refusals

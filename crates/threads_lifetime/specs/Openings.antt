@@ -4,7 +4,7 @@ use Rattle.std.specs.Prelude.{[], false, None, ℕ, ◌≡◌, ◌≤◌, ◌<�
 use Rattle.atomic_table.specs.Seated.{TableId}
 use Rattle.record_values.specs.GeometryValue.{GeometryValue}
 use Rattle.record_values.specs.declared.error.Error.{Error}
-use Rattle.record_values.specs.declared.error.Error.TheVariants.{NoMemory, TooManyTxns, TxnsActive}
+use Rattle.record_values.specs.declared.error.Error.TheVariants.{DeviceFailed, NoMemory, TooManyTxns, TxnsActive}
 use Rattle.model.specs.Given.{Given, opening_cells}
 use Rattle.core_model.specs.Histories.{CanOpen, Opened}
 use Rattle.nsf_core.specs.Loading.{IsQuiet}
@@ -106,6 +106,11 @@ abbrev pub IsNotShared : {D : Type 0} → (D → DevicePast) → (D → ℕ) →
 IsNotShared past_of failures before count after (Refused e) = IsNotOpened past_of failures before after e
     ⊎ ((e ≡ TooManyTxns) × (16 < count) × (after ≡ before))
 IsNotShared past_of failures before count after Unsound = IsUnsound past_of failures before after
+
+-- Nothing is told of what was to be opened: there was no memory, or the device failed.
+abbrev pub WasHindered : OpenError → Type 0
+WasHindered (Refused e) = (e ≡ NoMemory) ⊎ (e ≡ DeviceFailed)
+WasHindered Unsound = ⊥
 
 -- So many seats, 16 at most, are open over what the engine held, with no transaction active: the same rows and entries,
 -- the index as far as it was, after the same last record. It is sound, and all of it is synced: a crash of the device

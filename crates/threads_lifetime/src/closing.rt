@@ -132,9 +132,11 @@ pub fn finish<B: Group, D: Device, R: Wait, A: Memory>(
     let Parts {
         mut seats,
         mut flush,
-        build: _,
-        clean: _,
+        build,
+        clean,
     } = parts;
+    drop(build);
+    drop(clean);
     let (mut locked, queue, registry, board) = shared.into_parts();
     settle_all(&board, &mut flush, acks);
     compare_all(&registry, &mut locked, &mut seats);
@@ -142,8 +144,14 @@ pub fn finish<B: Group, D: Device, R: Wait, A: Memory>(
         Ok(commits) => {
             locked.each_hold();
             let horizon = flush.synced();
-            let (core, _, _) = locked.into_parts();
-            let (device, _) = flush.into_parts();
+            let (core, pusher, book) = locked.into_parts();
+            drop(pusher);
+            drop(book);
+            let (device, ends) = flush.into_parts();
+            drop(ends);
+            drop(queue);
+            drop(registry);
+            drop(board);
             Ok(Closed {
                 device,
                 core,
@@ -153,7 +161,12 @@ pub fn finish<B: Group, D: Device, R: Wait, A: Memory>(
         }
         Err(error) => {
             let why = told(&flush, error);
-            let (rest, _) = flush.into_parts();
+            let (rest, ends) = flush.into_parts();
+            drop(ends);
+            drop(locked);
+            drop(queue);
+            drop(registry);
+            drop(board);
             Err((why, rest))
         }
     }

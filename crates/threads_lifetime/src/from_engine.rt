@@ -18,8 +18,9 @@ use shared::{Memory, open};
 ///
 /// `TooManyTxns` where there are to be more than 16 seats, which is as many as transactions may be active; `TxnsActive`
 /// where a transaction is active; `Unsound` where a core may not begin with what the engine holds; `NoMemory`; and
-/// `DeviceFailed` as of a copy. With any of them the engine is given back, and its run goes on; it is as it was, but
-/// where what it holds could not be written (`refused`).
+/// `DeviceFailed` as of a copy. The first of them that applies is told (`told_of_an_engine`). With any of them the
+/// engine is given back, and its run goes on; it is as it was, but where what it holds could not be written
+/// (`refused`).
 pub fn open_engine<D: Device, A: Memory>(
     alloc: A,
     engine: Engine<D, A>,
@@ -52,6 +53,9 @@ pub fn open_engine<D: Device, A: Memory>(
             opening,
             writer,
         }),
-        Err((error, engine)) => Err((OpenError::Refused(error), engine)),
+        Err((error, engine)) => {
+            drop(opening);
+            Err((OpenError::Refused(error), engine))
+        }
     }
 }

@@ -6,9 +6,10 @@
 //! Proved: `open_store` opens a store as a restart does (`opened`), tells one that no core may begin with (`Unsound`),
 //! or refuses (`refused`). It has 16 seats at most. `open_engine` shares an engine that served: the store opens with
 //! what the engine holds, and no record up to its horizon is lost (`opened`); or the engine is given back (`refused`).
-//! What threads, or a crash within the opening, leave may be opened again (the laws `left_by_threads`,
-//! `left_by_an_opening`). `OpenStore::start` hands out new seats and a flusher's part with nothing popped (`seats`,
-//! `flush`). Neither: that `open_engine` doesn't read the device, and writes each sector once at most.
+//! Which answer comes when, the laws `told_of_a_store` and `told_of_an_engine` say. What threads, or a crash within the
+//! opening, leave may be opened again (the laws `left_by_threads`, `left_by_an_opening`). `OpenStore::start` hands out
+//! new seats and a flusher's part with nothing popped (`seats`, `flush`). Neither: that `open_engine` doesn't read the
+//! device, and writes each sector once at most.
 //!
 //! The end of what many seats share: everything is taken back into one hand, every record is written out, and the
 //! commits of all seats are put in the order of their numbers.
@@ -25,6 +26,7 @@
 mod closing;
 mod from_engine;
 mod gather;
+mod laws;
 mod openable;
 mod opening;
 mod refusal;
@@ -33,6 +35,7 @@ mod writing;
 
 pub use closing::{Closed, finish};
 pub use from_engine::open_engine;
+pub use laws::{told_of_a_store, told_of_an_engine};
 pub use openable::{
     format_store, left_by_a_run, left_by_an_opening, left_by_threads, sound_or_not,
 };

@@ -22,9 +22,9 @@ use threads_flusher::FlushPart;
 /// `left_by_an_opening`, `sound_or_not`).
 ///
 /// `TooManyTxns` where there are to be more than 16 seats, which is as many as transactions may be active. The other
-/// errors are those of `restart`, and `NoMemory`. With any error the device is given back, and gives what it gave; a
-/// crash at any moment of the call leaves what one before could, or what gives the same (`refused`). So it may be
-/// opened again.
+/// errors are those of `restart`, and `NoMemory`; either may come in place of `Unsound`, and no other answer fits what
+/// the device holds (`told_of_a_store`). With any error the device is given back, and gives what it gave; a crash at
+/// any moment of the call leaves what one before could, or what gives the same (`refused`). So it may be opened again.
 pub fn open_store<D: Device, A: Memory>(
     alloc: A,
     device: D,

@@ -39,7 +39,9 @@ fn hand_in_all<B: Group, D: Device, R: Wait, A: Memory>(
         return Err(Error::NoMemory);
     }
     locked.each_hold();
-    let last = locked.copy_step(alloc, CopyPlace::Start)?.number;
+    let chunk = locked.copy_step(alloc, CopyPlace::Start)?;
+    let last = chunk.number;
+    drop(chunk);
     for _ in rt.forever() {
         let all = flush.last_handed() == last;
         if all {

@@ -6,6 +6,7 @@ returns-in-Ok c = inl (record {
   event = _;
   reply = c.serve-reply.result;
   asks = c.in-Ok.ensures.asks;
+  fine = c.in-Ok.ensures.fine;
   serves = c.serve-reply.ensures;
   tells = (c.status_of.ensures, c.told_of.ensures);
   fills = c.put_found.ensures;

@@ -138,8 +138,8 @@ returns-in-Ok-clause-images g c =
     left_at_end past_of failures z.opened seats l book under.shared
     (popped_by old) popped old f writes c.into_parts-device.result.0 c.into_parts-device.ensures.device c.close.ensures.beginning
 
-pub returns-clause-left : goal.returns-clause-left
-returns-clause-left g c =
+pub returns-in-Err-clause-left : goal.returns-in-Err-clause-left
+returns-in-Err-clause-left g c =
     let past_of = g.D.Device.past_of in
     let failures = g.D.Device.failures in
     let z = g.B.Group.site in
@@ -158,8 +158,8 @@ returns-clause-left g c =
     left_at_end past_of failures z.opened seats l book under.shared
     (popped_by old) popped old f writes c.into_parts-rest.result.0 c.into_parts-rest.ensures.device c.close.ensures.beginning
 
-pub returns-clause-err : goal.returns-clause-err
-returns-clause-err g c =
+pub returns-in-Err-clause-err : goal.returns-in-Err-clause-err
+returns-in-Err-clause-err g c =
     let past_of = g.D.Device.past_of in
     let failures = g.D.Device.failures in
     let z = g.B.Group.site in
@@ -179,8 +179,8 @@ returns-clause-err g c =
     (popped_by old) popped old f writes c.into_parts-rest.result.0 c.into_parts-rest.ensures.device c.in-Err.error c.told-why.result c.in-Err.ensures.err
     c.told-why.ensures.failed c.told-why.ensures.sound
 
-pub returns-clause-later : goal.returns-clause-later
-returns-clause-later g c =
+pub returns-in-Err-clause-later : goal.returns-in-Err-clause-later
+returns-in-Err-clause-later g c =
     let z = g.B.Group.site in
     let writes : WritesOn g.D.Device.past_of g.D.Device.failures z.opened c.args.parts.flush c.close.new.flush =
     subst (λ (x : FlushValue _ _). WritesOn g.D.Device.past_of g.D.Device.failures z.opened x c.close.new.flush) c.settle_all.ensures.same

@@ -20,5 +20,5 @@ returns-then-all-clause-all g c =
     c.each_hold.ensures.last (halves_of c.loop.flush.writer).geometry
     ∙ sym (ap (λ (l : LockedValue). g.B.Group.site.opened.given.last + length (l.pushed ++ l.core.outbox)) same) in
     begins_all c.loop.flush.handed now.pushed now.core.outbox g.B.Group.site.opened.given.last _ c.loop.invariant.begins
-    (ap (λ (l : LockedValue). l.core.outbox) same ∙ none) (c.in_ok-last.ensures.number ∙ made)
+    (ap (λ (l : LockedValue). l.core.outbox) same ∙ none) (c.in_ok-chunk.ensures.number ∙ made)
     (sym c.last_handed.ensures ∙ c.if-all.true)

@@ -1,4 +1,4 @@
-use Rattle.std.proofs.Common.{[], ap, rules, subst}
+use Rattle.std.proofs.Common.{[], ap, subst}
 use Rattle.board.specs.Views.{Sighting}
 use Rattle.threads_sessions.specs.Halves.{IsNew}
 use Rattle.locked_core.specs.Names.{Names}
@@ -17,9 +17,6 @@ seats_of-requires-clause-halves g c = subst (λ z. IsNew z c.args.self.halves.it
 
 pub new-locked-requires-clause-book : goal.new-locked-requires-clause-book
 new-locked-requires-clause-book g c = subst (λ z. IsNew z c.args.self.book.items) (ap (λ (n : Names). n.table) c.requires.names) c.requires.made.book
-
-pub returns-in_err-seats-clause-no_memory : goal.returns-in_err-seats-clause-no_memory
-returns-in_err-seats-clause-no_memory g c = let told = c.in_err-seats.ensures.no_memory in search (rules, told, c.from_residual.ensures)
 
 pub returns-clause-clean : goal.returns-clause-clean
 returns-clause-clean g c =
