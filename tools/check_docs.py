@@ -6,7 +6,8 @@ Each word in backticks that could name an item, a crate or a file stands in the 
 names stands what the row is about, and a block of code behind such a place begins with that line. Each relative link leads
 somewhere. A row with functions and a file names functions of that file. A line of src or specs has at most 120 columns, one of
 proofs 160, strings aside. Of another crate's proofs only the lemma files are cited that the head of its lib.rt names, and each of
-these is. It prints how many words each page has, and ends with status 1 where something is missing or too wide.
+these is. The crate that a launcher `nsf-..` names, and the text of help in its tests, are there. It prints how many words each page
+has, and ends with status 1 where something is missing or too wide.
 """
 import fnmatch, pathlib, re, sys
 
@@ -112,6 +113,15 @@ def cited_proofs():
     print(f"{count:6} imports of other crates' proofs, of {sum(map(len, cited.values()))} files that their heads name")
 
 
+def launchers():
+    """Each crate that a launcher names and that isn't there, and each whose tests have no text of help."""
+    for path in sorted(TOP.glob("nsf-*")):
+        program, tests = re.search(rf"run-program\" {path.name} (\w+) (\w+) ", path.read_text()).groups()
+        for file in (f"crates/{program}/src/main.rt", f"crates/{tests}/src/help.rt"):
+            if not (TOP / file).is_file():
+                yield f"{path.name} needs {file}, which isn't there"
+
+
 def main():
     words, ends = sources()
     pages = [TOP / "README.md", *sorted((TOP / "docs").glob("*.md"))]
@@ -123,7 +133,7 @@ def main():
         for fault in faults(page, words, ends):
             wrong += 1
             print(f"       {fault}")
-    for fault in (*wide_lines(), *cited_proofs()):
+    for fault in (*wide_lines(), *cited_proofs(), *launchers()):
         wrong += 1
         print(f"       {fault}")
     print(f"{total:6} words, {wrong} faults")
