@@ -6,12 +6,7 @@
 //! A store is made on a device, opened, and served one request after another.
 //!
 //! ```
-//! fn fill(alloc: Global, mut disk: MemDisk<Global>, geometry: Geometry) -> Result<MemDisk<Global>, Error> {
-//!     format_store(&mut disk, geometry)?;
-//!     let mut engine = match restart(alloc, disk) {
-//!         Ok(engine) => engine,
-//!         Err((error, _)) => return Err(error),
-//!     };
+//! fn serve_all(engine: &mut Engine<MemDisk<Global>, Global>) -> Result<(), Error> {
 //!     let Reply::Txn(txn) = granted(engine.serve(Event::Begin))? else {
 //!         return Err(Error::NoSuchTxn);
 //!     };
@@ -22,7 +17,20 @@
 //!     granted(engine.serve(Event::Create))?;
 //!     engine.build_to_end()?;
 //!     granted(engine.flush_all())?;
-//!     Ok(engine.into_device())
+//!     Ok(())
+//! }
+//!
+//! fn fill(alloc: Global, mut disk: MemDisk<Global>, geometry: Geometry) -> Result<MemDisk<Global>, Error> {
+//!     format_store(&mut disk, geometry)?;
+//!     match restart(alloc, disk) {
+//!         Ok(mut engine) => {
+//!             let served = serve_all(&mut engine);
+//!             let disk = engine.into_device();
+//!             served?;
+//!             Ok(disk)
+//!         }
+//!         Err((error, _)) => Err(error),
+//!     }
 //! }
 //! ```
 //!

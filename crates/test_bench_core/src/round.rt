@@ -110,11 +110,23 @@ fn times_in_core<R: Alloc<A = Global> + Clock>(
     })
 }
 
+// A round in a core of 256 pages.
+fn times_of_pairs<R: Alloc<A = Global> + Clock>(
+    rt: &R,
+    pairs: &mut Vec<Pair>,
+) -> Result<CoreTimes> {
+    let mut core = CoreAlone::empty(rt.alloc(), Geometry::new(256, 65_536, 4)?)?;
+    let times = times_in_core(rt, &mut core, pairs);
+    drop(core);
+    times
+}
+
 // A round in the core.
 fn core_times<R: Alloc<A = Global> + Clock>(rt: &R, pages: u32) -> Result<CoreTimes> {
     let mut pairs = pairs_of(rt.alloc(), pages)?;
-    let mut core = CoreAlone::empty(rt.alloc(), Geometry::new(256, 65_536, 4)?)?;
-    times_in_core(rt, &mut core, &mut pairs)
+    let times = times_of_pairs(rt, &mut pairs);
+    drop(pairs);
+    times
 }
 
 // A store that was just formatted.

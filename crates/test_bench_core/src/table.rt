@@ -98,19 +98,21 @@ impl Line {
 }
 
 // The first of them and the one in the middle, once they are sorted.
-fn least_and_median(mut figures: Vec<u64>) -> Result<(u64, u64)> {
+fn least_and_median(figures: &mut Vec<u64>) -> Result<(u64, u64)> {
     figures.sort()?;
     let least = figures.first().copied().unwrap_or(0);
     let median = figures.get(figures.len() / 2).copied().unwrap_or(0);
     Ok((least, median))
 }
 
-// Prints a line: what each round took and what stands beside it, and of the figures and of their ratios, in hundredths,
-// the least and the median.
-fn print_line<R: Print + Alloc<A = Global>>(rt: &R, line: Line, rounds: &[Round]) -> Result<()> {
-    let mut figures = Vec::new(rt.alloc());
-    let mut ratios = Vec::new(rt.alloc());
-    print!(rt; "{}:", line.name())?;
+// Prints what each round took and what stands beside it, and notes the figures and their ratios, in hundredths.
+fn print_rounds<R: Print>(
+    rt: &R,
+    line: Line,
+    rounds: &[Round],
+    figures: &mut Vec<u64>,
+    ratios: &mut Vec<u64>,
+) -> Result<()> {
     for round in rounds {
         let figure = line.figure(round);
         let floor = line.floor(round);
@@ -118,6 +120,20 @@ fn print_line<R: Print + Alloc<A = Global>>(rt: &R, line: Line, rounds: &[Round]
         figures.push(figure)?;
         ratios.push(figure.saturating_mul(100).checked_div(floor).unwrap_or(0))?;
     }
+    Ok(())
+}
+
+// Prints a line: what each round took and what stands beside it, and of the figures and of their ratios, in hundredths,
+// the least and the median.
+fn print_noted<R: Print>(
+    rt: &R,
+    line: Line,
+    rounds: &[Round],
+    figures: &mut Vec<u64>,
+    ratios: &mut Vec<u64>,
+) -> Result<()> {
+    print!(rt; "{}:", line.name())?;
+    print_rounds(rt, line, rounds, figures, ratios)?;
     let (least, median) = least_and_median(figures)?;
     let (least_ratio, median_ratio) = least_and_median(ratios)?;
     println!(rt;
@@ -126,15 +142,36 @@ fn print_line<R: Print + Alloc<A = Global>>(rt: &R, line: Line, rounds: &[Round]
     Ok(())
 }
 
-/// Measures in so many rounds over a store of 256 pages, and prints each line.
-pub(crate) fn print<R: Print + Alloc<A = Global> + Clock>(rt: &R, count: u32) -> Result<()> {
+// The same with nothing noted before.
+fn print_line<R: Print + Alloc<A = Global>>(rt: &R, line: Line, rounds: &[Round]) -> Result<()> {
+    let mut figures = Vec::new(rt.alloc());
+    let mut ratios = Vec::new(rt.alloc());
+    let printed = print_noted(rt, line, rounds, &mut figures, &mut ratios);
+    drop(figures);
+    drop(ratios);
+    printed
+}
+
+// Measures in so many rounds, and prints each line.
+fn print_all<R: Print + Alloc<A = Global> + Clock>(
+    rt: &R,
+    count: u32,
+    rounds: &mut Vec<Round>,
+) -> Result<()> {
     let geometry = Geometry::new(256, 65_536, 256)?;
-    let mut rounds = Vec::new(rt.alloc());
     for _ in 0..count {
         rounds.push(play::<Store, R>(rt, geometry)?)?;
     }
     for line in LINES {
-        print_line(rt, line, &rounds)?;
+        print_line(rt, line, rounds)?;
     }
     Ok(())
+}
+
+/// Measures in so many rounds over a store of 256 pages, and prints each line.
+pub(crate) fn print<R: Print + Alloc<A = Global> + Clock>(rt: &R, count: u32) -> Result<()> {
+    let mut rounds = Vec::new(rt.alloc());
+    let printed = print_all(rt, count, &mut rounds);
+    drop(rounds);
+    printed
 }

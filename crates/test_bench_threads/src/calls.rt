@@ -5,7 +5,7 @@ use records::{Body, Error, Key, PAGES_MAX, Rid, SLOTS_PER_PAGE, Txn};
 use shared::{Group, Seat, Shared};
 use std::ops::Range;
 use std::sync::Wait;
-use test_seat_calls::{await_ack, begin, commit, life, put, remove, update};
+use test_shared::{await_ack, begin, commit, life, put, remove, update};
 
 /// Creates the index. No transaction may be active.
 pub(crate) fn create_index<B: Group, R: Wait>(
@@ -13,7 +13,7 @@ pub(crate) fn create_index<B: Group, R: Wait>(
     shared: &Shared<B>,
     seat: &mut Seat<B>,
 ) -> Result<(), Error> {
-    test_seat_calls::create_index(rt, shared, seat)?;
+    test_shared::create_index(rt, shared, seat)?;
     Ok(())
 }
 

@@ -14,8 +14,7 @@ use std::rt::Clock;
 use std::sync::Wait;
 use std::sync::atomic::{AtomicBool, Ordering};
 use std::thread::{Threads, for_each_mut};
-use test_runs::build;
-use test_seat_calls::{Parts, drop_index, get, open, start};
+use test_shared::{Parts, build, drop_index, get, open, start};
 use threads_lifetime::OpenStore;
 use threads_loops::NoGate;
 
@@ -44,13 +43,13 @@ fn fill<B: Group, R: Wait>(
     rt: &R,
     shared: &Shared<B>,
     seat: &mut Seat<B>,
-    mut part: BuildPart<B>,
+    part: &mut BuildPart<B>,
 ) -> Result<(), Error> {
     for page in 0..PAGES_MAX as u16 {
         fill_page(rt, shared, seat, page)?;
     }
     create_index(rt, shared, seat)?;
-    build(rt, shared, &mut part, &NoGate)?;
+    build(rt, shared, part, &NoGate)?;
     for number in (ROWS..ENTRIES).step_by(TOGETHER) {
         rekey_some(
             rt,
@@ -129,9 +128,8 @@ fn drop_beside<B: Group + Send + Sync, R: Threads + Wait + Clock + Sync>(
     );
 }
 
-// A party for each of the seats, of which there are two.
-fn parties_of<B: Group>(alloc: Global, seats: Vec<Seat<B>>) -> Result<Vec<Party<B>>, Error> {
-    let mut parties = Vec::new(alloc);
+// Adds a party for each of the seats.
+fn add_parties<B: Group>(parties: &mut Vec<Party<B>>, seats: Vec<Seat<B>>) -> Result<(), Error> {
     for seat in seats {
         parties.push(Party {
             seat,
@@ -139,7 +137,7 @@ fn parties_of<B: Group>(alloc: Global, seats: Vec<Seat<B>>) -> Result<Vec<Party<
             refused: None,
         })?;
     }
-    Ok(parties)
+    Ok(())
 }
 
 // Of what the parties did, how long each took.
@@ -157,6 +155,21 @@ fn taken<B: Group>(parties: &[Party<B>]) -> Result<(u64, u64), Error> {
     }
 }
 
+// The first party fills the store. Answers how long the drop took then, and the longest reading beside it.
+fn play_all<B: Group + Send + Sync, R: Threads + Wait + Clock + Sync>(
+    rt: &R,
+    shared: &Shared<B>,
+    parties: &mut Vec<Party<B>>,
+    part: &mut BuildPart<B>,
+) -> Result<(u64, u64), Error> {
+    if let Some(party) = parties.first_mut() {
+        fill(rt, shared, &mut party.seat, part)?;
+    }
+    drop_beside(rt, shared, parties);
+    taken(parties)
+}
+
+// The same with a party for each of the seats, of which there are two.
 fn play_with<B: Group + Send + Sync, R: Threads + Wait + Clock + Sync>(
     rt: &R,
     alloc: Global,
@@ -166,16 +179,19 @@ fn play_with<B: Group + Send + Sync, R: Threads + Wait + Clock + Sync>(
     let Parts {
         seats,
         flush,
-        build,
-        clean: _,
+        mut build,
+        clean,
     } = parts;
     forget(flush);
-    let mut parties = parties_of(alloc, seats)?;
-    if let Some(party) = parties.first_mut() {
-        fill(rt, shared, &mut party.seat, build)?;
-    }
-    drop_beside(rt, shared, &mut parties);
-    taken(&parties)
+    drop(clean);
+    let mut parties = Vec::new(alloc);
+    let taken = match add_parties(&mut parties, seats) {
+        Ok(()) => play_all(rt, shared, &mut parties, &mut build),
+        Err(error) => Err(error),
+    };
+    drop(parties);
+    drop(build);
+    taken
 }
 
 fn begin<B: Group + Send + Sync, R: Threads + Wait + Clock + Sync>(
@@ -191,14 +207,20 @@ fn begin<B: Group + Send + Sync, R: Threads + Wait + Clock + Sync>(
             forget(shared);
             taken
         }
-        Err((error, _)) => Err(error),
+        Err((error, disk)) => {
+            drop(disk);
+            Err(error)
+        }
     }
 }
 
 fn play<R: Threads + Wait + Clock + Sync>(rt: &R, alloc: Global) -> Result<(u64, u64), Error> {
     match open(alloc, formatted(alloc)?, 2) {
         Ok(store) => begin::<Brand, R>(rt, alloc, store),
-        Err((error, _)) => Err(error),
+        Err((error, disk)) => {
+            drop(disk);
+            Err(error)
+        }
     }
 }
 

@@ -13,7 +13,7 @@ use std::marker::Brand;
 use std::mem::forget;
 use std::rt::Clock;
 use std::sync::Wait;
-use test_seat_calls::{Parts, begin, commit, open, start, take_back};
+use test_shared::{Parts, begin, commit, open, start, take_back};
 use threads_lifetime::OpenStore;
 
 // Makes so many commits, each of a transaction without a change.
@@ -58,9 +58,12 @@ fn end<B: Group, R: Wait + Clock>(
     requires seats { AreAllSeats B.site.seats parts.seats.items }
 {
     let begun = now(rt);
-    match take_back(rt, alloc, shared, parts) {
-        (_, None) => Ok(now(rt).saturating_sub(begun)),
-        (_, Some(error)) => Err(error),
+    let (disk, refused) = take_back(rt, alloc, shared, parts);
+    let took = now(rt).saturating_sub(begun);
+    drop(disk);
+    match refused {
+        None => Ok(took),
+        Some(error) => Err(error),
     }
 }
 
@@ -75,7 +78,10 @@ fn play<B: Group, R: Wait + Clock>(
 {
     let (shared, mut parts) = match start::<B, Disk, Global>(store) {
         Ok(started) => started,
-        Err((error, _)) => return Err(error),
+        Err((error, disk)) => {
+            drop(disk);
+            return Err(error);
+        }
     };
     match commit_by_first(rt, &shared, &mut parts.seats, commits) {
         Ok(()) => end(rt, alloc, shared, parts),
@@ -91,7 +97,10 @@ fn play<B: Group, R: Wait + Clock>(
 fn play_new<R: Wait + Clock>(rt: &R, alloc: Global, commits: u64) -> Result<u64, Error> {
     match open(alloc, formatted(alloc)?, 1) {
         Ok(store) => play::<Brand, R>(rt, alloc, store, commits),
-        Err((error, _)) => Err(error),
+        Err((error, disk)) => {
+            drop(disk);
+            Err(error)
+        }
     }
 }
 

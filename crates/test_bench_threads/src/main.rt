@@ -39,10 +39,12 @@ fn check<R: Print + Alloc<A = Global> + Threads + Wait + Clock + CpuClock + Sync
         after: 5,
     };
     let round = rounds::play(rt, rt.alloc(), 2, 2, plan)?;
+    let commits = !round.commits.is_empty();
+    let times = round.times;
+    drop(round);
     println!(rt;
-        "commits {} built {}",
-        !round.commits.is_empty(),
-        round.times.created < round.times.complete
+        "commits {commits} built {}",
+        times.created < times.complete
     )?;
     Ok(())
 }

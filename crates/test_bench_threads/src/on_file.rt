@@ -26,13 +26,29 @@ const PAGES_FULL: u16 = 255;
 // How often it is opened.
 const OPENINGS: u32 = 5;
 
+// Formats the disk over the new file, and gives the file its name.
+fn format<R: Files<File = File> + AllocGlobal>(
+    rt: &R,
+    path: &str,
+    disk: &mut Disk,
+    geometry: Geometry,
+) -> Result<()> {
+    format_store(disk, geometry)?;
+    store_file::publish(rt, path)?;
+    Ok(())
+}
+
 // Makes the largest store in a new file, and opens it.
 fn make<R: Files<File = File> + AllocGlobal>(rt: &R, path: &str) -> Result<Disk> {
     let geometry = Geometry::new(256, 65_536, 256)?;
     let mut disk = store_file::create(rt, rt.alloc(), path, geometry.sectors())?;
-    format_store(&mut disk, geometry)?;
-    store_file::publish(rt, path)?;
-    Ok(disk)
+    match format(rt, path, &mut disk, geometry) {
+        Ok(()) => Ok(disk),
+        Err(error) => {
+            drop(disk);
+            Err(error)
+        }
+    }
 }
 
 // Prints a line for so many writers on a store in a new file.
@@ -45,7 +61,19 @@ fn write<
         after: WRITING,
     };
     let round = play_on(rt, rt.alloc(), make(rt, path)?, writers, writers, plan)?;
-    print_all(rt, writers, "in a file", &round)
+    let printed = print_all(rt, writers, "in a file", &round);
+    drop(round);
+    printed
+}
+
+// The same in a file whose name ends with the number of writers.
+fn write_beside<
+    R: Print + Alloc<A = Global> + Threads + Wait + Clock + CpuClock + Files<File = File> + Sync,
+>(rt: &R, path: &str, writers: u8) -> Result<()> {
+    let name = format!(in rt.alloc(); "{path}.{writers}")?;
+    let written = write(rt, name.as_str(), writers);
+    drop(name);
+    written
 }
 
 // Fills a store in a new file, and builds its index.
@@ -58,7 +86,7 @@ fn fill<R: Alloc<A = Global> + Threads + Wait + Clock + CpuClock + Files<File = 
         before: 0,
         after: 0,
     };
-    play_on(rt, rt.alloc(), make(rt, path)?, 1, 0, plan)?;
+    drop(play_on(rt, rt.alloc(), make(rt, path)?, 1, 0, plan)?);
     Ok(())
 }
 
@@ -66,9 +94,16 @@ fn fill<R: Alloc<A = Global> + Threads + Wait + Clock + CpuClock + Files<File = 
 fn open<R: Alloc<A = Global> + Clock + Files<File = File>>(rt: &R, path: &str) -> Result<u64> {
     let begun = now(rt);
     let disk = store_file::open(rt, rt.alloc(), path)?;
-    match test_seat_calls::open(rt.alloc(), disk, 1) {
-        Ok(_) => Ok(now(rt).saturating_sub(begun) / 1_000),
-        Err((error, _)) => Err(error.into()),
+    match test_shared::open(rt.alloc(), disk, 1) {
+        Ok(store) => {
+            let took = now(rt).saturating_sub(begun) / 1_000;
+            drop(store);
+            Ok(took)
+        }
+        Err((error, disk)) => {
+            drop(disk);
+            Err(error.into())
+        }
     }
 }
 
@@ -78,8 +113,7 @@ pub(crate) fn measure<
     R: Print + Alloc<A = Global> + Threads + Wait + Clock + CpuClock + Files<File = File> + Sync,
 >(rt: &R, path: &str) -> Result<()> {
     for writers in [1, 8] {
-        let of_writers = format!(in rt.alloc(); "{path}.{writers}")?;
-        write(rt, of_writers.as_str(), writers)?;
+        write_beside(rt, path, writers)?;
     }
     fill(rt, path)?;
     for _ in 0..OPENINGS {

@@ -124,6 +124,31 @@ fn write_line<W: Write>(out: &mut W, drawing: &Drawing) -> io::Result<()> {
     writeln!(out, "\"/>\n</svg>")
 }
 
+// Writes the whole picture.
+fn write_all<W: Write>(out: &mut W, drawing: &Drawing, writers: u8) -> io::Result<()> {
+    write_frame(out, drawing, writers)?;
+    write_line(out, drawing)
+}
+
+// Draws it into this file.
+fn draw_into<R: Print + Alloc<A = Global> + Files>(
+    rt: &R,
+    writers: u8,
+    file: &str,
+    drawing: &Drawing,
+) -> Result<()> {
+    let mut picture = Vec::new(rt.alloc());
+    match write_all(&mut picture, drawing, writers) {
+        Ok(()) => fs::write(rt, file, picture)?,
+        Err(error) => {
+            drop(picture);
+            return Err(error.into());
+        }
+    }
+    println!(rt; "{file}: {} points", drawing.counts.len())?;
+    Ok(())
+}
+
 /// Draws what so many writers do before a build, beside it and behind it, into this file.
 pub(crate) fn draw<R: Print + Alloc<A = Global> + Threads + Wait + Clock + CpuClock + Files + Sync>(
     rt: &R,
@@ -136,11 +161,10 @@ pub(crate) fn draw<R: Print + Alloc<A = Global> + Threads + Wait + Clock + CpuCl
         after: AROUND,
     };
     let round = play(rt, rt.alloc(), writers, writers, plan)?;
-    let drawing = drawing_of(rt.alloc(), &round)?;
-    let mut picture = Vec::new(rt.alloc());
-    write_frame(&mut picture, &drawing, writers)?;
-    write_line(&mut picture, &drawing)?;
-    fs::write(rt, file, picture)?;
-    println!(rt; "{file}: {} points", drawing.counts.len())?;
-    Ok(())
+    let drawing = drawing_of(rt.alloc(), &round);
+    drop(round);
+    let drawing = drawing?;
+    let drawn = draw_into(rt, writers, file, &drawing);
+    drop(drawing);
+    drawn
 }

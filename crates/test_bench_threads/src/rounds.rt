@@ -13,8 +13,7 @@ use std::sync::Wait;
 use std::thread::Threads;
 use std::time::CpuClock;
 use store_file::{Detached, FileDisk};
-use test_runs::{LoopParts, Ran, run};
-use test_seat_calls::{Parts, open, start};
+use test_shared::{LoopParts, Parts, Ran, open, run, start};
 use threads_lifetime::{OpenStore, format_store};
 use threads_loops::NoGate;
 
@@ -32,44 +31,96 @@ pub(crate) struct Round {
 pub(crate) fn formatted(alloc: Global) -> Result<Disk, Error> {
     let geometry = Geometry::new(256, 65_536, 256)?;
     let mut disk = FileDisk::new(alloc, Detached, geometry.sectors() as usize)?;
-    format_store(&mut disk, geometry)?;
-    Ok(disk)
+    match format_store(&mut disk, geometry) {
+        Ok(()) => Ok(disk),
+        Err(error) => {
+            drop(disk);
+            Err(error)
+        }
+    }
+}
+
+// Adds a client for each of the seats.
+fn add_clients<B: Group>(
+    alloc: Global,
+    clients: &mut Vec<Client<B>>,
+    seats: Vec<Seat<B>>,
+) -> Result<(), Error> {
+    for seat in seats {
+        clients.push(Client {
+            seat,
+            commits: Vec::new(alloc),
+            times: None,
+            refused: None,
+        })?;
+    }
+    Ok(())
 }
 
 // So many clients; the other seats are let go.
 fn clients_of<B: Group>(
     alloc: Global,
-    seats: Vec<Seat<B>>,
+    mut seats: Vec<Seat<B>>,
     count: usize,
 ) -> Result<Vec<Client<B>>, Error> {
+    seats.truncate(count);
     let mut clients = Vec::new(alloc);
-    for seat in seats {
-        if clients.len() < count {
-            clients.push(Client {
-                seat,
-                commits: Vec::new(alloc),
-                times: None,
-                refused: None,
-            })?;
+    match add_clients(alloc, &mut clients, seats) {
+        Ok(()) => Ok(clients),
+        Err(error) => {
+            drop(clients);
+            Err(error)
         }
     }
-    Ok(clients)
 }
 
-// The commits of all clients in one list, and the times; or the first refusal.
-fn round_of<B: Group>(alloc: Global, clients: Vec<Client<B>>) -> Result<Round, Error> {
-    let mut commits = Vec::new(alloc);
+// Moves the commits of all clients into one list, and answers the times; or the first refusal.
+fn take_commits<B: Group>(
+    commits: &mut Vec<Commit>,
+    clients: &mut [Client<B>],
+) -> Result<Times, Error> {
     let mut times = None;
-    for mut client in clients {
+    for client in clients {
         if let Some(error) = client.refused {
             return Err(error);
         }
         times = times.or(client.times);
         commits.append(&mut client.commits)?;
     }
-    match times {
-        Some(times) => Ok(Round { commits, times }),
-        None => Err(Error::NoMemory),
+    times.ok_or(Error::NoMemory)
+}
+
+// The commits of all clients in one list, and the times; or the first refusal.
+fn round_of<B: Group>(alloc: Global, mut clients: Vec<Client<B>>) -> Result<Round, Error> {
+    let mut commits = Vec::new(alloc);
+    let taken = take_commits(&mut commits, &mut clients);
+    drop(clients);
+    match taken {
+        Ok(times) => Ok(Round { commits, times }),
+        Err(error) => {
+            drop(commits);
+            Err(error)
+        }
+    }
+}
+
+// The round of clients that ran beside the loops.
+fn round_beside<B: Group, D: Device + Drop>(
+    alloc: Global,
+    ran: Ran<B, D, Vec<Client<B>>>,
+) -> Result<Round, Error> {
+    let Ran {
+        clients,
+        loops,
+        flushed,
+    } = ran;
+    drop(loops);
+    match flushed {
+        Ok(()) => round_of(alloc, clients),
+        Err(error) => {
+            drop(clients);
+            Err(error)
+        }
     }
 }
 
@@ -100,14 +151,7 @@ fn work<
     match clients_of(alloc, seats, count) {
         Ok(clients) => {
             let work = move || work_all(rt, shared, clients, plan);
-            let Ran {
-                clients,
-                loops,
-                flushed,
-            } = run(rt, shared, loops, &NoGate, work)?;
-            drop(loops.flush.into_parts());
-            flushed?;
-            round_of(alloc, clients)
+            round_beside(alloc, run(rt, shared, loops, &NoGate, work)?)
         }
         Err(error) => {
             forget(loops);
@@ -125,8 +169,15 @@ fn begin<
     requires names { store.site ≡ B.site }
 {
     match start::<B, D, Global>(store) {
-        Ok((shared, parts)) => work(rt, alloc, &shared, parts, count, plan),
-        Err((error, _)) => Err(error),
+        Ok((shared, parts)) => {
+            let round = work(rt, alloc, &shared, parts, count, plan);
+            drop(shared);
+            round
+        }
+        Err((error, disk)) => {
+            drop(disk);
+            Err(error)
+        }
     }
 }
 
@@ -142,7 +193,10 @@ pub(crate) fn play_on<D: Device + Send + Drop, R: Threads + Wait + Clock + CpuCl
 ) -> Result<Round, Error> {
     match open(alloc, disk, usize::from(seats) + 1) {
         Ok(store) => begin::<Brand, D, R>(rt, alloc, store, usize::from(writers) + 1, plan),
-        Err((error, _)) => Err(error),
+        Err((error, disk)) => {
+            drop(disk);
+            Err(error)
+        }
     }
 }
 

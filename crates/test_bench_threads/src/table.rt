@@ -94,7 +94,22 @@ pub(crate) fn quiet<R: Print + Alloc<A = Global> + Threads + Wait + Clock + CpuC
         after: QUIET,
     };
     let round = play(rt, rt.alloc(), writers, writers, plan)?;
-    print_all(rt, writers, "quiet", &round)
+    let printed = print_all(rt, writers, "quiet", &round);
+    drop(round);
+    printed
+}
+
+// Prints a line for all commits of a round, where nothing was counted yet.
+fn print_round<R: Print>(
+    rt: &R,
+    writers: u8,
+    how: &str,
+    round: &Round,
+    counted: &mut Counted,
+) -> Result<()> {
+    let Times { begun, ended, .. } = round.times;
+    counted.count(round, begun, ended)?;
+    print(rt, writers, how, counted)
 }
 
 /// Prints a line for all commits of a round.
@@ -105,9 +120,49 @@ pub(crate) fn print_all<R: Print + Alloc<A = Global>>(
     round: &Round,
 ) -> Result<()> {
     let mut counted = nothing(rt.alloc());
-    let Times { begun, ended, .. } = round.times;
-    counted.count(round, begun, ended)?;
-    print(rt, writers, how, &mut counted)
+    let printed = print_round(rt, writers, how, round, &mut counted);
+    drop(counted);
+    printed
+}
+
+// Counts the commits of a round between the creation of the index and its end.
+fn count_build<R: Alloc<A = Global> + Threads + Wait + Clock + CpuClock + Sync>(
+    rt: &R,
+    writers: u8,
+    plan: Plan,
+    counted: &mut Counted,
+) -> Result<()> {
+    let round = play(rt, rt.alloc(), writers, writers, plan)?;
+    let Times {
+        created,
+        complete,
+        ..
+    } = round.times;
+    let noted = counted.count(&round, created, complete);
+    drop(round);
+    noted
+}
+
+// Prints both lines of writers beside a build, where nothing was counted yet.
+fn print_builds<R: Print + Alloc<A = Global> + Threads + Wait + Clock + CpuClock + Sync>(
+    rt: &R,
+    writers: u8,
+    plan: Plan,
+    counted: &mut Counted,
+) -> Result<()> {
+    for _ in 0..ROUNDS_MAX {
+        count_build(rt, writers, plan, counted)?;
+        if counted.spent >= BESIDE.saturating_mul(1_000_000) {
+            break;
+        }
+    }
+    print(rt, writers, "beside a build", counted)?;
+    println!(rt;
+        "{writers} writers: {} builds over {PAGES_FULL} full pages, {} microseconds each",
+        counted.rounds,
+        counted.spent.checked_div(counted.rounds).unwrap_or(0) / 1_000
+    )?;
+    Ok(())
 }
 
 /// Prints a line for so many writers that commit while an index is built over many full pages, in as many builds one
@@ -122,25 +177,9 @@ pub(crate) fn beside<R: Print + Alloc<A = Global> + Threads + Wait + Clock + Cpu
         after: 10,
     };
     let mut counted = nothing(rt.alloc());
-    for _ in 0..ROUNDS_MAX {
-        let round = play(rt, rt.alloc(), writers, writers, plan)?;
-        let Times {
-            created,
-            complete,
-            ..
-        } = round.times;
-        counted.count(&round, created, complete)?;
-        if counted.spent >= BESIDE.saturating_mul(1_000_000) {
-            break;
-        }
-    }
-    print(rt, writers, "beside a build", &mut counted)?;
-    println!(rt;
-        "{writers} writers: {} builds over {PAGES_FULL} full pages, {} microseconds each",
-        counted.rounds,
-        counted.spent.checked_div(counted.rounds).unwrap_or(0) / 1_000
-    )?;
-    Ok(())
+    let printed = print_builds(rt, writers, plan, &mut counted);
+    drop(counted);
+    printed
 }
 
 /// Prints how long processors are busy for a store with so many seats, where nobody asks for anything.
@@ -154,9 +193,11 @@ pub(crate) fn idle<R: Print + Alloc<A = Global> + Threads + Wait + Clock + CpuCl
         after: 1_000,
     };
     let round = play(rt, rt.alloc(), seats, 0, plan)?;
+    let used = round.times.used;
+    drop(round);
     println!(rt;
         "idle, {seats} seats: {} microseconds of processor time in a second",
-        round.times.used / 1_000
+        used / 1_000
     )?;
     Ok(())
 }

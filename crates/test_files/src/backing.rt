@@ -6,7 +6,7 @@ use std::io::ErrorKind;
 use store_file::{Backing, Stored};
 
 /// What becomes of the sectors that are in the cache alone, once the power is lost.
-#[derive(Clone, Copy, Debug, PartialEq, Eq)]
+#[derive(Clone, Copy)]
 pub enum Loss {
     Dropped,
     Kept,

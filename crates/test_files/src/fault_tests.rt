@@ -36,13 +36,14 @@ fn formatted(alloc: Global) -> Result<Host, Fail> {
     let sectors = geometry.sectors() as usize;
     let mut host = Host::new(alloc, sectors)?;
     let mut disk = FileDisk::new(alloc, Used { host: &mut host }, sectors)?;
-    Halves::format(&mut disk, geometry)?;
+    let formatted = Halves::format(&mut disk, geometry);
     drop(disk);
+    formatted?;
     Ok(host)
 }
 
 // How many rows were committed, and how many a flush told to be safe.
-#[derive(Clone, Copy, Debug, Default, PartialEq, Eq)]
+#[derive(Clone, Copy, Default)]
 struct Told {
     committed: u8,
     acknowledged: u8,
@@ -146,8 +147,15 @@ fn play<D: Device>(store: &mut Store<D>, told: Told, more: u8) -> Result<Told, E
 // The same on a disk, whose store is opened first.
 fn play_on<D: Device + Drop>(alloc: Global, disk: D, told: Told, more: u8) -> Result<Told, Error> {
     match Store::open(alloc, disk) {
-        Ok(mut store) => play(&mut store, told, more),
-        Err(_) => Ok(told),
+        Ok(mut store) => {
+            let played = play(&mut store, told, more);
+            drop(store);
+            played
+        }
+        Err(refused) => {
+            drop(refused);
+            Ok(told)
+        }
     }
 }
 
@@ -159,7 +167,25 @@ fn live(alloc: Global, host: &mut Host, told: Told, more: u8) -> Result<Told, Er
     }
 }
 
-// The store on the disk holds what was acknowledged; and its index all of it, where that is to be built.
+// The store holds what was acknowledged; and its index all of it, where that is to be built.
+fn look_in<D: Device>(
+    rt: &impl Abort,
+    store: &mut Store<D>,
+    told: Told,
+    is_built: bool,
+) -> Result<(), Fail> {
+    let Some(rows) = rows_in(store) else {
+        return Err(Fail::new("rows that weren't put"));
+    };
+    assert!(rt; told.acknowledged <= rows);
+    assert!(rt; rows <= told.committed.saturating_add(1));
+    if is_built && build(store) {
+        assert_eq!(rt; entries_in(store), Some(rows));
+    }
+    Ok(())
+}
+
+// The same of the store on the disk.
 fn look_on<D: Device + Drop>(
     rt: &impl Abort,
     alloc: Global,
@@ -167,18 +193,17 @@ fn look_on<D: Device + Drop>(
     told: Told,
     is_built: bool,
 ) -> Result<(), Fail> {
-    let Ok(mut store) = Store::open(alloc, disk) else {
-        return Err(Fail::new("the store can't be opened again"));
-    };
-    let Some(rows) = rows_in(&store) else {
-        return Err(Fail::new("rows that weren't put"));
-    };
-    assert!(rt; told.acknowledged <= rows);
-    assert!(rt; rows <= told.committed.saturating_add(1));
-    if is_built && build(&mut store) {
-        assert_eq!(rt; entries_in(&store), Some(rows));
+    match Store::open(alloc, disk) {
+        Ok(mut store) => {
+            let looked = look_in(rt, &mut store, told, is_built);
+            drop(store);
+            looked
+        }
+        Err(refused) => {
+            drop(refused);
+            Err(Fail::new("the store can't be opened again"))
+        }
     }
-    Ok(())
 }
 
 // The same of what is left, once the power was lost.

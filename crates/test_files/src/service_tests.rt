@@ -104,7 +104,7 @@ fn an_index_that_is_too_small_is_told(rt: HostRuntime) -> Result<(), Fail> {
 }
 
 // A run of the program on a new store, and what it answers and says.
-#[derive(Clone, Copy, Debug, PartialEq, Eq)]
+#[derive(Clone, Copy)]
 struct Run<'a> {
     words: &'a [&'a str],
     script: &'a str,

@@ -3,8 +3,8 @@ ghost use Rattle.std.specs.Prelude.{◌≡◌};
 
 use crate::many_threads::Put;
 use nsf::{
-    BuilderEnd, Client, Error, Geometry, Group, Key, MemDisk, OpenError, Seat, Shared, Ticket,
-    format_store, serve,
+    BuilderEnd, Client, Error, Geometry, Group, Key, MemDisk, OpenError, Seat, Served, Shared,
+    Ticket, format_store, serve,
 };
 use std::alloc::Global;
 use std::sync::Wait;
@@ -80,20 +80,24 @@ fn formatted(alloc: Global) -> Result<MemDisk<Global>, Error> {
     Ok(disk)
 }
 
+// What the client was told, if all was written out.
+fn told_to<D>(served: &Served<Crowd, D>) -> Result<Option<Error>, Error> {
+    served.written?;
+    let mut told = None;
+    for client in &served.clients {
+        told = client.told?;
+    }
+    Ok(told)
+}
+
 /// Why the builder has ended, as the client was told, and as the run tells it behind that.
 pub fn serve_a_crowd<R: Threads + Wait + Sync>(
     rt: &R,
     alloc: Global,
 ) -> Result<(Option<Error>, Result<Ticket, Error>), OpenError> {
-    match serve(rt, alloc, formatted(alloc)?, one_client(alloc)?) {
-        Ok(served) => {
-            served.written?;
-            let mut told = None;
-            for client in &served.clients {
-                told = client.told?;
-            }
-            Ok((told, served.built))
-        }
+    let clients = one_client(alloc)?;
+    match serve(rt, alloc, formatted(alloc)?, clients) {
+        Ok(served) => Ok((told_to(&served)?, served.built)),
         Err((error, _)) => Err(error),
     }
 }

@@ -2,8 +2,8 @@
 ghost use Rattle.std.specs.Prelude.{◌≡◌};
 
 use nsf::{
-    Body, BuilderEnd, Client, Error, Group, Key, MemDisk, OpenError, Seat, Shared, Ticket, Txn,
-    serve,
+    Body, BuilderEnd, Client, Error, Group, Key, MemDisk, OpenError, Seat, Served, Shared, Ticket,
+    Txn, serve,
 };
 use std::alloc::Global;
 use std::sync::Wait;
@@ -79,6 +79,15 @@ fn clients_of(alloc: Global, keys: &[&[u8]]) -> Result<Vec<Put>, Error> {
     Ok(clients)
 }
 
+// Why not all was put and written out, if so.
+fn each_put<D>(served: &Served<Put, D>) -> Result<(), Error> {
+    served.written?;
+    for client in &served.clients {
+        client.done?;
+    }
+    Ok(())
+}
+
 /// Puts two rows side by side in the store on the disk.
 pub fn put_two<R: Threads + Wait + Sync>(
     rt: &R,
@@ -88,10 +97,7 @@ pub fn put_two<R: Threads + Wait + Sync>(
     let clients = clients_of(alloc, &[b"bee", b"cat"])?;
     match serve(rt, alloc, disk, clients) {
         Ok(served) => {
-            served.written?;
-            for client in &served.clients {
-                client.done?;
-            }
+            each_put(&served)?;
             Ok(served.device)
         }
         Err((error, _)) => Err(error),

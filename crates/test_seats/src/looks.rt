@@ -8,7 +8,7 @@ use shared::{Group, Memory, Seat, Shared};
 use std::alloc::Global;
 use std::sync::Wait;
 use test_memory::Refusing;
-use test_seat_calls::{begin, commit, find, get, life};
+use test_shared::{begin, commit, find, get, life};
 use threads_flusher::FlushPart;
 
 // So many commits fill more than a block of the queue.

@@ -12,7 +12,7 @@ use std::alloc::Global;
 use std::marker::Brand;
 use std::sync::Wait;
 use test_memory::Refusing;
-use test_seat_calls::{Parts, open, start, take_back};
+use test_shared::{Parts, open, start, take_back};
 use threads_flusher::FlushPart;
 use threads_lifetime::OpenStore;
 

@@ -7,7 +7,7 @@ use shared::{Change, Group, Memory, Seat, Shared};
 use std::alloc::Global;
 use std::sync::Wait;
 use test_memory::Refusing;
-use test_seat_calls::{
+use test_shared::{
     abort, begin, carry_on, commit, create_index, delete, drop_index, insert, update,
 };
 

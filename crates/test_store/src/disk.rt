@@ -35,8 +35,13 @@ impl Disk {
     pub fn formatted(alloc: Global, pages: u32, slots: u32) -> Result<Disk, Error> {
         let geometry = Geometry::new(pages, pages.saturating_mul(64), slots)?;
         let mut disk = Disk::bare(alloc, geometry.sectors())?;
-        Halves::format(&mut disk.device, geometry)?;
-        Ok(disk)
+        match Halves::format(&mut disk.device, geometry) {
+            Ok(()) => Ok(disk),
+            Err(error) => {
+                drop(disk);
+                Err(error)
+            }
+        }
     }
 
     /// The disk, where from now on the call of this number fails, of those that are counted; or none at 0.

@@ -14,6 +14,9 @@ pub fn ample(alloc: Global) -> Refusing<Global> {
 pub fn open<M: StoreMemory>(memory: M, disk: Disk) -> Result<M::Store, Error> {
     match memory.open(disk) {
         Ok(store) => Ok(store),
-        Err((error, _)) => Err(error),
+        Err((error, disk)) => {
+            drop(disk);
+            Err(error)
+        }
     }
 }

@@ -39,7 +39,11 @@ fn parted<D: Device, A: Allocator + Copy>(
     engine: Engine<D, A>,
 ) -> Result<(u64, u64, D), (Error, D)> {
     match engine.into_parts() {
-        Ok((core, writer)) => Ok((core.last(), writer.synced(), writer.into_device())),
+        Ok((core, writer)) => {
+            let last = core.last();
+            drop(core);
+            Ok((last, writer.synced(), writer.into_device()))
+        }
         Err((error, engine)) => Err((error, engine.into_device())),
     }
 }
@@ -115,15 +119,22 @@ impl<A: Allocator> Model for Store<A> {
 
 impl<A: Allocator + Copy> OpenStore for Store<A> {
     fn run(&mut self, alloc: Global, events: &[Event]) -> Result<Vec<Answer>, Error> {
-        answers_of(alloc, &replies_to(&mut self.engine, events)?)
+        let replies = replies_to(&mut self.engine, events)?;
+        let answers = answers_of(alloc, &replies);
+        drop(replies);
+        answers
     }
 
     fn ask(&mut self, event: &Event) -> Answer {
         match replies_to(&mut self.engine, &[*event]) {
-            Ok(replies) => match replies.first() {
-                Some(reply) => answer_of(reply),
-                None => Answer::Skipped,
-            },
+            Ok(replies) => {
+                let answer = match replies.first() {
+                    Some(reply) => answer_of(reply),
+                    None => Answer::Skipped,
+                };
+                drop(replies);
+                answer
+            }
             Err(error) => Answer::Refused(error),
         }
     }

@@ -67,7 +67,7 @@ fn fill_and_build(rt: &impl Abort, store: &mut impl OpenStore) -> Result<(), Fai
 fn fill_and_build_over<M: StoreMemory>(rt: &impl Abort, memory: M, disk: Disk) -> Result<(), Fail> {
     let mut store = open(memory, disk)?;
     let built = fill_and_build(rt, &mut store);
-    store.close();
+    drop(store.close());
     built
 }
 

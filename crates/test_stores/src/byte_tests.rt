@@ -1,10 +1,9 @@
 // A store byte by byte, as the format document has it.
-use restart::Event;
+use crate::image_tests::run_over;
 use sector_device::SECTOR_SIZE;
-use std::alloc::Global;
 use std::process::Abort;
 use std::test::Fail;
-use test_store::{Disk, GROUP, OpenStore, StoreMemory, ample, open, requests, write_at};
+use test_store::{Disk, GROUP, ample, requests, write_at};
 
 // A sector, and what stands in it at these places: the rest is zeros.
 type Sector<'a> = (u64, &'a [(usize, &'a [u8])]);
@@ -22,21 +21,9 @@ fn check(rt: &impl Abort, disk: &mut Disk, (n, pieces): Sector<'_>) -> Result<()
 const SCRIPT: &str = "begin\ninsert 1 =ant =x\ncommit 1\nflush\n\
     create\nbuild 2\nbegin\ninsert 2 =a =\nstep 2\nimage\nimage\nimage\nimage\n";
 
-// What these requests to a new store leave.
-fn left_by<M: StoreMemory>(memory: M, alloc: Global, events: &[Event]) -> Result<Disk, Fail> {
-    let mut store = open(memory, Disk::formatted(alloc, 1, 4)?)?;
-    let run = store.run(alloc, events);
-    let disk = store.close();
-    run?;
-    Ok(disk)
-}
-
 // The first restart makes half B current: half A is in sectors 2 to 1083, half B begins at 1084, and its first gate is
 // in 2134.
-#[test]
-fn a_store_byte_by_byte(rt: HostRuntime) -> Result<(), Fail> {
-    let memory = ample(rt.alloc());
-    let mut disk = left_by(&memory, rt.alloc(), &requests(rt.alloc(), SCRIPT)?)?;
+fn check_store(rt: &impl Abort, disk: &mut Disk) -> Result<(), Fail> {
     let sectors: [Sector<'_>; 11] = [
         (
             0,
@@ -71,11 +58,23 @@ fn a_store_byte_by_byte(rt: HostRuntime) -> Result<(), Fail> {
         (2135, &[(0, GROUP)]),
     ];
     for sector in sectors {
-        check(&rt, &mut disk, sector)?;
+        check(rt, disk, sector)?;
     }
     // the rest of its slot, and the next gate
     for n in 2136..2143 {
-        check(&rt, &mut disk, (n, &[]))?;
+        check(rt, disk, (n, &[]))?;
     }
     Ok(())
+}
+
+#[test]
+fn a_store_byte_by_byte(rt: HostRuntime) -> Result<(), Fail> {
+    let memory = ample(rt.alloc());
+    let events = requests(rt.alloc(), SCRIPT)?;
+    let disk = Disk::formatted(rt.alloc(), 1, 4)?;
+    let (answers, mut disk) = run_over(&memory, rt.alloc(), disk, &events)?;
+    drop(answers);
+    let checked = check_store(&rt, &mut disk);
+    drop(disk);
+    checked
 }

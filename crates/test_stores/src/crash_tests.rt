@@ -64,7 +64,7 @@ fn whole_by_new<'a, M: StoreMemory>(
 ) -> Result<Whole<'a>, Fail> {
     let mut store = open(memory, Disk::formatted(alloc, 1, 4)?)?;
     let whole = whole_by(alloc, &mut store, events);
-    store.close();
+    drop(store.close());
     whole
 }
 
@@ -156,7 +156,7 @@ fn held_at_last<M: StoreMemory>(
         match memory.open(disk.crash(fate).failing(which, call)) {
             Ok(store) => {
                 let held = store.contents();
-                store.close();
+                drop(store.close());
                 return Ok((held, again));
             }
             Err((error, stopped)) => {
@@ -166,6 +166,7 @@ fn held_at_last<M: StoreMemory>(
         }
         again = true;
     }
+    drop(disk);
     Err("a restart that is not stopped")?
 }
 

@@ -4,22 +4,35 @@ use std::alloc::Global;
 use std::test::Fail;
 use test_store::{Disk, Edit, GROUP, OpenStore, StoreMemory, ample, edit, open};
 
-// Why the store on the disk isn't opened.
-fn why_not_open<M: StoreMemory>(memory: M, disk: Disk) -> Option<Error> {
+/// Why the store on the disk isn't opened.
+pub(crate) fn why_not_open<M: StoreMemory>(memory: M, disk: Disk) -> Option<Error> {
     match memory.open(disk) {
         Ok(store) => {
-            store.close();
+            drop(store.close());
             None
         }
-        Err((error, _)) => Some(error),
+        Err((error, disk)) => {
+            drop(disk);
+            Some(error)
+        }
     }
 }
 
-// The same of the least store, just formatted and then changed so.
-fn refusal(alloc: Global, edits: &[Edit<'_>]) -> Result<Option<Error>, Error> {
+// The least store, just formatted and then changed so.
+fn edited(alloc: Global, edits: &[Edit<'_>]) -> Result<Disk, Error> {
     let mut disk = Disk::formatted(alloc, 1, 4)?;
-    edit(&mut disk, edits)?;
-    Ok(why_not_open(&ample(alloc), disk))
+    match edit(&mut disk, edits) {
+        Ok(()) => Ok(disk),
+        Err(error) => {
+            drop(disk);
+            Err(error)
+        }
+    }
+}
+
+// Why it isn't opened.
+fn refusal(alloc: Global, edits: &[Edit<'_>]) -> Result<Option<Error>, Error> {
+    Ok(why_not_open(&ample(alloc), edited(alloc, edits)?))
 }
 
 const fn damaged(sector: u64) -> Option<Error> {
@@ -106,15 +119,14 @@ fn stores_that_were_harmed(rt: HostRuntime) -> Result<(), Fail> {
 fn completed_by<M: StoreMemory>(memory: M, disk: Disk) -> Result<u64, Error> {
     let mut store = open(memory, disk)?;
     let completed = store.build_to_end();
-    store.close();
+    drop(store.close());
     completed
 }
 
 // A store may begin with an index that is complete and has no record.
 #[test]
 fn an_index_that_no_record_completed(rt: HostRuntime) -> Result<(), Fail> {
-    let mut disk = Disk::formatted(rt.alloc(), 1, 4)?;
-    edit(&mut disk, &[(2, 0, b"\x02")])?;
+    let disk = edited(rt.alloc(), &[(2, 0, b"\x02")])?;
     assert_eq!(rt; completed_by(&ample(rt.alloc()), disk), Ok(0));
     Ok(())
 }

@@ -30,8 +30,8 @@ fn numbers_of(alloc: Global, answers: &[Answer]) -> Result<Vec<u64>, Fail> {
     Ok(numbers)
 }
 
-// What these requests to the store on the disk are answered, and what they leave.
-fn run_over<M: StoreMemory>(
+/// What these requests to the store on the disk are answered, and what they leave.
+pub(crate) fn run_over<M: StoreMemory>(
     memory: M,
     alloc: Global,
     disk: Disk,
@@ -40,14 +40,20 @@ fn run_over<M: StoreMemory>(
     let mut store = open(memory, disk)?;
     let run = store.run(alloc, events);
     let disk = store.close();
-    Ok((run?, disk))
+    match run {
+        Ok(answers) => Ok((answers, disk)),
+        Err(error) => {
+            drop(disk);
+            Err(error)?
+        }
+    }
 }
 
-// What the store on the disk holds, and how many entries.
-fn held_on<M: StoreMemory>(memory: M, disk: Disk) -> Result<(Contents, usize), Fail> {
+/// What the store on the disk holds, and how many entries.
+pub(crate) fn held_on<M: StoreMemory>(memory: M, disk: Disk) -> Result<(Contents, usize), Fail> {
     let store = open(memory, disk)?;
     let held = (store.contents(), store.entries());
-    store.close();
+    drop(store.close());
     Ok(held)
 }
 
@@ -61,14 +67,16 @@ fn flip(
     wanted: &[u64],
 ) -> Result<(Contents, usize), Fail> {
     let memory = ample(alloc);
+    let events = requests(alloc, script)?;
     let disk = Disk::formatted(alloc, pages, slots)?;
-    let (answers, disk) = run_over(&memory, alloc, disk, &requests(alloc, script)?)?;
+    let (answers, disk) = run_over(&memory, alloc, disk, &events)?;
+    let left = held_on(&memory, disk.crash(Fate::Junk))?;
     assert!(rt; matches!(answers.last(), Some(Answer::Flipped(_))));
     assert!(rt;
         numbers_of(alloc, &answers)?.ends_with(wanted),
         "{answers:?}"
     );
-    held_on(&memory, disk.crash(Fate::Junk))
+    Ok(left)
 }
 
 // Four transactions of 50 rows each, with this behind them.
@@ -145,11 +153,18 @@ fn parted<M: StoreMemory>(
     let mut store = open(memory, Disk::formatted(alloc, 1, 4)?)?;
     let run = store.run(alloc, &events);
     let parts = store.into_parts();
+    let numbers = match parts {
+        Ok((last, synced, disk)) => {
+            drop(disk);
+            Ok((last, synced))
+        }
+        Err((error, disk)) => {
+            drop(disk);
+            Err(error)
+        }
+    };
     run?;
-    match parts {
-        Ok((last, synced, _)) => Ok(Ok((last, synced))),
-        Err((error, _)) => Ok(Err(error)),
-    }
+    Ok(numbers)
 }
 
 // A store with an image under way is taken apart: all is safe then. One with an active transaction isn't.

@@ -76,7 +76,7 @@ fn answers_of<M: StoreMemory>(
 fn held_on<M: StoreMemory>(rt: &impl Abort, memory: M, disk: Disk) -> Result<Contents, Fail> {
     let store = open_again(rt, memory, disk)?;
     let held = store.contents();
-    store.close();
+    drop(store.close());
     Ok(held)
 }
 
@@ -90,7 +90,13 @@ fn play_in<M: StoreMemory>(
     let mut store = open_again(rt, memory, Disk::formatted(alloc, pages, 12)?)?;
     let answers = answers_of(rt, memory, alloc, &mut store, events);
     let disk = store.close().crash(Fate::Junk);
-    let (answers, again) = answers?;
+    let (answers, again) = match answers {
+        Ok(answers) => answers,
+        Err(fail) => {
+            drop(disk);
+            return Err(fail);
+        }
+    };
     let left = held_on(rt, memory, disk)?;
     Ok(Played {
         answers,

@@ -17,10 +17,18 @@ use txn_table::TxnTable;
 // Most of these make few calls of the part, and promise nothing, so that who makes several has no more to read than it
 // needs.
 
+fn set_slot(page: &mut HeapPage, row: Option<Row>) {
+    page.set(5, row);
+}
+
+fn row_in_slot(page: &HeapPage) -> Option<Row> {
+    page.get(5)
+}
+
 fn use_page(rt: &impl Abort) -> Result<(), Error> {
     let mut page = HeapPage::new();
-    page.set(5, Some(row_of(7)?));
-    assert!(rt; page.get(5) == Some(row_of(7)?));
+    set_slot(&mut page, Some(row_of(7)?));
+    assert!(rt; row_in_slot(&page) == Some(row_of(7)?));
     Ok(())
 }
 
@@ -98,21 +106,35 @@ fn clean<A: Allocator + Copy>(index: &mut MarkedIndex<A>, pair: &Pair) -> bool {
     index.clean(pair, true)
 }
 
+fn new_index<A: Allocator + Copy>(within: A) -> Result<MarkedIndex<A>, Error> {
+    Ok(MarkedIndex::new(within, Geometry::new(1, 64, 4)?))
+}
+
+fn mark_quietly<A: Allocator + Copy>(
+    rt: &impl Abort,
+    memory: &Memory,
+    index: &mut MarkedIndex<A>,
+) -> Result<(), Error> {
+    let pair = pair_of(7)?;
+    pledge(rt, index)?;
+    mark_new(rt, index, &pair)?;
+    memory.refuse_after(0);
+    pledge(rt, index)?;
+    release(rt, index);
+    assert!(rt; is_marked(index, &pair));
+    assert!(rt; clean(index, &pair) && index.is_empty());
+    Ok(())
+}
+
 fn use_index<A: Allocator + Copy>(
     rt: &impl Abort,
     memory: &Memory,
     within: A,
 ) -> Result<(), Error> {
-    let mut index = MarkedIndex::new(within, Geometry::new(1, 64, 4)?);
-    let pair = pair_of(7)?;
-    pledge(rt, &mut index)?;
-    mark_new(rt, &mut index, &pair)?;
-    memory.refuse_after(0);
-    pledge(rt, &mut index)?;
-    release(rt, &mut index);
-    assert!(rt; is_marked(&index, &pair));
-    assert!(rt; clean(&mut index, &pair) && index.is_empty());
-    Ok(())
+    let mut index = new_index(within)?;
+    let used = mark_quietly(rt, memory, &mut index);
+    drop(index);
+    used
 }
 
 // A transaction that has made this change.
@@ -163,13 +185,16 @@ pub(crate) fn hand_out<A: Allocator + Copy>(scan: &mut Scan<A>) -> Option<Pair> 
 }
 
 fn use_scan<A: Allocator + Copy>(rt: &impl Abort, memory: &Memory, within: A) -> Result<(), Error> {
+    let (row, pair) = (row_of(7)?, pair_of(7)?);
     let mut heap = Heap::new(within, 1)?;
-    set_row(rt, &mut heap, Some(row_of(7)?));
-    let mut scan = scan_rows(rt, within, &heap)?;
+    set_row(rt, &mut heap, Some(row));
+    let scanned = scan_rows(rt, within, &heap);
+    drop(heap);
+    let mut scan = scanned?;
     memory.refuse_after(0);
-    let pair = pair_of(7)?;
     assert!(rt; next(&scan) == Some(pair) && hand_out(&mut scan) == Some(pair));
     assert!(rt; next(&scan).is_none() && scan.remaining() == 0);
+    drop(scan);
     Ok(())
 }
 
@@ -197,14 +222,32 @@ fn has_row_alone<A: Allocator + Copy>(core: &Core<A>, rid: Rid, row: Row) -> boo
     core.get(rid) == Some(row) && core.above(None).is_none()
 }
 
-fn use_core<A: Allocator + Copy>(rt: &impl Abort, memory: &Memory, within: A) -> Result<(), Error> {
-    let mut core = Core::new(within, Geometry::new(1, 64, 4)?, 0)?;
+fn is_indexed<A: Allocator + Copy>(core: &Core<A>) -> bool {
+    core.life().is_indexed() && core.attempts() == 0
+}
+
+fn new_core<A: Allocator + Copy>(within: A) -> Result<Core<A>, Error> {
+    Core::new(within, Geometry::new(1, 64, 4)?, 0)
+}
+
+fn insert_quietly<A: Allocator + Copy>(
+    rt: &impl Abort,
+    memory: &Memory,
+    core: &mut Core<A>,
+) -> Result<(), Error> {
     let row = row_of(7)?;
-    let (txn, rid) = inserting(rt, &mut core, row)?;
+    let (txn, rid) = inserting(rt, core, row)?;
     memory.refuse_after(0);
-    assert!(rt; has_row_alone(&core, rid, row) && owes_key(&core, txn));
-    assert!(rt; core.life().is_indexed() && core.attempts() == 0);
+    assert!(rt; has_row_alone(core, rid, row) && owes_key(core, txn));
+    assert!(rt; is_indexed(core));
     Ok(())
+}
+
+fn use_core<A: Allocator + Copy>(rt: &impl Abort, memory: &Memory, within: A) -> Result<(), Error> {
+    let mut core = new_core(within)?;
+    let used = insert_quietly(rt, memory, &mut core);
+    drop(core);
+    used
 }
 
 fn use_part<A: Allocator + Copy>(
@@ -240,5 +283,6 @@ fn a_call_that_wants_memory_is_counted(rt: HostRuntime) -> Result<(), Fail> {
     let mut table = TxnTable::new(&memory);
     memory.refuse_after(0);
     assert!(rt; table.begin() == Err(Error::NoMemory) && memory.refused() == 1);
+    drop(table);
     Ok(())
 }

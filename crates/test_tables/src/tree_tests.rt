@@ -10,7 +10,7 @@ use test_memory::Refusing;
 // Plans the insertion of a pair.
 fn plan<A: Allocator + Copy>(rt: &impl Abort, tree: &BTree<A>, pair: &Pair) -> Result<(), Error> {
     assert!(rt; tree.len() < ENTRIES_MAX);
-    tree.plan_insert(pair)?;
+    drop(tree.plan_insert(pair)?);
     Ok(())
 }
 

@@ -5,7 +5,7 @@ use program_demonstration::key_of;
 use records::{Body, Error, Rid, Txn};
 use shared::{Group, Seat, Shared};
 use std::sync::Wait;
-use test_seat_calls::{create_index, drop_index, get, put};
+use test_shared::{create_index, drop_index, get, put};
 
 /// Inserts a row with the key of these two numbers, and an empty body.
 pub fn insert<B: Group, R: Wait>(

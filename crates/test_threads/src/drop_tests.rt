@@ -13,8 +13,7 @@ use std::marker::Brand;
 use std::mem::forget;
 use std::sync::Wait;
 use std::test::Fail;
-use test_runs::build;
-use test_seat_calls::{drop_index, open, start};
+use test_shared::{build, drop_index, open, start};
 use threads_flusher::FlushPart;
 use threads_lifetime::OpenStore;
 use threads_loops::{Gate, Point};
@@ -63,16 +62,15 @@ fn stop_and_look<B: Group, D: Device>(
     )
 }
 
-// Creates an index over a hundred rows, and builds it. What is left of the gate is not let go: to prove its destructor
-// here would cost more than the test.
+// Builds an index that the seat has created. What is left of the gate is not let go: to prove its destructor here would
+// cost more than the test.
 fn build_held<B: Group, D: Device, R: Wait>(
     rt: &R,
     shared: &Shared<B>,
     mut seat: Seat<B>,
     flush: &mut FlushPart<B, D>,
     part: &mut BuildPart<B>,
-) -> Result<Ended, Error> {
-    set_up(rt, shared, &mut seat)?;
+) -> Ended {
     let mut view = shared.another_view(&mut seat);
     let gate = DropsIndex {
         rt,
@@ -84,7 +82,25 @@ fn build_held<B: Group, D: Device, R: Wait>(
     let dropped = gate.dropped.get();
     forget(gate);
     let seen = stop_and_look(shared, flush, part, &mut view);
-    Ok((built, dropped, seen))
+    drop(view);
+    (built, dropped, seen)
+}
+
+// Creates an index over a hundred rows, and builds it.
+fn create_and_build<B: Group, D: Device, R: Wait>(
+    rt: &R,
+    shared: &Shared<B>,
+    mut seat: Seat<B>,
+    flush: &mut FlushPart<B, D>,
+    part: &mut BuildPart<B>,
+) -> Result<Ended, Error> {
+    match set_up(rt, shared, &mut seat) {
+        Ok(()) => Ok(build_held(rt, shared, seat, flush, part)),
+        Err(error) => {
+            drop(seat);
+            Err(error)
+        }
+    }
 }
 
 // Builds it in the store. What the threads share is not let go either.
@@ -97,21 +113,29 @@ fn build_in<B: Group, D: Device + Drop, R: Wait>(
     match start::<B, D, Global>(store) {
         Ok((shared, mut parts)) => {
             let ended = match parts.seats.pop() {
-                Some(seat) => build_held(rt, &shared, seat, &mut parts.flush, &mut parts.build),
+                Some(seat) => {
+                    create_and_build(rt, &shared, seat, &mut parts.flush, &mut parts.build)
+                }
                 None => Err(Error::NoMemory),
             };
             forget(parts);
             forget(shared);
             ended
         }
-        Err((error, _)) => Err(error),
+        Err((error, device)) => {
+            drop(device);
+            Err(error)
+        }
     }
 }
 
 fn build_on<R: Wait>(rt: &R, alloc: Global, disk: MemDisk<Global>) -> Result<Ended, Error> {
     match open(alloc, disk, 1) {
         Ok(store) => build_in::<Brand, MemDisk<Global>, R>(rt, store),
-        Err((error, _)) => Err(error),
+        Err((error, disk)) => {
+            drop(disk);
+            Err(error)
+        }
     }
 }
 

@@ -3,6 +3,7 @@ use nsf_core::Ticket;
 use program_demonstration::{Beginning, Found, Listener, Team, Turn, work_on_file};
 use program_shell::Refused;
 use records::{Error, Geometry};
+use sector_device::Device;
 use std::alloc::Global;
 use std::fs;
 use std::fs::File;
@@ -26,13 +27,25 @@ impl Listener for Heard {
     }
 }
 
+// Makes a store on the device of a new file, and gives the file its name.
+fn fill<R: Files<File = File> + AllocGlobal, D: Device>(
+    rt: &R,
+    path: &str,
+    device: &mut D,
+    geometry: Geometry,
+) -> Result<(), Fail> {
+    format_store(device, geometry)?;
+    store_file::publish(rt, path)?;
+    Ok(())
+}
+
 // Makes a store in a new file.
 fn make<R: Files<File = File> + AllocGlobal>(rt: &R, path: &str) -> Result<(), Fail> {
     let geometry = Geometry::new(1, 64, 4)?;
     let mut disk = store_file::create(rt, rt.alloc(), path, geometry.sectors())?;
-    format_store(&mut disk, geometry)?;
-    store_file::publish(rt, path)?;
-    Ok(())
+    let made = fill(rt, path, &mut disk, geometry);
+    drop(disk);
+    made
 }
 
 // Two writers make four transactions each on the store in the file.

@@ -35,24 +35,32 @@ pub fn failing(alloc: Global, fails_at: u64) -> Result<Disk, Error> {
     Ok(FaultDisk::new(disk, Which::WritesAndSyncs, fails_at))
 }
 
-// What an engine answers to a request.
-fn ask<D: Device>(engine: &mut Engine<D, Global>, event: Event) -> Reply<Global> {
-    engine.serve(event)
+// Lets the engine put its row and commit it.
+fn put_row<D: Device>(engine: &mut Engine<D, Global>) -> Result<(), Error> {
+    let key = key_of(SERVED.first, SERVED.second)?;
+    let body = Body::new(b"")?;
+    if let Reply::Txn(txn) = engine.serve(Event::Begin) {
+        drop(engine.serve(Event::Insert { txn, key, body }));
+        drop(engine.serve(Event::Commit { txn }));
+    }
+    Ok(())
 }
 
 /// An engine over the store on the device that has put a row and committed it, and flushed nothing.
 pub fn served<D: Device + Drop>(alloc: Global, device: D) -> Result<Engine<D, Global>, Error> {
-    let key = key_of(SERVED.first, SERVED.second)?;
-    let body = Body::new(b"")?;
-    let mut engine = match restart(alloc, device) {
-        Ok(engine) => engine,
-        Err((error, _)) => return Err(error),
-    };
-    if let Reply::Txn(txn) = ask(&mut engine, Event::Begin) {
-        ask(&mut engine, Event::Insert { txn, key, body });
-        ask(&mut engine, Event::Commit { txn });
+    match restart(alloc, device) {
+        Ok(mut engine) => match put_row(&mut engine) {
+            Ok(()) => Ok(engine),
+            Err(error) => {
+                drop(engine.into_device());
+                Err(error)
+            }
+        },
+        Err((error, device)) => {
+            drop(device);
+            Err(error)
+        }
     }
-    Ok(engine)
 }
 
 // How many entries are marked.
@@ -122,7 +130,10 @@ fn look<D: Device + Drop>(alloc: Global, device: D, told: &Told) -> Result<Behin
             drop(engine.into_device());
             behind
         }
-        Err((error, _)) => Err(error),
+        Err((error, device)) => {
+            drop(device);
+            Err(error)
+        }
     }
 }
 

@@ -204,8 +204,15 @@ fn refused_at<R: Threads + Wait + Clock + Sync>(
         progress: None,
     };
     match work_on(device, 4, team) {
-        Ok(worked) => Ok((worked.refusals, worked.acknowledged.len())),
-        Err((error, _)) => Err(error),
+        Ok(worked) => {
+            let told = (worked.refusals, worked.acknowledged.len());
+            drop(worked);
+            Ok(told)
+        }
+        Err((error, device)) => {
+            drop(device);
+            Err(error)
+        }
     }
 }
 

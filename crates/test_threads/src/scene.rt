@@ -9,14 +9,13 @@ use crate::stage::{HeldDisk, Stage};
 use records::Error;
 use sector_device::Device;
 use shared::{Group, Shared};
-use std::alloc::Global;
+use std::alloc::{AllocError, Global};
 use std::marker::Brand;
 use std::mem::forget;
 use std::rt::Clock;
 use std::sync::Wait;
 use std::thread::Threads;
-use test_runs::{LoopParts, Ran, run};
-use test_seat_calls::{Parts, start, take_back};
+use test_shared::{LoopParts, Parts, Ran, run, start, take_back};
 use threads_lifetime::{OpenError, OpenStore, open_engine};
 
 /// What was seen: how many tickets of the writers were acknowledged, and how many refused for the device's failure;
@@ -61,6 +60,27 @@ fn run_loops<B: Group + Send + Sync, D: Device + Send + Drop, R: Threads + Wait 
     run(rt, shared, loops, stage, clients)
 }
 
+// What the threads leave, with what the writers were told, if there was memory for that.
+fn left_with<D: Drop>(
+    told: Result<Told, AllocError>,
+    flusher: Option<Error>,
+    end: Option<Error>,
+    device: D,
+) -> Result<Left<D>, Error> {
+    match told {
+        Ok(told) => Ok(Left {
+            told,
+            flusher,
+            end,
+            device,
+        }),
+        Err(AllocError) => {
+            drop(device);
+            Err(Error::NoMemory)
+        }
+    }
+}
+
 // Takes back what the threads leave, where the flusher ended so the first time.
 fn end<B: Group, D: Device + Drop, R: Wait>(
     rt: &R,
@@ -73,32 +93,33 @@ fn end<B: Group, D: Device + Drop, R: Wait>(
 {
     let Ran {
         clients,
-        loops: LoopParts {
-            flush,
-            build,
-            clean,
-        },
+        loops,
         flushed,
     } = ran;
     let told = gather(alloc, &clients);
-    let Ok(seats) = seats_of(alloc, clients) else {
-        forget(shared);
-        forget(flush);
-        return Err(Error::NoMemory);
-    };
-    let parts = Parts {
-        seats,
-        flush,
-        build,
-        clean,
-    };
-    let (device, end) = take_back(rt, alloc, shared, parts);
-    Ok(Left {
-        told: told?,
-        flusher: flusher.and(flushed).err(),
-        end,
-        device,
-    })
+    match seats_of(alloc, clients) {
+        Ok(seats) => {
+            let LoopParts {
+                flush,
+                build,
+                clean,
+            } = loops;
+            let parts = Parts {
+                seats,
+                flush,
+                build,
+                clean,
+            };
+            let (device, end) = take_back(rt, alloc, shared, parts);
+            left_with(told, flusher.and(flushed).err(), end, device)
+        }
+        Err(AllocError) => {
+            forget(shared);
+            forget(loops);
+            drop(told);
+            Err(Error::NoMemory)
+        }
+    }
 }
 
 // Runs the writers, what they do behind their rows, in a run of its own, and the end.
@@ -178,7 +199,10 @@ fn play_in<B: Group + Send + Sync, D: Device + Send + Drop, R: Threads + Wait + 
 {
     match start::<B, D, Global>(store) {
         Ok((shared, parts)) => play_with(rt, alloc, shared, parts, stage),
-        Err((error, _)) => Err(error),
+        Err((error, device)) => {
+            drop(device);
+            Err(error)
+        }
     }
 }
 

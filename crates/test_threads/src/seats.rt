@@ -13,7 +13,7 @@ use std::alloc::{AllocError, Global};
 use std::rt::Clock;
 use std::sync::Wait;
 use std::thread::{Threads, for_each_mut};
-use test_seat_calls::{
+use test_shared::{
     abort, await_ack, begin, commit, find, has_failed, is_acked, life, progress, remove,
 };
 use threads_loops::Point;

@@ -69,8 +69,13 @@ fn filled<M: StoreMemory>(memory: M, alloc: Global, first: u32) -> Result<Disk, 
     let mut store = open(memory, Disk::formatted(alloc, PAGES, 128)?)?;
     let copied = fill_and_copy(&mut store, first);
     let disk = store.close();
-    copied?;
-    Ok(disk.crash(Fate::Junk))
+    match copied {
+        Ok(()) => Ok(disk.crash(Fate::Junk)),
+        Err(error) => {
+            drop(disk);
+            Err(error)
+        }
+    }
 }
 
 fn fill_and_check<M: StoreMemory>(
@@ -81,7 +86,7 @@ fn fill_and_check<M: StoreMemory>(
 ) -> Result<(), Fail> {
     let mut store = open(memory, filled(memory, alloc, first)?)?;
     let checked = check(rt, &mut store, first);
-    store.close();
+    drop(store.close());
     checked
 }
 

@@ -1,9 +1,4 @@
-//! The loops of a store beside its clients, for tests and benchmarks. What the calls promise is little, which keeps the
-//! proofs of tests small.
-//!
-//! Proved: `run` keeps what the clients promise. Neither: all else that the calls below promise.
-#![tactic(auto)]
-
+//! The loops of the store, beside its clients.
 ghost use Rattle.std.specs.Prelude.{IfOk};
 
 use records::Error;

@@ -1,5 +1,5 @@
 // Each test lays out files, makes calls, and compares what they come to.
-use crate::calls::{Call, check, check_while, made, told, told_within, write};
+use crate::calls::{Call, check, check_while, creates, made, told, told_within, write};
 use crate::watched::{Log, Watched};
 use sector_device::{Device, Failed, SECTOR_SIZE};
 use std::fs::{File, OpenFile, OpenOptions};
@@ -13,12 +13,12 @@ use test_memory::Refusing;
 
 const NEVER: u64 = u64::MAX;
 
-// A draft is made of two sectors, while another file takes its name and goes again; then its second sector is written.
-fn make_draft<R: Files<File = File> + AllocGlobal + Abort>(
+// While the disk is a draft, another file takes its name and goes again; then the disk's second sector is written.
+fn write_draft<R: Files<File = File> + AllocGlobal + Abort, D: Device>(
     rt: &R,
     path: &'static str,
+    disk: &mut D,
 ) -> Result<(), Fail> {
-    let mut disk = create(rt, rt.alloc(), path, 2)?;
     check(rt, &[(path, Call::Create(2), "DraftInUse")]);
     fs::write(rt, path, b"mine".as_slice())?;
     check(
@@ -30,8 +30,42 @@ fn make_draft<R: Files<File = File> + AllocGlobal + Abort>(
     );
     assert!(rt; fs::read(rt, path)?.as_slice() == b"mine".as_slice());
     fs::remove_file(rt, path)?;
-    write(&mut disk, 7)?;
+    write(disk, 7)?;
     Ok(())
+}
+
+// A draft is made of two sectors, and written.
+fn make_draft<R: Files<File = File> + AllocGlobal + Abort>(
+    rt: &R,
+    path: &'static str,
+) -> Result<(), Fail> {
+    let mut disk = create(rt, rt.alloc(), path, 2)?;
+    let made = write_draft(rt, path, &mut disk);
+    drop(disk);
+    made
+}
+
+// How many sectors a reading finds.
+fn sectors_read<R: Files<File = File> + AllocGlobal>(
+    rt: &R,
+    path: &str,
+) -> Result<usize, OpenError> {
+    let disk = read(rt, rt.alloc(), path)?;
+    let sectors = disk.content().len();
+    drop(disk);
+    Ok(sectors)
+}
+
+// Whether an opening finds these sectors.
+fn opens_with<R: Files<File = File> + AllocGlobal>(
+    rt: &R,
+    path: &str,
+    sectors: &[[u8; SECTOR_SIZE]],
+) -> Result<bool, OpenError> {
+    let disk = open(rt, rt.alloc(), path)?;
+    let is_whole = disk.content() == sectors;
+    drop(disk);
+    Ok(is_whole)
 }
 
 // A publication that was cut off leaves both names. It is read, and an opening ends it.
@@ -41,9 +75,9 @@ fn end_publication<R: Files<File = File> + AllocGlobal + Abort>(
     draft: &str,
 ) -> Result<(), Fail> {
     fs::hard_link(rt, draft, path)?;
-    assert_eq!(rt; read(rt, rt.alloc(), path)?.content().len(), 2);
+    assert_eq!(rt; sectors_read(rt, path)?, 2);
     let whole = [[0; SECTOR_SIZE], [7; SECTOR_SIZE]];
-    assert!(rt; open(rt, rt.alloc(), path)?.content() == whole.as_slice());
+    assert!(rt; opens_with(rt, path, whole.as_slice())?);
     assert!(rt; !fs::exists(rt, draft)?);
     fs::remove_file(rt, path)?;
     Ok(())
@@ -156,6 +190,25 @@ fn harm_file<R: Files<File = File> + AllocGlobal>(
     Ok(())
 }
 
+// Writes to a disk, does this to its file, and writes once more: what is wrong then.
+fn trouble_of<R: Files<File = File> + AllocGlobal, D: Device + Troubled>(
+    rt: &R,
+    path: &str,
+    disk: &mut D,
+    harm: Harm,
+) -> Result<Option<Trouble>, Fail> {
+    write(disk, 1)?;
+    harm_file(rt, path, harm)?;
+    let written = write(disk, 2);
+    if fs::exists(rt, path)? {
+        fs::remove_file(rt, path)?;
+    }
+    match written {
+        Ok(()) => Ok(None),
+        Err(Failed) => Ok(disk.trouble()),
+    }
+}
+
 // Does this to the file of that name, of so many sectors, while a disk over it is open, and tells what is wrong then.
 fn trouble_after<R: Files<File = File> + AllocGlobal>(
     rt: &R,
@@ -165,16 +218,9 @@ fn trouble_after<R: Files<File = File> + AllocGlobal>(
 ) -> Result<Option<Trouble>, Fail> {
     made(rt, path, sectors)?;
     let mut disk = open(rt, rt.alloc(), path)?;
-    write(&mut disk, 1)?;
-    harm_file(rt, path, harm)?;
-    let written = write(&mut disk, 2);
-    if fs::exists(rt, path)? {
-        fs::remove_file(rt, path)?;
-    }
-    match written {
-        Ok(()) => Ok(None),
-        Err(Failed) => Ok(disk.trouble()),
-    }
+    let trouble = trouble_of(rt, path, &mut disk, harm);
+    drop(disk);
+    trouble
 }
 
 #[test]
@@ -198,16 +244,18 @@ fn make_and_write<R: Files<File = File> + AllocGlobal>(
     path: &str,
 ) -> Result<Option<Trouble>, OpenError> {
     let alloc = files.rt.alloc();
-    create(files, alloc, path, 2)?;
+    creates(files, alloc, path, 2)?;
     if let Err(error) = publish(files, path) {
         let _ = discard(files, path);
         return Err(error);
     }
     let mut disk = open(files, alloc, path)?;
-    match write(&mut disk, 9) {
-        Ok(()) => Ok(None),
-        Err(Failed) => Ok(disk.trouble()),
-    }
+    let trouble = match write(&mut disk, 9) {
+        Ok(()) => None,
+        Err(Failed) => disk.trouble(),
+    };
+    drop(disk);
+    Ok(trouble)
 }
 
 // What a file holds is synced, and its name. A sector takes two writes, which take only a part.
@@ -297,6 +345,7 @@ fn spoil<R: Files<File = File> + AllocGlobal + Abort>(rt: &R, path: &str) -> Res
     assert!(rt; write(&mut disk, 2).is_err());
     assert!(rt; disk.sync().is_err());
     assert!(rt; log.take().are(b""));
+    drop(disk);
     Ok(())
 }
 

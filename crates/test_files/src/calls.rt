@@ -40,7 +40,8 @@ fn name_of(done: &Result<(), OpenError>) -> &'static str {
     }
 }
 
-fn creates<R: Files + AllocGlobal, A: Allocator>(
+/// Makes a draft of so many sectors, and lets it go.
+pub(crate) fn creates<R: Files + AllocGlobal, A: Allocator>(
     rt: &R,
     alloc: A,
     path: &str,
@@ -49,7 +50,7 @@ fn creates<R: Files + AllocGlobal, A: Allocator>(
 where
     R::File: StoreFile,
 {
-    create(rt, alloc, path, sectors)?;
+    drop(create(rt, alloc, path, sectors)?);
     Ok(())
 }
 
@@ -57,7 +58,7 @@ fn opens<R: Files + AllocGlobal>(rt: &R, path: &str) -> Result<(), OpenError>
 where
     R::File: StoreFile,
 {
-    open(rt, rt.alloc(), path)?;
+    drop(open(rt, rt.alloc(), path)?);
     Ok(())
 }
 
@@ -65,7 +66,7 @@ fn reads<R: Files + AllocGlobal>(rt: &R, path: &str) -> Result<(), OpenError>
 where
     R::File: StoreFile,
 {
-    read(rt, rt.alloc(), path)?;
+    drop(read(rt, rt.alloc(), path)?);
     Ok(())
 }
 
@@ -73,7 +74,7 @@ fn holds<R: Files + AllocGlobal>(rt: &R, path: &str) -> Result<(), OpenError>
 where
     R::File: StoreFile,
 {
-    hold(rt, rt.alloc(), path)?;
+    drop(hold(rt, rt.alloc(), path)?);
     Ok(())
 }
 

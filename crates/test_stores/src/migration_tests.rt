@@ -1,4 +1,6 @@
 // A store of version 1 is moved to another disk.
+use crate::damage_tests::why_not_open;
+use crate::image_tests::held_on;
 use model::Life;
 use records::{Body, Error, Key, Mark, Pair, Rid, Row};
 use restart::{Event, MigrateError};
@@ -9,7 +11,7 @@ use std::test::Fail;
 use test_memory::Refusing;
 use test_store::{
     Answer, BUILDING_1, Contents, Disk, Edit, GROUP, OpenStore, SUPERBLOCK_1, StoreMemory, ample,
-    edit, open, requests,
+    edit, requests,
 };
 
 // The sectors of the least store, in version 1 and in version 2.
@@ -54,8 +56,25 @@ const DROP: &[u8] = b"\0\x02\0\x22\
 // A disk with a store of version 1, synced.
 fn old_disk(alloc: Global, edits: &[Edit<'_>]) -> Result<Disk, Error> {
     let mut disk = Disk::bare(alloc, OLD_SECTORS)?;
-    edit(&mut disk, edits)?;
-    Ok(disk.crash(Fate::New))
+    match edit(&mut disk, edits) {
+        Ok(()) => Ok(disk.crash(Fate::New)),
+        Err(error) => {
+            drop(disk);
+            Err(error)
+        }
+    }
+}
+
+// An old disk with these sectors, and a new one of so many.
+fn disks(alloc: Global, edits: &[Edit<'_>], sectors: u64) -> Result<(Disk, Disk), Error> {
+    let old = old_disk(alloc, edits)?;
+    match Disk::bare(alloc, sectors) {
+        Ok(new) => Ok((old, new)),
+        Err(error) => {
+            drop(old);
+            Err(error)
+        }
+    }
 }
 
 fn sectors_of(alloc: Global, disk: &mut Disk) -> Result<Vec<[u8; SECTOR_SIZE]>, Error> {
@@ -88,8 +107,19 @@ fn move_and_run<M: StoreMemory>(
             answers: store.run(alloc, events),
             disk: store.close(),
         }),
-        Err((error, _)) => Err(error),
+        Err((error, disk)) => {
+            drop(disk);
+            Err(error)
+        }
     }
+}
+
+// Whether both readings of a disk gave the same.
+fn is_same(
+    before: Result<Vec<[u8; SECTOR_SIZE]>, Error>,
+    after: Result<Vec<[u8; SECTOR_SIZE]>, Error>,
+) -> Result<bool, Error> {
+    Ok(before? == after?)
 }
 
 // The same, of an old disk with these sectors. It is as before, and has no sector that a crash may change.
@@ -100,14 +130,23 @@ fn moved<M: StoreMemory>(
     sectors: u64,
     events: &[Event],
 ) -> Result<Result<MovedStore, MigrateError>, Fail> {
-    let mut old = old_disk(alloc, edits)?;
-    let before = sectors_of(alloc, &mut old)?;
-    let new = Disk::bare(alloc, sectors)?;
+    let (mut old, new) = disks(alloc, edits, sectors)?;
+    let before = sectors_of(alloc, &mut old);
     let moved = move_and_run(memory, alloc, &mut old, new, events);
-    if sectors_of(alloc, &mut old.crash(Fate::Junk))? != before {
-        Err("an old disk that was written")?;
+    let mut left = old.crash(Fate::Junk);
+    let after = sectors_of(alloc, &mut left);
+    drop(left);
+    match is_same(before, after) {
+        Ok(true) => Ok(moved),
+        Ok(false) => {
+            drop(moved);
+            Err("an old disk that was written")?
+        }
+        Err(error) => {
+            drop(moved);
+            Err(error)?
+        }
     }
-    Ok(moved)
 }
 
 fn pair(key: &[u8], rid: Rid) -> Result<Pair, Error> {
@@ -124,14 +163,6 @@ fn ant() -> Result<Row, Error> {
     })
 }
 
-// What the store on the disk holds.
-fn held_on<M: StoreMemory>(memory: M, disk: Disk) -> Result<Contents, Fail> {
-    let store = open(memory, disk)?;
-    let held = store.contents();
-    store.close();
-    Ok(held)
-}
-
 // Moves a store with these sectors, and opens it again behind a crash. What it holds both times is this.
 fn check_moved<M: StoreMemory>(
     rt: &impl Abort,
@@ -140,11 +171,20 @@ fn check_moved<M: StoreMemory>(
     edits: &[Edit<'_>],
     wanted: Contents,
 ) -> Result<(), Fail> {
-    let Ok(MovedStore { held, disk, .. }) = moved(memory, alloc, edits, SECTORS, &[])? else {
+    let Ok(
+        MovedStore {
+            held,
+            answers,
+            disk,
+        },
+    ) = moved(memory, alloc, edits, SECTORS, &[])?
+    else {
         return Err("a store that is moved")?;
     };
+    drop(answers);
+    let again = held_on(memory, disk.crash(Fate::Junk));
     assert_eq!(rt; held, wanted);
-    let again = held_on(memory, disk.crash(Fate::Junk))?;
+    let (again, _) = again?;
     assert_eq!(rt; again, wanted);
     Ok(())
 }
@@ -191,7 +231,10 @@ fn stores_of_version_1_are_moved(rt: HostRuntime) -> Result<(), Fail> {
 fn answers_of<M: StoreMemory>(memory: M, alloc: Global, script: &str) -> Result<Vec<Answer>, Fail> {
     let events = requests(alloc, script)?;
     match moved(memory, alloc, LOGGED, SECTORS, &events)? {
-        Ok(moved) => Ok(moved.answers?),
+        Ok(MovedStore { answers, disk, .. }) => {
+            drop(disk);
+            Ok(answers?)
+        }
         Err(_) => Err("a store that is moved")?,
     }
 }
@@ -215,19 +258,11 @@ fn why_not_moved<M: StoreMemory>(
     sectors: u64,
 ) -> Result<Option<MigrateError>, Fail> {
     match moved(memory, alloc, edits, sectors, &[])? {
-        Ok(_) => Ok(None),
-        Err(error) => Ok(Some(error)),
-    }
-}
-
-// Why the store on the disk isn't opened.
-fn why_not_open<M: StoreMemory>(memory: M, disk: Disk) -> Option<Error> {
-    match memory.open(disk) {
-        Ok(store) => {
-            store.close();
-            None
+        Ok(moved) => {
+            drop(moved);
+            Ok(None)
         }
-        Err((error, _)) => Some(error),
+        Err(error) => Ok(Some(error)),
     }
 }
 
@@ -308,14 +343,9 @@ fn harmed_stores_of_version_1(rt: HostRuntime) -> Result<(), Fail> {
         (&[SUPERBLOCK_1, (536, 0, b"\xa5")], 536),
     ];
     for (edits, sector) in cases {
-        let mut old = old_disk(rt.alloc(), edits)?;
-        let new = Disk::bare(rt.alloc(), 0)?;
-        let Err(error) = move_and_run(&memory, rt.alloc(), &mut old, new, &[]) else {
-            return Err("a store that was harmed")?;
-        };
         assert_eq!(rt;
-            error,
-            MigrateError::Old(Error::Damaged { sector }),
+            why_not_moved(&memory, rt.alloc(), edits, 0)?,
+            Some(MigrateError::Old(Error::Damaged { sector })),
             "{edits:?}"
         );
     }
@@ -331,12 +361,14 @@ type Hindered = (Option<(MigrateError, bool)>, bool);
 fn hindrance<M: StoreMemory>(memory: M, old: &mut Disk, new: Disk) -> Result<Hindered, Error> {
     match memory.moved(old, new) {
         Ok(store) => {
-            store.close();
+            drop(store.close());
             Ok((None, memory.refused() > 0))
         }
         Err((error, disk)) => {
             let mut disk = disk.crash(Fate::New);
-            let written = disk.sector(0)? != [0; SECTOR_SIZE];
+            let sector = disk.sector(0);
+            drop(disk);
+            let written = sector? != [0; SECTOR_SIZE];
             Ok((Some((error, written)), memory.refused() > 0))
         }
     }
@@ -353,9 +385,12 @@ fn hindered(
     sectors: u64,
 ) -> Result<Hindered, Fail> {
     let memory = Refusing::new(alloc, before);
-    let mut old = old_disk(alloc, LOGGED)?.failing(Which::All, old_call);
-    let new = Disk::bare(alloc, sectors)?.failing(Which::All, new_call);
-    Ok(hindrance(&memory, &mut old, new)?)
+    let (old, new) = disks(alloc, LOGGED, sectors)?;
+    let mut old = old.failing(Which::All, old_call);
+    let new = new.failing(Which::All, new_call);
+    let hindered = hindrance(&memory, &mut old, new);
+    drop(old);
+    Ok(hindered?)
 }
 
 // What fails in turn.
