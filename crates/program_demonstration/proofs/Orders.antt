@@ -8,6 +8,7 @@ use Rattle.std.specs.Prelude.{slice_get, slice_index_or}
 use Rattle.std.specs.declared.vec.Vec.{Vec}
 use Rattle.atomic_table.specs.Seated.{TableId}
 use Rattle.threads_lifetime.specs.Gathered.{AreAllSeats}
+use Rattle.threads_lifetime.proofs.Orders.{all_new}
 use Rattle.shared.specs.Seats.{AckValue, AreNewSeats, SeatValue}
 use Rattle.program_demonstration.specs.Private.{AllTell, Tells}
 use Rattle.program_demonstration.specs.declared.writer.Acknowledged.{Acknowledged}
@@ -55,14 +56,21 @@ one_more count seats s all next = record {
       ∙ (next ∙ (sym all.counted ∙ sym last.0))) (get_either seats s x k at);
 }
 
--- new seats but for the last of them
-pub all_but_last : (board : TableId) (count : ℕ) (seats : List SeatValue) (s : SeatValue) → AreNewSeats board count (seats ++ s ∷ [])
+-- all seats but for the last of them
+pub all_but_last : (count : ℕ) (seats : List SeatValue) (s : SeatValue) → AreAllSeats count (seats ++ s ∷ [])
     → AreAllSeats (length seats) seats × (s.number ≡ length seats) × (length seats + 1 ≡ count)
-all_but_last board count seats s new = (
-  record { counted = refl; each = λ k x at. (new.each k x (get_first seats s x k at)).0 },
-  (new.each (length seats) s (get_last seats s)).0,
-  sym (length-append seats (s ∷ [])) ∙ new.counted,
+all_but_last count seats s all = (
+  record { counted = refl; each = λ k x at. all.each k x (get_first seats s x k at) },
+  all.each (length seats) s (get_last seats s),
+  sym (length-append seats (s ∷ [])) ∙ all.counted,
 )
+
+-- new seats, of which the last one has kept its number
+pub last_kept : (board : TableId) (count : ℕ) (seats : List SeatValue) (s last : SeatValue) → AreNewSeats board count (seats ++ s ∷ [])
+    → last.number ≡ s.number → AreAllSeats count (seats ++ last ∷ [])
+last_kept board count seats s last new kept =
+    let parted = all_but_last count seats s (all_new board count (seats ++ s ∷ []) new) in
+    subst (λ (n : ℕ). AreAllSeats n (seats ++ last ∷ [])) parted.2 (one_more (length seats) seats last parted.0 (kept ∙ parted.1))
 
 -- what has the same numbers at the same places
 pub kept_in_order : {X : Type 0} (seat : X → SeatValue) (count : ℕ) (xs ys : List X) → length ys ≡ length xs
@@ -83,16 +91,18 @@ kept_in_order seat count xs ys same numbers all = record {
 }
 
 -- writers that have the seats that they had, and the last seat
-pub all_left : {W X Y : Type 0} (seat : W → SeatValue) (count n : ℕ) (before : Vec W X) (after : Vec W Y) (last : SeatValue)
-    → AreAllSeats n (map seat before.items) → last.number ≡ n → n + 1 ≡ count → after.len ≡ before.len
+pub all_left : {W X Y : Type 0} (seat : W → SeatValue) (count : ℕ) (before : Vec W X) (after : Vec W Y) (first last : SeatValue)
+    → AreAllSeats count (map seat before.items ++ first ∷ []) → last.number ≡ first.number → after.len ≡ before.len
     → ((k : ℕ) (w : W) → k < before.len → (seat (slice_index_or after.items k w)).number ≡ (seat (slice_index_or before.items k w)).number)
     → AreAllSeats count (map seat after.items ++ last ∷ [])
-all_left seat count n before after last all next more same numbers =
-    subst (λ (m : ℕ). AreAllSeats m (map seat after.items ++ last ∷ [])) more
+all_left seat count before after first last all kept same numbers =
+    let n = length (map seat before.items) in
+    let parted = all_but_last count (map seat before.items) first all in
+    subst (λ (m : ℕ). AreAllSeats m (map seat after.items ++ last ∷ [])) parted.2
     (one_more n (map seat after.items) last
     (kept_in_order seat n before.items after.items (sym after.ok.0 ∙ (same ∙ before.ok.0))
-    (λ k w within. numbers k w (subst (λ (m : ℕ). k < m) (sym before.ok.0) within)) all)
-    next)
+    (λ k w within. numbers k w (subst (λ (m : ℕ). k < m) (sym before.ok.0) within)) parted.0)
+    (kept ∙ parted.1))
 
 -- each of which tells what it may, where none told anything before
 pub all_tell : {W X Y : Type 0} (seat : W → SeatValue) (acks : W → List AckValue) (told : W → List Acknowledged) (before : Vec W X) (after : Vec W Y)

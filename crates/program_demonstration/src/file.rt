@@ -14,6 +14,14 @@ use store_file::Troubled;
 use threads_lifetime::OpenError;
 use threads_loops::Gate;
 
+// Why the threads were refused, with the reason that the disk tells.
+fn refused_over<D: Troubled>(error: OpenError, disk: &D) -> Refused {
+    match error {
+        OpenError::Refused(error) => Refused::Store(error).because(disk),
+        OpenError::Unsound => Refused::Unsound,
+    }
+}
+
 // Lets the threads work on the store on the disk, and looks at what they left.
 fn work_and_look<
     D: Device + Troubled + Send + Drop,
@@ -25,8 +33,11 @@ fn work_and_look<
     let alloc = team.alloc;
     match work_through(disk, writers, team) {
         Ok(disk) => Ok(look(alloc, disk)?),
-        Err((OpenError::Refused(error), disk)) => Err(Refused::Store(error).because(&disk)),
-        Err((OpenError::Unsound, _)) => Err(Refused::Unsound),
+        Err((error, disk)) => {
+            let refused = refused_over(error, &disk);
+            drop(disk);
+            Err(refused)
+        }
     }
 }
 
@@ -38,6 +49,11 @@ pub fn work_on_file<
     L: Listener + Sync,
     E: Write + Send + Drop,
 >(path: &str, writers: u8, team: Team<'_, R, G, L, E>) -> Result<Found, Refused> {
-    let disk = store_file::open(team.rt, team.alloc, path)?;
-    work_and_look(disk, writers, team)
+    match store_file::open(team.rt, team.alloc, path) {
+        Ok(disk) => work_and_look(disk, writers, team),
+        Err(error) => {
+            drop(team);
+            Err(Refused::File(error))
+        }
+    }
 }

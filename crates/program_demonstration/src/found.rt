@@ -1,7 +1,7 @@
 //! What is found behind the crash.
 use nsf_core::Core;
 use records::{ENTRIES_MAX, Error, Mark, Pair, Rid, SLOTS_PER_PAGE};
-use restart::{Reply, restart};
+use restart::{Engine, Reply, restart};
 use sector_device::Device;
 use std::alloc::Global;
 
@@ -50,22 +50,52 @@ fn count_shown(core: &Core<Global>) -> (u32, u32) {
     (shown, fitting)
 }
 
-/// Opens the store on the device, carries its build to the end, makes that safe, and looks at its rows and visible
-/// entries.
-pub fn look<D: Device + Drop>(alloc: Global, device: D) -> Result<Found, Error> {
-    let mut engine = match restart(alloc, device) {
-        Ok(engine) => engine,
-        Err((error, _)) => return Err(error),
-    };
-    engine.build_to_end()?;
-    if let Reply::Refused(error) = engine.flush_all() {
-        return Err(error);
+// The refusal that a reply tells, if it is one.
+fn granted(reply: &Reply<Global>) -> Result<(), Error> {
+    match reply {
+        Reply::Refused(error) => Err(*error),
+        _ => Ok(()),
     }
-    let rows = count_rows(engine.core());
-    let (shown, fitting) = count_shown(engine.core());
-    Ok(Found {
+}
+
+// Makes all safe.
+fn flush<D: Device>(engine: &mut Engine<D, Global>) -> Result<(), Error> {
+    let reply = engine.flush_all();
+    let flushed = granted(&reply);
+    drop(reply);
+    flushed
+}
+
+// What is found in a core.
+fn found_in(core: &Core<Global>) -> Found {
+    let rows = count_rows(core);
+    let (shown, fitting) = count_shown(core);
+    Found {
         rows,
         shown,
         same: shown == rows && fitting == rows,
-    })
+    }
+}
+
+// Carries the store's build to the end, makes that safe, and looks at what is there.
+fn look_into<D: Device>(engine: &mut Engine<D, Global>) -> Result<Found, Error> {
+    engine.build_to_end()?;
+    flush(engine)?;
+    Ok(found_in(engine.core()))
+}
+
+/// Opens the store on the device, carries its build to the end, makes that safe, and looks at its rows and visible
+/// entries.
+pub fn look<D: Device + Drop>(alloc: Global, device: D) -> Result<Found, Error> {
+    match restart(alloc, device) {
+        Ok(mut engine) => {
+            let found = look_into(&mut engine);
+            drop(engine);
+            found
+        }
+        Err((error, device)) => {
+            drop(device);
+            Err(error)
+        }
+    }
 }

@@ -4,7 +4,7 @@ use crate::file::work_on_file;
 use crate::found::{Found, look};
 use crate::listener::{Listener, Nobody, Printer};
 use crate::progress::Progress;
-use crate::team::{Team, work_on};
+use crate::team::{Team, Worked, work_on};
 use program_arguments::{NoArguments, ThreadsArguments, read_threads};
 use program_shell::Refused;
 use records::{Error, Geometry};
@@ -33,8 +33,13 @@ const CALLS: usize = 16_384;
 fn formatted(alloc: Global) -> Result<MemDisk<Global>, Error> {
     let geometry = Geometry::new(PAGES, ENTRIES, SLOTS)?;
     let mut disk = MemDisk::new(alloc, geometry.sectors(), CALLS)?;
-    format_store(&mut disk, geometry)?;
-    Ok(disk)
+    match format_store(&mut disk, geometry) {
+        Ok(()) => Ok(disk),
+        Err(error) => {
+            drop(disk);
+            Err(error)
+        }
+    }
 }
 
 /// The device with what the threads left, beside a refusal where one of them met it.
@@ -45,10 +50,32 @@ pub(crate) fn work_through<
     L: Listener + Sync,
     E: Write + Send + Drop,
 >(device: D, writers: u8, team: Team<'_, R, G, L, E>) -> Result<D, (OpenError, D)> {
-    let worked = work_on(device, writers, team)?;
-    match worked.refusals.any() {
-        Some(error) => Err((OpenError::Refused(error), worked.device)),
-        None => Ok(worked.device),
+    let Worked {
+        device,
+        acknowledged,
+        refusals,
+    } = work_on(device, writers, team)?;
+    drop(acknowledged);
+    match refusals.any() {
+        Some(error) => Err((OpenError::Refused(error), device)),
+        None => Ok(device),
+    }
+}
+
+// What a crash leaves of the store in memory, or why the threads could not work on it.
+fn found_behind_crash(
+    alloc: Global,
+    worked: Result<MemDisk<Global>, (OpenError, MemDisk<Global>)>,
+) -> Result<Found, OpenError> {
+    match worked {
+        Ok(mut disk) => {
+            disk.crash(&[Fate::Junk]);
+            Ok(look(alloc, disk)?)
+        }
+        Err((error, disk)) => {
+            drop(disk);
+            Err(error)
+        }
     }
 }
 
@@ -68,12 +95,13 @@ fn work_in_memory<R: Threads + Wait + Clock + Sync, E: Write + Send + Drop>(
         changes: u16::from(arguments.changes),
         progress,
     };
-    let mut disk = match work_through(formatted(alloc)?, arguments.writers, team) {
-        Ok(disk) => disk,
-        Err((error, _)) => return Err(error),
-    };
-    disk.crash(&[Fate::Junk]);
-    Ok(look(alloc, disk)?)
+    match formatted(alloc) {
+        Ok(disk) => found_behind_crash(alloc, work_through(disk, arguments.writers, team)),
+        Err(error) => {
+            drop(team);
+            Err(OpenError::Refused(error))
+        }
+    }
 }
 
 // Lets the threads work on the store in the file, prints each commit that is safe, and looks at what is there.
@@ -130,6 +158,7 @@ fn told_of_file<W: Write, E: Write>(
         Ok(found) => print(output, found),
         Err(refused) => {
             let _ = writeln!(errors, "nsf-threads: {path}: {refused}");
+            drop(refused);
             Ok(1)
         }
     }
@@ -152,6 +181,7 @@ fn act<
     let progress = if arguments.watch {
         Some(progress)
     } else {
+        drop(progress);
         None
     };
     match &arguments.file {
@@ -182,9 +212,19 @@ pub fn run_words<
     errors: &mut E,
 ) -> io::Result<u8> {
     match read_threads(alloc, words, output, &mut progress.errors) {
-        Ok(arguments) => act(rt, alloc, &arguments, output, progress, errors),
-        Err(NoArguments::NoMemory) => told(output, Err(OpenError::Refused(Error::NoMemory))),
-        Err(NoArguments::Told(status)) => Ok(status),
+        Ok(arguments) => {
+            let status = act(rt, alloc, &arguments, output, progress, errors);
+            drop(arguments);
+            status
+        }
+        Err(NoArguments::NoMemory) => {
+            drop(progress);
+            told(output, Err(OpenError::Refused(Error::NoMemory)))
+        }
+        Err(NoArguments::Told(status)) => {
+            drop(progress);
+            Ok(status)
+        }
     }
 }
 

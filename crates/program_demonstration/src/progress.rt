@@ -40,12 +40,12 @@ impl<E: Write> Progress<E> {
 
 /// Shows how many pairs the builder has tried, each time that it has tried more, while it builds. Where it has ended
 /// and the index is not complete, it builds no more.
-pub(crate) fn watch<B: Group, R: Wait + Clock, E: Write + Drop>(
+pub(crate) fn watch<B: Group, R: Wait + Clock, E: Write>(
     rt: &R,
     shared: &Shared<B>,
-    mut view: GroupView<B>,
+    view: &mut GroupView<B>,
     builder: &BuilderEnd<B>,
-    mut progress: Progress<E>,
+    progress: &mut Progress<E>,
 ) -> io::Result<()> {
     let mut shown = 0;
     for _ in rt.forever() {

@@ -26,7 +26,7 @@ use std::rt::Clock;
 use std::sync::Wait;
 use std::thread::{Threads, for_each_mut, join};
 use threads_flusher::FlushPart;
-use threads_lifetime::{OpenError, OpenStore, Parts, finish, open_store};
+use threads_lifetime::{Closed, OpenError, OpenStore, Parts, finish, open_store};
 use threads_loops::{BuilderEnd, Ended, Gate, NotRun, run_beside};
 
 // No more writers than this run side by side.
@@ -88,12 +88,17 @@ struct Gathered<B: Group> {
     acknowledged: Vec<Acknowledged>,
 }
 
-fn writers_of<B: Group>(alloc: Global, seats: Vec<Seat<B>>) -> Result<Vec<Writer<B>>, AllocError>
-    ensures seats { IfOk result (λ writers. map (λ w. w.seat) writers.items ≡ seats.items) }
-    ensures none { IfOk result (λ writers. (k : ℕ) (w : _) → slice_get writers.items k ≡ Some w
+// Puts a writer for each of the seats into a list that is empty.
+fn add_writers<B: Group>(
+    alloc: Global,
+    writers: &mut Vec<Writer<B>>,
+    seats: Vec<Seat<B>>,
+) -> Result<(), AllocError>
+    requires { writers.old.items ≡ [] }
+    ensures seats { OnOk result (map (λ w. w.seat) writers.new.items ≡ seats.items) }
+    ensures none { OnOk result ((k : ℕ) (w : _) → slice_get writers.new.items k ≡ Some w
         → w.acknowledged.items ≡ []) }
 {
-    let mut writers = Vec::with_capacity(alloc, seats.len())?;
     let mut number: u16 = 0;
     for seat in seats {
         writers.push(Writer {
@@ -105,7 +110,23 @@ fn writers_of<B: Group>(alloc: Global, seats: Vec<Seat<B>>) -> Result<Vec<Writer
         })?;
         number = number.saturating_add(1);
     }
-    Ok(writers)
+    Ok(())
+}
+
+// A writer for each of the seats.
+fn writers_of<B: Group>(alloc: Global, seats: Vec<Seat<B>>) -> Result<Vec<Writer<B>>, AllocError>
+    ensures seats { IfOk result (λ writers. map (λ w. w.seat) writers.items ≡ seats.items) }
+    ensures none { IfOk result (λ writers. (k : ℕ) (w : _) → slice_get writers.items k ≡ Some w
+        → w.acknowledged.items ≡ []) }
+{
+    let mut writers = Vec::new(alloc);
+    match add_writers(alloc, &mut writers, seats) {
+        Ok(()) => Ok(writers),
+        Err(error) => {
+            drop(writers);
+            Err(error)
+        }
+    }
 }
 
 // Runs all writers, each in a thread.
@@ -135,11 +156,14 @@ fn write_all<B: Group + Send + Sync, R: Threads + Wait + Sync, L: Listener + Syn
 fn show_progress<B: Group, R: Wait + Clock, E: Write + Drop>(
     rt: &R,
     shared: &Shared<B>,
-    view: GroupView<B>,
+    mut view: GroupView<B>,
     builder: &BuilderEnd<B>,
-    progress: Progress<E>,
+    mut progress: Progress<E>,
 ) {
-    let _ = watch(rt, shared, view, builder, progress);
+    let shown = watch(rt, shared, &mut view, builder, &mut progress);
+    drop(shown);
+    drop(view);
+    drop(progress);
 }
 
 // Runs all writers, and shows the builder's progress beside them, if it is to be shown.
@@ -177,16 +201,6 @@ fn write_and_watch<
     }
 }
 
-// Puts acknowledgements behind others.
-fn add_acks<B: Group>(acks: &mut Vec<Ack<B>>, more: Vec<Ack<B>>) -> Result<(), AllocError>
-    ensures { OnOk result (acks.new.items ≡ acks.old.items ++ more.items) }
-{
-    for ack in more {
-        acks.push(ack)?;
-    }
-    Ok(())
-}
-
 // The first refusal that a writer had.
 fn first_refused<B: Group>(writers: &[Writer<B>]) -> Option<Error> {
     for writer in writers {
@@ -195,6 +209,44 @@ fn first_refused<B: Group>(writers: &[Writer<B>]) -> Option<Error> {
         }
     }
     None
+}
+
+// Adds what a writer leaves.
+fn add_writer<B: Group>(gathered: &mut Gathered<B>, writer: Writer<B>) -> Result<(), AllocError>
+    ensures seats { OnOk result (gathered.new.seats.items ≡ gathered.old.seats.items ++ writer.seat ∷ []) }
+    ensures acks { OnOk result (gathered.new.acks.items ≡ gathered.old.acks.items ++ writer.acks.items) }
+    ensures acknowledged { OnOk result (gathered.new.acknowledged.items
+        ≡ gathered.old.acknowledged.items ++ writer.acknowledged.items) }
+{
+    let Writer {
+        seat,
+        mut acks,
+        mut acknowledged,
+        ..
+    } = writer;
+    let seat_added = gathered.seats.push(seat);
+    let acks_added = gathered.acks.append(&mut acks);
+    let rows_added = gathered.acknowledged.append(&mut acknowledged);
+    drop(acks);
+    drop(acknowledged);
+    seat_added?;
+    acks_added?;
+    rows_added
+}
+
+// Adds what the writers leave, in order.
+fn add_all<B: Group>(gathered: &mut Gathered<B>, writers: Vec<Writer<B>>) -> Result<(), AllocError>
+    ensures seats { OnOk result (gathered.new.seats.items
+        ≡ gathered.old.seats.items ++ map (λ w. w.seat) writers.items) }
+    ensures acks { OnOk result (gathered.new.acks.items
+        ≡ gathered.old.acks.items ++ flat_map (λ w. w.acks.items) writers.items) }
+    ensures acknowledged { OnOk result (gathered.new.acknowledged.items
+        ≡ gathered.old.acknowledged.items ++ flat_map (λ w. w.acknowledged.items) writers.items) }
+{
+    for writer in writers {
+        add_writer(gathered, writer)?;
+    }
+    Ok(())
 }
 
 // The seats of all writers in order, with the last one behind them, and what the writers were told.
@@ -208,39 +260,49 @@ fn gather<B: Group>(
     ensures acknowledged { IfOk result (λ g. g.acknowledged.items
         ≡ flat_map (λ w. w.acknowledged.items) writers.items) }
 {
-    let mut seats = Vec::with_capacity(alloc, writers.len())?;
-    let mut acks = Vec::new(alloc);
-    let mut acknowledged = Vec::new(alloc);
-    for writer in writers {
-        let Writer {
-            seat,
-            acks: more,
-            acknowledged: made,
-            ..
-        } = writer;
-        seats.push(seat)?;
-        add_acks(&mut acks, more)?;
-        acknowledged.extend_from_slice(&made)?;
+    let mut gathered = Gathered {
+        seats: Vec::new(alloc),
+        acks: Vec::new(alloc),
+        acknowledged: Vec::new(alloc),
+    };
+    let added = add_all(&mut gathered, writers);
+    let ended = gathered.seats.push(last);
+    match (added, ended) {
+        (Ok(()), Ok(())) => Ok(gathered),
+        _ => {
+            drop(gathered);
+            Err(AllocError)
+        }
     }
-    seats.push(last)?;
-    Ok(Gathered {
-        seats,
-        acks,
-        acknowledged,
-    })
+}
+
+// The parts of the three loops.
+#[derive(Drop)]
+struct LoopParts<B: Group, D: Device> {
+    flush: FlushPart<B, D>,
+    build: BuildPart<B>,
+    clean: CleanPart<B>,
 }
 
 // What is left where the threads could not begin, or where there was no memory for what they left, with what was
 // refused before.
 fn given_up<B: Group, D: Device>(
     alloc: Global,
-    flush: FlushPart<B, D>,
+    loops: LoopParts<B, D>,
     before: Refusals,
     error: Error,
 ) -> Worked<D>
     ensures { (o : Opened) → KeepsAll D.past_of o result.device result.acknowledged.items }
 {
-    let (device, _) = flush.into_parts();
+    let LoopParts {
+        flush,
+        build,
+        clean,
+    } = loops;
+    let (device, popper) = flush.into_parts();
+    drop(popper);
+    drop(build);
+    drop(clean);
     let mut refusals = before;
     refusals.end = Some(error);
     Worked {
@@ -265,17 +327,19 @@ fn close<B: Group, D: Device, R: Wait>(
     ensures acked { All (λ a. a.ticket.«record» ≤ synced_of parts.flush.writer) acks.items }
 {
     match finish(rt, alloc, shared, parts, acks) {
-        Ok(closed) => (closed.device, None),
+        Ok(closed) => {
+            let Closed {
+                device,
+                core,
+                commits,
+                ..
+            } = closed;
+            drop(core);
+            drop(commits);
+            (device, None)
+        }
         Err((error, device)) => (device, Some(error)),
     }
-}
-
-// The parts of the three loops.
-#[derive(Drop)]
-struct LoopParts<B: Group, D: Device> {
-    flush: FlushPart<B, D>,
-    build: BuildPart<B>,
-    clean: CleanPart<B>,
 }
 
 // Takes back what the writers leave, where these refusals came before.
@@ -292,19 +356,20 @@ fn take_back<B: Group, D: Device + Drop, R: Wait>(
     requires told { AllTell (λ w. w.seat) (λ w. w.acks.items) (λ w. w.acknowledged.items) writers.items }
     ensures { KeepsAll D.past_of B.site.opened result.device result.acknowledged.items }
 {
-    let LoopParts {
-        flush,
-        build,
-        clean,
-    } = loops;
     let Ok(gathered) = gather(alloc, writers, last) else {
-        return given_up(alloc, flush, before, Error::NoMemory);
+        drop(shared);
+        return given_up(alloc, loops, before, Error::NoMemory);
     };
     let Gathered {
         seats,
         acks,
         acknowledged,
     } = gathered;
+    let LoopParts {
+        flush,
+        build,
+        clean,
+    } = loops;
     let parts = Parts {
         seats,
         flush,
@@ -358,8 +423,7 @@ fn end<B: Group, D: Device + Drop, R: Wait>(
     take_back(rt, alloc, shared, clients, last, loops, refusals)
 }
 
-// Runs the writers and the three loops, each in a thread. Where a thread is wanting, the flusher's part comes back as
-// it was.
+// Runs the writers and the three loops, each in a thread. Where a thread is wanting, the parts of the loops come back.
 fn run_all<
     B: Group + Send + Sync,
     D: Device + Send + Drop,
@@ -373,7 +437,7 @@ fn run_all<
     writers: Vec<Writer<B>>,
     last: &mut Seat<B>,
     loops: LoopParts<B, D>,
-) -> Result<Ended<B, D, Vec<Writer<B>>>, FlushPart<B, D>>
+) -> Result<Ended<B, D, Vec<Writer<B>>>, LoopParts<B, D>>
     ensures len { IfOk result (λ e. vec_len e.clients ≡ vec_len writers) }
     ensures wrote { IfOk result (λ e. (k : ℕ) (w : _) → k < vec_len writers
         → GoesOn (slice_index_or writers.items k w).seat (slice_index_or writers.items k w).acks.items
@@ -410,10 +474,95 @@ fn run_all<
         ),
     );
     match ran {
-        Ok((ended, _)) => Ok(ended),
+        Ok((ended, reason)) => {
+            drop(reason);
+            Ok(ended)
+        }
         Err(not_run) => {
-            let NotRun { flush, .. } = not_run;
-            Err(flush)
+            let NotRun {
+                flush,
+                build,
+                clean,
+                clients,
+                want,
+            } = not_run;
+            drop(clients);
+            drop(want);
+            Err(LoopParts {
+                flush,
+                build,
+                clean,
+            })
+        }
+    }
+}
+
+// The writers, and the seat behind theirs.
+#[derive(Drop)]
+struct Staff<B: Group> {
+    writers: Vec<Writer<B>>,
+    last: Seat<B>,
+}
+
+// Prepares the store by the last of the seats, and gives the others to writers.
+fn prepared<B: Group, R: Wait>(
+    rt: &R,
+    alloc: Global,
+    shared: &Shared<B>,
+    mut seats: Vec<Seat<B>>,
+    beginning: Beginning,
+) -> Result<Staff<B>, Error>
+    requires { AreNewSeats B.site.board B.site.seats seats.items }
+    ensures seats { IfOk result (λ s.
+        AreAllSeats B.site.seats (map (λ w. w.seat) s.writers.items ++ s.last ∷ [])) }
+    ensures none { IfOk result (λ s. (k : ℕ) (w : _) → slice_get s.writers.items k ≡ Some w
+        → w.acknowledged.items ≡ []) }
+{
+    let Some(mut last) = seats.pop() else {
+        drop(seats);
+        return Err(Error::NoMemory);
+    };
+    if let Err(error) = prepare(rt, shared, &mut last, beginning) {
+        drop(seats);
+        drop(last);
+        return Err(error);
+    }
+    match writers_of(alloc, seats) {
+        Ok(writers) => Ok(Staff { writers, last }),
+        Err(_) => {
+            drop(last);
+            Err(Error::NoMemory)
+        }
+    }
+}
+
+// Lets the threads work, and takes all back that they leave.
+fn work_staffed<
+    B: Group + Send + Sync,
+    D: Device + Send + Drop,
+    R: Threads + Wait + Clock + Sync,
+    G: Gate + Sync,
+    L: Listener + Sync,
+    E: Write + Send + Drop,
+>(
+    team: Team<'_, R, G, L, E>,
+    shared: Shared<B>,
+    staff: Staff<B>,
+    loops: LoopParts<B, D>,
+) -> Worked<D>
+    requires seats { AreAllSeats B.site.seats (map (λ w. w.seat) staff.writers.items ++ staff.last ∷ []) }
+    requires none { (k : ℕ) (w : _) → slice_get staff.writers.items k ≡ Some w → w.acknowledged.items ≡ [] }
+    ensures { KeepsAll D.past_of B.site.opened result.device result.acknowledged.items }
+{
+    let rt = team.rt;
+    let alloc = team.alloc;
+    let Staff { writers, mut last } = staff;
+    match run_all(team, &shared, writers, &mut last, loops) {
+        Ok(ended) => end(rt, alloc, shared, ended, last),
+        Err(loops) => {
+            drop(shared);
+            drop(last);
+            given_up(alloc, loops, Refusals::none(), Error::NoMemory)
         }
     }
 }
@@ -430,31 +579,25 @@ fn work_together<
     requires seats { AreNewSeats B.site.board B.site.seats parts.seats.items }
     ensures { KeepsAll D.past_of B.site.opened result.device result.acknowledged.items }
 {
-    let rt = team.rt;
     let alloc = team.alloc;
     let Parts {
-        mut seats,
+        seats,
         flush,
         build,
         clean,
     } = parts;
-    let Some(mut last) = seats.pop() else {
-        return given_up(alloc, flush, Refusals::none(), Error::NoMemory);
-    };
-    if let Err(error) = prepare(rt, &shared, &mut last, team.beginning) {
-        return given_up(alloc, flush, Refusals::none(), error);
-    }
-    let Ok(writers) = writers_of(alloc, seats) else {
-        return given_up(alloc, flush, Refusals::none(), Error::NoMemory);
-    };
     let loops = LoopParts {
         flush,
         build,
         clean,
     };
-    match run_all(team, &shared, writers, &mut last, loops) {
-        Ok(ended) => end(rt, alloc, shared, ended, last),
-        Err(flush) => given_up(alloc, flush, Refusals::none(), Error::NoMemory),
+    match prepared(team.rt, alloc, &shared, seats, team.beginning) {
+        Ok(staff) => work_staffed(team, shared, staff, loops),
+        Err(error) => {
+            drop(team);
+            drop(shared);
+            given_up(alloc, loops, Refusals::none(), error)
+        }
     }
 }
 
@@ -472,7 +615,10 @@ fn begin<
 {
     match store.start::<B>() {
         Ok((shared, parts)) => Ok(work_together(team, shared, parts)),
-        Err((error, device)) => Err((OpenError::Refused(error), device)),
+        Err((error, device)) => {
+            drop(team);
+            Err((OpenError::Refused(error), device))
+        }
     }
 }
 
@@ -493,6 +639,9 @@ pub fn work_on<
     let seats = usize::from(writers) + 1;
     match open_store(team.alloc, device, seats) {
         Ok(store) => begin::<Brand, D, R, G, L, E>(store, team),
-        Err(refused) => Err(refused),
+        Err(refused) => {
+            drop(team);
+            Err(refused)
+        }
     }
 }

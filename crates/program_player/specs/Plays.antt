@@ -87,12 +87,15 @@ module _ {W : Type 0} (contents : W → Option (List ℕ)) where
   abbrev pub IsRefused : Error → ℕ → W → W → Type 0
   IsRefused e status before after = Prints contents (answer.Refused e) before after × (status ≡ 1)
 
+  -- How far the store's index is was printed, and then what the store holds.
+  abbrev pub Shows : Session → W → W → Type 0
+  Shows session before after = (between : W) × Prints contents (answer.Restart (life_of session)) before between
+      × Appends (contents between) (contents after) (dump_text session.store)
+
   -- The store was opened again on this disk, and that was printed, and then what it holds. Or it was refused.
   abbrev pub ShowsLeft : FaultDisk (MemDisk Global) → ℕ → W → W → Type 0
   ShowsLeft disk status before after =
-      ((session : Session) × (between : W) × OpensOn disk 0 session
-      × Prints contents (answer.Restart (life_of session)) before between
-      × Appends (contents between) (contents after) (dump_text session.store) × (status ≡ 0))
+      ((session : Session) × OpensOn disk 0 session × Shows session before after × (status ≡ 0))
       ⊎ ((e : Error) × (given_back : FaultDisk (MemDisk Global)) × IsRefusedOn disk given_back e
       × IsRefused e status before after)
 

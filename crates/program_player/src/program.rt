@@ -4,7 +4,8 @@ ghost use Rattle.program_script.specs.Grammar.{lines, IsScript};
 ghost use Rattle.program_player.specs.Runs.{Prints, GoesOn, Restarts, MakesSteps, Runs, RunsCommand, RunsCommands};
 ghost use Rattle.program_player.specs.Plays.{geometry_of, sectors_asked, Starts, IsNoStart, IsCutAt, StartsFor};
 ghost use Rattle.program_player.specs.Plays.{IsFault};
-ghost use Rattle.program_player.specs.Plays.{IsRefused, IsStopped, Ends, Plays, IsWholeInput, PlaysInput, RunsWords};
+ghost use Rattle.program_player.specs.Plays.{IsRefused, IsStopped, Shows, Ends, Plays, IsWholeInput, PlaysInput};
+ghost use Rattle.program_player.specs.Plays.{RunsWords};
 
 use crate::session::{Disk, End, Session, Stopped};
 use flip_image::Halves;
@@ -40,10 +41,13 @@ fn go_on<W: Write>(
     ensures { IfOk result (λ next. GoesOn W.contents answer session next output.old output.new) }
 {
     match answer {
-        Ok(answer) => {
-            print(output, &answer)?;
-            Ok(Ok(session))
-        }
+        Ok(answer) => match print(output, &answer) {
+            Ok(()) => Ok(Ok(session)),
+            Err(error) => {
+                drop(session);
+                Err(error)
+            }
+        },
         Err(Stopped) => Ok(Err(End::Stopped(session.into_disk()))),
     }
 }
@@ -53,10 +57,13 @@ fn crash<W: Write>(session: Session, fate: Fate, output: &mut W) -> io::Result<R
     ensures { IfOk result (λ next. Restarts W.contents fate session next output.old output.new) }
 {
     match session.crash(fate) {
-        Ok(session) => {
-            print(output, &Answer::Restart(session.life()))?;
-            Ok(Ok(session))
-        }
+        Ok(session) => match print(output, &Answer::Restart(session.life())) {
+            Ok(()) => Ok(Ok(session)),
+            Err(error) => {
+                drop(session);
+                Err(error)
+            }
+        },
         Err(end) => Ok(Err(end)),
     }
 }
@@ -73,7 +80,13 @@ fn make_steps<W: Write>(
     for _ in 0..count {
         match session.serve(*event) {
             Ok(answer) => {
-                print(output, &answer)?;
+                match print(output, &answer) {
+                    Ok(()) => (),
+                    Err(error) => {
+                        drop(session);
+                        return Err(error);
+                    }
+                }
                 if answer.is_last_step() {
                     return Ok(Ok(session));
                 }
@@ -108,10 +121,13 @@ fn serve<W: Write>(
             go_on(session, answer, output)
         }
         Request::Crash(fate) => crash(session, fate, output),
-        Request::Dump => {
-            session.dump(output)?;
-            Ok(Ok(session))
-        }
+        Request::Dump => match session.dump(output) {
+            Ok(()) => Ok(Ok(session)),
+            Err(error) => {
+                drop(session);
+                Err(error)
+            }
+        },
     }
 }
 
@@ -160,7 +176,10 @@ fn start(alloc: Global, sectors: u64, geometry: Geometry, fails_at: u64) -> Resu
     let disk = FaultDisk::new(memory, Which::WritesAndSyncs, fails_at);
     match Session::open(alloc, disk, fails_at) {
         Ok(session) => Ok(session),
-        Err((error, _)) => Err(error),
+        Err((error, disk)) => {
+            drop(disk);
+            Err(error)
+        }
     }
 }
 
@@ -199,18 +218,36 @@ fn start_for(alloc: Global, arguments: &Arguments, geometry: Geometry) -> Result
     start(alloc, sectors, geometry, fails_at)
 }
 
+// Prints how far the index of the store that was opened again is, and what it holds.
+fn show<W: Write>(session: &Session, output: &mut W) -> io::Result<()>
+    ensures { OnOk result (Shows W.contents session.now output.old output.new) }
+{
+    print(output, &Answer::Restart(session.life()))?;
+    session.dump(output)
+}
+
 // What is printed after a stop: the device crashes, and the store is opened again.
 fn after_stop<W: Write>(alloc: Global, disk: Disk, fate: Fate, output: &mut W) -> io::Result<u8>
     ensures { IfOk result (λ status. IsStopped W.contents fate disk status output.old output.new) }
 {
-    print(output, &Answer::Stopped)?;
+    match print(output, &Answer::Stopped) {
+        Ok(()) => (),
+        Err(error) => {
+            drop(disk);
+            return Err(error);
+        }
+    }
     match Session::reopen(alloc, disk, fate) {
         Ok(session) => {
-            print(output, &Answer::Restart(session.life()))?;
-            session.dump(output)?;
+            let shown = show(&session, output);
+            drop(session);
+            shown?;
             Ok(0)
         }
-        Err((error, _)) => refused(output, error),
+        Err((error, disk)) => {
+            drop(disk);
+            refused(output, error)
+        }
     }
 }
 

@@ -22,7 +22,11 @@ use store_reader::read_store;
 fn open<D: Device + Troubled + Drop>(alloc: Global, disk: D) -> Result<Store<D>, Refused> {
     match Store::open(alloc, disk) {
         Ok(store) => Ok(store),
-        Err((error, disk)) => Err(Refused::Store(error).because(&disk)),
+        Err((error, disk)) => {
+            let refused = Refused::Store(error).because(&disk);
+            drop(disk);
+            Err(refused)
+        }
     }
 }
 
@@ -79,21 +83,33 @@ fn make<R: Files<File = File> + AllocGlobal>(
 // What follows does one verb on a disk, and then on that of a file: what a file is, is behind none of the store's own
 // calls.
 
-// Builds the index on the disk to its end.
-fn build_disk<D: Device + Troubled + Drop, W: Write, E: Write>(
-    alloc: Global,
-    disk: D,
+// Builds the index of the store to its end.
+fn build<D: Device + Troubled + Drop, W: Write, E: Write>(
+    store: &mut Store<D>,
     build: Build,
     output: &mut W,
     errors: &mut E,
 ) -> Result<(), Refused> {
-    let mut store = open(alloc, disk)?;
-    let attempts = match build_index(&mut store, build, errors) {
+    let attempts = match build_index(store, build, errors) {
         Ok(attempts) => attempts,
         Err(refused) => return Err(refused.because(store.device())),
     };
     writeln!(output, "complete, {attempts} pairs attempted")?;
     Ok(())
+}
+
+// Builds the index on the disk to its end.
+fn build_disk<D: Device + Troubled + Drop, W: Write, E: Write>(
+    alloc: Global,
+    disk: D,
+    asked: Build,
+    output: &mut W,
+    errors: &mut E,
+) -> Result<(), Refused> {
+    let mut store = open(alloc, disk)?;
+    let built = build(&mut store, asked, output, errors);
+    drop(store);
+    built
 }
 
 fn build_file<R: Files<File = File>, W: Write, E: Write>(
@@ -108,6 +124,15 @@ fn build_file<R: Files<File = File>, W: Write, E: Write>(
     build_disk(alloc, disk, build, output, errors)
 }
 
+// Says whether the store's index fits its rows.
+fn check<D: Device + Drop, W: Write>(store: &Store<D>, output: &mut W) -> Result<(), Refused> {
+    if !store.core().can_open() {
+        return Err(Refused::Unsound);
+    }
+    writeln!(output, "sound")?;
+    Ok(())
+}
+
 // Says whether the disk holds a store, whose index fits its rows.
 fn check_disk<D: Device + Troubled + Drop, W: Write>(
     alloc: Global,
@@ -115,11 +140,9 @@ fn check_disk<D: Device + Troubled + Drop, W: Write>(
     output: &mut W,
 ) -> Result<(), Refused> {
     let (_, store) = read_and_open(alloc, disk)?;
-    if !store.core().can_open() {
-        return Err(Refused::Unsound);
-    }
-    writeln!(output, "sound")?;
-    Ok(())
+    let checked = check(&store, output);
+    drop(store);
+    checked
 }
 
 fn check_file<R: Files<File = File>, W: Write>(
@@ -138,7 +161,9 @@ fn dump_disk<D: Device + Troubled + Drop, W: Write>(
     output: &mut W,
 ) -> Result<(), Refused> {
     let (_, store) = read_and_open(alloc, disk)?;
-    Ok(store.dump(output)?)
+    let dumped = store.dump(output);
+    drop(store);
+    Ok(dumped?)
 }
 
 fn dump_file<R: Files<File = File>, W: Write>(
@@ -157,7 +182,9 @@ fn stat_disk<D: Device + Troubled + Drop, W: Write>(
     output: &mut W,
 ) -> Result<(), Refused> {
     let (stored, store) = read_and_open(alloc, disk)?;
-    Ok(write_stat(&stored, store.core(), output)?)
+    let written = write_stat(&stored, store.core(), output);
+    drop(store);
+    Ok(written?)
 }
 
 fn stat_file<R: Files<File = File>, W: Write>(
@@ -181,7 +208,9 @@ fn run_disk<D: Device + Troubled + Drop, I: BufRead, W: Write, E: Write>(
 ) -> Result<bool, Refused> {
     let mut service = Service::new(open(alloc, disk)?, is_durable);
     let served = service.serve_lines(alloc, input, output, errors);
-    service.flush()?;
+    let flushed = service.flush();
+    drop(service);
+    flushed?;
     Ok(served?)
 }
 

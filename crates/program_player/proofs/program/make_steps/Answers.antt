@@ -28,7 +28,7 @@ returns-then-is_last_step g c =
     c.loop.invariant.runs (Ok c.serve.new.self) c.print.new.output
     (last_step g.W.Write.contents c.args.event.now (c.args.count - c.loop.counter) c.loop.session c.serve.new.self
     (Ok c.serve.new.self) c.loop.output c.print.new.output
-    answered.0 (Ok c.in-Ok.answer) some answered.1 answered.2 last (refl, c.in_ok-print-in-Ok.ensures))
+    answered.0 (Ok c.in-Ok.answer) some answered.1 answered.2 last (refl, c.in-Ok-print.ensures))
 
 pub returns-in-Err : goal.returns-in-Err
 unfolding stopped_on
@@ -51,7 +51,7 @@ loop-preserved g c =
           (subst (λ (n : ℕ). MakesSteps g.W.Write.contents c.args.event.now n c.loop.session next c.loop.output after) left
           (one_step g.W.Write.contents c.args.event.now (c.args.count - (c.loop.counter + 1)) c.loop.session c.serve.new.self next c.loop.output
           c.print.new.output after
-          answered.0 c.in-Ok.answer answered.1 (sym answered.2) goes_on c.in_ok-print-in-Ok.ensures steps));
+          answered.0 c.in-Ok.answer answered.1 (sym answered.2) goes_on c.in-Ok-print.ensures steps));
     }
 
 pub returns : goal.returns

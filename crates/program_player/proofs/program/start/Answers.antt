@@ -25,8 +25,8 @@ returns-in-Ok-clause-starts c =
       opened = c.in-Ok.ensures;
     }
 
-pub returns-clause-refused : goal.returns-clause-refused
-returns-clause-refused c =
+pub returns-in-Err-clause-refused : goal.returns-in-Err-clause-refused
+returns-in-Err-clause-refused c =
     let g = c.args.geometry in
     let image = (disk_past c.new-disk.result).disk.content in
     let formatted = subst (λ (d : MemDisk Global). IsFormatted g (past_of d).disk.content)

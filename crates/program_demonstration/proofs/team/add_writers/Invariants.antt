@@ -1,6 +1,6 @@
 use Rattle.std.proofs.Common.{◌≡◌, ◌++◌, [], map, Some, ℕ}
 use Rattle.std.specs.Prelude.{slice_get}
-use Rattle.program_demonstration.proofs.team.writers_of.Given as goal
+use Rattle.program_demonstration.proofs.team.add_writers.Given as goal
 
 abbrev pub invariant-loop-seat : goal.invariant-loop-seat
 invariant-loop-seat g l = record {

@@ -2,7 +2,7 @@ use Rattle.std.proofs.Common.{◌≡◌, [], List, Some, arith, subst, sym, ℕ,
 use Rattle.std.proofs.lemmas.Grind.{common_steps}
 use Rattle.std.specs.Prelude.{slice_get}
 use Rattle.program_demonstration.proofs.Orders.{get_either}
-use Rattle.program_demonstration.proofs.team.writers_of.Goals as goal
+use Rattle.program_demonstration.proofs.team.add_writers.Goals as goal
 
 pub loop-seat-preserved : goal.loop-seat-preserved
 loop-seat-preserved g c = record {
