@@ -14,7 +14,7 @@ STRUCTS = {"nsf_event": ("asked", "Asked"), "nsf_place": ("spot", "Spot"), "nsf_
            "nsf_status": ("told", "Stat"), "nsf_handle": ("handle", "Handle")}
 # The names of parameters that are others in the header.
 NAMES = {"asked": "event", "told": "reply", "stat": "status", "spots": "places", "room": "sectors"}
-LIMITS = {"NSF_KEY_MAX": "records/src/key.rt", "NSF_BODY_MAX": "records/src/key.rt", "NSF_SLOTS_PER_PAGE": "records/src/rid.rt"}
+LIMITS = {"NSF_KEY_MAX": "record_values/src/key.rt", "NSF_BODY_MAX": "record_values/src/key.rt", "NSF_SLOTS_PER_PAGE": "record_values/src/rid.rt"}
 
 
 def text(path):
@@ -39,7 +39,7 @@ def number_faults(header):
         if numbers(header, word) != {name: int(number) for name, number in wanted}:
             yield f"the numbers from {word} on differ"
     refusals = numbers(header, "NSF_OK")
-    spec = re.findall(r"^number_of \(?(\w+)[^=]*= (\d+)", text("records/specs/Refusals.antt"), flags=re.M)
+    spec = re.findall(r"^number_of \(?(\w+)[^=]*= (\d+)", text("record_values/specs/Refusals.antt"), flags=re.M)
     wanted = {snake(name): int(number) for name, number in spec if name != "BadScript"}
     wanted.update({"OK": 0, "NO_SUCH_EVENT": int(kinds[at][1]), "UNREADY": refusals.get("UNREADY")})
     if refusals != wanted:
