@@ -1,5 +1,5 @@
 -- What a disk over a file holds, as far as its calls tell.
-use Rattle.std.specs.Prelude.{ℕ, length}
+use Rattle.std.specs.Prelude.{ℕ, Bool, length}
 use Rattle.sector_device.specs.DevicePast.{DevicePast}
 use Rattle.sector_device.specs.Memory.{memory_past}
 use Rattle.store_file.specs.Mirror.{blank, calls_of}
@@ -11,3 +11,7 @@ module _ {F A : Type 0} where
 
   abbrev pub failures_of : FileDisk F A → ℕ
   failures_of d = d.failures
+
+  -- whether a write or a sync of it has failed, behind which each fails
+  abbrev pub has_failed_of : FileDisk F A → Bool
+  has_failed_of d = d.has_failed

@@ -1,8 +1,8 @@
 //! A file is made under a name of its own, and gets its name in one step.
-ghost use Rattle.std.specs.Prelude.{◌≡◌, ◌+◌, ◌^◌, ◌<◌, replicate, IfOk};
+ghost use Rattle.std.specs.Prelude.{◌≡◌, ◌+◌, ◌^◌, ◌<◌, replicate, false, IfOk};
 ghost use Rattle.sector_device.specs.Disk.{IsSynced};
 ghost use Rattle.sector_device.specs.Values.{zero_sector};
-ghost use Rattle.store_file.specs.FileDisk.{past_of, failures_of};
+ghost use Rattle.store_file.specs.FileDisk.{past_of, failures_of, has_failed_of};
 
 use crate::error::OpenError;
 use crate::host::{HostFile, StoreFile};
@@ -117,6 +117,7 @@ where
     ensures zeros { IfOk result (λ d. (past_of d).disk.content ≡ replicate sectors zero_sector) }
     ensures synced { IfOk result (λ d. IsSynced (past_of d).disk) }
     ensures failures { IfOk result (λ d. failures_of d ≡ 0) }
+    ensures sound { IfOk result (λ d. has_failed_of d ≡ false) }
 {
     let file = file.apart()?;
     lock(&file)?;
@@ -157,6 +158,8 @@ where
     ensures zeros { IfOk result (λ d. (past_of d).disk.content ≡ replicate sectors zero_sector) }
     ensures synced { IfOk result (λ d. IsSynced (past_of d).disk) }
     ensures failures { IfOk result (λ d. failures_of d ≡ 0) }
+    ensures sound { IfOk result (λ d. has_failed_of d ≡ false) }
+    ensures fits { IfOk result (λ d. (0 < sectors) × (sectors < SECTORS_MAX + 1)) }
 {
     if sectors == 0 || sectors > SECTORS_MAX {
         return Err(OpenError::BadLength(sectors.saturating_mul(SECTOR_SIZE as u64)));

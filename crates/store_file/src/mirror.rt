@@ -17,8 +17,9 @@ use std::io;
 // How many sectors are read and written in one call where a disk is opened.
 const RUN: usize = 128;
 
-/// A disk over what is below. Once a write or sync of that failed, nothing is written any more and each write and sync
-/// fails: what is below is not known then, until it is read again. (That nothing reaches it then is only tested.)
+/// A disk over what is below. Once a write or sync of that failed, nothing is written any more, and each write and sync
+/// fails (`has_failed_of`): what is below is not known then, until it is read again. (That nothing reaches it then is
+/// only tested.)
 #[derive(Drop)]
 pub struct FileDisk<F, A: Allocator> {
     below: F,
@@ -42,7 +43,7 @@ fn zeros<A: Allocator>(alloc: A, sectors: usize) -> Result<Vec<[u8; SECTOR_SIZE]
 }
 
 impl<F: Drop, A: Allocator> FileDisk<F, A> {
-    ghost use Rattle.store_file.specs.FileDisk.{past_of, failures_of};
+    ghost use Rattle.store_file.specs.FileDisk.{past_of, failures_of, has_failed_of};
 
     /// A disk of zeros over what is below, which is to hold zeros, all of them safe. The error is that memory was
     /// refused.
@@ -50,6 +51,7 @@ impl<F: Drop, A: Allocator> FileDisk<F, A> {
         ensures zeros { IfOk result (λ d. (past_of d).disk.content ≡ replicate sectors zero_sector) }
         ensures synced { IfOk result (λ d. IsSynced (past_of d).disk) }
         ensures failures { IfOk result (λ d. failures_of d ≡ 0) }
+        ensures sound { IfOk result (λ d. has_failed_of d ≡ false) }
     {
         Ok(FileDisk {
             below,
@@ -66,6 +68,7 @@ impl<F: Drop, A: Allocator> FileDisk<F, A> {
         ensures content { IfOk result (λ d. (past_of d).disk.content ≡ sectors.now) }
         ensures synced { IfOk result (λ d. IsSynced (past_of d).disk) }
         ensures failures { IfOk result (λ d. failures_of d ≡ 0) }
+        ensures sound { IfOk result (λ d. has_failed_of d ≡ false) }
     {
         let mut disk = FileDisk::new(alloc, below, sectors.len())?;
         for n in 0..sectors.len() {
@@ -91,6 +94,7 @@ impl<F: Drop, A: Allocator> FileDisk<F, A> {
     pub(crate) fn with_below<G: Drop>(self, below: G) -> FileDisk<G, A>
         ensures disk { (past_of result).disk ≡ (past_of self).disk }
         ensures failures { failures_of result ≡ failures_of self }
+        ensures failed { has_failed_of result ≡ has_failed_of self }
     {
         FileDisk {
             below,
@@ -107,6 +111,7 @@ impl<F: Drop, A: Allocator> FileDisk<F, A> {
         ensures disk { (past_of self.new).disk ≡ after_write (past_of self.old).disk n bytes.now }
         ensures time { Elapses (past_of self.old) (past_of self.new) }
         ensures failures { failures_of self.new ≡ failures_of self.old }
+        ensures failed { has_failed_of self.new ≡ has_failed_of self.old }
     {
         self.past.note(&[n], bytes);
         self.content[n as usize] = *bytes;
@@ -117,6 +122,7 @@ impl<F: Drop, A: Allocator> FileDisk<F, A> {
         ensures disk { (past_of self.new).disk ≡ after_sync (past_of self.old).disk }
         ensures time { Elapses (past_of self.old) (past_of self.new) }
         ensures failures { failures_of self.new ≡ failures_of self.old }
+        ensures failed { has_failed_of self.new ≡ has_failed_of self.old }
     {
         self.past.note(&[], &[]);
     }
@@ -127,6 +133,7 @@ impl<F: Drop, A: Allocator> FileDisk<F, A> {
         ensures time { Elapses (past_of self.old) (past_of self.new) }
         ensures later { failures_of self.old ≤ failures_of self.new }
         ensures rises { Rises (failures_of self.old) (failures_of self.new) }
+        ensures failed { has_failed_of self.new ≡ true }
     {
         self.has_failed = true;
         self.failures = self.failures.saturating_add(1);
@@ -135,10 +142,12 @@ impl<F: Drop, A: Allocator> FileDisk<F, A> {
     // Counts a failure, and leaves the sector unsynced, with what it holds.
     fn spoil(&mut self, n: u64)
         requires { n < length (past_of self.old).disk.content }
-        ensures disk { IsFailedWrite (past_of self.old).disk n (past_of self.new).disk }
+        ensures disk { (past_of self.new).disk
+            ≡ after_write (past_of self.old).disk n (sector (past_of self.old).disk.content n) }
         ensures time { Elapses (past_of self.old) (past_of self.new) }
         ensures later { failures_of self.old ≤ failures_of self.new }
         ensures rises { Rises (failures_of self.old) (failures_of self.new) }
+        ensures failed { has_failed_of self.new ≡ true }
     {
         self.has_failed = true;
         self.failures = self.failures.saturating_add(1);
@@ -156,13 +165,14 @@ fn renew<F: Stored>(below: &mut F, first: usize, run: &mut [[u8; SECTOR_SIZE]]) 
 }
 
 impl<F: Stored + Drop, A: Allocator> FileDisk<F, A> {
-    ghost use Rattle.store_file.specs.FileDisk.{past_of, failures_of};
+    ghost use Rattle.store_file.specs.FileDisk.{past_of, failures_of, has_failed_of};
 
     // Takes over sectors as what is below holds them, from the first one's number on.
     fn put_run(&mut self, first: usize, run: &[[u8; SECTOR_SIZE]])
         requires { first + length run.now ≤ length (past_of self.old).disk.content }
         ensures size { length (past_of self.new).disk.content ≡ length (past_of self.old).disk.content }
         ensures failures { failures_of self.new ≡ failures_of self.old }
+        ensures failed { has_failed_of self.new ≡ has_failed_of self.old }
     {
         for n in 0..run.len() {
             self.put((first + n) as u64, &run[n]);
@@ -181,6 +191,7 @@ impl<F: Stored + Drop, A: Allocator> FileDisk<F, A> {
     fn load(&mut self) -> io::Result<()>
         ensures size { length (past_of self.new).disk.content ≡ length (past_of self.old).disk.content }
         ensures failures { failures_of self.new ≡ failures_of self.old }
+        ensures failed { has_failed_of self.new ≡ has_failed_of self.old }
     {
         let sectors = self.content.len();
         let mut buffer = [[0; SECTOR_SIZE]; RUN];
@@ -202,6 +213,7 @@ impl<F: Stored + Drop, A: Allocator> FileDisk<F, A> {
         ensures sectors { IfOk result (λ d. length (past_of d).disk.content ≡ sectors) }
         ensures synced { IfOk result (λ d. IsSynced (past_of d).disk) }
         ensures failures { IfOk result (λ d. failures_of d ≡ 0) }
+        ensures sound { IfOk result (λ d. has_failed_of d ≡ false) }
     {
         let mut disk = FileDisk::new(alloc, below, sectors)?;
         if let Err(error) = disk.load() {
@@ -224,6 +236,8 @@ impl<F: Backing + Drop, A: Allocator> FileDisk<F, A> {
         ensures same { self.new.content ≡ self.old.content }
         ensures past { self.new.past ≡ self.old.past }
         ensures failures { self.new.failures ≡ self.old.failures }
+        ensures failed { self.new.has_failed ≡ self.old.has_failed }
+        ensures sound { result ≡ true → self.old.has_failed ≡ false }
         ensures stays { self.old.has_failed ≡ true → result ≡ false }
     {
         !self.has_failed && self.below.put(n, bytes).is_ok()
@@ -234,6 +248,8 @@ impl<F: Backing + Drop, A: Allocator> FileDisk<F, A> {
         ensures same { self.new.content ≡ self.old.content }
         ensures past { self.new.past ≡ self.old.past }
         ensures failures { self.new.failures ≡ self.old.failures }
+        ensures failed { self.new.has_failed ≡ self.old.has_failed }
+        ensures sound { result ≡ true → self.old.has_failed ≡ false }
         ensures stays { self.old.has_failed ≡ true → result ≡ false }
     {
         !self.has_failed && self.below.sync().is_ok()
@@ -241,7 +257,7 @@ impl<F: Backing + Drop, A: Allocator> FileDisk<F, A> {
 }
 
 impl<F: Backing + Drop, A: Allocator> Device for FileDisk<F, A> {
-    ghost use Rattle.store_file.specs.FileDisk.{past_of, failures_of};
+    ghost use Rattle.store_file.specs.FileDisk.{past_of, failures_of, has_failed_of};
 
     ghost past_of = { past_of };
 
@@ -252,13 +268,32 @@ impl<F: Backing + Drop, A: Allocator> Device for FileDisk<F, A> {
     }
 
     /// It never fails.
-    fn read(&mut self, n: u64, buffer: &mut [u8; SECTOR_SIZE]) -> Result<(), Failed> {
+    fn read(&mut self, n: u64, buffer: &mut [u8; SECTOR_SIZE]) -> Result<(), Failed>
+        requires { n < length (past_of self.old).disk.content }
+        ensures ok { OnOk result (buffer.new ≡ sector (past_of self.old).disk.content n) }
+        ensures err { OnErr result (buffer.new ≡ buffer.old) }
+        ensures disk { (past_of self.new).disk ≡ (past_of self.old).disk }
+        ensures time { Elapses (past_of self.old) (past_of self.new) }
+        ensures counts { CountsFailure (failures_of self.old) (failures_of self.new) result }
+        ensures succeeds { IsOk result }
+        ensures failed { has_failed_of self.new ≡ has_failed_of self.old }
+    {
         *buffer = self.content[n as usize];
         Ok(())
     }
 
-    /// Where it fails, the sector holds what it held, unsynced, and what is below holds anything there.
-    fn write(&mut self, n: u64, bytes: &[u8; SECTOR_SIZE]) -> Result<(), Failed> {
+    /// Where it fails, the sector holds what it held, unsynced, and what is below holds anything there. A disk that has
+    /// failed fails from then on (`sound`, `failed`).
+    fn write(&mut self, n: u64, bytes: &[u8; SECTOR_SIZE]) -> Result<(), Failed>
+        requires { n < length (past_of self.old).disk.content }
+        ensures ok { OnOk result ((past_of self.new).disk ≡ after_write (past_of self.old).disk n bytes.now) }
+        ensures err { OnErr result (IsFailedWrite (past_of self.old).disk n (past_of self.new).disk) }
+        ensures time { Elapses (past_of self.old) (past_of self.new) }
+        ensures counts { CountsFailure (failures_of self.old) (failures_of self.new) result }
+        ensures kept { OnErr result ((past_of self.new).disk.content ≡ (past_of self.old).disk.content) }
+        ensures sound { OnOk result ((has_failed_of self.old ≡ false) × (has_failed_of self.new ≡ false)) }
+        ensures failed { OnErr result (has_failed_of self.new ≡ true) }
+    {
         if !self.put_below(n, bytes) {
             self.spoil(n);
             return Err(Failed);
@@ -267,7 +302,15 @@ impl<F: Backing + Drop, A: Allocator> Device for FileDisk<F, A> {
         Ok(())
     }
 
-    fn sync(&mut self) -> Result<(), Failed> {
+    /// A disk that has failed fails from then on (`sound`, `failed`).
+    fn sync(&mut self) -> Result<(), Failed>
+        ensures ok { OnOk result ((past_of self.new).disk ≡ after_sync (past_of self.old).disk) }
+        ensures err { OnErr result ((past_of self.new).disk ≡ (past_of self.old).disk) }
+        ensures time { Elapses (past_of self.old) (past_of self.new) }
+        ensures counts { CountsFailure (failures_of self.old) (failures_of self.new) result }
+        ensures sound { OnOk result ((has_failed_of self.old ≡ false) × (has_failed_of self.new ≡ false)) }
+        ensures failed { OnErr result (has_failed_of self.new ≡ true) }
+    {
         if !self.sync_below() {
             self.refuse();
             return Err(Failed);

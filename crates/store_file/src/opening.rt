@@ -1,7 +1,7 @@
 //! A disk over a file is opened.
-ghost use Rattle.std.specs.Prelude.{◌≡◌, ◌+◌, ◌^◌, ◌<◌, IfOk};
+ghost use Rattle.std.specs.Prelude.{◌≡◌, ◌+◌, ◌*◌, ◌<◌, length, false, IfOk};
 ghost use Rattle.sector_device.specs.Disk.{IsSynced};
-ghost use Rattle.store_file.specs.FileDisk.{past_of, failures_of};
+ghost use Rattle.store_file.specs.FileDisk.{past_of, failures_of, has_failed_of};
 
 use crate::backing::Detached;
 use crate::draft::SECTORS_MAX;
@@ -17,7 +17,7 @@ use std::rt::Files;
 
 // How many sectors a file of this length has.
 fn sectors_in(length: u64) -> Result<u64, OpenError>
-    ensures { IfOk result (λ n. n < 2 ^ 20 + 1) }
+    ensures { IfOk result (λ n. (length ≡ n * SECTOR_SIZE) × (0 < n) × (n < SECTORS_MAX + 1)) }
 {
     let sectors = length / SECTOR_SIZE as u64;
     if length % SECTOR_SIZE as u64 != 0 || sectors == 0 || sectors > SECTORS_MAX {
@@ -49,6 +49,9 @@ where
     R::File: StoreFile,
     ensures synced { IfOk result (λ d. IsSynced (past_of d).disk) }
     ensures failures { IfOk result (λ d. failures_of d ≡ 0) }
+    ensures sound { IfOk result (λ d. has_failed_of d ≡ false) }
+    ensures sectors { IfOk result (λ d. (0 < length (past_of d).disk.content)
+        × (length (past_of d).disk.content < SECTORS_MAX + 1)) }
 {
     refuse_other(rt, path)?;
     let opened = OpenOptions::new().read(true).write(true).open(rt, path)?;
@@ -79,6 +82,9 @@ where
     R::File: StoreFile,
     ensures synced { IfOk result (λ d. IsSynced (past_of d).disk) }
     ensures failures { IfOk result (λ d. failures_of d ≡ 0) }
+    ensures sound { IfOk result (λ d. has_failed_of d ≡ false) }
+    ensures sectors { IfOk result (λ d. (0 < length (past_of d).disk.content)
+        × (length (past_of d).disk.content < SECTORS_MAX + 1)) }
 {
     refuse_other(rt, path)?;
     let file = fs::open(rt, path)?.apart()?;
@@ -98,6 +104,9 @@ where
     R::File: StoreFile,
     ensures synced { IfOk result (λ d. IsSynced (past_of d).disk) }
     ensures failures { IfOk result (λ d. failures_of d ≡ 0) }
+    ensures sound { IfOk result (λ d. has_failed_of d ≡ false) }
+    ensures sectors { IfOk result (λ d. (0 < length (past_of d).disk.content)
+        × (length (past_of d).disk.content < SECTORS_MAX + 1)) }
 {
     Ok(hold(rt, alloc, path)?.with_below(Detached))
 }

@@ -285,7 +285,8 @@ fn check_watched<R: Files<File = File> + AllocGlobal + Abort>(
     }
 }
 
-// A publication that was cut off is ended by an opening, and that is safe then.
+// A publication that was cut off is ended by an opening, and that is safe then. The folder that is synced is the one
+// that the file stands in.
 #[test]
 fn each_write_and_name_is_synced(rt: HostRuntime) -> Result<(), Fail> {
     let log = Log::new(NEVER, 0);
@@ -293,6 +294,13 @@ fn each_write_and_name_is_synced(rt: HostRuntime) -> Result<(), Fail> {
     fs::hard_link(&rt, "synced", "synced.new")?;
     check_watched(&rt, &log, &[("synced", Call::Open, "done", b"krfwwwws")]);
     fs::remove_file(&rt, "synced")?;
+    fs::create_dir(&rt, "deep")?;
+    let rows: [(&str, Call, &str, &[u8]); 2] = [
+        ("deep/made", Call::Create(2), "done", b"kwwwwsd"),
+        ("deep/made", Call::Discard, "done", b"rd"),
+    ];
+    check_watched(&rt, &log, &rows);
+    fs::remove_dir_all(&rt, "deep")?;
     Ok(())
 }
 
@@ -335,9 +343,14 @@ fn fail_after<R: Files<File = File> + AllocGlobal + Abort>(
     Ok(())
 }
 
-// A write fails, the seventh call of an opened disk, and nothing reaches the file behind it.
-fn spoil<R: Files<File = File> + AllocGlobal + Abort>(rt: &R, path: &str) -> Result<(), Fail> {
-    let log = Log::new(6, 5);
+// So many calls of an opened disk come before the one that fails, a write or a sync. Nothing reaches the file behind
+// it.
+fn spoil<R: Files<File = File> + AllocGlobal + Abort>(
+    rt: &R,
+    path: &str,
+    before: u64,
+) -> Result<(), Fail> {
+    let log = Log::new(before, 5);
     let files = Watched { rt, log: &log };
     let mut disk = open(&files, rt.alloc(), path)?;
     assert!(rt; write(&mut disk, 1).is_err());
@@ -352,7 +365,9 @@ fn spoil<R: Files<File = File> + AllocGlobal + Abort>(rt: &R, path: &str) -> Res
 #[test]
 fn nothing_is_written_behind_a_failure(rt: HostRuntime) -> Result<(), Fail> {
     made(&rt, "spoiled", 2)?;
-    spoil(&rt, "spoiled")?;
+    for before in [6, 8] {
+        spoil(&rt, "spoiled", before)?;
+    }
     fs::remove_file(&rt, "spoiled")?;
     Ok(())
 }

@@ -16,7 +16,7 @@ const PART: usize = 300;
 const CALLS: usize = 32;
 
 /// Calls, each by a letter: `k` locks a file, `h` locks it against those that would lock it alone, `w` writes, `s`
-/// syncs it, `f` syncs a folder, `l` gives a second name, `r` removes one.
+/// syncs it, `f` syncs the folder of the process, `d` another one, `l` gives a second name, `r` removes one.
 #[derive(Clone, Copy)]
 pub struct Calls {
     letters: [u8; CALLS],
@@ -112,12 +112,14 @@ impl Log {
 pub struct WatchedFile<'a> {
     file: File,
     log: &'a Log,
+    // its letter, where it is a folder
+    folder: u8,
 }
 
 impl WatchedFile<'_> {
     fn note_sync(&self) -> io::Result<()> {
         if self.file.metadata()?.is_dir() {
-            return self.log.note(b'f');
+            return self.log.note(self.folder);
         }
         self.log.note(b's')
     }
@@ -219,6 +221,7 @@ impl<'a, R: Files<File = File>> Files for Watched<'a, R> {
         Ok(WatchedFile {
             file: self.rt.open_file(how, path)?,
             log: self.log,
+            folder: if path == "." { b'f' } else { b'd' },
         })
     }
 

@@ -11,7 +11,8 @@ loop-n-init g c = (
   c.in_ok-disk.ensures.failures,
   ap length c.in_ok-disk.ensures.zeros
       ∙ length-replicate (length c.args.sectors.now) zero_sector,
-  λ k lt. absurd (omega (arith, lt)),
+  (λ k lt. absurd (omega (arith, lt))),
+  c.in_ok-disk.ensures.sound,
 )
 
 pub loop-n-preserved : goal.loop-n-preserved
@@ -22,6 +23,7 @@ loop-n-preserved g c =
       c.put.ensures.failures ∙ c.loop-n.invariant.0,
       ap length is ∙ length-set old c.loop-n.n (sector wanted c.loop-n.n) ∙ c.loop-n.invariant.1,
       one_more old _ wanted c.loop-n.n (omega (arith, c.loop-n-test.true, c.loop-n.invariant.1)) is c.loop-n.invariant.2,
+      c.put.ensures.failed ∙ c.loop-n.invariant.3,
     )
 
 pub returns-clause-content : goal.returns-clause-content
@@ -30,3 +32,6 @@ returns-clause-content g c = ap (λ (d : Disk). d.content) c.settle.ensures.disk
 
 pub returns-clause-synced : goal.returns-clause-synced
 returns-clause-synced g c = λ k. ap (λ (d : Disk). d.unsynced k) c.settle.ensures.disk
+
+pub returns-clause-sound : goal.returns-clause-sound
+returns-clause-sound g c = c.settle.ensures.failed ∙ c.loop-n.invariant.3
