@@ -78,12 +78,14 @@ impl Session {
             (OpensOn disk fails_at)
             (λ r. IsRefusedOn disk r.1 r.0) }
     {
-        let store = Store::open(alloc, disk)?;
-        Ok(Session {
-            alloc,
-            store,
-            fails_at,
-        })
+        match Store::open(alloc, disk) {
+            Ok(store) => Ok(Session {
+                alloc,
+                store,
+                fails_at,
+            }),
+            Err(refused) => Err(refused),
+        }
     }
 
     /// Opens the store on the disk after a loss of power. No call is cut short any more.

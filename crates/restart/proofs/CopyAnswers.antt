@@ -1,5 +1,5 @@
 -- What is answered to a copy, by what the writer answered.
-use Rattle.std.proofs.Common.{◌≡◌, ◌⊎◌, false, true, inl, inr, ℕ, ◌-◌, ◌≤◌, List, [], ◌∷◌, ◌++◌, None, Some, length, take, drop, refl, sym, ◌∙◌, ap, subst}
+use Rattle.std.proofs.Common.{◌≡◌, ◌≢◌, ◌⊎◌, false, true, inl, inr, ℕ, ◌-◌, ◌≤◌, List, [], ◌∷◌, ◌++◌, None, Some, length, take, drop, refl, sym, ◌∙◌, ap, subst}
 use Rattle.std.proofs.Common.{arith, append-nil, ⊎_elim}
 use Rattle.std.proofs.lemmas.Bool.{false≢true}
 use Rattle.std.proofs.lemmas.List.{drop-drop, drop-take}
@@ -14,6 +14,7 @@ use Rattle.store_writer.specs.Copying.{next_place}
 use Rattle.store_writer.specs.Image.{reach}
 use Rattle.store_writer.specs.Parts as writer
 use Rattle.store_writer.specs.Writer.{HasFailed, HasPiece, IsWriter}
+use Rattle.store_writer.specs.declared.copying.Copying.{Copying}
 use Rattle.store_writer.specs.declared.copying.Copying.TheVariants.{GivenUp, Steps}
 use Rattle.store_writer.specs.declared.image.NewImage.{NewImage}
 use Rattle.flip_image.specs.Layout.{other}
@@ -23,10 +24,10 @@ use Rattle.restart.specs.declared.event.Reply.{Reply}
 use Rattle.restart.specs.declared.event.Reply.TheVariants as reply
 use Rattle.restart.specs.declared.parts.EngineParts.{EngineParts}
 use Rattle.restart.specs.Copies.{CannotFlip, CannotTake, IsCopyAnswer, IsFlippedAtOnce, IsPieceNow, IsPutOff, KeepsAll, MakesCurrent, MayFlip, Succeeds}
-use Rattle.restart.specs.Copies.{TakesPiece, copies_left, left_at}
+use Rattle.restart.specs.Copies.{TakesPiece, WantsMemory, copies_left, left_at}
 use Rattle.restart.specs.Handing.{HandsOver}
 use Rattle.restart.specs.History.{IsOfCopy, acknowledged}
-use Rattle.restart.specs.Parts.{core_of, device_of, has_failed, horizon_of, unhanded, unwritten, writer_of}
+use Rattle.restart.specs.Parts.{copying_of, core_of, device_of, has_failed, horizon_of, unhanded, unwritten, writer_of}
 use Rattle.restart.specs.Store.{CanRun}
 use Rattle.restart.proofs.Numbers.{count_between}
 use Rattle.restart.proofs.Before.{has_as, must_as, piece_before}
@@ -190,6 +191,7 @@ module _ {D M : Type 0} (failures : D → ℕ) (old mid new : EngineParts D M) w
         left = omega (arith, off.left, left);
         halves = off.halves ∙ halves;
         keeps = λ stepped. absurd (stepped was);
+        wants = ⊎_elim (λ some. inl some) (λ rest. ⊎_elim (λ stepped. absurd (stepped whole)) (λ group. inr (inr group)) rest) off.wants;
       }
 
 -- ---- behind a handing over
@@ -292,6 +294,8 @@ module _ {D M : Type 0} (past_of : D → DevicePast) (failures : D → ℕ) (old
     left = omega (arith, off.left, left_same);
     halves = off.halves ∙ over.halves;
     keeps = λ other. keeps_both old mid new (keeps_over past_of old mid over) (off.keeps (λ stepped. other (sym over.copying ∙ stepped)));
+    wants = ⊎_elim (λ some. inl some)
+        (λ rest. inr (⊎_elim (λ other. inl (λ stepped. other (over.copying ∙ stepped))) (λ group. inr group) rest)) off.wants;
   }
 
   pub answer_over : (new : EngineParts D M) (r : Reply M) → IsCopyAnswer failures r mid new → has_failed mid ≡ false → IsCopyAnswer failures r old new
@@ -325,8 +329,8 @@ module _ {D M : Type 0} (past_of : D → DevicePast) (failures : D → ℕ) (old
       is
 
   -- where not all could be handed over
-  pub copy_not_over : has_failed old ≡ false → IsCopyAnswer failures (reply.Refused NoMemory) old mid
-  copy_not_over sound = inl (
+  pub copy_not_over : has_failed old ≡ false → unhanded mid ≢ [] → IsCopyAnswer failures (reply.Refused NoMemory) old mid
+  copy_not_over sound some = inl (
     refl,
     record {
       succeeds = over_well mid (record { keeps = keeps_none failures mid; sound-before = over.failed ∙ sound; sound = over.failed ∙ sound; quiet = refl });
@@ -334,6 +338,7 @@ module _ {D M : Type 0} (past_of : D → DevicePast) (failures : D → ℕ) (old
       left = omega (arith, left_same);
       halves = over.halves;
       keeps = λ _. keeps_over past_of old mid over;
+      wants = inl some;
     },
   )
 
@@ -347,13 +352,14 @@ none_well failures old sound = record { keeps = keeps_none failures old; sound-b
 -- there was no memory, and the writer is as it was
 pub put_off_as : {D M : Type 0} (failures : D → ℕ) (old new : EngineParts D M) → Succeeds failures old new → writer_of new ≡ writer_of old
     → core_of new ≡ core_of old
-    → new.geometry ≡ old.geometry → IsPutOff failures old new
-put_off_as failures old new well same core_is size = record {
+    → new.geometry ≡ old.geometry → WantsMemory old new → IsPutOff failures old new
+put_off_as failures old new well same core_is size wants = record {
   succeeds = well;
   copying = copying;
   left = omega (arith, level);
   halves = ap (λ w. writer.halves_of w) same;
   keeps = λ _. keeps_same old new same;
+  wants = wants;
 }
   where
     copying : new.writer.copying ≡ old.writer.copying
@@ -368,8 +374,15 @@ put_off_as failures old new well same core_is size = record {
 
 -- where nothing could be copied
 pub none_copied : {D M : Type 0} (failures : D → ℕ) (old : EngineParts D M) (e : Error) → e ≡ NoMemory → has_failed old ≡ false
-    → IsCopyAnswer failures (reply.Refused e) old old
-none_copied failures old e none sound = inl (none, put_off_as failures old old (none_well failures old sound) refl refl refl)
+    → copying_of old ≢ Steps None → IsCopyAnswer failures (reply.Refused e) old old
+none_copied failures old e none sound due = inl (none, put_off_as failures old old (none_well failures old sound) refl refl refl (inr (inl due)))
+
+-- where a piece comes next, no whole image waits
+pub piece_due : (copying : Copying) (place : CopyPlace) → next_place copying ≡ Some place → copying ≢ Steps None
+piece_due copying place next whole = none (sym (ap next_place whole) ∙ next)
+  where
+    none : None ≡ Some place → ⊥
+    none same = cc
 
 -- ---- what a copy tells
 

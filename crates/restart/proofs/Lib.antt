@@ -28,6 +28,7 @@ mod Fewer
 mod CopyAnswers
 mod Apart
 mod Flips
+mod Turning
 mod Reopened
 mod Migrated
 mod Storied

@@ -3,6 +3,7 @@ use Rattle.std.proofs.Common.{◌≡◌, ◌⊎◌, ℕ, ◌<◌, length, Result
 use Rattle.sector_device.specs.Disk.{CrashState}
 use Rattle.sector_device.specs.DevicePast.{DevicePast}
 use Rattle.record_values.specs.GeometryValue.{GeometryValue, sectors_of}
+use Rattle.record_values.specs.declared.version.Version.{Version}
 use Rattle.record_values.specs.declared.version.Version.TheVariants.{One}
 use Rattle.record_values.specs.declared.error.Error.{Error}
 use Rattle.record_values.specs.declared.error.Error.TheVariants.{DeviceFailed, NoMemory}
@@ -65,8 +66,8 @@ old_not_moved old old_before old_after past_of failures new e refusal told refus
     told
 
 -- what gives something has a header
-pub has_header : (old : CrashState) (geometry : GeometryValue) (given : Given) → GivesIn One old geometry given → HasHeaderIn One old
-has_header old geometry given gave = (geometry, gave.half, gave.holds.store, (header_of gave.base gave.cells, gave.holds.imaged.header-is))
+pub has_header : (v : Version) (old : CrashState) (geometry : GeometryValue) (given : Given) → GivesIn v old geometry given → HasHeaderIn v old
+has_header v old geometry given gave = (geometry, gave.half, gave.holds.store, (header_of gave.base gave.cells, gave.holds.imaged.header-is))
 
 -- want of memory is told of want of memory alone
 pub wanted : (e : Error) (refusal : MigrateError) → IsToldOfOld e refusal → refusal ≡ refusals.NoMemory → e ≡ NoMemory

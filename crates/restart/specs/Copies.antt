@@ -30,8 +30,8 @@ use Rattle.restart.specs.declared.event.Event.TheVariants as event
 use Rattle.restart.specs.declared.event.Reply.{Reply}
 use Rattle.restart.specs.declared.event.Reply.TheVariants as reply
 use Rattle.restart.specs.declared.parts.EngineParts.{EngineParts}
-use Rattle.restart.specs.Parts.{KeepsStore, copying_of, core_of, device_of, has_failed, horizon_of, log_of, unwritten}
-use Rattle.restart.specs.Parts.{writer_of}
+use Rattle.restart.specs.Parts.{KeepsStore, copying_of, core_of, device_of, has_failed, horizon_of, log_of, unhanded}
+use Rattle.restart.specs.Parts.{unwritten, writer_of}
 
 -- ---- how many copies are left
 
@@ -158,6 +158,12 @@ pub record MakesCurrent {D M : Type 0} (old new : EngineParts D M) : Type 0 wher
   pub emptied : copying_of old ≡ GivenUp → (log_of new).open_slots ≡ 0
   pub all : copying_of old ≡ GivenUp → unwritten new ≡ []
 
+-- Memory was wanted: for records that are yet to be handed over; or for a piece, or a whole image; or for a group, as
+-- the image can't be made current yet, a record waits, and the log has a slot for it.
+abbrev pub WantsMemory : {D M : Type 0} → EngineParts D M → EngineParts D M → Type 0
+WantsMemory old new = (unhanded new ≢ []) ⊎ ((copying_of old ≢ Steps None)
+    ⊎ ((¬ MayFlip (writer_of new)) × (unwritten new ≢ []) × (¬ IsLogFull (writer_of new))))
+
 -- There was no memory, and the copying is where it was, with no more copies left. Nothing was written, but where a
 -- whole image waits for groups: then some may have been, and one of them may have given the image up.
 pub record IsPutOff {D M : Type 0} (failures : D → ℕ) (old new : EngineParts D M) : Type 0 where
@@ -166,6 +172,7 @@ pub record IsPutOff {D M : Type 0} (failures : D → ℕ) (old new : EngineParts
   pub left : copies_left new ≤ copies_left old
   pub halves : halves_of (writer_of new) ≡ halves_of (writer_of old)
   pub keeps : copying_of old ≢ Steps None → KeepsStore old new
+  pub wants : WantsMemory old new
 
 -- which answer a copy gives, and what it leaves
 abbrev pub IsCopyAnswer : {D M : Type 0} → (D → ℕ) → Reply M → EngineParts D M → EngineParts D M → Type 0

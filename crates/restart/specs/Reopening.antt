@@ -62,13 +62,16 @@ IsEmptied past_of before engine = IsStore (halves_of (writer_of engine)).geometr
     × (image_of (writer_of engine) ≡ None) × (copying_of engine ≡ Idle)
 
 -- Why nothing was opened: there was no memory, the device failed in the call, or it gives nothing. With any answer but
--- `DeviceFailed` no call of the device failed, and the device is synced.
+-- `DeviceFailed` no call of the device failed, nothing was written, and the device is synced. The count of failures
+-- doesn't fall.
 pub record IsNotOpened {D : Type 0} (past_of : D → DevicePast) (failures : D
     → ℕ) (before after : D) (e : Error) : Type 0 where
   pub device : IsTurned past_of before after
   pub why : Refuses (failures before) (failures after) e ⊎ IsUnreadable (past_of before).disk.content e
   pub told : e ≢ DeviceFailed → failures after ≡ failures before
+  pub unwritten : e ≢ DeviceFailed → IsUnwritten past_of before after
   pub synced : e ≢ DeviceFailed → IsSynced (past_of after).disk
+  pub later : failures before ≤ failures after
 
 -- The engine holds a prefix of the run's history, which has every item up to the floor and no record past the last that
 -- the run made, and no transaction; and what it holds is something that a core may begin with: as far as the index is

@@ -60,7 +60,7 @@ pub record CopiesAnew {D M : Type 0} (past_of : D → DevicePast) (failures : D
     → ℕ) (reply : Reply M) (old new : EngineParts D M) : Type 0 where
   pub answer : IsCopyAnswer failures reply (giving_up old) new
   pub runs : ServesOn past_of Copy reply old new
-  pub around : CopiesAround past_of old new
+  pub around : CopiesAround past_of (giving_up old) new
 
 -- All that the engine holds was written as a whole image, which is current: its records that weren't synced are in it.
 -- No call of the device failed, and a crash at any moment leaves a prefix of whatever run the engine served, with every
@@ -71,7 +71,7 @@ pub record WritesWhole {D M : Type 0} (past_of : D → DevicePast) (failures : D
   pub quiet : failures (parts.device_of w) ≡ failures (device_of engine)
   pub survives : (past : Past M) → IsAt past_of past engine
       → LeavesOnly (past_of (device_of engine)) (past_of (parts.device_of w)) (Survives past (horizon_of engine))
-  pub around : WritesOnly past_of (InCopy (halves_of (writer_of engine))) (device_of engine) (parts.device_of w)
+  pub around : WritesOnly past_of (InCopy GivenUp (halves_of (writer_of engine))) (device_of engine) (parts.device_of w)
 
 -- there was no memory for it, or the device failed: the engine's run goes on, by a copy that was refused so
 abbrev pub IsNotWritten : {D M : Type 0} → (D → DevicePast) → (D → ℕ) → EngineParts D M → EngineParts D M → Error

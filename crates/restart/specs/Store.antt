@@ -1,5 +1,5 @@
 -- What the store has done so far, and what a crash of its device leaves.
-use Rattle.std.specs.Prelude.{max, ◌≡◌, ◌≢◌, ◌⊎◌, ◌≤◌, ◌+◌, ℕ, List, [], ◌∷◌, ◌++◌, length, take}
+use Rattle.std.specs.Prelude.{max, ◌≡◌, ◌≢◌, ◌⊎◌, ◌≤◌, ◌+◌, ℕ, List, [], ◌∷◌, ◌++◌, length, take, None}
 use Rattle.record_values.specs.GeometryValue.{GeometryValue}
 use Rattle.records.specs.RecordValue.{RecordValue}
 use Rattle.model.specs.Given.{Given, IsBeginning, opening_cells}
@@ -18,6 +18,8 @@ use Rattle.store_reader.specs.Contents.{Gives}
 use Rattle.flip_image.specs.Layout.{HalvesValue, InHalf, InLog, other}
 use Rattle.flip_image.specs.declared.half.TheConstants.{FLIP_SECTOR}
 use Rattle.store_writer.specs.Parts.{halves_of}
+use Rattle.store_writer.specs.declared.copying.Copying.{Copying}
+use Rattle.store_writer.specs.declared.copying.Copying.TheVariants.{Steps}
 use Rattle.store_writer.specs.Writer.{InOpenedSlots, IsWriter, WritesLogsAlone, WritesOnly}
 use Rattle.core_copies.specs.Lists.{HasLists}
 use Rattle.model.specs.Cells.{cells_after}
@@ -27,7 +29,7 @@ use Rattle.restart.specs.declared.event.Reply.{Reply}
 use Rattle.restart.specs.declared.parts.EngineParts.{EngineParts}
 use Rattle.restart.specs.History.{AreOfKind, acknowledged, core_calls, standing_over}
 use Rattle.restart.specs.Lawful.{IsLawful}
-use Rattle.restart.specs.Parts.{core_of, device_of, horizon_of, unhanded, writer_of}
+use Rattle.restart.specs.Parts.{copying_of, core_of, device_of, horizon_of, unhanded, writer_of}
 
 -- A run: how large the store is, what it began with, what was asked, and what was answered.
 pub record Past (M : Type 0) : Type 0 where
@@ -129,14 +131,17 @@ KeepsAround past_of old new = WritesLogsAlone past_of (writer_of old) (writer_of
 abbrev pub OpensSlotsAlone : {D M : Type 0} → (D → DevicePast) → EngineParts D M → EngineParts D M → Type 0
 OpensSlotsAlone past_of old new = WritesOnly past_of (InOpenedSlots (writer_of old)) (device_of old) (device_of new)
 
--- a sector of the current half's log or of the other half, or the one that tells which half is current
-abbrev pub InCopy : HalvesValue → ℕ → Type 0
-InCopy h n = InLog h.geometry h.current n ⊎ (InHalf h.geometry (other h.current) n ⊎ (n ≡ FLIP_SECTOR))
+-- a sector of the half that isn't current, or the one that tells which half is; and while a whole image waits to be
+-- made current, one of the current half's log
+abbrev pub InCopy : Copying → HalvesValue → ℕ → Type 0
+InCopy copying h n = ((copying ≡ Steps None) × InLog h.geometry h.current n)
+    ⊎ (InHalf h.geometry (other h.current) n ⊎ (n ≡ FLIP_SECTOR))
 
 -- Of these alone some were written: each other sector of the device holds what it held before, and so it does after a
 -- crash at any moment of the call, if it was synced before.
 abbrev pub CopiesAround : {D M : Type 0} → (D → DevicePast) → EngineParts D M → EngineParts D M → Type 0
-CopiesAround past_of old new = WritesOnly past_of (InCopy (halves_of (writer_of old))) (device_of old) (device_of new)
+CopiesAround past_of old new = WritesOnly past_of (InCopy (copying_of old) (halves_of (writer_of old))) (device_of old)
+    (device_of new)
 
 -- the device has as many sectors as before
 abbrev pub KeepsSectors : {D M : Type 0} → (D → DevicePast) → EngineParts D M → EngineParts D M → Type 0

@@ -55,10 +55,10 @@ impl<D: Device, A: Allocator + Copy> Engine<D, A> {
     /// any moment of the call leaves a store that `restart` takes back to what was told by a prefix of the requests,
     /// and no record up to the horizon is lost (`serves`). But by a copy no sector is written but those of the store's
     /// log and, where an image is under way, of the log of its half (`around`), and by a flush none but those of the
-    /// slot that it opens there (`slot`); and by a copy none but those of the log, of the half that isn't current, and
-    /// the one that tells which half is (`copied`). A copy that finds a whole image waiting writes filled groups, and
-    /// none where the image could be made current at once (`groups`). The device has as many sectors as before
-    /// (`sectors`).
+    /// slot that it opens there (`slot`). By a copy none is written but those of the half that isn't current, the one
+    /// that tells which half is, and, while a whole image waits, those of the log (`copied`). A copy that finds a whole
+    /// image waiting writes filled groups, and none where the image could be made current at once (`groups`). The
+    /// device has as many sectors as before (`sectors`).
     pub fn serve(&mut self, event: Event) -> Reply<A>
         ensures serves { ServesOn D.past_of event result self.old self.new }
         ensures lawful { IsLawful D.failures event result self.old self.new }
@@ -194,7 +194,13 @@ impl<D: Device, A: Allocator + Copy> Engine<D, A> {
         let Engine { mut parts } = self;
         let all = parts.hand_over();
         if all {
-            let EngineParts { core, writer, .. } = parts;
+            let EngineParts {
+                core,
+                writer,
+                outgoing,
+                ..
+            } = parts;
+            drop(outgoing);
             Ok((core, writer))
         } else {
             let engine = Engine { parts };
@@ -210,7 +216,14 @@ impl<D: Device, A: Allocator + Copy> Engine<D, A> {
         ensures survives { KeepsRun D.past_of self result }
     {
         let Engine { parts } = self;
-        let EngineParts { writer, .. } = parts;
+        let EngineParts {
+            core,
+            writer,
+            outgoing,
+            ..
+        } = parts;
+        drop(core);
+        drop(outgoing);
         writer.into_device()
     }
 }

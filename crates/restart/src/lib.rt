@@ -3,9 +3,10 @@
 //! Proved: a crash at any moment of `run`, within any write or sync, leaves what the first requests committed, with
 //! each record up to the horizon before, and all that was acknowledged (`any_crash`, `at_end`: of an engine that is
 //! where a run left it). Each reply is lawful (`lawful`). `restart` opens what a crash of such a run left, and is
-//! refused there only for want of memory or by a device that fails (`recovers`, `readable`). With no transaction
-//! active, an `Ok` of `build_to_end` over such a store leaves the visible entries just the pairs of the rows (`whole`;
-//! `come_by_a_run`: every run leaves such a store). `last_checkpoint`: which pair a build goes on above.
+//! refused there only for want of memory or by a device that fails (`recovers`, `readable`); where it is refused and
+//! the device didn't fail, nothing was written (`unwritten`). With no transaction active, an `Ok` of `build_to_end`
+//! over such a store leaves the visible entries just the pairs of the rows (`whole`; `come_by_a_run`: every run leaves
+//! such a store). `last_checkpoint`: which pair a build goes on above.
 //! `copies_flip`: so many copies make an image current. With none active an engine that served is left as a restart
 //! would leave it: `into_writer` gives the writer, with all that the engine holds synced (`written`), and `fresh_core`
 //! a core over it (`fresh`); `into_parts` gives both. `migrate` opens over a new device what an old one gives by

@@ -177,17 +177,26 @@ fn fill<D: Device, A: Allocator + Copy>(
     ensures quiet { OnOk result (D.failures device.new ≡ D.failures device.old) }
 {
     if device.sectors() < restored.geometry.sectors() {
+        drop(restored);
         return Err(MigrateError::New(Error::DeviceTooSmall));
     }
     let Ok(core) = load(alloc, &restored) else {
+        drop(restored);
         return Err(MigrateError::NoMemory);
     };
     let halves = match format(device, restored.geometry) {
         Ok(halves) => halves,
-        Err(error) => return Err(MigrateError::New(error)),
+        Err(error) => {
+            drop(core);
+            drop(restored);
+            return Err(MigrateError::New(error));
+        }
     };
     match write_over(alloc, device, halves, restored) {
         Ok(made) => Ok((core, made.halves, made.log)),
-        Err(_) => Err(MigrateError::New(Error::DeviceFailed)),
+        Err(_) => {
+            drop(core);
+            Err(MigrateError::New(Error::DeviceFailed))
+        }
     }
 }

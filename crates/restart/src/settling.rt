@@ -50,9 +50,10 @@ impl<D: Device, A: Allocator + Copy> Engine<D, A> {
         let CellMaps {
             rows,
             entries,
+            lists,
             life,
-            ..
         } = cells;
+        drop(lists);
         let found = Restored {
             geometry: self.parts.geometry,
             rows,
@@ -60,7 +61,9 @@ impl<D: Device, A: Allocator + Copy> Engine<D, A> {
             life,
             last: number,
         };
-        load(self.parts.alloc, &found)
+        let loaded = load(self.parts.alloc, &found);
+        drop(found);
+        loaded
     }
 
     /// The writer that owns the device, once all that the engine holds was written to it as a whole image, while no
@@ -80,7 +83,14 @@ impl<D: Device, A: Allocator + Copy> Engine<D, A> {
         let _txns = parts.core.active_txns();
         match parts.copy_anew() {
             Reply::Flipped(_) => {
-                let EngineParts { writer, .. } = parts;
+                let EngineParts {
+                    core,
+                    writer,
+                    outgoing,
+                    ..
+                } = parts;
+                drop(core);
+                drop(outgoing);
                 Ok(writer)
             }
             Reply::Refused(error) => Err((error, Engine { parts })),
@@ -113,7 +123,10 @@ impl<D: Device, A: Allocator + Copy> Engine<D, A> {
         };
         match self.into_writer() {
             Ok(writer) => Ok((core, writer)),
-            Err(refused) => Err(refused),
+            Err(refused) => {
+                drop(core);
+                Err(refused)
+            }
         }
     }
 }

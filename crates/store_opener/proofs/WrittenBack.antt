@@ -16,7 +16,6 @@ use Rattle.model.specs.Given.{Given, opening_cells}
 use Rattle.store_image_half.specs.Source.{FitsImage}
 use Rattle.gate_log.specs.Area.{Area, Log, HoldsGroups, Stands}
 use Rattle.flip_image.specs.declared.half.Half.{Half}
-use Rattle.flip_image.specs.declared.half.Half.TheVariants.{A, B}
 use Rattle.flip_image.specs.Layout.{HalvesValue, other, InHalf, InHalfImage}
 use Rattle.flip_image.specs.Store.{Names, IsSuperblock, IsStore, IsFlipping, HoldsImage}
 use Rattle.flip_image.proofs.Sides.{behind_front, either_store, image_inside, other_apart, store_in_front}

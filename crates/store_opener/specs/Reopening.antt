@@ -2,7 +2,6 @@
 use Rattle.std.specs.Prelude.{◌≡◌, ◌⊎◌, ℕ}
 use Rattle.sector_device.specs.Disk.{CrashState, Disk, IsCrashState, SameOutside}
 use Rattle.record_values.specs.GeometryValue.{GeometryValue}
-use Rattle.model.specs.declared.cell_maps.CellMaps.{CellMaps}
 use Rattle.model.specs.Given.{Given}
 use Rattle.flip_image.specs.declared.half.Half.{Half}
 use Rattle.flip_image.specs.declared.half.TheConstants.{FLIP_SECTOR}
@@ -36,7 +35,3 @@ pub record IsWrittenBack (before image : CrashState) : Type 0 where
 -- what a crash leaves: what it might have left before, or the disk's content, written back
 abbrev pub ReopeningLeaves : Disk → CrashState → Type 0
 ReopeningLeaves before image = IsCrashState before image ⊎ IsWrittenBack before.content image
-
--- what the cells give, with no transaction taken back (no public clause cites this)
-abbrev pub given_by : {A : Type 0} → CellMaps A → ℕ → Given
-given_by cells last = record { table = cells.rows; entries = cells.entries; life = cells.life; last = last }

@@ -8,7 +8,6 @@ use Rattle.store_image_half.specs.Source.{FitsImage}
 use Rattle.flip_image.specs.Layout.{HalvesValue}
 use Rattle.store_reader.specs.Restored.{given_in}
 use Rattle.store_reader.specs.Contents.{Gives}
-use Rattle.store_writer.specs.Writer.{IsOpenedAt}
 use Rattle.core_model.specs.Events.{standing_at}
 use Rattle.core_loader.specs.Loaded.{holding}
 use Rattle.core_model.specs.Histories.{opened}
@@ -37,7 +36,7 @@ returns-in-Ok-write_over-clause-filled g c =
         gives = subst (λ (x : GeometryValue). Gives now.disk.content x given) (sym size) written.gives;
         holds = c.in-Ok.ensures.made ∙ ap (λ (x : GeometryValue). holding x given) same;
         shown = subst (λ (x : GeometryValue). IsState (value_of c.in-Ok.core) (opened (over x given)) (standing_at given.last)) same c.in-Ok.ensures.opened;
-        opened-at = subst (λ (x : Given). IsOpenedAt now made.halves made.log x.last (opening_cells x)) written.given written.opened;
+        opened-at = written.opened;
       };
       geometry-is = sym same;
       given-is = refl;

@@ -79,7 +79,7 @@ returns-in-Err-clause-too_small g c small = ⊎_elim
 pub returns-in-Ok-clause-memory : goal.returns-in-Ok-clause-memory
 returns-in-Ok-clause-memory g c =
     let restored = c.in-Ok.found.restored in
-    if_err_weaker _ _ c.fill.result (λ e why none. has_header (g.O.Device.past_of c.args.old.now).disk.content restored.geometry
+    if_err_weaker _ _ c.fill.result (λ e why none. has_header One (g.O.Device.past_of c.args.old.now).disk.content restored.geometry
     (given_in restored) c.in-Ok.ensures.found.gives) c.fill.ensures.refused
 
 pub returns-in-Ok-clause-told : goal.returns-in-Ok-clause-told

@@ -74,12 +74,7 @@ pub returns-in-Err-clause-readable : goal.returns-in-Err-clause-readable
 returns-in-Err-clause-readable g c past floor left = c.in-Err.ensures.accepted past.geometry left.given left.gives
 
 pub returns-in-Err-clause-refused : goal.returns-in-Err-clause-refused
-returns-in-Err-clause-refused g c = record {
-  device = c.open_core.ensures.turned;
-  why = c.in-Err.ensures.refused;
-  told = c.in-Err.ensures.told;
-  synced = c.in-Err.ensures.settled;
-}
+returns-in-Err-clause-refused g c = c.in-Err.ensures.refused
 
 pub returns-in-Err-clause-unwritten : goal.returns-in-Err-clause-unwritten
-returns-in-Err-clause-unwritten g c = c.in-Err.ensures.unwritten
+returns-in-Err-clause-unwritten g c = c.in-Err.ensures.refused.unwritten

@@ -29,8 +29,8 @@ returns-clause-fresh g c =
     let engine = c.self.inside.parts in
     let are = whole_cells (core_of engine) _ c.in-Whole.cells c.in-Whole.is c.in_ok-number.ensures.whole in
     let same = given_same (core_of engine) (cells_of c.in-Whole.cells) _ are c.in_ok-number.ensures.number in
-    if_ok_both _ _ (λ core. IsFresh (core_of engine) (value_of core)) c.load.result
-    (λ core made shown. fresh_made h engine c.self.invariant _ same (value_of core) made shown) c.load.ensures.made c.load.ensures.opened)
+    if_ok_both _ _ (λ core. IsFresh (core_of engine) (value_of core)) c.load-loaded.result
+    (λ core made shown. fresh_made h engine c.self.invariant _ same (value_of core) made shown) c.load-loaded.ensures.made c.load-loaded.ensures.opened)
 
 pub returns-clause-no_memory : goal.returns-clause-no_memory
 returns-clause-no_memory g c =
@@ -38,4 +38,4 @@ returns-clause-no_memory g c =
     let are = whole_cells (core_of engine) _ c.in-Whole.cells c.in-Whole.is c.in_ok-number.ensures.whole in
     let fits : map.len (cells_of c.in-Whole.cells).entries ≤ engine.geometry.entries =
     omega (arith, ap map.len are.entries, held_fits g.D.Device.past_of engine c.self.invariant) in
-    only_memory c.load.result _ _ c.load.ensures.full c.load.ensures.refused fits
+    only_memory c.load-loaded.result _ _ c.load-loaded.ensures.full c.load-loaded.ensures.refused fits

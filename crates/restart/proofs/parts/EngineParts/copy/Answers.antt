@@ -1,4 +1,5 @@
 use Rattle.std.proofs.Common.{◌≡◌, false, refl, sym, ◌∙◌}
+use Rattle.std.proofs.lemmas.Bool.{false≢true}
 use Rattle.record_values.specs.declared.error.Error.TheVariants.{DeviceFailed, NoMemory}
 use Rattle.restart.specs.declared.event.Event.TheVariants.{Copy}
 use Rattle.restart.specs.declared.event.Reply.TheVariants.{Refused}
@@ -24,7 +25,7 @@ returns-then-not-hand_over-clause-serves g c = serves_by g.D.Device.past_of c.ar
 pub returns-then-not-hand_over-clause-answer : goal.returns-then-not-hand_over-clause-answer
 returns-then-not-hand_over-clause-answer g c =
     copy_not_over g.D.Device.past_of g.D.Device.failures c.args.self.now c.hand_over.new.self c.hand_over.ensures.hands (sym c.has_failed.ensures
-    ∙ c.if-has_failed.false)
+    ∙ c.if-has_failed.false) (λ none. false≢true (sym c.if-not-hand_over.true ∙ c.hand_over.ensures.all.1 none))
 
 pub returns-then-not-hand_over-clause-can_run : goal.returns-then-not-hand_over-clause-can_run
 returns-then-not-hand_over-clause-can_run g c = can_run_on g.D.Device.past_of c.args.self.now c.hand_over.new.self c.hand_over.ensures.hands.moves c.requires

@@ -8,7 +8,7 @@ use Rattle.store_writer.specs.declared.writer.StepReply.TheVariants.{Taken}
 use Rattle.nsf_core.specs.Value.{value_of}
 use Rattle.restart.specs.declared.parts.EngineParts.{EngineParts}
 use Rattle.restart.specs.Handing.{MovesOn}
-use Rattle.restart.specs.Parts.{device_of, writer_of}
+use Rattle.restart.specs.Parts.{copying_of, device_of, writer_of}
 use Rattle.restart.proofs.Copied.{CopyLaws, all_handed, is_taken, may_flip, none_unwritten, whole_current, whole_is, whole_synced}
 use Rattle.restart.proofs.CopiesAround.{copies_then, flip_copied, half_copied, none_copied_around}
 use Rattle.restart.proofs.CopyAnswers.{all_well, copy_failed, failed_later, none_copied}
@@ -40,6 +40,7 @@ returns-in-Err-clause-moves g c = stays g.D.Device.past_of g.D.Device.failures c
 
 pub returns-in-Err-clause-answer : goal.returns-in-Err-clause-answer
 returns-in-Err-clause-answer g c = none_copied g.D.Device.failures c.args.self.now c.in-Err.error c.in-Err.ensures.no_memory c.requires.sound
+    (λ whole. cc (c.requires.given_up, whole))
 
 pub unreachable-requires : goal.unreachable-requires
 unreachable-requires g c =
@@ -252,7 +253,7 @@ returns-in-Err-clause-around g c = none_copied_around g.D.Device.past_of c.args.
 
 pub returns-in-Err-checkpoint_step-clause-around : goal.returns-in-Err-checkpoint_step-clause-around
 returns-in-Err-checkpoint_step-clause-around g c = let old = c.args.self.now in
-    half_copied g.D.Device.past_of (writer.halves_of (writer_of old)) (device_of old)
+    half_copied g.D.Device.past_of (copying_of old) (writer.halves_of (writer_of old)) (device_of old)
     (writer.device_of c.checkpoint_step.new.self) c.checkpoint_step.ensures.around
 
 pub returns-in-Ok-Flipped-clause-around : goal.returns-in-Ok-Flipped-clause-around
@@ -278,8 +279,8 @@ returns-in-Ok-Flipped-clause-around g c =
     refl in
     let new : EngineParts g.row.D.Denot g.row.A.Denot = record old { writer = c.checkpoint_flip.new.self } in
     copies_then past_of old mid new (can_run_on past_of old mid first c.requires.runs) c.in-Ok-Taken.ensures.sound.1 told.1.1.1
-    (half_copied past_of (writer.halves_of (writer_of old)) (device_of old) (device_of mid) c.checkpoint_step.ensures.around)
-    (flip_copied past_of (writer.halves_of (writer_of mid)) (device_of mid) (device_of new) c.checkpoint_flip.ensures.around)
+    (half_copied past_of (copying_of old) (writer.halves_of (writer_of old)) (device_of old) (device_of mid) c.checkpoint_step.ensures.around)
+    (flip_copied past_of (copying_of old) (writer.halves_of (writer_of mid)) (device_of mid) (device_of new) c.checkpoint_flip.ensures.around)
 
 pub returns-in-Err-checkpoint_flip-clause-around : goal.returns-in-Err-checkpoint_flip-clause-around
 returns-in-Err-checkpoint_flip-clause-around g c =
@@ -304,5 +305,5 @@ returns-in-Err-checkpoint_flip-clause-around g c =
     refl in
     let new : EngineParts g.row.D.Denot g.row.A.Denot = record old { writer = c.checkpoint_flip.new.self } in
     copies_then past_of old mid new (can_run_on past_of old mid first c.requires.runs) c.in-Ok-Taken.ensures.sound.1 told.1.1.1
-    (half_copied past_of (writer.halves_of (writer_of old)) (device_of old) (device_of mid) c.checkpoint_step.ensures.around)
-    (flip_copied past_of (writer.halves_of (writer_of mid)) (device_of mid) (device_of new) c.checkpoint_flip.ensures.around)
+    (half_copied past_of (copying_of old) (writer.halves_of (writer_of old)) (device_of old) (device_of mid) c.checkpoint_step.ensures.around)
+    (flip_copied past_of (copying_of old) (writer.halves_of (writer_of mid)) (device_of mid) (device_of new) c.checkpoint_flip.ensures.around)

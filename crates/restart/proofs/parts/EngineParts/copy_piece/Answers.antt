@@ -8,10 +8,10 @@ use Rattle.store_writer.specs.declared.writer.StepReply.{StepReply}
 use Rattle.store_writer.specs.declared.writer.StepReply.TheVariants.{StartAgain, Taken}
 use Rattle.restart.specs.Copies.{copies_left}
 use Rattle.restart.specs.declared.parts.EngineParts.{EngineParts}
-use Rattle.restart.specs.Parts.{core_of, device_of, horizon_of, writer_of}
+use Rattle.restart.specs.Parts.{copying_of, core_of, device_of, horizon_of, writer_of}
 use Rattle.restart.proofs.Copied.{CopyLaws, cannot_take, fewer_now, one_left, piece_is, takes_piece}
 use Rattle.restart.proofs.CopiesAround.{half_copied, none_copied_around}
-use Rattle.restart.proofs.CopyAnswers.{all_well, copy_failed, none_copied}
+use Rattle.restart.proofs.CopyAnswers.{all_well, copy_failed, none_copied, piece_due}
 use Rattle.restart.proofs.Fewer.{fewer_given_up}
 use Rattle.restart.proofs.Flushing.{stays}
 use Rattle.restart.proofs.Moving.{moves_at}
@@ -41,6 +41,7 @@ returns-in-Err-clause-moves g c = stays g.D.Device.past_of g.D.Device.failures c
 
 pub returns-in-Err-clause-answer : goal.returns-in-Err-clause-answer
 returns-in-Err-clause-answer g c = none_copied g.D.Device.failures c.args.self.now c.in-Err.error c.in-Err.ensures.no_memory c.requires.sound
+    (piece_due (copying_of c.args.self.now) c.args.place c.requires.next)
 
 pub returns-in-Ok-Taken-clause-moves : goal.returns-in-Ok-Taken-clause-moves
 returns-in-Ok-Taken-clause-moves g c =
@@ -198,15 +199,15 @@ returns-in-Err-clause-around g c = none_copied_around g.D.Device.past_of c.args.
 
 pub returns-in-Ok-Taken-clause-around : goal.returns-in-Ok-Taken-clause-around
 returns-in-Ok-Taken-clause-around g c = let old = c.args.self.now in
-    half_copied g.D.Device.past_of (writer.halves_of (writer_of old)) (device_of old)
+    half_copied g.D.Device.past_of (copying_of old) (writer.halves_of (writer_of old)) (device_of old)
     (writer.device_of c.checkpoint_step.new.self) c.checkpoint_step.ensures.around
 
 pub returns-in-Ok-StartAgain-clause-around : goal.returns-in-Ok-StartAgain-clause-around
 returns-in-Ok-StartAgain-clause-around g c = let old = c.args.self.now in
-    half_copied g.D.Device.past_of (writer.halves_of (writer_of old)) (device_of old)
+    half_copied g.D.Device.past_of (copying_of old) (writer.halves_of (writer_of old)) (device_of old)
     (writer.device_of c.checkpoint_step.new.self) c.checkpoint_step.ensures.around
 
 pub returns-in-Err-checkpoint_step-clause-around : goal.returns-in-Err-checkpoint_step-clause-around
 returns-in-Err-checkpoint_step-clause-around g c = let old = c.args.self.now in
-    half_copied g.D.Device.past_of (writer.halves_of (writer_of old)) (device_of old)
+    half_copied g.D.Device.past_of (copying_of old) (writer.halves_of (writer_of old)) (device_of old)
     (writer.device_of c.checkpoint_step.new.self) c.checkpoint_step.ensures.around

@@ -2,7 +2,7 @@ use Rattle.std.proofs.Common.{refl, arith, subst, sym, ◌∙◌}
 use Rattle.restart.specs.Copies.{MayFlip}
 use Rattle.restart.specs.Groups.{no_more}
 use Rattle.restart.specs.Parts.{writer_of}
-use Rattle.restart.proofs.CopiesAround.{copies_then, none_copied_around}
+use Rattle.restart.proofs.CopiesAround.{as_before, copies_then, none_copied_around}
 use Rattle.restart.proofs.CopyAnswers.{answer_then, none_well, well_then}
 use Rattle.restart.proofs.Flushing.{stays}
 use Rattle.restart.proofs.Grouped.{group_more, groups_then}
@@ -49,7 +49,8 @@ groups-preserved g c =
       groups = group_more g.D.Device.failures (writer_of c.args.self.now) c.groups.self c.flip_or_flush.new.self first.groups more;
       around = copies_then g.D.Device.past_of c.args.self.now c.groups.self c.flip_or_flush.new.self
           (can_run_on g.D.Device.past_of c.args.self.now c.groups.self first.moves c.requires.runs) first.well.sound first.halves first.around
-          c.flip_or_flush.ensures.around;
+          (as_before g.D.Device.past_of c.args.self.now c.groups.self c.flip_or_flush.new.self (first.copying ∙ sym c.requires.whole)
+          c.flip_or_flush.ensures.around);
     }
 
 pub groups-smaller : goal.groups-smaller
@@ -69,7 +70,8 @@ returns-in-Some-clause-around g c =
     let first = c.groups.invariant in
     copies_then g.D.Device.past_of c.args.self.now c.groups.self c.flip_or_flush.new.self
     (can_run_on g.D.Device.past_of c.args.self.now c.groups.self first.moves c.requires.runs) first.well.sound first.halves first.around
-    c.flip_or_flush.ensures.around
+    (as_before g.D.Device.past_of c.args.self.now c.groups.self c.flip_or_flush.new.self (first.copying ∙ sym c.requires.whole)
+    c.flip_or_flush.ensures.around)
 
 pub returns-in-Some-clause-groups : goal.returns-in-Some-clause-groups
 returns-in-Some-clause-groups g c = groups_then (writer_of c.args.self.now) (writer_of c.groups.self)

@@ -1,4 +1,4 @@
-use Rattle.std.proofs.Common.{◌≡◌, ◌<◌, ◌≤◌, ◌-◌, ◌∙◌, ⊎_elim, inl, inr, None, Ok, false, refl, sym, ap, arith, subst}
+use Rattle.std.proofs.Common.{◌≡◌, ◌<◌, ◌≤◌, ◌-◌, ◌++◌, ◌∙◌, ⊎_elim, inl, inr, List, None, Ok, false, refl, sym, ap, arith, append-nil, subst}
 use Rattle.sector_device.specs.DevicePast.{LeavesOnly}
 use Rattle.store_writer.specs.Contents.{LeftBy}
 use Rattle.store_writer.specs.Image.{BecomesImage}
@@ -9,11 +9,12 @@ use Rattle.store_writer.specs.declared.writer.FlipReply.{FlipReply}
 use Rattle.store_writer.specs.declared.writer.FlipReply.TheVariants.{Behind, Flipped}
 use Rattle.store_writer.specs.declared.writer.FlushReply.{FlushReply}
 use Rattle.store_writer.specs.declared.writer.FlushReply.TheVariants.{Flushed, LogFull, Nothing}
-use Rattle.restart.specs.Copies.{copies_left}
+use Rattle.records.specs.RecordValue.{RecordValue}
+use Rattle.restart.specs.Copies.{MayFlip, copies_left}
 use Rattle.restart.specs.Store.{InCopy}
 use Rattle.restart.specs.declared.parts.EngineParts.{EngineParts}
 use Rattle.restart.specs.Handing.{MovesOn}
-use Rattle.restart.specs.Parts.{device_of, has_failed, horizon_of, writer_of}
+use Rattle.restart.specs.Parts.{copying_of, device_of, has_failed, horizon_of, writer_of}
 use Rattle.restart.proofs.Copied.{cannot_flip, few_behind, flip_current, may_not_flip, one_left, two_to_flip}
 use Rattle.restart.proofs.CopiesAround.{flip_copied, logs_copied}
 use Rattle.restart.proofs.Grouped.{at_once, by_failure, by_giving_up, by_none}
@@ -325,7 +326,15 @@ returns-in-Err-flush_group-clause-answer g c =
       put_off_as failures old new (all_well past_of failures old new c.requires.all can refl refl after (omega (arith, kept, level))
           (omega (arith, c.flush_group.ensures.later, counts)) c.requires.sound (ap (λ w. writer.has_failed w) none.4
           ∙ sound) (ap (λ w. failures (writer.device_of w)) none.4 ∙ counts))
-          (none.4 ∙ same) refl refl,
+          (none.4 ∙ same) refl refl
+          (inr (inr (
+            (λ may. may_not_flip past_of can.0 can.1 can.2 can.3 old can.4 c.requires.sound c.requires.all behind.1
+                (subst (λ w. MayFlip w) (none.4 ∙ same) may)),
+            (λ gone. none.2 (sym (ap (λ w. writer.waiting_of w) none.4)
+                ∙ sym (ap (λ (l : List RecordValue). writer.waiting_of (writer_of new) ++ l) c.requires.all ∙ append-nil (writer.waiting_of (writer_of new)))
+                ∙ gone)),
+            (λ full. none.3 (subst (λ w. IsLogFull w) none.4 full)),
+          ))),
     ))
     (λ failed. failed_later past_of failures old mid new c.requires.all can refl refl after (omega (arith, kept, level))
     (omega (arith, c.flush_group.ensures.later, counts)) c.in-Err-flush_group.error c.requires.sound sound counts (
@@ -338,12 +347,12 @@ returns-in-Err-flush_group-clause-answer g c =
 
 pub returns-in-Ok-Flipped-clause-around : goal.returns-in-Ok-Flipped-clause-around
 returns-in-Ok-Flipped-clause-around g c = let old = c.args.self.now in
-    flip_copied g.D.Device.past_of (writer.halves_of (writer_of old)) (device_of old)
+    flip_copied g.D.Device.past_of (copying_of old) (writer.halves_of (writer_of old)) (device_of old)
     (writer.device_of c.checkpoint_flip.new.self) c.checkpoint_flip.ensures.around
 
 pub returns-in-Err-clause-around : goal.returns-in-Err-clause-around
 returns-in-Err-clause-around g c = let old = c.args.self.now in
-    flip_copied g.D.Device.past_of (writer.halves_of (writer_of old)) (device_of old)
+    flip_copied g.D.Device.past_of (copying_of old) (writer.halves_of (writer_of old)) (device_of old)
     (writer.device_of c.checkpoint_flip.new.self) c.checkpoint_flip.ensures.around
 
 pub returns-in-Ok-Flushed-clause-around : goal.returns-in-Ok-Flushed-clause-around
@@ -354,7 +363,7 @@ returns-in-Ok-Flushed-clause-around g c =
     let behind : IsFlipReply can.1 Behind (writer_of old) c.checkpoint_flip.new.self =
     subst (λ (r : FlipReply). IsFlipReply can.1 r (writer_of old) c.checkpoint_flip.new.self) c.in-Ok-Behind.field-0-is
     (c.in-Ok-Behind.ensures.flipped can.0 can.1 can.4.writer) in
-    logs_copied past_of (writer_of old) c.flush_group.new.self
+    logs_copied past_of (writer_of old) c.flush_group.new.self c.requires.whole
     (subst (λ w. WritesLogsAlone past_of w c.flush_group.new.self) behind.0 c.flush_group.ensures.around)
 
 pub returns-in-Ok-Nothing-clause-around : goal.returns-in-Ok-Nothing-clause-around
@@ -365,8 +374,9 @@ returns-in-Ok-Nothing-clause-around g c =
     let behind : IsFlipReply can.1 Behind (writer_of old) c.checkpoint_flip.new.self =
     subst (λ (r : FlipReply). IsFlipReply can.1 r (writer_of old) c.checkpoint_flip.new.self) c.in-Ok-Behind.field-0-is
     (c.in-Ok-Behind.ensures.flipped can.0 can.1 can.4.writer) in
-    subst (λ w. WritesOnly past_of (InCopy (writer.halves_of (writer_of old))) (device_of old) (writer.device_of w)) (sym c.give_up.ensures.gives_up)
-    (logs_copied past_of (writer_of old) c.flush_group.new.self
+    subst (λ w. WritesOnly past_of (InCopy (copying_of old) (writer.halves_of (writer_of old))) (device_of old) (writer.device_of w))
+    (sym c.give_up.ensures.gives_up)
+    (logs_copied past_of (writer_of old) c.flush_group.new.self c.requires.whole
     (subst (λ w. WritesLogsAlone past_of w c.flush_group.new.self) behind.0 c.flush_group.ensures.around))
 
 pub returns-in-Ok-LogFull-clause-around : goal.returns-in-Ok-LogFull-clause-around
@@ -377,9 +387,9 @@ returns-in-Ok-LogFull-clause-around g c =
     let behind : IsFlipReply can.1 Behind (writer_of old) c.checkpoint_flip.new.self =
     subst (λ (r : FlipReply). IsFlipReply can.1 r (writer_of old) c.checkpoint_flip.new.self) c.in-Ok-Behind.field-0-is
     (c.in-Ok-Behind.ensures.flipped can.0 can.1 can.4.writer) in
-    subst (λ w. WritesOnly past_of (InCopy (writer.halves_of (writer_of old))) (device_of old) (writer.device_of w))
+    subst (λ w. WritesOnly past_of (InCopy (copying_of old) (writer.halves_of (writer_of old))) (device_of old) (writer.device_of w))
     (sym c.give_up-in-Ok-LogFull.ensures.gives_up)
-    (logs_copied past_of (writer_of old) c.flush_group.new.self
+    (logs_copied past_of (writer_of old) c.flush_group.new.self c.requires.whole
     (subst (λ w. WritesLogsAlone past_of w c.flush_group.new.self) behind.0 c.flush_group.ensures.around))
 
 pub returns-in-Err-flush_group-clause-around : goal.returns-in-Err-flush_group-clause-around
@@ -390,7 +400,7 @@ returns-in-Err-flush_group-clause-around g c =
     let behind : IsFlipReply can.1 Behind (writer_of old) c.checkpoint_flip.new.self =
     subst (λ (r : FlipReply). IsFlipReply can.1 r (writer_of old) c.checkpoint_flip.new.self) c.in-Ok-Behind.field-0-is
     (c.in-Ok-Behind.ensures.flipped can.0 can.1 can.4.writer) in
-    logs_copied past_of (writer_of old) c.flush_group.new.self
+    logs_copied past_of (writer_of old) c.flush_group.new.self c.requires.whole
     (subst (λ w. WritesLogsAlone past_of w c.flush_group.new.self) behind.0 c.flush_group.ensures.around)
 
 pub returns-in-Ok-Flipped-clause-groups : goal.returns-in-Ok-Flipped-clause-groups
