@@ -1,5 +1,6 @@
 -- How the flusher's part goes on from call to call.
-use Rattle.std.proofs.Common.{◌≡◌, ℕ, ◌+◌, ◌<◌, ◌≤◌, Bool, true, false, List, [], ◌++◌, length, take, Result, Ok, Err, IfErr, IfOk, OnErr, OnOk, inl, inr, refl}
+use Rattle.std.proofs.Common.{◌≡◌, ℕ, ◌+◌, ◌<◌, ◌≤◌, Bool, true, false, List, [], ◌∷◌, ◌++◌, length, take, Result, Ok, Err}
+use Rattle.std.proofs.Common.{IfErr, IfOk, OnErr, OnOk, inl, inr, refl}
 use Rattle.std.proofs.Common.{sym, ap, ◌∙◌, subst, arith, append-nil, append_assoc, length-append}
 use Rattle.std.proofs.lemmas.Bool.{false≢true}
 use Rattle.std.proofs.lemmas.List.{take-append-le}
@@ -27,8 +28,9 @@ use Rattle.store_writer.specs.declared.writer.StepReply.TheVariants.{Taken, Star
 use Rattle.store_writer.specs.declared.writer.Writer.{Writer}
 use Rattle.store_writer.specs.declared.copying.Copying.{Copying}
 use Rattle.threads_flusher.specs.Going.{GoesOn, LeavesImage, TakesIn}
-use Rattle.threads_flusher.specs.Part.{FlushValue, GivesBeginning, IsFlusher, FlushLeaves, Publishes, popped_by}
+use Rattle.threads_flusher.specs.Part.{FlushValue, GivesBeginning, IsFlusher, FlushLeaves, Publishes, popped_by, publication_of}
 use Rattle.threads_flusher.proofs.Keeping.{is_left}
+use Rattle.threads_flusher.proofs.Publications.{beginning_of, same_store}
 
 -- ---- the store is the same
 
@@ -84,25 +86,6 @@ module _ {D A : Type 0} (failures : D → ℕ) (old new : Writer D A) where
 
 -- ---- the part goes on
 
-module _ (o : Opened) where
-  -- what gives a beginning of some records gives one of more, with every record up to a lower floor
-  pub beginning_of : (g : GeometryValue) (handed more now : List RecordValue) (floor low : ℕ) (image : CrashState) → now ≡ handed ++ more → low ≤ floor
-      → GivesBeginning o g handed floor image → GivesBeginning o g now low image
-  beginning_of g handed more now floor low image is below left =
-      let first : take left.count now ≡ take left.count handed = ap (take left.count) is ∙ take-append-le left.count handed more left.most in
-      record {
-        count = left.count;
-        most = omega (arith, left.most, ap length is, length-append handed more);
-        least = omega (arith, below, left.least);
-        has = subst (λ (rs : List RecordValue). StoreHas g image (o.given.last + left.count) (cells_after (opening_cells o.given) rs)) (sym first) left.has;
-        gives = subst (λ (rs : List RecordValue). Gives image g (given_after o.given rs)) (sym first) left.gives;
-        opens = subst (λ (rs : List RecordValue). CanOpen o → CanOpen (record o { given = given_after o.given rs })) (sym first) left.opens;
-      }
-
-  pub same_store : (g now : GeometryValue) (handed : List RecordValue) (floor : ℕ) (image : CrashState) → now ≡ g → GivesBeginning o g handed floor image
-      → GivesBeginning o now handed floor image
-  same_store g now handed floor image is left = subst (λ (x : GeometryValue). GivesBeginning o x handed floor image) (sym is) left
-
 module _ {D A : Type 0} (past_of : D → DevicePast) (failures : D → ℕ) (o : Opened) where
   -- by no call
   pub goes_nowhere : (f : FlushValue D A) → IsFlusher past_of o f → GoesOn past_of failures o f f
@@ -111,6 +94,8 @@ module _ {D A : Type 0} (past_of : D → DevicePast) (failures : D → ℕ) (o :
     popped-are = sym (append-nil (popped_by f));
     more = [];
     handed = sym (append-nil f.handed);
+    since = [];
+    publications = sym (append-nil f.publications);
     geometry = refl;
     rises = omega arith;
     horizon = omega arith;
@@ -129,6 +114,8 @@ module _ {D A : Type 0} (past_of : D → DevicePast) (failures : D → ℕ) (o :
         popped-are = here.popped-are;
         more = here.more;
         handed = here.handed;
+        since = here.since;
+        publications = here.publications;
         geometry = here.geometry;
         rises = here.rises;
         horizon = here.horizon;
@@ -144,6 +131,8 @@ module _ {D A : Type 0} (past_of : D → DevicePast) (failures : D → ℕ) (o :
     popped-are = takes.popped-are;
     more = takes.more;
     handed = takes.handed;
+    since = [];
+    publications = takes.publications ∙ sym (append-nil old.publications);
     geometry = ap (λ (h : HalvesValue). h.geometry) takes.got.halves;
     rises = omega (arith, takes.got.synced);
     horizon = omega (arith, ap (λ (c : FlusherCount). c.horizon) takes.published);
@@ -157,7 +146,7 @@ module _ {D A : Type 0} (past_of : D → DevicePast) (failures : D → ℕ) (o :
   }
 
   -- by a call of the writer
-  pub goes_by_call : (old new : FlushValue D A) → old.published.horizon ≤ synced_of old.writer → Publishes old new
+  pub goes_by_call : (old new : FlushValue D A) → old.published.horizon ≤ synced_of old.writer → Publishes past_of old new
       → (halves_of new.writer).geometry ≡ (halves_of old.writer).geometry → synced_of old.writer ≤ synced_of new.writer
       → LeavesOnly (past_of (device_of old.writer)) (past_of (device_of new.writer)) (FlushLeaves o old)
       → failures (device_of old.writer) ≤ failures (device_of new.writer)
@@ -168,6 +157,8 @@ module _ {D A : Type 0} (past_of : D → DevicePast) (failures : D → ℕ) (o :
     popped-are = ap (λ l. l ++ new.held) publishes.handed ∙ ap (λ l. old.handed ++ l) publishes.held ∙ sym (append-nil (popped_by old));
     more = [];
     handed = publishes.handed ∙ sym (append-nil old.handed);
+    since = publication_of past_of new.writer ∷ [];
+    publications = publishes.noted;
     geometry = geometry;
     rises = rises;
     horizon = omega (arith, low, rises, ap (λ (c : FlusherCount). c.horizon) publishes.published);
@@ -187,6 +178,8 @@ module _ {D A : Type 0} (past_of : D → DevicePast) (failures : D → ℕ) (o :
     popped-are = second.popped-are ∙ ap (λ l. l ++ second.popped) first.popped-are ∙ append_assoc (popped_by old) first.popped second.popped;
     more = first.more ++ second.more;
     handed = second.handed ∙ ap (λ l. l ++ second.more) first.handed ∙ append_assoc old.handed first.more second.more;
+    since = first.since ++ second.since;
+    publications = second.publications ∙ ap (λ l. l ++ second.since) first.publications ∙ append_assoc old.publications first.since second.since;
     geometry = second.geometry ∙ first.geometry;
     rises = omega (arith, first.rises, second.rises);
     horizon = omega (arith, first.horizon, second.horizon);

@@ -1,8 +1,9 @@
 -- What each call leaves of the flusher's part.
-use Rattle.std.proofs.Common.{◌≡◌, ℕ, ◌+◌, ◌-◌, ◌≤◌, Bool, false, true≢false, List, [], ◌++◌, length, take, Result, Ok, Err, refl, sym, ap, subst, ◌∙◌, arith}
+use Rattle.std.proofs.Common.{◌≡◌, ℕ, ◌+◌, ◌-◌, ◌≤◌, Bool, false, true≢false, List, [], ◌∷◌, ◌++◌, length, map, take}
+use Rattle.std.proofs.Common.{Result, Ok, Err, refl, sym, ap, subst, ◌∙◌, arith}
 use Rattle.std.proofs.Common.{append-nil, length-append, IfOk, IfErr, OnOk, OnErr, inl, inr}
 use Rattle.std.proofs.Math.Seq.{take-append_seam, take-length, take-nil}
-use Rattle.std.proofs.lemmas.List.{length-take-le}
+use Rattle.std.proofs.lemmas.List.{length-take-le, map-append}
 use Rattle.std.specs.FinMap.{len}
 use Rattle.records.specs.RecordValue.{RecordValue}
 use Rattle.record_values.specs.GeometryValue.{GeometryValue}
@@ -13,9 +14,11 @@ use Rattle.model.specs.Following.{AreFollowing}
 use Rattle.model.specs.Given.{Given, given_after, opening_cells, recovered}
 use Rattle.model.proofs.GivenLaws.{given_again}
 use Rattle.core_model.specs.Histories.{CanOpen, Opened}
-use Rattle.sector_device.specs.Disk.{CrashState}
+use Rattle.std.proofs.lemmas.List.Elements.{All-nil, All-push}
+use Rattle.std.specs.List.{All}
+use Rattle.sector_device.specs.Disk.{CrashState, IsCrashState}
 use Rattle.sector_device.specs.DevicePast.{DevicePast, LeavesOnly}
-use Rattle.sector_device.proofs.Moments.{weaker}
+use Rattle.sector_device.proofs.Moments.{started, weaker}
 use Rattle.board.specs.Views.{FlusherCount}
 use Rattle.store_image_model.specs.declared.chunk.Piece.{Piece}
 use Rattle.store_image_model.specs.Run.{IsRun, Run, cells_at, end_of}
@@ -29,7 +32,9 @@ use Rattle.store_reader.specs.Contents.{Gives}
 use Rattle.store_writer.specs.Contents.{LeftBy, StoreHas}
 use Rattle.store_writer.specs.Writer.{AreNext, CanFlip, HasFailed, IsChunk, IsFlipReply, IsFlushReply, IsNotFlushed, IsWriter, longer, opened_run}
 use Rattle.locked_core.specs.Following.{FitPlaces, FollowOpening}
-use Rattle.threads_flusher.specs.Part.{FlushValue, GivesBeginning, IsFlusher, FlushLeaves, MayOpenAgain, flush_value, last_handed, popped_by, run_of}
+use Rattle.threads_flusher.specs.Part.{FlushValue, GivesBeginning, IsFlusher, IsNewest, FlushLeaves, MayOpenAgain, Publication, flush_value, last_handed}
+use Rattle.threads_flusher.specs.Part.{popped_by, publication_of, run_of}
+use Rattle.threads_flusher.proofs.Publications.{KeptBelow, all_kept_on, all_kept_with, kept_now, same_store}
 
 -- ---- lists
 
@@ -40,6 +45,16 @@ front_is handed held = ap (λ k. take k (handed ++ held)) (omega (arith, length-
 -- all of them, where none is held
 pub all_handed : (popped : List RecordValue) → take (length popped - 0) popped ≡ popped
 all_handed popped = ap (λ k. take k popped) (omega arith) ∙ take-length popped
+
+-- what is noted of a writer is noted as a publication
+pub noted_as : {D A : Type 0} (past_of : D → DevicePast) (before now : List (Writer D A)) (w : Writer D A) → now ≡ before ++ w ∷ []
+    → map (publication_of past_of) now ≡ map (publication_of past_of) before ++ publication_of past_of w ∷ []
+noted_as past_of before now w is = ap (map (publication_of past_of)) is ∙ map-append (publication_of past_of) before (w ∷ [])
+
+-- and what is noted first is the only one
+pub first_noted : {D A : Type 0} (past_of : D → DevicePast) (before now : List (Writer D A)) (w : Writer D A) → before ≡ [] → now ≡ before ++ w ∷ []
+    → map (publication_of past_of) now ≡ publication_of past_of w ∷ []
+first_noted past_of before now w none is = ap (map (publication_of past_of)) (is ∙ ap (λ (l : List (Writer _ _)). l ++ w ∷ []) none)
 
 -- ---- what is kept
 
@@ -65,19 +80,6 @@ module _ {D : Type 0} (past_of : D → DevicePast) (o : Opened) where
       subst (λ (l : List RecordValue). CanOpen (record o { given = given_after o.given l })) (sym (take-nil n))
       (subst (λ (x : Given). CanOpen (record o { given = x })) (sym (given_again o.given)) can)
 
-  pub begun : {A : Type 0} (w : Writer D A) (v : FlusherCount) → IsWriter past_of (opened_run (halves_of w) o.given.last (opening_cells o.given)) o.given.last w
-      → (halves_of w).geometry.pages ≡ o.pages → (halves_of w).geometry.entries ≡ o.places
-      → len o.given.entries ≤ o.places → v.horizon ≤ synced_of w → v.failed ≡ has_failed w → IsFlusher past_of o (flush_value [] [] w v)
-  begun w v is pages places room low flag = record {
-    pages = pages;
-    places = places;
-    fits = fits_none room;
-    opens = opens_none;
-    writer = subst (λ n. IsWriter past_of (over (halves_of w).geometry []) n w) (omega arith) is;
-    horizon = low;
-    failed = flag;
-  }
-
   -- what a crash leaves
   pub left_gives : (g : GeometryValue) (handed : List RecordValue) (floor : ℕ) → g.entries ≡ o.places → FitPlaces o handed → MayOpenAgain o handed
       → o.given.last ≤ floor → (image : CrashState) → LeftBy (over g handed) floor (o.given.last + length handed) image → GivesBeginning o g handed floor image
@@ -99,16 +101,57 @@ module _ {D : Type 0} (past_of : D → DevicePast) (o : Opened) where
         opens = λ can. opens can count most;
       }
 
+  -- what a crash leaves now, with all that the writer has synced
+  leaves_now : {A : Type 0} (w : Writer D A) (handed : List RecordValue) → (halves_of w).geometry.entries ≡ o.places → FitPlaces o handed
+      → MayOpenAgain o handed → IsWriter past_of (over (halves_of w).geometry handed) (o.given.last + length handed) w
+      → (image : CrashState) → IsCrashState (past_of (device_of w)).disk image
+      → GivesBeginning o (halves_of w).geometry handed (synced_of w) image
+  leaves_now w handed places fits opens is image crash =
+      left_gives (halves_of w).geometry handed (synced_of w) places fits opens is.opened image (is.images image crash)
+
+  abbrev now_kept : {A : Type 0} → List RecordValue → Writer D A → Publication → Type 0
+  now_kept handed w = KeptBelow o (halves_of w).geometry handed (synced_of w) (past_of (device_of w))
+
+  pub begun : {A : Type 0} (w : Writer D A) (v : FlusherCount) → IsWriter past_of (opened_run (halves_of w) o.given.last (opening_cells o.given)) o.given.last w
+      → (halves_of w).geometry.pages ≡ o.pages → (halves_of w).geometry.entries ≡ o.places
+      → len o.given.entries ≤ o.places → v.horizon ≡ synced_of w → v.failed ≡ has_failed w
+      → IsFlusher past_of o (flush_value [] [] w v (publication_of past_of w ∷ []))
+  begun w v is pages places room told flag =
+      let writer : IsWriter past_of (over (halves_of w).geometry []) (o.given.last + 0) w =
+      subst (λ n. IsWriter past_of (over (halves_of w).geometry []) n w) (omega arith) is in
+      record {
+        pages = pages;
+        places = places;
+        fits = fits_none room;
+        opens = opens_none;
+        writer = writer;
+        horizon = omega (arith, told);
+        failed = flag;
+        kept = All-push (now_kept [] w) [] (publication_of past_of w) (All-nil (now_kept [] w))
+            (kept_now o past_of [] w (leaves_now w [] places (fits_none room) opens_none writer));
+        newest = ([], publication_of past_of w, refl, sym told);
+      }
+
   pub is_left : {A : Type 0} (f : FlushValue D A) → IsFlusher past_of o f → (image : CrashState)
       → LeftBy (run_of o f) (synced_of f.writer) (last_handed o f) image
       → FlushLeaves o f image
   is_left f is = left_gives (halves_of f.writer).geometry f.handed (synced_of f.writer) is.places is.fits is.opens is.writer.opened
 
+  -- no call of the device was made
+  still_here : {A : Type 0} (old new : Writer D A) (handed : List RecordValue) → device_of new ≡ device_of old → synced_of new ≡ synced_of old
+      → ((image : CrashState) → IsCrashState (past_of (device_of new)).disk image → GivesBeginning o (halves_of new).geometry handed (synced_of new) image)
+      → LeavesOnly (past_of (device_of old)) (past_of (device_of new)) (GivesBeginning o (halves_of new).geometry handed (synced_of old))
+  still_here old new handed device synced here =
+      subst (λ (n : ℕ). LeavesOnly (past_of (device_of old)) (past_of (device_of new)) (GivesBeginning o (halves_of new).geometry handed n)) synced
+      (subst (λ (d : D). LeavesOnly (past_of d) (past_of (device_of new)) (GivesBeginning o (halves_of new).geometry handed (synced_of new))) device
+      (started (past_of (device_of new)) (GivesBeginning o (halves_of new).geometry handed (synced_of new)) here))
+
   -- the writer has gone on, and stands for the same records
-  pub goes_on : {A : Type 0} (f : FlushValue D A) (w : Writer D A) (v : FlusherCount) → IsFlusher past_of o f
+  stands_on : {A : Type 0} (f : FlushValue D A) (w : Writer D A) (v : FlusherCount) (publications : List Publication) → IsFlusher past_of o f
       → IsWriter past_of (run_of o f) (last_handed o f) w → v.horizon ≤ synced_of w → v.failed ≡ has_failed w
-      → IsFlusher past_of o (record f { writer = w; published = v })
-  goes_on f w v is stands low flag = record {
+      → All (now_kept f.handed w) publications → IsNewest publications v.horizon
+      → IsFlusher past_of o (record f { writer = w; published = v; publications = publications })
+  stands_on f w v publications is stands low flag kept newest = record {
     pages = ap (λ (g : GeometryValue). g.pages) stands.geometry-is ∙ is.pages;
     places = ap (λ (g : GeometryValue). g.entries) stands.geometry-is ∙ is.places;
     fits = is.fits;
@@ -117,10 +160,46 @@ module _ {D : Type 0} (past_of : D → DevicePast) (o : Opened) where
         (sym stands.geometry-is) refl refl stands;
     horizon = low;
     failed = flag;
+    kept = kept;
+    newest = newest;
   }
 
-  module _ {A : Type 0} (popped held : List RecordValue) (w : Writer D A) (v : FlusherCount) (all : popped ≡ popped_by (flush_value popped held w v))
-      (is : IsFlusher past_of o (flush_value popped held w v)) where
+  -- by a call at each of whose moments a crash leaves what one before could
+  pub stands_by_call : {A : Type 0} (f : FlushValue D A) (w : Writer D A) (v : FlusherCount) → IsFlusher past_of o f
+      → IsWriter past_of (run_of o f) (last_handed o f) w → v.horizon ≡ synced_of w → v.failed ≡ has_failed w → synced_of f.writer ≤ synced_of w
+      → LeavesOnly (past_of (device_of f.writer)) (past_of (device_of w)) (FlushLeaves o f)
+      → IsFlusher past_of o (record f { writer = w; published = v; publications = f.publications ++ publication_of past_of w ∷ [] })
+  stands_by_call f w v is stands told flag rises images =
+      let geometry : (halves_of w).geometry ≡ (halves_of f.writer).geometry = stands.geometry-is in
+      let writer : IsWriter past_of (over (halves_of w).geometry f.handed) (last_handed o f) w =
+      with_run (halves_of f.writer).geometry (halves_of w).geometry f.handed f.handed (last_handed o f) (last_handed o f) w (sym geometry) refl refl stands in
+      let places : (halves_of w).geometry.entries ≡ o.places = ap (λ (g : GeometryValue). g.entries) geometry ∙ is.places in
+      let run : LeavesOnly (past_of (device_of f.writer)) (past_of (device_of w)) (GivesBeginning o (halves_of w).geometry f.handed (synced_of f.writer)) =
+      weaker (past_of (device_of f.writer)) (past_of (device_of w)) (FlushLeaves o f) (GivesBeginning o (halves_of w).geometry f.handed (synced_of f.writer))
+      (λ image left. same_store o (halves_of f.writer).geometry (halves_of w).geometry f.handed (synced_of f.writer) image geometry left) images in
+      stands_on f w v (f.publications ++ publication_of past_of w ∷ []) is stands (omega (arith, told)) flag
+      (all_kept_with o (halves_of f.writer).geometry (halves_of w).geometry f.handed [] f.handed (synced_of f.writer) (synced_of w)
+      (past_of (device_of f.writer)) (past_of (device_of w)) (sym (append-nil f.handed)) geometry rises run f.publications (publication_of past_of w) is.kept
+      (kept_now o past_of f.handed w (leaves_now w f.handed places is.fits is.opens writer)))
+      (f.publications, publication_of past_of w, refl, sym told)
+
+  -- by a call that doesn't touch the device, and publishes nothing
+  pub stands_without : {A : Type 0} (f : FlushValue D A) (w : Writer D A) (v : FlusherCount) → IsFlusher past_of o f
+      → IsWriter past_of (run_of o f) (last_handed o f) w → device_of w ≡ device_of f.writer → synced_of w ≡ synced_of f.writer
+      → v.horizon ≡ f.published.horizon → v.failed ≡ has_failed w → IsFlusher past_of o (record f { writer = w; published = v })
+  stands_without f w v is stands device synced told flag =
+      let geometry : (halves_of w).geometry ≡ (halves_of f.writer).geometry = stands.geometry-is in
+      let writer : IsWriter past_of (over (halves_of w).geometry f.handed) (last_handed o f) w =
+      with_run (halves_of f.writer).geometry (halves_of w).geometry f.handed f.handed (last_handed o f) (last_handed o f) w (sym geometry) refl refl stands in
+      let places : (halves_of w).geometry.entries ≡ o.places = ap (λ (g : GeometryValue). g.entries) geometry ∙ is.places in
+      stands_on f w v f.publications is stands (omega (arith, is.horizon, synced, told)) flag
+      (all_kept_on o (halves_of f.writer).geometry (halves_of w).geometry f.handed [] f.handed (synced_of f.writer) (synced_of w)
+      (past_of (device_of f.writer)) (past_of (device_of w)) (sym (append-nil f.handed)) geometry (omega (arith, synced))
+      (still_here f.writer w f.handed device synced (leaves_now w f.handed places is.fits is.opens writer)) f.publications is.kept)
+      (is.newest.0, is.newest.1, is.newest.2, is.newest.3 ∙ sym told)
+
+  module _ {A : Type 0} (popped held : List RecordValue) (w : Writer D A) (v : FlusherCount) (ps : List Publication)
+      (all : popped ≡ popped_by (flush_value popped held w v ps)) (is : IsFlusher past_of o (flush_value popped held w v ps)) where
     abbrev handed : List RecordValue
     handed = take (length popped - length held) popped
 
@@ -129,7 +208,7 @@ module _ {D : Type 0} (past_of : D → DevicePast) (o : Opened) where
         → IsWriter past_of run n w → IsRun (longer run more) → IsWriter past_of (longer run more) n w)
         (next : (run : Run) (more : List RecordValue) → end_of run + length more ≤ LAST_NUMBER → AreNext (longer run more) (end_of run) more) where
       abbrev run : Run
-      run = run_of o (flush_value popped held w v)
+      run = run_of o (flush_value popped held w v ps)
 
       in_order : AreFollowing run.geometry.pages o.given.last (opening_cells o.given) (handed ++ held)
       in_order = subst (λ p. AreFollowing p o.given.last (opening_cells o.given) (handed ++ held)) (sym is.pages)
@@ -146,47 +225,60 @@ module _ {D : Type 0} (past_of : D → DevicePast) (o : Opened) where
 
       -- the writer took it
       pub takes : MayOpenAgain o popped → (new : Writer D A)
-          → ((run : Run) (n : ℕ) → IsWriter past_of run n w → AreNext run n held → IsWriter past_of run (n + length held) new) → synced_of new ≡ synced_of w
-          → has_failed new ≡ has_failed w
-          → IsFlusher past_of o (flush_value popped [] new v)
-      takes opens new took synced failed =
+          → ((run : Run) (n : ℕ) → IsWriter past_of run n w → AreNext run n held → IsWriter past_of run (n + length held) new)
+          → device_of new ≡ device_of w → synced_of new ≡ synced_of w → has_failed new ≡ has_failed w
+          → IsFlusher past_of o (flush_value popped [] new v ps)
+      takes opens new took device synced failed =
           let now : IsWriter past_of (longer run held) (end_of run + length held) new = took (longer run held) (end_of run) stands (next run held small) in
           let list : handed ++ held ≡ take (length popped - 0) popped = sym all ∙ sym (all_handed popped) in
+          let fit : FitPlaces o (take (length popped - 0) popped) = subst (FitPlaces o) (sym (all_handed popped)) fits in
+          let open_again : MayOpenAgain o (take (length popped - 0) popped) = subst (MayOpenAgain o) (sym (all_handed popped)) opens in
+          let places : (halves_of new).geometry.entries ≡ o.places = ap (λ (g : GeometryValue). g.entries) now.geometry-is ∙ is.places in
+          let writer : IsWriter past_of (over (halves_of new).geometry (take (length popped - 0) popped))
+          (o.given.last + length (take (length popped - 0) popped)) new =
+          with_run (halves_of w).geometry (halves_of new).geometry (handed ++ held) (take (length popped - 0) popped) (end_of run + length held)
+          (o.given.last + length (take (length popped - 0) popped)) new
+          (sym now.geometry-is) list (omega (arith, ap length list, length-append handed held)) now in
           record {
             pages = ap (λ (g : GeometryValue). g.pages) now.geometry-is ∙ is.pages;
-            places = ap (λ (g : GeometryValue). g.entries) now.geometry-is ∙ is.places;
-            fits = subst (FitPlaces o) (sym (all_handed popped)) fits;
-            opens = subst (MayOpenAgain o) (sym (all_handed popped)) opens;
-            writer = with_run (halves_of w).geometry (halves_of new).geometry (handed ++ held) (take (length popped - 0) popped) (end_of run + length held)
-                (o.given.last + length (take (length popped - 0) popped)) new
-                (sym now.geometry-is) list (omega (arith, ap length list, length-append handed held)) now;
+            places = places;
+            fits = fit;
+            opens = open_again;
+            writer = writer;
             horizon = subst (λ n. v.horizon ≤ n) (sym synced) is.horizon;
             failed = is.failed ∙ sym failed;
+            kept = all_kept_on o (halves_of w).geometry (halves_of new).geometry handed held (take (length popped - 0) popped) (synced_of w)
+                (synced_of new) (past_of (device_of w)) (past_of (device_of new)) (sym list) now.geometry-is (omega (arith, synced))
+                (still_here w new (take (length popped - 0) popped) device synced
+                (leaves_now new (take (length popped - 0) popped) places fit open_again writer)) ps is.kept;
+            newest = is.newest;
           }
 
   -- ---- records that are popped
 
   -- these are the fields behind what was popped more
-  pub value_is : {A : Type 0} (old : FlushValue D A) (more popped held : List RecordValue) (w : Writer D A) (v : FlusherCount)
-      → popped ≡ old.handed ++ (old.held ++ more) → held ≡ old.held ++ more → w ≡ old.writer → v ≡ old.published
-      → flush_value popped held w v ≡ record old { held = old.held ++ more }
-  value_is old more popped held w v all is same told = λ i. record { handed = front i; held = is i; writer = same i; published = told i }
+  pub value_is : {A : Type 0} (old : FlushValue D A) (more popped held : List RecordValue) (w : Writer D A) (v : FlusherCount) (ps : List Publication)
+      → popped ≡ old.handed ++ (old.held ++ more) → held ≡ old.held ++ more → w ≡ old.writer → v ≡ old.published → ps ≡ old.publications
+      → flush_value popped held w v ps ≡ record old { held = old.held ++ more }
+  value_is old more popped held w v ps all is same told noted =
+      λ i. record { handed = front i; held = is i; writer = same i; published = told i; publications = noted i }
     where
       front : take (length popped - length held) popped ≡ old.handed
       front = ap (λ l. take (length l - length held) l) all
           ∙ ap (λ (l : List RecordValue). take (length (old.handed ++ (old.held ++ more)) - length l) (old.handed ++ (old.held ++ more))) is
           ∙ front_is old.handed (old.held ++ more)
 
-  pub all_popped : {A : Type 0} (old : FlushValue D A) (more popped held : List RecordValue) (w : Writer D A) (v : FlusherCount)
-      → popped ≡ old.handed ++ (old.held ++ more) → held ≡ old.held ++ more → w ≡ old.writer → v ≡ old.published
-      → popped ≡ popped_by (flush_value popped held w v)
-  all_popped old more popped held w v all is same told = all ∙ sym (ap popped_by (value_is old more popped held w v all is same told))
+  pub all_popped : {A : Type 0} (old : FlushValue D A) (more popped held : List RecordValue) (w : Writer D A) (v : FlusherCount) (ps : List Publication)
+      → popped ≡ old.handed ++ (old.held ++ more) → held ≡ old.held ++ more → w ≡ old.writer → v ≡ old.published → ps ≡ old.publications
+      → popped ≡ popped_by (flush_value popped held w v ps)
+  all_popped old more popped held w v ps all is same told noted =
+      all ∙ sym (ap popped_by (value_is old more popped held w v ps all is same told noted))
 
-  pub still_flusher : {A : Type 0} (old : FlushValue D A) (more popped held : List RecordValue) (w : Writer D A) (v : FlusherCount)
-      → popped ≡ old.handed ++ (old.held ++ more) → held ≡ old.held ++ more → w ≡ old.writer → v ≡ old.published
-      → IsFlusher past_of o old → IsFlusher past_of o (flush_value popped held w v)
-  still_flusher old more popped held w v all is same told stands =
-      subst (IsFlusher past_of o) (sym (value_is old more popped held w v all is same told))
+  pub still_flusher : {A : Type 0} (old : FlushValue D A) (more popped held : List RecordValue) (w : Writer D A) (v : FlusherCount) (ps : List Publication)
+      → popped ≡ old.handed ++ (old.held ++ more) → held ≡ old.held ++ more → w ≡ old.writer → v ≡ old.published → ps ≡ old.publications
+      → IsFlusher past_of o old → IsFlusher past_of o (flush_value popped held w v ps)
+  still_flusher old more popped held w v ps all is same told noted stands =
+      subst (IsFlusher past_of o) (sym (value_is old more popped held w v ps all is same told noted))
       (record {
         pages = stands.pages;
         places = stands.places;
@@ -195,6 +287,8 @@ module _ {D : Type 0} (past_of : D → DevicePast) (o : Opened) where
         writer = stands.writer;
         horizon = stands.horizon;
         failed = stands.failed;
+        kept = stands.kept;
+        newest = stands.newest;
       })
 
 -- ---- answers
@@ -231,72 +325,75 @@ module _ {D A : Type 0} (failures : D → ℕ) (old new : Writer D A) where
 
 module _ {D : Type 0} (past_of : D → DevicePast) (o : Opened) where
   -- the fields hold what the type keeps
-  abbrev pub AreKept : {A : Type 0} (popped held : List RecordValue) → Writer D A → FlusherCount → Type 0
-  AreKept popped held w v = (popped ≡ popped_by (flush_value popped held w v)) × IsFlusher past_of o (flush_value popped held w v)
+  abbrev pub AreKept : {A : Type 0} (popped held : List RecordValue) → Writer D A → FlusherCount → List Publication → Type 0
+  AreKept popped held w v ps = (popped ≡ popped_by (flush_value popped held w v ps)) × IsFlusher past_of o (flush_value popped held w v ps)
 
-  module _ {A : Type 0} (popped held : List RecordValue) (w : Writer D A) (v : FlusherCount) (kept : AreKept popped held w v) (follow : FollowOpening o popped)
+  module _ {A : Type 0} (popped held : List RecordValue) (w : Writer D A) (v : FlusherCount) (ps : List Publication)
+      (kept : AreKept popped held w v ps) (follow : FollowOpening o popped)
       (fits : FitPlaces o popped) (longer_stands : (run : Run) (n : ℕ) (more : List RecordValue) → IsWriter past_of run n w → IsRun (longer run more)
       → IsWriter past_of (longer run more) n w)
       (next : (run : Run) (more : List RecordValue) → end_of run + length more ≤ LAST_NUMBER
       → AreNext (longer run more) (end_of run) more) (records : List RecordValue) (same : records ≡ held) where
     pub can_hand_in : (run : Run) × (n : ℕ) × IsWriter past_of run n w × AreNext run n records
     can_hand_in = subst (λ (l : List RecordValue). (run : Run) × (n : ℕ) × IsWriter past_of run n w
-        × AreNext run n l) (sym same) (can_take past_of o popped held w v kept.0 kept.1 follow fits longer_stands next)
+        × AreNext run n l) (sym same) (can_take past_of o popped held w v ps kept.0 kept.1 follow fits longer_stands next)
 
     pub kept_by_taking : MayOpenAgain o popped → (p h : List RecordValue) (new : Writer D A) → p ≡ popped → h ≡ []
-        → ((run : Run) (n : ℕ) → IsWriter past_of run n w → AreNext run n records → IsWriter past_of run (n + length records) new) → synced_of new ≡ synced_of w
-        → has_failed new ≡ has_failed w → AreKept p h new v
-    kept_by_taking opens p h new all none took synced failed =
+        → ((run : Run) (n : ℕ) → IsWriter past_of run n w → AreNext run n records → IsWriter past_of run (n + length records) new)
+        → device_of new ≡ device_of w → synced_of new ≡ synced_of w → has_failed new ≡ has_failed w → AreKept p h new v ps
+    kept_by_taking opens p h new all none took device synced failed =
         let takes_held : (run : Run) (n : ℕ) → IsWriter past_of run n w → AreNext run n held → IsWriter past_of run (n + length held) new =
         subst (λ (l : List RecordValue). (run : Run) (n : ℕ) → IsWriter past_of run n w → AreNext run n l
         → IsWriter past_of run (n + length l) new) same took in
-        let now : AreKept popped [] new v = (
+        let now : AreKept popped [] new v ps = (
           sym (append-nil _ ∙ all_handed popped),
-          takes past_of o popped held w v kept.0 kept.1 follow fits longer_stands next opens new takes_held synced failed,
+          takes past_of o popped held w v ps kept.0 kept.1 follow fits longer_stands next opens new takes_held device synced failed,
         ) in
-        subst (λ x. AreKept x h new v) (sym all) (subst (λ x. AreKept popped x new v) (sym none) now)
+        subst (λ x. AreKept x h new v ps) (sym all) (subst (λ x. AreKept popped x new v ps) (sym none) now)
 
     pub kept_by_refusal : (p h : List RecordValue) (new : Writer D A) → p ≡ popped → h ≡ records
-        → ((run : Run) (n : ℕ) → IsWriter past_of run n w → IsWriter past_of run n new) → synced_of new ≡ synced_of w → has_failed new ≡ has_failed w
-        → AreKept p h new v
-    kept_by_refusal p h new all back keeps synced failed =
-        let f : FlushValue D A = flush_value popped held w v in
-        let now : AreKept popped held new v = (
+        → ((run : Run) (n : ℕ) → IsWriter past_of run n w → IsWriter past_of run n new) → device_of new ≡ device_of w → synced_of new ≡ synced_of w
+        → has_failed new ≡ has_failed w → AreKept p h new v ps
+    kept_by_refusal p h new all back keeps device synced failed =
+        let f : FlushValue D A = flush_value popped held w v ps in
+        let now : AreKept popped held new v ps = (
           kept.0,
-          goes_on past_of o f new v kept.1 (keeps (run_of o f) (last_handed o f) kept.1.writer)
-              (subst (λ n. v.horizon ≤ n) (sym synced) kept.1.horizon) (kept.1.failed ∙ sym failed),
+          stands_without past_of o f new v kept.1 (keeps (run_of o f) (last_handed o f) kept.1.writer) device synced refl (kept.1.failed ∙ sym failed),
         ) in
-        subst (λ x. AreKept x h new v) (sym all) (subst (λ x. AreKept popped x new v) (sym (back ∙ same)) now)
+        subst (λ x. AreKept x h new v ps) (sym all) (subst (λ x. AreKept popped x new v ps) (sym (back ∙ same)) now)
 
   -- at first
-  pub kept_at_first : {A : Type 0} (popped held : List RecordValue) (w : Writer D A) (v : FlusherCount) (last : ℕ) → popped ≡ [] → held ≡ []
+  pub kept_at_first : {A : Type 0} (popped held : List RecordValue) (w : Writer D A) (v : FlusherCount) (ps : List Publication) (last : ℕ) → popped ≡ []
+      → held ≡ [] → ps ≡ publication_of past_of w ∷ []
       → IsWriter past_of (opened_run (halves_of w) o.given.last (opening_cells o.given)) o.given.last w
-      → (halves_of w).geometry.pages ≡ o.pages → (halves_of w).geometry.entries ≡ o.places → len o.given.entries ≤ o.places → v.horizon ≤ synced_of w
+      → (halves_of w).geometry.pages ≡ o.pages → (halves_of w).geometry.entries ≡ o.places → len o.given.entries ≤ o.places → v.horizon ≡ synced_of w
       → v.failed ≡ has_failed w → last ≡ synced_of w
-      → AreKept popped held w v × (last ≡ last_handed o (flush_value popped held w v))
-  kept_at_first popped held w v last none none_held is pages places room low flag told =
-      subst (λ (p : List RecordValue). AreKept p held w v × (last ≡ last_handed o (flush_value p held w v))) (sym none)
-      (subst (λ (h : List RecordValue). AreKept [] h w v × (last ≡ last_handed o (flush_value [] h w v))) (sym none_held)
-      ((refl, begun past_of o w v is pages places room low flag), omega (arith, told, is.opened, is.reached)))
+      → AreKept popped held w v ps × (last ≡ last_handed o (flush_value popped held w v ps))
+  kept_at_first popped held w v ps last none none_held one is pages places room low flag told =
+      subst (λ (p : List RecordValue). AreKept p held w v ps × (last ≡ last_handed o (flush_value p held w v ps))) (sym none)
+      (subst (λ (h : List RecordValue). AreKept [] h w v ps × (last ≡ last_handed o (flush_value [] h w v ps))) (sym none_held)
+      (subst (λ (l : List Publication). AreKept [] [] w v l × (last ≡ last_handed o (flush_value [] [] w v l))) (sym one)
+      ((refl, begun past_of o w v is pages places room low flag), omega (arith, told, is.opened, is.reached))))
 
   -- as the popping begins
-  pub begins_popping : {A : Type 0} (old : FlushValue D A) (popped held : List RecordValue) (w : Writer D A) (v : FlusherCount)
-      → flush_value popped held w v ≡ old → AreKept popped held w v
-      → (w ≡ old.writer) × (v ≡ old.published) × IsFlusher past_of o old
+  pub begins_popping : {A : Type 0} (old : FlushValue D A) (popped held : List RecordValue) (w : Writer D A) (v : FlusherCount) (ps : List Publication)
+      → flush_value popped held w v ps ≡ old → AreKept popped held w v ps
+      → (w ≡ old.writer) × (v ≡ old.published) × (ps ≡ old.publications) × IsFlusher past_of o old
       × ((more : List RecordValue) × (popped ≡ old.handed ++ (old.held ++ more)) × (held ≡ old.held ++ more))
-  begins_popping old popped held w v is kept = (
+  begins_popping old popped held w v ps is kept = (
     ap (λ (f : FlushValue D _). f.writer) is,
     ap (λ (f : FlushValue D _). f.published) is,
+    ap (λ (f : FlushValue D _). f.publications) is,
     subst (IsFlusher past_of o) is kept.1,
     ([], kept.0 ∙ ap popped_by is ∙ ap (λ l. old.handed ++ l) (sym (append-nil old.held)), ap (λ (f : FlushValue D _). f.held) is ∙ sym (append-nil old.held)),
   )
 
   -- ---- the number of the last record that the writer has got
 
-  module _ {A : Type 0} (popped held : List RecordValue) (w : Writer D A) (v : FlusherCount) (kept : AreKept popped held w v) (last : ℕ)
-      (is : last ≡ last_handed o (flush_value popped held w v)) (records : List RecordValue) (same : records ≡ held) where
+  module _ {A : Type 0} (popped held : List RecordValue) (w : Writer D A) (v : FlusherCount) (ps : List Publication) (kept : AreKept popped held w v ps)
+      (last : ℕ) (is : last ≡ last_handed o (flush_value popped held w v ps)) (records : List RecordValue) (same : records ≡ held) where
     pub last_then : (more : ℕ) (p h : List RecordValue) (new : Writer D A) (now : FlusherCount) → more ≡ length records → p ≡ popped → h ≡ []
-        → last + more ≡ last_handed o (flush_value p h new now)
+        → last + more ≡ last_handed o (flush_value p h new now ps)
     last_then more p h new now size all none =
         let front : take (length p - length h) p ≡ popped = ap (λ (l : List RecordValue). take (length l - length h) l) all
         ∙ ap (λ (l : List RecordValue). take (length popped - length l) popped) none ∙ all_handed popped in
@@ -304,32 +401,38 @@ module _ {D : Type 0} (past_of : D → DevicePast) (o : Opened) where
 
   -- ---- as a look at the stop flag leaves them
 
-  pub kept_by_look : {A : Type 0} (popped held : List RecordValue) (w : Writer D A) (v : FlusherCount) → AreKept popped held w v
-      → (now : FlusherCount) (set : Bool) → now ≡ record v { stopped = set } → AreKept popped held w now
-  kept_by_look popped held w v kept now set is = (
+  pub kept_by_look : {A : Type 0} (popped held : List RecordValue) (w : Writer D A) (v : FlusherCount) (ps : List Publication) → AreKept popped held w v ps
+      → (now : FlusherCount) (set : Bool) → now ≡ record v { stopped = set } → AreKept popped held w now ps
+  kept_by_look popped held w v ps kept now set is = (
     kept.0,
-    goes_on past_of o (flush_value popped held w v) w now kept.1 kept.1.writer
-        (omega (arith, kept.1.horizon, ap (λ (c : FlusherCount). c.horizon) is)) (ap (λ (c : FlusherCount). c.failed) is ∙ kept.1.failed),
+    stands_without past_of o (flush_value popped held w v ps) w now kept.1 kept.1.writer refl refl
+        (ap (λ (c : FlusherCount). c.horizon) is) (ap (λ (c : FlusherCount). c.failed) is ∙ kept.1.failed),
   )
 
   -- ---- as a call of the writer leaves them
 
-  module _ {A : Type 0} (popped held : List RecordValue) (w : Writer D A) (v : FlusherCount) (kept : AreKept popped held w v) (new : Writer D A) where
-    pub kept_by_call : (now : FlusherCount) → IsWriter past_of (run_of o (flush_value popped held w v)) (last_handed o (flush_value popped held w v)) new
-        → now.horizon ≡ synced_of new → now.failed ≡ has_failed new → AreKept popped held new now
-    kept_by_call now stands horizon failed = (
-      kept.0,
-      goes_on past_of o (flush_value popped held w v) new now kept.1 stands (omega (arith, horizon)) failed,
-    )
+  module _ {A : Type 0} (popped held : List RecordValue) (w : Writer D A) (v : FlusherCount) (ps : List Publication) (kept : AreKept popped held w v ps)
+      (new : Writer D A) where
+    pub kept_by_call : (now : FlusherCount) (qs : List Publication) → qs ≡ ps ++ publication_of past_of new ∷ []
+        → IsWriter past_of (run_of o (flush_value popped held w v ps)) (last_handed o (flush_value popped held w v ps)) new
+        → ((run : Run) (n : ℕ) → IsWriter past_of run n w → LeavesOnly (past_of (device_of w)) (past_of (device_of new)) (LeftBy run (synced_of w) n))
+        → synced_of w ≤ synced_of new → now.horizon ≡ synced_of new → now.failed ≡ has_failed new → AreKept popped held new now qs
+    kept_by_call now qs noted stands images rises horizon failed =
+        let f : FlushValue D A = flush_value popped held w v ps in
+        subst (λ (l : List Publication). AreKept popped held new now l) (sym noted) (
+          kept.0,
+          stands_by_call past_of o f new now kept.1 stands horizon failed rises
+              (weaker (past_of (device_of w)) (past_of (device_of new)) (LeftBy (run_of o f) (synced_of w) (last_handed o f)) (FlushLeaves o f)
+              (is_left past_of o f kept.1) (images (run_of o f) (last_handed o f) kept.1.writer)),
+        )
 
     -- it writes nothing
-    pub kept_without : ((run : Run) (n : ℕ) → IsWriter past_of run n w → IsWriter past_of run n new) → synced_of new ≡ synced_of w
-        → has_failed new ≡ has_failed w → AreKept popped held new v
-    kept_without keeps synced failed =
-        let f : FlushValue D A = flush_value popped held w v in (
+    pub kept_without : ((run : Run) (n : ℕ) → IsWriter past_of run n w → IsWriter past_of run n new) → device_of new ≡ device_of w
+        → synced_of new ≡ synced_of w → has_failed new ≡ has_failed w → AreKept popped held new v ps
+    kept_without keeps device synced failed =
+        let f : FlushValue D A = flush_value popped held w v ps in (
           kept.0,
-          goes_on past_of o f new v kept.1 (keeps (run_of o f) (last_handed o f) kept.1.writer)
-              (subst (λ n. v.horizon ≤ n) (sym synced) kept.1.horizon) (kept.1.failed ∙ sym failed),
+          stands_without past_of o f new v kept.1 (keeps (run_of o f) (last_handed o f) kept.1.writer) device synced refl (kept.1.failed ∙ sym failed),
         )
 
     -- what is published may be raised to what the writer has synced

@@ -26,6 +26,7 @@ module _ {D A : Type 0} where
     got = got_none f.writer;
     copying = refl;
     published = refl;
+    publications = refl;
   }
 
   -- it looked whether all are asked to stop
@@ -39,6 +40,7 @@ module _ {D A : Type 0} where
         got = got_none old.writer;
         copying = refl;
         published = refl;
+        publications = refl;
       })
 
   module _ (old mid : FlushValue D A) (popped : List RecordValue) (is : mid ≡ record old { held = old.held ++ popped }) where
@@ -55,11 +57,16 @@ module _ {D A : Type 0} where
       got = subst (λ (f : FlushValue D A). HasGot [] old.writer f.writer) (sym is) (got_none old.writer);
       copying = ap (λ (f : FlushValue D A). copying_of f.writer) is;
       published = told_same old.published mid.published (ap (λ (f : FlushValue D A). f.published) is);
+      publications = ap (λ (f : FlushValue D A). f.publications) is;
     }
 
-    module _ (new : FlushValue D A) (told : new.published ≡ mid.published) (still : copying_of new.writer ≡ copying_of mid.writer) where
+    module _ (new : FlushValue D A) (told : new.published ≡ mid.published) (noted : new.publications ≡ mid.publications)
+        (still : copying_of new.writer ≡ copying_of mid.writer) where
       published_is : new.published ≡ old.published
       published_is = told ∙ ap (λ (f : FlushValue D A). f.published) is
+
+      noted_is : new.publications ≡ old.publications
+      noted_is = noted ∙ ap (λ (f : FlushValue D A). f.publications) is
 
       -- and then all that is held was handed in
       got_all : (new.handed ≡ popped_by mid) × (new.held ≡ []) → HasGot mid.held mid.writer new.writer → TakesIn old new
@@ -71,6 +78,7 @@ module _ {D A : Type 0} where
         got = subst (λ (f : FlushValue D A). HasGot f.held f.writer new.writer) is got;
         copying = still ∙ ap (λ (f : FlushValue D A). copying_of f.writer) is;
         published = told_same old.published new.published published_is;
+        publications = noted_is;
       }
 
       -- or nothing was
@@ -83,6 +91,7 @@ module _ {D A : Type 0} where
         got = subst (λ (f : FlushValue D A). HasGot [] f.writer new.writer) is got;
         copying = still ∙ ap (λ (f : FlushValue D A). copying_of f.writer) is;
         published = told_same old.published new.published published_is;
+        publications = noted_is;
       }
 
       pub took_in : (result : Result (Unit {0}) Error) → OnOk result ((new.handed ≡ popped_by mid) × (new.held ≡ []))
@@ -110,4 +119,5 @@ module _ {D A : Type 0} where
     };
     copying = second.copying ∙ first.copying;
     published = second.published ∙ ap (λ (c : FlusherCount). record c { stopped = new.published.stopped }) first.published;
+    publications = second.publications ∙ first.publications;
   }

@@ -1,12 +1,13 @@
 -- What contracts see of the flusher's part, and what it keeps.
-use Rattle.std.specs.Prelude.{◌≡◌, ℕ, ◌+◌, ◌-◌, ◌≤◌, List, ◌++◌, length, take}
+use Rattle.std.specs.Prelude.{◌≡◌, ℕ, ◌+◌, ◌-◌, ◌≤◌, List, [], ◌∷◌, ◌++◌, length, take}
+use Rattle.std.specs.List.{All}
 use Rattle.record_values.specs.GeometryValue.{GeometryValue}
 use Rattle.records.specs.RecordValue.{RecordValue}
 use Rattle.model.specs.Cells.{cells_after}
 use Rattle.model.specs.Given.{given_after, opening_cells}
 use Rattle.core_model.specs.Histories.{CanOpen, Opened}
 use Rattle.sector_device.specs.Disk.{CrashState}
-use Rattle.sector_device.specs.DevicePast.{DevicePast}
+use Rattle.sector_device.specs.DevicePast.{Between, DevicePast}
 use Rattle.board.specs.Views.{FlusherCount}
 use Rattle.store_image_model.specs.Run.{Run}
 use Rattle.locked_core.specs.Following.{FitPlaces}
@@ -22,21 +23,29 @@ pub record EndsValue : Type 0 where
   pub popper : Handed
   pub published : FlusherCount
 
--- The records that the writer has got, in order, and those that were popped behind them; the writer; and what was
--- published.
+-- A horizon that was published, and the moment of the device's past at which it was.
+pub record Publication : Type 0 where
+  pub horizon : ℕ
+  pub moment : ℕ
+
+-- The records that the writer has got, in order, and those that were popped behind them; the writer; what is published;
+-- and each time that a horizon was published, the oldest first.
 pub record FlushValue (D A : Type 0) : Type 0 where
   pub handed : List RecordValue
   pub held : List RecordValue
   pub writer : Writer D A
   pub published : FlusherCount
+  pub publications : List Publication
 
 -- of the records that were popped, these are held, and the writer has got those before them
-abbrev pub flush_value : {D A : Type 0} → (popped held : List RecordValue) → Writer D A → FlusherCount → FlushValue D A
-flush_value popped held writer published = record {
+abbrev pub flush_value : {D A : Type 0} → (popped held : List RecordValue) → Writer D A → FlusherCount
+    → List Publication → FlushValue D A
+flush_value popped held writer published publications = record {
   handed = take (length popped - length held) popped;
   held = held;
   writer = writer;
   published = published;
+  publications = publications;
 }
 
 -- all records that were popped, in order, each once
@@ -61,18 +70,6 @@ abbrev pub MayOpenAgain : Opened → List RecordValue → Type 0
 MayOpenAgain o records = CanOpen o → (n : ℕ) → n ≤ length records
     → CanOpen (record o { given = given_after o.given (take n records) })
 
--- The writer stands for the records that it got over what was opened, and its store has the pages of that, and places
--- for the entries after each of the records, with which a core may begin. What was published is not above what the
--- writer has synced, and tells whether its device failed.
-pub record IsFlusher {D A : Type 0} (past_of : D → DevicePast) (o : Opened) (f : FlushValue D A) : Type 0 where
-  pub pages : (halves_of f.writer).geometry.pages ≡ o.pages
-  pub places : (halves_of f.writer).geometry.entries ≡ o.places
-  pub fits : FitPlaces o f.handed
-  pub opens : MayOpenAgain o f.handed
-  pub writer : IsWriter past_of (run_of o f) (last_handed o f) f.writer
-  pub horizon : f.published.horizon ≤ synced_of f.writer
-  pub failed : f.published.failed ≡ has_failed f.writer
-
 -- The crash state has the cells as some of these records, the first ones, left those that were opened, with every
 -- record up to the floor; a reader finds what these records make of what was opened; and a core may begin with that,
 -- where it may with what was opened.
@@ -89,6 +86,42 @@ pub record GivesBeginning (o : Opened) (g : GeometryValue) (handed : List Record
 abbrev pub FlushLeaves : {D A : Type 0} → Opened → FlushValue D A → CrashState → Type 0
 FlushLeaves o f = GivesBeginning o (halves_of f.writer).geometry f.handed (synced_of f.writer)
 
+-- A crash at any moment since a horizon was published, until the device has this past, leaves a state that has P of the
+-- horizon.
+pub record IsKeptSince (P : ℕ → CrashState → Type 0) (now : DevicePast) (p : Publication) : Type 0 where
+  pub later : p.moment ≤ now.moment
+  pub each : Between now.disk_at p.moment now.moment (P p.horizon)
+
+-- A horizon that was published is not above what is synced now. A crash at any moment since leaves what some of the
+-- records that were handed in make of what was opened, the first ones, with all up to the horizon.
+abbrev pub IsKept : {D A : Type 0} → (D → DevicePast) → Opened → FlushValue D A → Publication → Type 0
+IsKept past_of o f p = (p.horizon ≤ synced_of f.writer)
+    × IsKeptSince (GivesBeginning o (halves_of f.writer).geometry f.handed) (past_of (device_of f.writer)) p
+
+-- the last of these publications is of this horizon
+abbrev pub IsNewest : List Publication → ℕ → Type 0
+IsNewest publications horizon = (earlier : List Publication) × (last : Publication)
+    × (publications ≡ earlier ++ last ∷ []) × (last.horizon ≡ horizon)
+
+-- The writer stands for the records that it got over what was opened, and its store has the pages of that, and places
+-- for the entries after each of the records, with which a core may begin. What was published is not above what the
+-- writer has synced, and tells whether its device failed. And what was published at any time is kept since, at every
+-- moment.
+pub record IsFlusher {D A : Type 0} (past_of : D → DevicePast) (o : Opened) (f : FlushValue D A) : Type 0 where
+  pub pages : (halves_of f.writer).geometry.pages ≡ o.pages
+  pub places : (halves_of f.writer).geometry.entries ≡ o.places
+  pub fits : FitPlaces o f.handed
+  pub opens : MayOpenAgain o f.handed
+  pub writer : IsWriter past_of (run_of o f) (last_handed o f) f.writer
+  pub horizon : f.published.horizon ≤ synced_of f.writer
+  pub failed : f.published.failed ≡ has_failed f.writer
+  pub kept : All (IsKept past_of o f) f.publications
+  pub newest : IsNewest f.publications f.published.horizon
+
+-- how far this writer has synced, as it is published now
+abbrev pub publication_of : {D A : Type 0} → (D → DevicePast) → Writer D A → Publication
+publication_of past_of w = record { horizon = synced_of w; moment = (past_of (device_of w)).moment }
+
 -- what is published of a writer, behind what was published before
 abbrev pub count_of : {D A : Type 0} → FlusherCount → Writer D A → FlusherCount
 count_of before writer = record before { horizon = synced_of writer; failed = has_failed writer }
@@ -103,12 +136,13 @@ pub record HasGot {D A : Type 0} (more : List RecordValue) (old new : Writer D A
   pub failed : has_failed new ≡ has_failed old
   pub image : image_of new ≡ image_of old
 
--- no record was popped or handed in, and what was published is now what the writer has synced, and whether its device
--- failed
-pub record Publishes {D A : Type 0} (old new : FlushValue D A) : Type 0 where
+-- no record was popped or handed in, and what is published is now what the writer has synced, and whether its device
+-- failed; this was published once
+pub record Publishes {D A : Type 0} (past_of : D → DevicePast) (old new : FlushValue D A) : Type 0 where
   pub handed : new.handed ≡ old.handed
   pub held : new.held ≡ old.held
   pub published : new.published ≡ count_of old.published new.writer
+  pub noted : new.publications ≡ old.publications ++ publication_of past_of new.writer ∷ []
 
 -- it has looked whether all are asked to stop, and nothing else of it changed
 abbrev pub LooksForStop : {D A : Type 0} → FlushValue D A → FlushValue D A → Type 0

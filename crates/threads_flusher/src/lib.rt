@@ -8,10 +8,12 @@
 //!
 //! Proved: no record that was popped is lost (`takes`, `handed`). At each moment of `flush`, `take_piece` and `flip` a
 //! crash leaves what the first records handed in make of what was opened, with all that were synced before (`images`).
-//! After each of them the board has what is synced, and no more (`publishes`). Neither proved nor tested here: that the
+//! After each of them the board has what is synced, and no more (`publishes`). A crash at any moment since a horizon
+//! was published leaves all up to it (`IsFlusher.kept`, which the type keeps). Neither proved nor tested here: that the
 //! queue gives or takes a record, and that calls succeed where there is memory.
 //!
-//! Lemmas about its public words that crates above may cite, in `proofs`: `Going`, `Keeping`, `Openings` and `Taking`.
+//! Lemmas about its public words that crates above may cite, in `proofs`: `Going`, `Keeping`, `Openings`,
+//! `Publications` and `Taking`.
 #![tactic(auto)]
 
 mod copying;

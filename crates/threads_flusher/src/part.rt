@@ -1,6 +1,7 @@
 //! What the flusher owns.
 ghost use Rattle.std.specs.FinMap.{len};
-ghost use Rattle.std.specs.Prelude.{◌≡◌, ◌≢◌, ◌-◌, ◌≤◌, ◌++◌, ℕ, List, [], length, take, false, Ok, OnOk, OnErr, IfOk};
+ghost use Rattle.std.specs.Prelude.{◌≡◌, ◌≢◌, ◌-◌, ◌≤◌, ◌++◌, ◌∷◌, ℕ, List, [], length, take, false, Ok, OnOk, OnErr};
+ghost use Rattle.std.specs.Prelude.{IfOk};
 ghost use Rattle.std.specs.Prelude.{IfErr, IsTrue};
 ghost use Rattle.sector_device.specs.Disk.{CrashState, IsCrashState};
 ghost use Rattle.sector_device.specs.DevicePast.{LeavesOnly};
@@ -19,6 +20,7 @@ ghost use Rattle.store_writer.specs.Writer.{MustStartAgain, WritesLogsAlone, Wri
 
 use crate::ends::FlushEnds;
 use board::{Board, FlushView};
+use ghost_list::GhostList;
 use locked_core::{Group, Locked, Memory};
 use records::{Error, Record};
 use sector_device::Device;
@@ -35,7 +37,8 @@ use threads_queue::{Popper, RecordQueue};
 ///
 /// Its type keeps that the records that were popped are those that the writer has got and then those that are held, in
 /// order, each once; that the writer stands for the ones that it got, over what was opened; that no number is published
-/// above the last synced one; and that all is published on the group's board.
+/// above the last synced one; that all is published on the group's board; and that what was published at any time is
+/// kept by a crash at any moment since.
 #[derive(Drop)]
 pub struct FlushPart<B: Group, D: Device, A: Memory = Global> {
     pub(crate) alloc: A,
@@ -46,30 +49,38 @@ pub struct FlushPart<B: Group, D: Device, A: Memory = Global> {
     // The number of the last record that the writer has got.
     last: u64,
     pub(crate) view: FlushView,
+    // The writer as it was each time that the view published, which takes no memory.
+    publications: GhostList<StoreWriter<D, A>>,
     site: PhantomData<B>,
 }
 
 impl<B: Group, D: Device, A: Memory> Model for FlushPart<B, D, A> {
     ghost use Rattle.std.specs.Prelude.{◌≡◌, ◌++◌};
     ghost use Rattle.std.specs.Coded.{codes};
-    ghost use Rattle.std.specs.FinMap as map;
+    ghost use Rattle.std.specs.FinMap as finmap;
+    ghost use Rattle.std.specs.Prelude.{map};
     ghost use Rattle.threads_flusher.specs.Part.{FlushValue, IsFlusher, flush_value, last_handed, popped_by};
+    ghost use Rattle.threads_flusher.specs.Part.{publication_of};
 
     ghost Value = { FlushValue D A };
 
-    ghost coded = { Prim.hlevel (codes, map.code) };
+    ghost coded = { Prim.hlevel (codes, finmap.code) };
 
-    ghost view = { λ p. flush_value p.popper.records p.held.items p.writer p.view };
+    ghost view = { λ p. flush_value p.popper.records p.held.items p.writer p.view
+        (map (publication_of D.past_of) p.publications.items) };
 
     ghost invariant = { λ p. (p.popper.queue ≡ B.site.queue)
-        × (p.popper.records ≡ popped_by (flush_value p.popper.records p.held.items p.writer p.view))
-        × IsFlusher D.past_of B.site.opened (flush_value p.popper.records p.held.items p.writer p.view)
-        × (p.last ≡ last_handed B.site.opened (flush_value p.popper.records p.held.items p.writer p.view))
+        × (p.popper.records ≡ popped_by (flush_value p.popper.records p.held.items p.writer p.view
+        (map (publication_of D.past_of) p.publications.items)))
+        × IsFlusher D.past_of B.site.opened (flush_value p.popper.records p.held.items p.writer p.view
+        (map (publication_of D.past_of) p.publications.items))
+        × (p.last ≡ last_handed B.site.opened (flush_value p.popper.records p.held.items p.writer p.view
+        (map (publication_of D.past_of) p.publications.items)))
         × (p.view.board ≡ B.site.board) };
 }
 
 // Publishes how far the writer has synced, and whether its device failed.
-fn publish<D: Device, A: Memory>(board: &Board<A>, view: &mut FlushView, writer: &StoreWriter<D, A>)
+fn tell<D: Device, A: Memory>(board: &Board<A>, view: &mut FlushView, writer: &StoreWriter<D, A>)
     requires board { view.old.board ≡ board.now }
     requires horizon { view.old.horizon ≤ synced_of writer.now }
     requires failed { has_failed writer.now ≡ false → view.old.failed ≡ false }
@@ -81,10 +92,27 @@ fn publish<D: Device, A: Memory>(board: &Board<A>, view: &mut FlushView, writer:
     }
 }
 
+// Publishes it, and notes that it did.
+fn publish<D: Device, A: Memory>(
+    board: &Board<A>,
+    view: &mut FlushView,
+    publications: &mut GhostList<StoreWriter<D, A>>,
+    writer: &StoreWriter<D, A>,
+)
+    requires board { view.old.board ≡ board.now }
+    requires horizon { view.old.horizon ≤ synced_of writer.now }
+    requires failed { has_failed writer.now ≡ false → view.old.failed ≡ false }
+    ensures published { view.new ≡ count_of view.old writer.now }
+    ensures noted { publications.new.items ≡ publications.old.items ++ writer.now ∷ [] }
+{
+    tell(board, view, writer);
+    *publications = publications.and(writer);
+}
+
 impl<B: Group, D: Device, A: Memory> FlushPart<B, D, A> {
     ghost use Rattle.locked_core.specs.Locked.{locked_of};
     ghost use Rattle.threads_flusher.specs.Part.{HasGot, IsFlusher, FlushLeaves, LooksForStop, Publishes, last_handed};
-    ghost use Rattle.threads_flusher.specs.Part.{popped_by, run_of};
+    ghost use Rattle.threads_flusher.specs.Part.{popped_by, publication_of, run_of};
 
     /// The part of a flusher that has popped nothing, with a writer over what was opened. How far that is synced is
     /// published, so that a ticket from before is known to be safe from the beginning.
@@ -109,10 +137,12 @@ impl<B: Group, D: Device, A: Memory> FlushPart<B, D, A> {
           held = [];
           writer = writer;
           published = count_of ends.published writer;
+          publications = publication_of D.past_of writer ∷ [];
         } }
     {
         let FlushEnds { popper, mut view } = ends;
-        publish(board, &mut view, &writer);
+        let mut publications = GhostList::new();
+        publish(board, &mut view, &mut publications, &writer);
         let last = writer.synced();
         FlushPart {
             alloc,
@@ -121,6 +151,7 @@ impl<B: Group, D: Device, A: Memory> FlushPart<B, D, A> {
             writer,
             last,
             view,
+            publications,
             site: PhantomData,
         }
     }
@@ -178,6 +209,7 @@ impl<B: Group, D: Device, A: Memory> FlushPart<B, D, A> {
         ensures no_memory { IfErr result (λ e. e ≡ Error.NoMemory) }
         ensures copying { copying_of self.new.writer ≡ copying_of self.old.writer }
         ensures published { self.new.published ≡ self.old.published }
+        ensures publications { self.new.publications ≡ self.old.publications }
         ensures beginning { popped_by self.old ≡ take (length (popped_by self.old)) (locked_of locked.old).pushed }
         ensures locked { locked_of locked.new ≡ locked_of locked.old }
     {
@@ -205,7 +237,7 @@ impl<B: Group, D: Device, A: Memory> FlushPart<B, D, A> {
     /// The answers and refusals are those of the writer's `flush_group`; a failed device is told on the board.
     pub fn flush(&mut self, board: &Board<A>) -> Result<FlushReply, Error>
         requires { board.now ≡ B.site.board }
-        ensures publishes { Publishes self.old self.new }
+        ensures publishes { Publishes D.past_of self.old self.new }
         ensures images { LeavesOnly (D.past_of (device_of self.old.writer)) (D.past_of (device_of self.new.writer))
             (FlushLeaves B.site.opened self.old) }
         ensures flushed { IfOk result (λ reply. IsFlushReply reply self.old.writer self.new.writer) }
@@ -230,7 +262,7 @@ impl<B: Group, D: Device, A: Memory> FlushPart<B, D, A> {
         ensures left { OnErr result (IsBeforeFlush self.old.writer self.new.writer) }
     {
         let flushed = self.writer.flush_group(self.alloc);
-        publish(board, &mut self.view, &self.writer);
+        publish(board, &mut self.view, &mut self.publications, &self.writer);
         flushed
     }
 
@@ -241,7 +273,7 @@ impl<B: Group, D: Device, A: Memory> FlushPart<B, D, A> {
     pub fn take_piece(&mut self, board: &Board<A>, chunk: Chunk<A>) -> Result<StepReply, Error>
         requires board { board.now ≡ B.site.board }
         requires chunk { IsChunk (run_of B.site.opened self.old) self.old.writer chunk.number chunk.piece }
-        ensures publishes { Publishes self.old self.new }
+        ensures publishes { Publishes D.past_of self.old self.new }
         ensures images { LeavesOnly (D.past_of (device_of self.old.writer)) (D.past_of (device_of self.new.writer))
             (FlushLeaves B.site.opened self.old) }
         ensures stepped { IfOk result (λ reply.
@@ -258,7 +290,7 @@ impl<B: Group, D: Device, A: Memory> FlushPart<B, D, A> {
         ensures left { OnErr result (IsAsBefore self.old.writer self.new.writer) }
     {
         let stepped = self.writer.checkpoint_step(chunk);
-        publish(board, &mut self.view, &self.writer);
+        publish(board, &mut self.view, &mut self.publications, &self.writer);
         stepped
     }
 
@@ -269,7 +301,7 @@ impl<B: Group, D: Device, A: Memory> FlushPart<B, D, A> {
     /// The answers and refusals are those of the writer's `checkpoint_flip`; a failed device is told on the board.
     pub fn flip(&mut self, board: &Board<A>) -> Result<FlipReply, Error>
         requires { board.now ≡ B.site.board }
-        ensures publishes { Publishes self.old self.new }
+        ensures publishes { Publishes D.past_of self.old self.new }
         ensures images { LeavesOnly (D.past_of (device_of self.old.writer)) (D.past_of (device_of self.new.writer))
             (FlushLeaves B.site.opened self.old) }
         ensures flipped { IfOk result (λ reply. IsFlipReply
@@ -286,7 +318,7 @@ impl<B: Group, D: Device, A: Memory> FlushPart<B, D, A> {
         ensures left { OnErr result (IsAsBefore self.old.writer self.new.writer) }
     {
         let flipped = self.writer.checkpoint_flip();
-        publish(board, &mut self.view, &self.writer);
+        publish(board, &mut self.view, &mut self.publications, &self.writer);
         flipped
     }
 
@@ -321,6 +353,7 @@ impl<B: Group, D: Device, A: Memory> FlushPart<B, D, A> {
             writer,
             last: _,
             view: _,
+            publications: _,
             site: _,
         } = self;
         (writer.into_device(), popper)

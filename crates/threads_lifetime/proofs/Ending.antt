@@ -4,6 +4,8 @@ use Rattle.std.proofs.Common.{arith, append-nil, length-append, length-take}
 use Rattle.std.proofs.Math.Logic.{∥∥₁_map}
 use Rattle.std.proofs.lemmas.Bool.{false≢true}
 use Rattle.std.proofs.lemmas.List.{take-append-le, take-take, take_all}
+use Rattle.std.proofs.lemmas.List.Elements.{All-weaker}
+use Rattle.std.specs.List.{All}
 use Rattle.std.specs.Prelude.{slice_get}
 use Rattle.record_values.specs.GeometryValue.{GeometryValue}
 use Rattle.records.specs.RecordValue.{RecordValue}
@@ -28,7 +30,8 @@ use Rattle.locked_core.specs.Locked.{LockedValue}
 use Rattle.locked_core.specs.Made as lock
 use Rattle.locked_core.specs.Names.{IsShared}
 use Rattle.store_writer.specs.Parts.{device_of, halves_of, has_failed, synced_of}
-use Rattle.threads_flusher.specs.Part.{FlushValue, GivesBeginning, FlushLeaves, last_handed}
+use Rattle.threads_flusher.specs.Part.{FlushValue, GivesBeginning, FlushLeaves, IsFlusher, IsKeptSince, last_handed}
+use Rattle.threads_flusher.proofs.Publications.{KeptBelow, all_kept_on, since_weaker}
 use Rattle.shared.specs.Seats.{SeatValue}
 use Rattle.threads_lifetime.proofs.Gathering.{commits_in}
 use Rattle.threads_lifetime.proofs.Lists.{map_count, map_get, same_list}
@@ -153,14 +156,19 @@ module _ {D : Type 0} (past_of : D → DevicePast) (o : Opened) (seats : List Se
   shared : ∥ IsShared o l.core l.pushed (sessions_of seats) ∥₁
   shared = subst (λ (b : List SessionValue). ∥ IsShared o l.core l.pushed b ∥₁) book under
 
+  -- what a crash leaves of what was handed in is of what was made
+  pub some_left : (g now : GeometryValue) (handed : List RecordValue) (floor : ℕ) → now ≡ g → handed ≡ take (length handed) l.pushed
+      → (image : CrashState) → GivesBeginning o now handed floor image → ∥ GivesSome o g seats popped floor image ∥₁
+  some_left g now handed floor same begins image left = ∥∥₁_map shared (λ (h : IsShared o l.core l.pushed (sessions_of seats)).
+      some_given o seats l.core l.pushed popped first_popped g handed floor begins h image
+      (subst (λ (x : GeometryValue). GivesBeginning o x handed floor image) same left))
+
   pub images_left : (old new : D) (g now : GeometryValue) (handed : List RecordValue) (floor : ℕ) → now ≡ g → handed ≡ take (length handed) l.pushed
       → LeavesOnly (past_of old) (past_of new) (GivesBeginning o now handed floor)
       → LeavesOnly (past_of old) (past_of new) (λ image. ∥ GivesSome o g seats popped floor image ∥₁)
   images_left old new g now handed floor same begins =
       weaker (past_of old) (past_of new) (GivesBeginning o now handed floor) (λ image. ∥ GivesSome o g seats popped floor image ∥₁)
-      (λ image left. ∥∥₁_map shared (λ (h : IsShared o l.core l.pushed (sessions_of seats)).
-      some_given o seats l.core l.pushed popped first_popped g handed floor begins h image
-      (subst (λ (x : GeometryValue). GivesBeginning o x handed floor image) same left)))
+      (some_left g now handed floor same begins)
 
   module _ (core : CoreValue) (is : core ≡ l.core) (none : l.core.outbox ≡ []) (commits : List CommitValue)
       (from : (count : ℕ) (all : AreAllCommits (sessions_of seats) count) → commits ≡ commits_in all.commits) where
@@ -203,6 +211,20 @@ module _ {D A : Type 0} (past_of : D → DevicePast) (failures : D
       ∥ GivesSome o (halves_of old.writer).geometry seats popped (synced_of old.writer) image ∥₁)) (sym is)
       (images_left past_of o seats l book under popped first_popped (device_of old.writer) (device_of f.writer) (halves_of old.writer).geometry
       (halves_of f.writer).geometry f.handed (synced_of old.writer) writes.geometry begins writes.images)
+
+  -- what was published before is kept at every moment since
+  pub kept_at_end : IsFlusher past_of o old → f.handed ≡ take (length f.handed) l.pushed
+      → All (IsKeptSince (λ floor image. ∥ GivesSome o (halves_of old.writer).geometry seats popped floor image ∥₁) (past_of device)) old.publications
+  kept_at_end stands begins =
+      let g : GeometryValue = (halves_of old.writer).geometry in
+      let now : GeometryValue = (halves_of f.writer).geometry in
+      let Q : ℕ → CrashState → Type 0 = λ floor image. ∥ GivesSome o g seats popped floor image ∥₁ in
+      subst (λ (d : D). All (IsKeptSince Q (past_of d)) old.publications) (sym is)
+      (All-weaker (KeptBelow o now f.handed (synced_of f.writer) (past_of (device_of f.writer))) (IsKeptSince Q (past_of (device_of f.writer)))
+      (λ p kept. since_weaker (GivesBeginning o now f.handed) Q (past_of (device_of f.writer)) p
+      (λ floor. some_left past_of o seats l book under popped first_popped g now f.handed floor writes.geometry begins) kept.1) old.publications
+      (all_kept_on o g now old.handed writes.more f.handed (synced_of old.writer) (synced_of f.writer) (past_of (device_of old.writer))
+      (past_of (device_of f.writer)) writes.handed writes.geometry writes.rises writes.images old.publications stands.kept))
 
   pub failed_at_end : (e told : Error) → (e ≡ NoMemory) ⊎ ((e ≡ DeviceFailed) × (has_failed f.writer ≡ true))
       → (has_failed f.writer ≡ true → told ≡ DeviceFailed) → (has_failed f.writer ≡ false → told ≡ e)

@@ -12,8 +12,9 @@ use Rattle.flip_image.specs.Layout.{HalvesValue}
 use Rattle.store_writer.specs.Parts.{device_of, halves_of, has_failed, synced_of, waiting_of}
 use Rattle.store_writer.specs.Writer.{HasFailed, IsNotFlushed}
 use Rattle.store_writer.specs.declared.writer.Writer.{Writer}
-use Rattle.threads_flusher.proofs.Going.{beginning_of, counted_same, counted_then, same_store}
+use Rattle.threads_flusher.proofs.Going.{counted_same, counted_then}
 use Rattle.threads_flusher.proofs.Keeping.{is_left}
+use Rattle.threads_flusher.proofs.Publications.{beginning_of, same_store}
 use Rattle.threads_flusher.specs.Part.{FlushValue, GivesBeginning, HasGot, IsFlusher, FlushLeaves, Publishes}
 use Rattle.threads_lifetime.specs.Written.{HasTaken, WritesOn}
 
@@ -55,7 +56,7 @@ module _ {D A : Type 0} (past_of : D → DevicePast) (failures : D → ℕ) (o :
   }
 
   -- by a call of the writer
-  pub writes_by_call : (old new : FlushValue D A) → Publishes old new → (halves_of new.writer).geometry ≡ (halves_of old.writer).geometry
+  pub writes_by_call : (old new : FlushValue D A) → Publishes past_of old new → (halves_of new.writer).geometry ≡ (halves_of old.writer).geometry
       → synced_of old.writer ≤ synced_of new.writer
       → LeavesOnly (past_of (device_of old.writer)) (past_of (device_of new.writer)) (FlushLeaves o old)
       → failures (device_of old.writer) ≤ failures (device_of new.writer)

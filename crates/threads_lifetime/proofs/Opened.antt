@@ -1,9 +1,7 @@
 -- What is left of an engine that was opened and taken apart.
-use Rattle.std.proofs.Common.{◌≡◌, ℕ, List, [], refl, sym, ap, subst, ◌∙◌, inl, arith}
+use Rattle.std.proofs.Common.{◌≡◌, ℕ, List, [], refl, sym, ap, subst, ◌∙◌, arith}
 use Rattle.std.proofs.lemmas.List.{nil_from_length}
 use Rattle.record_values.specs.GeometryValue.{GeometryValue}
-use Rattle.record_values.specs.declared.error.Error.{Error}
-use Rattle.record_values.specs.declared.error.Error.TheVariants.{NoMemory}
 use Rattle.records.specs.RecordValue.{RecordValue}
 use Rattle.model.specs.Given.{opening_cells}
 use Rattle.core_model.specs.Histories.{CanOpen, Opened, opened}
@@ -23,10 +21,10 @@ use Rattle.restart.specs.declared.parts.EngineParts.{EngineParts}
 use Rattle.restart.specs.Parted.{ArePartsOf, LeavesParts, LeavesPartsOf}
 use Rattle.core_parts.specs.Opening as held
 use Rattle.restart.specs.Parts.{core_of, device_of}
-use Rattle.restart.specs.Reopening.{IsEmptied, IsNotOpened, IsOpened, IsTurned, opening}
+use Rattle.restart.specs.Reopening.{IsEmptied, IsOpened, IsTurned, opening}
 use Rattle.restart.specs.Store.{Past, over, run_of}
 use Rattle.shared.specs.Openings.{IsJustOpened, opened_of}
-use Rattle.threads_lifetime.specs.Openings.{IsNewWriter, IsUnsound, Opens}
+use Rattle.threads_lifetime.specs.Openings.{IsNewWriter, IsUnsound, LacksMemory, Opens}
 
 -- nothing was served
 both_same : {s new : State} {k next : Standing} → ServesAll s k [] new next → (new ≡ s) × (next ≡ k)
@@ -37,13 +35,15 @@ module _ {D A : Type 0} (past_of : D → DevicePast) (before : D) (engine : Engi
   opens = record { geometry = is.geometry; given = is.given; gives = is.gives; opened = refl }
 
   -- where there was no memory behind the opening, and the device is given back
-  pub not_opened : (failures : D → ℕ) (after : D) (e : Error) → after ≡ device_of engine → failures (device_of engine) ≡ failures before → e ≡ NoMemory
-      → IsNotOpened past_of failures before after e
-  not_opened failures after e same quiet none = record {
+  pub lacks_memory : (failures : D → ℕ) (after : D) → CanOpen (over is.geometry is.given) → after ≡ device_of engine
+      → failures (device_of engine) ≡ failures before → LacksMemory past_of failures before after
+  lacks_memory failures after can same quiet = record {
+    opened = over is.geometry is.given;
+    opens = opens;
+    sound = can;
     device = subst (λ (d : D). IsTurned past_of before d) (sym same) is.device;
-    why = inl (inl none);
-    told = λ other. ap failures same ∙ quiet;
-    synced = λ other. subst (λ (d : D). IsSynced (past_of d).disk) (sym same) is.synced;
+    synced = subst (λ (d : D). IsSynced (past_of d).disk) (sym same) is.synced;
+    quiet = ap failures same ∙ quiet;
   }
 
 -- what the core that was opened holds is what the store opened with

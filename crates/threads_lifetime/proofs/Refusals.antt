@@ -1,5 +1,5 @@
 -- What is told where nothing was opened.
-use Rattle.std.proofs.Common.{◌≡◌, ◌⊎◌, ◌≤◌, ℕ, inl, inr, ⊎_elim, ap, subst, refl, arith}
+use Rattle.std.proofs.Common.{◌≡◌, ◌⊎◌, ◌≤◌, ◌∙◌, ℕ, inl, inr, ⊎_elim, ap, subst, sym, refl, arith}
 use Rattle.record_values.specs.GeometryValue.{GeometryValue}
 use Rattle.record_values.specs.declared.error.Error.{Error}
 use Rattle.record_values.specs.declared.error.Error.TheVariants.{TxnsActive}
@@ -12,8 +12,9 @@ use Rattle.sector_device.specs.Disk.{CrashState}
 use Rattle.sector_device.specs.DevicePast.{DevicePast}
 use Rattle.store_reader.specs.Contents.{Gives, IsUnreadable}
 use Rattle.restart.specs.Parts.{core_of}
+use Rattle.restart.specs.Reopening.{IsNotOpened}
 use Rattle.restart.specs.declared.parts.EngineParts.{EngineParts}
-use Rattle.threads_lifetime.specs.Openings.{IsNotOpenedFrom, IsNotShared, IsOpenedFrom, IsOpenedOver, Opens, StoreValue, WasHindered}
+use Rattle.threads_lifetime.specs.Openings.{IsNotOpenedFrom, IsNotShared, IsOpenedFrom, IsOpenedOver, Opens, StoreValue, WasHindered, WasUnread}
 use Rattle.threads_lifetime.specs.declared.refusal.OpenError.{OpenError}
 use Rattle.threads_lifetime.specs.declared.refusal.OpenError.TheVariants.{Refused, Unsound}
 use Rattle.threads_lifetime.proofs.Again.{AnswersOne, sound_opening}
@@ -40,28 +41,39 @@ module _ (one : AnswersOne) (no : RefusesOne) {D : Type 0} (past_of : D → Devi
   hindered e (inl none) = inl none
   hindered e (inr failed) = inr failed.0
 
+  -- where a restart was refused so, nothing was written
+  unread : (e : Error) → IsNotOpened past_of failures before after e → Refuses (failures before) (failures after) e → WasUnread past_of before after (Refused e)
+  unread e not (inl none) = inl (none, not.unwritten (λ failed. let both = sym none ∙ failed in cc))
+  unread e not (inr failed) = inr failed.0
+
   -- a store that opens is refused by no reader
-  refused_store : (o : Opened) → Opens (past_of before).disk.content o → (e : Error) → IsNotShared past_of failures before count after (Refused e)
-      → WasHindered (Refused e)
-  refused_store o opens e (inl not) =
-      ⊎_elim (hindered e) (λ bad. absurd (no.0 (past_of before).disk.content opens.geometry opens.given e opens.gives bad)) not.why
-  refused_store o opens e (inr many) = absurd (omega (arith, few, many.1))
+  unopened : (o : Opened) → Opens (past_of before).disk.content o → (e : Error) → IsNotOpened past_of failures before after e
+      → Refuses (failures before) (failures after) e
+  unopened o opens e not =
+      ⊎_elim (λ refuses. refuses) (λ bad. absurd (no.0 (past_of before).disk.content opens.geometry opens.given e opens.gives bad)) not.why
 
   pub sound_store : (o : Opened) (e : OpenError) → Opens (past_of before).disk.content o → CanOpen o
       → IsNotShared past_of failures before count after e → WasHindered e
-  sound_store o (Refused e) opens can told = refused_store o opens e told
+  sound_store o (Refused e) opens can (inl not) = hindered e (unopened o opens e not)
+  sound_store o (Refused e) opens can (inr (inl lacks)) = inl lacks.0
+  sound_store o (Refused e) opens can (inr (inr many)) = absurd (omega (arith, few, many.1))
   sound_store o Unsound opens can told = told.unsound (same_sound one past_of failures before told.opened told.opens o opens can)
 
   pub unsound_store : (o : Opened) (e : OpenError) → Opens (past_of before).disk.content o → ¬ CanOpen o
-      → IsNotShared past_of failures before count after e → (e ≡ Unsound) ⊎ WasHindered e
-  unsound_store o (Refused e) opens cannot told = inr (refused_store o opens e told)
+      → IsNotShared past_of failures before count after e → (e ≡ Unsound) ⊎ WasUnread past_of before after e
+  unsound_store o (Refused e) opens cannot (inl not) = inr (unread e not (unopened o opens e not))
+  unsound_store o (Refused e) opens cannot (inr (inl lacks)) =
+      absurd (cannot (same_sound one past_of failures before o opens lacks.1.opened lacks.1.opens lacks.1.sound))
+  unsound_store o (Refused e) opens cannot (inr (inr many)) = absurd (omega (arith, few, many.1))
   unsound_store o Unsound opens cannot told = inl refl
 
   pub unreadable_store : (error : Error) (e : OpenError) → IsUnreadable (past_of before).disk.content error
-      → IsNotShared past_of failures before count after e → (e ≡ Refused error) ⊎ WasHindered e
+      → IsNotShared past_of failures before count after e → (e ≡ Refused error) ⊎ WasUnread past_of before after e
   unreadable_store error (Refused e) bad (inl not) =
-      ⊎_elim (λ refuses. inr (hindered e refuses)) (λ other. inl (ap Refused (no.1 (past_of before).disk.content e error other bad))) not.why
-  unreadable_store error (Refused e) bad (inr many) = absurd (omega (arith, few, many.1))
+      ⊎_elim (λ refuses. inr (unread e not refuses)) (λ other. inl (ap Refused (no.1 (past_of before).disk.content e error other bad))) not.why
+  unreadable_store error (Refused e) bad (inr (inl lacks)) =
+      absurd (no.0 (past_of before).disk.content lacks.1.opens.geometry lacks.1.opens.given error lacks.1.opens.gives bad)
+  unreadable_store error (Refused e) bad (inr (inr many)) = absurd (omega (arith, few, many.1))
   unreadable_store error Unsound bad told =
       absurd (no.0 (past_of before).disk.content told.opens.geometry told.opens.given error told.opens.gives bad)
 

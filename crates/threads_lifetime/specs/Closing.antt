@@ -5,16 +5,20 @@ use Rattle.records.specs.RecordValue.{RecordValue}
 use Rattle.core_model.specs.Served.{items_of}
 use Rattle.core_copies.specs.Shown.{IsCellsOf}
 use Rattle.core_laws.specs.Holds.{HoldsHistory, committed_rows}
+use Rattle.std.specs.List.{All}
 use Rattle.core_model.specs.Histories.{Opened, no_writes}
 use Rattle.model.specs.Cells.{Cells}
 use Rattle.model.specs.Given.{Given, given_after, recovered}
 use Rattle.model.specs.Table.{Table, applied}
 use Rattle.core_parts.specs.View.{CoreValue}
 use Rattle.sector_device.specs.Disk.{CrashState}
+use Rattle.sector_device.specs.DevicePast.{DevicePast}
 use Rattle.store_reader.specs.Contents.{Gives}
 use Rattle.threads_sessions.specs.Values.{CommitValue}
 use Rattle.locked_core.specs.Names.{IsShared}
 use Rattle.shared.specs.Seats.{SeatValue}
+use Rattle.store_writer.specs.Parts.{halves_of}
+use Rattle.threads_flusher.specs.Part.{FlushValue, IsKeptSince, popped_by}
 use Rattle.threads_lifetime.specs.Gathered.{AreCommitsOf, sessions_of}
 
 -- the table with the rows of these commits set over it, one commit after the other
@@ -72,3 +76,9 @@ pub record GivesSome (o : Opened) (g : GeometryValue) (seats : List SeatValue) (
   pub all : AreCommitsOf seats commits
   pub table : (given_after o.given (take count (pushed ++ core.outbox))).table
       ≡ table_with o.given.table (up_to (o.given.last + count) commits)
+
+-- A crash at any moment since the flusher published a horizon, until the device has this past, leaves what some of the
+-- records that were made make of what was opened, the first ones, with all up to that horizon.
+abbrev pub KeepsPublished : {D A : Type 0} → Opened → FlushValue D A → List SeatValue → DevicePast → Type 0
+KeepsPublished o f seats now = All (IsKeptSince (λ floor image.
+    ∥ GivesSome o (halves_of f.writer).geometry seats (popped_by f) floor image ∥₁) now) f.publications

@@ -1,6 +1,6 @@
 -- What a store is opened with, and what its threads begin with.
 use Rattle.std.specs.FinMap.{len}
-use Rattle.std.specs.Prelude.{[], false, None, ℕ, ◌≡◌, ◌≤◌, ◌<◌, ◌⊎◌}
+use Rattle.std.specs.Prelude.{[], false, None, ℕ, ◌∷◌, ◌≡◌, ◌≤◌, ◌<◌, ◌⊎◌}
 use Rattle.atomic_table.specs.Seated.{TableId}
 use Rattle.record_values.specs.GeometryValue.{GeometryValue}
 use Rattle.record_values.specs.declared.error.Error.{Error}
@@ -15,11 +15,11 @@ use Rattle.store_reader.specs.Contents.{Gives}
 use Rattle.store_writer.specs.declared.writer.Writer.{Writer}
 use Rattle.store_writer.specs.Parts.{copying_of, halves_of, has_failed, image_of, log_of, synced_of}
 use Rattle.store_writer.specs.Writer.{IsWriter, WritesOnly, opened_run}
-use Rattle.store_writer.specs.declared.copying.Copying.TheVariants.{Idle}
-use Rattle.threads_flusher.specs.Part.{FlushValue}
+use Rattle.store_writer.specs.declared.copying.Copying.TheVariants.{GivenUp, Idle}
+use Rattle.threads_flusher.specs.Part.{FlushValue, publication_of}
 use Rattle.locked_core.specs.Names.{Names}
 use Rattle.restart.specs.Parts.{core_of, device_of, horizon_of, writer_of}
-use Rattle.restart.specs.Reopening.{IsNotOpened, IsTurned}
+use Rattle.restart.specs.Reopening.{IsNotOpened, IsTurned, IsUnwritten}
 use Rattle.restart.specs.Settling.{IsNotWritten}
 use Rattle.restart.specs.Store.{InCopy, IsAt, Past, Survives, over}
 use Rattle.restart.specs.declared.parts.EngineParts.{EngineParts}
@@ -48,8 +48,10 @@ abbrev pub StaysOpenable : Disk → Type 0
 StaysOpenable disk = (image : CrashState) → IsCrashState disk image → IsOpenable image
 
 -- A flusher's part that has popped nothing: all that was opened is synced, and is published so, and the device has not
--- failed. No slot of the log is open, and no image is under way, nor is a whole one to be taken.
-pub record IsNewFlusher {D A : Type 0} (board : TableId) (o : Opened) (f : FlushValue D A) : Type 0 where
+-- failed. No slot of the log is open, and no image is under way, nor is a whole one to be taken. It was published once,
+-- as it is.
+pub record IsNewFlusher {D A : Type 0} (past_of : D → DevicePast) (board : TableId) (o : Opened)
+    (f : FlushValue D A) : Type 0 where
   pub handed : f.handed ≡ []
   pub held : f.held ≡ []
   pub published : f.published ≡ record { board = board; horizon = o.given.last; failed = false; stopped = false }
@@ -58,6 +60,7 @@ pub record IsNewFlusher {D A : Type 0} (board : TableId) (o : Opened) (f : Flush
   pub empty : (log_of f.writer).open_slots ≡ 0
   pub idle : image_of f.writer ≡ None
   pub copying : copying_of f.writer ≡ Idle
+  pub publications : f.publications ≡ publication_of past_of f.writer ∷ []
 
 -- A writer that has got no record yet, over what was opened. No slot of the log is open, and no image is under way, nor
 -- is a whole one to be taken.
@@ -100,17 +103,34 @@ pub record IsUnsound {D : Type 0} (past_of : D → DevicePast) (failures : D →
   pub synced : IsSynced (past_of after).disk
   pub quiet : failures after ≡ failures before
 
+-- The store opens, and what it opens with is sound; but there was no memory behind that. It was written back as a
+-- restart does it; no call of the device failed, and all of the device is synced.
+pub record LacksMemory {D : Type 0} (past_of : D → DevicePast) (failures : D → ℕ) (before after : D) : Type 0 where
+  pub opened : Opened
+  pub opens : Opens (past_of before).disk.content opened
+  pub sound : CanOpen opened
+  pub device : IsTurned past_of before after
+  pub synced : IsSynced (past_of after).disk
+  pub quiet : failures after ≡ failures before
+
 -- Why no store was opened for threads, which were to have so many seats: there are more than 16, and the device is as
--- it was; or it is as of a restart, with memory for what is behind it; or what it opens with is not sound.
+-- it was; or it is as of a restart; or what it opens with is sound, and there was no memory behind the restart; or what
+-- it opens with is not sound.
 abbrev pub IsNotShared : {D : Type 0} → (D → DevicePast) → (D → ℕ) → D → (count : ℕ) → D → OpenError → Type 0
 IsNotShared past_of failures before count after (Refused e) = IsNotOpened past_of failures before after e
-    ⊎ ((e ≡ TooManyTxns) × (16 < count) × (after ≡ before))
+    ⊎ (((e ≡ NoMemory) × LacksMemory past_of failures before after)
+    ⊎ ((e ≡ TooManyTxns) × (16 < count) × (after ≡ before)))
 IsNotShared past_of failures before count after Unsound = IsUnsound past_of failures before after
 
 -- Nothing is told of what was to be opened: there was no memory, or the device failed.
 abbrev pub WasHindered : OpenError → Type 0
 WasHindered (Refused e) = (e ≡ NoMemory) ⊎ (e ≡ DeviceFailed)
 WasHindered Unsound = ⊥
+
+-- So it was before anything was written: there was no memory to read the device, or it failed.
+abbrev pub WasUnread : {D : Type 0} → (D → DevicePast) → D → D → OpenError → Type 0
+WasUnread past_of before after (Refused e) = ((e ≡ NoMemory) × IsUnwritten past_of before after) ⊎ (e ≡ DeviceFailed)
+WasUnread past_of before after Unsound = ⊥
 
 -- So many seats, 16 at most, are open over what the engine held, with no transaction active: the same rows and entries,
 -- the index as far as it was, after the same last record. It is sound, and all of it is synced: a crash of the device
@@ -128,7 +148,7 @@ pub record IsOpenedFrom {D A : Type 0} (past_of : D → DevicePast) (failures : 
   pub survives : (past : Past A) → IsAt past_of past engine
       → LeavesOnly (past_of (device_of engine)) (past_of s.device) (Survives past (horizon_of engine))
   pub well : failures s.device ≡ failures (device_of engine)
-  pub around : WritesOnly past_of (InCopy (halves_of (writer_of engine))) (device_of engine) s.device
+  pub around : WritesOnly past_of (InCopy GivenUp (halves_of (writer_of engine))) (device_of engine) s.device
 
 -- A transaction is active, and the engine is as it was. Or none is, and what the engine holds is sound: then there was
 -- no memory, and it is as it was; or what it holds could not be written, and its run goes on.

@@ -5,7 +5,7 @@ ghost use Rattle.sector_device.specs.DevicePast.{LeavesOnly, Rises};
 ghost use Rattle.record_values.specs.declared.error.Error.TheVariants.{DeviceFailed, NoMemory};
 ghost use Rattle.nsf_core.specs.Value.{value_of};
 ghost use Rattle.store_writer.specs.Parts.{device_of, halves_of, has_failed, synced_of};
-ghost use Rattle.threads_lifetime.specs.Closing.{GivesAll, GivesSome, IsCoreOf};
+ghost use Rattle.threads_lifetime.specs.Closing.{GivesAll, GivesSome, IsCoreOf, KeepsPublished};
 ghost use Rattle.locked_core.specs.Locked.{locked_of};
 ghost use Rattle.threads_register.specs.Register.{AreAllCommits};
 ghost use Rattle.threads_flusher.specs.Part.{last_handed, popped_by};
@@ -44,6 +44,7 @@ fn settle_all<B: Group, D: Device, A: Memory>(
 )
     requires board { board.now ≡ B.site.board }
     ensures same { flush.new ≡ flush.old }
+    ensures horizon { All (λ a. a.ticket.«record» ≤ flush.old.published.horizon) acks.items }
     ensures reached { All (λ a. a.ticket.«record» ≤ synced_of flush.old.writer) acks.items }
 {
     for ack in acks {
@@ -99,7 +100,11 @@ fn told<B: Group, D: Device, A: Memory>(flush: &FlushPart<B, D, A>, error: Error
 /// the records that were made make of what was opened, the first ones, with all that were synced before; and each
 /// acknowledgement is of one of those.
 ///
-/// `DeviceFailed` where the device failed, now or earlier, and else `NoMemory`.
+/// And so it was before, at every moment: a crash at any moment since the flusher published a horizon leaves all up to
+/// that horizon (`published`, `still`). Each acknowledgement is of a record that a horizon had reached (`reached`).
+///
+/// `DeviceFailed` where the device failed, now or earlier, and else `NoMemory`. With `Ok` no call of it has failed
+/// (`sound`, `quiet`).
 pub fn finish<B: Group, D: Device, R: Wait, A: Memory>(
     rt: &R,
     alloc: A,
@@ -122,7 +127,13 @@ pub fn finish<B: Group, D: Device, R: Wait, A: Memory>(
     ensures left { IfErr result (λ r. LeavesOnly (D.past_of (device_of parts.flush.writer)) (D.past_of r.1) (λ image.
         ∥ GivesSome B.site.opened (halves_of parts.flush.writer).geometry parts.seats.items (popped_by parts.flush)
         (synced_of parts.flush.writer) image ∥₁)) }
+    ensures published { IfOk result (λ c. KeepsPublished B.site.opened parts.flush parts.seats.items
+        (D.past_of c.device)) }
+    ensures still { IfErr result (λ r. KeepsPublished B.site.opened parts.flush parts.seats.items
+        (D.past_of r.1)) }
+    ensures reached { All (λ a. a.ticket.«record» ≤ parts.flush.published.horizon) acks.items }
     ensures sound { OnOk result (has_failed parts.flush.writer ≡ false) }
+    ensures quiet { IfOk result (λ c. D.failures c.device ≡ D.failures (device_of parts.flush.writer)) }
     ensures err { IfErr result (λ r. ((r.0 ≡ NoMemory) × (has_failed parts.flush.writer ≡ false)
         × (D.failures r.1 ≡ D.failures (device_of parts.flush.writer)))
         ⊎ ((r.0 ≡ DeviceFailed) × (has_failed parts.flush.writer ≡ false
@@ -138,6 +149,7 @@ pub fn finish<B: Group, D: Device, R: Wait, A: Memory>(
     drop(build);
     drop(clean);
     let (mut locked, queue, registry, board) = shared.into_parts();
+    flush.stands();
     settle_all(&board, &mut flush, acks);
     compare_all(&registry, &mut locked, &mut seats);
     match close(rt, alloc, &queue, &board, &mut locked, seats, &mut flush) {

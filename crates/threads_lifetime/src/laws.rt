@@ -9,7 +9,7 @@ ghost use Rattle.store_reader.specs.Contents.{IsUnreadable};
 ghost use Rattle.restart.specs.Parts.{core_of};
 ghost use Rattle.restart.specs.declared.parts.EngineParts.{EngineParts};
 ghost use Rattle.threads_lifetime.specs.Openings.{IsNotOpenedFrom, IsNotShared, IsOpenedFrom, IsOpenedOver, Opens};
-ghost use Rattle.threads_lifetime.specs.Openings.{StoreValue, WasHindered};
+ghost use Rattle.threads_lifetime.specs.Openings.{StoreValue, WasHindered, WasUnread};
 ghost use Rattle.threads_lifetime.specs.declared.refusal.OpenError.{OpenError};
 ghost use Rattle.threads_lifetime.specs.declared.refusal.OpenError.TheVariants.{Refused, Unsound};
 
@@ -19,7 +19,8 @@ use store_reader::one_answer;
 
 /// A law: what a device holds decides what `open_store` answers for 16 seats at most, unless there is no memory or the
 /// device fails. A store that opens with something sound is opened (`sound`), and one that opens with something else is
-/// told as `Unsound` (`opened`, `unsound`). What a reader refuses is refused so (`unreadable`).
+/// told as `Unsound` (`opened`, `unsound`). What a reader refuses is refused so (`unreadable`). Of these two `NoMemory`
+/// is told only where nothing was written.
 pub fn told_of_a_store<D: Device>()
     ensures opened { (before : D) (count : ℕ) (s : StoreValue D) (o : Opened)
         → IsOpenedOver D.past_of D.failures before count s → Opens (D.past_of before).disk.content o → CanOpen o }
@@ -28,10 +29,12 @@ pub fn told_of_a_store<D: Device>()
         → IsNotShared D.past_of D.failures before count after e → WasHindered e }
     ensures unsound { (before after : D) (count : ℕ) (o : Opened) (e : OpenError) → count ≤ 16
         → Opens (D.past_of before).disk.content o → ¬ CanOpen o
-        → IsNotShared D.past_of D.failures before count after e → (e ≡ Unsound) ⊎ WasHindered e }
+        → IsNotShared D.past_of D.failures before count after e
+        → (e ≡ Unsound) ⊎ WasUnread D.past_of before after e }
     ensures unreadable { (before after : D) (count : ℕ) (error : Error) (e : OpenError) → count ≤ 16
         → IsUnreadable (D.past_of before).disk.content error
-        → IsNotShared D.past_of D.failures before count after e → (e ≡ Refused error) ⊎ WasHindered e }
+        → IsNotShared D.past_of D.failures before count after e
+        → (e ≡ Refused error) ⊎ WasUnread D.past_of before after e }
 {
     one_answer();
 }

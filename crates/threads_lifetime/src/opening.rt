@@ -22,9 +22,10 @@ use threads_flusher::FlushPart;
 /// `left_by_an_opening`, `sound_or_not`).
 ///
 /// `TooManyTxns` where there are to be more than 16 seats, which is as many as transactions may be active. The other
-/// errors are those of `restart`, and `NoMemory`; either may come in place of `Unsound`, and no other answer fits what
-/// the device holds (`told_of_a_store`). With any error the device is given back, and gives what it gave; a crash at
-/// any moment of the call leaves what one before could, or what gives the same (`refused`). So it may be opened again.
+/// errors are those of `restart`, and `NoMemory` behind it of a store that is sound. So of an unsound one `NoMemory`
+/// comes only where there was none to read it, and nothing was written; and no other answer fits what the device holds
+/// (`told_of_a_store`). With any error the device is given back, and gives what it gave; a crash at any moment of the
+/// call leaves what one before could, or what gives the same (`refused`). So it may be opened again.
 pub fn open_store<D: Device, A: Memory>(
     alloc: A,
     device: D,
@@ -67,7 +68,7 @@ impl<D: Device, A: Memory> OpenStore<D, A> {
     pub fn start<B: Group>(self) -> Result<(Shared<B, A>, Parts<B, D, A>), (Error, D)>
         requires names { self.site ≡ B.site }
         ensures seats { IfOk result (λ r. AreNewSeats B.site.board B.site.seats r.1.seats.items) }
-        ensures flush { IfOk result (λ r. IsNewFlusher B.site.board B.site.opened r.1.flush) }
+        ensures flush { IfOk result (λ r. IsNewFlusher D.past_of B.site.board B.site.opened r.1.flush) }
         ensures device { IfOk result (λ r. device_of r.1.flush.writer ≡ self.device) }
         ensures build { IfOk result (λ r. r.1.build ≡ record { progress = 0; stopped = false }) }
         ensures clean { IfOk result (λ r. HasSeenNothing B.site.board r.1.clean) }

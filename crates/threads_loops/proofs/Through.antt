@@ -42,7 +42,7 @@ module _ {D A : Type 0} (past_of : D → DevicePast) (failures : D → ℕ) (o :
   }
 
   -- a whole image was given up, as its flip was refused
-  pub through_giving : (old mid new : FlushValue D A) → copying_of old.writer ≡ Steps None → Publishes old mid
+  pub through_giving : (old mid new : FlushValue D A) → copying_of old.writer ≡ Steps None → Publishes past_of old mid
       → IsFlipReply (last_handed o old) Behind old.writer mid.writer → LeavesImage GivenUp mid new → PassesThrough past_of failures o mid new
   through_giving old mid new whole publishes behind leaves =
       let same : last_handed o mid ≡ last_handed o old = ap (λ (l : List RecordValue). o.given.last + length l) publishes.handed in
@@ -76,7 +76,7 @@ module _ {D A : Type 0} (past_of : D → DevicePast) (failures : D → ℕ) (o :
     pub goes_by : old.published.horizon ≤ synced_of old.writer → Calls past_of failures o old new → GoesOn past_of failures o old new
     goes_by low call = goes_by_call past_of failures o old new low call.publishes call.geometry call.rises call.images call.later (counted call)
 
-    module _ (publishes : Publishes old new) (images : LeavesOnly (past_of (device_of old.writer)) (past_of (device_of new.writer)) (FlushLeaves o old))
+    module _ (publishes : Publishes past_of old new) (images : LeavesOnly (past_of (device_of old.writer)) (past_of (device_of new.writer)) (FlushLeaves o old))
         (later : failures (device_of old.writer) ≤ failures (device_of new.writer)) where
       pub by_flush : (result : Result FlushReply Error) → halves_of new.writer ≡ halves_of old.writer
           → IfOk result (λ reply. IsFlushReply reply old.writer new.writer) → OnOk result ((has_failed old.writer ≡ false) × (has_failed new.writer ≡ false))

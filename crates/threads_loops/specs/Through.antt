@@ -49,7 +49,7 @@ pub record IsFlip {D A : Type 0} (failures : D → ℕ) (o : Opened) (old new : 
 pub record Calls {D A : Type 0} (past_of : D → DevicePast) (failures : D
     → ℕ) (o : Opened) (old new : FlushValue D A) : Type 0 where
   pub made : IsFlush failures old new ⊎ (IsStep failures o old new ⊎ IsFlip failures o old new)
-  pub publishes : Publishes old new
+  pub publishes : Publishes past_of old new
   pub geometry : (halves_of new.writer).geometry ≡ (halves_of old.writer).geometry
   pub rises : synced_of old.writer ≤ synced_of new.writer
   pub images : LeavesOnly (past_of (device_of old.writer)) (past_of (device_of new.writer)) (FlushLeaves o old)

@@ -8,7 +8,7 @@ use Rattle.store_writer.specs.Parts.{device_of, halves_of, synced_of}
 use Rattle.threads_flusher.specs.Part.{FlushValue, popped_by}
 use Rattle.threads_lifetime.specs.Gathered.{sessions_of}
 use Rattle.threads_lifetime.specs.Written.{WritesOn}
-use Rattle.threads_lifetime.proofs.Ending.{all_at_end, book_is, commits_closed, core_closed, failed_at_end, horizon_closed, left_at_end}
+use Rattle.threads_lifetime.proofs.Ending.{all_at_end, book_is, commits_closed, core_closed, failed_at_end, horizon_closed, kept_at_end, left_at_end}
 use Rattle.threads_lifetime.proofs.closing.finish.Goals as goal
 
 pub returns-in-Ok-clause-commits : goal.returns-in-Ok-clause-commits
@@ -118,6 +118,14 @@ returns-in-Ok-clause-sound g c =
     c.close.ensures.writes in
     writes.stays c.in-Ok.ensures.sound
 
+pub returns-in-Ok-clause-quiet : goal.returns-in-Ok-clause-quiet
+returns-in-Ok-clause-quiet g c =
+    let z = g.B.Group.site in
+    let writes : WritesOn g.D.Device.past_of g.D.Device.failures z.opened c.args.parts.flush c.close.new.flush =
+    subst (λ (x : FlushValue _ _). WritesOn g.D.Device.past_of g.D.Device.failures z.opened x c.close.new.flush) c.settle_all.ensures.same
+    c.close.ensures.writes in
+    ap g.D.Device.failures c.into_parts-device.ensures.device ∙ writes.quiet c.in-Ok.ensures.sound
+
 pub returns-in-Ok-clause-images : goal.returns-in-Ok-clause-images
 returns-in-Ok-clause-images g c =
     let past_of = g.D.Device.past_of in
@@ -193,3 +201,43 @@ returns-in-Ok-clause-acks g c = λ k ack within.
     subst (λ (x : FlushValue _ _). WritesOn g.D.Device.past_of g.D.Device.failures g.B.Group.site.opened x c.close.new.flush) c.settle_all.ensures.same
     c.close.ensures.writes in
     omega (arith, c.settle_all.ensures.reached k ack within, writes.rises, c.synced-horizon.ensures)
+
+pub returns-in-Ok-clause-published : goal.returns-in-Ok-clause-published
+returns-in-Ok-clause-published g c =
+    let past_of = g.D.Device.past_of in
+    let failures = g.D.Device.failures in
+    let z = g.B.Group.site in
+    let old = c.args.parts.flush in
+    let f = c.close.new.flush in
+    let seats = c.args.parts.seats.items in
+    let under = c.close.new.locked in
+    let l = locked_of under in
+    let first = (locked_of c.into_parts-locked.result.0).book in
+    let same = c.close.ensures.book ∙ ap (λ (x : LockedValue). x.book) c.compare_all.ensures.same in
+    let book = book_is z.seats first l.book under.book.items seats under.seats refl same c.requires.seats c.compare_all.ensures.seen in
+    let popped : popped_by old ≡ take (length (popped_by old)) l.pushed =
+    subst (λ (x : FlushValue _ _). popped_by x ≡ take (length (popped_by x)) l.pushed) c.settle_all.ensures.same c.close.ensures.popped in
+    let writes : WritesOn past_of failures z.opened old f =
+    subst (λ (x : FlushValue _ _). WritesOn past_of failures z.opened x f) c.settle_all.ensures.same c.close.ensures.writes in
+    kept_at_end past_of failures z.opened seats l book under.shared
+    (popped_by old) popped old f writes c.into_parts-device.result.0 c.into_parts-device.ensures.device c.stands.ensures c.close.ensures.beginning
+
+pub returns-in-Err-clause-still : goal.returns-in-Err-clause-still
+returns-in-Err-clause-still g c =
+    let past_of = g.D.Device.past_of in
+    let failures = g.D.Device.failures in
+    let z = g.B.Group.site in
+    let old = c.args.parts.flush in
+    let f = c.close.new.flush in
+    let seats = c.args.parts.seats.items in
+    let under = c.close.new.locked in
+    let l = locked_of under in
+    let first = (locked_of c.into_parts-locked.result.0).book in
+    let same = c.close.ensures.book ∙ ap (λ (x : LockedValue). x.book) c.compare_all.ensures.same in
+    let book = book_is z.seats first l.book under.book.items seats under.seats refl same c.requires.seats c.compare_all.ensures.seen in
+    let popped : popped_by old ≡ take (length (popped_by old)) l.pushed =
+    subst (λ (x : FlushValue _ _). popped_by x ≡ take (length (popped_by x)) l.pushed) c.settle_all.ensures.same c.close.ensures.popped in
+    let writes : WritesOn past_of failures z.opened old f =
+    subst (λ (x : FlushValue _ _). WritesOn past_of failures z.opened x f) c.settle_all.ensures.same c.close.ensures.writes in
+    kept_at_end past_of failures z.opened seats l book under.shared
+    (popped_by old) popped old f writes c.into_parts-rest.result.0 c.into_parts-rest.ensures.device c.stands.ensures c.close.ensures.beginning

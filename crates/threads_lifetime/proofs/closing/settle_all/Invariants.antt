@@ -8,5 +8,6 @@ invariant-loop-ack g l = record {
   can : (goal.iterator-loop-ack g).can_next l.ack-iterator;
   finite : (goal.iterator-loop-ack g).is_finite l.ack-iterator;
   same : l.flush ≡ l.fn.flush;
+  horizon : All (λ (a : AckValue). a.ticket.«record» ≤ l.fn.flush.published.horizon) l.yielded;
   reached : All (λ (a : AckValue). a.ticket.«record» ≤ synced_of l.fn.flush.writer) l.yielded;
 }

@@ -7,7 +7,7 @@ use Rattle.restart.specs.Store.{over}
 use Rattle.sector_device.specs.Disk.{IsSynced}
 use Rattle.shared.specs.Openings.{IsJustOpened, IsOpening, opened_of}
 use Rattle.threads_lifetime.specs.Openings.{IsNewWriter, Opens}
-use Rattle.threads_lifetime.proofs.Opened.{just_opened, new_over_core, not_opened, opened_is, opens, sound_opened, unsound_opened}
+use Rattle.threads_lifetime.proofs.Opened.{just_opened, lacks_memory, new_over_core, opened_is, opens, sound_opened, unsound_opened}
 use Rattle.threads_lifetime.proofs.opening.open_store.Goals as goal
 
 pub invariant_of-result : goal.invariant_of-result
@@ -50,13 +50,30 @@ returns-then-not-can_open-clause-refused g c =
     unsound_opened g.D.Device.past_of c.args.device c.in-Ok.engine c.in-Ok.ensures.opened _ c.core.ensures
     (λ can. false≢true (sym c.if-not-can_open.true ∙ c.can_open.ensures.1 can)) g.D.Device.failures _ c.into_device.ensures.device c.in-Ok.ensures.quiet
 
+pub returns-in-Err-take_apart-clause-refused : goal.returns-in-Err-take_apart-clause-refused
+returns-in-Err-take_apart-clause-refused g c =
+    let is = c.in-Ok.ensures.opened in
+    let can : CanOpen (over is.geometry is.given) = sound_opened g.D.Device.past_of c.args.device c.in-Ok.engine is _ c.core.ensures
+    (c.can_open.ensures.0 c.if-not-can_open.false) in
+    inr (inl (
+      refl,
+      lacks_memory g.D.Device.past_of c.args.device c.in-Ok.engine is g.D.Device.failures _ can
+          (c.into_device-in-Err-take_apart.ensures.device ∙ c.in-Err-take_apart.ensures.back.keeps.device) c.in-Ok.ensures.quiet,
+    ))
+
 pub returns-in-Err-open-clause-refused : goal.returns-in-Err-open-clause-refused
-returns-in-Err-open-clause-refused g c = inl
-    (not_opened g.D.Device.past_of c.args.device c.in-Ok.engine c.in-Ok.ensures.opened g.D.Device.failures _ _
-    (c.into_device-in-Err-open.ensures.device ∙ c.in-Ok-take_apart.ensures.parts.device) c.in-Ok.ensures.quiet c.in-Err-open.ensures.no_memory)
+returns-in-Err-open-clause-refused g c =
+    let is = c.in-Ok.ensures.opened in
+    let can : CanOpen (over is.geometry is.given) = sound_opened g.D.Device.past_of c.args.device c.in-Ok.engine is _ c.core.ensures
+    (c.can_open.ensures.0 c.if-not-can_open.false) in
+    inr (inl (
+      c.in-Err-open.ensures.no_memory,
+      lacks_memory g.D.Device.past_of c.args.device c.in-Ok.engine is g.D.Device.failures _ can
+          (c.into_device-in-Err-open.ensures.device ∙ c.in-Ok-take_apart.ensures.parts.device) c.in-Ok.ensures.quiet,
+    ))
 
 pub returns-then-seats-gt-SEATS_MAX-clause-refused : goal.returns-then-seats-gt-SEATS_MAX-clause-refused
-returns-then-seats-gt-SEATS_MAX-clause-refused g c = inr (refl, omega arith, refl)
+returns-then-seats-gt-SEATS_MAX-clause-refused g c = inr (inr (refl, omega arith, refl))
 
 pub returns-in-Err-clause-refused : goal.returns-in-Err-clause-refused
 returns-in-Err-clause-refused g c = inl c.in-Err.ensures.refused

@@ -10,7 +10,7 @@ use Rattle.threads_flusher.proofs.part.FlushPart.hand_in.Goals as goal
 pub hand_in-requires : goal.hand_in-requires
 hand_in-requires g c =
     let same : c.replace-held.result.items ≡ c.self.inside.held.items = ap (λ v. v.items) c.replace-held.ensures.value in
-    can_hand_in g.D.Device.past_of g.B.Group.site.opened _ _ _ _ (
+    can_hand_in g.D.Device.past_of g.B.Group.site.opened _ _ _ _ _ (
       c.self.invariant.1,
       c.self.invariant.2,
     ) c.compare.ensures.following c.compare.ensures.fits c.goes_on.ensures c.longer_run.ensures.next _ same
@@ -25,16 +25,16 @@ invariant_of-self g c =
     let opens : MayOpenAgain g.B.Group.site.opened c.self.inside.popper.records =
     popped_open g.B.Group.site.opened (value_of l.core) l.pusher.records
     (map shown l.book.items) c.self.inside.popper.records c.compare.ensures.beginning l.shared in
-    let kept = kept_by_taking g.D.Device.past_of g.B.Group.site.opened _ _ _ _ (
+    let kept = kept_by_taking g.D.Device.past_of g.B.Group.site.opened _ _ _ _ _ (
       c.self.invariant.1,
       c.self.invariant.2,
     ) c.compare.ensures.following c.compare.ensures.fits c.goes_on.ensures c.longer_run.ensures.next _ same opens
     c.compare.new.popper.records c.replace-held.new.dest.items
-    c.hand_in.new.self all none c.in-Ok.ensures.writer c.hand_in.ensures.synced c.hand_in.ensures.failed in (
+    c.hand_in.new.self all none c.in-Ok.ensures.writer c.hand_in.ensures.device c.hand_in.ensures.synced c.hand_in.ensures.failed in (
       ap (λ (p : Handed). p.queue) c.compare.ensures.popper ∙ c.self.invariant.0,
       kept.0,
       kept.1,
-      last_then g.D.Device.past_of g.B.Group.site.opened _ _ _ _ (
+      last_then g.D.Device.past_of g.B.Group.site.opened _ _ _ _ _ (
         c.self.invariant.1,
         c.self.invariant.2,
       ) _ c.self.invariant.3 _ same c.len-more.result c.compare.new.popper.records c.replace-held.new.dest.items c.hand_in.new.self

@@ -1,6 +1,6 @@
-use Rattle.std.proofs.Common.{◌≡◌, ◌++◌, List}
+use Rattle.std.proofs.Common.{◌≡◌, ◌++◌, List, map}
 use Rattle.records.specs.RecordValue.{RecordValue}
-use Rattle.threads_flusher.specs.Part.{IsFlusher, last_handed}
+use Rattle.threads_flusher.specs.Part.{IsFlusher, last_handed, publication_of}
 use Rattle.threads_flusher.proofs.part.FlushPart.take.Given as goal
 
 abbrev pub invariant-loop : goal.invariant-loop
@@ -9,6 +9,7 @@ invariant-loop g l =
     × (l.self-inside.view.board ≡ g.B.Group.site.board)
     × (l.self-inside.writer ≡ l.fn.self.writer)
     × (l.self-inside.view ≡ l.fn.self.published)
+    × (map (publication_of g.D.Device.past_of) l.self-inside.publications.items ≡ l.fn.self.publications)
     × IsFlusher g.D.Device.past_of g.B.Group.site.opened l.fn.self
     × (l.self-inside.last ≡ last_handed g.B.Group.site.opened l.fn.self)
     × ((more : List RecordValue) × (l.self-inside.popper.records ≡ l.fn.self.handed ++ (l.fn.self.held ++ more))

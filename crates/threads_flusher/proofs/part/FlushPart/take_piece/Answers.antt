@@ -1,6 +1,6 @@
-use Rattle.std.proofs.Common.{ap, ◌∙◌}
+use Rattle.std.proofs.Common.{ap, arith, ◌∙◌}
 use Rattle.board.specs.Views.{FlusherCount}
-use Rattle.threads_flusher.proofs.Keeping.{can_step, chunk_of, images_of, kept_by_call}
+use Rattle.threads_flusher.proofs.Keeping.{can_step, chunk_of, images_of, kept_by_call, noted_as}
 use Rattle.threads_flusher.proofs.part.FlushPart.take_piece.Goals as goal
 
 pub checkpoint_step-stepped-requires : goal.checkpoint_step-stepped-requires
@@ -10,13 +10,13 @@ checkpoint_step-stepped-requires g c =
 pub invariant_of-self : goal.invariant_of-self
 invariant_of-self g c =
     let chunk = chunk_of g.D.Device.past_of g.B.Group.site.opened _ _ c.self.view_is c.args.chunk.number c.args.chunk.piece c.requires.chunk in
-    let kept = kept_by_call g.D.Device.past_of g.B.Group.site.opened _ _ _ _ (
-      c.self.invariant.1,
-      c.self.invariant.2,
-    ) c.checkpoint_step-stepped.new.self c.publish.new.view
-    (c.checkpoint_step-stepped.ensures.writer _ _ c.self.invariant.2.writer chunk) (ap (λ (n : FlusherCount). n.horizon) c.publish.ensures)
-    (ap (λ (n : FlusherCount). n.failed) c.publish.ensures) in
-    (c.self.invariant.0, kept.0, kept.1, c.self.invariant.3, ap (λ (n : FlusherCount). n.board) c.publish.ensures ∙ c.self.invariant.4)
+    let kept = kept_by_call g.D.Device.past_of g.B.Group.site.opened _ _ _ _ _ (c.self.invariant.1, c.self.invariant.2)
+    c.checkpoint_step-stepped.new.self c.publish.new.view _ (noted_as g.D.Device.past_of _ _ _ c.publish.ensures.noted)
+    (c.checkpoint_step-stepped.ensures.writer _ _ c.self.invariant.2.writer chunk) c.checkpoint_step-stepped.ensures.images
+    (omega (arith, c.checkpoint_step-stepped.ensures.kept))
+    (ap (λ (n : FlusherCount). n.horizon) c.publish.ensures.published)
+    (ap (λ (n : FlusherCount). n.failed) c.publish.ensures.published) in
+    (c.self.invariant.0, kept.0, kept.1, c.self.invariant.3, ap (λ (n : FlusherCount). n.board) c.publish.ensures.published ∙ c.self.invariant.4)
 
 pub returns-clause-images : goal.returns-clause-images
 returns-clause-images g c = images_of g.D.Device.past_of g.B.Group.site.opened _ _ c.self.view_is c.checkpoint_step-stepped.new.self c.self.invariant.2

@@ -1,5 +1,5 @@
 use Rattle.std.proofs.Common.{rules}
-use Rattle.threads_flusher.proofs.part.publish.Goals as goal
+use Rattle.threads_flusher.proofs.part.tell.Goals as goal
 
 pub publish-requires : goal.publish-requires
 publish-requires g c = search rules
