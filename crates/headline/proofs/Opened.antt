@@ -1,18 +1,20 @@
 -- What is opened behind a crash of what threads left.
-use Rattle.std.proofs.Common.{◌≡◌, ◌⊎◌, ⊎_elim, inl, inr, ℕ, ◌≤◌, ◌+◌, ◌++◌, All, List, length, take, sym, ap, subst, ◌∙◌, arith, length-take}
+use Rattle.std.proofs.Common.{◌≡◌, ⊎_elim, inl, inr, ℕ, ◌≤◌, ◌+◌, ◌++◌, All, List, length, take, sym, ap, subst, ◌∙◌, arith, length-take}
 use Rattle.std.proofs.Math.Logic.{∥∥₁_elim, ∥∥₁_map, ∥∥₁_prop}
 use Rattle.std.proofs.lemmas.List.Elements.{All-weaker}
 use Rattle.record_values.specs.GeometryValue.{GeometryValue}
 use Rattle.records.specs.RecordValue.{RecordValue}
 use Rattle.record_values.specs.declared.error.Error.{Error}
-use Rattle.record_values.specs.declared.error.Error.TheVariants.{DeviceFailed, NoMemory}
 use Rattle.model.specs.Given.{Given, given_after}
+use Rattle.core_loader.specs.Loaded.{holding}
 use Rattle.core_model.specs.Histories.{CanOpen, Opened}
 use Rattle.core_model.proofs.ReplyLaws.{served_recovers}
 use Rattle.core_parts.specs.View.{CoreValue}
 use Rattle.sector_device.specs.Disk.{CrashState, IsCrashState}
 use Rattle.sector_device.specs.DevicePast.{DevicePast}
+use Rattle.sector_device.proofs.Counts.{rises_later}
 use Rattle.sector_device.proofs.Sectors.{content_is_image}
+use Rattle.gate_log.specs.Area.{Refuses}
 use Rattle.store_reader.specs.Contents.{Gives, IsUnreadable}
 use Rattle.shared.specs.Seats.{AckValue, SeatValue}
 use Rattle.model.specs.Table.{Table}
@@ -74,8 +76,14 @@ module _ {D : Type 0} (past_of : D → DevicePast) (o : Opened) (g : GeometryVal
     index = subst (λ (v : CoreValue). IsIndexOf v.heap.rows v.life v.index.entries) (sym is.core)
         (subst (λ (x : Given). IsIndexOf x.table x.life x.entries) (sym same) (index_over (record o { given = given }) can))
 
-    held_so : HoldsSeats o.given.table g seats floor acks core
+    held_so : HoldsSeats o g seats floor acks core
     held_so = record {
+      made = left.core;
+      pushed = left.pushed;
+      shared = left.shared;
+      count = left.count;
+      most = left.most;
+      opened-over = is.core ∙ ap (λ (x : GeometryValue). holding x is.given) same_size ∙ ap (λ (x : Given). holding g x) same;
       commits = left.commits;
       of-seats = left.all;
       rows = rows;
@@ -93,15 +101,17 @@ module _ {D : Type 0} (past_of : D → DevicePast) (o : Opened) (g : GeometryVal
   pub held : (size : (image : CrashState) (g h : GeometryValue) (x y : Given) → Gives image g x → Gives image h y → g ≡ h)
       → (one : (image : CrashState) (g h : GeometryValue) (x y : Given) → Gives image g x → Gives image h y → x ≡ y)
       → (acks : List AckValue) → All (λ (a : AckValue). a.ticket.«record» ≤ floor) acks → {A : Type 0} (engine : EngineParts D A)
-      → IsOpened past_of found engine → ∥ HoldsSeats o.given.table g seats floor acks (core_of engine) ∥₁
+      → IsOpened past_of found engine → ∥ HoldsSeats o g seats floor acks (core_of engine) ∥₁
   held size one acks low engine is = ∥∥₁_map now (held_so size one acks low engine is)
 
   pub refused_so : (readable : (image : CrashState) (g : GeometryValue) (given : Given) (e : Error) → Gives image g given
-      → ¬ IsUnreadable image e) (failures : D
-      → ℕ) (after : D) (e : Error) → IsNotOpened past_of failures found after e
-      → (e ≡ NoMemory) ⊎ (e ≡ DeviceFailed)
-  refused_so readable failures after e not = ⊎_elim
-      (λ refuses. ⊎_elim (λ memory. inl memory) (λ failed. inr failed.0) refuses)
+      → ¬ IsUnreadable image e) (failures : D → ℕ) (before : ℕ) → before ≤ failures found → (after : D) (e : Error)
+      → IsNotOpened past_of failures found after e → Refuses before (failures after) e
+  refused_so readable failures before low after e not = ⊎_elim
+      (λ refuses. ⊎_elim
+      (λ memory. inl memory)
+      (λ failed. inr (failed.0, rises_later before (failures found) (failures after) low not.later failed.1))
+      refuses)
       (λ unreadable. absurd (∥∥₁_elim now (λ (a b : ⊥). absurd a) (λ (left : GivesSome o g seats popped floor (past_of found).disk.content).
       readable (past_of found).disk.content g _ e left.gives unreadable)))
       not.why

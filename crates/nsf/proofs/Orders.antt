@@ -1,12 +1,14 @@
 -- Seats in their order.
-use Rattle.std.proofs.Common.{◌≡◌, ◌∙◌, ◌<◌, ◌∷◌, ℕ, zero, suc, List, [], Some, subst, length, map, refl, sym, ap, arith}
+use Rattle.std.proofs.Common.{◌≡◌, ◌∙◌, ◌+◌, ◌<◌, ◌≤◌, ◌∷◌, ℕ, zero, suc, List, [], Some, subst, length, map, inl, inr, refl, sym, ap, arith}
+use Rattle.std.proofs.lemmas.Bool.{cases_eq}
 use Rattle.std.proofs.lemmas.List.{length-map}
 use Rattle.std.proofs.lemmas.Option.{get_or_from_slice_get, slice_get_within}
-use Rattle.std.specs.Prelude.{slice_get, slice_index_or}
+use Rattle.std.specs.Prelude.{slice_get, slice_index_or, slice_set}
 use Rattle.std.specs.declared.vec.Vec.{Vec}
 use Rattle.atomic_table.specs.Seated.{TableId}
 use Rattle.threads_lifetime.specs.Gathered.{AreAllSeats}
 use Rattle.shared.specs.Seats.{AreNewSeats, SeatValue}
+use Rattle.nsf.specs.Serving.{HaveWorked}
 
 -- what is at a place of a list
 pub some_at : {X : Type 0} (xs : List X) (k : ℕ) → k < length xs → (x : X) × (slice_get xs k ≡ Some x)
@@ -55,3 +57,92 @@ pub all_left : {W X Y : Type 0} (seat : W → SeatValue) (count : ℕ) (before :
 all_left seat count before after all same numbers =
     kept_in_order seat count before.items after.items (sym after.ok.0
     ∙ (same ∙ before.ok.0)) (λ k w within. numbers k w (subst (λ (m : ℕ). k < m) (sym before.ok.0) within)) all
+
+-- each has worked, by its place
+cons_first : {X : Type 0} (a b : X) (xs ys : List X) → a ∷ xs ≡ b ∷ ys → a ≡ b
+cons_first a b xs ys e = cc
+
+cons_rest : {X : Type 0} (a b : X) (xs ys : List X) → a ∷ xs ≡ b ∷ ys → xs ≡ ys
+cons_rest a b xs ys e = cc
+
+in_order : {W C : Type 0} (client : W → C) (seat : W → SeatValue) (works : C → C → SeatValue → Type 0) (floor : ℕ) (xs ys : List W)
+    (seats : List SeatValue) → length ys ≡ length xs
+    → map (λ (s : SeatValue). s.session) seats ≡ map (λ w. (seat w).session) ys
+    → ((k : ℕ) (w : W) → k < length xs → works (client (slice_index_or xs k w)) (client (slice_index_or ys k w)) (seat (slice_index_or ys k w)))
+    → ((k : ℕ) (w : W) → slice_get ys k ≡ Some w → (seat w).sight.horizon ≤ floor)
+    → HaveWorked works floor (map client xs) (map client ys) seats
+in_order client seat works floor [] [] [] same sessions each low = tt
+in_order client seat works floor [] [] (s ∷ seats) same sessions each low = absurd cc
+in_order client seat works floor [] (y ∷ ys) seats same sessions each low = absurd cc
+in_order client seat works floor (x ∷ xs) [] seats same sessions each low = absurd cc
+in_order client seat works floor (x ∷ xs) (y ∷ ys) [] same sessions each low = absurd cc
+in_order client seat works floor (x ∷ xs) (y ∷ ys) (s ∷ seats) same sessions each low = (
+  record { seat = seat y; has = sym (cons_first _ _ _ _ sessions); known = low 0 y refl; worked = each 0 x (omega arith) },
+  in_order client seat works floor xs ys seats (omega (arith, same)) (cons_rest _ _ _ _ sessions) (λ k w within. each (suc k) w (omega (arith, within)))
+      (λ k w at. low (suc k) w at),
+)
+
+pub all_worked : {W C X Y : Type 0} (client : W → C) (seat : W → SeatValue) (works : C → C → SeatValue → Type 0) (floor : ℕ) (before : Vec W X)
+    (after : Vec W Y) (seats : List SeatValue) → after.len ≡ before.len
+    → map (λ (s : SeatValue). s.session) seats ≡ map (λ w. (seat w).session) after.items
+    → ((k : ℕ) (w : W) → k < before.len
+    → works (client (slice_index_or before.items k w)) (client (slice_index_or after.items k w)) (seat (slice_index_or after.items k w)))
+    → ((k : ℕ) (w : W) → slice_get after.items k ≡ Some w → (seat w).sight.horizon ≤ floor)
+    → HaveWorked works floor (map client before.items) (map client after.items) seats
+all_worked client seat works floor before after seats same sessions each low =
+    in_order client seat works floor before.items after.items seats (sym after.ok.0
+    ∙ (same ∙ before.ok.0)) sessions (λ k w within. each k w (subst (λ (m : ℕ). k < m) (sym before.ok.0) within)) low
+
+-- the sessions of seats
+session_map : {W : Type 0} (seat : W → SeatValue) (xs : List W) → map (λ (s : SeatValue). s.session) (map seat xs) ≡ map (λ w. (seat w).session) xs
+session_map seat [] = refl
+session_map seat (x ∷ xs) = ap (λ l. (seat x).session ∷ l) (session_map seat xs)
+
+pub sessions_are : {W : Type 0} (seat : W → SeatValue) (seats : List SeatValue) (now old : List W) → seats ≡ map seat now
+    → map (λ w. (seat w).session) now ≡ map (λ w. (seat w).session) old → map (λ (s : SeatValue). s.session) seats ≡ map (λ w. (seat w).session) old
+sessions_are seat seats now old is same = ap (λ (l : List SeatValue). map (λ (s : SeatValue). s.session) l) is ∙ (session_map seat now ∙ same)
+
+-- ---- one of them in its place
+
+some_is : {X : Type 0} (a b : X) → Some a ≡ Some b → a ≡ b
+some_is a b e = cc
+
+pub at_index : {X : Type 0} (xs : List X) (k : ℕ) (x : X) → k < length xs → x ≡ slice_index_or xs k x → slice_get xs k ≡ Some x
+at_index [] k x within is = absurd (omega (arith, within))
+at_index (y ∷ xs) zero x within is = ap Some (sym is)
+at_index (y ∷ xs) (suc k) x within is = at_index xs k x (omega (arith, within)) is
+
+pub set_map : {X Y : Type 0} (f : X → Y) (xs : List X) (k : ℕ) (old new : X) → slice_get xs k ≡ Some old → f new ≡ f old
+    → map f (slice_set xs k new) ≡ map f xs
+set_map f [] k old new at same = refl
+set_map f (x ∷ xs) zero old new at same = ap (λ y. y ∷ map f xs) (same ∙ ap f (sym (some_is x old at)))
+set_map f (x ∷ xs) (suc k) old new at same = ap (λ ys. f x ∷ ys) (set_map f xs k old new at same)
+
+pub set_behind : {X : Type 0} (xs : List X) (k j : ℕ) (new : X) → k < j → slice_get (slice_set xs k new) j ≡ slice_get xs j
+set_behind [] k j new less = refl
+set_behind (x ∷ xs) zero zero new less = absurd (omega (arith, less))
+set_behind (x ∷ xs) zero (suc j) new less = refl
+set_behind (x ∷ xs) (suc k) zero new less = absurd (omega (arith, less))
+set_behind (x ∷ xs) (suc k) (suc j) new less = set_behind xs k j new (omega (arith, less))
+
+pub one_more : {X : Type 0} (P : X → Type 0) (xs : List X) (k : ℕ) (x : X) → slice_get xs k ≡ Some x
+    → ((j : ℕ) (y : X) → j < k → slice_get xs j ≡ Some y → P y) → P x → (j : ℕ) (y : X) → j < k + 1 → slice_get xs j ≡ Some y → P y
+one_more P xs k x here before now j y below at = elim (cases_eq j k) [
+  | inl is ↦ subst P (some_is x y (sym here ∙ (ap (slice_get xs) (sym is) ∙ at))) now
+  | inr not ↦ before j y (omega (arith, below, not)) at
+]
+
+-- what has the same numbers in the same order
+pub all_numbered : {W : Type 0} (seat : W → SeatValue) (count : ℕ) (xs ys : List W)
+    → map (λ w. (seat w).number) ys ≡ map (λ w. (seat w).number) xs → AreAllSeats count (map seat xs) → AreAllSeats count (map seat ys)
+all_numbered {W} seat count xs ys same all = record {
+  counted = length-map ys seat ∙ (sym (length-map ys number) ∙ (ap length same ∙ (length-map xs number ∙ (sym (length-map xs seat) ∙ all.counted))));
+  each = λ k s at.
+      let y = of_mapped seat ys k s at in
+      let there : slice_get (map number xs) k ≡ Some (number y.0) = ap (λ l. slice_get l k) (sym same) ∙ in_mapped number ys k y.0 y.1 in
+      let x = of_mapped number xs k (number y.0) there in
+      sym (ap (λ (z : SeatValue). z.number) y.2) ∙ (sym x.2 ∙ all.each k (seat x.0) (in_mapped seat xs k x.0 x.1));
+}
+  where
+    number : W → ℕ
+    number w = (seat w).number

@@ -1,28 +1,47 @@
--- Why no client began.
-use Rattle.std.proofs.Common.{◌≡◌, Err, IfErr, Ok, Result, ap, inl, refl, subst, sym, ◌∙◌, ℕ}
-use Rattle.record_values.specs.declared.error.Error.TheVariants.{NoMemory}
-use Rattle.restart.specs.Reopening.{IsNotOpened, IsTurned}
+-- Why no client began, and why not all was written out that clients made.
+use Rattle.std.proofs.Common.{◌≡◌, ◌⊎◌, ◌≤◌, Bool, Err, IfErr, IfOk, Ok, Result, ap, false, inl, inr, refl, subst, sym, true, ◌∙◌, ℕ}
+use Rattle.record_values.specs.declared.error.Error.{Error}
+use Rattle.record_values.specs.declared.error.Error.TheVariants.{DeviceFailed, NoMemory}
+use Rattle.restart.specs.Reopening.{IsTurned}
 use Rattle.sector_device.specs.Disk.{IsSynced}
-use Rattle.sector_device.specs.DevicePast.{DevicePast}
-use Rattle.threads_lifetime.specs.Openings.{IsNotShared, IsOpenedOver, StoreValue}
+use Rattle.sector_device.specs.DevicePast.{DevicePast, Rises}
+use Rattle.threads_flusher.proofs.Going.{counted_then}
+use Rattle.threads_lifetime.specs.Openings.{IsNotShared, IsOpenedOver, LacksMemory, StoreValue}
 use Rattle.threads_lifetime.specs.declared.refusal.OpenError.{OpenError}
 use Rattle.threads_lifetime.specs.declared.refusal.OpenError.TheVariants.{Refused}
+use Rattle.nsf.specs.Serving.{IsUnwritten}
 
 module _ {D : Type 0} (past_of : D → DevicePast) (failures : D
     → ℕ) (before : D) (count : ℕ) (s : StoreValue D) (is : IsOpenedOver past_of failures before count s) where
   -- there was no memory, and the device is that of the store that was opened
-  not_opened : (after : D) → after ≡ s.device → IsNotOpened past_of failures before after NoMemory
-  not_opened after same = record {
+  lacks_memory : (after : D) → after ≡ s.device → LacksMemory past_of failures before after
+  lacks_memory after same = record {
+    opened = s.site.opened;
+    opens = is.opened;
+    sound = is.sound;
     device = subst (λ (d : D). IsTurned past_of before d) (sym same) is.device;
-    why = inl (inl refl);
-    told = λ other. ap failures same ∙ is.quiet;
-    synced = λ other. subst (λ (d : D). IsSynced (past_of d).disk) (sym same) is.synced;
+    synced = subst (λ (d : D). IsSynced (past_of d).disk) (sym same) is.synced;
+    quiet = ap failures same ∙ is.quiet;
   }
 
   pub not_shared : (after : D) (e : OpenError) → e ≡ Refused NoMemory → after ≡ s.device → IsNotShared past_of failures before count after e
-  not_shared after e why same = subst (λ (x : OpenError). IsNotShared past_of failures before count after x) (sym why) (inl (not_opened after same))
+  not_shared after e why same = subst (λ (x : OpenError). IsNotShared past_of failures before count after x) (sym why)
+      (inr (inl (refl, lacks_memory after same)))
 
   pub none_began : {X : Type 0} (r : Result X (OpenError × D)) → IfErr r (λ x. (x.0 ≡ Refused NoMemory) × (x.1 ≡ s.device))
       → IfErr r (λ x. IsNotShared past_of failures before count x.1 x.0)
   none_began (Ok x) told = tt
   none_began (Err x) told = not_shared x.1 x.0 told.0 told.1
+
+pub both : {T E : Type 0} (P Q : T → Type 0) (r : Result T E) → IfOk r P → IfOk r Q → IfOk r (λ x. P x × Q x)
+both P Q (Ok x) p q = (p, q)
+both P Q (Err e) p q = tt
+
+-- the device failed as the clients ran, or behind that
+pub unwritten_since : {U : Type 0} (old mid : Bool) (a b c : ℕ) → old ≡ false → a ≤ b → (mid ≡ true → old ≡ false → Rises a b) → (written : Result U Error)
+    → IfErr written (λ e. (e ≡ NoMemory) ⊎ ((e ≡ DeviceFailed) × (mid ≡ false → Rises b c))) → IfErr written (λ e. b ≤ c)
+    → IfErr written (IsUnwritten a c)
+unwritten_since old mid a b c sound low first (Ok x) why later = tt
+unwritten_since old mid a b c sound low first (Err e) (inl none) later = inl none
+unwritten_since old mid a b c sound low first (Err e) (inr failed) later =
+    inr (failed.0, counted_then old mid true a b c low later first (λ now before. failed.1 before) refl sound)

@@ -1,16 +1,25 @@
 -- What clients leave of a store.
-use Rattle.std.specs.Prelude.{[], List, OnOk, Result, vec_capacity, ℕ, ◌≡◌, ◌≤◌}
+use Rattle.std.specs.Prelude.{[], List, IfErr, IfOk, OnOk, Result, vec_capacity, ℕ, ◌≡◌, ◌≤◌, ◌⊎◌, ◌∷◌}
+use Rattle.std.specs.List.{All}
 use Rattle.std.specs.declared.alloc.Global.{Global}
 use Rattle.std.specs.declared.vec.Vec.{Vec}
 use Rattle.record_values.specs.GeometryValue.{GeometryValue}
 use Rattle.records.specs.RecordValue.{RecordValue}
 use Rattle.record_values.specs.declared.error.Error.{Error}
+use Rattle.record_values.specs.declared.error.Error.TheVariants.{DeviceFailed, NoMemory}
+use Rattle.core_model.specs.Events.{Event}
 use Rattle.core_model.specs.Histories.{Opened}
+use Rattle.core_parts.specs.Builds as builds
+use Rattle.core_parts.specs.declared.parts.Ticket.{Ticket}
+use Rattle.core_parts.specs.declared.reply.BuildReply.TheVariants as reply
 use Rattle.core_parts.specs.View.{CoreValue}
 use Rattle.sector_device.specs.Disk.{Disk, CrashState, IsCrashState}
-use Rattle.sector_device.specs.DevicePast.{DevicePast}
-use Rattle.threads_sessions.specs.Values.{CommitValue}
+use Rattle.sector_device.specs.DevicePast.{DevicePast, Rises}
+use Rattle.threads_sessions.specs.Values.{CommitValue, SessionValue}
 use Rattle.shared.specs.Seats.{SeatValue}
+use Rattle.shared.specs.Served.{WasServed}
+use Rattle.threads_flusher.specs.Part.{IsKeptSince, IsNewest, Publication}
+use Rattle.threads_loops.specs.Building.{EndsBuilder}
 use Rattle.threads_lifetime.specs.Closing.{GivesAll, GivesSome}
 use Rattle.threads_lifetime.specs.Gathered.{AreCommitsOf}
 
@@ -22,19 +31,57 @@ pub record HoldsAll (o : Opened) (geometry : GeometryValue) (seats : List SeatVa
   pub gives : (image : CrashState) → IsCrashState disk image → ∥ GivesAll o geometry core commits image ∥₁
 
 -- The device was written by these seats, in a store as large as the one that was opened: whatever a crash leaves of it
--- gives what was opened with their commits set over it, up to some record; and with all of them, where nothing was
--- refused.
-pub record LeavesCommits {D : Type 0} (past_of : D
-    → DevicePast) (o : Opened) (device : D) (written : Result Unit Error) : Type 0 where
+-- gives what was opened with their commits set over it, up to some record that isn't before the floor; and with all of
+-- them, where nothing was refused. So it was while they worked: a crash at any moment since a horizon was published
+-- leaves all up to that. The floor is the last of these horizons.
+pub record LeavesCommits {D : Type 0} (past_of : D → DevicePast) (o : Opened) (seats : List SeatValue) (floor : ℕ)
+    (device : D) (written : Result Unit Error) : Type 0 where
   pub geometry : GeometryValue
   pub pages : geometry.pages ≡ o.pages
   pub places : geometry.entries ≡ o.places
-  pub seats : List SeatValue
   pub popped : List RecordValue
-  pub floor : ℕ
   pub some : (image : CrashState) → IsCrashState (past_of device).disk image
       → ∥ GivesSome o geometry seats popped floor image ∥₁
+  pub publications : List Publication
+  pub newest : IsNewest publications floor
+  pub published : All (IsKeptSince (λ horizon image. ∥ GivesSome o geometry seats popped horizon image ∥₁)
+      (past_of device)) publications
   pub all : OnOk written (HoldsAll o geometry seats (past_of device).disk)
+
+-- why not all that was made was written out: there was no memory, or the device has failed
+abbrev pub IsUnwritten : (before now : ℕ) → Error → Type 0
+IsUnwritten before now e = (e ≡ NoMemory) ⊎ ((e ≡ DeviceFailed) × Rises before now)
+
+-- What is told of the builder: the ticket of an index that a core which may lie under the lock completed; or why the
+-- builder ended.
+abbrev pub TellsBuild : Opened → Result Ticket Error → Type 0
+TellsBuild o told = IfOk told (λ ticket. ∥ WasServed o Event.Build (builds.built (reply.Done ticket)) ∥₁)
+    × IfErr told (EndsBuilder o)
+
+-- A client has worked with a seat that has this session. The horizon that the seat has read last isn't above the floor.
+pub record HasWorked {C : Type 0} (works : C → C → SeatValue → Type 0) (floor : ℕ) (client after : C)
+    (session : SessionValue) : Type 0 where
+  pub seat : SeatValue
+  pub has : seat.session ≡ session
+  pub known : seat.sight.horizon ≤ floor
+  pub worked : works client after seat
+
+-- so has each client, in its place, with the session of the seat there
+abbrev pub HaveWorked : {C : Type 0} → (C → C → SeatValue → Type 0) → (floor : ℕ) → List C → List C → List SeatValue
+    → Type 0
+HaveWorked works floor [] [] [] = Unit {0}
+HaveWorked works floor (client ∷ clients) (after ∷ others) (s ∷ seats) =
+    HasWorked works floor client after s.session × HaveWorked works floor clients others seats
+HaveWorked works floor clients others seats = ⊥
+
+-- The clients have worked, each with a seat; and the device was written by these seats, up to some record that isn't
+-- before any horizon that one of them has read.
+pub record LeavesWork {C D : Type 0} (past_of : D → DevicePast) (works : C → C → SeatValue → Type 0) (o : Opened)
+    (clients after : List C) (device : D) (written : Result Unit Error) : Type 0 where
+  pub seats : List SeatValue
+  pub floor : ℕ
+  pub leaves : LeavesCommits past_of o seats floor device written
+  pub worked : HaveWorked works floor clients after seats
 
 -- It is the same seat still. (No public clause cites this.)
 pub record KeepsSeat (old new : SeatValue) : Type 0 where

@@ -1,13 +1,16 @@
 //! Clients of a store, each in a thread of its own.
-ghost use Rattle.std.specs.Prelude.{◌≡◌, ◌<◌, Err, IfErr, IfOk, ℕ, map, slice_index_or, vec_len};
-ghost use Rattle.record_values.specs.declared.error.Error.TheVariants.{NoMemory, TooManyTxns};
+ghost use Rattle.std.specs.Prelude.{◌≡◌, ◌⊎◌, ◌<◌, ◌≤◌, Err, IfErr, IfOk, List, Some, false, ℕ, map, vec_len};
+ghost use Rattle.std.specs.Prelude.{slice_get, slice_index_or};
+ghost use Rattle.record_values.specs.declared.error.Error.TheVariants.{DeviceFailed, NoMemory, TooManyTxns};
 ghost use Rattle.core_model.specs.Histories.{Opened};
-ghost use Rattle.store_writer.specs.Parts.{device_of};
-ghost use Rattle.shared.specs.Seats.{AreNewSeats};
+ghost use Rattle.sector_device.specs.DevicePast.{Rises};
+ghost use Rattle.store_writer.specs.Parts.{device_of, has_failed};
+ghost use Rattle.threads_flusher.specs.Going.{GoesOn};
+ghost use Rattle.shared.specs.Seats.{AreNewSeats, SeatValue};
 ghost use Rattle.threads_lifetime.specs.Gathered.{AreAllSeats};
 ghost use Rattle.threads_lifetime.specs.Openings.{IsNotShared, Opens};
 ghost use Rattle.threads_lifetime.specs.declared.refusal.OpenError.TheVariants.{Refused};
-ghost use Rattle.nsf.specs.Serving.{HasRoom, KeepsSeat, LeavesCommits};
+ghost use Rattle.nsf.specs.Serving.{HasRoom, IsUnwritten, KeepsSeat, LeavesCommits, LeavesWork, TellsBuild};
 
 use nsf_core::Ticket;
 use records::Error;
@@ -23,6 +26,10 @@ use threads_loops::{BuilderEnd, Ended, NoGate, NotRun, run_beside};
 
 /// Something that uses a store beside others, in a thread of its own with a seat of its own.
 pub trait Client {
+    /// What its work may make of it: of a client as it was, and as it is then, where it leaves its seat so. One that
+    /// promises nothing leaves it out.
+    ghost works: { Self → Self → SeatValue → Type 0 } = { λ before after seat. Unit {0} };
+
     /// What it does, once. It has the seat that it was given until it returns: so it is behind each call that takes the
     /// seat. Where it waits for an index, it asks why the builder has ended, if it has (`BuilderEnd::reason`): then the
     /// index is not completed meanwhile.
@@ -33,29 +40,32 @@ pub trait Client {
         seat: &mut Seat<B>,
         builder: &BuilderEnd<B>,
     )
-        ensures { seat.new.number ≡ seat.old.number };
+        ensures seat { seat.new.number ≡ seat.old.number }
+        ensures worked { works self.old self.new seat.new };
 }
 
 /// What clients leave.
 #[derive(Drop)]
 pub struct Served<C, D> {
-    /// The clients, as many as were given.
+    /// The clients, in their order, each as its work has left it.
     pub clients: Vec<C>,
     pub device: D,
     /// What `run_beside` told of the builder: the ticket of an index, where one was completed meanwhile; else why none
-    /// was. (No clause says more of it.)
+    /// was.
     pub built: Result<Ticket, Error>,
-    /// Why not all was written to the device, if so: what `finish` tells, which is `DeviceFailed` or `NoMemory`. (Here
-    /// no clause says so.)
+    /// Why not all was written to the device, if so: what `finish` tells.
     pub written: Result<(), Error>,
 }
 
 /// Opens the store on the device, as `open_store` does, and runs the clients, each in a thread of its own, while others
 /// build the index, clean it and write to the device. When all clients have ended, all that they did is written out.
 ///
-/// Then a crash leaves what was opened with the commits of all seats set over it; where `written` tells a refusal, with
-/// those up to some record (`leaves`). (That a client is called, and which seats are whose, no clause says.) A
-/// transaction that a client left active is taken back when the store is opened again.
+/// Each client has worked, with a seat of its own. Then a crash leaves what was opened with the commits of all seats
+/// set over it; where `written` tells a refusal, with those up to some record. No horizon that a seat has read is above
+/// that record: so nothing is lost that a client knows to be safe. Nor was it while they worked: a crash at any moment
+/// since a horizon was published leaves all up to that (`leaves`). A refusal is `NoMemory`, or
+/// `DeviceFailed` where the device's count of failures has risen (`why`). A transaction that a client left active is
+/// taken back when the store is opened again.
 ///
 /// The errors are those of `open_store`, as `TooManyTxns` where there are more than 16 clients (`many`), and
 /// `NoMemory`, also where no thread can be made for what runs beside the clients: then no client is called. The device
@@ -68,7 +78,8 @@ pub fn serve<C: Client + Send + Drop, D: Device + Send + Drop, R: Threads + Wait
     clients: Vec<C>,
 ) -> Result<Served<C, D>, (OpenError, D)>
     ensures leaves { IfOk result (λ s. (o : Opened) × Opens (D.past_of device).disk.content o
-        × LeavesCommits D.past_of o s.device s.written) }
+        × LeavesWork D.past_of C.works o clients.items s.clients.items s.device s.written × TellsBuild o s.built) }
+    ensures why { IfOk result (λ s. IfErr s.written (IsUnwritten (D.failures device) (D.failures s.device))) }
     ensures clients { IfOk result (λ s. vec_len s.clients ≡ vec_len clients) }
     ensures refused { IfErr result (λ r. IsNotShared D.past_of D.failures device (vec_len clients) r.1 r.0) }
     ensures many { 16 < vec_len clients → result ≡ Err (Refused TooManyTxns, device) }
@@ -92,7 +103,10 @@ fn begin<
     clients: Vec<C>,
 ) -> Result<Served<C, D>, (OpenError, D)>
     requires { store.site ≡ B.site }
-    ensures leaves { IfOk result (λ s. LeavesCommits D.past_of B.site.opened s.device s.written) }
+    ensures leaves { IfOk result (λ s. LeavesWork D.past_of C.works B.site.opened clients.items s.clients.items
+        s.device s.written) }
+    ensures told { IfOk result (λ s. TellsBuild B.site.opened s.built) }
+    ensures why { IfOk result (λ s. IfErr s.written (IsUnwritten (D.failures store.device) (D.failures s.device))) }
     ensures clients { IfOk result (λ s. vec_len s.clients ≡ vec_len clients) }
     ensures no_memory { IfErr result (λ r. (r.0 ≡ Refused NoMemory) × (r.1 ≡ store.device)) }
 {
@@ -184,6 +198,9 @@ fn work_all<B: Group + Send + Sync, C: Client + Send, R: Threads + Wait + Sync>(
     ensures len { vec_len result ≡ vec_len desks }
     ensures seats { (k : ℕ) (d : _) → k < vec_len desks
         → KeepsSeat (slice_index_or desks.items k d).seat (slice_index_or result.items k d).seat }
+    ensures worked { (k : ℕ) (d : _) → k < vec_len desks
+        → C.works (slice_index_or desks.items k d).client (slice_index_or result.items k d).client
+        (slice_index_or result.items k d).seat }
 {
     let threads = desks.len().max(1);
     for_each_mut(
@@ -201,7 +218,8 @@ fn work_at<B: Group, C: Client, R: Wait>(
     desk: &mut Desk<B, C>,
     builder: &BuilderEnd<B>,
 )
-    ensures { KeepsSeat desk.old.seat desk.new.seat }
+    ensures seat { KeepsSeat desk.old.seat desk.new.seat }
+    ensures worked { C.works desk.old.client desk.new.client desk.new.seat }
 {
     desk.client.work(rt, shared, &mut desk.seat, builder);
 }
@@ -224,6 +242,11 @@ fn run_all<
     ensures len { IfOk result (λ e. vec_len e.clients ≡ vec_len desks) }
     ensures seats { IfOk result (λ e. (k : ℕ) (d : _) → k < vec_len desks
         → KeepsSeat (slice_index_or desks.items k d).seat (slice_index_or e.clients.items k d).seat) }
+    ensures worked { IfOk result (λ e. (k : ℕ) (d : _) → k < vec_len desks
+        → C.works (slice_index_or desks.items k d).client (slice_index_or e.clients.items k d).client
+        (slice_index_or e.clients.items k d).seat) }
+    ensures going { IfOk result (λ e. GoesOn D.past_of D.failures B.site.opened flush e.flush) }
+    ensures told { IfOk result (λ e. TellsBuild B.site.opened e.built) }
     ensures back { IfErr result (λ part. part ≡ flush) }
 {
     let told = BuilderEnd::new();
@@ -240,6 +263,9 @@ fn run_all<
             ensures len { vec_len result ≡ vec_len desks }
             ensures seats { (k : ℕ) (d : _) → k < vec_len desks
                 → KeepsSeat (slice_index_or desks.items k d).seat (slice_index_or result.items k d).seat }
+            ensures worked { (k : ℕ) (d : _) → k < vec_len desks
+                → C.works (slice_index_or desks.items k d).client (slice_index_or result.items k d).client
+                (slice_index_or result.items k d).seat }
         { work_all(rt, shared, desks, builder) },
     );
     match ran {
@@ -259,12 +285,54 @@ fn close<B: Group, D: Device, R: Wait>(
     parts: Parts<B, D>,
 ) -> (D, Result<(), Error>)
     requires seats { AreAllSeats B.site.seats parts.seats.items }
-    ensures { LeavesCommits D.past_of B.site.opened result.0 result.1 }
+    ensures leaves { LeavesCommits D.past_of B.site.opened parts.seats.items parts.flush.published.horizon
+        result.0 result.1 }
+    ensures why { IfErr result.1 (λ e. (e ≡ NoMemory) ⊎ ((e ≡ DeviceFailed) × (has_failed parts.flush.writer ≡ false
+        → Rises (D.failures (device_of parts.flush.writer)) (D.failures result.0)))) }
+    ensures later { IfErr result.1 (λ e. D.failures (device_of parts.flush.writer) ≤ D.failures result.0) }
 {
     parts.flush.stands();
     match finish(rt, alloc, shared, parts, Vec::new(alloc)) {
         Ok(closed) => (closed.device, Ok(())),
         Err((error, device)) => (device, Err(error)),
+    }
+}
+
+// No horizon that a seat has read is above the last that was published. Nothing changes but the names of the seats'
+// views.
+fn settle_desk<B: Group, C, D: Device>(
+    shared: &Shared<B>,
+    desk: &mut Desk<B, C>,
+    flush: &mut FlushPart<B, D>,
+)
+    ensures same { flush.new ≡ flush.old }
+    ensures client { desk.new.client ≡ desk.old.client }
+    ensures number { desk.new.seat.number ≡ desk.old.seat.number }
+    ensures session { desk.new.seat.session ≡ desk.old.seat.session }
+    ensures seen { desk.old.seat.sight.horizon ≤ flush.old.published.horizon }
+{
+    let mut view = shared.another_view(&mut desk.seat);
+    view.settle(shared, flush);
+}
+
+// So it is of each seat.
+fn settle_desks<B: Group, C, D: Device>(
+    shared: &Shared<B>,
+    desks: &mut Vec<Desk<B, C>>,
+    flush: &mut FlushPart<B, D>,
+)
+    ensures same { flush.new ≡ flush.old }
+    ensures len { vec_len desks.new ≡ vec_len desks.old }
+    ensures clients { map (λ d. d.client) desks.new.items ≡ map (λ d. d.client) desks.old.items }
+    ensures sessions { map (λ d. d.seat.session) desks.new.items ≡ map (λ d. d.seat.session) desks.old.items }
+    ensures all { (count : ℕ) → AreAllSeats count (map (λ d. d.seat) desks.old.items)
+        → AreAllSeats count (map (λ d. d.seat) desks.new.items) }
+    ensures seen { (k : ℕ) (d : _) → slice_get desks.old.items k ≡ Some d
+        → d.seat.sight.horizon ≤ flush.old.published.horizon }
+{
+    for k in 0..desks.len() {
+        let desk = &mut desks[k];
+        settle_desk(shared, desk, flush);
     }
 }
 
@@ -279,18 +347,30 @@ fn end<B: Group, C: Drop, D: Device, R: Wait>(
     requires seats { AreAllSeats B.site.seats (map (λ d. d.seat) ended.clients.items) }
     requires room { HasRoom room.clients (vec_len ended.clients) }
     requires places { HasRoom room.seats (vec_len ended.clients) }
-    ensures leaves { LeavesCommits D.past_of B.site.opened result.device result.written }
+    ensures leaves { (seats : List SeatValue)
+        × (map (λ s. s.session) seats ≡ map (λ d. d.seat.session) ended.clients.items)
+        × LeavesCommits D.past_of B.site.opened seats ended.flush.published.horizon result.device result.written }
+    ensures seen { (k : ℕ) (d : _) → slice_get ended.clients.items k ≡ Some d
+        → d.seat.sight.horizon ≤ ended.flush.published.horizon }
+    ensures why { IfErr result.written (λ e. (e ≡ NoMemory) ⊎ ((e ≡ DeviceFailed)
+        × (has_failed ended.flush.writer ≡ false
+        → Rises (D.failures (device_of ended.flush.writer)) (D.failures result.device)))) }
+    ensures later { IfErr result.written (λ e. D.failures (device_of ended.flush.writer) ≤ D.failures result.device) }
+    ensures built { result.built ≡ ended.built }
     ensures clients { vec_len result.clients ≡ vec_len ended.clients }
+    ensures order { result.clients.items ≡ map (λ d. d.client) ended.clients.items }
 {
     let Ended {
-        clients: desks,
-        flush,
+        clients: mut desks,
+        mut flush,
         build,
         clean,
         built,
         ..
     } = ended;
-    let Room { clients, seats } = parted(desks, room);
+    settle_desks(&shared, &mut desks, &mut flush);
+    let room = parted(desks, room);
+    let Room { clients, seats } = room;
     let parts = Parts {
         seats,
         flush,
@@ -314,6 +394,7 @@ fn seated<B: Group, C: Drop>(
 ) -> Result<(Vec<Desk<B, C>>, Room<B, C>), AllocError>
     ensures seats { IfOk result (λ r. map (λ d. d.seat) r.0.items ≡ seats.items) }
     ensures clients { IfOk result (λ r. vec_len r.0 ≡ vec_len clients) }
+    ensures order { IfOk result (λ r. map (λ d. d.client) r.0.items ≡ clients.items) }
     ensures room { IfOk result (λ r. HasRoom r.1.clients (vec_len r.0)) }
     ensures places { IfOk result (λ r. HasRoom r.1.seats (vec_len r.0)) }
 {
@@ -335,8 +416,13 @@ fn seat_all<
     parts: Parts<B, D>,
     clients: Vec<C>,
 ) -> Result<Served<C, D>, D>
-    requires { AreNewSeats B.site.board B.site.seats parts.seats.items }
-    ensures leaves { IfOk result (λ s. LeavesCommits D.past_of B.site.opened s.device s.written) }
+    requires seats { AreNewSeats B.site.board B.site.seats parts.seats.items }
+    requires sound { has_failed parts.flush.writer ≡ false }
+    ensures leaves { IfOk result (λ s. LeavesWork D.past_of C.works B.site.opened clients.items s.clients.items
+        s.device s.written) }
+    ensures told { IfOk result (λ s. TellsBuild B.site.opened s.built) }
+    ensures why { IfOk result (λ s. IfErr s.written (IsUnwritten (D.failures (device_of parts.flush.writer))
+        (D.failures s.device))) }
     ensures clients { IfOk result (λ s. vec_len s.clients ≡ vec_len clients) }
     ensures back { IfErr result (λ d. d ≡ device_of parts.flush.writer) }
 {

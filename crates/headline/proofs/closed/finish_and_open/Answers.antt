@@ -1,4 +1,4 @@
-use Rattle.std.proofs.Common.{sym, subst, ◌∙◌, ℕ, IfSome}
+use Rattle.std.proofs.Common.{arith, sym, subst, ◌∙◌, ◌≤◌, ℕ, IfSome}
 use Rattle.store_writer.specs.Parts.{device_of, halves_of, has_failed, synced_of}
 use Rattle.threads_flusher.specs.Part.{popped_by}
 use Rattle.headline.specs.Seats.{IsUnwritten}
@@ -26,9 +26,16 @@ returns-in-Ok-clause-unwritten g c =
     subst (λ (now : ℕ). IfSome c.finish_device-device.result.1 (IsUnwritten (has_failed w) (g.D.Device.failures (device_of w)) now))
     (sym (c.in-Ok.ensures.quiet ∙ c.stop_now.ensures.failures)) c.finish_device-device.ensures.why
 
-pub returns-clause-refused : goal.returns-clause-refused
-returns-clause-refused g c =
+pub returns-in-Err-clause-refused : goal.returns-in-Err-clause-refused
+returns-in-Err-clause-refused g c =
     let flush = c.args.parts.flush in
+    let f = g.D.Device.failures in
+    let low : f (device_of flush.writer) ≤ f c.stop_now.new.self = omega (arith, c.finish_device-device.ensures.later, c.stop_now.ensures.failures) in
     refused_so g.D.Device.past_of g.B.Group.site.opened (halves_of flush.writer).geometry c.args.parts.seats.items (popped_by flush)
     (synced_of flush.writer) c.finish_device-device.result.0 c.stop_now.new.self c.stop_now.ensures.found
-    c.finish_device-device.ensures.some c.one_answer.ensures.readable g.D.Device.failures c.in-Err.field-0-1 c.in-Err.error c.in-Err.ensures.refused
+    c.finish_device-device.ensures.some c.one_answer.ensures.readable f (f (device_of flush.writer)) low c.in-Err.refused.1 c.in-Err.refused.0
+    c.in-Err.ensures.refused
+
+pub returns-in-Err-clause-later : goal.returns-in-Err-clause-later
+returns-in-Err-clause-later g c =
+    omega (arith, c.finish_device-device.ensures.later, c.stop_now.ensures.failures, c.in-Err.ensures.refused.later)

@@ -1,3 +1,4 @@
+use Rattle.std.proofs.Common.{arith}
 use Rattle.sector_device.proofs.Moments.{at_end}
 use Rattle.store_writer.specs.Parts.{device_of, halves_of}
 use Rattle.headline.proofs.Opened.{all_given}
@@ -18,3 +19,9 @@ returns-in-Err-clause-some g c = λ image crash.
 
 pub returns-in-Err-clause-why : goal.returns-in-Err-clause-why
 returns-in-Err-clause-why g c = c.in-Err.ensures.err
+
+pub returns-in-Ok-clause-later : goal.returns-in-Ok-clause-later
+returns-in-Ok-clause-later g c = omega (arith, c.in-Ok.ensures.quiet)
+
+pub returns-in-Err-clause-later : goal.returns-in-Err-clause-later
+returns-in-Err-clause-later g c = c.in-Err.ensures.later

@@ -1,19 +1,21 @@
-use Rattle.sector_device.proofs.Moments.{at_end}
-use Rattle.store_writer.specs.Parts.{device_of, halves_of, synced_of}
+use Rattle.std.proofs.Common.{⊎_elim, inl, inr}
+use Rattle.store_writer.specs.Parts.{halves_of}
+use Rattle.nsf.proofs.Published.{newest_kept}
 use Rattle.threads_flusher.specs.Part.{popped_by}
 use Rattle.nsf_core.specs.Value.{value_of}
 use Rattle.nsf.proofs.clients.close.Goals as goal
 
-pub returns-in-Ok : goal.returns-in-Ok
-returns-in-Ok g c = record {
+pub returns-in-Ok-clause-leaves : goal.returns-in-Ok-clause-leaves
+returns-in-Ok-clause-leaves g c = record {
   geometry = (halves_of c.args.parts.flush.writer).geometry;
   pages = c.stands.ensures.pages;
   places = c.stands.ensures.places;
-  seats = c.args.parts.seats.items;
   popped = popped_by c.args.parts.flush;
-  floor = synced_of c.args.parts.flush.writer;
-  some = λ image crash.
-      at_end (g.D.Device.past_of (device_of c.args.parts.flush.writer)) (g.D.Device.past_of c.in-Ok.closed.device) _ c.in-Ok.ensures.images image crash;
+  some = newest_kept _ (g.D.Device.past_of c.in-Ok.closed.device) c.args.parts.flush.publications c.args.parts.flush.published.horizon
+      c.stands.ensures.newest c.in-Ok.ensures.published;
+  publications = c.args.parts.flush.publications;
+  newest = c.stands.ensures.newest;
+  published = c.in-Ok.ensures.published;
   all = record {
     commits = c.in-Ok.closed.commits.items;
     of_seats = c.in-Ok.ensures.commits;
@@ -22,15 +24,19 @@ returns-in-Ok g c = record {
   };
 }
 
-pub returns-in-Err : goal.returns-in-Err
-returns-in-Err g c = record {
+pub returns-in-Err-clause-leaves : goal.returns-in-Err-clause-leaves
+returns-in-Err-clause-leaves g c = record {
   geometry = (halves_of c.args.parts.flush.writer).geometry;
   pages = c.stands.ensures.pages;
   places = c.stands.ensures.places;
-  seats = c.args.parts.seats.items;
   popped = popped_by c.args.parts.flush;
-  floor = synced_of c.args.parts.flush.writer;
-  some = λ image crash.
-      at_end (g.D.Device.past_of (device_of c.args.parts.flush.writer)) (g.D.Device.past_of c.in-Err.device) _ c.in-Err.ensures.left image crash;
+  some = newest_kept _ (g.D.Device.past_of c.in-Err.device) c.args.parts.flush.publications c.args.parts.flush.published.horizon
+      c.stands.ensures.newest c.in-Err.ensures.still;
+  publications = c.args.parts.flush.publications;
+  newest = c.stands.ensures.newest;
+  published = c.in-Err.ensures.still;
   all = tt;
 }
+
+pub returns-in-Err-clause-why : goal.returns-in-Err-clause-why
+returns-in-Err-clause-why g c = ⊎_elim (λ none. inl none.0) (λ failed. inr failed) c.in-Err.ensures.err

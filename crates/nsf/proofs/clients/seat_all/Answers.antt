@@ -1,12 +1,44 @@
-use Rattle.std.proofs.Common.{List, subst, sym}
+use Rattle.std.proofs.Common.{List, map, subst, sym}
 use Rattle.threads_lifetime.specs.Gathered.{AreAllSeats}
 use Rattle.shared.specs.Seats.{SeatValue}
-use Rattle.nsf.proofs.Orders.{all_left, all_new}
+use Rattle.store_writer.specs.Parts.{device_of, has_failed}
+use Rattle.nsf.specs.Serving.{HaveWorked, TellsBuild}
+use Rattle.nsf.proofs.Orders.{all_left, all_new, all_worked}
+use Rattle.nsf.proofs.Refusals.{unwritten_since}
 use Rattle.nsf.proofs.clients.seat_all.Goals as goal
 
 pub end-requires-clause-seats : goal.end-requires-clause-seats
 end-requires-clause-seats g c =
     let z = g.B.Group.site in
     all_left (λ d. d.seat) z.seats c.in-Ok.desks c.in-Ok-run_all.ended.clients
-    (subst (λ (items : List SeatValue). AreAllSeats z.seats items) (sym c.in-Ok.ensures.seats) (all_new z.board z.seats c.args.parts.seats.items c.requires))
+    (subst (λ (items : List SeatValue). AreAllSeats z.seats items) (sym c.in-Ok.ensures.seats)
+    (all_new z.board z.seats c.args.parts.seats.items c.requires.seats))
     c.in-Ok-run_all.ensures.len (λ k d within. (c.in-Ok-run_all.ensures.seats k d within).number)
+
+pub returns-in-Ok-run_all-clause-why : goal.returns-in-Ok-run_all-clause-why
+returns-in-Ok-run_all-clause-why g c =
+    let failures = g.D.Device.failures in
+    let old = c.args.parts.flush.writer in
+    let mid = c.in-Ok-run_all.ended.flush.writer in
+    let going = c.in-Ok-run_all.ensures.going in
+    unwritten_since (has_failed old) (has_failed mid) (failures (device_of old)) (failures (device_of mid)) (failures c.end.result.device)
+    c.requires.sound going.later going.counted c.end.result.written c.end.ensures.why c.end.ensures.later
+
+pub returns-in-Ok-run_all-clause-told : goal.returns-in-Ok-run_all-clause-told
+returns-in-Ok-run_all-clause-told g c = subst (TellsBuild g.B.Group.site.opened) (sym c.end.ensures.built) c.in-Ok-run_all.ensures.told
+
+pub returns-in-Ok-run_all-clause-leaves : goal.returns-in-Ok-run_all-clause-leaves
+returns-in-Ok-run_all-clause-leaves g c =
+    let works = g.C.Client.works in
+    let floor = c.in-Ok-run_all.ended.flush.published.horizon in
+    let left = c.end.ensures.leaves in
+    record {
+      seats = left.0;
+      floor = floor;
+      leaves = left.2;
+      worked =
+          subst (λ (clients : List _). HaveWorked works floor clients c.end.result.clients.items left.0) c.in-Ok.ensures.order
+          (subst (λ (after : List _). HaveWorked works floor (map (λ d. d.client) c.in-Ok.desks.items) after left.0) (sym c.end.ensures.order)
+          (all_worked (λ d. d.client) (λ d. d.seat) works floor c.in-Ok.desks c.in-Ok-run_all.ended.clients left.0 c.in-Ok-run_all.ensures.len
+          left.1 c.in-Ok-run_all.ensures.worked c.end.ensures.seen));
+    }

@@ -1,0 +1,34 @@
+use Rattle.std.proofs.Common.{◌≡◌, ◌⊎◌, ◌≤◌, IfErr, false, subst, sym}
+use Rattle.record_values.specs.declared.error.Error.TheVariants.{DeviceFailed, NoMemory}
+use Rattle.sector_device.specs.DevicePast.{Rises}
+use Rattle.store_writer.specs.Parts.{device_of, has_failed}
+use Rattle.threads_lifetime.specs.Gathered.{AreAllSeats}
+use Rattle.nsf.specs.Serving.{LeavesCommits}
+use Rattle.nsf.proofs.Orders.{sessions_are}
+use Rattle.nsf.proofs.clients.end.Goals as goal
+
+pub close-device-requires : goal.close-device-requires
+close-device-requires g c = let z = g.B.Group.site in
+    record { seats = subst (AreAllSeats z.seats) (sym c.parted-room.ensures.seats) (c.settle_desks.ensures.all z.seats c.requires.seats) }
+
+pub returns-clause-leaves : goal.returns-clause-leaves
+returns-clause-leaves g c =
+    let seats = c.parted-room.result.seats.items in (
+      seats,
+      sessions_are (λ d. d.seat) seats c.settle_desks.new.desks.items c.args.ended.clients.items c.parted-room.ensures.seats c.settle_desks.ensures.sessions,
+      subst (λ f. LeavesCommits g.D.Device.past_of g.B.Group.site.opened seats f.published.horizon c.close-device.result.0 c.close-device.result.1)
+          c.settle_desks.ensures.same c.close-device.ensures.leaves,
+    )
+
+pub returns-clause-why : goal.returns-clause-why
+returns-clause-why g c =
+    let failures = g.D.Device.failures in
+    subst (λ f. IfErr c.close-device.result.1 (λ e. (e ≡ NoMemory) ⊎ ((e ≡ DeviceFailed) × (has_failed f.writer ≡ false
+    → Rises (failures (device_of f.writer)) (failures c.close-device.result.0)))))
+    c.settle_desks.ensures.same c.close-device.ensures.why
+
+pub returns-clause-later : goal.returns-clause-later
+returns-clause-later g c =
+    let failures = g.D.Device.failures in
+    subst (λ f. IfErr c.close-device.result.1 (λ e. failures (device_of f.writer) ≤ failures c.close-device.result.0))
+    c.settle_desks.ensures.same c.close-device.ensures.later

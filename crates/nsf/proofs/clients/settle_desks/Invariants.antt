@@ -1,0 +1,14 @@
+use Rattle.std.proofs.Common.{◌≡◌, ◌<◌, ◌≤◌, ℕ, Some, length, map}
+use Rattle.std.specs.Prelude.{slice_get}
+use Rattle.nsf.proofs.clients.settle_desks.Given as goal
+
+abbrev pub invariant-loop-k : goal.invariant-loop-k
+invariant-loop-k g l = record {
+  same : l.flush ≡ l.fn.flush;
+  counted : length l.desks.items ≡ length l.fn.desks.items;
+  clients : map (λ d. d.client) l.desks.items ≡ map (λ d. d.client) l.fn.desks.items;
+  numbers : map (λ d. d.seat.number) l.desks.items ≡ map (λ d. d.seat.number) l.fn.desks.items;
+  sessions : map (λ d. d.seat.session) l.desks.items ≡ map (λ d. d.seat.session) l.fn.desks.items;
+  rest : (j : ℕ) → l.k ≤ j → slice_get l.desks.items j ≡ slice_get l.fn.desks.items j;
+  seen : (j : ℕ) (d : _) → j < l.k → slice_get l.fn.desks.items j ≡ Some d → d.seat.sight.horizon ≤ l.fn.flush.published.horizon;
+}
