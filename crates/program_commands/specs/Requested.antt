@@ -1,5 +1,5 @@
 -- What a request does to a store, and what is printed for it.
-use Rattle.std.specs.Prelude.{◌≡◌, ◌⊎◌, ◌<◌, ℕ, true, false, Option, List, [], ◌∷◌, length}
+use Rattle.std.specs.Prelude.{◌≡◌, ◌⊎◌, ◌<◌, ◌≤◌, ℕ, true, false, Option, List, [], ◌∷◌, length}
 use Rattle.std.specs.Io.KnownBytes.{Appends}
 use Rattle.std.specs.declared.alloc.Global.{Global}
 use Rattle.sector_device.specs.DevicePast.{DevicePast}
@@ -69,3 +69,26 @@ module _ {D W : Type 0} (past_of : D → DevicePast) (failures : D → ℕ) (con
       (new ≡ old) × Prints contents answer.Skipped before after × (outcome ≡ Other)
   Answers request.Dump outcome old new before after =
       (new ≡ old) × Appends (contents before) (contents after) (dump_text (store_of old)) × (outcome ≡ Other)
+
+module _ {D : Type 0} (past_of : D → DevicePast) (failures : D → ℕ) where
+  -- the event had these replies, one after another
+  abbrev pub AreServed : Event → List (Reply Global) → GuardedStore D → GuardedStore D → Type 0
+  AreServed event [] old new = new ≡ old
+  AreServed event (reply ∷ replies) old new = (mid : GuardedStore D)
+      × ServesGuarded past_of failures event reply old mid
+      × AreServed event replies mid new
+
+  -- so many of these steps were made at most
+  abbrev pub MakesSome : Event → ℕ → GuardedStore D → GuardedStore D → Type 0
+  MakesSome event count old new = (replies : List (Reply Global)) × (length replies ≤ count)
+      × AreServed event replies old new
+
+  -- The request was served, whatever was printed of it; and of the steps that it asks for, some were made.
+  abbrev pub IsServed : Request → GuardedStore D → GuardedStore D → Type 0
+  IsServed (request.Event e) old new = (reply : Reply Global) × ServesGuarded past_of failures e reply old new
+  IsServed (request.Build count) old new = MakesSome event.Build count old new
+  IsServed (request.Clean count) old new = MakesSome event.Clean count old new
+  IsServed request.Flush old new = (reply : Reply Global) × FlushesGuarded past_of failures reply old new
+  IsServed request.Image old new = (reply : Reply Global) × TakesImageGuarded past_of failures reply old new
+  IsServed (request.Crash _) old new = new ≡ old
+  IsServed request.Dump old new = new ≡ old

@@ -1,7 +1,7 @@
 //! What is printed for a request.
-ghost use Rattle.std.specs.Prelude.{◌≡◌, IfOk};
+ghost use Rattle.std.specs.Prelude.{◌≡◌, IfOk, OnErr};
 ghost use Rattle.program_commands.specs.Outcomes.{outcome_of};
-ghost use Rattle.program_commands.specs.Requested.{Answers, MakesSteps, Prints};
+ghost use Rattle.program_commands.specs.Requested.{Answers, IsServed, MakesSome, MakesSteps, Prints};
 
 use crate::guarded::GuardedStore;
 use crate::outcome::{Outcome, outcome_of};
@@ -23,7 +23,7 @@ fn print<W: Write>(output: &mut W, answer: &Answer) -> io::Result<Outcome>
 }
 
 impl<D: Device> GuardedStore<D> {
-    ghost use Rattle.program_commands.specs.Requested.{Answers, MakesSteps};
+    ghost use Rattle.program_commands.specs.Requested.{Answers, IsServed, MakesSome, MakesSteps};
 
     // Makes up to so many steps of the builder or the cleaner, and prints each answer.
     fn make_steps<W: Write>(
@@ -32,8 +32,9 @@ impl<D: Device> GuardedStore<D> {
         count: u32,
         output: &mut W,
     ) -> io::Result<Outcome>
-        ensures { IfOk result (λ outcome. MakesSteps D.past_of D.failures W.contents event.now count outcome
+        ensures ok { IfOk result (λ outcome. MakesSteps D.past_of D.failures W.contents event.now count outcome
             self.old self.new output.old output.new) }
+        ensures err { OnErr result (MakesSome D.past_of D.failures event.now count self.old self.new) }
     {
         for _ in 0..count {
             let reply = self.serve(*event);
@@ -49,10 +50,11 @@ impl<D: Device> GuardedStore<D> {
     /// Serves a request, prints its answers, and tells what came of it. A crash is none that a device itself can make:
     /// it is answered `skipped`.
     ///
-    /// The error is the output's, and then the request was served in part or whole.
+    /// The error is the output's, and then the request was served in part or whole (`err`).
     pub fn answer<W: Write>(&mut self, request: Request, output: &mut W) -> io::Result<Outcome>
-        ensures { IfOk result (λ outcome. Answers D.past_of D.failures W.contents request outcome
+        ensures ok { IfOk result (λ outcome. Answers D.past_of D.failures W.contents request outcome
             self.old self.new output.old output.new) }
+        ensures err { OnErr result (IsServed D.past_of D.failures request self.old self.new) }
     {
         match request {
             Request::Event(event) => {

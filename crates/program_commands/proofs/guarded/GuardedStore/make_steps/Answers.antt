@@ -1,4 +1,5 @@
-use Rattle.std.proofs.Common.{◌≡◌, ◌-◌, ◌+◌, ◌<◌, ℕ, true, false, sym, subst, ◌∙◌, arith}
+use Rattle.std.proofs.Common.{◌≡◌, ◌-◌, ◌+◌, ◌<◌, ◌∷◌, [], ℕ, true, false, refl, sym, subst, ◌∙◌, arith}
+use Rattle.std.proofs.lemmas.Result.{err_from_is_err_and}
 use Rattle.program_values.specs.Steps.{is_last_step}
 use Rattle.program_commands.specs.Requested.{MakesSteps, Tells}
 use Rattle.program_commands.specs.declared.outcome.Outcome.TheVariants.{Other}
@@ -12,10 +13,11 @@ loop-init g c =
       runs = λ outcome new after steps. subst (λ (n : ℕ).
           MakesSteps g.D.Device.past_of g.D.Device.failures g.W.Write.contents c.args.event.now n outcome c.args.self.now new c.args.output.now after) all
           steps;
+      made = λ replies new few are. (replies, omega (arith, few), are);
     }
 
-pub returns-then-is_last_step : goal.returns-then-is_last_step
-returns-then-is_last_step g c =
+pub returns-then-is_last_step-clause-ok : goal.returns-then-is_last_step-clause-ok
+returns-then-is_last_step-clause-ok g c =
     let h = g.D.Device.past_of in
     let f = g.D.Device.failures in
     let w = g.W.Write.contents in
@@ -50,10 +52,12 @@ loop-preserved g c =
           (subst (λ (n : ℕ). MakesSteps h f w c.args.event.now n outcome c.loop.self new c.loop.output after) left
           (one_step h f w c.args.event.now (c.args.count - (c.loop.counter + 1)) outcome c.loop.self c.serve-reply.new.self new c.loop.output c.print.new.output
           after c.answer_of-answer.result tells goes_on steps));
+      made = λ replies new few are.
+          c.loop.invariant.made (c.serve-reply.result ∷ replies) new (omega (arith, few, left)) (c.serve-reply.new.self, c.serve-reply.ensures, are);
     }
 
-pub returns : goal.returns
-returns g c =
+pub returns-clause-ok : goal.returns-clause-ok
+returns-clause-ok g c =
     let h = g.D.Device.past_of in
     let f = g.D.Device.failures in
     let w = g.W.Write.contents in
@@ -61,3 +65,9 @@ returns g c =
     c.loop.invariant.runs Other c.loop.self c.loop.output
     (subst (λ (n : ℕ). MakesSteps h f w c.args.event.now n Other c.loop.self c.loop.self c.loop.output c.loop.output) none
     (no_step h f w c.args.event.now c.loop.self c.loop.output))
+
+pub returns-in_err-outcome-clause-err : goal.returns-in_err-outcome-clause-err
+returns-in_err-outcome-clause-err g c =
+    let p = err_from_is_err_and c.from_residual.result c.from_residual.ensures.1 in
+    rw p.1 (c.loop.invariant.made (c.serve-reply.result ∷ []) c.serve-reply.new.self (omega (arith, c.loop-test.true))
+    (c.serve-reply.new.self, c.serve-reply.ensures, refl))
