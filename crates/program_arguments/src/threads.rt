@@ -54,32 +54,58 @@ fn file_in(alloc: Global, matches: &ArgMatches<'_>) -> Result<Option<String>, Al
     }
 }
 
-// The arguments that the words give, or what clap says of them.
-fn arguments_of<S: AsStr>(alloc: Global, words: &[S]) -> Result<ThreadsArguments, Error> {
-    let watch = Arg::new(alloc, "watch")
+fn watch_arg<'a>(alloc: Global) -> Arg<'a> {
+    Arg::new(alloc, "watch")
         .long("watch")
         .action(ArgAction::SetTrue)
         .value_parser(ValueParser::bool())
-        .help(WATCH_HELP);
-    let file = Arg::new(alloc, "file")
+        .help(WATCH_HELP)
+}
+
+fn file_arg<'a>(alloc: Global) -> Arg<'a> {
+    Arg::new(alloc, "file")
         .long("file")
         .value_name("FILE")
-        .help(FILE_HELP);
-    let matches = Command::new(alloc, "nsf-threads")
+        .help(FILE_HELP)
+}
+
+// Each of these hands on one call alone, so that what follows has no more to read than it needs.
+
+fn with_arg<'a>(command: Command<'a>, arg: Arg<'a>) -> Result<Command<'a>, AllocError> {
+    command.arg(arg)
+}
+
+fn program<'a>(alloc: Global) -> Command<'a> {
+    Command::new(alloc, "nsf-threads")
         .version(VERSION)
         .about(ABOUT)
-        .arg(number(alloc, "writers", "N", WRITERS_MAX, WRITERS_HELP))?
-        .arg(number(alloc, "changes", "M", CHANGES_MAX, CHANGES_HELP))?
-        .arg(watch)?
-        .arg(file)?
-        .bin_name("nsf-threads")?
-        .try_get_matches_from(words)?;
+}
+
+fn command<'a>(alloc: Global) -> Result<Command<'a>, AllocError> {
+    let writers = number(alloc, "writers", "N", WRITERS_MAX, WRITERS_HELP);
+    let all = with_arg(program(alloc), writers)?;
+    let changes = number(alloc, "changes", "M", CHANGES_MAX, CHANGES_HELP);
+    let all = with_arg(all, changes)?;
+    let all = with_arg(all, watch_arg(alloc))?;
+    let all = with_arg(all, file_arg(alloc))?;
+    all.bin_name("nsf-threads")
+}
+
+fn given_in(alloc: Global, matches: &ArgMatches<'_>) -> Result<ThreadsArguments, AllocError> {
     Ok(ThreadsArguments {
-        file: file_in(alloc, &matches)?,
+        file: file_in(alloc, matches)?,
         writers: matches.get_one::<u8>("writers").unwrap_or(4),
         changes: matches.get_one::<u8>("changes").unwrap_or(8),
         watch: matches.get_flag("watch"),
     })
+}
+
+// The arguments that the words give, or what clap says of them.
+fn arguments_of<S: AsStr>(alloc: Global, words: &[S]) -> Result<ThreadsArguments, Error> {
+    let matches = command(alloc)?.try_get_matches_from(words)?;
+    let given = given_in(alloc, &matches);
+    drop(matches);
+    Ok(given?)
 }
 
 /// The arguments of `nsf-threads` that the words give, the first of which is the program's own name. Where they are

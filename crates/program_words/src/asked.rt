@@ -87,14 +87,24 @@ const AGAIN_HELP: &str =
 const PROGRESS_HELP: &str =
     "Shows on the error stream how many pairs were attempted, also where that is no terminal";
 
-// Each of these hands on one call alone, so that what follows has no more to read than it needs.
+// Each of these hands on one call alone, so that what follows has no more to read than it needs. What falls by the way
+// is let go of by a call.
 
 fn with_arg<'a>(command: Command<'a>, arg: Arg<'a>) -> Result<Command<'a>, AllocError> {
     command.arg(arg)
 }
 
-fn with_verb<'a>(command: Command<'a>, verb: Command<'a>) -> Result<Command<'a>, AllocError> {
-    command.subcommand(verb)
+fn with_verb<'a>(
+    command: Command<'a>,
+    verb: Result<Command<'a>, AllocError>,
+) -> Result<Command<'a>, AllocError> {
+    match verb {
+        Ok(verb) => command.subcommand(verb),
+        Err(error) => {
+            drop(command);
+            Err(error)
+        }
+    }
 }
 
 fn path_arg<'a>(alloc: Global, name: &'a str, help: &'a str) -> Arg<'a> {
@@ -167,13 +177,13 @@ fn migrate_verb<'a>(alloc: Global) -> Result<Command<'a>, AllocError> {
 }
 
 fn command<'a>(alloc: Global) -> Result<Command<'a>, AllocError> {
-    let all = with_verb(program(alloc)?, new_verb(alloc)?)?;
-    let all = with_verb(all, run_verb(alloc)?)?;
-    let all = with_verb(all, verb_with_file(alloc, "check", CHECK_ABOUT)?)?;
-    let all = with_verb(all, verb_with_file(alloc, "dump", DUMP_ABOUT)?)?;
-    let all = with_verb(all, verb_with_file(alloc, "stat", STAT_ABOUT)?)?;
-    let all = with_verb(all, build_verb(alloc)?)?;
-    with_verb(all, migrate_verb(alloc)?)
+    let all = with_verb(program(alloc)?, new_verb(alloc))?;
+    let all = with_verb(all, run_verb(alloc))?;
+    let all = with_verb(all, verb_with_file(alloc, "check", CHECK_ABOUT))?;
+    let all = with_verb(all, verb_with_file(alloc, "dump", DUMP_ABOUT))?;
+    let all = with_verb(all, verb_with_file(alloc, "stat", STAT_ABOUT))?;
+    let all = with_verb(all, build_verb(alloc))?;
+    with_verb(all, migrate_verb(alloc))
 }
 
 fn number_in(matches: &ArgMatches<'_>, name: &str, default: u32) -> u32 {
@@ -252,7 +262,9 @@ fn asked_of(alloc: Global, matches: &ArgMatches<'_>) -> Result<Asked, AllocError
 // What the words ask for, or what is said in place of it.
 fn asked_in<S: AsStr>(alloc: Global, words: &[S]) -> Result<Asked, Error> {
     let matches = command(alloc)?.try_get_matches_from(words)?;
-    Ok(asked_of(alloc, &matches)?)
+    let asked = asked_of(alloc, &matches);
+    drop(matches);
+    Ok(asked?)
 }
 
 // Whether this is asked for, and so no fault.
@@ -286,6 +298,10 @@ pub fn read<S: AsStr, W: Write, E: Write>(
 ) -> Result<Asked, u8> {
     match asked_in(alloc, words) {
         Ok(asked) => Ok(asked),
-        Err(error) => Err(say(&error, output, errors)),
+        Err(error) => {
+            let status = say(&error, output, errors);
+            drop(error);
+            Err(status)
+        }
     }
 }

@@ -3,7 +3,7 @@ use crate::quiet_tests::hand_out;
 use crate::values::{pair_of, row_of};
 use heap_pages::Heap;
 use marked_index::MarkedIndex;
-use records::{Change, Error, Geometry, Mark, Rid, Rows, SLOTS_PER_PAGE};
+use records::{Change, Error, Geometry, Mark, Pair, Rid, Rows, SLOTS_PER_PAGE};
 use sorted_scan::Scan;
 use std::alloc::Allocator;
 use std::process::Abort;
@@ -27,25 +27,34 @@ pub(crate) fn scan_rows<A: Allocator + Copy>(
     Ok(scan)
 }
 
-// Fills a page, whose pairs come from a scan then.
-fn scan_page<A: Allocator + Copy>(rt: &impl Abort, memory: A) -> Result<(), Error> {
-    let mut heap = Heap::new(memory, 1)?;
+fn fill_page<A: Allocator + Copy>(rt: &impl Abort, heap: &mut Heap<A>) -> Result<(), Error> {
     for slot in 0..SLOTS_PER_PAGE {
         assert!(rt; heap.pages() == 1);
         let rid = Rid { page: 0, slot };
         heap.set(rid, Some(row_of(u32::from(slot))?));
     }
-    let mut scan = scan_rows(rt, memory, &heap)?;
+    Ok(())
+}
+
+fn scan_all<A: Allocator + Copy>(rt: &impl Abort, memory: A, heap: &Heap<A>) -> Result<(), Error> {
+    let mut scan = scan_rows(rt, memory, heap)?;
     for _ in 0..SLOTS_PER_PAGE {
         assert!(rt; hand_out(&mut scan).is_some());
     }
     assert!(rt; hand_out(&mut scan).is_none());
+    drop(scan);
     Ok(())
 }
 
-// Four transactions make nine changes each.
-fn change_rows<A: Allocator + Copy>(memory: A) -> Result<(), Error> {
-    let mut table = TxnTable::new(memory);
+// Fills a page, whose pairs come from a scan then.
+fn scan_page<A: Allocator + Copy>(rt: &impl Abort, memory: A) -> Result<(), Error> {
+    let mut heap = Heap::new(memory, 1)?;
+    let scanned = fill_page(rt, &mut heap).and_then(|()| scan_all(rt, memory, &heap));
+    drop(heap);
+    scanned
+}
+
+fn change_in<A: Allocator + Copy>(table: &mut TxnTable<A>) -> Result<(), Error> {
     for page in 0..4u32 {
         let txn = table.begin()?;
         for position in 0..9u8 {
@@ -66,30 +75,51 @@ fn change_rows<A: Allocator + Copy>(memory: A) -> Result<(), Error> {
     Ok(())
 }
 
-// Each way to add an entry, by turns; then the shown ones of a key are listed.
-fn add_entries<A: Allocator + Copy>(rt: &impl Abort, memory: A) -> Result<(), Error> {
-    let mut index = MarkedIndex::new(memory, Geometry::new(1, 256, 4)?);
+// Four transactions make nine changes each.
+fn change_rows<A: Allocator + Copy>(memory: A) -> Result<(), Error> {
+    let mut table = TxnTable::new(memory);
+    let changed = change_in(&mut table);
+    drop(table);
+    changed
+}
+
+fn add_entry<A: Allocator + Copy>(
+    rt: &impl Abort,
+    index: &mut MarkedIndex<A>,
+    number: u32,
+    pair: &Pair,
+) -> Result<(), Error> {
+    assert!(rt; 0 < index.pledged());
+    match number % 4 {
+        0 => index.txn_put(pair).and(Ok(())),
+        1 => index.txn_mark(pair).and(Ok(())),
+        2 => index.build_put(pair).and(Ok(())),
+        _ => index.load(pair, Some(Mark::Live)),
+    }
+}
+
+fn add_to<A: Allocator + Copy>(
+    rt: &impl Abort,
+    memory: A,
+    index: &mut MarkedIndex<A>,
+) -> Result<(), Error> {
     for number in 0..34u32 {
         let pair = pair_of(number)?;
         index.pledge()?;
-        assert!(rt; 0 < index.pledged());
-        match number % 4 {
-            0 => {
-                index.txn_put(&pair)?;
-            }
-            1 => {
-                index.txn_mark(&pair)?;
-            }
-            2 => {
-                index.build_put(&pair)?;
-            }
-            _ => index.load(&pair, Some(Mark::Live))?,
-        }
+        add_entry(rt, index, number, &pair)?;
         assert!(rt; index.get(&pair).is_some());
     }
     let shown = index.shown_of(memory, pair_of(0)?.key)?;
     assert!(rt; shown.len() == 1);
     Ok(())
+}
+
+// Each way to add an entry, by turns; then the shown ones of a key are listed.
+fn add_entries<A: Allocator + Copy>(rt: &impl Abort, memory: A) -> Result<(), Error> {
+    let mut index = MarkedIndex::new(memory, Geometry::new(1, 256, 4)?);
+    let added = add_to(rt, memory, &mut index);
+    drop(index);
+    added
 }
 
 fn use_part<A: Allocator + Copy>(rt: &impl Abort, memory: A, part: u8) -> Result<(), Error> {

@@ -41,15 +41,21 @@ fn row_in<A: Allocator + Copy>(heap: &Heap<A>) -> Option<Row> {
     heap.get(RID)
 }
 
+fn set_and_clear<A: Allocator + Copy>(rt: &impl Abort, heap: &mut Heap<A>) -> Result<(), Error> {
+    let row = Some(row_of(7)?);
+    set_row(rt, heap, row);
+    assert!(rt; row_in(heap) == row);
+    set_row(rt, heap, None);
+    assert!(rt; row_in(heap).is_none());
+    Ok(())
+}
+
 fn use_heap<A: Allocator + Copy>(rt: &impl Abort, memory: &Memory, within: A) -> Result<(), Error> {
     let mut heap = Heap::new(within, 1)?;
     memory.refuse_after(0);
-    use_page(rt)?;
-    set_row(rt, &mut heap, Some(row_of(7)?));
-    assert!(rt; row_in(&heap) == Some(row_of(7)?));
-    set_row(rt, &mut heap, None);
-    assert!(rt; row_in(&heap).is_none());
-    Ok(())
+    let used = use_page(rt).and_then(|()| set_and_clear(rt, &mut heap));
+    drop(heap);
+    used
 }
 
 fn mark<A: Allocator + Copy>(rt: &impl Abort, tree: &mut BTree<A>, pair: &Pair) {
@@ -62,19 +68,29 @@ fn above<A: Allocator + Copy>(tree: &BTree<A>, pair: &Pair) -> Option<(Pair, Mar
 }
 
 // The pair that is put last splits a leaf, and with it the tree gets a root. Its removal makes them one leaf again.
-fn use_tree<A: Allocator + Copy>(rt: &impl Abort, memory: &Memory, within: A) -> Result<(), Error> {
-    let mut tree = BTree::new(within);
+fn split_and_join<A: Allocator + Copy>(
+    rt: &impl Abort,
+    memory: &Memory,
+    tree: &mut BTree<A>,
+) -> Result<(), Error> {
     for number in 0..32u32 {
-        put(rt, &mut tree, number)?;
+        put(rt, tree, number)?;
     }
     let (pair, before) = (pair_of(32)?, pair_of(31)?);
-    put_quietly(rt, &mut tree, &pair, Some(memory))?;
-    assert!(rt; found(&tree, &pair) == (Some(Mark::Live), 2));
-    mark(rt, &mut tree, &pair);
-    assert!(rt; above(&tree, &before) == Some((pair, Mark::Marked)));
-    take(rt, &mut tree, &pair);
-    assert!(rt; tree.len() == 32 && above(&tree, &before).is_none());
+    put_quietly(rt, tree, &pair, Some(memory))?;
+    assert!(rt; found(tree, &pair) == (Some(Mark::Live), 2));
+    mark(rt, tree, &pair);
+    assert!(rt; above(tree, &before) == Some((pair, Mark::Marked)));
+    take(rt, tree, &pair);
+    assert!(rt; tree.len() == 32 && above(tree, &before).is_none());
     Ok(())
+}
+
+fn use_tree<A: Allocator + Copy>(rt: &impl Abort, memory: &Memory, within: A) -> Result<(), Error> {
+    let mut tree = BTree::new(within);
+    let used = split_and_join(rt, memory, &mut tree);
+    drop(tree);
+    used
 }
 
 fn pledge<A: Allocator + Copy>(rt: &impl Abort, index: &mut MarkedIndex<A>) -> Result<(), Error> {
@@ -156,24 +172,34 @@ fn end<A: Allocator + Copy>(table: &mut TxnTable<A>, txn: Txn) -> Result<(), Err
     table.end(txn)
 }
 
+fn change_and_undo<A: Allocator + Copy>(
+    rt: &impl Abort,
+    memory: &Memory,
+    table: &mut TxnTable<A>,
+) -> Result<(), Error> {
+    let change = Change {
+        position: 0,
+        rid: RID,
+        rows: Rows::Inserted { new: row_of(7)? },
+    };
+    let txn = changing(table, change)?;
+    memory.refuse_after(0);
+    assert!(rt; holds(table, txn));
+    assert!(rt; undone(table, txn) == Some(change));
+    end(table, txn)?;
+    assert!(rt; table.is_empty());
+    Ok(())
+}
+
 fn use_table<A: Allocator + Copy>(
     rt: &impl Abort,
     memory: &Memory,
     within: A,
 ) -> Result<(), Error> {
     let mut table = TxnTable::new(within);
-    let change = Change {
-        position: 0,
-        rid: RID,
-        rows: Rows::Inserted { new: row_of(7)? },
-    };
-    let txn = changing(&mut table, change)?;
-    memory.refuse_after(0);
-    assert!(rt; holds(&table, txn));
-    assert!(rt; undone(&mut table, txn) == Some(change));
-    end(&mut table, txn)?;
-    assert!(rt; table.is_empty());
-    Ok(())
+    let used = change_and_undo(rt, memory, &mut table);
+    drop(table);
+    used
 }
 
 fn next<A: Allocator + Copy>(scan: &Scan<A>) -> Option<Pair> {
@@ -184,6 +210,11 @@ pub(crate) fn hand_out<A: Allocator + Copy>(scan: &mut Scan<A>) -> Option<Pair> 
     scan.hand_out()
 }
 
+fn hand_out_all<A: Allocator + Copy>(rt: &impl Abort, scan: &mut Scan<A>, pair: Pair) {
+    assert!(rt; next(scan) == Some(pair) && hand_out(scan) == Some(pair));
+    assert!(rt; next(scan).is_none() && scan.remaining() == 0);
+}
+
 fn use_scan<A: Allocator + Copy>(rt: &impl Abort, memory: &Memory, within: A) -> Result<(), Error> {
     let (row, pair) = (row_of(7)?, pair_of(7)?);
     let mut heap = Heap::new(within, 1)?;
@@ -192,8 +223,7 @@ fn use_scan<A: Allocator + Copy>(rt: &impl Abort, memory: &Memory, within: A) ->
     drop(heap);
     let mut scan = scanned?;
     memory.refuse_after(0);
-    assert!(rt; next(&scan) == Some(pair) && hand_out(&mut scan) == Some(pair));
-    assert!(rt; next(&scan).is_none() && scan.remaining() == 0);
+    hand_out_all(rt, &mut scan, pair);
     drop(scan);
     Ok(())
 }

@@ -59,18 +59,28 @@ fn levels_of(pairs: u32) -> u32 {
     }
 }
 
-fn grow_and_shrink<A: Allocator + Copy>(rt: &impl Abort, memory: A) -> Result<(), Error> {
-    let mut tree = BTree::new(memory);
+fn grow<A: Allocator + Copy>(rt: &impl Abort, tree: &mut BTree<A>) -> Result<(), Error> {
     for number in 1..=33u32 {
-        put(rt, &mut tree, number)?;
+        put(rt, tree, number)?;
         assert!(rt; tree.height() == levels_of(number), "with {number} pairs");
     }
+    Ok(())
+}
+
+fn shrink<A: Allocator + Copy>(rt: &impl Abort, tree: &mut BTree<A>) -> Result<(), Error> {
     for left in (0..=32u32).rev() {
-        take(rt, &mut tree, &pair_of(left + 1)?);
+        take(rt, tree, &pair_of(left + 1)?);
         let is_low = tree.height() == levels_of(left);
         assert!(rt; is_low || left == 32, "with {left} pairs");
     }
     Ok(())
+}
+
+fn grow_and_shrink<A: Allocator + Copy>(rt: &impl Abort, memory: A) -> Result<(), Error> {
+    let mut tree = BTree::new(memory);
+    let done = grow(rt, &mut tree).and_then(|()| shrink(rt, &mut tree));
+    drop(tree);
+    done
 }
 
 #[test]
@@ -94,16 +104,26 @@ fn runs_of<A: Allocator + Copy>(tree: &BTree<A>) -> (usize, usize) {
     (tree.len(), met)
 }
 
+fn fill_tree<A: Allocator + Copy>(
+    rt: &impl Abort,
+    tree: &mut BTree<A>,
+    highest: u32,
+) -> Result<(), Error> {
+    for number in 0..65_536u32 {
+        put(rt, tree, number.abs_diff(highest))?;
+    }
+    assert!(rt; tree.len() == 65_536 && tree.height() <= 4);
+    let (runs, met) = runs_of(tree);
+    assert!(rt; runs <= 4_096 && met == 65_536, "{runs} runs met {met}");
+    Ok(())
+}
+
 // Puts in as many pairs as a tree may have, rising from 0 or falling from the highest. A run has 16 entries or more.
 fn fill<A: Allocator + Copy>(rt: &impl Abort, memory: A, highest: u32) -> Result<(), Error> {
     let mut tree = BTree::new(memory);
-    for number in 0..65_536u32 {
-        put(rt, &mut tree, number.abs_diff(highest))?;
-    }
-    assert!(rt; tree.len() == 65_536 && tree.height() <= 4);
-    let (runs, met) = runs_of(&tree);
-    assert!(rt; runs <= 4_096 && met == 65_536, "{runs} runs met {met}");
-    Ok(())
+    let filled = fill_tree(rt, &mut tree, highest);
+    drop(tree);
+    filled
 }
 
 #[test]
@@ -153,6 +173,29 @@ fn refuse_each<A: Allocator + Copy>(
     Err("fewer allocations of an insertion")?
 }
 
+fn refuse_and_put_in<A: Allocator + Copy>(
+    rt: &impl Abort,
+    alloc: Global,
+    memory: &Memory,
+    tree: &mut BTree<A>,
+) -> Result<(), Fail> {
+    let mut numbers = Vec::new(alloc);
+    let mut refused: u64 = 0;
+    let mut number: u32 = 0;
+    for _ in 0..2_000 {
+        number = (number % 2_000 + 709) % 2_000;
+        let more = refuse_each(rt, memory, tree, number, &numbers)?;
+        refused = refused.saturating_add(more);
+        put(rt, tree, number)?;
+        let Err(at) = numbers.binary_search(&number) else {
+            return Err("a number that is there")?;
+        };
+        numbers.insert(at, number)?;
+    }
+    assert!(rt; tree.len() == 2_000 && walks(tree, &numbers)? && 100 < refused);
+    Ok(())
+}
+
 // Puts numbers in, before each of which its insertion is refused. The tree takes this memory, which may refuse.
 fn refuse_and_put<A: Allocator + Copy>(
     rt: &impl Abort,
@@ -161,21 +204,9 @@ fn refuse_and_put<A: Allocator + Copy>(
     within: A,
 ) -> Result<(), Fail> {
     let mut tree = BTree::new(within);
-    let mut numbers = Vec::new(alloc);
-    let mut refused: u64 = 0;
-    let mut number: u32 = 0;
-    for _ in 0..2_000 {
-        number = (number % 2_000 + 709) % 2_000;
-        let more = refuse_each(rt, memory, &tree, number, &numbers)?;
-        refused = refused.saturating_add(more);
-        put(rt, &mut tree, number)?;
-        let Err(at) = numbers.binary_search(&number) else {
-            return Err("a number that is there")?;
-        };
-        numbers.insert(at, number)?;
-    }
-    assert!(rt; tree.len() == 2_000 && walks(&tree, &numbers)? && 100 < refused);
-    Ok(())
+    let put = refuse_and_put_in(rt, alloc, memory, &mut tree);
+    drop(tree);
+    put
 }
 
 #[test]
