@@ -50,8 +50,8 @@ pub record Starts (sectors : ℕ) (geometry : GeometryValue) (fails_at : ℕ) (s
 
 -- why no store was made and opened on a new disk of so many sectors
 abbrev pub IsNoStart : ℕ → GeometryValue → Error → Type 0
-IsNoStart sectors geometry e = ((e ≡ DeviceTooSmall) × (sectors < sectors_of geometry)) ⊎ (e ≡ DeviceFailed)
-    ⊎ (e ≡ NoMemory)
+IsNoStart sectors geometry e = ((e ≡ DeviceTooSmall) × (sectors < sectors_of geometry))
+    ⊎ ((e ≡ DeviceFailed) × (sectors_of geometry ≤ sectors)) ⊎ (e ≡ NoMemory)
 
 -- The number of the call that is cut short: 0 where none was asked for, and else so many more than such a session makes
 -- as it is opened with none cut short.
