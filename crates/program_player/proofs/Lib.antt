@@ -1,2 +1,3 @@
 mod Made
 mod Started
+mod Kept

@@ -1,5 +1,5 @@
 //! The program over what it reads and writes.
-ghost use Rattle.std.specs.Prelude.{◌≡◌, ◌⊎◌, map, IfOk, IfErr, OnOk};
+ghost use Rattle.std.specs.Prelude.{◌≡◌, ◌⊎◌, map, Ok, IfOk, IfErr, OnOk};
 ghost use Rattle.program_script.specs.Grammar.{lines, IsScript};
 ghost use Rattle.program_player.specs.Runs.{Prints, GoesOn, Restarts, MakesSteps, Runs, RunsCommand, RunsCommands};
 ghost use Rattle.program_player.specs.Plays.{geometry_of, sectors_asked, Starts, IsNoStart, IsCutAt, StartsFor};
@@ -32,6 +32,19 @@ fn print<W: Write>(output: &mut W, answer: &Answer) -> io::Result<()>
     writeln!(output, "{answer}")
 }
 
+// What is owned is kept where the output took what was printed, and let go of where it didn't.
+fn keep<T: Drop>(printed: io::Result<()>, owned: T) -> io::Result<T>
+    ensures { IfOk result (λ kept. (kept ≡ owned) × (printed ≡ Ok tt)) }
+{
+    match printed {
+        Ok(()) => Ok(owned),
+        Err(error) => {
+            drop(owned);
+            Err(error)
+        }
+    }
+}
+
 // Prints the answer, and goes on with the session unless it was stopped.
 fn go_on<W: Write>(
     session: Session,
@@ -41,13 +54,10 @@ fn go_on<W: Write>(
     ensures { IfOk result (λ next. GoesOn W.contents answer session next output.old output.new) }
 {
     match answer {
-        Ok(answer) => match print(output, &answer) {
-            Ok(()) => Ok(Ok(session)),
-            Err(error) => {
-                drop(session);
-                Err(error)
-            }
-        },
+        Ok(answer) => {
+            let session = keep(print(output, &answer), session)?;
+            Ok(Ok(session))
+        }
         Err(Stopped) => Ok(Err(End::Stopped(session.into_disk()))),
     }
 }
@@ -57,13 +67,11 @@ fn crash<W: Write>(session: Session, fate: Fate, output: &mut W) -> io::Result<R
     ensures { IfOk result (λ next. Restarts W.contents fate session next output.old output.new) }
 {
     match session.crash(fate) {
-        Ok(session) => match print(output, &Answer::Restart(session.life())) {
-            Ok(()) => Ok(Ok(session)),
-            Err(error) => {
-                drop(session);
-                Err(error)
-            }
-        },
+        Ok(session) => {
+            let printed = print(output, &Answer::Restart(session.life()));
+            let session = keep(printed, session)?;
+            Ok(Ok(session))
+        }
         Err(end) => Ok(Err(end)),
     }
 }
@@ -80,13 +88,8 @@ fn make_steps<W: Write>(
     for _ in 0..count {
         match session.serve(*event) {
             Ok(answer) => {
-                match print(output, &answer) {
-                    Ok(()) => (),
-                    Err(error) => {
-                        drop(session);
-                        return Err(error);
-                    }
-                }
+                let kept = keep(print(output, &answer), session)?;
+                session = kept;
                 if answer.is_last_step() {
                     return Ok(Ok(session));
                 }
@@ -121,13 +124,10 @@ fn serve<W: Write>(
             go_on(session, answer, output)
         }
         Request::Crash(fate) => crash(session, fate, output),
-        Request::Dump => match session.dump(output) {
-            Ok(()) => Ok(Ok(session)),
-            Err(error) => {
-                drop(session);
-                Err(error)
-            }
-        },
+        Request::Dump => {
+            let session = keep(session.dump(output), session)?;
+            Ok(Ok(session))
+        }
     }
 }
 
@@ -230,13 +230,7 @@ fn show<W: Write>(session: &Session, output: &mut W) -> io::Result<()>
 fn after_stop<W: Write>(alloc: Global, disk: Disk, fate: Fate, output: &mut W) -> io::Result<u8>
     ensures { IfOk result (λ status. IsStopped W.contents fate disk status output.old output.new) }
 {
-    match print(output, &Answer::Stopped) {
-        Ok(()) => (),
-        Err(error) => {
-            drop(disk);
-            return Err(error);
-        }
-    }
+    let disk = keep(print(output, &Answer::Stopped), disk)?;
     match Session::reopen(alloc, disk, fate) {
         Ok(session) => {
             let shown = show(&session, output);

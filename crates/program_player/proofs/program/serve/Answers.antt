@@ -1,4 +1,4 @@
-use Rattle.std.proofs.Common.{◌≡◌, ℕ, List, Option, Result, Ok, Err, IfOk, sym, subst}
+use Rattle.std.proofs.Common.{◌≡◌, ℕ, List, Option, Result, Ok, Err, IfOk, ap, sym, subst}
 use Rattle.std.specs.declared.alloc.Global.{Global}
 use Rattle.restart.specs.declared.event.Event.{Event}
 use Rattle.restart.specs.declared.event.Reply.{Reply}
@@ -10,6 +10,7 @@ use Rattle.program_commands.specs.declared.request.Request.TheVariants as reques
 use Rattle.program_player.specs.declared.session.Session.{Session}
 use Rattle.program_player.specs.declared.session.Stopped.{Stopped}
 use Rattle.program_player.specs.declared.session.End.{End}
+use Rattle.program_player.proofs.Kept.{on_ok_of}
 use Rattle.program_player.proofs.program.serve.Goals as goal
 
 module _ {W F : Type 0} (contents : W → Option (List ℕ)) (old new : Session) (before after : W) (answer : Result Answer Stopped) where
@@ -63,3 +64,9 @@ returns-in-Image g c =
     (sym c.in-Image.is)
     (image_runs g.W.Write.contents c.args.session c.image-answer.new.self c.args.output.now c.go_on-in-Image.new.output c.image-answer.result
     c.go_on-in-Image.result c.image-answer.ensures c.go_on-in-Image.ensures)
+
+pub returns-in_ok-session-in-Dump : goal.returns-in_ok-session-in-Dump
+returns-in_ok-session-in-Dump g c =
+    subst (λ (r : Request). Runs g.W.Write.contents r c.args.session (Ok c.in_ok-session-in-Dump.session) c.args.output.now c.dump.new.output)
+    (sym c.in-Dump.is)
+    (ap Ok c.in_ok-session-in-Dump.ensures.0, on_ok_of _ c.dump.result tt c.in_ok-session-in-Dump.ensures.1 c.dump.ensures)
