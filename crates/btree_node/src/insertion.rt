@@ -84,7 +84,7 @@ fn insert_in_leaf<A: Allocator>(
     Some(Child { least, node: upper })
 }
 
-/// Puts an entry into a subtree by its path. If the top node is split, the upper half comes back.
+/// Puts an entry into a node or one below it, by its path. If the node itself is split, its upper half comes back.
 fn insert_below<A: Allocator>(
     node: &mut Node<A>,
     path: &[usize],

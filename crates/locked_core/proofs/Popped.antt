@@ -1,5 +1,5 @@
 -- What was popped can follow what was opened.
-use Rattle.std.proofs.Common.{◌≡◌, ℕ, zero, suc, ◌≤◌, List, [], ◌∷◌, ◌++◌, length, take, drop, refl, sym, ap, ◌∙◌, subst, arith, length-append}
+use Rattle.std.proofs.Common.{◌≡◌, ℕ, zero, suc, ◌+◌, ◌≤◌, List, [], ◌∷◌, ◌++◌, length, take, drop, refl, sym, ap, ◌∙◌, subst, arith, length-append}
 use Rattle.std.proofs.Math.Logic.{∥∥₁_elim, ∥∥₁_map}
 use Rattle.std.proofs.lemmas.List.{take-append-drop}
 use Rattle.std.specs.Coded.{le_prop}
@@ -48,6 +48,13 @@ popped_follow o core pushed book popped is shared =
       in_order = following_whole o.pages o.given.last (opening_cells o.given) popped (∥∥₁_map told (λ all. all.in_order));
       small = ∥∥₁_elim told le_prop (λ all. all.small);
     }
+
+-- ---- the last record that was pushed
+
+-- the records made are those pushed and those that wait
+pub pushed_then_waiting : (from last waiting : ℕ) (pushed outbox : List RecordValue) → last ≡ from + length (pushed ++ outbox) → waiting ≡ length outbox
+    → last ≡ from + length pushed + waiting
+pushed_then_waiting from last waiting pushed outbox made wait = omega (arith, made, wait, length-append pushed outbox)
 
 -- ---- places for the entries
 

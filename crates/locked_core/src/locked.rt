@@ -1,7 +1,7 @@
 //! What lies under the lock, and the steps on it.
 ghost use Rattle.std.specs.FinMap as table;
 ghost use Rattle.std.specs.Prelude.{◌≡◌, ◌↔◌, ◌++◌, ◌∷◌, [], IsTrue, false, true, Err, None, Option, Some, IfErr, IfOk};
-ghost use Rattle.std.specs.Prelude.{List, OnErr, OnOk, length, map, slice_get, slice_set, take, ℕ};
+ghost use Rattle.std.specs.Prelude.{◌+◌, List, OnErr, OnOk, length, map, slice_get, slice_set, take, ℕ};
 ghost use Rattle.record_values.specs.GeometryValue.{GeometryValue};
 ghost use Rattle.core_model.specs.Events.{Event, Reply};
 ghost use Rattle.record_values.specs.declared.error.Error.TheVariants.{NoMemory, NoSuchTxn};
@@ -128,6 +128,14 @@ impl<B: Group, A: Memory> Locked<B, A> {
         };
         self.core.take_outbox(&mut sink);
         self.core.waiting() == 0
+    }
+
+    /// The number of the last record that was pushed to the queue, or of the last one before the opening.
+    pub fn last_pushed(&self) -> u64
+        ensures { result ≡ B.site.opened.given.last + length (locked_of self.now).pushed }
+    {
+        self.each_hold();
+        self.core.last() - self.core.waiting() as u64
     }
 
     /// Compares what was popped of the queue with what was pushed to it: it is the first of that, in order, its records

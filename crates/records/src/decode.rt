@@ -1,4 +1,4 @@
-//! Reading records.
+//! Reading records. Each function takes one field off the front of the bytes, and gives what is behind it.
 ghost use Rattle.std.specs.Prelude.{◌≡◌, ◌≤◌, ◌-◌, ◌++◌, List, ℕ, length, take, IfSome, IfNone, IsTrue};
 ghost use Rattle.records.specs.RecordValue.{RecordValue, has_part, txn_has_rows, has_rows};
 ghost use Rattle.records.specs.Spelling.{spelling, Fits};

@@ -1,3 +1,4 @@
+mod Again
 pub mod Counts
 pub mod Moments
 pub mod Record

@@ -74,13 +74,13 @@ is_synced synced_at [] k before = refl
 is_synced synced_at (at ∷ written_at) zero before = grind (arith, nat_tests, before)
 is_synced synced_at (at ∷ written_at) (suc k) before = is_synced synced_at written_at k before
 
-unsynced-set : (synced_at : ℕ) (written_at : List ℕ) (n now : ℕ) → synced_at < now
+pub unsynced-set : (synced_at : ℕ) (written_at : List ℕ) (n now : ℕ) → synced_at < now
     → unsynced_since synced_at (slice_set written_at n now) ≡ slice_set (unsynced_since synced_at written_at) n true
 unsynced-set synced_at [] n now after = refl
 unsynced-set synced_at (at ∷ written_at) zero now after = ap (λ (b : Bool). b ∷ unsynced_since synced_at written_at) (grind (arith, nat_tests, after))
 unsynced-set synced_at (at ∷ written_at) (suc n) now after = ap (λ (l : List Bool). nat_lt synced_at at ∷ l) (unsynced-set synced_at written_at n now after)
 
-none_unsynced : (synced_at : ℕ) (written_at : List ℕ) → ((k : ℕ) → slice_index written_at k ≤ synced_at)
+pub none_unsynced : (synced_at : ℕ) (written_at : List ℕ) → ((k : ℕ) → slice_index written_at k ≤ synced_at)
     → unsynced_since synced_at written_at ≡ replicate (length written_at) false
 none_unsynced synced_at [] before = refl
 none_unsynced synced_at (at ∷ written_at) before =

@@ -1,5 +1,5 @@
 -- What a disk in memory holds.
-use Rattle.std.specs.Prelude.{ℕ, ◌⊎◌, ◌+◌, ◌-◌, ◌≤◌, length, slice_index, vec_len, vec_capacity}
+use Rattle.std.specs.Prelude.{ℕ, ◌⊎◌, ◌+◌, ◌-◌, ◌≤◌, length, take, slice_index, vec_len, vec_capacity}
 use Rattle.sector_device.specs.declared.memory.MemDisk.{MemDisk}
 use Rattle.sector_device.specs.Disk.{CrashState}
 use Rattle.sector_device.specs.DevicePast.{DevicePast}
@@ -17,6 +17,10 @@ module _ {A : Type 0} where
   -- the content, the content at the last sync, and which sectors are unsynced
   abbrev pub state_of : MemDisk A → MemoryState
   state_of d = state_after (initial_state d.first.items) d.calls.items
+
+  -- the same after so many calls of its record
+  abbrev pub state_at : MemDisk A → ℕ → MemoryState
+  state_at d moment = state_after (initial_state d.first.items) (take moment d.calls.items)
 
   -- what each sector held at the last sync
   abbrev pub last_synced_of : MemDisk A → CrashState

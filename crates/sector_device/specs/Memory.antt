@@ -53,6 +53,10 @@ memory_past first calls whole = record {
 abbrev pub unsynced_since : ℕ → List ℕ → List Bool
 unsynced_since synced_at written_at = map (λ at. nat_lt synced_at at) written_at
 
+-- a state by its lists: the content, the content at the last sync, and marks, above 0 for the unsynced sectors
+abbrev pub marked_state : (content synced : CrashState) (marks : List ℕ) → MemoryState
+marked_state content synced marks = record { content = content; synced = synced; unsynced = unsynced_since 0 marks }
+
 -- This is how a disk in memory keeps a state that so many calls made: the content; of each unsynced sector also what it
 -- held at the last sync; and after how many calls each sector was written last, and the disk synced last.
 pub record Represents (s : MemoryState) (calls : ℕ) (content before : CrashState) (written_at : List ℕ)

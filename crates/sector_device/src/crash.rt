@@ -1,8 +1,10 @@
 // What a crash makes of the unsynced sectors of a disk in memory.
-ghost use Rattle.std.specs.Prelude.{◌≡◌, length};
-ghost use Rattle.sector_device.specs.Memory.{unsynced_since};
+ghost use Rattle.std.specs.Prelude.{◌≡◌, length, slice_set, true};
+ghost use Rattle.sector_device.specs.Disk.{IsCrashState, IsDiskWhole, IsSector};
+ghost use Rattle.sector_device.specs.Memory.{disk_of, initial_state, marked_state, state_after, step, unsynced_since};
 ghost use Rattle.sector_device.specs.Crash.{IsJunk, IsFilled, HasFate, IsCrashed, fate_at};
 
+use crate::call::Call;
 use crate::{Fate, MARK, SECTOR_SIZE};
 
 fn filled(byte: u8) -> [u8; SECTOR_SIZE]
@@ -64,4 +66,91 @@ pub(crate) fn tear(
             next += 1;
         }
     }
+}
+
+// A sector of these bytes.
+fn sector_of(bytes: &[u8; SECTOR_SIZE]) -> [u8; SECTOR_SIZE]
+    ensures value { result ≡ bytes.now }
+    ensures whole { IsSector result }
+{
+    let mut sector = [0; SECTOR_SIZE];
+    sector.copy_from_slice(bytes);
+    sector
+}
+
+// Writes a sector again, and marks it; nothing where there is no such sector.
+fn write_again(
+    content: &mut [[u8; SECTOR_SIZE]],
+    marks: &mut [usize],
+    at: usize,
+    bytes: &[u8; SECTOR_SIZE],
+)
+    requires { length marks.old ≡ length content.old }
+    ensures content { content.new ≡ slice_set content.old at bytes.now }
+    ensures marks { unsynced_since 0 marks.new ≡ slice_set (unsynced_since 0 marks.old) at true }
+    ensures whole { IsDiskWhole content.old → IsDiskWhole content.new }
+    ensures sectors { length content.new ≡ length content.old }
+    ensures size { length marks.new ≡ length marks.old }
+{
+    if content.len() <= at {
+        return;
+    }
+    content[at] = sector_of(bytes);
+    marks[at] = 1;
+}
+
+// Makes a call again. A sector is unsynced where it is marked.
+fn make_again(
+    call: &Call,
+    content: &mut [[u8; SECTOR_SIZE]],
+    synced: &mut [[u8; SECTOR_SIZE]],
+    marks: &mut [usize],
+)
+    requires synced { length synced.old ≡ length content.old }
+    requires marks { length marks.old ≡ length content.old }
+    ensures state { marked_state content.new synced.new marks.new
+        ≡ step (marked_state content.old synced.old marks.old) call.now }
+    ensures whole { IsDiskWhole content.old → IsDiskWhole content.new }
+    ensures synced_whole { IsDiskWhole content.old → IsDiskWhole synced.old → IsDiskWhole synced.new }
+    ensures sectors { length content.new ≡ length content.old }
+    ensures synced_sectors { length synced.new ≡ length synced.old }
+    ensures size { length marks.new ≡ length marks.old }
+{
+    match call {
+        Call::Write { sector, bytes } => write_again(content, marks, *sector as usize, bytes),
+        Call::Sync => {
+            synced.copy_from_slice(content);
+            marks.fill(0);
+        }
+    }
+}
+
+/// Leaves in `content` what a crash leaves of a disk that held the first sectors, all of them synced, and made these
+/// calls.
+pub(crate) fn crash_behind(
+    first: &[[u8; SECTOR_SIZE]],
+    calls: &[Call],
+    content: &mut [[u8; SECTOR_SIZE]],
+    synced: &mut [[u8; SECTOR_SIZE]],
+    marks: &mut [usize],
+    fates: &[Fate],
+)
+    requires whole { IsDiskWhole first.now }
+    requires content { length content.old ≡ length first.now }
+    requires synced { length synced.old ≡ length first.now }
+    requires marks { length marks.old ≡ length first.now }
+    ensures fates { IsCrashed fates.now (state_after (initial_state first.now) calls.now) content.new }
+    ensures crash { IsCrashState (disk_of (state_after (initial_state first.now) calls.now)) content.new }
+    ensures whole { IsDiskWhole content.new }
+    ensures sectors { length content.new ≡ length content.old }
+    ensures synced_sectors { length synced.new ≡ length synced.old }
+    ensures size { length marks.new ≡ length marks.old }
+{
+    content.copy_from_slice(first);
+    synced.copy_from_slice(first);
+    marks.fill(0);
+    for call in calls {
+        make_again(call, content, synced, marks);
+    }
+    tear(content, synced, marks, 0, fates);
 }

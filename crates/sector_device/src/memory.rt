@@ -2,13 +2,14 @@
 // moment might have left.
 ghost use Rattle.std.specs.Prelude.{◌≡◌, ◌+◌, ◌-◌, ◌^◌, ◌<◌, ◌≤◌, length, min, replicate, nat_le, count_by, vec_len};
 ghost use Rattle.std.specs.Prelude.{vec_capacity, IfOk, IsOk, OnOk, OnErr};
-ghost use Rattle.sector_device.specs.Disk.{sector, after_write, after_sync, IsCrashState, IsSynced, IsFailedWrite};
+ghost use Rattle.sector_device.specs.Disk.{sector, after_write, after_sync, IsCrashState, IsDiskWhole, IsSynced};
+ghost use Rattle.sector_device.specs.Disk.{IsFailedWrite};
 ghost use Rattle.sector_device.specs.DevicePast.{Elapses, CountsFailure};
 ghost use Rattle.sector_device.specs.Memory.{initial_state, state_after, Represents};
 ghost use Rattle.sector_device.specs.Values.{zero_sector};
 
 use crate::call::Call;
-use crate::crash::tear;
+use crate::crash::crash_behind;
 use crate::{Device, Failed, Fate, SECTOR_SIZE, zero_sector};
 use std::alloc::{AllocError, Allocator};
 
@@ -28,6 +29,7 @@ pub struct MemDisk<A: Allocator> {
     ghost represents: { Represents (state_after (initial_state first.items) calls.items) (length calls.items)
         content.items before.items written_at.items synced_at },
     ghost first_size: { length first.items ≡ length content.items },
+    ghost first_whole: { IsDiskWhole first.items },
     // a write that fails is recorded too: there is room for one of each sector that is synced
     ghost size: { length content.items ≤ vec_capacity calls },
     ghost room: { vec_len calls + count_by (λ at. nat_le at synced_at) written_at.items ≤ vec_capacity calls },
@@ -67,8 +69,8 @@ fn make_room<A: Allocator>(
 }
 
 impl<A: Allocator + Copy> MemDisk<A> {
-    ghost use Rattle.sector_device.specs.MemDisk.{past_of, failures_of, state_of, last_synced_of, record_room};
-    ghost use Rattle.sector_device.specs.MemDisk.{calls_left, HasRoom};
+    ghost use Rattle.sector_device.specs.MemDisk.{past_of, failures_of, state_of, state_at, last_synced_of};
+    ghost use Rattle.sector_device.specs.MemDisk.{record_room, calls_left, HasRoom};
     ghost use Rattle.sector_device.specs.Crash.{IsCrashed};
 
     /// A disk of zeros, with room to record this many writes and syncs.
@@ -94,6 +96,13 @@ impl<A: Allocator + Copy> MemDisk<A> {
         })
     }
 
+    /// Which moment it is: how many writes and syncs it has recorded.
+    pub fn moment(&self) -> u64
+        ensures { result ≡ (past_of self.now).moment }
+    {
+        self.calls.len() as u64
+    }
+
     /// Stops the disk as a loss of power would. The unsynced sectors, ascending, get the fates in turn, beginning the
     /// list again at its end; an empty list is `Old`. Afterwards no sector is unsynced, and the record begins anew.
     pub fn crash(&mut self, fates: &[Fate])
@@ -106,11 +115,29 @@ impl<A: Allocator + Copy> MemDisk<A> {
         ensures room { record_room self.new ≡ record_room self.old }
         ensures anew { calls_left self.new ≡ record_room self.new }
     {
-        tear(
+        let now = self.moment();
+        self.crash_at(now, fates);
+    }
+
+    /// Stops the disk as a loss of power at this moment would have: what was done later never came to it. All else is
+    /// as `crash` says.
+    pub fn crash_at(&mut self, moment: u64, fates: &[Fate])
+        requires { moment ≤ (past_of self.old).moment }
+        ensures crash { IsCrashState ((past_of self.old).disk_at moment) (past_of self.new).disk.content }
+        ensures fates { IsCrashed fates.now (state_at self.old moment) (past_of self.new).disk.content }
+        ensures synced { IsSynced (past_of self.new).disk }
+        ensures last_synced { last_synced_of self.new ≡ (past_of self.new).disk.content }
+        ensures moment { (past_of self.new).moment ≡ 0 }
+        ensures failures { failures_of self.new ≡ failures_of self.old }
+        ensures room { record_room self.new ≡ record_room self.old }
+        ensures anew { calls_left self.new ≡ record_room self.new }
+    {
+        crash_behind(
+            &self.first,
+            &self.calls[..moment as usize],
             &mut self.content,
-            &self.before,
-            &self.written_at,
-            self.synced_at,
+            &mut self.before,
+            &mut self.written_at,
             fates,
         );
         self.first.copy_from_slice(&self.content);

@@ -121,7 +121,7 @@ fn read_list<D: Device, A: Allocator + Copy>(
     Ok(changes)
 }
 
-// The lists of these heads.
+// Reads the lists of these heads into the sink.
 fn read_lists<D: Device, S: CellSink, A: Allocator + Copy>(
     alloc: A,
     version: Version,
@@ -217,7 +217,7 @@ fn read_page<D: Device, A: Allocator + Copy>(
     Ok(())
 }
 
-// The rows of all pages.
+// Reads the rows of all pages into the sink.
 fn read_pages<D: Device, S: CellSink, A: Allocator + Copy>(
     alloc: A,
     version: Version,
@@ -247,7 +247,8 @@ fn read_pages<D: Device, S: CellSink, A: Allocator + Copy>(
     Ok(())
 }
 
-// The first `count` entries.
+// Reads the first `count` entries into the sink. `Damaged` names the sector of the first that says nothing, or isn't
+// above the one before it.
 fn read_entries<D: Device, S: CellSink, A: Allocator>(
     alloc: A,
     version: Version,

@@ -45,6 +45,11 @@ all_made handed pushed outbox is long =
     ap (λ l. pushed ++ l) (none_longer outbox (omega (arith, size, short, long))) ∙ append-nil pushed
     ∙ sym (is ∙ take_all (length handed) pushed (omega (arith, size, long)))
 
+-- as many were popped as were pushed, and all of them were handed in
+pub all_pushed : (from : ℕ) (handed popped pushed now : List RecordValue) → handed ≡ popped → popped ≡ take (length popped) pushed
+    → from + length popped ≡ from + length pushed → now ≡ pushed → handed ≡ now
+all_pushed from handed popped pushed now all is many same = all ∙ is ∙ take_all (length popped) pushed (omega (arith, many)) ∙ sym same
+
 -- ---- pieces
 
 -- where an image is under way, the copying has come to the place

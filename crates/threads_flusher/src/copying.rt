@@ -92,9 +92,8 @@ impl<B: Group, D: Device, A: Memory> FlushPart<B, D, A> {
         self.writer.open_slots() >= slots / 2
     }
 
-    /// Looks under the lock for records: pushes those that wait in the core to the queue, pops those that wait there,
-    /// and hands in all that is held. No clause says how many are pushed or popped: one that the queue refuses waits on
-    /// in the core.
+    /// Looks under the lock for records: pushes those that wait in the core to the queue, pops all that wait there, and
+    /// hands them in (`all`). No clause says how many are pushed: one that the queue refuses waits on in the core.
     ///
     /// The one error is `NoMemory`. Then what was popped is held, and none was handed in.
     pub fn look<R: Wait>(
@@ -110,13 +109,15 @@ impl<B: Group, D: Device, A: Memory> FlushPart<B, D, A> {
         ensures kept { OnErr result (self.new.handed ≡ self.old.handed) }
         ensures beginning { OnOk result (self.new.handed ≡ take (length self.new.handed)
             (locked_of locked.new).pushed) }
+        ensures all { OnOk result (self.new.handed ≡ (locked_of locked.new).pushed) }
         ensures no_memory { IfErr result (λ e. e ≡ Error.NoMemory) }
         ensures pushed { HandsOn (locked_of locked.old).core (locked_of locked.new).core (locked_of locked.old).pushed
             (locked_of locked.new).pushed }
         ensures book { (locked_of locked.new).book ≡ (locked_of locked.old).book }
     {
         locked.push_outbox(rt, queue);
-        self.take(rt, queue)?;
+        let last = locked.last_pushed();
+        self.take_to(rt, queue, last)?;
         self.hand_in(rt, queue, locked)?;
         Ok(Looked { _seen: () })
     }

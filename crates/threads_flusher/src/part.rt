@@ -1,8 +1,7 @@
 //! What the flusher owns.
 ghost use Rattle.std.specs.FinMap.{len};
 ghost use Rattle.std.specs.Prelude.{◌≡◌, ◌≢◌, ◌-◌, ◌≤◌, ◌++◌, ◌∷◌, ℕ, List, [], length, take, false, Ok, OnOk, OnErr};
-ghost use Rattle.std.specs.Prelude.{IfOk};
-ghost use Rattle.std.specs.Prelude.{IfErr, IsTrue};
+ghost use Rattle.std.specs.Prelude.{◌↔◌, ◌+◌, IfErr, IfOk, IsTrue};
 ghost use Rattle.sector_device.specs.Disk.{CrashState, IsCrashState};
 ghost use Rattle.sector_device.specs.DevicePast.{LeavesOnly};
 ghost use Rattle.records.specs.RecordValue.{RecordValue};
@@ -170,6 +169,7 @@ impl<B: Group, D: Device, A: Memory> FlushPart<B, D, A> {
     pub fn stands(&self)
         ensures { IsFlusher D.past_of B.site.opened self.now }
     {
+        // a call, so that what the writer's type keeps is at hand
         let _synced = self.writer.synced();
     }
 
@@ -187,6 +187,34 @@ impl<B: Group, D: Device, A: Memory> FlushPart<B, D, A> {
             match self.popper.pop(rt, queue) {
                 Some(record) => self.held.push_reserved(record),
                 None => return Ok(()),
+            }
+        }
+        unreachable!()
+    }
+
+    // Whether the last record that was popped has this number.
+    fn has_popped(&self, last: u64) -> bool
+        ensures { IsTrue result ↔ (B.site.opened.given.last + length (popped_by self.now) ≡ last) }
+    {
+        last.checked_sub(self.last) == Some(self.held.len() as u64)
+    }
+
+    // Pops records until the last one that was popped has this number, as the last one has that was pushed.
+    pub(crate) fn take_to<R: Wait>(
+        &mut self,
+        rt: &R,
+        queue: &RecordQueue<A>,
+        last: u64,
+    ) -> Result<(), Error>
+        requires { queue.now ≡ B.site.queue }
+        ensures takes { (more : List RecordValue) × (self.new ≡ record self.old { held = self.old.held ++ more }) }
+        ensures all { OnOk result (B.site.opened.given.last + length (popped_by self.new) ≡ last) }
+        ensures no_memory { IfErr result (λ e. e ≡ Error.NoMemory) }
+    {
+        for _ in rt.forever() {
+            self.take(rt, queue)?;
+            if self.has_popped(last) {
+                return Ok(());
             }
         }
         unreachable!()
@@ -322,7 +350,7 @@ impl<B: Group, D: Device, A: Memory> FlushPart<B, D, A> {
         flipped
     }
 
-    /// The number of the last synced record: what a crash leaves from now on has it.
+    /// The number of the last record that the writer has synced. That a crash leaves it says `IsFlusher` (`stands`).
     pub fn synced(&self) -> u64
         ensures { result ≡ synced_of self.now.writer }
     {

@@ -25,6 +25,7 @@ invariant_of-result g c =
       represents = represents_crashed _ _ _ _ _ (first ∙ sym content) c.in_ok-with_capacity.ensures.items whole (ap length (before ∙ sym content)) (stamps_size
           ∙ sym size) none;
       first_size = ap length (first ∙ sym content);
+      first_whole = subst IsDiskWhole (sym first) (zeros_are_whole c.args.sectors);
       size = fits;
       room = room;
     }

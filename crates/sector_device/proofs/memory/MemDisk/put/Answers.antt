@@ -28,6 +28,7 @@ invariant_of-self g c =
     record {
       represents = represents_push _ _ _ call _ _ _ _ pushed wrote;
       first_size = d.first_size ∙ sym (length-set d.content.items c.args.n c.args.bytes.now);
+      first_whole = d.first_whole;
       size = size;
       room = room;
     }

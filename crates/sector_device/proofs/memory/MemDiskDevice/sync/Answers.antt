@@ -23,6 +23,7 @@ invariant_of-self-2 g c =
     record {
       represents = represents_push _ _ _ Sync _ _ _ _ pushed done;
       first_size = d.first_size;
+      first_whole = d.first_whole;
       size = size;
       room = room;
     }
