@@ -68,10 +68,8 @@ none_lived past_of failures g began device keeps days answers e found none memor
 -- ---- a store that was opened
 
 module _ {D M : Type 0} (past_of : D → DevicePast) (failures : D → ℕ) (g : GeometryValue) (began : AtRest) (days : List (Day M))
-    (answers : List (Answer M)) (before : D) (keeps : KeepsDays past_of failures g began days answers before) (images : Images) where
-  abbrev gives : GivesDays failures g began days answers (failures before) (past_of before).disk.content
-  gives = now_gives past_of failures g began days answers before keeps
-
+    (answers : List (Answer M)) (before : D) (gives : GivesDays failures g began days answers (failures before) (past_of before).disk.content)
+    (images : Images) where
   -- it isn't
   pub not_reopened : (e : Error) (now : ℕ) → IsUnopened e (failures before) now → IsNotReopened failures g began days answers e now
   not_reopened e now why = record {
@@ -84,10 +82,10 @@ module _ {D M : Type 0} (past_of : D → DevicePast) (failures : D → ℕ) (g :
 
   module _ (engine : EngineParts D M) (is : IsBegun past_of failures before engine) where
     over-it : IsOpenedOver failures g (resting gives.given (failures before)) engine
-    over-it = opened_over past_of failures g began days answers before keeps images engine is
+    over-it = opened_over past_of failures g began days answers before gives images engine is
 
     come : HasCome (core_of engine)
-    come = is.opened.come (can past_of failures g began days answers before keeps images engine is)
+    come = is.opened.come (can past_of failures g began days answers before gives images engine is)
 
     none_active : (core_of engine).txns.active ≡ []
     none_active = ap (λ (v : CoreValue). v.txns.active) over-it.core
@@ -120,7 +118,7 @@ module _ {D M : Type 0} (past_of : D → DevicePast) (failures : D → ℕ) (g :
     module _ (after : EngineParts D M) (why : Option Error) (ends : EndsBuild past_of why engine after) where
       quiet : IsQuiet g (core_of after)
       quiet = settled past_of g gives.given after ends.replies
-          (ends.at _ (begins past_of failures g began days answers before keeps images engine is))
+          (ends.at _ (begins past_of failures g began days answers before gives images engine is))
 
       unfailed : failures (device_of after) ≡ failures (device_of engine)
       unfailed = ap failures (same_device ends.replies engine after ends.each)

@@ -9,3 +9,4 @@ mod Holding
 mod Torn
 mod Moving
 mod Opened
+mod Shared

@@ -40,6 +40,55 @@ abbrev pub GivesBack : Type 0
 GivesBack = (old image : CrashState) → IsWrittenBack old image → (g : GeometryValue) (given : Given) → Gives old g given → Gives image g given
 
 module _ {D M : Type 0} (past_of : D → DevicePast) (failures : D → ℕ) (g : GeometryValue) (began : AtRest) (days : List (Day M))
+    (answers : List (Answer M)) (before : D)
+    (gives : GivesDays failures g began days answers (failures before) (past_of before).disk.content) where
+  -- ---- a store that is opened over what its days have made
+
+  refused_so : Images → (after : D) (e : Error) → IsNotOpened past_of failures before after e → Refuses (failures before) (failures after) e
+  refused_so images after e not = ⊎_elim (λ refuses. refuses)
+      (λ unreadable. absurd (images.readable (past_of before).disk.content g gives.given e gives.gives unreadable)) not.why
+
+  pub why_unopened : Images → (after : D) (e : Error) → IsNotOpened past_of failures before after e → IsUnopened e (failures before) (failures after)
+  why_unopened images after e not = ⊎_elim
+      (λ memory. inl (memory, not.told (λ failed. let both = sym memory ∙ failed in cc)))
+      (λ failed. inr failed)
+      (refused_so images after e not)
+
+  module _ (images : Images) (engine : EngineParts D M) (is : IsBegun past_of failures before engine) where
+    size : is.opened.geometry ≡ g
+    size = images.geometry (past_of before).disk.content is.opened.geometry g is.opened.given gives.given is.opened.gives gives.gives
+
+    same : is.opened.given ≡ gives.given
+    same = images.given (past_of before).disk.content is.opened.geometry g is.opened.given gives.given is.opened.gives gives.gives
+
+    pub can : CanOpen (over is.opened.geometry is.opened.given)
+    can = subst (λ (x : GeometryValue). CanOpen (over x is.opened.given)) (sym size) (subst (λ (x : Given). CanOpen (over g x)) (sym same) gives.opens)
+
+    pub begins : IsAt past_of (opening g gives.given) engine
+    begins = subst (λ (x : Given). IsAt past_of (opening g x) engine) same
+        (subst (λ (x : GeometryValue). IsAt past_of (opening x is.opened.given) engine) size (is.opened.begins can))
+
+    pub opened_over : IsOpenedOver failures g (resting gives.given (failures before)) engine
+    opened_over = record {
+      given = gives.given;
+      rows = refl;
+      life = refl;
+      last = refl;
+      opens = gives.opens;
+      core =
+          is.opened.core ∙ ap (λ (x : GeometryValue). holding x is.opened.given) size ∙ ap (λ (x : Given). holding g x) same;
+      horizon = is.opened.horizon ∙ ap (λ (x : Given). x.last) same;
+      waiting = none_waits past_of g gives.given engine begins (is.opened.horizon ∙ ap (λ (x : Given). x.last) same);
+      size = begins.stands.geometry;
+      halves = begins.stands.writer.geometry-is;
+      log = is.emptied.1;
+      image = is.emptied.2;
+      copying = is.emptied.3;
+      sound = is.opened.sound;
+      quiet = is.quiet;
+    }
+
+module _ {D M : Type 0} (past_of : D → DevicePast) (failures : D → ℕ) (g : GeometryValue) (began : AtRest) (days : List (Day M))
     (answers : List (Answer M)) (before : D) (keeps : KeepsDays past_of failures g began days answers before) where
   -- what the device gives now
   pub now_gives : GivesDays failures g began days answers (failures before) (past_of before).disk.content
@@ -61,50 +110,6 @@ module _ {D M : Type 0} (past_of : D → DevicePast) (failures : D → ℕ) (g :
             days-are = now_gives.days-are;
             opens = now_gives.opens;
           })
-
-  refused_so : Images → (after : D) (e : Error) → IsNotOpened past_of failures before after e → Refuses (failures before) (failures after) e
-  refused_so images after e not = ⊎_elim (λ refuses. refuses)
-      (λ unreadable. absurd (images.readable (past_of before).disk.content g now_gives.given e now_gives.gives unreadable)) not.why
-
-  pub why_unopened : Images → (after : D) (e : Error) → IsNotOpened past_of failures before after e → IsUnopened e (failures before) (failures after)
-  why_unopened images after e not = ⊎_elim
-      (λ memory. inl (memory, not.told (λ failed. let both = sym memory ∙ failed in cc)))
-      (λ failed. inr failed)
-      (refused_so images after e not)
-
-  module _ (images : Images) (engine : EngineParts D M) (is : IsBegun past_of failures before engine) where
-    size : is.opened.geometry ≡ g
-    size = images.geometry (past_of before).disk.content is.opened.geometry g is.opened.given now_gives.given is.opened.gives now_gives.gives
-
-    same : is.opened.given ≡ now_gives.given
-    same = images.given (past_of before).disk.content is.opened.geometry g is.opened.given now_gives.given is.opened.gives now_gives.gives
-
-    pub can : CanOpen (over is.opened.geometry is.opened.given)
-    can = subst (λ (x : GeometryValue). CanOpen (over x is.opened.given)) (sym size) (subst (λ (x : Given). CanOpen (over g x)) (sym same) now_gives.opens)
-
-    pub begins : IsAt past_of (opening g now_gives.given) engine
-    begins = subst (λ (x : Given). IsAt past_of (opening g x) engine) same
-        (subst (λ (x : GeometryValue). IsAt past_of (opening x is.opened.given) engine) size (is.opened.begins can))
-
-    pub opened_over : IsOpenedOver failures g (resting now_gives.given (failures before)) engine
-    opened_over = record {
-      given = now_gives.given;
-      rows = refl;
-      life = refl;
-      last = refl;
-      opens = now_gives.opens;
-      core =
-          is.opened.core ∙ ap (λ (x : GeometryValue). holding x is.opened.given) size ∙ ap (λ (x : Given). holding g x) same;
-      horizon = is.opened.horizon ∙ ap (λ (x : Given). x.last) same;
-      waiting = none_waits past_of g now_gives.given engine begins (is.opened.horizon ∙ ap (λ (x : Given). x.last) same);
-      size = begins.stands.geometry;
-      halves = begins.stands.writer.geometry-is;
-      log = is.emptied.1;
-      image = is.emptied.2;
-      copying = is.emptied.3;
-      sound = is.opened.sound;
-      quiet = is.quiet;
-    }
 
   -- ---- a day more
 
@@ -151,7 +156,8 @@ module _ {D M : Type 0} (past_of : D → DevicePast) (failures : D → ℕ) (g :
       → KeepsDays past_of failures g began (days ++ today ∷ []) (answers ++ Err e ∷ []) found
   unopened images back today e after found not count stop =
       passed today e after found (between back after not.device)
-      (subst (IsUnopened e (failures before)) (sym count) (why_unopened images after e not))
+      (subst (IsUnopened e (failures before)) (sym count)
+      (why_unopened past_of failures g began days answers before now_gives images after e not))
       (stop not.device.images.later)
 
   -- ---- a day that is served
@@ -170,7 +176,8 @@ module _ {D M : Type 0} (past_of : D → DevicePast) (failures : D → ℕ) (g :
       days-are = subst (λ (n : ℕ). AreDays failures g began (days ++ today ∷ []) (answers ++ Ok replies ∷ []) (resting left.given n)) (sym count)
           (day_last failures g began days answers (resting now_gives.given (failures before)) (resting left.given (failures (device_of after))) today
           (Ok replies) now_gives.days-are
-          (inl (served_day past_of failures g now_gives.given (failures before) today replies.items engine after (opened_over images engine is) lawful rise at
+          (inl (served_day past_of failures g now_gives.given (failures before) today replies.items engine after
+          (opened_over past_of failures g began days answers before now_gives images engine is) lawful rise at
           floor image left safe later)));
       opens = left.opens;
     }

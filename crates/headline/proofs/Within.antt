@@ -42,7 +42,7 @@ module _ {D M : Type 0} (past_of : D → DevicePast) (failures : D → ℕ) (g :
   given = (now_gives past_of failures g began days answers before keeps).given
 
   at : IsAt past_of (opening g given) engine
-  at = begins past_of failures g began days answers before keeps images engine is
+  at = begins past_of failures g began days answers before (now_gives past_of failures g began days answers before keeps) images engine is
 
   -- a crash within the opening
   opening_leaves : LeavesOnly (past_of before) (past_of (device_of engine)) (GivesDays failures g began days answers (failures before))

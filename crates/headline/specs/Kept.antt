@@ -20,7 +20,11 @@ use Rattle.restart.specs.Lawful.{AreLawful, IsLawful}
 use Rattle.restart.specs.Parts.{device_of}
 use Rattle.restart.specs.Reopening.{IsEmptied, IsOpened}
 use Rattle.restart.specs.Store.{IsAt, Past, RunsOn, ServesOn, and_then, over}
+use Rattle.shared.specs.Seats.{SeatValue}
+use Rattle.headline.specs.Beside.{HasLivedBeside}
 use Rattle.headline.specs.declared.day.Day.{Day}
+use Rattle.headline.specs.declared.shared_day.SharedAnswer.{SharedAnswer}
+use Rattle.headline.specs.declared.shared_day.SharedDay.{SharedDay}
 use Rattle.headline.specs.Days.{Answer, AreDays}
 use Rattle.headline.specs.AtRest.{AtRest, resting}
 
@@ -91,3 +95,15 @@ pub record WhyUnbuilt (error : Error) (old new : CoreValue) : Type 0 where
   pub unfinished : old.life ≢ Complete
   pub why : ((error ≡ NoIndex) × (old.life ≡ Absent)) ⊎ ((error ≡ IndexFull) × IsIndexFull new)
       ⊎ ((error ≡ Exhausted) × (LAST_NUMBER ≤ new.last)) ⊎ (error ≡ NoMemory)
+
+-- The crash state gives what the days and a day of clients have made of a store, on a device with this count of
+-- failures; and a core may begin with it.
+pub record FindsShared {D M C : Type 0} (works : C → C → SeatValue → Type 0) (failures : D → ℕ)
+    (geometry : GeometryValue) (began : AtRest) (days : List (Day M)) (answers : List (Answer M)) (day : SharedDay C)
+    (answer : SharedAnswer C) (failed : ℕ) (image : CrashState) : Type 0 where
+  pub store : AtRest
+  pub lived : HasLivedBeside works failures geometry began days answers day answer store
+  pub given : Given
+  pub gives : Gives image geometry given
+  pub rests : store ≡ resting given failed
+  pub opens : CanOpen (over geometry given)

@@ -4,6 +4,7 @@ pub mod AtRest
 pub mod Lawful
 pub mod Days
 pub mod Held
+pub mod Beside
 pub mod Stops
 pub mod Kept
 pub mod Moved

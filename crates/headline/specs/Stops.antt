@@ -1,5 +1,5 @@
 -- What a device is found as that stopped.
-use Rattle.std.specs.Prelude.{◌≡◌, ◌≤◌, ℕ}
+use Rattle.std.specs.Prelude.{◌≡◌, ◌≤◌, ℕ, Bool, false}
 use Rattle.sector_device.specs.Disk.{Disk, CrashState, IsCrashState}
 use Rattle.sector_device.specs.DevicePast.{DevicePast}
 
@@ -14,3 +14,8 @@ pub record HasStopped (since : ℕ) (old found : DevicePast) : Type 0 where
   pub from : since ≤ moment
   pub until : moment ≤ old.moment
   pub found-as : IsFoundAs (old.disk_at moment) found
+
+-- so it stopped; or where it was (no public clause cites this)
+pub record StopsAt (within : Bool) (since : ℕ) (old found : DevicePast) : Type 0 where
+  pub stop : HasStopped since old found
+  pub at-end : within ≡ false → stop.moment ≡ old.moment

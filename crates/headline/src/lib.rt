@@ -8,6 +8,12 @@
 //! numbers go on from day to day, and the device's failures are counted. Only tested (`test_headline`): days over a
 //! disk in memory. Neither: that memory is granted, or the device succeeds.
 //!
+//! The same of a store that clients use at last, each in a thread of its own, until it stops at any moment.
+//!
+//! Proved: `live_beside` (`holds`, `unbuilt`, `refused`, `many`, `too_small`, `unchanged`, `room`). Nothing is lost
+//! that a horizon had reached which was published before the store stopped. Only tested (`test_nsf`): two clients over
+//! a disk in memory. Neither: that the clock of a client is that of the device.
+//!
 //! What many threads leave, as the contract of one call: every seat is taken back, the power fails behind that, and the
 //! store is opened again.
 //!
@@ -16,15 +22,19 @@
 //! among them; and where all was written out, each. The index fits the rows. Neither: that it is ever called.
 #![tactic(auto)]
 
+mod beside;
 mod closed;
 mod daily;
 mod day;
 mod lives;
 mod mortal;
 mod moved;
+mod shared_day;
 
+pub use beside::{LivedBeside, NotLivedBeside, live_beside};
 pub use closed::{Reopened, finish_and_open};
 pub use day::Day;
 pub use lives::{Answer, Lived, NotLived, live_through};
 pub use mortal::Mortal;
 pub use moved::live_on;
+pub use shared_day::{SharedAnswer, SharedDay};

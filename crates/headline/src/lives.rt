@@ -38,7 +38,7 @@ pub struct NotLived<E, D: Mortal, A: Allocator> {
 }
 
 // Carries the build of the index to its end, where that is wanted; or tells why it was refused.
-fn finish_build<D: Mortal, A: Allocator + Copy>(
+pub(crate) fn finish_build<D: Mortal, A: Allocator + Copy>(
     engine: &mut Engine<D, A>,
     build: bool,
 ) -> Option<Error>

@@ -14,7 +14,7 @@ use Rattle.core_parts.specs.declared.parts.Ticket.{Ticket}
 use Rattle.core_parts.specs.declared.reply.BuildReply.TheVariants as reply
 use Rattle.core_parts.specs.View.{CoreValue}
 use Rattle.sector_device.specs.Disk.{Disk, CrashState, IsCrashState}
-use Rattle.sector_device.specs.DevicePast.{DevicePast, Rises}
+use Rattle.sector_device.specs.DevicePast.{DevicePast, LeavesOnly, Rises}
 use Rattle.threads_sessions.specs.Values.{CommitValue, SessionValue}
 use Rattle.shared.specs.Seats.{SeatValue}
 use Rattle.shared.specs.Served.{WasServed}
@@ -32,17 +32,16 @@ pub record HoldsAll (o : Opened) (geometry : GeometryValue) (seats : List SeatVa
 
 -- The device was written by these seats, in a store as large as the one that was opened: whatever a crash leaves of it
 -- gives what was opened with their commits set over it, up to some record that isn't before the floor; and with all of
--- them, where nothing was refused. So it was while they worked: a crash at any moment since a horizon was published
--- leaves all up to that. The floor is the last of these horizons.
-pub record LeavesCommits {D : Type 0} (past_of : D → DevicePast) (o : Opened) (seats : List SeatValue) (floor : ℕ)
-    (device : D) (written : Result Unit Error) : Type 0 where
+-- them, where nothing was refused. So it was while they worked: a crash at any moment since one of these horizons was
+-- published leaves all up to that. The floor is the last of them.
+pub record LeavesCommits {D : Type 0} (past_of : D → DevicePast) (o : Opened) (seats : List SeatValue)
+    (publications : List Publication) (floor : ℕ) (device : D) (written : Result Unit Error) : Type 0 where
   pub geometry : GeometryValue
   pub pages : geometry.pages ≡ o.pages
   pub places : geometry.entries ≡ o.places
   pub popped : List RecordValue
   pub some : (image : CrashState) → IsCrashState (past_of device).disk image
       → ∥ GivesSome o geometry seats popped floor image ∥₁
-  pub publications : List Publication
   pub newest : IsNewest publications floor
   pub published : All (IsKeptSince (λ horizon image. ∥ GivesSome o geometry seats popped horizon image ∥₁)
       (past_of device)) publications
@@ -75,13 +74,22 @@ HaveWorked works floor (client ∷ clients) (after ∷ others) (s ∷ seats) =
 HaveWorked works floor clients others seats = ⊥
 
 -- The clients have worked, each with a seat; and the device was written by these seats, up to some record that isn't
--- before any horizon that one of them has read.
+-- before any horizon that one of them has read. A crash at any moment since the store was opened leaves what was opened
+-- with the seats' commits set over it, up to some record.
 pub record LeavesWork {C D : Type 0} (past_of : D → DevicePast) (works : C → C → SeatValue → Type 0) (o : Opened)
-    (clients after : List C) (device : D) (written : Result Unit Error) : Type 0 where
+    (clients after : List C) (opened device : D) (written : Result Unit Error) : Type 0 where
   pub seats : List SeatValue
+  pub publications : List Publication
   pub floor : ℕ
-  pub leaves : LeavesCommits past_of o seats floor device written
+  pub leaves : LeavesCommits past_of o seats publications floor device written
+  pub since : LeavesOnly (past_of opened) (past_of device)
+      (λ image. ∥ GivesSome o leaves.geometry seats leaves.popped o.given.last image ∥₁)
   pub worked : HaveWorked works floor clients after seats
+
+-- what was until then stays (no public clause cites this)
+pub record IsLaterPast (old new : DevicePast) : Type 0 where
+  pub later : old.moment ≤ new.moment
+  pub kept : (t : ℕ) → t ≤ old.moment → new.disk_at t ≡ old.disk_at t
 
 -- It is the same seat still. (No public clause cites this.)
 pub record KeepsSeat (old new : SeatValue) : Type 0 where

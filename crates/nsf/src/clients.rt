@@ -8,9 +8,11 @@ ghost use Rattle.store_writer.specs.Parts.{device_of, has_failed};
 ghost use Rattle.threads_flusher.specs.Going.{GoesOn};
 ghost use Rattle.shared.specs.Seats.{AreNewSeats, SeatValue};
 ghost use Rattle.threads_lifetime.specs.Gathered.{AreAllSeats};
-ghost use Rattle.threads_lifetime.specs.Openings.{IsNotShared, Opens};
+ghost use Rattle.restart.specs.Reopening.{IsTurned};
+ghost use Rattle.threads_lifetime.specs.Openings.{IsNewFlusher, IsNotShared, Opens};
 ghost use Rattle.threads_lifetime.specs.declared.refusal.OpenError.TheVariants.{Refused};
-ghost use Rattle.nsf.specs.Serving.{HasRoom, IsUnwritten, KeepsSeat, LeavesCommits, LeavesWork, TellsBuild};
+ghost use Rattle.nsf.specs.Serving.{HasRoom, IsLaterPast, IsUnwritten, KeepsSeat, LeavesCommits, LeavesWork};
+ghost use Rattle.nsf.specs.Serving.{TellsBuild};
 
 use nsf_core::Ticket;
 use records::Error;
@@ -63,9 +65,10 @@ pub struct Served<C, D> {
 /// Each client has worked, with a seat of its own. Then a crash leaves what was opened with the commits of all seats
 /// set over it; where `written` tells a refusal, with those up to some record. No horizon that a seat has read is above
 /// that record: so nothing is lost that a client knows to be safe. Nor was it while they worked: a crash at any moment
-/// since a horizon was published leaves all up to that (`leaves`). A refusal is `NoMemory`, or
-/// `DeviceFailed` where the device's count of failures has risen (`why`). A transaction that a client left active is
-/// taken back when the store is opened again.
+/// since a horizon was published leaves all up to that; one at any moment since the store was opened, the commits up to
+/// some record; and one before that what a crash could leave before the call, or what gives the same (`leaves`). A
+/// refusal is `NoMemory`, or `DeviceFailed` where the device's count of failures has risen (`why`). A transaction that
+/// a client left active is taken back when the store is opened again.
 ///
 /// The errors are those of `open_store`, as `TooManyTxns` where there are more than 16 clients (`many`), and
 /// `NoMemory`, also where no thread can be made for what runs beside the clients: then no client is called. The device
@@ -78,7 +81,9 @@ pub fn serve<C: Client + Send + Drop, D: Device + Send + Drop, R: Threads + Wait
     clients: Vec<C>,
 ) -> Result<Served<C, D>, (OpenError, D)>
     ensures leaves { IfOk result (λ s. (o : Opened) × Opens (D.past_of device).disk.content o
-        × LeavesWork D.past_of C.works o clients.items s.clients.items s.device s.written × TellsBuild o s.built) }
+        × (opened : D) × IsTurned D.past_of device opened
+        × LeavesWork D.past_of C.works o clients.items s.clients.items opened s.device s.written
+        × TellsBuild o s.built) }
     ensures why { IfOk result (λ s. IfErr s.written (IsUnwritten (D.failures device) (D.failures s.device))) }
     ensures clients { IfOk result (λ s. vec_len s.clients ≡ vec_len clients) }
     ensures refused { IfErr result (λ r. IsNotShared D.past_of D.failures device (vec_len clients) r.1 r.0) }
@@ -104,7 +109,7 @@ fn begin<
 ) -> Result<Served<C, D>, (OpenError, D)>
     requires { store.site ≡ B.site }
     ensures leaves { IfOk result (λ s. LeavesWork D.past_of C.works B.site.opened clients.items s.clients.items
-        s.device s.written) }
+        store.device s.device s.written) }
     ensures told { IfOk result (λ s. TellsBuild B.site.opened s.built) }
     ensures why { IfOk result (λ s. IfErr s.written (IsUnwritten (D.failures store.device) (D.failures s.device))) }
     ensures clients { IfOk result (λ s. vec_len s.clients ≡ vec_len clients) }
@@ -285,8 +290,9 @@ fn close<B: Group, D: Device, R: Wait>(
     parts: Parts<B, D>,
 ) -> (D, Result<(), Error>)
     requires seats { AreAllSeats B.site.seats parts.seats.items }
-    ensures leaves { LeavesCommits D.past_of B.site.opened parts.seats.items parts.flush.published.horizon
-        result.0 result.1 }
+    ensures leaves { LeavesCommits D.past_of B.site.opened parts.seats.items parts.flush.publications
+        parts.flush.published.horizon result.0 result.1 }
+    ensures goes { IsLaterPast (D.past_of (device_of parts.flush.writer)) (D.past_of result.0) }
     ensures why { IfErr result.1 (λ e. (e ≡ NoMemory) ⊎ ((e ≡ DeviceFailed) × (has_failed parts.flush.writer ≡ false
         → Rises (D.failures (device_of parts.flush.writer)) (D.failures result.0)))) }
     ensures later { IfErr result.1 (λ e. D.failures (device_of parts.flush.writer) ≤ D.failures result.0) }
@@ -349,7 +355,9 @@ fn end<B: Group, C: Drop, D: Device, R: Wait>(
     requires places { HasRoom room.seats (vec_len ended.clients) }
     ensures leaves { (seats : List SeatValue)
         × (map (λ s. s.session) seats ≡ map (λ d. d.seat.session) ended.clients.items)
-        × LeavesCommits D.past_of B.site.opened seats ended.flush.published.horizon result.device result.written }
+        × LeavesCommits D.past_of B.site.opened seats ended.flush.publications ended.flush.published.horizon
+        result.device result.written }
+    ensures goes { IsLaterPast (D.past_of (device_of ended.flush.writer)) (D.past_of result.device) }
     ensures seen { (k : ℕ) (d : _) → slice_get ended.clients.items k ≡ Some d
         → d.seat.sight.horizon ≤ ended.flush.published.horizon }
     ensures why { IfErr result.written (λ e. (e ≡ NoMemory) ⊎ ((e ≡ DeviceFailed)
@@ -417,9 +425,9 @@ fn seat_all<
     clients: Vec<C>,
 ) -> Result<Served<C, D>, D>
     requires seats { AreNewSeats B.site.board B.site.seats parts.seats.items }
-    requires sound { has_failed parts.flush.writer ≡ false }
+    requires flush { IsNewFlusher D.past_of B.site.board B.site.opened parts.flush }
     ensures leaves { IfOk result (λ s. LeavesWork D.past_of C.works B.site.opened clients.items s.clients.items
-        s.device s.written) }
+        (device_of parts.flush.writer) s.device s.written) }
     ensures told { IfOk result (λ s. TellsBuild B.site.opened s.built) }
     ensures why { IfOk result (λ s. IfErr s.written (IsUnwritten (D.failures (device_of parts.flush.writer))
         (D.failures s.device))) }

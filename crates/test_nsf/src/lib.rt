@@ -1,4 +1,5 @@
-//! The examples of README and of `nsf`, run: one thread makes a store, and many go on with it.
+//! The examples of README and of `nsf`, run: one thread makes a store, and many go on with it; and a store that lives
+//! through a day of requests and one of clients.
 //!
 //! Proved of them is safety, and that the contracts suffice for such a caller.
 #![tactic(auto)]
@@ -9,5 +10,7 @@ mod full_index;
 mod many_threads;
 #[cfg(test)]
 mod one_thread;
+#[cfg(test)]
+mod shared_day;
 #[cfg(test)]
 mod tests;

@@ -69,8 +69,8 @@ impl Client for Put {
     }
 }
 
-// A client for each key.
-fn clients_of(alloc: Global, keys: &[&[u8]]) -> Result<Vec<Put>, Error> {
+/// A client for each key.
+pub fn clients_of(alloc: Global, keys: &[&[u8]]) -> Result<Vec<Put>, Error> {
     let mut clients = Vec::new(alloc);
     for key in keys {
         let key = Key::new(key)?;

@@ -51,8 +51,8 @@ pub fn filled(alloc: Global) -> Result<MemDisk<Global>, Error> {
     fill(alloc, disk, geometry)
 }
 
-// Where the rows with each of the keys lie, by the index of the store.
-fn find_each(
+/// Where the rows with each of the keys lie, by the index of the store.
+pub fn find_each(
     alloc: Global,
     engine: &Engine<MemDisk<Global>, Global>,
     keys: &[&[u8]],

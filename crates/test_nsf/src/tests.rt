@@ -2,7 +2,8 @@
 use crate::full_index::serve_a_crowd;
 use crate::many_threads::put_two;
 use crate::one_thread::{filled, find};
-use nsf::{Error, Fate};
+use crate::shared_day::live;
+use nsf::{Error, Fate, Life};
 use std::test::Fail;
 
 // One thread leaves a store, threads go on with it behind a crash, and behind another one each row is found once.
@@ -25,5 +26,18 @@ fn a_client_is_told_that_the_index_is_full(rt: HostRuntime) -> Result<(), Fail> 
     let (told, built) = serve_a_crowd(&rt, rt.alloc())?;
     assert_eq!(&rt; told, Some(Error::IndexFull));
     assert_eq!(&rt; built, Err(Error::IndexFull));
+    Ok(())
+}
+
+// A day of requests, a day of clients that is cut off or isn't, and a build: each row is found once.
+#[test]
+fn a_day_of_clients_behind_one_of_requests(rt: HostRuntime) -> Result<(), Fail> {
+    for within in [true, false] {
+        let (life, found) = live(&rt, rt.alloc(), within)?;
+        assert!(&rt; life == Life::Complete);
+        for rids in &found {
+            assert_eq!(&rt; rids.len(), 1);
+        }
+    }
     Ok(())
 }

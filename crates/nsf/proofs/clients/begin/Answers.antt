@@ -1,5 +1,5 @@
 use Rattle.std.proofs.Common.{IfErr, subst}
-use Rattle.nsf.specs.Serving.{IsUnwritten}
+use Rattle.nsf.specs.Serving.{IsUnwritten, LeavesWork}
 use Rattle.nsf.proofs.clients.begin.Goals as goal
 
 pub returns-in-Ok-seat_all-clause-why : goal.returns-in-Ok-seat_all-clause-why
@@ -7,3 +7,9 @@ returns-in-Ok-seat_all-clause-why g c =
     let failures = g.D.Device.failures in
     let served = c.in-Ok-seat_all.served in
     subst (λ d. IfErr served.written (IsUnwritten (failures d) (failures served.device))) c.in-Ok.ensures.device c.in-Ok-seat_all.ensures.why
+
+pub returns-in-Ok-seat_all-clause-leaves : goal.returns-in-Ok-seat_all-clause-leaves
+returns-in-Ok-seat_all-clause-leaves g c =
+    let served = c.in-Ok-seat_all.served in
+    subst (λ d. LeavesWork g.D.Device.past_of g.C.Client.works g.B.Group.site.opened c.args.clients.items served.clients.items d served.device served.written)
+    c.in-Ok.ensures.device c.in-Ok-seat_all.ensures.leaves

@@ -13,7 +13,6 @@ returns-in-Ok-clause-leaves g c = record {
   popped = popped_by c.args.parts.flush;
   some = newest_kept _ (g.D.Device.past_of c.in-Ok.closed.device) c.args.parts.flush.publications c.args.parts.flush.published.horizon
       c.stands.ensures.newest c.in-Ok.ensures.published;
-  publications = c.args.parts.flush.publications;
   newest = c.stands.ensures.newest;
   published = c.in-Ok.ensures.published;
   all = record {
@@ -32,7 +31,6 @@ returns-in-Err-clause-leaves g c = record {
   popped = popped_by c.args.parts.flush;
   some = newest_kept _ (g.D.Device.past_of c.in-Err.device) c.args.parts.flush.publications c.args.parts.flush.published.horizon
       c.stands.ensures.newest c.in-Err.ensures.still;
-  publications = c.args.parts.flush.publications;
   newest = c.stands.ensures.newest;
   published = c.in-Err.ensures.still;
   all = tt;
@@ -40,3 +38,9 @@ returns-in-Err-clause-leaves g c = record {
 
 pub returns-in-Err-clause-why : goal.returns-in-Err-clause-why
 returns-in-Err-clause-why g c = ⊎_elim (λ none. inl none.0) (λ failed. inr failed) c.in-Err.ensures.err
+
+pub returns-in-Ok-clause-goes : goal.returns-in-Ok-clause-goes
+returns-in-Ok-clause-goes g c = record { later = c.in-Ok.ensures.images.later; kept = c.in-Ok.ensures.images.kept }
+
+pub returns-in-Err-clause-goes : goal.returns-in-Err-clause-goes
+returns-in-Err-clause-goes g c = record { later = c.in-Err.ensures.left.later; kept = c.in-Err.ensures.left.kept }

@@ -3,7 +3,7 @@ use Rattle.record_values.specs.declared.error.Error.TheVariants.{DeviceFailed, N
 use Rattle.sector_device.specs.DevicePast.{Rises}
 use Rattle.store_writer.specs.Parts.{device_of, has_failed}
 use Rattle.threads_lifetime.specs.Gathered.{AreAllSeats}
-use Rattle.nsf.specs.Serving.{LeavesCommits}
+use Rattle.nsf.specs.Serving.{IsLaterPast, LeavesCommits}
 use Rattle.nsf.proofs.Orders.{sessions_are}
 use Rattle.nsf.proofs.clients.end.Goals as goal
 
@@ -16,9 +16,14 @@ returns-clause-leaves g c =
     let seats = c.parted-room.result.seats.items in (
       seats,
       sessions_are (λ d. d.seat) seats c.settle_desks.new.desks.items c.args.ended.clients.items c.parted-room.ensures.seats c.settle_desks.ensures.sessions,
-      subst (λ f. LeavesCommits g.D.Device.past_of g.B.Group.site.opened seats f.published.horizon c.close-device.result.0 c.close-device.result.1)
-          c.settle_desks.ensures.same c.close-device.ensures.leaves,
+      subst (λ f. LeavesCommits g.D.Device.past_of g.B.Group.site.opened seats f.publications f.published.horizon c.close-device.result.0
+          c.close-device.result.1) c.settle_desks.ensures.same c.close-device.ensures.leaves,
     )
+
+pub returns-clause-goes : goal.returns-clause-goes
+returns-clause-goes g c =
+    let past_of = g.D.Device.past_of in
+    subst (λ f. IsLaterPast (past_of (device_of f.writer)) (past_of c.close-device.result.0)) c.settle_desks.ensures.same c.close-device.ensures.goes
 
 pub returns-clause-why : goal.returns-clause-why
 returns-clause-why g c =

@@ -1,9 +1,12 @@
-use Rattle.std.proofs.Common.{List, map, subst, sym}
+use Rattle.std.proofs.Common.{List, ap, map, subst, sym, ◌++◌, ◌∙◌}
 use Rattle.threads_lifetime.specs.Gathered.{AreAllSeats}
 use Rattle.shared.specs.Seats.{SeatValue}
-use Rattle.store_writer.specs.Parts.{device_of, has_failed}
+use Rattle.sector_device.specs.DevicePast.{LeavesOnly}
+use Rattle.store_writer.specs.Parts.{device_of, has_failed, synced_of}
+use Rattle.threads_lifetime.specs.Closing.{GivesSome}
 use Rattle.nsf.specs.Serving.{HaveWorked, TellsBuild}
 use Rattle.nsf.proofs.Orders.{all_left, all_new, all_worked}
+use Rattle.nsf.proofs.Published.{since_first}
 use Rattle.nsf.proofs.Refusals.{unwritten_since}
 use Rattle.nsf.proofs.clients.seat_all.Goals as goal
 
@@ -22,7 +25,7 @@ returns-in-Ok-run_all-clause-why g c =
     let mid = c.in-Ok-run_all.ended.flush.writer in
     let going = c.in-Ok-run_all.ensures.going in
     unwritten_since (has_failed old) (has_failed mid) (failures (device_of old)) (failures (device_of mid)) (failures c.end.result.device)
-    c.requires.sound going.later going.counted c.end.result.written c.end.ensures.why c.end.ensures.later
+    c.requires.flush.sound going.later going.counted c.end.result.written c.end.ensures.why c.end.ensures.later
 
 pub returns-in-Ok-run_all-clause-told : goal.returns-in-Ok-run_all-clause-told
 returns-in-Ok-run_all-clause-told g c = subst (TellsBuild g.B.Group.site.opened) (sym c.end.ensures.built) c.in-Ok-run_all.ensures.told
@@ -30,12 +33,27 @@ returns-in-Ok-run_all-clause-told g c = subst (TellsBuild g.B.Group.site.opened)
 pub returns-in-Ok-run_all-clause-leaves : goal.returns-in-Ok-run_all-clause-leaves
 returns-in-Ok-run_all-clause-leaves g c =
     let works = g.C.Client.works in
-    let floor = c.in-Ok-run_all.ended.flush.published.horizon in
+    let past_of = g.D.Device.past_of in
+    let o = g.B.Group.site.opened in
+    let w = c.args.parts.flush.writer in
+    let mid = c.in-Ok-run_all.ended.flush in
+    let floor = mid.published.horizon in
+    let going = c.in-Ok-run_all.ensures.going in
+    let new = c.requires.flush in
     let left = c.end.ensures.leaves in
+    let leaves = left.2 in
     record {
       seats = left.0;
+      publications = mid.publications;
       floor = floor;
-      leaves = left.2;
+      leaves = leaves;
+      since =
+          subst (λ n. LeavesOnly (past_of (device_of w)) (past_of c.end.result.device)
+          (λ image. ∥ GivesSome o leaves.geometry left.0 leaves.popped n image ∥₁)) new.synced
+          (since_first (λ n image. ∥ GivesSome o leaves.geometry left.0 leaves.popped n image ∥₁) (past_of (device_of w))
+          (past_of (device_of mid.writer)) (past_of c.end.result.device) mid.publications going.since (synced_of w)
+          (going.publications ∙ ap (λ l. l ++ going.since) new.publications) leaves.published
+          (record { later = going.images.later; kept = going.images.kept }) c.end.ensures.goes);
       worked =
           subst (λ (clients : List _). HaveWorked works floor clients c.end.result.clients.items left.0) c.in-Ok.ensures.order
           (subst (λ (after : List _). HaveWorked works floor (map (λ d. d.client) c.in-Ok.desks.items) after left.0) (sym c.end.ensures.order)

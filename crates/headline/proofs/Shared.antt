@@ -1,0 +1,318 @@
+-- What a store is found with that clients used, until it stopped.
+use Rattle.std.proofs.Common.{◌≡◌, ⊎_elim, inl, inr, ℕ, ◌+◌, ◌≤◌, ◌<◌, ◌++◌, Bool, true, false, List, [], length, take, refl, sym, ap, subst, ◌∙◌, arith}
+use Rattle.std.proofs.Common.{Result, Ok, Err, IfErr, OnOk, Option, None, Some, IfSome, length-take}
+use Rattle.std.proofs.Math.Logic.{∥∥₁_elim, ∥∥₁_map, ∥∥₁_prop}
+use Rattle.std.proofs.lemmas.Bool.{cases_lt}
+use Rattle.std.proofs.lemmas.List.Elements.{All-weaker}
+use Rattle.std.specs.Coded.{le_prop}
+use Rattle.record_values.specs.GeometryValue.{GeometryValue}
+use Rattle.records.specs.RecordValue.{RecordValue}
+use Rattle.record_values.specs.declared.error.Error.{Error}
+use Rattle.record_values.specs.declared.error.Error.TheVariants.{DeviceTooSmall, TooManyTxns}
+use Rattle.model.specs.Given.{Given, given_after}
+use Rattle.core_model.specs.Histories.{CanOpen, Opened}
+use Rattle.core_model.proofs.ReplyLaws.{served_recovers}
+use Rattle.sector_device.specs.Disk.{CrashState, IsCrashState, Disk}
+use Rattle.sector_device.specs.DevicePast.{DevicePast, LeavesOnly}
+use Rattle.sector_device.proofs.Moments.{content_at_end}
+use Rattle.sector_device.proofs.Sectors.{content_is_image}
+use Rattle.store_reader.specs.Contents.{Gives}
+use Rattle.shared.specs.Seats.{SeatValue}
+use Rattle.threads_sessions.specs.Values.{CommitValue}
+use Rattle.threads_flusher.specs.Part.{IsKeptSince, Publication}
+use Rattle.threads_lifetime.specs.Closing.{GivesAll, GivesSome, table_with, up_to}
+use Rattle.threads_lifetime.specs.Gathered.{AreCommitsOf}
+use Rattle.threads_lifetime.specs.Openings.{IsNotShared, Opens}
+use Rattle.threads_lifetime.specs.declared.refusal.OpenError.{OpenError}
+use Rattle.threads_lifetime.specs.declared.refusal.OpenError.TheVariants.{Refused, Unsound}
+use Rattle.nsf.specs.Serving.{HoldsAll, IsUnwritten, LeavesWork, TellsBuild}
+use Rattle.restart.specs.declared.parts.EngineParts.{EngineParts}
+use Rattle.restart.specs.Building.{BuildsWhole, HasCome}
+use Rattle.restart.specs.Parts.{core_of}
+use Rattle.restart.specs.Reopening.{IsNotOpened, IsTurned}
+use Rattle.restart.specs.Store.{over}
+use Rattle.headline.specs.declared.day.Day.{Day}
+use Rattle.headline.specs.declared.shared_day.SharedAnswer.{SharedAnswer}
+use Rattle.headline.specs.declared.shared_day.SharedDay.{SharedDay}
+use Rattle.headline.specs.AtRest.{AtRest, resting}
+use Rattle.headline.specs.Beside.{HasLivedBeside, IsNotLivedBeside}
+use Rattle.headline.specs.Days.{Answer, IsUnopened}
+use Rattle.headline.specs.Held.{HasLived, IsNotReopened, IsUnbuilt}
+use Rattle.headline.specs.Kept.{EndsBuild, FindsShared, GivesDays, IsBegun, KeepsDays, WhyUnbuilt}
+use Rattle.headline.specs.Stops.{StopsAt}
+use Rattle.headline.proofs.Holding.{behind, not_reopened, unbuilt}
+use Rattle.headline.proofs.Stopped.{GivesBack, Images, between, now_gives, why_unopened}
+
+not_false : (b : Bool) → (b ≡ false → ⊥) → b ≡ true
+not_false true never = refl
+not_false false never = absurd (never refl)
+
+on_ok : {T E : Type 0} (P Q : Type 0) (r : Result T E) → (P → Q) → OnOk r P → OnOk r Q
+on_ok P Q (Ok x) more is = more is
+on_ok P Q (Err e) more is = tt
+
+module _ {D M : Type 0} (past_of : D → DevicePast) (failures : D → ℕ) (g : GeometryValue) (began : AtRest)
+    (days : List (Day M)) (answers : List (Answer M)) (before : D) (keeps : KeepsDays past_of failures g began days answers before)
+    (images : Images) where
+  -- what it opens with
+  pub opens_so : (x : Opened) → Opens (past_of before).disk.content x → x ≡ over g (now_gives past_of failures g began days answers before keeps).given
+  opens_so x opens =
+      let now = now_gives past_of failures g began days answers before keeps in
+      let content = (past_of before).disk.content in
+      opens.opened
+      ∙ ap (λ (h : GeometryValue). over h opens.given) (images.geometry content opens.geometry g opens.given now.given opens.gives now.gives)
+      ∙ ap (over g) (images.given content opens.geometry g opens.given now.given opens.gives now.gives)
+
+module _ {D M C : Type 0} (past_of : D → DevicePast) (failures : D → ℕ) (works : C → C → SeatValue → Type 0) (g : GeometryValue) (began : AtRest)
+    (days : List (Day M)) (answers : List (Answer M)) (before : D) (keeps : KeepsDays past_of failures g began days answers before)
+    (images : Images) (back : GivesBack) where
+  abbrev first : Given
+  first = (now_gives past_of failures g began days answers before keeps).given
+
+  abbrev o : Opened
+  o = over g first
+
+  module _ (day : SharedDay C) (answer : SharedAnswer C) (opened after found : D) (turned : IsTurned past_of before opened)
+      (work : LeavesWork past_of works o day.clients.items answer.clients.items opened after answer.written) (built : TellsBuild o answer.built)
+      (why : IfErr answer.written (IsUnwritten (failures before) (failures after))) (count : failures found ≡ failures after)
+      (stops : StopsAt day.within (past_of before).moment (past_of after) (past_of found)) where
+    abbrev t : ℕ
+    t = stops.stop.moment
+
+    abbrev image : CrashState
+    image = (past_of found).disk.content
+
+    crash : IsCrashState ((past_of after).disk_at t) image
+    crash = stops.stop.found-as.left image (content_is_image (past_of found).disk (past_of found).whole)
+
+    opening : LeavesOnly (past_of before) (past_of opened) (GivesDays failures g began days answers (failures before))
+    opening = between past_of failures g began days answers before keeps back opened turned
+
+    why_now : IfErr answer.written (IsUnwritten (failures before) (failures found))
+    why_now = subst (λ (n : ℕ). IfErr answer.written (IsUnwritten (failures before) n)) (sym count) why
+
+    -- ---- it stopped within the opening
+
+    early : t < (past_of opened).moment → FindsShared works failures g began days answers day answer (failures found) image
+    early less =
+        let gave : GivesDays failures g began days answers (failures before) image =
+        opening.each t image stops.stop.from (omega (arith, less))
+        (subst (λ (d : Disk). IsCrashState d image) (work.since.kept t (omega (arith, less))) crash) in
+        let never : day.within ≡ false → ⊥ = λ behind. omega (arith, less, stops.at-end behind, work.since.later) in
+        record {
+          store = resting gave.given (failures found);
+          lived = record {
+            before = resting gave.given (failures before);
+            days-are = gave.days-are;
+            seats = work.seats;
+            horizon = work.floor;
+            worked = work.worked;
+            served = inr (record { within-is = not_false day.within never; rows = refl; life = refl; last = refl });
+            why = why_now;
+          };
+          given = gave.given;
+          gives = gave.gives;
+          rests = refl;
+          opens = gave.opens;
+        }
+
+    -- ---- it stopped since
+
+    abbrev h : GeometryValue
+    h = work.leaves.geometry
+
+    abbrev Some-of : GeometryValue → ℕ → CrashState → Type 0
+    Some-of x floor i = ∥ GivesSome o x work.seats work.leaves.popped floor i ∥₁
+
+    -- the store is as large as it was opened
+    same_size : ∥ h ≡ g ∥₁
+    same_size =
+        let disk = (past_of opened).disk in
+        let content = disk.content in
+        let there : IsCrashState ((past_of after).disk_at (past_of opened).moment) content =
+        subst (λ (d : Disk). IsCrashState d content) (sym (work.since.kept (past_of opened).moment (omega arith) ∙ (past_of opened).now))
+        (content_is_image disk (past_of opened).whole) in
+        let gave = content_at_end (past_of before) (past_of opened) (GivesDays failures g began days answers (failures before)) opening in
+        ∥∥₁_map (work.since.each (past_of opened).moment content (omega arith) work.since.later there)
+        (λ (some : GivesSome o h work.seats work.leaves.popped first.last content). images.geometry content h g _ gave.given some.gives gave.gives)
+
+    record AllKept : Type 0 where
+      commits : List CommitValue
+      of-seats : AreCommitsOf work.seats commits
+      given : Given
+      gives : Gives image h given
+      table : given.table ≡ table_with first.table commits
+
+    -- with all commits, where it stopped behind all that was done and all was written
+    all_kept : (within : Bool) → (within ≡ false → t ≡ (past_of after).moment) → (written : Result Unit Error)
+        → OnOk written (HoldsAll o h work.seats (past_of after).disk) → ∥ (within ≡ false → OnOk written AllKept) ∥₁
+    all_kept true at (Ok u) all = ∣ (λ behind. absurd cc) ∣₁
+    all_kept true at (Err e) all = ∣ (λ behind. tt) ∣₁
+    all_kept false at (Err e) all = ∣ (λ behind. tt) ∣₁
+    all_kept false at (Ok u) all =
+        let end : IsCrashState (past_of after).disk image =
+        subst (λ (d : Disk). IsCrashState d image) (ap (past_of after).disk_at (at refl) ∙ (past_of after).now) crash in
+        ∥∥₁_elim all.of_seats ∥∥₁_prop (λ (are : AreCommitsOf work.seats all.commits).
+        ∥∥₁_map (all.gives image end) (λ (left : GivesAll o h all.core all.commits image).
+        (λ behind. record { commits = all.commits; of-seats = are; given = left.given; gives = left.gives; table = left.table })))
+
+    module _ (since : (past_of opened).moment ≤ t) (size : h ≡ g) (kept : day.within ≡ false → OnOk answer.written AllKept)
+        (some : GivesSome o g work.seats work.leaves.popped first.last image) where
+      abbrev records : List RecordValue
+      records = some.pushed ++ some.core.outbox
+
+      abbrev last-given : Given
+      last-given = given_after first (take some.count records)
+
+      can : CanOpen (over g last-given)
+      can =
+          let so = some.shared.register.kept.replied in
+          (served_recovers o some.shared.opens records some.shared.register.kept.calls so.state so.standing so.served some.count some.most).1
+
+      last : last-given.last ≡ first.last + some.count
+      last =
+          let so : last-given.last ≡ first.last + length (take some.count records) = refl in
+          omega (arith, so, length-take some.count records, some.most)
+
+      safe_at : (p : Publication) → IsKeptSince (Some-of h) (past_of after) p → p.moment ≤ t → p.horizon ≤ last-given.last
+      safe_at p was le =
+          ∥∥₁_elim (subst (λ (x : GeometryValue). Some-of x p.horizon image) size (was.each t image le stops.stop.until crash)) le_prop
+          (λ (other : GivesSome o g work.seats work.leaves.popped p.horizon image).
+          let all = other.pushed ++ other.core.outbox in
+          let so : (given_after first (take other.count all)).last ≡ first.last + length (take other.count all) = refl in
+          let same = ap (λ (x : Given). x.last) (images.given image g g (given_after first (take other.count all)) last-given other.gives some.gives) in
+          omega (arith, so, same, length-take other.count all, other.most, other.least))
+
+      all_of : AllKept → (all : List CommitValue) × AreCommitsOf work.seats all × (last-given.table ≡ table_with first.table all)
+      all_of is = (is.commits, is.of-seats, ap (λ (x : Given). x.table) (images.given image g h last-given is.given some.gives is.gives) ∙ is.table)
+
+      late_so : FindsShared works failures g began days answers day answer (failures found) image
+      late_so = record {
+        store = resting last-given (failures found);
+        lived = record {
+          before = resting first (failures before);
+          days-are = (now_gives past_of failures g began days answers before keeps).days-are;
+          seats = work.seats;
+          horizon = work.floor;
+          worked = work.worked;
+          served = inl (record {
+            given = first;
+            began = refl;
+            commits = some.commits;
+            of-seats = some.all;
+            rows = some.table ∙ ap (λ (n : ℕ). table_with first.table (up_to n some.commits)) (sym last);
+            publications = work.publications;
+            newest = work.leaves.newest;
+            stopped = t;
+            safe = All-weaker (IsKeptSince (Some-of h) (past_of after)) (λ (p : Publication). p.moment ≤ t → p.horizon ≤ last-given.last) safe_at
+                work.publications work.leaves.published;
+            until = λ behind. All-weaker (IsKeptSince (Some-of h) (past_of after)) (λ (p : Publication). p.moment ≤ t)
+                (λ p was. omega (arith, was.later, stops.at-end behind)) work.publications work.leaves.published;
+            whole = λ behind. on_ok _ _ answer.written all_of (kept behind);
+            lawful = record { popped = work.leaves.popped; image = image; found = some; kept = refl; told = built };
+          });
+          why = why_now;
+        };
+        given = last-given;
+        gives = some.gives;
+        rests = refl;
+        opens = can;
+      }
+
+    late : (past_of opened).moment ≤ t → ∥ FindsShared works failures g began days answers day answer (failures found) image ∥₁
+    late since =
+        ∥∥₁_elim same_size ∥∥₁_prop (λ (size : h ≡ g).
+        ∥∥₁_elim (all_kept day.within stops.at-end answer.written work.leaves.all) ∥∥₁_prop (λ (kept : day.within ≡ false → OnOk answer.written AllKept).
+        ∥∥₁_map (subst (λ (x : GeometryValue). Some-of x first.last image) size (work.since.each t image since stops.stop.until crash))
+        (λ (some : GivesSome o g work.seats work.leaves.popped first.last image). late_so since size kept some)))
+
+    pub finds : ∥ FindsShared works failures g began days answers day answer (failures found) image ∥₁
+    finds = ⊎_elim (λ less. ∣ early less ∣₁) late (cases_lt t (past_of opened).moment)
+
+-- ---- what is opened behind that
+
+module _ {D M C : Type 0} (past_of : D → DevicePast) (failures : D → ℕ) (works : C → C → SeatValue → Type 0) (g : GeometryValue) (began : AtRest)
+    (days : List (Day M)) (answers : List (Answer M)) (day : SharedDay C) (answer : SharedAnswer C) (found : D) (images : Images)
+    (finds : ∥ FindsShared works failures g began days answers day answer (failures found) (past_of found).disk.content ∥₁) where
+  abbrev Found : Type 0
+  Found = FindsShared works failures g began days answers day answer (failures found) (past_of found).disk.content
+
+  gives_on : (is : Found) → GivesDays {M = M} failures g is.store [] [] (failures found) (past_of found).disk.content
+  gives_on is = record { given = is.given; gives = is.gives; days-are = sym is.rests; opens = is.opens }
+
+  pub lived_on : (engine : EngineParts D M) → IsBegun past_of failures found engine → (build : Bool) (after : EngineParts D M) (why : Option Error)
+      → (build ≡ false → after ≡ engine) → (build ≡ true → EndsBuild past_of why engine after)
+      → (build ≡ true → BuildsWhole (core_of engine) (core_of after))
+      → ∥ ((store : AtRest) × HasLivedBeside works failures g began days answers day answer store × HasLived {M = M} failures g store [] [] build after) ∥₁
+  lived_on engine begun build after why same ends whole =
+      ∥∥₁_map finds (λ (is : Found).
+      (is.store, is.lived, behind past_of failures g is.store [] [] found (gives_on is) images engine begun build after why same ends whole))
+
+  pub unbuilt_on : (engine : EngineParts D M) → IsBegun past_of failures found engine → (build : Bool) (after : EngineParts D M) (why : Option Error)
+      → (build ≡ true → EndsBuild past_of why engine after) → IfSome why (λ e. build ≡ true)
+      → IfSome why (λ e. HasCome (core_of engine) → WhyUnbuilt e (core_of engine) (core_of after))
+      → IfSome why (λ e. (build ≡ true) × ∥ ((store : AtRest) × HasLivedBeside works failures g began days answers day answer store
+      × IsUnbuilt {M = M} failures g store [] [] e after) ∥₁)
+  unbuilt_on engine begun build after None ends wanted refused = tt
+  unbuilt_on engine begun build after (Some e) ends wanted refused = (
+    wanted,
+    ∥∥₁_map finds (λ (is : Found).
+        (is.store, is.lived, (unbuilt past_of failures g is.store [] [] found (gives_on is) images engine begun build after (Some e) ends wanted refused).1)),
+  )
+
+  pub unopened_on : (after : D) (e : Error) → IsNotOpened past_of failures found after e
+      → IsNotLivedBeside works failures g began days answers day (Some answer) (Refused e) (failures after)
+  unopened_on after e not = (
+    e,
+    refl,
+    ∥∥₁_map finds (λ (is : Found). (
+      is.store,
+      is.lived,
+      subst (λ (n : ℕ). IsUnopened e n (failures after)) (sym (ap (λ (s : AtRest). s.failed) is.rests))
+          (why_unopened past_of failures g is.store [] [] found (gives_on is) images after e not),
+    )),
+  )
+
+-- ---- a store that wasn't opened for the clients
+
+module _ {D M C : Type 0} (past_of : D → DevicePast) (failures : D → ℕ) (works : C → C → SeatValue → Type 0) (g : GeometryValue) (began : AtRest)
+    (days : List (Day M)) (answers : List (Answer M)) (day : SharedDay C) where
+  pub not_lived : (shared : Option (SharedAnswer C)) (e : OpenError) (error : Error) (now : ℕ) → shared ≡ None → e ≡ Refused error
+      → IsNotReopened failures g began days answers error now → IsNotLivedBeside works failures g began days answers day shared e now
+  not_lived shared e error now none is why =
+      subst (λ (s : Option (SharedAnswer C)). IsNotLivedBeside works failures g began days answers day s e now) (sym none) (error, is, why)
+
+  module _ (before : D) (keeps : KeepsDays past_of failures g began days answers before) (images : Images) where
+    abbrev gives : GivesDays failures g began days answers (failures before) (past_of before).disk.content
+    gives = now_gives past_of failures g began days answers before keeps
+
+    sound : (x : Opened) → Opens (past_of before).disk.content x → CanOpen x
+    sound x opens = subst CanOpen (sym (opens_so past_of failures g began days answers before keeps images x opens)) gives.opens
+
+    pub not_shared : (count : ℕ) (after : D) (e : OpenError) → count ≤ 16 → IsNotShared past_of failures before count after e
+        → IsNotLivedBeside works failures g began days answers day None e (failures after)
+    not_shared count after (Refused e) few not =
+        let why : IsUnopened e (failures before) (failures after) = ⊎_elim
+        (λ not-opened. why_unopened past_of failures g began days answers before gives images after e not-opened)
+        (λ rest. ⊎_elim (λ lacks. inl (lacks.0, lacks.1.quiet)) (λ many. absurd (omega (arith, few, many.1))) rest)
+        not in
+        (e, refl, not_reopened past_of failures g began days answers before gives images e (failures after) why)
+    not_shared count after Unsound few not = absurd (not.unsound (sound not.opened not.opens))
+
+  -- no other refusal comes behind the formatting
+  refused_same : (a b : Error) → Refused a ≡ Refused b → a ≡ b
+  refused_same a b same = cc
+
+  pub never : (x : Error) → ((e : Error) (before now : ℕ) → IsUnopened e before now → e ≡ x → ⊥) → (shared : Option (SharedAnswer C)) (e : OpenError) (now : ℕ)
+      → IsNotLivedBeside works failures g began days answers day shared e now → e ≡ Refused x → ⊥
+  never x other None e now is same = other is.0 is.2.store.failed now is.2.why (refused_same is.0 x (sym is.1 ∙ same))
+  never x other (Some answer) e now is same =
+      ∥∥₁_elim is.2 (λ (a b : ⊥). absurd a) (λ it. other is.0 it.0.failed now it.2 (refused_same is.0 x (sym is.1 ∙ same)))
+
+pub unopened_small : (e : Error) (before now : ℕ) → IsUnopened e before now → e ≡ DeviceTooSmall → ⊥
+unopened_small e before now (inl memory) small = let it = memory.0 in cc
+unopened_small e before now (inr failed) small = let it = failed.0 in cc
+
+pub unopened_many : (e : Error) (before now : ℕ) → IsUnopened e before now → e ≡ TooManyTxns → ⊥
+unopened_many e before now (inl memory) many = let it = memory.0 in cc
+unopened_many e before now (inr failed) many = let it = failed.0 in cc

@@ -1,0 +1,20 @@
+//! A day of clients.
+use nsf::Ticket;
+use records::Error;
+
+/// Clients that use a store on one day beside one another, each in a thread of its own, and how that ends: `within`,
+/// where the store stops at any moment since its opening began; else it stops behind all that was done.
+#[derive(Drop)]
+pub struct SharedDay<C> {
+    pub clients: Vec<C>,
+    pub within: bool,
+}
+
+/// What came of a day of clients: they, in their order, each as its work has left it; what was told of the builder; and
+/// why not all was written to the device, if so.
+#[derive(Drop)]
+pub struct SharedAnswer<C> {
+    pub clients: Vec<C>,
+    pub built: Result<Ticket, Error>,
+    pub written: Result<(), Error>,
+}

@@ -1,0 +1,78 @@
+//! A store that lives through a day of requests and a day of clients.
+use crate::many_threads::{Put, clients_of};
+use crate::one_thread::find_each;
+use headline::{Day, LivedBeside, SharedDay, live_beside};
+use nsf::{Body, Error, Event, Geometry, Key, Life, MemDisk, OpenError, Rid, Txn};
+use std::alloc::Global;
+use std::sync::Wait;
+use std::thread::Threads;
+
+/// The keys of the rows that are put.
+const KEYS: [&[u8]; 3] = [b"ant", b"bee", b"cat"];
+
+// A day on which a row is committed, the index is created, and all is written.
+fn first_day(alloc: Global) -> Result<Day<Global>, Error> {
+    let txn = Txn::new(1).ok_or(Error::NoSuchTxn)?;
+    let key = Key::new(KEYS[0])?;
+    let body = Body::new(b"")?;
+    let mut requests = Vec::new(alloc);
+    requests.extend_from_slice(&[
+        Event::Begin,
+        Event::Insert { txn, key, body },
+        Event::Step { txn },
+        Event::Commit { txn },
+        Event::Create,
+        Event::Flush,
+    ])?;
+    Ok(Day {
+        requests,
+        within: false,
+    })
+}
+
+// A client for each of the other rows.
+fn second_day(alloc: Global, within: bool) -> Result<SharedDay<Put>, Error> {
+    Ok(SharedDay {
+        clients: clients_of(alloc, &KEYS[1..])?,
+        within,
+    })
+}
+
+fn new_disk(alloc: Global, geometry: Geometry) -> Result<MemDisk<Global>, Error> {
+    Ok(MemDisk::new(alloc, geometry.sectors(), 4_096)?)
+}
+
+// How far the index is, and where the rows with the keys lie, if each client has put its row and all was written.
+fn found_in(
+    alloc: Global,
+    lived: &LivedBeside<Put, MemDisk<Global>>,
+) -> Result<(Life, Vec<Vec<Rid>>), Error> {
+    lived.shared.written?;
+    for client in &lived.shared.clients {
+        client.done?;
+    }
+    match lived.unbuilt {
+        Some(error) => Err(error),
+        None => Ok((
+            lived.engine.core().life(),
+            find_each(alloc, &lived.engine, &KEYS)?,
+        )),
+    }
+}
+
+/// What is found behind a day of requests and a day of two clients that await their acknowledgements, once the index is
+/// built to its end.
+pub fn live<R: Threads + Wait + Sync>(
+    rt: &R,
+    alloc: Global,
+    within: bool,
+) -> Result<(Life, Vec<Vec<Rid>>), OpenError> {
+    let geometry = Geometry::new(1, 64, 4)?;
+    let disk = new_disk(alloc, geometry)?;
+    let days = [first_day(alloc)?];
+    let day = second_day(alloc, within)?;
+    match live_beside(rt, alloc, disk, geometry, &days, day, true) {
+        Ok(lived) => Ok(found_in(alloc, &lived)?),
+        Err(refusal) => Err(refusal.error),
+    }
+}
