@@ -63,7 +63,7 @@ module _ {D M : Type 0} (past_of : D → DevicePast) (failures : D → ℕ) (g :
       ∙ ap (λ (h : GeometryValue). over h opens.given) (images.geometry content opens.geometry g opens.given now.given opens.gives now.gives)
       ∙ ap (over g) (images.given content opens.geometry g opens.given now.given opens.gives now.gives)
 
-module _ {D M C : Type 0} (past_of : D → DevicePast) (failures : D → ℕ) (works : C → C → SeatValue → Type 0) (g : GeometryValue) (began : AtRest)
+module _ {D M C : Type 0} (past_of : D → DevicePast) (failures : D → ℕ) (works : C → C → SeatValue → SeatValue → Type 0) (g : GeometryValue) (began : AtRest)
     (days : List (Day M)) (answers : List (Answer M)) (before : D) (keeps : KeepsDays past_of failures g began days answers before)
     (images : Images) (back : GivesBack) where
   abbrev first : Given
@@ -74,7 +74,8 @@ module _ {D M C : Type 0} (past_of : D → DevicePast) (failures : D → ℕ) (w
 
   module _ (day : SharedDay C) (answer : SharedAnswer C) (opened after found : D) (turned : IsTurned past_of before opened)
       (work : LeavesWork past_of works o day.clients.items answer.clients.items opened after answer.written) (built : TellsBuild o answer.built)
-      (why : IfErr answer.written (IsUnwritten (failures before) (failures after))) (count : failures found ≡ failures after)
+      (rises : failures before ≤ failures after) (why : IfErr answer.written (IsUnwritten (failures before) (failures after)))
+      (count : failures found ≡ failures after)
       (stops : StopsAt day.within (past_of before).moment (past_of after) (past_of found)) where
     abbrev t : ℕ
     t = stops.stop.moment
@@ -90,6 +91,9 @@ module _ {D M C : Type 0} (past_of : D → DevicePast) (failures : D → ℕ) (w
 
     why_now : IfErr answer.written (IsUnwritten (failures before) (failures found))
     why_now = subst (λ (n : ℕ). IfErr answer.written (IsUnwritten (failures before) n)) (sym count) why
+
+    later_now : failures before ≤ failures found
+    later_now = omega (arith, rises, count)
 
     -- ---- it stopped within the opening
 
@@ -108,6 +112,7 @@ module _ {D M C : Type 0} (past_of : D → DevicePast) (failures : D → ℕ) (w
             horizon = work.floor;
             worked = work.worked;
             served = inr (record { within-is = not_false day.within never; rows = refl; life = refl; last = refl });
+            later = later_now;
             why = why_now;
           };
           given = gave.given;
@@ -211,6 +216,7 @@ module _ {D M C : Type 0} (past_of : D → DevicePast) (failures : D → ℕ) (w
             whole = λ behind. on_ok _ _ answer.written all_of (kept behind);
             lawful = record { popped = work.leaves.popped; image = image; found = some; kept = refl; told = built };
           });
+          later = later_now;
           why = why_now;
         };
         given = last-given;
@@ -231,7 +237,7 @@ module _ {D M C : Type 0} (past_of : D → DevicePast) (failures : D → ℕ) (w
 
 -- ---- what is opened behind that
 
-module _ {D M C : Type 0} (past_of : D → DevicePast) (failures : D → ℕ) (works : C → C → SeatValue → Type 0) (g : GeometryValue) (began : AtRest)
+module _ {D M C : Type 0} (past_of : D → DevicePast) (failures : D → ℕ) (works : C → C → SeatValue → SeatValue → Type 0) (g : GeometryValue) (began : AtRest)
     (days : List (Day M)) (answers : List (Answer M)) (day : SharedDay C) (answer : SharedAnswer C) (found : D) (images : Images)
     (finds : ∥ FindsShared works failures g began days answers day answer (failures found) (past_of found).disk.content ∥₁) where
   abbrev Found : Type 0
@@ -275,7 +281,7 @@ module _ {D M C : Type 0} (past_of : D → DevicePast) (failures : D → ℕ) (w
 
 -- ---- a store that wasn't opened for the clients
 
-module _ {D M C : Type 0} (past_of : D → DevicePast) (failures : D → ℕ) (works : C → C → SeatValue → Type 0) (g : GeometryValue) (began : AtRest)
+module _ {D M C : Type 0} (past_of : D → DevicePast) (failures : D → ℕ) (works : C → C → SeatValue → SeatValue → Type 0) (g : GeometryValue) (began : AtRest)
     (days : List (Day M)) (answers : List (Answer M)) (day : SharedDay C) where
   pub not_lived : (shared : Option (SharedAnswer C)) (e : OpenError) (error : Error) (now : ℕ) → shared ≡ None → e ≡ Refused error
       → IsNotReopened failures g began days answers error now → IsNotLivedBeside works failures g began days answers day shared e now

@@ -68,9 +68,9 @@ pub record IsUntouched (within : Bool) (old new : AtRest) : Type 0 where
   pub last : new.last ≡ old.last
 
 -- The days have made a store of what it began with, and a day of clients has made this one of that. Each client has
--- worked, with a seat of its own, and has read no horizon above the newest. Where not all was written, there was no
--- memory, or the device failed.
-pub record HasLivedBeside {D M C : Type 0} (works : C → C → SeatValue → Type 0) (failures : D → ℕ)
+-- worked, with a new seat of its own, and has read no horizon above the newest. The device's count of failures hasn't
+-- fallen. Where not all was written, there was no memory, or the device failed.
+pub record HasLivedBeside {D M C : Type 0} (works : C → C → SeatValue → SeatValue → Type 0) (failures : D → ℕ)
     (geometry : GeometryValue) (began : AtRest) (days : List (Day M)) (answers : List (Answer M)) (day : SharedDay C)
     (answer : SharedAnswer C) (new : AtRest) : Type 0 where
   pub before : AtRest
@@ -80,13 +80,14 @@ pub record HasLivedBeside {D M C : Type 0} (works : C → C → SeatValue → Ty
   pub worked : HaveWorked works horizon day.clients.items answer.clients.items seats
   pub served : IsServedBeside geometry before seats horizon day.within answer new
       ⊎ IsUntouched day.within before new
+  pub later : before.failed ≤ new.failed
   pub why : IfErr answer.written (IsUnwritten before.failed new.failed)
 
 -- Why there is no store behind its days and a day of clients. The store of the days wasn't opened for the clients, and
 -- none has worked; or that of the clients wasn't opened behind them. There was no memory, or a call of the device
 -- failed.
-abbrev pub IsNotLivedBeside : {D M C : Type 0} → (C → C → SeatValue → Type 0) → (D → ℕ) → GeometryValue → AtRest
-    → List (Day M) → List (Answer M) → SharedDay C → Option (SharedAnswer C) → OpenError → (now : ℕ) → Type 0
+abbrev pub IsNotLivedBeside : {D M C : Type 0} → (C → C → SeatValue → SeatValue → Type 0) → (D → ℕ) → GeometryValue
+    → AtRest → List (Day M) → List (Answer M) → SharedDay C → Option (SharedAnswer C) → OpenError → (now : ℕ) → Type 0
 IsNotLivedBeside works failures geometry began days answers day None e now =
     (error : Error) × (e ≡ Refused error) × IsNotReopened failures geometry began days answers error now
 IsNotLivedBeside works failures geometry began days answers day (Some answer) e now = (error : Error)

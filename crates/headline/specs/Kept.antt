@@ -98,7 +98,7 @@ pub record WhyUnbuilt (error : Error) (old new : CoreValue) : Type 0 where
 
 -- The crash state gives what the days and a day of clients have made of a store, on a device with this count of
 -- failures; and a core may begin with it.
-pub record FindsShared {D M C : Type 0} (works : C → C → SeatValue → Type 0) (failures : D → ℕ)
+pub record FindsShared {D M C : Type 0} (works : C → C → SeatValue → SeatValue → Type 0) (failures : D → ℕ)
     (geometry : GeometryValue) (began : AtRest) (days : List (Day M)) (answers : List (Answer M)) (day : SharedDay C)
     (answer : SharedAnswer C) (failed : ℕ) (image : CrashState) : Type 0 where
   pub store : AtRest

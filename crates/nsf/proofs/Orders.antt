@@ -8,6 +8,7 @@ use Rattle.std.specs.declared.vec.Vec.{Vec}
 use Rattle.atomic_table.specs.Seated.{TableId}
 use Rattle.threads_lifetime.specs.Gathered.{AreAllSeats}
 use Rattle.shared.specs.Seats.{AreNewSeats, SeatValue}
+use Rattle.threads_sessions.specs.Values.{empty_session}
 use Rattle.nsf.specs.Serving.{HaveWorked}
 
 -- what is at a place of a list
@@ -65,33 +66,51 @@ cons_first a b xs ys e = cc
 cons_rest : {X : Type 0} (a b : X) (xs ys : List X) → a ∷ xs ≡ b ∷ ys → xs ≡ ys
 cons_rest a b xs ys e = cc
 
-in_order : {W C : Type 0} (client : W → C) (seat : W → SeatValue) (works : C → C → SeatValue → Type 0) (floor : ℕ) (xs ys : List W)
+in_order : {W C : Type 0} (client : W → C) (seat : W → SeatValue) (works : C → C → SeatValue → SeatValue → Type 0) (floor : ℕ) (xs ys : List W)
     (seats : List SeatValue) → length ys ≡ length xs
     → map (λ (s : SeatValue). s.session) seats ≡ map (λ w. (seat w).session) ys
-    → ((k : ℕ) (w : W) → k < length xs → works (client (slice_index_or xs k w)) (client (slice_index_or ys k w)) (seat (slice_index_or ys k w)))
+    → ((k : ℕ) (w : W) → slice_get xs k ≡ Some w → (seat w).session ≡ empty_session)
+    → ((k : ℕ) (w : W) → k < length xs
+    → works (client (slice_index_or xs k w)) (client (slice_index_or ys k w)) (seat (slice_index_or xs k w)) (seat (slice_index_or ys k w)))
     → ((k : ℕ) (w : W) → slice_get ys k ≡ Some w → (seat w).sight.horizon ≤ floor)
     → HaveWorked works floor (map client xs) (map client ys) seats
-in_order client seat works floor [] [] [] same sessions each low = tt
-in_order client seat works floor [] [] (s ∷ seats) same sessions each low = absurd cc
-in_order client seat works floor [] (y ∷ ys) seats same sessions each low = absurd cc
-in_order client seat works floor (x ∷ xs) [] seats same sessions each low = absurd cc
-in_order client seat works floor (x ∷ xs) (y ∷ ys) [] same sessions each low = absurd cc
-in_order client seat works floor (x ∷ xs) (y ∷ ys) (s ∷ seats) same sessions each low = (
-  record { seat = seat y; has = sym (cons_first _ _ _ _ sessions); known = low 0 y refl; worked = each 0 x (omega arith) },
-  in_order client seat works floor xs ys seats (omega (arith, same)) (cons_rest _ _ _ _ sessions) (λ k w within. each (suc k) w (omega (arith, within)))
+in_order client seat works floor [] [] [] same sessions new each low = tt
+in_order client seat works floor [] [] (s ∷ seats) same sessions new each low = absurd cc
+in_order client seat works floor [] (y ∷ ys) seats same sessions new each low = absurd cc
+in_order client seat works floor (x ∷ xs) [] seats same sessions new each low = absurd cc
+in_order client seat works floor (x ∷ xs) (y ∷ ys) [] same sessions new each low = absurd cc
+in_order client seat works floor (x ∷ xs) (y ∷ ys) (s ∷ seats) same sessions new each low = (
+  record {
+    first = seat x;
+    new = new 0 x refl;
+    seat = seat y;
+    has = sym (cons_first _ _ _ _ sessions);
+    known = low 0 y refl;
+    worked = each 0 x (omega arith);
+  },
+  in_order client seat works floor xs ys seats (omega (arith, same)) (cons_rest _ _ _ _ sessions) (λ k w at. new (suc k) w at)
+      (λ k w within. each (suc k) w (omega (arith, within)))
       (λ k w at. low (suc k) w at),
 )
 
-pub all_worked : {W C X Y : Type 0} (client : W → C) (seat : W → SeatValue) (works : C → C → SeatValue → Type 0) (floor : ℕ) (before : Vec W X)
-    (after : Vec W Y) (seats : List SeatValue) → after.len ≡ before.len
+pub all_worked : {W C X Y : Type 0} (client : W → C) (seat : W → SeatValue) (works : C → C → SeatValue → SeatValue → Type 0) (floor : ℕ)
+    (before : Vec W X) (after : Vec W Y) (seats : List SeatValue) → after.len ≡ before.len
     → map (λ (s : SeatValue). s.session) seats ≡ map (λ w. (seat w).session) after.items
+    → ((k : ℕ) (w : W) → slice_get before.items k ≡ Some w → (seat w).session ≡ empty_session)
     → ((k : ℕ) (w : W) → k < before.len
-    → works (client (slice_index_or before.items k w)) (client (slice_index_or after.items k w)) (seat (slice_index_or after.items k w)))
+    → works (client (slice_index_or before.items k w)) (client (slice_index_or after.items k w)) (seat (slice_index_or before.items k w))
+    (seat (slice_index_or after.items k w)))
     → ((k : ℕ) (w : W) → slice_get after.items k ≡ Some w → (seat w).sight.horizon ≤ floor)
     → HaveWorked works floor (map client before.items) (map client after.items) seats
-all_worked client seat works floor before after seats same sessions each low =
+all_worked client seat works floor before after seats same sessions new each low =
     in_order client seat works floor before.items after.items seats (sym after.ok.0
-    ∙ (same ∙ before.ok.0)) sessions (λ k w within. each k w (subst (λ (m : ℕ). k < m) (sym before.ok.0) within)) low
+    ∙ (same ∙ before.ok.0)) sessions new (λ k w within. each k w (subst (λ (m : ℕ). k < m) (sym before.ok.0) within)) low
+
+-- a new seat has nothing in its session
+pub new_session : {W : Type 0} (seat : W → SeatValue) (board : TableId) (count : ℕ) (seats : List SeatValue) (xs : List W) → map seat xs ≡ seats
+    → AreNewSeats board count seats → (k : ℕ) (w : W) → slice_get xs k ≡ Some w → (seat w).session ≡ empty_session
+new_session seat board count seats xs are new k w at =
+    (new.each k (seat w) (ap (λ (l : List SeatValue). slice_get l k) (sym are) ∙ in_mapped seat xs k w at)).1
 
 -- the sessions of seats
 session_map : {W : Type 0} (seat : W → SeatValue) (xs : List W) → map (λ (s : SeatValue). s.session) (map seat xs) ≡ map (λ w. (seat w).session) xs

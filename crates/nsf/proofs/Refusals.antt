@@ -39,7 +39,7 @@ both P Q (Err e) p q = tt
 
 -- the device failed as the clients ran, or behind that
 pub unwritten_since : {U : Type 0} (old mid : Bool) (a b c : ℕ) → old ≡ false → a ≤ b → (mid ≡ true → old ≡ false → Rises a b) → (written : Result U Error)
-    → IfErr written (λ e. (e ≡ NoMemory) ⊎ ((e ≡ DeviceFailed) × (mid ≡ false → Rises b c))) → IfErr written (λ e. b ≤ c)
+    → IfErr written (λ e. (e ≡ NoMemory) ⊎ ((e ≡ DeviceFailed) × (mid ≡ false → Rises b c))) → b ≤ c
     → IfErr written (IsUnwritten a c)
 unwritten_since old mid a b c sound low first (Ok x) why later = tt
 unwritten_since old mid a b c sound low first (Err e) (inl none) later = inl none

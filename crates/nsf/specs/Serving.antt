@@ -15,7 +15,7 @@ use Rattle.core_parts.specs.declared.reply.BuildReply.TheVariants as reply
 use Rattle.core_parts.specs.View.{CoreValue}
 use Rattle.sector_device.specs.Disk.{Disk, CrashState, IsCrashState}
 use Rattle.sector_device.specs.DevicePast.{DevicePast, LeavesOnly, Rises}
-use Rattle.threads_sessions.specs.Values.{CommitValue, SessionValue}
+use Rattle.threads_sessions.specs.Values.{CommitValue, SessionValue, empty_session}
 use Rattle.shared.specs.Seats.{SeatValue}
 use Rattle.shared.specs.Served.{WasServed}
 use Rattle.threads_flusher.specs.Part.{IsKeptSince, IsNewest, Publication}
@@ -57,17 +57,20 @@ abbrev pub TellsBuild : Opened → Result Ticket Error → Type 0
 TellsBuild o told = IfOk told (λ ticket. ∥ WasServed o Event.Build (builds.built (reply.Done ticket)) ∥₁)
     × IfErr told (EndsBuilder o)
 
--- A client has worked with a seat that has this session. The horizon that the seat has read last isn't above the floor.
-pub record HasWorked {C : Type 0} (works : C → C → SeatValue → Type 0) (floor : ℕ) (client after : C)
+-- A client has worked with a seat that had an empty session, and has this one now. The horizon that the seat has read
+-- last isn't above the floor.
+pub record HasWorked {C : Type 0} (works : C → C → SeatValue → SeatValue → Type 0) (floor : ℕ) (client after : C)
     (session : SessionValue) : Type 0 where
+  pub first : SeatValue
+  pub new : first.session ≡ empty_session
   pub seat : SeatValue
   pub has : seat.session ≡ session
   pub known : seat.sight.horizon ≤ floor
-  pub worked : works client after seat
+  pub worked : works client after first seat
 
 -- so has each client, in its place, with the session of the seat there
-abbrev pub HaveWorked : {C : Type 0} → (C → C → SeatValue → Type 0) → (floor : ℕ) → List C → List C → List SeatValue
-    → Type 0
+abbrev pub HaveWorked : {C : Type 0} → (C → C → SeatValue → SeatValue → Type 0) → (floor : ℕ) → List C → List C
+    → List SeatValue → Type 0
 HaveWorked works floor [] [] [] = Unit {0}
 HaveWorked works floor (client ∷ clients) (after ∷ others) (s ∷ seats) =
     HasWorked works floor client after s.session × HaveWorked works floor clients others seats
@@ -76,8 +79,8 @@ HaveWorked works floor clients others seats = ⊥
 -- The clients have worked, each with a seat; and the device was written by these seats, up to some record that isn't
 -- before any horizon that one of them has read. A crash at any moment since the store was opened leaves what was opened
 -- with the seats' commits set over it, up to some record.
-pub record LeavesWork {C D : Type 0} (past_of : D → DevicePast) (works : C → C → SeatValue → Type 0) (o : Opened)
-    (clients after : List C) (opened device : D) (written : Result Unit Error) : Type 0 where
+pub record LeavesWork {C D : Type 0} (past_of : D → DevicePast) (works : C → C → SeatValue → SeatValue → Type 0)
+    (o : Opened) (clients after : List C) (opened device : D) (written : Result Unit Error) : Type 0 where
   pub seats : List SeatValue
   pub publications : List Publication
   pub floor : ℕ

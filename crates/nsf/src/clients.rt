@@ -28,9 +28,9 @@ use threads_loops::{BuilderEnd, Ended, NoGate, NotRun, run_beside};
 
 /// Something that uses a store beside others, in a thread of its own with a seat of its own.
 pub trait Client {
-    /// What its work may make of it: of a client as it was, and as it is then, where it leaves its seat so. One that
-    /// promises nothing leaves it out.
-    ghost works: { Self → Self → SeatValue → Type 0 } = { λ before after seat. Unit {0} };
+    /// What its work may make of it: of a client as it was, and as it is then, where it finds its seat so, and leaves
+    /// it so. One that promises nothing leaves it out.
+    ghost works: { Self → Self → SeatValue → SeatValue → Type 0 } = { λ before after first last. Unit {0} };
 
     /// What it does, once. It has the seat that it was given until it returns: so it is behind each call that takes the
     /// seat. Where it waits for an index, it asks why the builder has ended, if it has (`BuilderEnd::reason`): then the
@@ -43,7 +43,7 @@ pub trait Client {
         builder: &BuilderEnd<B>,
     )
         ensures seat { seat.new.number ≡ seat.old.number }
-        ensures worked { works self.old self.new seat.new };
+        ensures worked { works self.old self.new seat.old seat.new };
 }
 
 /// What clients leave.
@@ -62,13 +62,13 @@ pub struct Served<C, D> {
 /// Opens the store on the device, as `open_store` does, and runs the clients, each in a thread of its own, while others
 /// build the index, clean it and write to the device. When all clients have ended, all that they did is written out.
 ///
-/// Each client has worked, with a seat of its own. Then a crash leaves what was opened with the commits of all seats
-/// set over it; where `written` tells a refusal, with those up to some record. No horizon that a seat has read is above
-/// that record: so nothing is lost that a client knows to be safe. Nor was it while they worked: a crash at any moment
-/// since a horizon was published leaves all up to that; one at any moment since the store was opened, the commits up to
-/// some record; and one before that what a crash could leave before the call, or what gives the same (`leaves`). A
-/// refusal is `NoMemory`, or `DeviceFailed` where the device's count of failures has risen (`why`). A transaction that
-/// a client left active is taken back when the store is opened again.
+/// Each client has worked, with a new seat of its own. Then a crash leaves what was opened with the commits of all
+/// seats set over it; where `written` tells a refusal, with those up to some record. No horizon that a seat has read
+/// is above that record: so nothing is lost that a client knows to be safe. Nor was it while they worked: a crash at
+/// any moment since a horizon was published leaves all up to that; one at any moment since the store was opened, the
+/// commits up to some record; and one before that what a crash could leave before the call, or what gives the same
+/// (`leaves`). A refusal is `NoMemory`, or `DeviceFailed` where the device's count of failures has risen (`why`); that
+/// never falls (`later`). A transaction that a client left active is taken back when the store is opened again.
 ///
 /// The errors are those of `open_store`, as `TooManyTxns` where there are more than 16 clients (`many`), and
 /// `NoMemory`, also where no thread can be made for what runs beside the clients: then no client is called. The device
@@ -85,6 +85,7 @@ pub fn serve<C: Client + Send + Drop, D: Device + Send + Drop, R: Threads + Wait
         × LeavesWork D.past_of C.works o clients.items s.clients.items opened s.device s.written
         × TellsBuild o s.built) }
     ensures why { IfOk result (λ s. IfErr s.written (IsUnwritten (D.failures device) (D.failures s.device))) }
+    ensures later { IfOk result (λ s. D.failures device ≤ D.failures s.device) }
     ensures clients { IfOk result (λ s. vec_len s.clients ≡ vec_len clients) }
     ensures refused { IfErr result (λ r. IsNotShared D.past_of D.failures device (vec_len clients) r.1 r.0) }
     ensures many { 16 < vec_len clients → result ≡ Err (Refused TooManyTxns, device) }
@@ -112,6 +113,7 @@ fn begin<
         store.device s.device s.written) }
     ensures told { IfOk result (λ s. TellsBuild B.site.opened s.built) }
     ensures why { IfOk result (λ s. IfErr s.written (IsUnwritten (D.failures store.device) (D.failures s.device))) }
+    ensures later { IfOk result (λ s. D.failures store.device ≤ D.failures s.device) }
     ensures clients { IfOk result (λ s. vec_len s.clients ≡ vec_len clients) }
     ensures no_memory { IfErr result (λ r. (r.0 ≡ Refused NoMemory) × (r.1 ≡ store.device)) }
 {
@@ -205,7 +207,7 @@ fn work_all<B: Group + Send + Sync, C: Client + Send, R: Threads + Wait + Sync>(
         → KeepsSeat (slice_index_or desks.items k d).seat (slice_index_or result.items k d).seat }
     ensures worked { (k : ℕ) (d : _) → k < vec_len desks
         → C.works (slice_index_or desks.items k d).client (slice_index_or result.items k d).client
-        (slice_index_or result.items k d).seat }
+        (slice_index_or desks.items k d).seat (slice_index_or result.items k d).seat }
 {
     let threads = desks.len().max(1);
     for_each_mut(
@@ -224,7 +226,7 @@ fn work_at<B: Group, C: Client, R: Wait>(
     builder: &BuilderEnd<B>,
 )
     ensures seat { KeepsSeat desk.old.seat desk.new.seat }
-    ensures worked { C.works desk.old.client desk.new.client desk.new.seat }
+    ensures worked { C.works desk.old.client desk.new.client desk.old.seat desk.new.seat }
 {
     desk.client.work(rt, shared, &mut desk.seat, builder);
 }
@@ -249,7 +251,7 @@ fn run_all<
         → KeepsSeat (slice_index_or desks.items k d).seat (slice_index_or e.clients.items k d).seat) }
     ensures worked { IfOk result (λ e. (k : ℕ) (d : _) → k < vec_len desks
         → C.works (slice_index_or desks.items k d).client (slice_index_or e.clients.items k d).client
-        (slice_index_or e.clients.items k d).seat) }
+        (slice_index_or desks.items k d).seat (slice_index_or e.clients.items k d).seat) }
     ensures going { IfOk result (λ e. GoesOn D.past_of D.failures B.site.opened flush e.flush) }
     ensures told { IfOk result (λ e. TellsBuild B.site.opened e.built) }
     ensures back { IfErr result (λ part. part ≡ flush) }
@@ -270,7 +272,7 @@ fn run_all<
                 → KeepsSeat (slice_index_or desks.items k d).seat (slice_index_or result.items k d).seat }
             ensures worked { (k : ℕ) (d : _) → k < vec_len desks
                 → C.works (slice_index_or desks.items k d).client (slice_index_or result.items k d).client
-                (slice_index_or result.items k d).seat }
+                (slice_index_or desks.items k d).seat (slice_index_or result.items k d).seat }
         { work_all(rt, shared, desks, builder) },
     );
     match ran {
@@ -295,7 +297,7 @@ fn close<B: Group, D: Device, R: Wait>(
     ensures goes { IsLaterPast (D.past_of (device_of parts.flush.writer)) (D.past_of result.0) }
     ensures why { IfErr result.1 (λ e. (e ≡ NoMemory) ⊎ ((e ≡ DeviceFailed) × (has_failed parts.flush.writer ≡ false
         → Rises (D.failures (device_of parts.flush.writer)) (D.failures result.0)))) }
-    ensures later { IfErr result.1 (λ e. D.failures (device_of parts.flush.writer) ≤ D.failures result.0) }
+    ensures later { D.failures (device_of parts.flush.writer) ≤ D.failures result.0 }
 {
     parts.flush.stands();
     match finish(rt, alloc, shared, parts, Vec::new(alloc)) {
@@ -363,7 +365,7 @@ fn end<B: Group, C: Drop, D: Device, R: Wait>(
     ensures why { IfErr result.written (λ e. (e ≡ NoMemory) ⊎ ((e ≡ DeviceFailed)
         × (has_failed ended.flush.writer ≡ false
         → Rises (D.failures (device_of ended.flush.writer)) (D.failures result.device)))) }
-    ensures later { IfErr result.written (λ e. D.failures (device_of ended.flush.writer) ≤ D.failures result.device) }
+    ensures later { D.failures (device_of ended.flush.writer) ≤ D.failures result.device }
     ensures built { result.built ≡ ended.built }
     ensures clients { vec_len result.clients ≡ vec_len ended.clients }
     ensures order { result.clients.items ≡ map (λ d. d.client) ended.clients.items }
@@ -431,6 +433,7 @@ fn seat_all<
     ensures told { IfOk result (λ s. TellsBuild B.site.opened s.built) }
     ensures why { IfOk result (λ s. IfErr s.written (IsUnwritten (D.failures (device_of parts.flush.writer))
         (D.failures s.device))) }
+    ensures later { IfOk result (λ s. D.failures (device_of parts.flush.writer) ≤ D.failures s.device) }
     ensures clients { IfOk result (λ s. vec_len s.clients ≡ vec_len clients) }
     ensures back { IfErr result (λ d. d ≡ device_of parts.flush.writer) }
 {

@@ -95,8 +95,9 @@
 //! }
 //! ```
 //!
-//! A client may say by a ghost member `works` what its work makes of it, where it leaves its seat so; this one says
-//! nothing. One that keeps a number as `safe` says `after.safe ≤ seat.sight.horizon`: then that record isn't lost.
+//! A client may say by a ghost member `works` what its work makes of it, where it finds its seat so and leaves it so;
+//! this one says nothing. One that keeps a number as `safe` says `after.safe ≤ last.sight.horizon`: then that record
+//! isn't lost.
 //!
 //! A client's crate needs no proof of its own for the types that threads share: `serve` picks the group, and starts the
 //! threads. Where a client calls in a loop, the loop's invariant says that the seat is the same one, in a file
@@ -128,10 +129,11 @@
 //! # What is promised
 //!
 //! Of one thread: the contracts of `restart`, and above them `live_through` and `live_on` of `headline`. Of many: when
-//! all clients of `serve` have worked, each with a seat of its own, a crash leaves what was opened with the commits of
-//! these seats set over it, up to a record that isn't before any horizon that one of them has read; all of them where
-//! nothing was refused. A crash at any moment since a horizon was published leaves all up to that (`leaves`). So it may
-//! be opened again (the law `left_by_threads`). Why not all was written is told (`why`), and how the builder ended.
+//! all clients of `serve` have worked, each with a new seat of its own, a crash leaves what was opened with the commits
+//! of these seats set over it, up to a record that isn't before any horizon that one of them has read; all of them
+//! where nothing was refused. A crash at any moment since a horizon was published leaves all up to that (`leaves`). So
+//! it may be opened again (the law `left_by_threads`). Why not all was written is told (`why`), and how the builder
+//! ended. Above it stands `live_beside` of `headline`.
 //! Only tested (`test_nsf`): both examples.
 #![tactic(auto)]
 

@@ -20,5 +20,5 @@ returns-in-Ok-clause-served g c = λ size began days answers keeps.
     (record { clients = served.clients; built = served.built; written = served.written }) is.2 served.device c.stop_device.new.device is.3
     (subst (λ (o : Opened). LeavesWork past_of works o c.args.day.clients.items served.clients.items is.2 served.device served.written) same is.4)
     (subst (λ (o : Opened). TellsBuild o served.built) same is.5)
-    c.in-Ok.ensures.why c.stop_device.ensures.failures
+    c.in-Ok.ensures.later c.in-Ok.ensures.why c.stop_device.ensures.failures
     (c.stop_device.ensures.stopped _ c.mark-since.ensures later)

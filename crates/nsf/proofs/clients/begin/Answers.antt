@@ -1,4 +1,4 @@
-use Rattle.std.proofs.Common.{IfErr, subst}
+use Rattle.std.proofs.Common.{IfErr, ap, arith, subst}
 use Rattle.nsf.specs.Serving.{IsUnwritten, LeavesWork}
 use Rattle.nsf.proofs.clients.begin.Goals as goal
 
@@ -13,3 +13,8 @@ returns-in-Ok-seat_all-clause-leaves g c =
     let served = c.in-Ok-seat_all.served in
     subst (λ d. LeavesWork g.D.Device.past_of g.C.Client.works g.B.Group.site.opened c.args.clients.items served.clients.items d served.device served.written)
     c.in-Ok.ensures.device c.in-Ok-seat_all.ensures.leaves
+
+pub returns-in-Ok-seat_all-clause-later : goal.returns-in-Ok-seat_all-clause-later
+returns-in-Ok-seat_all-clause-later g c =
+    let failures = g.D.Device.failures in
+    omega (arith, ap failures c.in-Ok.ensures.device, c.in-Ok-seat_all.ensures.later)

@@ -1,4 +1,4 @@
-use Rattle.std.proofs.Common.{⊎_elim, inl, inr}
+use Rattle.std.proofs.Common.{⊎_elim, arith, inl, inr}
 use Rattle.store_writer.specs.Parts.{halves_of}
 use Rattle.nsf.proofs.Published.{newest_kept}
 use Rattle.threads_flusher.specs.Part.{popped_by}
@@ -44,3 +44,6 @@ returns-in-Ok-clause-goes g c = record { later = c.in-Ok.ensures.images.later; k
 
 pub returns-in-Err-clause-goes : goal.returns-in-Err-clause-goes
 returns-in-Err-clause-goes g c = record { later = c.in-Err.ensures.left.later; kept = c.in-Err.ensures.left.kept }
+
+pub returns-in-Ok-clause-later : goal.returns-in-Ok-clause-later
+returns-in-Ok-clause-later g c = omega (arith, c.in-Ok.ensures.quiet)

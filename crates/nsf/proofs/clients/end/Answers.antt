@@ -35,5 +35,4 @@ returns-clause-why g c =
 pub returns-clause-later : goal.returns-clause-later
 returns-clause-later g c =
     let failures = g.D.Device.failures in
-    subst (λ f. IfErr c.close-device.result.1 (λ e. failures (device_of f.writer) ≤ failures c.close-device.result.0))
-    c.settle_desks.ensures.same c.close-device.ensures.later
+    subst (λ f. failures (device_of f.writer) ≤ failures c.close-device.result.0) c.settle_desks.ensures.same c.close-device.ensures.later

@@ -1,11 +1,11 @@
-use Rattle.std.proofs.Common.{List, ap, map, subst, sym, ◌++◌, ◌∙◌}
+use Rattle.std.proofs.Common.{List, ap, arith, map, subst, sym, ◌++◌, ◌∙◌}
 use Rattle.threads_lifetime.specs.Gathered.{AreAllSeats}
 use Rattle.shared.specs.Seats.{SeatValue}
 use Rattle.sector_device.specs.DevicePast.{LeavesOnly}
 use Rattle.store_writer.specs.Parts.{device_of, has_failed, synced_of}
 use Rattle.threads_lifetime.specs.Closing.{GivesSome}
 use Rattle.nsf.specs.Serving.{HaveWorked, TellsBuild}
-use Rattle.nsf.proofs.Orders.{all_left, all_new, all_worked}
+use Rattle.nsf.proofs.Orders.{all_left, all_new, all_worked, new_session}
 use Rattle.nsf.proofs.Published.{since_first}
 use Rattle.nsf.proofs.Refusals.{unwritten_since}
 use Rattle.nsf.proofs.clients.seat_all.Goals as goal
@@ -34,7 +34,8 @@ pub returns-in-Ok-run_all-clause-leaves : goal.returns-in-Ok-run_all-clause-leav
 returns-in-Ok-run_all-clause-leaves g c =
     let works = g.C.Client.works in
     let past_of = g.D.Device.past_of in
-    let o = g.B.Group.site.opened in
+    let z = g.B.Group.site in
+    let o = z.opened in
     let w = c.args.parts.flush.writer in
     let mid = c.in-Ok-run_all.ended.flush in
     let floor = mid.published.horizon in
@@ -58,5 +59,9 @@ returns-in-Ok-run_all-clause-leaves g c =
           subst (λ (clients : List _). HaveWorked works floor clients c.end.result.clients.items left.0) c.in-Ok.ensures.order
           (subst (λ (after : List _). HaveWorked works floor (map (λ d. d.client) c.in-Ok.desks.items) after left.0) (sym c.end.ensures.order)
           (all_worked (λ d. d.client) (λ d. d.seat) works floor c.in-Ok.desks c.in-Ok-run_all.ended.clients left.0 c.in-Ok-run_all.ensures.len
-          left.1 c.in-Ok-run_all.ensures.worked c.end.ensures.seen));
+          left.1 (new_session (λ d. d.seat) z.board z.seats c.args.parts.seats.items c.in-Ok.desks.items c.in-Ok.ensures.seats c.requires.seats)
+          c.in-Ok-run_all.ensures.worked c.end.ensures.seen));
     }
+
+pub returns-in-Ok-run_all-clause-later : goal.returns-in-Ok-run_all-clause-later
+returns-in-Ok-run_all-clause-later g c = omega (arith, c.in-Ok-run_all.ensures.going.later, c.end.ensures.later)

@@ -1,4 +1,4 @@
-use Rattle.std.proofs.Common.{IfErr, IfOk, subst, ℕ}
+use Rattle.std.proofs.Common.{IfErr, IfOk, subst, ℕ, ◌≤◌}
 use Rattle.std.proofs.lemmas.Result.{IfOk-weaker}
 use Rattle.threads_lifetime.specs.Openings.{IsNotShared}
 use Rattle.nsf.specs.Serving.{IsUnwritten}
@@ -21,3 +21,8 @@ returns-in-Ok-clause-refused g c =
     let failures = g.D.Device.failures in
     subst (λ (n : ℕ). IfErr c.begin.result (λ r. IsNotShared past_of failures c.args.device n r.1 r.0)) c.len.ensures
     (none_began past_of failures c.args.device c.len.result c.in-Ok.store c.in-Ok.ensures.opened c.begin.result c.begin.ensures.no_memory)
+
+pub returns-in-Ok-clause-later : goal.returns-in-Ok-clause-later
+returns-in-Ok-clause-later g c =
+    let failures = g.D.Device.failures in
+    subst (λ (n : ℕ). IfOk c.begin.result (λ s. n ≤ failures s.device)) c.in-Ok.ensures.opened.quiet c.begin.ensures.later
