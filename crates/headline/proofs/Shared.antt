@@ -20,12 +20,12 @@ use Rattle.store_reader.specs.Contents.{Gives}
 use Rattle.shared.specs.Seats.{SeatValue}
 use Rattle.threads_sessions.specs.Values.{CommitValue}
 use Rattle.threads_flusher.specs.Part.{IsKeptSince, Publication}
-use Rattle.threads_lifetime.specs.Closing.{GivesAll, GivesSome, table_with, up_to}
+use Rattle.threads_lifetime.specs.Closing.{GivesAll, GivesSome, IsCoreOf, table_with, up_to}
 use Rattle.threads_lifetime.specs.Gathered.{AreCommitsOf}
 use Rattle.threads_lifetime.specs.Openings.{IsNotShared, Opens}
 use Rattle.threads_lifetime.specs.declared.refusal.OpenError.{OpenError}
 use Rattle.threads_lifetime.specs.declared.refusal.OpenError.TheVariants.{Refused, Unsound}
-use Rattle.nsf.specs.Serving.{HoldsAll, IsUnwritten, LeavesWork, TellsBuild}
+use Rattle.nsf.specs.Serving.{HoldsAll, WhyUnwritten, LeavesWork, TellsBuild}
 use Rattle.restart.specs.declared.parts.EngineParts.{EngineParts}
 use Rattle.restart.specs.Building.{BuildsWhole, HasCome}
 use Rattle.restart.specs.Parts.{core_of}
@@ -74,7 +74,7 @@ module _ {D M C : Type 0} (past_of : D → DevicePast) (failures : D → ℕ) (w
 
   module _ (day : SharedDay C) (answer : SharedAnswer C) (opened after found : D) (turned : IsTurned past_of before opened)
       (work : LeavesWork past_of works o day.clients.items answer.clients.items opened after answer.written) (built : TellsBuild o answer.built)
-      (rises : failures before ≤ failures after) (why : IfErr answer.written (IsUnwritten (failures before) (failures after)))
+      (rises : failures before ≤ failures after) (why : IfErr answer.written (WhyUnwritten (failures before) (failures after)))
       (count : failures found ≡ failures after)
       (stops : StopsAt day.within (past_of before).moment (past_of after) (past_of found)) where
     abbrev t : ℕ
@@ -89,8 +89,8 @@ module _ {D M C : Type 0} (past_of : D → DevicePast) (failures : D → ℕ) (w
     opening : LeavesOnly (past_of before) (past_of opened) (GivesDays failures g began days answers (failures before))
     opening = between past_of failures g began days answers before keeps back opened turned
 
-    why_now : IfErr answer.written (IsUnwritten (failures before) (failures found))
-    why_now = subst (λ (n : ℕ). IfErr answer.written (IsUnwritten (failures before) n)) (sym count) why
+    why_now : IfErr answer.written (WhyUnwritten (failures before) (failures found))
+    why_now = subst (λ (n : ℕ). IfErr answer.written (WhyUnwritten (failures before) n)) (sym count) why
 
     later_now : failures before ≤ failures found
     later_now = omega (arith, rises, count)
@@ -147,10 +147,14 @@ module _ {D M C : Type 0} (past_of : D → DevicePast) (failures : D → ℕ) (w
       given : Given
       gives : Gives image h given
       table : given.table ≡ table_with first.table commits
+      core : CoreValue
+      left : ∥ IsCoreOf o work.seats work.leaves.popped core commits ∥₁
+      life : given.life ≡ core.life
+      last : given.last ≡ core.last
 
     -- with all commits, where it stopped behind all that was done and all was written
     all_kept : (within : Bool) → (within ≡ false → t ≡ (past_of after).moment) → (written : Result Unit Error)
-        → OnOk written (HoldsAll o h work.seats (past_of after).disk) → ∥ (within ≡ false → OnOk written AllKept) ∥₁
+        → OnOk written (HoldsAll o h work.seats work.leaves.popped (past_of after).disk) → ∥ (within ≡ false → OnOk written AllKept) ∥₁
     all_kept true at (Ok u) all = ∣ (λ behind. absurd cc) ∣₁
     all_kept true at (Err e) all = ∣ (λ behind. tt) ∣₁
     all_kept false at (Err e) all = ∣ (λ behind. tt) ∣₁
@@ -159,7 +163,17 @@ module _ {D M C : Type 0} (past_of : D → DevicePast) (failures : D → ℕ) (w
         subst (λ (d : Disk). IsCrashState d image) (ap (past_of after).disk_at (at refl) ∙ (past_of after).now) crash in
         ∥∥₁_elim all.of_seats ∥∥₁_prop (λ (are : AreCommitsOf work.seats all.commits).
         ∥∥₁_map (all.gives image end) (λ (left : GivesAll o h all.core all.commits image).
-        (λ behind. record { commits = all.commits; of-seats = are; given = left.given; gives = left.gives; table = left.table })))
+        (λ behind. record {
+          commits = all.commits;
+          of-seats = are;
+          given = left.given;
+          gives = left.gives;
+          table = left.table;
+          core = all.core;
+          left = all.left;
+          life = left.life;
+          last = left.last;
+        })))
 
     module _ (since : (past_of opened).moment ≤ t) (size : h ≡ g) (kept : day.within ≡ false → OnOk answer.written AllKept)
         (some : GivesSome o g work.seats work.leaves.popped first.last image) where
@@ -191,6 +205,12 @@ module _ {D M C : Type 0} (past_of : D → DevicePast) (failures : D → ℕ) (w
       all_of : AllKept → (all : List CommitValue) × AreCommitsOf work.seats all × (last-given.table ≡ table_with first.table all)
       all_of is = (is.commits, is.of-seats, ap (λ (x : Given). x.table) (images.given image g h last-given is.given some.gives is.gives) ∙ is.table)
 
+      all_left : AllKept → (left : CoreValue) × (popped : List RecordValue) × (commits : List CommitValue)
+          × ∥ IsCoreOf o work.seats popped left commits ∥₁ × (last-given.life ≡ left.life) × (last-given.last ≡ left.last)
+      all_left is =
+          let same = images.given image g h last-given is.given some.gives is.gives in
+          (is.core, work.leaves.popped, is.commits, is.left, ap (λ (x : Given). x.life) same ∙ is.life, ap (λ (x : Given). x.last) same ∙ is.last)
+
       late_so : FindsShared works failures g began days answers day answer (failures found) image
       late_so = record {
         store = resting last-given (failures found);
@@ -201,8 +221,6 @@ module _ {D M C : Type 0} (past_of : D → DevicePast) (failures : D → ℕ) (w
           horizon = work.floor;
           worked = work.worked;
           served = inl (record {
-            given = first;
-            began = refl;
             commits = some.commits;
             of-seats = some.all;
             rows = some.table ∙ ap (λ (n : ℕ). table_with first.table (up_to n some.commits)) (sym last);
@@ -214,7 +232,18 @@ module _ {D M C : Type 0} (past_of : D → DevicePast) (failures : D → ℕ) (w
             until = λ behind. All-weaker (IsKeptSince (Some-of h) (past_of after)) (λ (p : Publication). p.moment ≤ t)
                 (λ p was. omega (arith, was.later, stops.at-end behind)) work.publications work.leaves.published;
             whole = λ behind. on_ok _ _ answer.written all_of (kept behind);
-            lawful = record { popped = work.leaves.popped; image = image; found = some; kept = refl; told = built };
+            found = record {
+              given = first;
+              began = refl;
+              core = some.core;
+              pushed = some.pushed;
+              shared = some.shared;
+              count = some.count;
+              most = some.most;
+              kept = refl;
+              all = λ behind. on_ok _ _ answer.written all_left (kept behind);
+              told = built;
+            };
           });
           later = later_now;
           why = why_now;
@@ -274,6 +303,7 @@ module _ {D M C : Type 0} (past_of : D → DevicePast) (failures : D → ℕ) (w
     ∥∥₁_map finds (λ (is : Found). (
       is.store,
       is.lived,
+      omega (arith, ap (λ (s : AtRest). s.failed) is.rests, not.later),
       subst (λ (n : ℕ). IsUnopened e n (failures after)) (sym (ap (λ (s : AtRest). s.failed) is.rests))
           (why_unopened past_of failures g is.store [] [] found (gives_on is) images after e not),
     )),
@@ -313,7 +343,7 @@ module _ {D M C : Type 0} (past_of : D → DevicePast) (failures : D → ℕ) (w
       → IsNotLivedBeside works failures g began days answers day shared e now → e ≡ Refused x → ⊥
   never x other None e now is same = other is.0 is.2.store.failed now is.2.why (refused_same is.0 x (sym is.1 ∙ same))
   never x other (Some answer) e now is same =
-      ∥∥₁_elim is.2 (λ (a b : ⊥). absurd a) (λ it. other is.0 it.0.failed now it.2 (refused_same is.0 x (sym is.1 ∙ same)))
+      ∥∥₁_elim is.2 (λ (a b : ⊥). absurd a) (λ it. other is.0 it.0.failed now it.3 (refused_same is.0 x (sym is.1 ∙ same)))
 
 pub unopened_small : (e : Error) (before now : ℕ) → IsUnopened e before now → e ≡ DeviceTooSmall → ⊥
 unopened_small e before now (inl memory) small = let it = memory.0 in cc

@@ -40,7 +40,7 @@ pub struct LivedBeside<C, D: Mortal> {
 }
 
 /// A store that isn't there behind its days and a day of clients: what was answered in them, why it wasn't opened, and
-/// its device. `shared` is there where the clients have worked.
+/// its device. `shared` is there where it wasn't opened behind the clients' work.
 #[derive(Drop)]
 pub struct NotLivedBeside<C, D: Mortal> {
     pub answers: Vec<Answer<Global>>,
@@ -116,7 +116,7 @@ fn format_anew<D: Mortal>(device: &mut D, geometry: Geometry) -> Result<(), Erro
     Ok(())
 }
 
-// Lets the clients work over the store on the device behind its days, opens it then, and carries its build on where
+// Lets the clients work over the store on the device behind its days, and opens it then. Carries its build on where
 // that is wanted.
 fn share_behind<C: Client + Send + Drop, D: Mortal + Send, R: Threads + Wait + Sync>(
     rt: &R,
@@ -192,26 +192,28 @@ fn refused_before<C, D: Mortal>(refusal: NotLived<Error, D, Global>) -> NotLived
     }
 }
 
-/// Formats the device, and lives through the days as `live_through` does. Behind them comes a day of clients: the store
-/// is opened, and they work, each in a thread of its own with a seat of its own, while others build the index, clean it
-/// and write to the device (`serve`). The store stops then: where the day ends `within`, at any moment since its
-/// opening began, at any write or sync of the device or between them; else behind all that was done. In the end it is
-/// opened once more and, where that is wanted, the build of its index is carried to its end.
+/// Formats the device, and lives through the days as `live_through` does. Behind them comes a day of clients. The store
+/// is opened, and they work, each with a seat of its own; meanwhile others build the index, clean it and write to the
+/// device (`serve`). The store stops then: where the day ends `within`, at any moment since its opening began, at any
+/// write or sync of the device or between them; else behind all that was done. In the end it is opened once more and,
+/// where that is wanted, the build of its index is carried to its end.
 ///
-/// What it then holds is told by the days and the seats alone (`holds`). The rows are those that the days had left, and
-/// over them the commits of all seats up to the last record that was kept, in the order of their numbers. That record
-/// is not below any horizon that was published until the store stopped; and each horizon that a client had read was
-/// published. So nothing is lost that was acknowledged before. The premise is that a client's own actions and the
-/// device's moments have the order of the published horizons. Of a transaction that had not committed nothing is there,
-/// and none is active. Each visible entry of the index is the pair of a row; as far as the index was built, the pair of
-/// each row is visible; and once its build was carried to its end, every row's.
+/// What it then holds is told by the days and the seats alone (`holds`). The rows are those that the days had left.
+/// Over them are set the commits of all seats up to the last record that was kept, in the order of their numbers. Of a
+/// transaction that had not committed nothing is there, and none is active. Each visible entry of the index is the pair
+/// of a row; as far as the index was built, the pair of each row is visible; and once its build was carried to its end,
+/// every row's.
+///
+/// Where the day ends behind all that was done, the last record is not below any horizon that a seat has read: so
+/// nothing is lost that was acknowledged. Where it ends `within`, horizons were published at some moments, and the last
+/// record is not below any that came before the stop. At which moment a seat read one no clause says.
 ///
 /// Where the build is refused, `unbuilt` tells why, as that of `live_through` does.
 ///
 /// A refusal gives the device back, and what was answered until then. `TooManyTxns` where there are more than 16
 /// clients, and only there (`many`); else `DeviceTooSmall` where the device has fewer sectors than a store of this
 /// geometry takes, and only there (`too_small`, `room`): then it is as it was (`unchanged`). `DeviceFailed` where the
-/// count of failures has risen, in the formatting or in an opening; and `NoMemory` where it hasn't (`refused`).
+/// count of failures has risen, in the formatting or since the days; else `NoMemory` (`refused`).
 pub fn live_beside<C: Client + Send + Drop, D: Mortal + Send, R: Threads + Wait + Sync>(
     rt: &R,
     alloc: Global,

@@ -8,11 +8,11 @@
 //! numbers go on from day to day, and the device's failures are counted. Only tested (`test_headline`): days over a
 //! disk in memory. Neither: that memory is granted, or the device succeeds.
 //!
-//! The same of a store that clients use at last, each in a thread of its own, until it stops at any moment.
+//! The same of a store that clients use at last beside one another, until it stops at any moment.
 //!
-//! Proved: `live_beside` (`holds`, `unbuilt`, `refused`, `many`, `too_small`, `unchanged`, `room`). Nothing is lost
-//! that a horizon had reached which was published before the store stopped. Only tested (`test_nsf`): two clients over
-//! a disk in memory. Neither: that the clock of a client is that of the device.
+//! Proved: `live_beside` (`holds`, `unbuilt`, `refused`, `many`, `too_small`, `unchanged`, `room`). Behind a whole day
+//! nothing is lost that a seat has read to be safe. Only tested (`test_nsf`): two clients over a disk in memory.
+//! Neither: when a seat read a horizon, on a day that ends within.
 //!
 //! What many threads leave, as the contract of one call: every seat is taken back, the power fails behind that, and the
 //! store is opened again.

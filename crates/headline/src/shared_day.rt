@@ -2,8 +2,8 @@
 use nsf::Ticket;
 use records::Error;
 
-/// Clients that use a store on one day beside one another, each in a thread of its own, and how that ends: `within`,
-/// where the store stops at any moment since its opening began; else it stops behind all that was done.
+/// Clients that use a store on one day beside one another. Where it ends `within`, the store stops at any moment since
+/// its opening began; else behind all that was done.
 #[derive(Drop)]
 pub struct SharedDay<C> {
     pub clients: Vec<C>,

@@ -9,7 +9,7 @@ use Rattle.threads_flusher.proofs.Going.{counted_then}
 use Rattle.threads_lifetime.specs.Openings.{IsNotShared, IsOpenedOver, LacksMemory, StoreValue}
 use Rattle.threads_lifetime.specs.declared.refusal.OpenError.{OpenError}
 use Rattle.threads_lifetime.specs.declared.refusal.OpenError.TheVariants.{Refused}
-use Rattle.nsf.specs.Serving.{IsUnwritten}
+use Rattle.nsf.specs.Serving.{WhyUnwritten}
 
 module _ {D : Type 0} (past_of : D → DevicePast) (failures : D
     → ℕ) (before : D) (count : ℕ) (s : StoreValue D) (is : IsOpenedOver past_of failures before count s) where
@@ -40,7 +40,7 @@ both P Q (Err e) p q = tt
 -- the device failed as the clients ran, or behind that
 pub unwritten_since : {U : Type 0} (old mid : Bool) (a b c : ℕ) → old ≡ false → a ≤ b → (mid ≡ true → old ≡ false → Rises a b) → (written : Result U Error)
     → IfErr written (λ e. (e ≡ NoMemory) ⊎ ((e ≡ DeviceFailed) × (mid ≡ false → Rises b c))) → b ≤ c
-    → IfErr written (IsUnwritten a c)
+    → IfErr written (WhyUnwritten a c)
 unwritten_since old mid a b c sound low first (Ok x) why later = tt
 unwritten_since old mid a b c sound low first (Err e) (inl none) later = inl none
 unwritten_since old mid a b c sound low first (Err e) (inr failed) later =

@@ -20,20 +20,23 @@ use Rattle.shared.specs.Seats.{SeatValue}
 use Rattle.shared.specs.Served.{WasServed}
 use Rattle.threads_flusher.specs.Part.{IsKeptSince, IsNewest, Publication}
 use Rattle.threads_loops.specs.Building.{EndsBuilder}
-use Rattle.threads_lifetime.specs.Closing.{GivesAll, GivesSome}
+use Rattle.threads_lifetime.specs.Closing.{GivesAll, GivesSome, IsCoreOf}
 use Rattle.threads_lifetime.specs.Gathered.{AreCommitsOf}
 
--- whatever a crash leaves gives what was opened with all commits of these seats set over it
-pub record HoldsAll (o : Opened) (geometry : GeometryValue) (seats : List SeatValue) (disk : Disk) : Type 0 where
+-- Whatever a crash leaves gives what was opened with all commits of these seats set over it, and all else that was
+-- made: the core is as they left it.
+pub record HoldsAll (o : Opened) (geometry : GeometryValue) (seats : List SeatValue) (popped : List RecordValue)
+    (disk : Disk) : Type 0 where
   pub commits : List CommitValue
   pub of_seats : ∥ AreCommitsOf seats commits ∥₁
   pub core : CoreValue
+  pub left : ∥ IsCoreOf o seats popped core commits ∥₁
   pub gives : (image : CrashState) → IsCrashState disk image → ∥ GivesAll o geometry core commits image ∥₁
 
--- The device was written by these seats, in a store as large as the one that was opened: whatever a crash leaves of it
--- gives what was opened with their commits set over it, up to some record that isn't before the floor; and with all of
--- them, where nothing was refused. So it was while they worked: a crash at any moment since one of these horizons was
--- published leaves all up to that. The floor is the last of them.
+-- The device was written by these seats, in a store as large as the one that was opened. Whatever a crash leaves of it
+-- gives what was opened with their commits set over it. It has them up to some record that isn't before the floor; and
+-- all of them, where nothing was refused. Horizons were published, each at a moment, the floor last: a crash at any
+-- moment since leaves all up to that horizon. (So `some` is `published` of the last of them, now.)
 pub record LeavesCommits {D : Type 0} (past_of : D → DevicePast) (o : Opened) (seats : List SeatValue)
     (publications : List Publication) (floor : ℕ) (device : D) (written : Result Unit Error) : Type 0 where
   pub geometry : GeometryValue
@@ -45,11 +48,11 @@ pub record LeavesCommits {D : Type 0} (past_of : D → DevicePast) (o : Opened) 
   pub newest : IsNewest publications floor
   pub published : All (IsKeptSince (λ horizon image. ∥ GivesSome o geometry seats popped horizon image ∥₁)
       (past_of device)) publications
-  pub all : OnOk written (HoldsAll o geometry seats (past_of device).disk)
+  pub all : OnOk written (HoldsAll o geometry seats popped (past_of device).disk)
 
 -- why not all that was made was written out: there was no memory, or the device has failed
-abbrev pub IsUnwritten : (before now : ℕ) → Error → Type 0
-IsUnwritten before now e = (e ≡ NoMemory) ⊎ ((e ≡ DeviceFailed) × Rises before now)
+abbrev pub WhyUnwritten : (before now : ℕ) → Error → Type 0
+WhyUnwritten before now e = (e ≡ NoMemory) ⊎ ((e ≡ DeviceFailed) × Rises before now)
 
 -- What is told of the builder: the ticket of an index that a core which may lie under the lock completed; or why the
 -- builder ended.
@@ -77,8 +80,8 @@ HaveWorked works floor (client ∷ clients) (after ∷ others) (s ∷ seats) =
 HaveWorked works floor clients others seats = ⊥
 
 -- The clients have worked, each with a seat; and the device was written by these seats, up to some record that isn't
--- before any horizon that one of them has read. A crash at any moment since the store was opened leaves what was opened
--- with the seats' commits set over it, up to some record.
+-- before any horizon that one of them has read. Since the store was opened, a crash at any moment leaves that with the
+-- seats' commits set over it, up to some record.
 pub record LeavesWork {C D : Type 0} (past_of : D → DevicePast) (works : C → C → SeatValue → SeatValue → Type 0)
     (o : Opened) (clients after : List C) (opened device : D) (written : Result Unit Error) : Type 0 where
   pub seats : List SeatValue

@@ -11,7 +11,7 @@ ghost use Rattle.threads_lifetime.specs.Gathered.{AreAllSeats};
 ghost use Rattle.restart.specs.Reopening.{IsTurned};
 ghost use Rattle.threads_lifetime.specs.Openings.{IsNewFlusher, IsNotShared, Opens};
 ghost use Rattle.threads_lifetime.specs.declared.refusal.OpenError.TheVariants.{Refused};
-ghost use Rattle.nsf.specs.Serving.{HasRoom, IsLaterPast, IsUnwritten, KeepsSeat, LeavesCommits, LeavesWork};
+ghost use Rattle.nsf.specs.Serving.{HasRoom, IsLaterPast, WhyUnwritten, KeepsSeat, LeavesCommits, LeavesWork};
 ghost use Rattle.nsf.specs.Serving.{TellsBuild};
 
 use nsf_core::Ticket;
@@ -64,11 +64,12 @@ pub struct Served<C, D> {
 ///
 /// Each client has worked, with a new seat of its own. Then a crash leaves what was opened with the commits of all
 /// seats set over it; where `written` tells a refusal, with those up to some record. No horizon that a seat has read
-/// is above that record: so nothing is lost that a client knows to be safe. Nor was it while they worked: a crash at
-/// any moment since a horizon was published leaves all up to that; one at any moment since the store was opened, the
-/// commits up to some record; and one before that what a crash could leave before the call, or what gives the same
-/// (`leaves`). A refusal is `NoMemory`, or `DeviceFailed` where the device's count of failures has risen (`why`); that
-/// never falls (`later`). A transaction that a client left active is taken back when the store is opened again.
+/// is above that record: so nothing is lost that a client knows to be safe. Nor was it at any moment since the last
+/// horizon was published; when that was, no clause says. Since the store was opened, a crash at any moment leaves the
+/// commits up to some record; and before that what one could leave before the call, or what gives the same (`leaves`).
+///
+/// A refusal is `NoMemory`, or `DeviceFailed` where the device's count of failures has risen (`why`); that never falls
+/// (`later`). A transaction that a client left active is taken back when the store is opened again.
 ///
 /// The errors are those of `open_store`, as `TooManyTxns` where there are more than 16 clients (`many`), and
 /// `NoMemory`, also where no thread can be made for what runs beside the clients: then no client is called. The device
@@ -84,7 +85,7 @@ pub fn serve<C: Client + Send + Drop, D: Device + Send + Drop, R: Threads + Wait
         × (opened : D) × IsTurned D.past_of device opened
         × LeavesWork D.past_of C.works o clients.items s.clients.items opened s.device s.written
         × TellsBuild o s.built) }
-    ensures why { IfOk result (λ s. IfErr s.written (IsUnwritten (D.failures device) (D.failures s.device))) }
+    ensures why { IfOk result (λ s. IfErr s.written (WhyUnwritten (D.failures device) (D.failures s.device))) }
     ensures later { IfOk result (λ s. D.failures device ≤ D.failures s.device) }
     ensures clients { IfOk result (λ s. vec_len s.clients ≡ vec_len clients) }
     ensures refused { IfErr result (λ r. IsNotShared D.past_of D.failures device (vec_len clients) r.1 r.0) }
@@ -112,7 +113,7 @@ fn begin<
     ensures leaves { IfOk result (λ s. LeavesWork D.past_of C.works B.site.opened clients.items s.clients.items
         store.device s.device s.written) }
     ensures told { IfOk result (λ s. TellsBuild B.site.opened s.built) }
-    ensures why { IfOk result (λ s. IfErr s.written (IsUnwritten (D.failures store.device) (D.failures s.device))) }
+    ensures why { IfOk result (λ s. IfErr s.written (WhyUnwritten (D.failures store.device) (D.failures s.device))) }
     ensures later { IfOk result (λ s. D.failures store.device ≤ D.failures s.device) }
     ensures clients { IfOk result (λ s. vec_len s.clients ≡ vec_len clients) }
     ensures no_memory { IfErr result (λ r. (r.0 ≡ Refused NoMemory) × (r.1 ≡ store.device)) }
@@ -431,7 +432,7 @@ fn seat_all<
     ensures leaves { IfOk result (λ s. LeavesWork D.past_of C.works B.site.opened clients.items s.clients.items
         (device_of parts.flush.writer) s.device s.written) }
     ensures told { IfOk result (λ s. TellsBuild B.site.opened s.built) }
-    ensures why { IfOk result (λ s. IfErr s.written (IsUnwritten (D.failures (device_of parts.flush.writer))
+    ensures why { IfOk result (λ s. IfErr s.written (WhyUnwritten (D.failures (device_of parts.flush.writer))
         (D.failures s.device))) }
     ensures later { IfOk result (λ s. D.failures (device_of parts.flush.writer) ≤ D.failures s.device) }
     ensures clients { IfOk result (λ s. vec_len s.clients ≡ vec_len clients) }

@@ -1,12 +1,12 @@
 use Rattle.std.proofs.Common.{IfErr, ap, arith, subst}
-use Rattle.nsf.specs.Serving.{IsUnwritten, LeavesWork}
+use Rattle.nsf.specs.Serving.{WhyUnwritten, LeavesWork}
 use Rattle.nsf.proofs.clients.begin.Goals as goal
 
 pub returns-in-Ok-seat_all-clause-why : goal.returns-in-Ok-seat_all-clause-why
 returns-in-Ok-seat_all-clause-why g c =
     let failures = g.D.Device.failures in
     let served = c.in-Ok-seat_all.served in
-    subst (λ d. IfErr served.written (IsUnwritten (failures d) (failures served.device))) c.in-Ok.ensures.device c.in-Ok-seat_all.ensures.why
+    subst (λ d. IfErr served.written (WhyUnwritten (failures d) (failures served.device))) c.in-Ok.ensures.device c.in-Ok-seat_all.ensures.why
 
 pub returns-in-Ok-seat_all-clause-leaves : goal.returns-in-Ok-seat_all-clause-leaves
 returns-in-Ok-seat_all-clause-leaves g c =

@@ -19,6 +19,7 @@ returns-in-Ok-clause-leaves g c = record {
     commits = c.in-Ok.closed.commits.items;
     of_seats = c.in-Ok.ensures.commits;
     core = value_of c.in-Ok.closed.core;
+    left = c.in-Ok.ensures.core;
     gives = c.in-Ok.ensures.device;
   };
 }

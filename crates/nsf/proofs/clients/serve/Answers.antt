@@ -1,7 +1,7 @@
 use Rattle.std.proofs.Common.{IfErr, IfOk, subst, ℕ, ◌≤◌}
 use Rattle.std.proofs.lemmas.Result.{IfOk-weaker}
 use Rattle.threads_lifetime.specs.Openings.{IsNotShared}
-use Rattle.nsf.specs.Serving.{IsUnwritten}
+use Rattle.nsf.specs.Serving.{WhyUnwritten}
 use Rattle.nsf.proofs.Refusals.{both, none_began}
 use Rattle.nsf.proofs.clients.serve.Goals as goal
 
@@ -13,7 +13,7 @@ returns-in-Ok-clause-leaves g c = IfOk-weaker c.begin.result _ _ (λ served is.
 pub returns-in-Ok-clause-why : goal.returns-in-Ok-clause-why
 returns-in-Ok-clause-why g c =
     let failures = g.D.Device.failures in
-    subst (λ (n : ℕ). IfOk c.begin.result (λ s. IfErr s.written (IsUnwritten n (failures s.device)))) c.in-Ok.ensures.opened.quiet c.begin.ensures.why
+    subst (λ (n : ℕ). IfOk c.begin.result (λ s. IfErr s.written (WhyUnwritten n (failures s.device)))) c.in-Ok.ensures.opened.quiet c.begin.ensures.why
 
 pub returns-in-Ok-clause-refused : goal.returns-in-Ok-clause-refused
 returns-in-Ok-clause-refused g c =
