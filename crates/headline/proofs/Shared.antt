@@ -12,6 +12,7 @@ use Rattle.record_values.specs.declared.error.Error.TheVariants.{DeviceTooSmall,
 use Rattle.model.specs.Given.{Given, given_after}
 use Rattle.core_model.specs.Histories.{CanOpen, Opened}
 use Rattle.core_model.proofs.ReplyLaws.{served_recovers}
+use Rattle.core_parts.specs.View.{CoreValue}
 use Rattle.sector_device.specs.Disk.{CrashState, IsCrashState, Disk}
 use Rattle.sector_device.specs.DevicePast.{DevicePast, LeavesOnly}
 use Rattle.sector_device.proofs.Moments.{content_at_end}
