@@ -6,7 +6,8 @@
 //! of public contracts alone. A day ends behind its last reply, or within its last request, at any moment of it; each
 //! record that a reply had acknowledged before the stop is kept. The requests of each day are answered lawfully, record
 //! numbers go on from day to day, and the device's failures are counted. Only tested (`test_headline`): days over a
-//! disk in memory. Neither: that memory is granted, or the device succeeds.
+//! disk in memory, and one that is stopped at each of its moments, compared with a plain program. Neither: that memory
+//! is granted, or the device succeeds.
 //!
 //! The same of a store that clients use at last beside one another, until it stops at any moment.
 //!
