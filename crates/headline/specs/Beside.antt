@@ -24,9 +24,10 @@ use Rattle.headline.specs.AtRest.{AtRest, resting}
 use Rattle.headline.specs.Days.{Answer, AreDays, IsUnopened}
 use Rattle.headline.specs.Held.{IsNotReopened}
 
--- What a store is found with that clients used: the first of the records that the seats, the builder and the cleaner
--- made over what was given. These tell how far its index is. All of them are there, where it stopped behind all that
--- was done and all was written. What was told of the builder, a core that may lie under the lock has answered.
+-- What a store is found with that clients used: the first of the records that were made over what was given, by seats,
+-- builder and cleaner. These tell how far its index is. Where it stopped behind all that was done and all was written,
+-- it has all that is in a core which the seats may have left. What was told of the builder, a core that may lie under
+-- the lock has answered.
 pub record IsFoundBeside {C : Type 0} (geometry : GeometryValue) (old : AtRest) (seats : List SeatValue)
     (within : Bool) (answer : SharedAnswer C) (new : AtRest) : Type 0 where
   pub given : Given
@@ -47,8 +48,8 @@ pub record IsFoundBeside {C : Type 0} (geometry : GeometryValue) (old : AtRest) 
 -- Records were kept up to a last one. The rows are those that there were. Over them are set the commits of all seats up
 -- to that record, in the order of their numbers.
 --
--- Horizons were published, each at a moment, the last one last. The last record that was kept is not below any that was
--- published until the store stopped.
+-- Horizons were published, each at a moment; the newest of them is the last. The last record that was kept is not below
+-- any that was published until the store stopped.
 --
 -- Where the store stopped behind all that was done, each of them was published before; and if all was written, each
 -- commit of the seats was kept.

@@ -212,8 +212,8 @@ fn refused_before<C, D: Mortal>(refusal: NotLived<Error, D, Global>) -> NotLived
 ///
 /// A refusal gives the device back, and what was answered until then. `TooManyTxns` where there are more than 16
 /// clients, and only there (`many`); else `DeviceTooSmall` where the device has fewer sectors than a store of this
-/// geometry takes, and only there (`too_small`, `room`): then it is as it was (`unchanged`). `DeviceFailed` where the
-/// count of failures has risen, in the formatting or since the days; else `NoMemory` (`refused`).
+/// geometry takes, and only there (`too_small`, `room`): then it is as it was (`unchanged`). `DeviceFailed` comes only
+/// where the count of failures has risen, in the formatting or since the days; or `NoMemory` (`refused`).
 pub fn live_beside<C: Client + Send + Drop, D: Mortal + Send, R: Threads + Wait + Sync>(
     rt: &R,
     alloc: Global,

@@ -83,7 +83,7 @@ in_order client seat works floor (x ∷ xs) (y ∷ ys) (s ∷ seats) same sessio
   record {
     first = seat x;
     new = new 0 x refl;
-    seat = seat y;
+    last = seat y;
     has = sym (cons_first _ _ _ _ sessions);
     known = low 0 y refl;
     worked = each 0 x (omega arith);

@@ -66,10 +66,10 @@ pub record HasWorked {C : Type 0} (works : C → C → SeatValue → SeatValue �
     (session : SessionValue) : Type 0 where
   pub first : SeatValue
   pub new : first.session ≡ empty_session
-  pub seat : SeatValue
-  pub has : seat.session ≡ session
-  pub known : seat.sight.horizon ≤ floor
-  pub worked : works client after first seat
+  pub last : SeatValue
+  pub has : last.session ≡ session
+  pub known : last.sight.horizon ≤ floor
+  pub worked : works client after first last
 
 -- so has each client, in its place, with the session of the seat there
 abbrev pub HaveWorked : {C : Type 0} → (C → C → SeatValue → SeatValue → Type 0) → (floor : ℕ) → List C → List C
@@ -80,8 +80,8 @@ HaveWorked works floor (client ∷ clients) (after ∷ others) (s ∷ seats) =
 HaveWorked works floor clients others seats = ⊥
 
 -- The clients have worked, each with a seat; and the device was written by these seats, up to some record that isn't
--- before any horizon that one of them has read. Since the store was opened, a crash at any moment leaves that with the
--- seats' commits set over it, up to some record.
+-- before any horizon that one of them has read. Since the store was opened, a crash at any moment leaves what was
+-- opened with the seats' commits set over it, up to some record.
 pub record LeavesWork {C D : Type 0} (past_of : D → DevicePast) (works : C → C → SeatValue → SeatValue → Type 0)
     (o : Opened) (clients after : List C) (opened device : D) (written : Result Unit Error) : Type 0 where
   pub seats : List SeatValue

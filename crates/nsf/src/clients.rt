@@ -59,8 +59,9 @@ pub struct Served<C, D> {
     pub written: Result<(), Error>,
 }
 
-/// Opens the store on the device, as `open_store` does, and runs the clients, each in a thread of its own, while others
-/// build the index, clean it and write to the device. When all clients have ended, all that they did is written out.
+/// Opens the store on the device, as `open_store` does, and runs the clients, each in a thread of its own. Meanwhile
+/// others build the index, clean it and write to the device. When all clients have ended, all that they did is written
+/// out.
 ///
 /// Each client has worked, with a new seat of its own. Then a crash leaves what was opened with the commits of all
 /// seats set over it; where `written` tells a refusal, with those up to some record. No horizon that a seat has read

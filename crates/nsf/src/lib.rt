@@ -128,13 +128,14 @@
 //!
 //! # What is promised
 //!
-//! Of one thread: the contracts of `restart`, and above them `live_through` and `live_on` of `headline`. Of many: when
-//! all clients of `serve` have worked, each with a new seat of its own, a crash leaves what was opened with the commits
-//! of these seats set over it, up to a record that isn't before any horizon that one of them has read; all of them
-//! where nothing was refused. A crash at any moment since a horizon was published leaves all up to that (`leaves`). So
-//! it may be opened again (the law `left_by_threads`). Why not all was written is told (`why`), and how the builder
-//! ended. Above it stands `live_beside` of `headline`.
-//! Only tested (`test_nsf`): both examples.
+//! Of one thread: the contracts of `restart`, and above them `live_through` and `live_on` of `headline`.
+//!
+//! Of many: all clients of `serve` have worked, each with a new seat of its own. Then a crash leaves what was opened
+//! with the commits of these seats set over it, up to some record. That isn't before any horizon that one of the seats
+//! has read; and where nothing was refused, it has all. Horizons were published at some moments, and a crash since
+//! leaves all up to that (`leaves`). So it may be opened again (the law `left_by_threads`). Why not all was written is
+//! told (`why`), and how the builder ended. Above it stands `live_beside` of `headline`. Only tested (`test_nsf`): both
+//! examples.
 #![tactic(auto)]
 
 mod clients;
