@@ -46,13 +46,13 @@ fn new_disk(alloc: Global, geometry: Geometry) -> Result<MemDisk<Global>, Error>
 fn found_in(
     alloc: Global,
     lived: &LivedBeside<Put, MemDisk<Global>>,
-) -> Result<(Life, Vec<Vec<Rid>>), Error> {
+) -> Result<(Life, Vec<Vec<Rid>>), OpenError> {
     lived.shared.written?;
     for client in &lived.shared.clients {
         client.done?;
     }
     match lived.unbuilt {
-        Some(error) => Err(error),
+        Some(error) => Err(OpenError::Refused(error)),
         None => Ok((
             lived.engine.core().life(),
             find_each(alloc, &lived.engine, &KEYS)?,
@@ -68,11 +68,11 @@ pub fn live<R: Threads + Wait + Sync>(
     within: bool,
 ) -> Result<(Life, Vec<Vec<Rid>>), OpenError> {
     let geometry = Geometry::new(1, 64, 4)?;
-    let disk = new_disk(alloc, geometry)?;
     let days = [first_day(alloc)?];
     let day = second_day(alloc, within)?;
+    let disk = new_disk(alloc, geometry)?;
     match live_beside(rt, alloc, disk, geometry, &days, day, true) {
-        Ok(lived) => Ok(found_in(alloc, &lived)?),
+        Ok(lived) => found_in(alloc, &lived),
         Err(refusal) => Err(refusal.error),
     }
 }
