@@ -2,7 +2,7 @@
 use crate::told::Told;
 use model::{Life, ROWS_PER_PAGE};
 use nsf_core::Core;
-use records::{Error, Mark, Pair, Row};
+use records::{Error, Mark, Pair};
 use restart::Engine;
 use sector_device::Device;
 use std::alloc::Allocator;
@@ -10,20 +10,19 @@ use std::alloc::Allocator;
 // More than the entries of an index.
 const ENTRIES: usize = 65;
 
-// The rows of the only page, by their slots.
-fn rows_of<A: Allocator + Copy>(core: &Core<A>) -> [Option<Row>; ROWS_PER_PAGE] {
+// Whether the rows of the only page are those.
+fn has_rows<A: Allocator + Copy>(core: &Core<A>, told: &Told) -> bool {
     match core.page_slots(0) {
-        Some(rows) => *rows,
-        None => [None; ROWS_PER_PAGE],
+        Some(rows) => *rows == told.rows.page(0),
+        None => told.rows.page(0) == [None; ROWS_PER_PAGE],
     }
 }
 
-fn has_rows<A: Allocator + Copy>(core: &Core<A>, told: &Told) -> bool {
-    rows_of(core) == told.rows.page(0)
-}
-
 fn count_rows<A: Allocator + Copy>(core: &Core<A>) -> usize {
-    rows_of(core).iter().filter(|row| row.is_some()).count()
+    match core.page_slots(0) {
+        Some(rows) => rows.iter().filter(|row| row.is_some()).count(),
+        None => 0,
+    }
 }
 
 fn is_of_row<A: Allocator + Copy>(core: &Core<A>, pair: Pair) -> bool {
