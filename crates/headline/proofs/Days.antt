@@ -1,5 +1,5 @@
 -- One day more.
-use Rattle.std.proofs.Common.{◌≡◌, ℕ, ◌≤◌, List, [], ◌∷◌, ◌++◌, refl, sym, ap, subst, ◌∙◌, arith}
+use Rattle.std.proofs.Common.{◌≡◌, ℕ, ◌≤◌, ◌-◌, if◌then◌else◌, List, [], ◌∷◌, ◌++◌, length, take, refl, sym, ap, subst, ◌∙◌, arith}
 use Rattle.std.specs.List.{All}
 use Rattle.record_values.specs.GeometryValue.{GeometryValue}
 use Rattle.model.specs.Given.{Given}
@@ -20,9 +20,9 @@ use Rattle.restart.specs.Parts.{core_of, device_of}
 use Rattle.restart.specs.Reopening.{opening}
 use Rattle.restart.specs.Store.{IsAt, Survives, and_then, last_made, over}
 use Rattle.headline.specs.declared.day.Day.{Day}
-use Rattle.headline.specs.Days.{Answer, AreDays, IsDay, IsServed, seen}
-use Rattle.headline.specs.AtRest.{AtRest, resting}
-use Rattle.headline.specs.Lawful.{IsOpenedOver}
+use Rattle.headline.specs.Days.{Answer, AreDays, IsDay, IsServed}
+use Rattle.headline.specs.Kept.{seen}
+use Rattle.headline.specs.AtRest.{AtRest, IsOpenedOver, resting}
 use Rattle.headline.specs.Told.{acknowledged, told_over}
 use Rattle.headline.proofs.Rising.{IsAbove, all_up_to, split_up}
 use Rattle.headline.proofs.Told.{told_is}
@@ -76,6 +76,9 @@ module _ {D M : Type 0} (past_of : D → DevicePast) (failures : D → ℕ) (g :
   reached : floor ≤ left.given.last
   reached = left.beginning.has_floor
 
+  told_safe : acknowledged (if day.within then take (length replies - 1) replies else replies) ≤ floor
+  told_safe = safe
+
   made : left.given.last ≤ (core_of after).last
   made =
       let told_so : at.standing.made ≡ last_made (and_then (opening g given) day.requests.items replies) =
@@ -85,13 +88,17 @@ module _ {D M : Type 0} (past_of : D → DevicePast) (failures : D → ℕ) (g :
 
   pub served_day : IsServed failures g (resting given failed) day replies (resting left.given (failures (device_of after)))
   served_day = record {
-    lawful = record { opened = before; begins = begins; closed = after; lawful = lawful; count = refl };
+    opened = before;
+    begins = begins;
+    closed = after;
+    lawful = lawful;
+    count = refl;
     kept = kept;
     lost = split.0;
     told = split.1;
     before = all_up_to left.given.last items;
     behind = split.2;
-    safe = omega (arith, safe, reached);
+    safe = omega (arith, told_safe, reached);
     later = omega (arith, later, reached);
     made = made;
     rows = left.beginning.table ∙ sym (ap (λ (l : List Item). table_after given.table (up_to left.given.last l)) told);

@@ -1,7 +1,8 @@
 -- What a store holds that was opened behind its days.
-use Rattle.std.proofs.Common.{IfErr, IfOk, ◌≡◌, ⊎_elim, IfSome, Option, ◌↔◌, ◌≤◌, ◌<◌, Result, Ok, Err, inl, inr, ℕ, Bool, true, false, List, []}
+use Rattle.std.proofs.Common.{IfErr, IfOk, ◌≡◌, ◌≢◌, ⊎_elim, IfSome, Option, ◌↔◌, ◌≤◌, ◌<◌, Result, Ok, Err, inl, inr, ℕ, Bool, true, false, List, []}
 use Rattle.std.proofs.Common.{None, Some, refl, sym, ap, subst, ◌∙◌}
 use Rattle.std.proofs.lemmas.Bool.{cases_lt}
+use Rattle.std.proofs.lemmas.List.Elements.{All-weaker}
 use Rattle.record_values.specs.GeometryValue.{GeometryValue}
 use Rattle.record_values.specs.declared.error.Error.{Error}
 use Rattle.record_values.specs.declared.error.Error.TheVariants.{DeviceTooSmall, NoMemory}
@@ -10,27 +11,39 @@ use Rattle.model.specs.declared.life.Life.{Life}
 use Rattle.model.specs.declared.life.Life.TheVariants.{Absent, Complete}
 use Rattle.core_model.specs.Histories.{CanOpen}
 use Rattle.core_parts.specs.View.{CoreValue}
+use Rattle.core_parts.specs.declared.parts.Ticket.{Ticket}
+use Rattle.core_parts.specs.declared.reply.BuildReply.{BuildReply}
+use Rattle.core_parts.specs.declared.reply.BuildReply.TheVariants as build
 use Rattle.sector_device.specs.Disk.{CrashState, IsCrashState, IsSynced}
 use Rattle.sector_device.specs.DevicePast.{DevicePast}
 use Rattle.sector_device.proofs.Sectors.{crash_synced}
 use Rattle.store_reader.specs.Contents.{Gives}
+use Rattle.restart.specs.declared.event.Reply.{Reply}
+use Rattle.restart.specs.declared.event.Reply.TheVariants as reply
 use Rattle.restart.specs.declared.parts.EngineParts.{EngineParts}
-use Rattle.restart.specs.Building.{BuildsWhole, EndsWhole, HasCome}
+use Rattle.restart.specs.Building.{AreBuilt, BuildsWhole, EndsWhole, EndsWith, GoesOnBuilding, HasCome, IsUnderway}
 use Rattle.restart.specs.Parts.{core_of, device_of}
 use Rattle.restart.specs.Store.{over}
 use Rattle.headline.specs.declared.day.Day.{Day}
 use Rattle.headline.specs.Days.{Answer, IsUnopened}
 use Rattle.headline.specs.Fitting.{IsIndexOf}
-use Rattle.headline.specs.Held.{HasLived, IsNotReopened, IsQuiet, IsUnbuilt}
-use Rattle.headline.specs.Kept.{EndsBuild, GivesDays, IsBegun, KeepsDays, WhyUnbuilt}
-use Rattle.headline.specs.AtRest.{AtRest, resting}
-use Rattle.headline.specs.Lawful.{IsOpenedOver}
+use Rattle.headline.specs.Held.{HasLived, IsNotBuilt, IsNotReopened, IsQuiet, IsUnbuilt}
+use Rattle.headline.specs.Kept.{EndsBuild, GivesDays, IsBegun, KeepsDays}
+use Rattle.headline.specs.AtRest.{AtRest, IsOpenedOver, resting}
 use Rattle.headline.specs.Stops.{IsFoundAs}
 use Rattle.headline.proofs.Quiet.{index_of, same_device, settled}
 use Rattle.headline.proofs.Stopped.{Images, begins, can, now_gives, opened_over}
 
 never_both : (life : Life) → life ≡ Absent → life ≡ Complete → ⊥
 never_both life none complete = cc
+
+-- a step of a build that goes on
+abbrev IsStep : {M : Type 0} → Reply M → Type 0
+IsStep r = (step : BuildReply) × (r ≡ reply.Built step) × (step ≢ build.Idle) × ((ticket : Ticket) → step ≢ build.Done ticket)
+
+is_step : {M : Type 0} (r : Reply M) → IsUnderway r → IsStep r
+is_step (reply.Built step) is = (step, refl, λ idle. subst GoesOnBuilding idle is, λ ticket done. subst GoesOnBuilding done is)
+is_step r is = absurd is
 
 -- ---- a store that begins with this
 
@@ -54,7 +67,7 @@ pub at_once : {D M : Type 0} (failures : D → ℕ) (g : GeometryValue) (began :
     → answers ≡ [] → IsUnopened e began.failed now → IsNotReopened failures g began days answers e now
 at_once {D} {M} failures g began days answers e now none why =
     subst (λ (rs : List (Answer M)). IsNotReopened failures g began days rs e now) (sym none)
-    (record { gone = []; which = inl refl; store = began; days-are = refl; why = why })
+    (record { store = began; days-are = inl refl; why = why })
 
 -- there was no memory for the answers
 pub none_lived : {D M : Type 0} (past_of : D → DevicePast) (failures : D → ℕ) (g : GeometryValue) (began : AtRest) (device : D)
@@ -73,10 +86,8 @@ module _ {D M : Type 0} (past_of : D → DevicePast) (failures : D → ℕ) (g :
   -- it isn't
   pub not_reopened : (e : Error) (now : ℕ) → IsUnopened e (failures before) now → IsNotReopened failures g began days answers e now
   not_reopened e now why = record {
-    gone = days;
-    which = inr refl;
     store = resting gives.given (failures before);
-    days-are = gives.days-are;
+    days-are = inr gives.days-are;
     why = why;
   }
 
@@ -91,7 +102,7 @@ module _ {D M : Type 0} (past_of : D → DevicePast) (failures : D → ℕ) (g :
     none_active = ap (λ (v : CoreValue). v.txns.active) over-it.core
 
     rows : (core_of engine).heap.rows ≡ gives.given.table
-    rows = ap (λ (v : CoreValue). v.heap.rows) over-it.core ∙ over-it.rows
+    rows = ap (λ (v : CoreValue). v.heap.rows) over-it.core ∙ sym (ap (λ (s : AtRest). s.rows) over-it.rests)
 
     held : HasLived failures g began days answers false engine
     held = record {
@@ -99,10 +110,12 @@ module _ {D M : Type 0} (past_of : D → DevicePast) (failures : D → ℕ) (g :
       days-are = gives.days-are;
       opened = engine;
       begins = over-it;
-      since = refl;
+      replies = [];
+      steps = refl;
+      none = λ left. refl;
       holds = record {
         rows = rows;
-        life = ap (λ (v : CoreValue). v.life) over-it.core ∙ over-it.life;
+        life = ap (λ (v : CoreValue). v.life) over-it.core ∙ sym (ap (λ (s : AtRest). s.life) over-it.rests);
         index = subst (λ (v : CoreValue). IsIndexOf v.heap.rows v.life v.index.entries) (sym over-it.core)
             (index_of g over-it.given over-it.opens);
         quiet = record {
@@ -129,7 +142,9 @@ module _ {D M : Type 0} (past_of : D → DevicePast) (failures : D → ℕ) (g :
         days-are = gives.days-are;
         opened = engine;
         begins = over-it;
-        since = (ends.replies, ends.each);
+        replies = ends.replies;
+        steps = ends.each;
+        none = λ left. absurd cc;
         holds = record {
           rows = whole.rows ∙ rows;
           life = whole.complete;
@@ -153,20 +168,21 @@ module _ {D M : Type 0} (past_of : D → DevicePast) (failures : D → ℕ) (g :
     -- its build was refused, or wasn't
     pub unbuilt : (build : Bool) (after : EngineParts D M) (why : Option Error) → (build ≡ true → EndsBuild past_of why engine after)
         → IfSome why (λ e. build ≡ true)
-        → IfSome why (λ e. HasCome (core_of engine) → WhyUnbuilt e (core_of engine) (core_of after))
+        → IfSome why (λ e. HasCome (core_of engine) → IsNotBuilt e (core_of engine) (core_of after))
         → IfSome why (λ e. (build ≡ true) × IsUnbuilt failures g began days answers e after)
     unbuilt build after None ends wanted refused = tt
     unbuilt build after (Some e) ends wanted refused =
         let ended : EndsBuild past_of (Some e) engine after = ends wanted in
-        let because : WhyUnbuilt e (core_of engine) (core_of after) = refused come in (
+        let last : EndsWith (reply.Refused e) ended.replies = ended.refused in (
           wanted,
           record {
             opened = engine;
             lived = held;
-            replies = ended.replies;
-            built = ended.each;
-            ends = ended.refused;
-            refused = record { rows = because.rows; quiet = quiet after (Some e) ended; unfinished = because.unfinished; why = because.why };
+            before = last.before;
+            underway = All-weaker IsUnderway IsStep is_step last.before last.underway;
+            built = subst (λ (rs : List (Reply M)). AreBuilt rs engine after) last.all ended.each;
+            refused = refused come;
+            quiet = quiet after (Some e) ended;
             failed = unfailed after (Some e) ended;
           },
         )
@@ -184,7 +200,7 @@ err_at P Q (Err e) less is = less e is
 -- ---- a device that was large enough
 
 -- a want of memory or a failure isn't a want of sectors
-unopened_small : (e : Error) (before now : ℕ) → IsUnopened e before now → e ≡ DeviceTooSmall → ⊥
+pub unopened_small : (e : Error) (before now : ℕ) → IsUnopened e before now → e ≡ DeviceTooSmall → ⊥
 unopened_small e before now (inl memory) small = let it = memory.0 in cc
 unopened_small e before now (inr failed) small = let it = failed.0 in cc
 

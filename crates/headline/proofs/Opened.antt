@@ -1,6 +1,6 @@
 -- What is opened behind a crash of what threads left.
-use Rattle.std.proofs.Common.{◌≡◌, ⊎_elim, inl, inr, ℕ, ◌≤◌, ◌+◌, ◌++◌, All, List, length, take, sym, ap, subst, ◌∙◌, arith, length-take}
-use Rattle.std.proofs.Math.Logic.{∥∥₁_elim, ∥∥₁_map, ∥∥₁_prop}
+use Rattle.std.proofs.Common.{◌≡◌, ⊎_elim, inl, inr, ℕ, ◌≤◌, ◌+◌, ◌++◌, All, List, Option, Vec, length, take, sym, ap, subst, ◌∙◌, arith, length-take}
+use Rattle.std.proofs.Math.Logic.{∥∥₁_elim, ∥∥₁_map}
 use Rattle.std.proofs.lemmas.List.Elements.{All-weaker}
 use Rattle.record_values.specs.GeometryValue.{GeometryValue}
 use Rattle.records.specs.RecordValue.{RecordValue}
@@ -19,8 +19,7 @@ use Rattle.store_reader.specs.Contents.{Gives, IsUnreadable}
 use Rattle.shared.specs.Seats.{AckValue, SeatValue}
 use Rattle.model.specs.Table.{Table}
 use Rattle.threads_sessions.specs.Values.{CommitValue}
-use Rattle.threads_lifetime.specs.Closing.{GivesAll, GivesSome, table_with, up_to}
-use Rattle.threads_lifetime.specs.Gathered.{AreCommitsOf}
+use Rattle.threads_lifetime.specs.Closing.{GivesSome, IsClosed, table_with, up_to}
 use Rattle.restart.specs.declared.parts.EngineParts.{EngineParts}
 use Rattle.restart.specs.Parts.{core_of}
 use Rattle.restart.specs.Reopening.{IsNotOpened, IsOpened}
@@ -118,11 +117,11 @@ module _ {D : Type 0} (past_of : D → DevicePast) (o : Opened) (g : GeometryVal
 
 -- ---- all was written
 
-pub all_given : (o : Opened) (g : GeometryValue) (seats : List SeatValue) (core : CoreValue) (commits : List CommitValue)
-    → ∥ AreCommitsOf seats commits ∥₁ → (image : CrashState) → ∥ GivesAll o g core commits image ∥₁ → ∥ GivesAllSeats o.given.table g seats image ∥₁
-all_given o g seats core commits of-seats image gives =
-    ∥∥₁_elim of-seats ∥∥₁_prop (λ (are : AreCommitsOf seats commits). ∥∥₁_map gives (λ (left : GivesAll o g core commits image).
-    record { given = left.given; gives = left.gives; commits = commits; of-seats = are; table = left.table }))
+pub all_given : {D A : Type 0} (past_of : D → DevicePast) (o : Opened) (g : GeometryValue) (seats : List SeatValue) (popped : List RecordValue)
+    (core : CoreValue) (device : D) (kept : Option (Vec CommitValue A)) → ∥ IsClosed past_of o g seats popped core device kept ∥₁
+    → (image : CrashState) → IsCrashState (past_of device).disk image → ∥ GivesAllSeats o.given.table g seats image ∥₁
+all_given past_of o g seats popped core device kept closed image crash = ∥∥₁_map closed (λ (h : IsClosed past_of o g seats popped core device kept).
+    let left = h.gives image crash in record { given = left.given; gives = left.gives; commits = h.commits; of-seats = h.of_seats; table = left.table })
 
 module _ {D : Type 0} (past_of : D → DevicePast) (opened : Table) (g : GeometryValue) (seats : List SeatValue) (old found : D)
     (found-as : IsFoundAs (past_of old).disk (past_of found))

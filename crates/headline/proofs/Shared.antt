@@ -1,14 +1,13 @@
 -- What a store is found with that clients used, until it stopped.
-use Rattle.std.proofs.Common.{◌≡◌, ⊎_elim, inl, inr, ℕ, ◌+◌, ◌≤◌, ◌<◌, ◌++◌, Bool, true, false, List, [], length, take, refl, sym, ap, subst, ◌∙◌, arith}
-use Rattle.std.proofs.Common.{Result, Ok, Err, IfErr, OnOk, Option, None, Some, IfSome, length-take}
+use Rattle.std.proofs.Common.{◌≡◌, ◌≢◌, ⊎_elim, inl, inr, ℕ, ◌+◌, ◌≤◌, ◌<◌, ◌++◌, Bool, true, false, List, [], length, take, refl, sym, ap, subst, ◌∙◌}
+use Rattle.std.proofs.Common.{arith, Result, Ok, Err, IfErr, OnOk, Option, None, Some, IfSome, length-take}
 use Rattle.std.proofs.Math.Logic.{∥∥₁_elim, ∥∥₁_map, ∥∥₁_prop}
 use Rattle.std.proofs.lemmas.Bool.{cases_lt}
-use Rattle.std.proofs.lemmas.List.Elements.{All-weaker}
 use Rattle.std.specs.Coded.{le_prop}
 use Rattle.record_values.specs.GeometryValue.{GeometryValue}
 use Rattle.records.specs.RecordValue.{RecordValue}
 use Rattle.record_values.specs.declared.error.Error.{Error}
-use Rattle.record_values.specs.declared.error.Error.TheVariants.{DeviceTooSmall, TooManyTxns}
+use Rattle.record_values.specs.declared.error.Error.TheVariants.{TooManyTxns}
 use Rattle.model.specs.Given.{Given, given_after}
 use Rattle.core_model.specs.Histories.{CanOpen, Opened}
 use Rattle.core_model.proofs.ReplyLaws.{served_recovers}
@@ -20,33 +19,50 @@ use Rattle.sector_device.proofs.Sectors.{content_is_image}
 use Rattle.store_reader.specs.Contents.{Gives}
 use Rattle.shared.specs.Seats.{SeatValue}
 use Rattle.threads_sessions.specs.Values.{CommitValue}
-use Rattle.threads_flusher.specs.Part.{IsKeptSince, Publication}
 use Rattle.threads_lifetime.specs.Closing.{GivesAll, GivesSome, IsCoreOf, table_with, up_to}
 use Rattle.threads_lifetime.specs.Gathered.{AreCommitsOf}
 use Rattle.threads_lifetime.specs.Openings.{IsNotShared, Opens}
 use Rattle.threads_lifetime.specs.declared.refusal.OpenError.{OpenError}
 use Rattle.threads_lifetime.specs.declared.refusal.OpenError.TheVariants.{Refused, Unsound}
-use Rattle.nsf.specs.Serving.{HoldsAll, WhyUnwritten, LeavesWork, TellsBuild}
+use Rattle.nsf.specs.Serving.{HadEnded, HoldsAll, WhyUnwritten, LeavesWork, TellsBuild}
 use Rattle.restart.specs.declared.parts.EngineParts.{EngineParts}
 use Rattle.restart.specs.Building.{BuildsWhole, HasCome}
 use Rattle.restart.specs.Parts.{core_of}
 use Rattle.restart.specs.Reopening.{IsNotOpened, IsTurned}
 use Rattle.restart.specs.Store.{over}
 use Rattle.headline.specs.declared.day.Day.{Day}
+use Rattle.headline.specs.declared.shared_day.End.{End}
+use Rattle.headline.specs.declared.shared_day.End.TheVariants.{Behind, Closing, Opening}
 use Rattle.headline.specs.declared.shared_day.SharedAnswer.{SharedAnswer}
 use Rattle.headline.specs.declared.shared_day.SharedDay.{SharedDay}
 use Rattle.headline.specs.AtRest.{AtRest, resting}
 use Rattle.headline.specs.Beside.{HasLivedBeside, IsNotLivedBeside}
 use Rattle.headline.specs.Days.{Answer, IsUnopened}
-use Rattle.headline.specs.Held.{HasLived, IsNotReopened, IsUnbuilt}
-use Rattle.headline.specs.Kept.{EndsBuild, FindsShared, GivesDays, IsBegun, KeepsDays, WhyUnbuilt}
+use Rattle.headline.specs.Held.{HasLived, IsNotBuilt, IsNotReopened, IsUnbuilt}
+use Rattle.headline.specs.Kept.{EndsBuild, FindsShared, GivesDays, IsBegun, KeepsDays}
 use Rattle.headline.specs.Stops.{StopsAt}
 use Rattle.headline.proofs.Holding.{behind, not_reopened, unbuilt}
 use Rattle.headline.proofs.Stopped.{GivesBack, Images, between, now_gives, why_unopened}
 
-not_false : (b : Bool) → (b ≡ false → ⊥) → b ≡ true
-not_false true never = refl
-not_false false never = absurd (never refl)
+-- what the clients left of one opening they left of another that is the same, and the device was marked as they had ended
+pub worked_over : {C D : Type 0} (past_of : D → DevicePast) (works : C → C → SeatValue → SeatValue → Type 0) (marks : ℕ → ℕ → Type 0) (mark : ℕ)
+    (clients after : List C) (opened device : D) (written : Result Unit Error) (shown : D → Type 0) (x y : Opened) → x ≡ y
+    → (work : LeavesWork past_of works x clients after opened device written)
+    → (ended : HadEnded past_of shown x work.leaves.geometry work.seats work.leaves.popped work.floor opened device)
+    → marks mark (past_of ended.was).moment
+    → (work : LeavesWork past_of works y clients after opened device written)
+    × (ended : HadEnded past_of shown y work.leaves.geometry work.seats work.leaves.popped work.floor opened device)
+    × marks mark (past_of ended.was).moment
+worked_over past_of works marks mark clients after opened device written shown x y same work ended marked =
+    subst (λ (o : Opened). (work : LeavesWork past_of works o clients after opened device written)
+    × (ended : HadEnded past_of shown o work.leaves.geometry work.seats work.leaves.popped work.floor opened device)
+    × marks mark (past_of ended.was).moment) same (work, ended, marked)
+
+-- neither behind all that was done, nor as the clients had ended
+within_opening : (end : End) → (end ≡ Behind → ⊥) → (end ≡ Closing → ⊥) → end ≡ Opening
+within_opening Behind behind closing = absurd (behind refl)
+within_opening Closing behind closing = absurd (closing refl)
+within_opening Opening behind closing = refl
 
 on_ok : {T E : Type 0} (P Q : Type 0) (r : Result T E) → (P → Q) → OnOk r P → OnOk r Q
 on_ok P Q (Ok x) more is = more is
@@ -76,8 +92,9 @@ module _ {D M C : Type 0} (past_of : D → DevicePast) (failures : D → ℕ) (w
   module _ (day : SharedDay C) (answer : SharedAnswer C) (opened after found : D) (turned : IsTurned past_of before opened)
       (work : LeavesWork past_of works o day.clients.items answer.clients.items opened after answer.written) (built : TellsBuild o answer.built)
       (rises : failures before ≤ failures after) (why : IfErr answer.written (WhyUnwritten (failures before) (failures after)))
-      (count : failures found ≡ failures after)
-      (stops : StopsAt day.within (past_of before).moment (past_of after) (past_of found)) where
+      (count : failures found ≡ failures after) (shown : D → Type 0)
+      (ended : HadEnded past_of shown o work.leaves.geometry work.seats work.leaves.popped work.floor opened after)
+      (stops : StopsAt day.end (past_of before).moment (past_of ended.was).moment (past_of after) (past_of found)) where
     abbrev t : ℕ
     t = stops.stop.moment
 
@@ -103,7 +120,8 @@ module _ {D M C : Type 0} (past_of : D → DevicePast) (failures : D → ℕ) (w
         let gave : GivesDays failures g began days answers (failures before) image =
         opening.each t image stops.stop.from (omega (arith, less))
         (subst (λ (d : Disk). IsCrashState d image) (work.since.kept t (omega (arith, less))) crash) in
-        let never : day.within ≡ false → ⊥ = λ behind. omega (arith, less, stops.at-end behind, work.since.later) in
+        let behind : day.end ≡ Behind → ⊥ = λ is. omega (arith, less, stops.at-end is, work.since.later) in
+        let closing : day.end ≡ Closing → ⊥ = λ is. omega (arith, less, stops.closing is, ended.before.later) in
         record {
           store = resting gave.given (failures found);
           lived = record {
@@ -112,7 +130,7 @@ module _ {D M C : Type 0} (past_of : D → DevicePast) (failures : D → ℕ) (w
             seats = work.seats;
             horizon = work.floor;
             worked = work.worked;
-            served = inr (record { within-is = not_false day.within never; rows = refl; life = refl; last = refl });
+            served = inr (within_opening day.end behind closing, refl);
             later = later_now;
             why = why_now;
           };
@@ -154,29 +172,39 @@ module _ {D M C : Type 0} (past_of : D → DevicePast) (failures : D → ℕ) (w
       last : given.last ≡ core.last
 
     -- with all commits, where it stopped behind all that was done and all was written
-    all_kept : (within : Bool) → (within ≡ false → t ≡ (past_of after).moment) → (written : Result Unit Error)
-        → OnOk written (HoldsAll o h work.seats work.leaves.popped (past_of after).disk) → ∥ (within ≡ false → OnOk written AllKept) ∥₁
-    all_kept true at (Ok u) all = ∣ (λ behind. absurd cc) ∣₁
-    all_kept true at (Err e) all = ∣ (λ behind. tt) ∣₁
-    all_kept false at (Err e) all = ∣ (λ behind. tt) ∣₁
-    all_kept false at (Ok u) all =
-        let end : IsCrashState (past_of after).disk image =
+    abbrev All-written : Type 0
+    All-written = HoldsAll o h work.seats work.leaves.popped (past_of after).disk
+
+    all_kept : (end : End) → (end ≡ Behind → t ≡ (past_of after).moment) → (written : Result Unit Error)
+        → OnOk written ∥ All-written ∥₁ → ∥ (end ≡ Behind → OnOk written AllKept) ∥₁
+    all_kept end at (Err e) all = ∣ (λ behind. tt) ∣₁
+    all_kept Closing at (Ok u) all = ∣ (λ behind. absurd cc) ∣₁
+    all_kept Opening at (Ok u) all = ∣ (λ behind. absurd cc) ∣₁
+    all_kept Behind at (Ok u) all =
+        let last : IsCrashState (past_of after).disk image =
         subst (λ (d : Disk). IsCrashState d image) (ap (past_of after).disk_at (at refl) ∙ (past_of after).now) crash in
-        ∥∥₁_elim all.of_seats ∥∥₁_prop (λ (are : AreCommitsOf work.seats all.commits).
-        ∥∥₁_map (all.gives image end) (λ (left : GivesAll o h all.core all.commits image).
+        ∥∥₁_map all (λ (is : All-written).
+        let left : GivesAll o h is.core is.commits image = is.gives image last in
         (λ behind. record {
-          commits = all.commits;
-          of-seats = are;
+          commits = is.commits;
+          of-seats = is.of_seats;
           given = left.given;
           gives = left.gives;
           table = left.table;
-          core = all.core;
-          left = all.left;
+          core = is.core;
+          left = ∣ is.left ∣₁;
           life = left.life;
           last = left.last;
-        })))
+        }))
 
-    module _ (since : (past_of opened).moment ≤ t) (size : h ≡ g) (kept : day.within ≡ false → OnOk answer.written AllKept)
+    -- unless it stopped within the opening, it stopped since the clients had ended
+    reached : (end : End) → (end ≡ Closing → (past_of ended.was).moment ≤ t) → (end ≡ Behind → t ≡ (past_of after).moment)
+        → end ≢ Opening → (past_of ended.was).moment ≤ t
+    reached Behind closing behind not = omega (arith, behind refl, ended.since.later)
+    reached Closing closing behind not = closing refl
+    reached Opening closing behind not = absurd (not refl)
+
+    module _ (since : (past_of opened).moment ≤ t) (size : h ≡ g) (kept : day.end ≡ Behind → OnOk answer.written AllKept)
         (some : GivesSome o g work.seats work.leaves.popped first.last image) where
       abbrev records : List RecordValue
       records = some.pushed ++ some.core.outbox
@@ -194,10 +222,12 @@ module _ {D M C : Type 0} (past_of : D → DevicePast) (failures : D → ℕ) (w
           let so : last-given.last ≡ first.last + length (take some.count records) = refl in
           omega (arith, so, length-take some.count records, some.most)
 
-      safe_at : (p : Publication) → IsKeptSince (Some-of h) (past_of after) p → p.moment ≤ t → p.horizon ≤ last-given.last
-      safe_at p was le =
-          ∥∥₁_elim (subst (λ (x : GeometryValue). Some-of x p.horizon image) size (was.each t image le stops.stop.until crash)) le_prop
-          (λ (other : GivesSome o g work.seats work.leaves.popped p.horizon image).
+      -- since the clients had ended, the horizon was reached
+      safe : day.end ≢ Opening → work.floor ≤ last-given.last
+      safe not =
+          let gave = ended.since.each t image (reached day.end stops.closing stops.at-end not) stops.stop.until crash in
+          ∥∥₁_elim (subst (λ (x : GeometryValue). Some-of x work.floor image) size gave) le_prop
+          (λ (other : GivesSome o g work.seats work.leaves.popped work.floor image).
           let all = other.pushed ++ other.core.outbox in
           let so : (given_after first (take other.count all)).last ≡ first.last + length (take other.count all) = refl in
           let same = ap (λ (x : Given). x.last) (images.given image g g (given_after first (take other.count all)) last-given other.gives some.gives) in
@@ -225,13 +255,7 @@ module _ {D M C : Type 0} (past_of : D → DevicePast) (failures : D → ℕ) (w
             commits = some.commits;
             of-seats = some.all;
             rows = some.table ∙ ap (λ (n : ℕ). table_with first.table (up_to n some.commits)) (sym last);
-            publications = work.publications;
-            newest = work.leaves.newest;
-            stopped = t;
-            safe = All-weaker (IsKeptSince (Some-of h) (past_of after)) (λ (p : Publication). p.moment ≤ t → p.horizon ≤ last-given.last) safe_at
-                work.publications work.leaves.published;
-            until = λ behind. All-weaker (IsKeptSince (Some-of h) (past_of after)) (λ (p : Publication). p.moment ≤ t)
-                (λ p was. omega (arith, was.later, stops.at-end behind)) work.publications work.leaves.published;
+            safe = safe;
             whole = λ behind. on_ok _ _ answer.written all_of (kept behind);
             found = record {
               given = first;
@@ -258,7 +282,7 @@ module _ {D M C : Type 0} (past_of : D → DevicePast) (failures : D → ℕ) (w
     late : (past_of opened).moment ≤ t → ∥ FindsShared works failures g began days answers day answer (failures found) image ∥₁
     late since =
         ∥∥₁_elim same_size ∥∥₁_prop (λ (size : h ≡ g).
-        ∥∥₁_elim (all_kept day.within stops.at-end answer.written work.leaves.all) ∥∥₁_prop (λ (kept : day.within ≡ false → OnOk answer.written AllKept).
+        ∥∥₁_elim (all_kept day.end stops.at-end answer.written work.leaves.all) ∥∥₁_prop (λ (kept : day.end ≡ Behind → OnOk answer.written AllKept).
         ∥∥₁_map (subst (λ (x : GeometryValue). Some-of x first.last image) size (work.since.each t image since stops.stop.until crash))
         (λ (some : GivesSome o g work.seats work.leaves.popped first.last image). late_so since size kept some)))
 
@@ -286,7 +310,7 @@ module _ {D M C : Type 0} (past_of : D → DevicePast) (failures : D → ℕ) (w
 
   pub unbuilt_on : (engine : EngineParts D M) → IsBegun past_of failures found engine → (build : Bool) (after : EngineParts D M) (why : Option Error)
       → (build ≡ true → EndsBuild past_of why engine after) → IfSome why (λ e. build ≡ true)
-      → IfSome why (λ e. HasCome (core_of engine) → WhyUnbuilt e (core_of engine) (core_of after))
+      → IfSome why (λ e. HasCome (core_of engine) → IsNotBuilt e (core_of engine) (core_of after))
       → IfSome why (λ e. (build ≡ true) × ∥ ((store : AtRest) × HasLivedBeside works failures g began days answers day answer store
       × IsUnbuilt {M = M} failures g store [] [] e after) ∥₁)
   unbuilt_on engine begun build after None ends wanted refused = tt
@@ -345,10 +369,6 @@ module _ {D M C : Type 0} (past_of : D → DevicePast) (failures : D → ℕ) (w
   never x other None e now is same = other is.0 is.2.store.failed now is.2.why (refused_same is.0 x (sym is.1 ∙ same))
   never x other (Some answer) e now is same =
       ∥∥₁_elim is.2 (λ (a b : ⊥). absurd a) (λ it. other is.0 it.0.failed now it.3 (refused_same is.0 x (sym is.1 ∙ same)))
-
-pub unopened_small : (e : Error) (before now : ℕ) → IsUnopened e before now → e ≡ DeviceTooSmall → ⊥
-unopened_small e before now (inl memory) small = let it = memory.0 in cc
-unopened_small e before now (inr failed) small = let it = failed.0 in cc
 
 pub unopened_many : (e : Error) (before now : ℕ) → IsUnopened e before now → e ≡ TooManyTxns → ⊥
 unopened_many e before now (inl memory) many = let it = memory.0 in cc

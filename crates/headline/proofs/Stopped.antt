@@ -1,5 +1,6 @@
 -- What a device keeps of a store's days, as one day more goes by.
-use Rattle.std.proofs.Common.{◌≡◌, ⊎_elim, inl, inr, ℕ, ◌+◌, ◌<◌, ◌≤◌, List, [], ◌∷◌, ◌++◌, Ok, Err, length, get_or, take, sym, refl, ap, subst, ◌∙◌}
+use Rattle.std.proofs.Common.{◌≡◌, ⊎_elim, inl, inr, ℕ, ◌+◌, ◌<◌, ◌≤◌, List, [], ◌∷◌, ◌++◌}
+use Rattle.std.proofs.Common.{Ok, Err, length, get_or, take, sym, refl, ap, subst, ◌∙◌, arith, length-append}
 use Rattle.std.proofs.lemmas.List.{take_more}
 use Rattle.std.specs.declared.vec.Vec.{Vec}
 use Rattle.record_values.specs.GeometryValue.{GeometryValue}
@@ -21,10 +22,9 @@ use Rattle.restart.specs.Parts.{device_of}
 use Rattle.restart.specs.Reopening.{IsNotOpened, IsTurned, opening}
 use Rattle.restart.specs.Store.{IsAt, Survives, and_then, over}
 use Rattle.headline.specs.declared.day.Day.{Day}
-use Rattle.headline.specs.Days.{Answer, AreDays, IsDay, IsUnopened, seen}
-use Rattle.headline.specs.Kept.{GivesDays, IsBegun, KeepsDays}
-use Rattle.headline.specs.AtRest.{AtRest, resting}
-use Rattle.headline.specs.Lawful.{IsOpenedOver}
+use Rattle.headline.specs.Days.{Answer, AreDays, IsDay, IsUnopened}
+use Rattle.headline.specs.Kept.{GivesDays, IsBegun, KeepsDays, seen}
+use Rattle.headline.specs.AtRest.{AtRest, IsOpenedOver, resting}
 use Rattle.headline.specs.Stops.{HasStopped}
 use Rattle.headline.specs.Told.{acknowledged}
 use Rattle.headline.proofs.Days.{Rise, day_last, served_day}
@@ -71,9 +71,7 @@ module _ {D M : Type 0} (past_of : D → DevicePast) (failures : D → ℕ) (g :
     pub opened_over : IsOpenedOver failures g (resting gives.given (failures before)) engine
     opened_over = record {
       given = gives.given;
-      rows = refl;
-      life = refl;
-      last = refl;
+      rests = refl;
       opens = gives.opens;
       core =
           is.opened.core ∙ ap (λ (x : GeometryValue). holding x is.opened.given) size ∙ ap (λ (x : Given). holding g x) same;
@@ -147,7 +145,7 @@ module _ {D M : Type 0} (past_of : D → DevicePast) (failures : D → ℕ) (g :
       → IsUnopened e (failures before) (failures found)
       → HasStopped (past_of before).moment (past_of after) (past_of found)
       → KeepsDays past_of failures g began (days ++ today ∷ []) (answers ++ Err e ∷ []) found
-  passed today e after found leaves why = unserved today (Err e) after found leaves (λ given. record { rows = refl; life = refl; last = refl; why = why })
+  passed today e after found leaves why = unserved today (Err e) after found leaves (λ given. (refl, why))
 
   -- the store wasn't opened, and the device stopped within that
   pub unopened : Images → GivesBack → (today : Day M) (e : Error) (after found : D) → IsNotOpened past_of failures before after e
@@ -183,6 +181,9 @@ module _ {D M : Type 0} (past_of : D → DevicePast) (failures : D → ℕ) (g :
     }
 
 -- ---- the days so far
+
+pub one_more : {X : Type 0} (old new : List X) (x : X) (n : ℕ) → length old ≡ n → new ≡ old ++ x ∷ [] → length new ≡ n + 1
+one_more old new x n even made = omega (arith, even, ap length made, length-append old (x ∷ []))
 
 pub day_more : {D M : Type 0} (past_of : D → DevicePast) (failures : D → ℕ) (g : GeometryValue) (began : AtRest) (days : List (Day M)) (i : ℕ) (day : Day M)
     (answers new : List (Answer M)) (answer : Answer M) (found : D) → i < length days → day ≡ get_or days i day → new ≡ answers ++ answer ∷ []

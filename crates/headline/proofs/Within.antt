@@ -17,8 +17,8 @@ use Rattle.restart.specs.Ran.{KeepsWholeRun}
 use Rattle.restart.specs.Reopening.{opening}
 use Rattle.restart.specs.Store.{IsAt, RunsOn, Survives, and_then}
 use Rattle.headline.specs.declared.day.Day.{Day}
-use Rattle.headline.specs.Days.{Answer, seen}
-use Rattle.headline.specs.Kept.{GivesDays, IsBegun, IsServedWithin, KeepsDays, ServesWithin}
+use Rattle.headline.specs.Days.{Answer}
+use Rattle.headline.specs.Kept.{GivesDays, IsBegun, IsServedWithin, KeepsDays, ServesWithin, seen}
 use Rattle.headline.specs.AtRest.{AtRest, resting}
 use Rattle.headline.specs.Stops.{HasStopped, IsFoundAs}
 use Rattle.headline.specs.Told.{acknowledged}
@@ -72,12 +72,7 @@ module _ {D M : Type 0} (past_of : D → DevicePast) (failures : D → ℕ) (g :
           → KeepsDays past_of failures g began (days ++ today ∷ []) (answers ++ Ok replies ∷ []) found
       idle it =
           unserved past_of failures g began days answers before keeps today (Ok replies) (device_of engine) found opening_leaves
-          (λ x. inr (record {
-            within = so;
-            none = it.0;
-            silent = it.1;
-            same = ap (resting x) (count ∙ ap (λ (p : EngineParts D M). failures (device_of p)) it.3 ∙ is.quiet);
-          }))
+          (λ x. inr (so, it.0, it.1, ap (resting x) (count ∙ ap (λ (p : EngineParts D M). failures (device_of p)) it.3 ∙ is.quiet)))
           (subst (λ (p : EngineParts D M). HasStopped (past_of before).moment (past_of (device_of p)) (past_of found)) it.3 (from_start it.2 it.3))
 
       module _ (events : List Event) (last : Event) (all : today.requests.items ≡ events ++ last ∷ [])

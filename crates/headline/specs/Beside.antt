@@ -1,23 +1,25 @@
 -- A day on which clients use a store beside one another, each in a thread of its own.
-use Rattle.std.specs.List.{All}
-use Rattle.std.specs.Prelude.{◌≡◌, ◌⊎◌, ◌≤◌, ◌++◌, ℕ, Bool, true, false, List, length, take, Option, None, Some}
+use Rattle.std.specs.Prelude.{◌≡◌, ◌≢◌, ◌⊎◌, ◌≤◌, ◌++◌, ℕ, List, length, take, Option, None, Some}
 use Rattle.std.specs.Prelude.{IfErr, OnOk}
 use Rattle.record_values.specs.GeometryValue.{GeometryValue}
 use Rattle.record_values.specs.declared.error.Error.{Error}
+use Rattle.record_values.specs.declared.error.Error.TheVariants.{DeviceFailed, NoMemory}
 use Rattle.records.specs.RecordValue.{RecordValue}
 use Rattle.model.specs.Given.{Given, given_after}
+use Rattle.sector_device.specs.DevicePast.{Rises}
 use Rattle.core_parts.specs.View.{CoreValue}
 use Rattle.threads_sessions.specs.Values.{CommitValue}
-use Rattle.threads_flusher.specs.Part.{IsNewest, Publication}
 use Rattle.locked_core.specs.Names.{IsShared}
 use Rattle.threads_lifetime.specs.Closing.{IsCoreOf, table_with, up_to}
 use Rattle.threads_lifetime.specs.Gathered.{AreCommitsOf, sessions_of}
 use Rattle.threads_lifetime.specs.declared.refusal.OpenError.{OpenError}
 use Rattle.threads_lifetime.specs.declared.refusal.OpenError.TheVariants.{Refused}
 use Rattle.shared.specs.Seats.{SeatValue}
-use Rattle.nsf.specs.Serving.{HaveWorked, WhyUnwritten, TellsBuild}
+use Rattle.nsf.specs.Serving.{HaveWorked, TellsBuild}
 use Rattle.restart.specs.Store.{over}
 use Rattle.headline.specs.declared.day.Day.{Day}
+use Rattle.headline.specs.declared.shared_day.End.{End}
+use Rattle.headline.specs.declared.shared_day.End.TheVariants.{Behind, Opening}
 use Rattle.headline.specs.declared.shared_day.SharedAnswer.{SharedAnswer}
 use Rattle.headline.specs.declared.shared_day.SharedDay.{SharedDay}
 use Rattle.headline.specs.AtRest.{AtRest, resting}
@@ -29,7 +31,7 @@ use Rattle.headline.specs.Held.{IsNotReopened}
 -- it has all that is in a core which the seats may have left. What was told of the builder, a core that may lie under
 -- the lock has answered.
 pub record IsFoundBeside {C : Type 0} (geometry : GeometryValue) (old : AtRest) (seats : List SeatValue)
-    (within : Bool) (answer : SharedAnswer C) (new : AtRest) : Type 0 where
+    (end : End) (answer : SharedAnswer C) (new : AtRest) : Type 0 where
   pub given : Given
   pub began : old ≡ resting given old.failed
   pub core : CoreValue
@@ -38,7 +40,7 @@ pub record IsFoundBeside {C : Type 0} (geometry : GeometryValue) (old : AtRest) 
   pub count : ℕ
   pub most : count ≤ length (pushed ++ core.outbox)
   pub kept : new ≡ resting (given_after given (take count (pushed ++ core.outbox))) new.failed
-  pub all : within ≡ false → OnOk answer.written ((left : CoreValue) × (popped : List RecordValue)
+  pub all : end ≡ Behind → OnOk answer.written ((left : CoreValue) × (popped : List RecordValue)
       × (commits : List CommitValue) × ∥ IsCoreOf (over geometry given) seats popped left commits ∥₁
       × (new.life ≡ left.life) × (new.last ≡ left.last))
   pub told : TellsBuild (over geometry given) answer.built
@@ -48,36 +50,23 @@ pub record IsFoundBeside {C : Type 0} (geometry : GeometryValue) (old : AtRest) 
 -- Records were kept up to a last one. The rows are those that there were. Over them are set the commits of all seats up
 -- to that record, in the order of their numbers.
 --
--- Horizons were published, each at a moment; the newest of them is the last. The last record that was kept is not below
--- any that was published until the store stopped.
---
--- Where the store stopped behind all that was done, each of them was published before; and if all was written, each
--- commit of the seats was kept.
+-- Unless the store stopped within the opening or the clients' work, that record is not below the horizon. Where it
+-- stopped behind all that was done and all was written, each commit of the seats was kept.
 pub record IsServedBeside {C : Type 0} (geometry : GeometryValue) (old : AtRest) (seats : List SeatValue)
-    (horizon : ℕ) (within : Bool) (answer : SharedAnswer C) (new : AtRest) : Type 0 where
+    (horizon : ℕ) (end : End) (answer : SharedAnswer C) (new : AtRest) : Type 0 where
   pub commits : List CommitValue
   pub of-seats : AreCommitsOf seats commits
   pub rows : new.rows ≡ table_with old.rows (up_to new.last commits)
-  pub publications : List Publication
-  pub newest : IsNewest publications horizon
-  pub stopped : ℕ
-  pub safe : All (λ (p : Publication). p.moment ≤ stopped → p.horizon ≤ new.last) publications
-  pub until : within ≡ false → All (λ (p : Publication). p.moment ≤ stopped) publications
-  pub whole : within ≡ false → OnOk answer.written
+  pub safe : end ≢ Opening → horizon ≤ new.last
+  pub whole : end ≡ Behind → OnOk answer.written
       ((all : List CommitValue) × AreCommitsOf seats all × (new.rows ≡ table_with old.rows all))
-  pub found : IsFoundBeside geometry old seats within answer new
+  pub found : IsFoundBeside geometry old seats end answer new
 
--- The store stopped within its opening, and rests as it did. What the clients did came later, and never came to the
--- device.
-pub record IsUntouched (within : Bool) (old new : AtRest) : Type 0 where
-  pub within-is : within ≡ true
-  pub rows : new.rows ≡ old.rows
-  pub life : new.life ≡ old.life
-  pub last : new.last ≡ old.last
-
--- The days have made a store of what it began with, and a day of clients has made this one of that. Each client has
--- worked, with a new seat of its own, which has read no horizon above the last one. The device's count of failures
--- hasn't fallen. Where not all was written, there was no memory, or the device failed.
+-- The days have made a store of what it began with. Each client has worked over that with a new seat of its own, which
+-- has read no horizon above this one. What the seats did has made this store of that. Or it stopped within its opening,
+-- and rests as it did: what the clients did came later, and never came to the device.
+--
+-- The device's count of failures hasn't fallen. Where not all was written, there was no memory, or the device failed.
 pub record HasLivedBeside {D M C : Type 0} (works : C → C → SeatValue → SeatValue → Type 0) (failures : D → ℕ)
     (geometry : GeometryValue) (began : AtRest) (days : List (Day M)) (answers : List (Answer M)) (day : SharedDay C)
     (answer : SharedAnswer C) (new : AtRest) : Type 0 where
@@ -86,10 +75,10 @@ pub record HasLivedBeside {D M C : Type 0} (works : C → C → SeatValue → Se
   pub seats : List SeatValue
   pub horizon : ℕ
   pub worked : HaveWorked works horizon day.clients.items answer.clients.items seats
-  pub served : IsServedBeside geometry before seats horizon day.within answer new
-      ⊎ IsUntouched day.within before new
+  pub served : IsServedBeside geometry before seats horizon day.end answer new
+      ⊎ ((day.end ≡ Opening) × (new ≡ record before { failed = new.failed }))
   pub later : before.failed ≤ new.failed
-  pub why : IfErr answer.written (WhyUnwritten before.failed new.failed)
+  pub why : IfErr answer.written (λ e. (e ≡ NoMemory) ⊎ ((e ≡ DeviceFailed) × Rises before.failed new.failed))
 
 -- Why there is no store behind its days and a day of clients. Before the days or behind them the store wasn't opened;
 -- or that of the clients wasn't opened behind them. There was no memory, or a call of the device failed.

@@ -1,21 +1,19 @@
 -- What a device keeps of a store's days. (No public clause cites these.)
-use Rattle.std.specs.Prelude.{◌≡◌, ◌≢◌, ◌⊎◌, ◌≤◌, ℕ, List, [], ◌∷◌, ◌++◌, Ok, Err, Option, IfSome}
+use Rattle.std.specs.Prelude.{◌≡◌, ◌⊎◌, ◌-◌, ℕ, Bool, if◌then◌else◌, List, [], ◌∷◌, ◌++◌, length, take, Ok, Err, Option}
+use Rattle.std.specs.Prelude.{IfSome}
 use Rattle.record_values.specs.GeometryValue.{GeometryValue}
 use Rattle.record_values.specs.declared.error.Error.{Error}
-use Rattle.record_values.specs.declared.error.Error.TheVariants.{Exhausted, IndexFull, NoIndex, NoMemory}
-use Rattle.record_values.specs.declared.number.TheConstants.{LAST_NUMBER}
+use Rattle.record_values.specs.declared.error.Error.TheVariants.{NoMemory}
 use Rattle.model.specs.Given.{Given}
-use Rattle.model.specs.declared.life.Life.TheVariants.{Absent, Complete}
 use Rattle.core_model.specs.Histories.{CanOpen}
 use Rattle.sector_device.specs.Disk.{CrashState, IsCrashState}
 use Rattle.sector_device.specs.DevicePast.{DevicePast}
-use Rattle.core_parts.specs.View.{CoreValue}
 use Rattle.store_reader.specs.Contents.{Gives}
 use Rattle.restart.specs.declared.event.Event.{Event}
 use Rattle.restart.specs.declared.event.Reply.{Reply}
 use Rattle.restart.specs.declared.event.Reply.TheVariants.{Refused}
 use Rattle.restart.specs.declared.parts.EngineParts.{EngineParts}
-use Rattle.restart.specs.Building.{AreBuilt, EndsWith, IsIndexFull, builds}
+use Rattle.restart.specs.Building.{AreBuilt, EndsWith, builds}
 use Rattle.restart.specs.Lawful.{AreLawful, IsLawful}
 use Rattle.restart.specs.Parts.{device_of}
 use Rattle.restart.specs.Reopening.{IsEmptied, IsOpened}
@@ -50,6 +48,10 @@ pub record IsBegun {D M : Type 0} (past_of : D → DevicePast) (failures : D →
   pub opened : IsOpened past_of before engine
   pub emptied : IsEmptied past_of before engine
   pub quiet : failures (device_of engine) ≡ failures before
+
+-- the replies that came before the store stopped: all; or, where it stopped within the last request, those before it
+abbrev pub seen : {M : Type 0} → (within : Bool) → List (Reply M) → List (Reply M)
+seen within replies = if within then take (length replies - 1) replies else replies
 
 -- Whatever days the device keeps as the day begins, it keeps this one too as it is found behind it.
 abbrev pub KeepsOneMore : {D M : Type 0} → (D → DevicePast) → (D → ℕ) → D → Day M → Answer M → D → Type 0
@@ -88,13 +90,6 @@ pub record EndsBuild {D M : Type 0} (past_of : D → DevicePast) (refusal : Opti
   pub each : AreBuilt replies old new
   pub refused : IfSome refusal (λ e. EndsWith (Refused e) replies)
   pub at : (past : Past M) → IsAt past_of past old → IsAt past_of (and_then past (builds replies) replies) new
-
--- why a build was refused
-pub record WhyUnbuilt (error : Error) (old new : CoreValue) : Type 0 where
-  pub rows : new.heap.rows ≡ old.heap.rows
-  pub unfinished : old.life ≢ Complete
-  pub why : ((error ≡ NoIndex) × (old.life ≡ Absent)) ⊎ ((error ≡ IndexFull) × IsIndexFull new)
-      ⊎ ((error ≡ Exhausted) × (LAST_NUMBER ≤ new.last)) ⊎ (error ≡ NoMemory)
 
 -- The crash state gives what the days and a day of clients have made of a store, on a device with this count of
 -- failures; and a core may begin with it.

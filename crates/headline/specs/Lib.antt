@@ -1,7 +1,6 @@
 pub mod Told
 pub mod Fitting
 pub mod AtRest
-pub mod Lawful
 pub mod Days
 pub mod Held
 pub mod Beside

@@ -1,7 +1,9 @@
 -- What a device is found as that stopped.
-use Rattle.std.specs.Prelude.{◌≡◌, ◌≤◌, ℕ, Bool, false}
+use Rattle.std.specs.Prelude.{◌≡◌, ◌≤◌, ℕ}
 use Rattle.sector_device.specs.Disk.{Disk, CrashState, IsCrashState}
 use Rattle.sector_device.specs.DevicePast.{DevicePast}
+use Rattle.headline.specs.declared.shared_day.End.{End}
+use Rattle.headline.specs.declared.shared_day.End.TheVariants.{Behind, Closing}
 
 -- Its moments count from now on; and a crash of it leaves nothing that one of this disk couldn't.
 pub record IsFoundAs (disk : Disk) (found : DevicePast) : Type 0 where
@@ -15,7 +17,9 @@ pub record HasStopped (since : ℕ) (old found : DevicePast) : Type 0 where
   pub until : moment ≤ old.moment
   pub found-as : IsFoundAs (old.disk_at moment) found
 
--- so it stopped; or where it was (no public clause cites this)
-pub record StopsAt (within : Bool) (since : ℕ) (old found : DevicePast) : Type 0 where
-  pub stop : HasStopped since old found
-  pub at-end : within ≡ false → stop.moment ≡ old.moment
+-- so it stopped: at one of its moments since the first, or since the later one; or where it was (no public clause cites
+-- this)
+pub record StopsAt (end : End) (first mid : ℕ) (old found : DevicePast) : Type 0 where
+  pub stop : HasStopped first old found
+  pub closing : end ≡ Closing → mid ≤ stop.moment
+  pub at-end : end ≡ Behind → stop.moment ≡ old.moment

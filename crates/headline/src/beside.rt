@@ -18,9 +18,9 @@ ghost use Rattle.headline.specs.Beside.{HasLivedBeside, IsNotLivedBeside};
 
 use crate::daily::live_each_day;
 use crate::lives::{Answer, NotLived, finish_build, unopened};
-use crate::{Day, Mortal, SharedAnswer, SharedDay};
+use crate::{Day, End, Mortal, SharedAnswer, SharedDay};
 use flip_image::Halves;
-use nsf::{Client, OpenError, Served, serve};
+use nsf::{Client, OpenError, Served, serve_and_see};
 use records::{Error, Geometry, TXNS_MAX};
 use restart::{Engine, nothing_opens, restart};
 use std::alloc::Global;
@@ -49,16 +49,17 @@ pub struct NotLivedBeside<C, D: Mortal> {
     pub device: D,
 }
 
-// Stops the device at one of its moments since the mark; or where it is.
-fn stop_device<D: Mortal>(device: &mut D, since: u64, within: bool)
-    ensures stopped { (moment : ℕ) → D.marks since moment → moment ≤ (D.past_of device.old).moment
-        → StopsAt within moment (D.past_of device.old) (D.past_of device.new) }
+// Stops the device: at one of its moments since the opening began, or since the clients had ended; or where it is.
+fn stop_device<D: Mortal>(device: &mut D, opening: u64, closing: u64, end: End)
+    ensures stopped { (first mid : ℕ) → D.marks opening first → D.marks closing mid → first ≤ mid
+        → mid ≤ (D.past_of device.old).moment
+        → StopsAt end first mid (D.past_of device.old) (D.past_of device.new) }
     ensures failures { D.failures device.new ≡ D.failures device.old }
 {
-    if within {
-        device.stop(since);
-    } else {
-        device.stop_now();
+    match end {
+        End::Behind => device.stop_now(),
+        End::Closing => device.stop(closing),
+        End::Opening => device.stop(opening),
     }
 }
 
@@ -77,17 +78,25 @@ fn serve_clients<C: Client + Send + Drop, D: Mortal + Send, R: Threads + Wait + 
 {
     one_answer();
     written_back();
-    let since = device.mark();
-    let SharedDay { clients, within } = day;
-    match serve(rt, alloc, device, clients) {
-        Ok(served) => {
+    let opening = device.mark();
+    let SharedDay { clients, end } = day;
+    match serve_and_see(
+        rt,
+        alloc,
+        device,
+        clients,
+        |device: &D| -> u64
+            ensures { D.marks result (D.past_of device.now).moment }
+        { device.mark() },
+    ) {
+        Ok((served, closing)) => {
             let Served {
                 clients,
                 mut device,
                 built,
                 written,
             } = served;
-            stop_device(&mut device, since, within);
+            stop_device(&mut device, opening, closing, end);
             let answer = SharedAnswer {
                 clients,
                 built,
@@ -194,9 +203,9 @@ fn refused_before<C, D: Mortal>(refusal: NotLived<Error, D, Global>) -> NotLived
 
 /// Formats the device, and lives through the days as `live_through` does. Behind them comes a day of clients. The store
 /// is opened, and they work, each with a seat of its own; meanwhile others build the index, clean it and write to the
-/// device (`serve`). The store stops then: where the day ends `within`, at any moment since its opening began, at any
-/// write or sync of the device or between them; else behind all that was done. In the end it is opened once more and,
-/// where that is wanted, the build of its index is carried to its end.
+/// device (`serve_and_see`). The store stops then, as the day's `end` says: behind all that was done; or at any moment
+/// since the clients had ended, or since the opening began, at any write or sync of the device or between them. In the
+/// end it is opened once more and, where that is wanted, the build of its index is carried to its end.
 ///
 /// What it then holds is told by the days and the seats alone (`holds`). The rows are those that the days had left.
 /// Over them are set the commits of all seats up to the last record that was kept, in the order of their numbers. Of a
@@ -204,9 +213,9 @@ fn refused_before<C, D: Mortal>(refusal: NotLived<Error, D, Global>) -> NotLived
 /// of a row; as far as the index was built, the pair of each row is visible; and once its build was carried to its end,
 /// every row's.
 ///
-/// Where the day ends behind all that was done, the last record is not below any horizon that a seat has read: so
-/// nothing is lost that was acknowledged. Where it ends `within`, horizons were published at some moments, and the last
-/// record is not below any that came before the stop. At which moment a seat read one no clause says.
+/// Where the clients had ended before the stop, the last record is not below any horizon that a seat has read: so
+/// nothing is lost that was acknowledged. On a day that ends `Opening`, no clause says how many records were kept. (The
+/// flusher's part keeps that it publishes a horizon behind the sync of its records: `IsFlusher`.)
 ///
 /// Where the build is refused, `unbuilt` tells why, as that of `live_through` does.
 ///

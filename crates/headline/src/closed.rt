@@ -13,7 +13,7 @@ use crate::Mortal;
 use records::Error;
 use restart::{Engine, restart};
 use sector_device::Device;
-use shared::{Ack, Group, Memory, Parts, Shared};
+use shared::{Ack, Group, Keeping, Memory, Parts, Shared};
 use std::sync::Wait;
 use store_reader::one_answer;
 use threads_lifetime::{Closed, finish};
@@ -26,11 +26,11 @@ pub struct Reopened<D: Mortal, A: Memory> {
 }
 
 // The device, with all that the seats made written out, or as much as could be; and why it wasn't all.
-fn finish_device<B: Group, D: Device, R: Wait, A: Memory>(
+fn finish_device<B: Group, D: Device, R: Wait, A: Memory, K: Keeping>(
     rt: &R,
     alloc: A,
     shared: Shared<B, A>,
-    parts: Parts<B, D, A>,
+    parts: Parts<B, D, A, K>,
     acks: Vec<Ack<B>, A>,
 ) -> (D, Option<Error>)
     requires seats { AreAllSeats B.site.seats parts.seats.items }
@@ -73,11 +73,11 @@ fn finish_device<B: Group, D: Device, R: Wait, A: Memory>(
 ///
 /// A refusal is that of the opening, and gives the device back: `NoMemory`, or `DeviceFailed`, which comes only where
 /// the device failed since the call began (`refused`).
-pub fn finish_and_open<B: Group, D: Mortal, R: Wait, A: Memory>(
+pub fn finish_and_open<B: Group, D: Mortal, R: Wait, A: Memory, K: Keeping>(
     rt: &R,
     alloc: A,
     shared: Shared<B, A>,
-    parts: Parts<B, D, A>,
+    parts: Parts<B, D, A, K>,
     acks: Vec<Ack<B>, A>,
 ) -> Result<Reopened<D, A>, (Error, D)>
     requires seats { AreAllSeats B.site.seats parts.seats.items }

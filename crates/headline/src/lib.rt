@@ -5,15 +5,16 @@
 //! moved from version 1 `live_on` (`holds`, `kept`, `refused`, `room`, `too_small`, `told`, `quiet`). They are composed
 //! of public contracts alone. A day ends behind its last reply, or within its last request, at any moment of it; each
 //! record that a reply had acknowledged before the stop is kept. The requests of each day are answered lawfully, record
-//! numbers go on from day to day, and the device's failures are counted. Only tested (`test_headline`): days over a
+//! numbers go on from day to day, and the device's failures are counted. Only tested (`test_nsf`): days over a
 //! disk in memory, and one that is stopped at each of its moments, compared with a plain program. Neither: that memory
 //! is granted, or the device succeeds.
 //!
 //! The same of a store that clients use at last beside one another, until it stops at any moment.
 //!
-//! Proved: `live_beside` (`holds`, `unbuilt`, `refused`, `many`, `too_small`, `unchanged`, `room`). Behind a whole day
-//! nothing is lost that a seat has read to be safe. Only tested (`test_nsf`): two clients over a disk in memory.
-//! Neither: when a seat read a horizon, on a day that ends within.
+//! Proved: `live_beside` (`holds`, `unbuilt`, `refused`, `many`, `too_small`, `unchanged`, `room`). Behind a whole day,
+//! and on one that stops while the rest is written out, nothing is lost that a seat has read to be safe. Only tested
+//! (`test_nsf`): two clients over a disk in memory. Neither: how many commits are kept of a day that stops before its
+//! clients have ended.
 //!
 //! What many threads leave, as the contract of one call: every seat is taken back, the power fails behind that, and the
 //! store is opened again.
@@ -38,4 +39,4 @@ pub use day::Day;
 pub use lives::{Answer, Lived, NotLived, live_through};
 pub use mortal::Mortal;
 pub use moved::live_on;
-pub use shared_day::{SharedAnswer, SharedDay};
+pub use shared_day::{End, SharedAnswer, SharedDay};

@@ -4,8 +4,8 @@ ghost use Rattle.record_values.specs.GeometryValue.{GeometryValue, sectors_of};
 ghost use Rattle.model.specs.Given.{nothing};
 ghost use Rattle.restart.specs.Building.{BuildsWhole, HasCome};
 ghost use Rattle.restart.specs.Parts.{core_of};
-ghost use Rattle.headline.specs.Held.{HasLived, IsNotReopened, IsUnbuilt};
-ghost use Rattle.headline.specs.Kept.{EndsBuild, KeepsDays, WhyUnbuilt};
+ghost use Rattle.headline.specs.Held.{HasLived, IsNotBuilt, IsNotReopened, IsUnbuilt};
+ghost use Rattle.headline.specs.Kept.{EndsBuild, KeepsDays};
 ghost use Rattle.headline.specs.AtRest.{AtRest, resting};
 
 use crate::daily::live_each_day;
@@ -47,7 +47,7 @@ pub(crate) fn finish_build<D: Mortal, A: Allocator + Copy>(
     ensures whole { build ≡ true → result ≡ None → BuildsWhole (core_of engine.old) (core_of engine.new) }
     ensures wanted { IfSome result (λ e. build ≡ true) }
     ensures refused { IfSome result (λ e. HasCome (core_of engine.old)
-        → WhyUnbuilt e (core_of engine.old) (core_of engine.new)) }
+        → IsNotBuilt e (core_of engine.old) (core_of engine.new)) }
 {
     if !build {
         return None;

@@ -2,12 +2,22 @@
 use nsf::Ticket;
 use records::Error;
 
-/// Clients that use a store on one day beside one another. Where it ends `within`, the store stops at any moment since
-/// its opening began; else behind all that was done.
+/// How a day of clients ends: where the store stops.
+#[derive(Clone, Copy, Debug, PartialEq, Eq)]
+pub enum End {
+    /// Behind all that was done.
+    Behind,
+    /// At any moment since the clients had ended, while the rest is written out.
+    Closing,
+    /// At any moment since the opening began.
+    Opening,
+}
+
+/// Clients that use a store on one day beside one another, and how that ends.
 #[derive(Drop)]
 pub struct SharedDay<C> {
     pub clients: Vec<C>,
-    pub within: bool,
+    pub end: End,
 }
 
 /// What came of a day of clients: they, in their order, each as its work has left it; what was told of the builder; and

@@ -1,5 +1,5 @@
 -- What is kept since a horizon was published.
-use Rattle.std.proofs.Common.{◌≡◌, ◌∙◌, ◌∷◌, ℕ, List, Some, subst, sym, arith}
+use Rattle.std.proofs.Common.{◌≡◌, ◌∙◌, ◌∷◌, ◌≤◌, ℕ, List, Some, subst, sym, arith}
 use Rattle.std.proofs.lemmas.List.Elements.{All-head, All-pop, All-same}
 use Rattle.std.specs.List.{All}
 use Rattle.sector_device.specs.Disk.{CrashState, IsCrashState}
@@ -25,4 +25,18 @@ since_first P opened mid now publications since horizon is all before behind =
       later = omega (arith, before.later, behind.later);
       kept = λ t le. behind.kept t (omega (arith, le, before.later)) ∙ before.kept t le;
       each = kept.each;
+    }
+
+-- since a moment at which the last one had been
+pub since_newest : (P : ℕ → CrashState → Type 0) (mid now : DevicePast) (publications : List Publication) (horizon : ℕ) → IsNewest publications horizon
+    → All (λ (p : Publication). p.moment ≤ mid.moment) publications → All (IsKeptSince P now) publications → IsLaterPast mid now
+    → LeavesOnly mid now (P horizon)
+since_newest P mid now publications horizon newest low all behind =
+    let kept : IsKeptSince P now newest.1 = (All-pop (IsKeptSince P now) publications newest.0 (Some newest.1) newest.2 all).1 in
+    let le : newest.1.moment ≤ mid.moment =
+    (All-pop (λ (p : Publication). p.moment ≤ mid.moment) publications newest.0 (Some newest.1) newest.2 low).1 in
+    record {
+      later = behind.later;
+      kept = behind.kept;
+      each = λ t image from to crash. subst (λ h. P h image) newest.3 (kept.each t image (omega (arith, le, from)) to crash);
     }

@@ -28,10 +28,10 @@ use Rattle.threads_lifetime.specs.Gathered.{AreCommitsOf}
 pub record HoldsAll (o : Opened) (geometry : GeometryValue) (seats : List SeatValue) (popped : List RecordValue)
     (disk : Disk) : Type 0 where
   pub commits : List CommitValue
-  pub of_seats : ∥ AreCommitsOf seats commits ∥₁
+  pub of_seats : AreCommitsOf seats commits
   pub core : CoreValue
-  pub left : ∥ IsCoreOf o seats popped core commits ∥₁
-  pub gives : (image : CrashState) → IsCrashState disk image → ∥ GivesAll o geometry core commits image ∥₁
+  pub left : IsCoreOf o seats popped core commits
+  pub gives : (image : CrashState) → IsCrashState disk image → GivesAll o geometry core commits image
 
 -- The device was written by these seats, in a store as large as the one that was opened. Whatever a crash leaves of it
 -- gives what was opened with their commits set over it. It has them up to some record that isn't before the floor; and
@@ -48,7 +48,7 @@ pub record LeavesCommits {D : Type 0} (past_of : D → DevicePast) (o : Opened) 
   pub newest : IsNewest publications floor
   pub published : All (IsKeptSince (λ horizon image. ∥ GivesSome o geometry seats popped horizon image ∥₁)
       (past_of device)) publications
-  pub all : OnOk written (HoldsAll o geometry seats popped (past_of device).disk)
+  pub all : OnOk written ∥ HoldsAll o geometry seats popped (past_of device).disk ∥₁
 
 -- why not all that was made was written out: there was no memory, or the device has failed
 abbrev pub WhyUnwritten : (before now : ℕ) → Error → Type 0
@@ -92,14 +92,23 @@ pub record LeavesWork {C D : Type 0} (past_of : D → DevicePast) (works : C →
       (λ image. ∥ GivesSome o leaves.geometry seats leaves.popped o.given.last image ∥₁)
   pub worked : HaveWorked works floor clients after seats
 
--- what was until then stays (no public clause cites this)
+-- It is the same seat still. (No public clause cites this.)
+pub record KeepsSeat (old new : SeatValue) : Type 0 where
+  pub number : new.number ≡ old.number
+
+-- what was until then stays
 pub record IsLaterPast (old new : DevicePast) : Type 0 where
   pub later : old.moment ≤ new.moment
   pub kept : (t : ℕ) → t ≤ old.moment → new.disk_at t ≡ old.disk_at t
 
--- It is the same seat still. (No public clause cites this.)
-pub record KeepsSeat (old new : SeatValue) : Type 0 where
-  pub number : new.number ≡ old.number
+-- As the clients had ended, behind the opening, the device was shown. A crash at any moment since leaves what was
+-- opened with the seats' commits set over it, up to some record that isn't before the floor.
+pub record HadEnded {D : Type 0} (past_of : D → DevicePast) (shown : D → Type 0) (o : Opened) (geometry : GeometryValue)
+    (seats : List SeatValue) (popped : List RecordValue) (floor : ℕ) (opened device : D) : Type 0 where
+  pub was : D
+  pub shows : shown was
+  pub before : IsLaterPast (past_of opened) (past_of was)
+  pub since : LeavesOnly (past_of was) (past_of device) (λ image. ∥ GivesSome o geometry seats popped floor image ∥₁)
 
 -- empty, with room for so many (no public clause cites this)
 abbrev pub HasRoom : {T : Type 0} → Vec T Global → ℕ → Type 0

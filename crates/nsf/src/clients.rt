@@ -1,6 +1,7 @@
 //! Clients of a store, each in a thread of its own.
 ghost use Rattle.std.specs.Prelude.{◌≡◌, ◌⊎◌, ◌<◌, ◌≤◌, Err, IfErr, IfOk, List, Some, false, ℕ, map, vec_len};
 ghost use Rattle.std.specs.Prelude.{slice_get, slice_index_or};
+ghost use Rattle.std.specs.Fn.{FnOnceReturnsAt};
 ghost use Rattle.record_values.specs.declared.error.Error.TheVariants.{DeviceFailed, NoMemory, TooManyTxns};
 ghost use Rattle.core_model.specs.Histories.{Opened};
 ghost use Rattle.sector_device.specs.DevicePast.{Rises};
@@ -11,13 +12,13 @@ ghost use Rattle.threads_lifetime.specs.Gathered.{AreAllSeats};
 ghost use Rattle.restart.specs.Reopening.{IsTurned};
 ghost use Rattle.threads_lifetime.specs.Openings.{IsNewFlusher, IsNotShared, Opens};
 ghost use Rattle.threads_lifetime.specs.declared.refusal.OpenError.TheVariants.{Refused};
-ghost use Rattle.nsf.specs.Serving.{HasRoom, IsLaterPast, WhyUnwritten, KeepsSeat, LeavesCommits, LeavesWork};
+ghost use Rattle.nsf.specs.Serving.{HadEnded, HasRoom, IsLaterPast, WhyUnwritten, KeepsSeat, LeavesCommits, LeavesWork};
 ghost use Rattle.nsf.specs.Serving.{TellsBuild};
 
 use nsf_core::Ticket;
 use records::Error;
 use sector_device::Device;
-use shared::{BuildPart, CleanPart, Group, Seat, Shared};
+use shared::{BuildPart, CleanPart, Group, Seat, Shared, Told};
 use std::alloc::{AllocError, Global};
 use std::marker::Brand;
 use std::sync::Wait;
@@ -92,8 +93,43 @@ pub fn serve<C: Client + Send + Drop, D: Device + Send + Drop, R: Threads + Wait
     ensures refused { IfErr result (λ r. IsNotShared D.past_of D.failures device (vec_len clients) r.1 r.0) }
     ensures many { 16 < vec_len clients → result ≡ Err (Refused TooManyTxns, device) }
 {
+    match serve_and_see(rt, alloc, device, clients, |_: &D| {}) {
+        Ok((served, ())) => Ok(served),
+        Err(refused) => Err(refused),
+    }
+}
+
+/// As `serve`. Once all clients have ended, before the rest is written out, `see` is called with the device, and what
+/// it answers comes back. A crash at any moment since then leaves all up to each horizon that a seat has read
+/// (`leaves`).
+pub fn serve_and_see<
+    C: Client + Send + Drop,
+    D: Device + Send + Drop,
+    R: Threads + Wait + Sync,
+    T: Drop,
+    F: FnOnce(&D) -> T,
+>(
+    rt: &R,
+    alloc: Global,
+    device: D,
+    clients: Vec<C>,
+    see: F,
+) -> Result<(Served<C, D>, T), (OpenError, D)>
+    requires see { F.IsAlwaysCallable see }
+    ensures leaves { IfOk result (λ r. (o : Opened) × Opens (D.past_of device).disk.content o
+        × (opened : D) × IsTurned D.past_of device opened
+        × (work : LeavesWork D.past_of C.works o clients.items r.0.clients.items opened r.0.device r.0.written)
+        × TellsBuild o r.0.built
+        × HadEnded D.past_of (λ d. FnOnceReturnsAt F.FnOnce see d r.1) o work.leaves.geometry work.seats
+        work.leaves.popped work.floor opened r.0.device) }
+    ensures why { IfOk result (λ r. IfErr r.0.written (WhyUnwritten (D.failures device) (D.failures r.0.device))) }
+    ensures later { IfOk result (λ r. D.failures device ≤ D.failures r.0.device) }
+    ensures clients { IfOk result (λ r. vec_len r.0.clients ≡ vec_len clients) }
+    ensures refused { IfErr result (λ r. IsNotShared D.past_of D.failures device (vec_len clients) r.1 r.0) }
+    ensures many { 16 < vec_len clients → result ≡ Err (Refused TooManyTxns, device) }
+{
     match open_store(alloc, device, clients.len()) {
-        Ok(store) => begin::<Brand, C, D, R>(rt, alloc, store, clients),
+        Ok(store) => begin::<Brand, C, D, R, T, F>(rt, alloc, store, clients, see),
         Err(refused) => Err(refused),
     }
 }
@@ -104,23 +140,30 @@ fn begin<
     C: Client + Send + Drop,
     D: Device + Send + Drop,
     R: Threads + Wait + Sync,
+    T: Drop,
+    F: FnOnce(&D) -> T,
 >(
     rt: &R,
     alloc: Global,
     store: OpenStore<D>,
     clients: Vec<C>,
-) -> Result<Served<C, D>, (OpenError, D)>
-    requires { store.site ≡ B.site }
-    ensures leaves { IfOk result (λ s. LeavesWork D.past_of C.works B.site.opened clients.items s.clients.items
-        store.device s.device s.written) }
-    ensures told { IfOk result (λ s. TellsBuild B.site.opened s.built) }
-    ensures why { IfOk result (λ s. IfErr s.written (WhyUnwritten (D.failures store.device) (D.failures s.device))) }
-    ensures later { IfOk result (λ s. D.failures store.device ≤ D.failures s.device) }
-    ensures clients { IfOk result (λ s. vec_len s.clients ≡ vec_len clients) }
+    see: F,
+) -> Result<(Served<C, D>, T), (OpenError, D)>
+    requires names { store.site ≡ B.site }
+    requires see { F.IsAlwaysCallable see }
+    ensures leaves { IfOk result (λ r. (work : LeavesWork D.past_of C.works B.site.opened clients.items
+        r.0.clients.items store.device r.0.device r.0.written)
+        × HadEnded D.past_of (λ d. FnOnceReturnsAt F.FnOnce see d r.1) B.site.opened work.leaves.geometry work.seats
+        work.leaves.popped work.floor store.device r.0.device) }
+    ensures told { IfOk result (λ r. TellsBuild B.site.opened r.0.built) }
+    ensures why { IfOk result (λ r. IfErr r.0.written (WhyUnwritten (D.failures store.device)
+        (D.failures r.0.device))) }
+    ensures later { IfOk result (λ r. D.failures store.device ≤ D.failures r.0.device) }
+    ensures clients { IfOk result (λ r. vec_len r.0.clients ≡ vec_len clients) }
     ensures no_memory { IfErr result (λ r. (r.0 ≡ Refused NoMemory) × (r.1 ≡ store.device)) }
 {
-    match store.start::<B>() {
-        Ok((shared, parts)) => match seat_all(rt, alloc, shared, parts, clients) {
+    match store.start::<B, Told>() {
+        Ok((shared, parts)) => match seat_all(rt, alloc, shared, parts, clients, see) {
             Ok(served) => Ok(served),
             Err(device) => Err((OpenError::Refused(Error::NoMemory), device)),
         },
@@ -421,22 +464,28 @@ fn seat_all<
     C: Client + Send + Drop,
     D: Device + Send + Drop,
     R: Threads + Wait + Sync,
+    T: Drop,
+    F: FnOnce(&D) -> T,
 >(
     rt: &R,
     alloc: Global,
     shared: Shared<B>,
     parts: Parts<B, D>,
     clients: Vec<C>,
-) -> Result<Served<C, D>, D>
+    see: F,
+) -> Result<(Served<C, D>, T), D>
     requires seats { AreNewSeats B.site.board B.site.seats parts.seats.items }
+    requires see { F.IsAlwaysCallable see }
     requires flush { IsNewFlusher D.past_of B.site.board B.site.opened parts.flush }
-    ensures leaves { IfOk result (λ s. LeavesWork D.past_of C.works B.site.opened clients.items s.clients.items
-        (device_of parts.flush.writer) s.device s.written) }
-    ensures told { IfOk result (λ s. TellsBuild B.site.opened s.built) }
-    ensures why { IfOk result (λ s. IfErr s.written (WhyUnwritten (D.failures (device_of parts.flush.writer))
-        (D.failures s.device))) }
-    ensures later { IfOk result (λ s. D.failures (device_of parts.flush.writer) ≤ D.failures s.device) }
-    ensures clients { IfOk result (λ s. vec_len s.clients ≡ vec_len clients) }
+    ensures leaves { IfOk result (λ r. (work : LeavesWork D.past_of C.works B.site.opened clients.items
+        r.0.clients.items (device_of parts.flush.writer) r.0.device r.0.written)
+        × HadEnded D.past_of (λ d. FnOnceReturnsAt F.FnOnce see d r.1) B.site.opened work.leaves.geometry work.seats
+        work.leaves.popped work.floor (device_of parts.flush.writer) r.0.device) }
+    ensures told { IfOk result (λ r. TellsBuild B.site.opened r.0.built) }
+    ensures why { IfOk result (λ r. IfErr r.0.written (WhyUnwritten (D.failures (device_of parts.flush.writer))
+        (D.failures r.0.device))) }
+    ensures later { IfOk result (λ r. D.failures (device_of parts.flush.writer) ≤ D.failures r.0.device) }
+    ensures clients { IfOk result (λ r. vec_len r.0.clients ≡ vec_len clients) }
     ensures back { IfErr result (λ d. d ≡ device_of parts.flush.writer) }
 {
     let Parts {
@@ -447,7 +496,11 @@ fn seat_all<
     } = parts;
     match seated(alloc, seats, clients) {
         Ok((desks, room)) => match run_all(rt, &shared, desks, flush, build, clean) {
-            Ok(ended) => Ok(end(rt, alloc, shared, ended, room)),
+            Ok(ended) => {
+                ended.flush.stands();
+                let seen = see(ended.flush.device());
+                Ok((end(rt, alloc, shared, ended, room), seen))
+            }
             Err(flush) => Err(flush.into_parts().0),
         },
         Err(AllocError) => Err(flush.into_parts().0),

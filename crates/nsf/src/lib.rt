@@ -109,8 +109,10 @@
 //! ```
 //!
 //! A program that starts threads itself opens the store by `open_store`, or by `open_engine` where an engine served it
-//! before: nothing that the engine holds is lost. It calls a function that is generic in the group with `Brand`. It
-//! says in its `Invariants.antt` what the group's names are, as here for a function `work`:
+//! before: nothing that the engine holds is lost. It calls a function that is generic in the group with `Brand`. That
+//! one starts the store by `store.start::<B, ToldCommits>()`; what its seats have done takes no memory then. By
+//! `store.start::<B, KeptCommits>()` their commits are kept, and `finish` gives them. The caller says in its
+//! `Invariants.antt` what the group's names are, as here for a function `work`:
 //!
 //! ```antt
 //! abbrev pub ghosts-work : goal.ghosts-work
@@ -132,15 +134,15 @@
 //!
 //! Of many: all clients of `serve` have worked, each with a new seat of its own. Then a crash leaves what was opened
 //! with the commits of these seats set over it, up to some record. That isn't before any horizon that one of the seats
-//! has read; and where nothing was refused, it has all. Horizons were published at some moments, and a crash since
-//! leaves all up to that (`leaves`). So it may be opened again (the law `left_by_threads`). Why not all was written is
-//! told (`why`), and how the builder ended. Above it stands `live_beside` of `headline`. Only tested (`test_nsf`): both
-//! examples.
+//! has read; and where nothing was refused, it has all (`leaves`). So it is at any moment since the clients had ended,
+//! while the rest is written out (`leaves` of `serve_and_see`). What was left may be opened again (the law
+//! `left_by_threads`). Why not all was written is told (`why`), and how the builder ended. Above it stands
+//! `live_beside` of `headline`. Only tested (`test_nsf`): both examples.
 #![tactic(auto)]
 
 mod clients;
 
-pub use clients::{Client, Served, serve};
+pub use clients::{Client, Served, serve, serve_and_see};
 pub use model::Life;
 pub use nsf_core::{BuildReply, CleanReply, Core, Ticket};
 pub use records::{
@@ -148,7 +150,10 @@ pub use records::{
 };
 pub use restart::{Engine, Event, MigrateError, Reply, every_story, migrate, restart};
 pub use sector_device::{Device, Failed, Fate, FaultDisk, MemDisk, Which};
-pub use shared::{Ack, BuildPart, Change, CleanPart, Group, GroupView, Seat, Shared, each_refusal};
+pub use shared::{
+    Ack, BuildPart, Change, CleanPart, Group, GroupView, Keeping, Kept as KeptCommits, LoopParts,
+    Seat, Shared, Told as ToldCommits, each_refusal,
+};
 pub use store_file as file;
 pub use store_moving::{NotVersionOne, old_geometry};
 pub use threads_flusher::FlushPart;

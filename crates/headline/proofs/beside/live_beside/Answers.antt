@@ -5,8 +5,8 @@ use Rattle.model.specs.Given.{nothing}
 use Rattle.sector_device.specs.DevicePast.{Rises}
 use Rattle.threads_lifetime.specs.declared.refusal.OpenError.TheVariants.{Refused}
 use Rattle.headline.specs.AtRest.{resting}
-use Rattle.headline.proofs.Holding.{at_once, err_at, neither, none_lived, ok_at}
-use Rattle.headline.proofs.Shared.{never, not_lived, unopened_many, unopened_small}
+use Rattle.headline.proofs.Holding.{at_once, err_at, neither, none_lived, ok_at, unopened_small}
+use Rattle.headline.proofs.Shared.{never, not_lived, unopened_many}
 use Rattle.headline.proofs.beside.live_beside.Goals as goal
 
 pub returns-in-Err-clause-refused : goal.returns-in-Err-clause-refused

@@ -2,21 +2,32 @@ use Rattle.std.proofs.Common.{arith, refl, subst, sym}
 use Rattle.headline.specs.Stops.{IsFoundAs}
 use Rattle.headline.proofs.beside.stop_device.Goals as goal
 
-pub returns-then-within-clause-stopped : goal.returns-then-within-clause-stopped
-returns-then-within-clause-stopped g c = λ moment marked le. record {
-  stop = c.stop.ensures.stopped moment marked le;
-  at-end = λ behind. let yes = c.if-within.true in absurd cc;
-}
-
-pub returns-else-within-clause-stopped : goal.returns-else-within-clause-stopped
-returns-else-within-clause-stopped g c = λ moment marked le.
+pub returns-in-Behind-clause-stopped : goal.returns-in-Behind-clause-stopped
+returns-in-Behind-clause-stopped g c = λ first mid marked-first marked-mid low high.
     let old = g.D.Device.past_of c.args.device.now in
     record {
       stop = record {
         moment = old.moment;
-        from = le;
+        from = omega (arith, low, high);
         until = omega arith;
         found-as = subst (λ disk. IsFoundAs disk (g.D.Device.past_of c.stop_now.new.self)) (sym old.now) c.stop_now.ensures.found;
       };
+      closing = λ closing. high;
       at-end = λ behind. refl;
     }
+
+pub returns-in-Closing-clause-stopped : goal.returns-in-Closing-clause-stopped
+returns-in-Closing-clause-stopped g c = λ first mid marked-first marked-mid low high.
+    let stop = c.stop.ensures.stopped mid marked-mid high in
+    record {
+      stop = record { moment = stop.moment; from = omega (arith, low, stop.from); until = stop.until; found-as = stop.found-as };
+      closing = λ closing. stop.from;
+      at-end = λ behind. let is = c.in-Closing.is in absurd cc;
+    }
+
+pub returns-in-Opening-clause-stopped : goal.returns-in-Opening-clause-stopped
+returns-in-Opening-clause-stopped g c = λ first mid marked-first marked-mid low high. record {
+  stop = c.stop-in-Opening.ensures.stopped first marked-first (omega (arith, low, high));
+  closing = λ closing. let is = c.in-Opening.is in absurd cc;
+  at-end = λ behind. let is = c.in-Opening.is in absurd cc;
+}

@@ -10,8 +10,8 @@ returns-in-Ok-clause-some g c = λ image crash.
 
 pub returns-in-Ok-clause-all : goal.returns-in-Ok-clause-all
 returns-in-Ok-clause-all g c = λ none image crash.
-    all_given g.B.Group.site.opened (halves_of c.args.parts.flush.writer).geometry c.args.parts.seats.items _ c.in-Ok.closed.commits.items
-    c.in-Ok.ensures.commits image (c.in-Ok.ensures.device image crash)
+    all_given g.D.Device.past_of g.B.Group.site.opened (halves_of c.args.parts.flush.writer).geometry c.args.parts.seats.items _ _ _ _
+    c.in-Ok.ensures.closed image crash
 
 pub returns-in-Err-clause-some : goal.returns-in-Err-clause-some
 returns-in-Err-clause-some g c = λ image crash.

@@ -1,9 +1,9 @@
-use Rattle.std.proofs.Common.{List, [], ◌∷◌, length, take, ap, sym, subst, arith, length-append}
+use Rattle.std.proofs.Common.{List, [], length, take, ap, sym, subst, arith}
 use Rattle.std.proofs.lemmas.List.{take_all}
 use Rattle.headline.specs.declared.day.Day.{Day}
 use Rattle.headline.specs.Days.{Answer}
 use Rattle.headline.specs.Kept.{KeepsDays}
-use Rattle.headline.proofs.Stopped.{day_more}
+use Rattle.headline.proofs.Stopped.{day_more, one_more}
 use Rattle.headline.proofs.daily.live_each_day.Goals as goal
 
 pub loop-day-init : goal.loop-day-init
@@ -20,7 +20,7 @@ loop-day-preserved g c =
     let answers = c.loop-day.answers.items in
     let answer = c.live_one_day-answer.result.0 in
     record {
-      even = omega (arith, inv.even, ap length c.in-Ok-push.ensures.items, length-append answers (answer ∷ []));
+      even = one_more {X = Answer g.row.A.Denot} answers c.push.new.self.items answer c.loop-day.day-index inv.even c.in-Ok-push.ensures.items;
       room = omega (arith, inv.room, c.push.ensures.capacity);
       keeps = λ size began keeps.
           day_more g.D.Device.past_of g.D.Device.failures size began c.args.days.now c.loop-day.day-index c.day-item.result answers c.push.new.self.items answer

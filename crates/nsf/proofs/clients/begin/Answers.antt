@@ -1,17 +1,22 @@
 use Rattle.std.proofs.Common.{IfErr, ap, arith, subst}
-use Rattle.nsf.specs.Serving.{WhyUnwritten, LeavesWork}
+use Rattle.std.specs.Fn.{FnOnceReturnsAt}
+use Rattle.nsf.specs.Serving.{HadEnded, WhyUnwritten, LeavesWork}
 use Rattle.nsf.proofs.clients.begin.Goals as goal
 
 pub returns-in-Ok-seat_all-clause-why : goal.returns-in-Ok-seat_all-clause-why
 returns-in-Ok-seat_all-clause-why g c =
     let failures = g.D.Device.failures in
-    let served = c.in-Ok-seat_all.served in
+    let served = c.in-Ok-seat_all.served.0 in
     subst (λ d. IfErr served.written (WhyUnwritten (failures d) (failures served.device))) c.in-Ok.ensures.device c.in-Ok-seat_all.ensures.why
 
 pub returns-in-Ok-seat_all-clause-leaves : goal.returns-in-Ok-seat_all-clause-leaves
 returns-in-Ok-seat_all-clause-leaves g c =
-    let served = c.in-Ok-seat_all.served in
-    subst (λ d. LeavesWork g.D.Device.past_of g.C.Client.works g.B.Group.site.opened c.args.clients.items served.clients.items d served.device served.written)
+    let past_of = g.D.Device.past_of in
+    let served = c.in-Ok-seat_all.served.0 in
+    let seen = c.in-Ok-seat_all.served.1 in
+    subst (λ d. (work : LeavesWork past_of g.C.Client.works g.B.Group.site.opened c.args.clients.items served.clients.items d served.device served.written)
+    × HadEnded past_of (λ was. FnOnceReturnsAt g.F.FnOnce c.args.see was seen) g.B.Group.site.opened work.leaves.geometry work.seats work.leaves.popped
+    work.floor d served.device)
     c.in-Ok.ensures.device c.in-Ok-seat_all.ensures.leaves
 
 pub returns-in-Ok-seat_all-clause-later : goal.returns-in-Ok-seat_all-clause-later

@@ -1,4 +1,5 @@
 use Rattle.std.proofs.Common.{⊎_elim, arith, inl, inr}
+use Rattle.std.proofs.Math.Logic.{∥∥₁_map}
 use Rattle.store_writer.specs.Parts.{halves_of}
 use Rattle.nsf.proofs.Published.{newest_kept}
 use Rattle.threads_flusher.specs.Part.{popped_by}
@@ -15,13 +16,13 @@ returns-in-Ok-clause-leaves g c = record {
       c.stands.ensures.newest c.in-Ok.ensures.published;
   newest = c.stands.ensures.newest;
   published = c.in-Ok.ensures.published;
-  all = record {
-    commits = c.in-Ok.closed.commits.items;
-    of_seats = c.in-Ok.ensures.commits;
+  all = ∥∥₁_map c.in-Ok.ensures.closed (λ h. record {
+    commits = h.commits;
+    of_seats = h.of_seats;
     core = value_of c.in-Ok.closed.core;
-    left = c.in-Ok.ensures.core;
-    gives = c.in-Ok.ensures.device;
-  };
+    left = h.of_core;
+    gives = h.gives;
+  });
 }
 
 pub returns-in-Err-clause-leaves : goal.returns-in-Err-clause-leaves

@@ -1,12 +1,14 @@
-use Rattle.std.proofs.Common.{List, ap, arith, map, subst, sym, ◌++◌, ◌∙◌}
+use Rattle.std.proofs.Common.{List, ap, arith, map, subst, sym, ◌++◌, ◌∙◌, ◌≤◌}
+use Rattle.std.proofs.lemmas.List.Elements.{All-weaker}
 use Rattle.threads_lifetime.specs.Gathered.{AreAllSeats}
 use Rattle.shared.specs.Seats.{SeatValue}
 use Rattle.sector_device.specs.DevicePast.{LeavesOnly}
 use Rattle.store_writer.specs.Parts.{device_of, has_failed, synced_of}
+use Rattle.threads_flusher.specs.Part.{IsKept, Publication}
 use Rattle.threads_lifetime.specs.Closing.{GivesSome}
-use Rattle.nsf.specs.Serving.{HaveWorked, TellsBuild}
+use Rattle.nsf.specs.Serving.{HaveWorked, IsLaterPast, TellsBuild}
 use Rattle.nsf.proofs.Orders.{all_left, all_new, all_worked, new_session}
-use Rattle.nsf.proofs.Published.{since_first}
+use Rattle.nsf.proofs.Published.{since_first, since_newest}
 use Rattle.nsf.proofs.Refusals.{unwritten_since}
 use Rattle.nsf.proofs.clients.seat_all.Goals as goal
 
@@ -43,25 +45,37 @@ returns-in-Ok-run_all-clause-leaves g c =
     let new = c.requires.flush in
     let left = c.end.ensures.leaves in
     let leaves = left.2 in
-    record {
-      seats = left.0;
-      publications = mid.publications;
-      floor = floor;
-      leaves = leaves;
-      since =
-          subst (λ n. LeavesOnly (past_of (device_of w)) (past_of c.end.result.device)
-          (λ image. ∥ GivesSome o leaves.geometry left.0 leaves.popped n image ∥₁)) new.synced
-          (since_first (λ n image. ∥ GivesSome o leaves.geometry left.0 leaves.popped n image ∥₁) (past_of (device_of w))
-          (past_of (device_of mid.writer)) (past_of c.end.result.device) mid.publications going.since (synced_of w)
-          (going.publications ∙ ap (λ l. l ++ going.since) new.publications) leaves.published
-          (record { later = going.images.later; kept = going.images.kept }) c.end.ensures.goes);
-      worked =
-          subst (λ (clients : List _). HaveWorked works floor clients c.end.result.clients.items left.0) c.in-Ok.ensures.order
-          (subst (λ (after : List _). HaveWorked works floor (map (λ d. d.client) c.in-Ok.desks.items) after left.0) (sym c.end.ensures.order)
-          (all_worked (λ d. d.client) (λ d. d.seat) works floor c.in-Ok.desks c.in-Ok-run_all.ended.clients left.0 c.in-Ok-run_all.ensures.len
-          left.1 (new_session (λ d. d.seat) z.board z.seats c.args.parts.seats.items c.in-Ok.desks.items c.in-Ok.ensures.seats c.requires.seats)
-          c.in-Ok-run_all.ensures.worked c.end.ensures.seen));
-    }
+    let before : IsLaterPast (past_of (device_of w)) (past_of (device_of mid.writer)) =
+    record { later = going.images.later; kept = going.images.kept } in (
+      record {
+        seats = left.0;
+        publications = mid.publications;
+        floor = floor;
+        leaves = leaves;
+        since =
+            subst (λ n. LeavesOnly (past_of (device_of w)) (past_of c.end.result.device)
+            (λ image. ∥ GivesSome o leaves.geometry left.0 leaves.popped n image ∥₁)) new.synced
+            (since_first (λ n image. ∥ GivesSome o leaves.geometry left.0 leaves.popped n image ∥₁) (past_of (device_of w))
+            (past_of (device_of mid.writer)) (past_of c.end.result.device) mid.publications going.since (synced_of w)
+            (going.publications ∙ ap (λ l. l ++ going.since) new.publications) leaves.published before c.end.ensures.goes);
+        worked =
+            subst (λ (clients : List _). HaveWorked works floor clients c.end.result.clients.items left.0) c.in-Ok.ensures.order
+            (subst (λ (after : List _). HaveWorked works floor (map (λ d. d.client) c.in-Ok.desks.items) after left.0) (sym c.end.ensures.order)
+            (all_worked (λ d. d.client) (λ d. d.seat) works floor c.in-Ok.desks c.in-Ok-run_all.ended.clients left.0 c.in-Ok-run_all.ensures.len
+            left.1 (new_session (λ d. d.seat) z.board z.seats c.args.parts.seats.items c.in-Ok.desks.items c.in-Ok.ensures.seats c.requires.seats)
+            c.in-Ok-run_all.ensures.worked c.end.ensures.seen));
+      },
+      record {
+        was = device_of mid.writer;
+        shows = (c.device.result, c.see-seen.ensures, c.device.ensures);
+        before = before;
+        since = since_newest (λ n image. ∥ GivesSome o leaves.geometry left.0 leaves.popped n image ∥₁) (past_of (device_of mid.writer))
+            (past_of c.end.result.device) mid.publications floor leaves.newest
+            (All-weaker (IsKept past_of o mid) (λ (p : Publication). p.moment ≤ (past_of (device_of mid.writer)).moment) (λ p kept. kept.1.later)
+            mid.publications c.stands.ensures.kept)
+            leaves.published c.end.ensures.goes;
+      },
+    )
 
 pub returns-in-Ok-run_all-clause-later : goal.returns-in-Ok-run_all-clause-later
 returns-in-Ok-run_all-clause-later g c = omega (arith, c.in-Ok-run_all.ensures.going.later, c.end.ensures.later)
