@@ -18,7 +18,7 @@ use Rattle.model.specs.Given.{opening_cells}
 use Rattle.model.specs.Redo.{cells_of}
 use Rattle.model.specs.declared.life.Life.{Life}
 use Rattle.model.specs.declared.life.Life.TheVariants.{Absent, Building, Complete}
-use Rattle.txn_table.specs.Sound.{IsSound}
+use Rattle.txn_table.specs.Sound.{IsSoundTable}
 use Rattle.core_model.specs.Histories.{Opened, no_writes}
 use Rattle.core_model.specs.Events.{Event, Reply}
 use Rattle.core_model.specs.Served.{items_of}
@@ -73,7 +73,7 @@ module _ (o : Opened) (core : CoreValue) (pushed : List RecordValue) (book : Lis
   last_number = ∥∥₁_elim shared (Coded-set coded_ℕ _ _) (λ (h : IsShared o core pushed book).
       numbered o h.opens h.register.kept.calls pushed core h.register.kept.replied)
 
-  module _ (sound : IsSound core.txns) where
+  module _ (sound : IsSoundTable core.txns) where
     abbrev all : Cells
     all = cells_after (opening_cells o.given) (pushed ++ core.outbox)
 
@@ -110,7 +110,7 @@ module _ (o : Opened) (core : CoreValue) (pushed : List RecordValue) (book : Lis
         let number : core.last ≡ o.given.last + length (pushed ++ core.outbox) = last_number in
         ap (cells_after (opening_cells o.given)) (take_all (core.last - o.given.last) (pushed ++ core.outbox) (omega (arith, number)))
 
-    pub cells_now : IsSound core.txns → IsCellsOf core (cells_at run core.last)
+    pub cells_now : IsSoundTable core.txns → IsCellsOf core (cells_at run core.last)
     cells_now sound = subst (IsCellsOf core) (sym cells_end) (all_shown sound)
 
     pub store_now : g.pages ≡ o.pages → g.entries ≡ o.places → IsOfGeometry core g

@@ -49,7 +49,7 @@ use std::marker::PhantomData;
 use std::sync::Wait;
 use store_image_model::{Chunk, CopyPlace};
 use threads_queue::{Memory, Popper, Pusher, RecordQueue};
-use threads_sessions::{Half, Registry};
+use threads_sessions::{Half, Keeping, Registry};
 
 /// What lies under the lock: the core, the end of the queue that its records go to, and a half of each seat's session.
 /// To a contract it is a `LockedValue`.
@@ -153,7 +153,7 @@ impl<B: Group, A: Memory> Locked<B, A> {
     }
 
     /// Brings both halves of the seat's session together, which tells that they show the same. Nothing changes.
-    pub fn compare_seat(&mut self, registry: &Registry<A>, seat: &mut SeatPart<B, A>)
+    pub fn compare_seat<K: Keeping>(&mut self, registry: &Registry<A>, seat: &mut SeatPart<B, A, K>)
         requires { registry.now ≡ B.site.table }
         ensures before { slice_get (locked_of self.old).book seat.old.number ≡ Some seat.old.session }
         ensures seat { seat.new ≡ seat.old }
@@ -165,7 +165,11 @@ impl<B: Group, A: Memory> Locked<B, A> {
     /// Begins a transaction of the seat.
     ///
     /// The refusals are those of the core's `begin`. After a refusal all is as before.
-    pub fn begin(&mut self, registry: &Registry<A>, seat: &mut SeatPart<B, A>) -> Result<Txn, Error>
+    pub fn begin<K: Keeping>(
+        &mut self,
+        registry: &Registry<A>,
+        seat: &mut SeatPart<B, A, K>,
+    ) -> Result<Txn, Error>
         requires { registry.now ≡ B.site.table }
         ensures before { slice_get (locked_of self.old).book seat.old.number ≡ Some seat.old.session }
         ensures served { Serves (locked_of self.old).core Event.Begin (reply_by Reply.Txn result)
@@ -185,10 +189,10 @@ impl<B: Group, A: Memory> Locked<B, A> {
     /// Inserts a row in a transaction of the seat: the first step.
     ///
     /// The refusals are those of the session's `insert`. After a refusal all is as before.
-    pub fn insert(
+    pub fn insert<K: Keeping>(
         &mut self,
         registry: &Registry<A>,
-        seat: &mut SeatPart<B, A>,
+        seat: &mut SeatPart<B, A, K>,
         txn: Txn,
         key: Key,
         body: Body,
@@ -221,10 +225,10 @@ impl<B: Group, A: Memory> Locked<B, A> {
     /// Deletes a row in a transaction of the seat: the first step.
     ///
     /// The refusals are those of the session's `delete`. After a refusal all is as before.
-    pub fn delete(
+    pub fn delete<K: Keeping>(
         &mut self,
         registry: &Registry<A>,
-        seat: &mut SeatPart<B, A>,
+        seat: &mut SeatPart<B, A, K>,
         txn: Txn,
         rid: Rid,
     ) -> Result<(), Error>
@@ -256,10 +260,10 @@ impl<B: Group, A: Memory> Locked<B, A> {
     /// Puts another row in place of a row, in a transaction of the seat: the first step.
     ///
     /// The refusals are those of the session's `update`. After a refusal all is as before.
-    pub fn update(
+    pub fn update<K: Keeping>(
         &mut self,
         registry: &Registry<A>,
-        seat: &mut SeatPart<B, A>,
+        seat: &mut SeatPart<B, A, K>,
         txn: Txn,
         rid: Rid,
         key: Key,
@@ -293,10 +297,10 @@ impl<B: Group, A: Memory> Locked<B, A> {
     /// Makes the next step that takes a change of a transaction of the seat back, or answers that none is left.
     ///
     /// The refusals are those of the session's `undo_step`. After a refusal all is as before.
-    pub fn undo_step(
+    pub fn undo_step<K: Keeping>(
         &mut self,
         registry: &Registry<A>,
-        seat: &mut SeatPart<B, A>,
+        seat: &mut SeatPart<B, A, K>,
         txn: Txn,
     ) -> Result<Undone, Error>
         requires { registry.now ≡ B.site.table }
@@ -318,14 +322,14 @@ impl<B: Group, A: Memory> Locked<B, A> {
         undone
     }
 
-    /// Creates the index, and keeps the number of its record with the seat. The record that is made is the creation,
-    /// with the ticket's number.
+    /// Creates the index. The seat's session tells of it, with the number of its record. The record that is made is the
+    /// creation, with the ticket's number.
     ///
     /// The refusals are those of the core's `create_index`. After a refusal all is as before.
-    pub fn create_index(
+    pub fn create_index<K: Keeping>(
         &mut self,
         registry: &Registry<A>,
-        seat: &mut SeatPart<B, A>,
+        seat: &mut SeatPart<B, A, K>,
     ) -> Result<Ticket, Error>
         requires { registry.now ≡ B.site.table }
         ensures before { slice_get (locked_of self.old).book seat.old.number ≡ Some seat.old.session }
@@ -345,15 +349,15 @@ impl<B: Group, A: Memory> Locked<B, A> {
         created
     }
 
-    /// Drops the index, be it complete or not, and keeps the number of its record with the seat. The record that is
-    /// made is the dropping, with the ticket's number. The entries that the index had are answered, for the caller to
-    /// let go, best behind the lock.
+    /// Drops the index, be it complete or not. The seat's session tells of it, with the number of its record. The
+    /// record that is made is the dropping, with the ticket's number. The entries that the index had are answered, for
+    /// the caller to let go, best behind the lock.
     ///
     /// The refusals are those of the core's `drop_index`. After a refusal all is as before.
-    pub fn drop_index(
+    pub fn drop_index<K: Keeping>(
         &mut self,
         registry: &Registry<A>,
-        seat: &mut SeatPart<B, A>,
+        seat: &mut SeatPart<B, A, K>,
     ) -> Result<Detached<A>, Error>
         requires { registry.now ≡ B.site.table }
         ensures before { slice_get (locked_of self.old).book seat.old.number ≡ Some seat.old.session }
@@ -377,10 +381,10 @@ impl<B: Group, A: Memory> Locked<B, A> {
     /// Makes the step that a transaction of the seat owes.
     ///
     /// The refusals are those of the session's `next_step`. After a refusal all is as before.
-    pub fn next_step(
+    pub fn next_step<K: Keeping>(
         &mut self,
         registry: &Registry<A>,
-        seat: &mut SeatPart<B, A>,
+        seat: &mut SeatPart<B, A, K>,
         txn: Txn,
     ) -> Result<(), Error>
         requires registry { registry.now ≡ B.site.table }
@@ -410,10 +414,10 @@ impl<B: Group, A: Memory> Locked<B, A> {
     /// Ends a transaction of the seat that has no change left. It is none of the seat's from then on.
     ///
     /// The refusals are those of the session's `end`. After a refusal all is as before.
-    pub fn end(
+    pub fn end<K: Keeping>(
         &mut self,
         registry: &Registry<A>,
-        seat: &mut SeatPart<B, A>,
+        seat: &mut SeatPart<B, A, K>,
         txn: Txn,
     ) -> Result<(), Error>
         requires registry { registry.now ≡ B.site.table }
@@ -441,10 +445,10 @@ impl<B: Group, A: Memory> Locked<B, A> {
     /// the seat's session. The record that is made is the transaction's commit, with the ticket's number.
     ///
     /// The refusals are those of the session's `commit`. After a refusal all is as before.
-    pub fn commit(
+    pub fn commit<K: Keeping>(
         &mut self,
         registry: &Registry<A>,
-        seat: &mut SeatPart<B, A>,
+        seat: &mut SeatPart<B, A, K>,
         txn: Txn,
     ) -> Result<Ticket, Error>
         requires registry { registry.now ≡ B.site.table }
@@ -567,7 +571,7 @@ impl<B: Group, A: Memory> Locked<B, A> {
         ensures store { (g : GeometryValue) → g.pages ≡ B.site.opened.pages → g.entries ≡ B.site.opened.places
             → IsOfGeometry (locked_of self.now).core g }
     {
-        let _txns = self.core.active_txns();
+        self.core.stands();
     }
 
     /// All cells, as a chunk with the number of the last record made: they are those that the records pushed and then

@@ -7,18 +7,18 @@ use records::Txn;
 use std::alloc::Global;
 use std::marker::{Model, PhantomData};
 use threads_queue::Memory;
-use threads_sessions::{Half, Session};
+use threads_sessions::{Half, Keeping, Session, Told};
 
 /// A seat's session, with the half of it that is tied to the one under the lock. To a contract it is a `SeatValue`.
 #[derive(Drop)]
-pub struct SeatPart<B: Group, A: Memory = Global> {
+pub struct SeatPart<B: Group, A: Memory = Global, K: Keeping = Told> {
     pub(crate) number: usize,
-    pub(crate) session: Session<A>,
+    pub(crate) session: Session<A, K>,
     pub(crate) half: Half<A>,
     pub(crate) site: PhantomData<B>,
 }
 
-impl<B: Group, A: Memory> Model for SeatPart<B, A> {
+impl<B: Group, A: Memory, K: Keeping> Model for SeatPart<B, A, K> {
     ghost use Rattle.std.specs.Prelude.{◌≡◌, ◌<◌};
     ghost use Rattle.locked_core.specs.Seats.{SeatValue};
 
@@ -30,9 +30,9 @@ impl<B: Group, A: Memory> Model for SeatPart<B, A> {
         × (s.number < B.site.seats) };
 }
 
-impl<B: Group, A: Memory> SeatPart<B, A> {
+impl<B: Group, A: Memory, K: Keeping> SeatPart<B, A, K> {
     /// The seat of this number, with nothing in its session.
-    pub fn new(alloc: A, number: usize, half: Half<A>) -> SeatPart<B, A>
+    pub fn new(alloc: A, number: usize, half: Half<A>) -> SeatPart<B, A, K>
         requires half { half ≡ record { table = B.site.table; number = number; session = empty_session } }
         requires number { number < B.site.seats }
         ensures { result ≡ record { number = number; session = empty_session } }
@@ -46,7 +46,7 @@ impl<B: Group, A: Memory> SeatPart<B, A> {
     }
 
     /// The session.
-    pub fn into_session(self) -> Session<A>
+    pub fn into_session(self) -> Session<A, K>
         ensures { result ≡ self.session }
     {
         let SeatPart {

@@ -12,6 +12,7 @@ use crate::shared::Shared;
 use locked_core::{Group, Memory};
 use records::{Error, Txn};
 use std::sync::Wait;
+use threads_sessions::Keeping;
 
 impl<B: Group, A: Memory> Shared<B, A> {
     /// Takes all changes of a transaction of the seat back, each step under the lock anew, and then ends it: it is none
@@ -20,7 +21,12 @@ impl<B: Group, A: Memory> Shared<B, A> {
     /// `NoSuchTxn` where the transaction isn't one of the seat's, and else the refusals of the core's `undo_step` and
     /// `end`. After one of them the transaction is as before or rolling back. The undo steps that were made stay made
     /// (`undone`), and `abort`, called again, goes on from there (law `each_refusal`).
-    pub fn abort<R: Wait>(&self, rt: &R, seat: &mut Seat<B, A>, txn: Txn) -> Result<(), Error>
+    pub fn abort<R: Wait, K: Keeping>(
+        &self,
+        rt: &R,
+        seat: &mut Seat<B, A, K>,
+        txn: Txn,
+    ) -> Result<(), Error>
         ensures foreign { is_active seat.old.session txn ≡ false → (result ≡ Err NoSuchTxn) × (seat.new ≡ seat.old) }
         ensures ok { OnOk result (seat.new.session ≡ ended seat.old.session txn) }
         ensures aborted { OnOk result ∥ WasAborted B.site.opened seat.old.number seat.old.session txn ∥₁ }
@@ -48,7 +54,12 @@ impl<B: Group, A: Memory> Shared<B, A> {
 
     // The end of a transaction that has no change left, or else a step that takes a change back; answers whether it was
     // the end.
-    fn take_back<R: Wait>(&self, rt: &R, seat: &mut Seat<B, A>, txn: Txn) -> Result<bool, Error>
+    fn take_back<R: Wait, K: Keeping>(
+        &self,
+        rt: &R,
+        seat: &mut Seat<B, A, K>,
+        txn: Txn,
+    ) -> Result<bool, Error>
         requires { is_active seat.old.session txn ≡ true }
         ensures last { IfOk result (λ last. last ≡ true → seat.new.session ≡ ended seat.old.session txn) }
         ensures taken { IfOk result (λ last. last ≡ true

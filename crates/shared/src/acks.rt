@@ -11,6 +11,7 @@ use std::hint;
 use std::marker::PhantomData;
 use std::sync::Wait;
 use std::time::Duration;
+use threads_sessions::Keeping;
 
 // A seat looks so often for the horizon before it sleeps, and no sleep is longer than so many microseconds.
 const LOOKS: u32 = 128;
@@ -23,7 +24,7 @@ const LONGEST_SLEEP: u64 = 1_000;
 impl<B: Group, A: Memory> Shared<B, A> {
     /// Whether the record of the ticket is safe on the device, by the horizon as it is read now. It takes no memory and
     /// waits for nothing.
-    pub fn is_acked(&self, seat: &mut Seat<B, A>, ticket: Ticket) -> bool
+    pub fn is_acked<K: Keeping>(&self, seat: &mut Seat<B, A, K>, ticket: Ticket) -> bool
         ensures reached { IsTrue result ↔ (ticket.«record» ≤ seat.new.sight.horizon) }
         ensures seen { seat.new ≡ record seat.old {
           sight = record seat.old.sight {
@@ -37,7 +38,7 @@ impl<B: Group, A: Memory> Shared<B, A> {
     }
 
     // An acknowledgement, where the horizon that is read reaches the record.
-    fn try_ack(&self, seat: &mut Seat<B, A>, ticket: &Ticket) -> Option<Ack<B>>
+    fn try_ack<K: Keeping>(&self, seat: &mut Seat<B, A, K>, ticket: &Ticket) -> Option<Ack<B>>
         ensures acked { IfSome result (λ ack. IsAcked ticket.now seat.old seat.new ack) }
         ensures none { IfNone result (seat.new.sight.horizon < ticket.now.«record») }
         ensures seen { IfNone result (seat.new ≡ record seat.old
@@ -56,7 +57,7 @@ impl<B: Group, A: Memory> Shared<B, A> {
     }
 
     // Why the seat waits no longer, if so.
-    fn ended(&self, seat: &mut Seat<B, A>) -> Option<Error>
+    fn ended<K: Keeping>(&self, seat: &mut Seat<B, A, K>) -> Option<Error>
         ensures why { IfSome result (λ e. HasReadWhy e seat.old seat.new) }
         ensures none { IfNone result (seat.new ≡ record seat.old { sight = record seat.old.sight { checked = true } }) }
         ensures unfailed { IfNone result (seat.old.sight.failed ≡ false) }
@@ -78,10 +79,10 @@ impl<B: Group, A: Memory> Shared<B, A> {
     /// stop; neither where the horizon that was read last reaches the record, and each by the failed flag as it was
     /// read behind that horizon. After an error the seat has seen a horizon and the flag that says why, after `Ok` a
     /// horizon, and no more.
-    pub fn await_ack<R: Wait>(
+    pub fn await_ack<R: Wait, K: Keeping>(
         &self,
         rt: &R,
-        seat: &mut Seat<B, A>,
+        seat: &mut Seat<B, A, K>,
         ticket: Ticket,
     ) -> Result<Ack<B>, Error>
         ensures acked { IfOk result (λ ack. IsAcked ticket seat.old seat.new ack) }
@@ -118,7 +119,7 @@ impl<B: Group, A: Memory> Shared<B, A> {
 
     /// How many attempts the builder has made since the store was opened, as it has published. It takes no memory and
     /// waits for nothing.
-    pub fn progress(&self, seat: &mut Seat<B, A>) -> u64
+    pub fn progress<K: Keeping>(&self, seat: &mut Seat<B, A, K>) -> u64
         ensures seen { seat.new ≡ record seat.old { sight = record seat.old.sight { progress = result } } }
         ensures rises { seat.old.sight.progress ≤ result }
     {
@@ -127,7 +128,7 @@ impl<B: Group, A: Memory> Shared<B, A> {
 
     /// Sets the stop flag, by which all threads are asked to stop. It takes no memory and waits for nothing. (That
     /// those that sleep are woken, no clause says.)
-    pub fn stop(&self, seat: &mut Seat<B, A>)
+    pub fn stop<K: Keeping>(&self, seat: &mut Seat<B, A, K>)
         ensures { seat.new ≡ record seat.old { sight = record seat.old.sight { stopped = true; stops = true } } }
     {
         self.board.stop(&mut seat.view);

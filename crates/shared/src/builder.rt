@@ -27,6 +27,17 @@ impl<B: Group> Model for BuildPart<B> {
 }
 
 impl<B: Group> BuildPart<B> {
+    // The part that has this view of the group's board.
+    pub(crate) fn new(view: BuildView) -> BuildPart<B>
+        requires { view.board ≡ B.site.board }
+        ensures { result ≡ record { progress = view.progress; stopped = view.stopped } }
+    {
+        BuildPart {
+            view,
+            site: PhantomData,
+        }
+    }
+
     /// Raises the count of attempts that is published. A number that is not above it changes nothing.
     pub fn raise_progress<A: Memory>(&mut self, shared: &Shared<B, A>, progress: u64)
         ensures { self.new ≡ record self.old { progress = max self.old.progress progress } }

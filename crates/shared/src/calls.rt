@@ -18,12 +18,13 @@ use model::Life;
 use nsf_core::Ticket;
 use records::{Error, Key, Rid, Row, Txn};
 use std::sync::Wait;
+use threads_sessions::Keeping;
 
 impl<B: Group, A: Memory> Shared<B, A> {
     /// Begins a transaction of the seat.
     ///
     /// The refusals are those of the core's `begin`. After a refusal the seat is as before.
-    pub fn begin<R: Wait>(&self, rt: &R, seat: &mut Seat<B, A>) -> Result<Txn, Error>
+    pub fn begin<R: Wait, K: Keeping>(&self, rt: &R, seat: &mut Seat<B, A, K>) -> Result<Txn, Error>
         ensures served { ∥ WasServedTo B.site.opened seat.old.number seat.old.session Event.Begin
             (reply_by Reply.Txn result) ∥₁ }
         ensures ok { IfOk result (λ txn. seat.new ≡ record seat.old { session = begun seat.old.session txn }) }
@@ -39,7 +40,12 @@ impl<B: Group, A: Memory> Shared<B, A> {
     ///
     /// `NoSuchTxn` where the transaction isn't one of the seat's, and else the refusals of the core's `commit`. After a
     /// refusal the seat is as before.
-    pub fn commit<R: Wait>(&self, rt: &R, seat: &mut Seat<B, A>, txn: Txn) -> Result<Ticket, Error>
+    pub fn commit<R: Wait, K: Keeping>(
+        &self,
+        rt: &R,
+        seat: &mut Seat<B, A, K>,
+        txn: Txn,
+    ) -> Result<Ticket, Error>
         requires { is_active seat.old.session txn ≡ true → is_ready seat.old.session txn ≡ true }
         ensures foreign { is_active seat.old.session txn ≡ false → result ≡ Err NoSuchTxn }
         ensures served { is_active seat.old.session txn ≡ true
@@ -57,10 +63,14 @@ impl<B: Group, A: Memory> Shared<B, A> {
         committed
     }
 
-    /// Creates the index, and keeps the number of its record with the seat.
+    /// Creates the index. The seat's session tells of it, with the number of its record.
     ///
     /// The refusals are those of the core's `create_index`. After a refusal the seat is as before.
-    pub fn create_index<R: Wait>(&self, rt: &R, seat: &mut Seat<B, A>) -> Result<Ticket, Error>
+    pub fn create_index<R: Wait, K: Keeping>(
+        &self,
+        rt: &R,
+        seat: &mut Seat<B, A, K>,
+    ) -> Result<Ticket, Error>
         ensures served { ∥ WasServedTo B.site.opened seat.old.number seat.old.session Event.Create
             (reply_by reply_of_ticket result) ∥₁ }
         ensures ok { IfOk result (λ ticket. seat.new ≡ record seat.old
@@ -76,11 +86,15 @@ impl<B: Group, A: Memory> Shared<B, A> {
         created
     }
 
-    /// Drops the index, be it complete or not, and keeps the number of its record with the seat. Its entries are freed
-    /// behind the lock (no clause says so).
+    /// Drops the index, be it complete or not. The seat's session tells of it, with the number of its record. Its
+    /// entries are freed behind the lock (no clause says so).
     ///
     /// The refusals are those of the core's `drop_index`. After a refusal the seat is as before.
-    pub fn drop_index<R: Wait>(&self, rt: &R, seat: &mut Seat<B, A>) -> Result<Ticket, Error>
+    pub fn drop_index<R: Wait, K: Keeping>(
+        &self,
+        rt: &R,
+        seat: &mut Seat<B, A, K>,
+    ) -> Result<Ticket, Error>
         ensures served { ∥ WasServedTo B.site.opened seat.old.number seat.old.session Event.Drop
             (reply_by reply_of_ticket result) ∥₁ }
         ensures ok { IfOk result (λ ticket. seat.new ≡ record seat.old
@@ -100,7 +114,12 @@ impl<B: Group, A: Memory> Shared<B, A> {
     /// transaction of the seat holds the place, that is the row which the seat's session has for it.
     ///
     /// What the queue had refused is pushed first (no clause says so).
-    pub fn get<R: Wait>(&self, rt: &R, seat: &mut Seat<B, A>, rid: Rid) -> Option<Row>
+    pub fn get<R: Wait, K: Keeping>(
+        &self,
+        rt: &R,
+        seat: &mut Seat<B, A, K>,
+        rid: Rid,
+    ) -> Option<Row>
         ensures served { ∥ WasServedTo B.site.opened seat.old.number seat.old.session (Event.Get rid)
             (Reply.RowIs result) ∥₁ }
         ensures own { (txn : ℕ) (row : Option RowValue) → row_of seat.old.session txn rid ≡ Some row → result ≡ row }
@@ -113,20 +132,46 @@ impl<B: Group, A: Memory> Shared<B, A> {
         locked.get(rid)
     }
 
-    /// The places of the rows with this key, by the index, as a core has it that may lie under the lock.
+    /// The places of the rows with this key, by the index, as a core has it that may lie under the lock. That core has
+    /// all that the seat's session tells: each commit, creation and dropping, and each row of an active transaction.
     ///
     /// The refusals are those of the core's `find`. What the queue had refused is pushed first (no clause says so).
-    pub fn find<R: Wait>(&self, rt: &R, key: Key) -> Result<Vec<Rid, A>, Error>
-        ensures { ∥ WasServed B.site.opened (Event.Find key) (reply_by (λ rids. Reply.Found rids.items) result) ∥₁ }
+    pub fn find<R: Wait, K: Keeping>(
+        &self,
+        rt: &R,
+        seat: &mut Seat<B, A, K>,
+        key: Key,
+    ) -> Result<Vec<Rid, A>, Error>
+        ensures served { ∥ WasServedTo B.site.opened seat.old.number seat.old.session (Event.Find key)
+            (reply_by (λ rids. Reply.Found rids.items) result) ∥₁ }
+        ensures seat { seat.new ≡ seat.old }
     {
-        let mut locked = self.hold(rt);
+        let mut guard = self.hold(rt);
+        let locked = &mut *guard;
         locked.push_outbox(rt, &self.queue);
+        locked.compare_seat(&self.registry, &mut seat.part);
         locked.find(key)
     }
 
-    /// How far the index is, in a core that may lie under the lock. What the queue had refused is pushed first (no
-    /// clause says so).
-    pub fn life<R: Wait>(&self, rt: &R) -> Life
+    /// How far the index is, in a core that may lie under the lock. That core has all that the seat's session tells.
+    ///
+    /// What the queue had refused is pushed first (no clause says so).
+    pub fn life<R: Wait, K: Keeping>(&self, rt: &R, seat: &mut Seat<B, A, K>) -> Life
+        ensures served { ∥ WasServedTo B.site.opened seat.old.number seat.old.session Event.Life
+            (Reply.LifeIs result) ∥₁ }
+        ensures seat { seat.new ≡ seat.old }
+    {
+        let mut guard = self.hold(rt);
+        let locked = &mut *guard;
+        locked.push_outbox(rt, &self.queue);
+        locked.compare_seat(&self.registry, &mut seat.part);
+        locked.life()
+    }
+
+    /// How far the index is, for a thread that has no seat, in a core that may lie under the lock.
+    ///
+    /// What the queue had refused is pushed first (no clause says so).
+    pub fn life_without_seat<R: Wait>(&self, rt: &R) -> Life
         ensures { ∥ WasServed B.site.opened Event.Life (Reply.LifeIs result) ∥₁ }
     {
         let mut locked = self.hold(rt);

@@ -13,6 +13,7 @@ use crate::shared::Shared;
 use locked_core::{Group, Memory};
 use records::{Body, Error, Key, Rid, Txn};
 use std::sync::Wait;
+use threads_sessions::Keeping;
 
 /// A change of a row that was begun: the place of the row, and where a later step was refused, why. The change is then
 /// to be finished, by `carry_on`, or its transaction to be taken back, by `abort`.
@@ -28,10 +29,10 @@ impl<B: Group, A: Memory> Shared<B, A> {
     /// `NoSuchTxn` where the transaction isn't one of the seat's, and else the refusals of the core's `start_insert`.
     /// After one of them the seat is as before. With a change comes the refusal of a later step, if one was refused.
     /// The seat has the row then, and holds its place.
-    pub fn insert<R: Wait>(
+    pub fn insert<R: Wait, K: Keeping>(
         &self,
         rt: &R,
-        seat: &mut Seat<B, A>,
+        seat: &mut Seat<B, A, K>,
         txn: Txn,
         key: Key,
         body: Body,
@@ -61,10 +62,10 @@ impl<B: Group, A: Memory> Shared<B, A> {
     ///
     /// The refusals are those of `insert`, with the core's `start_delete` in place of `start_insert`. Where a later
     /// step was refused, the seat holds the place with no row, or with the one that was there (`row`).
-    pub fn delete<R: Wait>(
+    pub fn delete<R: Wait, K: Keeping>(
         &self,
         rt: &R,
-        seat: &mut Seat<B, A>,
+        seat: &mut Seat<B, A, K>,
         txn: Txn,
         rid: Rid,
     ) -> Result<Change, Error>
@@ -92,10 +93,10 @@ impl<B: Group, A: Memory> Shared<B, A> {
     ///
     /// The refusals are those of `insert`, with the core's `start_update` in place of `start_insert`. Where a later
     /// step was refused, the seat holds the place with the new row, or with the one that was there (`row`).
-    pub fn update<R: Wait>(
+    pub fn update<R: Wait, K: Keeping>(
         &self,
         rt: &R,
-        seat: &mut Seat<B, A>,
+        seat: &mut Seat<B, A, K>,
         txn: Txn,
         rid: Rid,
         key: Key,
@@ -127,7 +128,12 @@ impl<B: Group, A: Memory> Shared<B, A> {
     ///
     /// `NoSuchTxn` where the transaction isn't one of the seat's, and else the refusals of the core's `next_step`.
     /// After one of them the change is still to be finished.
-    pub fn carry_on<R: Wait>(&self, rt: &R, seat: &mut Seat<B, A>, txn: Txn) -> Result<(), Error>
+    pub fn carry_on<R: Wait, K: Keeping>(
+        &self,
+        rt: &R,
+        seat: &mut Seat<B, A, K>,
+        txn: Txn,
+    ) -> Result<(), Error>
         ensures foreign { is_active seat.old.session txn ≡ false → (result ≡ Err NoSuchTxn) × (seat.new ≡ seat.old) }
         ensures none { is_active seat.old.session txn ≡ true → unfinished_of seat.old.session txn ≡ None
             → (OnErr result ⊥) × (seat.new ≡ seat.old) }
@@ -149,10 +155,10 @@ impl<B: Group, A: Memory> Shared<B, A> {
     }
 
     // The first step of an insertion.
-    fn start_insert<R: Wait>(
+    fn start_insert<R: Wait, K: Keeping>(
         &self,
         rt: &R,
-        seat: &mut Seat<B, A>,
+        seat: &mut Seat<B, A, K>,
         txn: Txn,
         key: Key,
         body: Body,
@@ -176,10 +182,10 @@ impl<B: Group, A: Memory> Shared<B, A> {
     }
 
     // The first step of a deletion.
-    fn start_delete<R: Wait>(
+    fn start_delete<R: Wait, K: Keeping>(
         &self,
         rt: &R,
-        seat: &mut Seat<B, A>,
+        seat: &mut Seat<B, A, K>,
         txn: Txn,
         rid: Rid,
     ) -> Result<(), Error>
@@ -201,10 +207,10 @@ impl<B: Group, A: Memory> Shared<B, A> {
     }
 
     // The first step of an update.
-    fn start_update<R: Wait>(
+    fn start_update<R: Wait, K: Keeping>(
         &self,
         rt: &R,
-        seat: &mut Seat<B, A>,
+        seat: &mut Seat<B, A, K>,
         txn: Txn,
         rid: Rid,
         key: Key,
@@ -230,7 +236,12 @@ impl<B: Group, A: Memory> Shared<B, A> {
     }
 
     // One step more of a change that is to be finished.
-    fn step_change<R: Wait>(&self, rt: &R, seat: &mut Seat<B, A>, txn: Txn) -> Result<(), Error>
+    fn step_change<R: Wait, K: Keeping>(
+        &self,
+        rt: &R,
+        seat: &mut Seat<B, A, K>,
+        txn: Txn,
+    ) -> Result<(), Error>
         requires { is_unfinished seat.old.session txn ≡ true }
         ensures served { ∥ WasServedTo B.site.opened seat.old.number seat.old.session (Event.Step txn)
             (reply_by (λ _. Reply.Stepped) result) ∥₁ }
@@ -246,7 +257,12 @@ impl<B: Group, A: Memory> Shared<B, A> {
     }
 
     // The steps that are left of a change, each under the lock anew, and the refusal of one, if it was refused.
-    fn finish_change<R: Wait>(&self, rt: &R, seat: &mut Seat<B, A>, txn: Txn) -> Option<Error>
+    fn finish_change<R: Wait, K: Keeping>(
+        &self,
+        rt: &R,
+        seat: &mut Seat<B, A, K>,
+        txn: Txn,
+    ) -> Option<Error>
         ensures none { unfinished_of seat.old.session txn ≡ None → (result ≡ None)
             × (seat.new.session ≡ seat.old.session) }
         ensures changed { (change : Write) → unfinished_of seat.old.session txn ≡ Some change

@@ -26,6 +26,17 @@ impl<B: Group> Model for CleanPart<B> {
 }
 
 impl<B: Group> CleanPart<B> {
+    // The part that has this view of the group's board.
+    pub(crate) fn new(view: View) -> CleanPart<B>
+        requires { view.board ≡ B.site.board }
+        ensures { result ≡ view }
+    {
+        CleanPart {
+            view,
+            site: PhantomData,
+        }
+    }
+
     /// Whether all threads are asked to stop. It stays true once this part has seen it. (Who asked, no clause says.)
     pub fn stopped<A: Memory>(&mut self, shared: &Shared<B, A>) -> bool
         ensures seen { self.new ≡ record self.old { stopped = result } }

@@ -9,8 +9,8 @@
 //! under the lock gives (`served`). `get` of a place that the seat holds answers its own row (`own`). An
 //! acknowledgement is of a ticket that a horizon reached (`acked`), no horizon falls (`rises`), and what the seat has
 //! seen leaves a wait one answer (the law `one_wait`). Neither: that a call which takes the lock or waits returns;
-//! fairness; that `find` or `get` of another's place is of now; that a dropped seat gives its transactions back (they
-//! stay active until the store is opened again).
+//! fairness; that `find`, `life`, or `get` of another's place is of now; that a dropped seat gives its transactions
+//! back (they stay active until the store is opened again).
 #![tactic(auto)]
 
 mod abort;
@@ -34,7 +34,8 @@ pub use cleaner::CleanPart;
 pub use laws::{each_refusal, one_wait};
 pub use locked_core::{Group, Memory};
 pub use opening::{FirstParts, Opening, open};
-pub use parts::Parts;
+pub use parts::{LoopParts, Parts};
 pub use seat::{Ack, Seat};
 pub use shared::Shared;
+pub use threads_sessions::{Keeping, Kept, Told};
 pub use views::GroupView;

@@ -19,7 +19,7 @@ use std::marker::PhantomData;
 use std::sync::Mutex;
 use threads_flusher::FlushEnds;
 use threads_queue::{Popper, Pusher, RecordQueue};
-use threads_sessions::{Half, Registry};
+use threads_sessions::{Half, Keeping, Registry, Told};
 
 /// What is made for the threads, before it has its names.
 #[derive(Drop)]
@@ -41,8 +41,8 @@ pub struct Opening<A: Memory = Global> {
 /// What the threads are given before the flusher has its part: the seats, what that part is made of, and the parts of
 /// the builder and the cleaner.
 #[derive(Drop)]
-pub struct FirstParts<B: Group, A: Memory = Global> {
-    pub seats: Vec<Seat<B, A>, A>,
+pub struct FirstParts<B: Group, A: Memory = Global, K: Keeping = Told> {
+    pub seats: Vec<Seat<B, A, K>, A>,
     pub ends: FlushEnds<A>,
     pub build: BuildPart<B>,
     pub clean: CleanPart<B>,
@@ -91,10 +91,10 @@ pub fn open<A: Memory>(alloc: A, core: Core<A>, count: usize) -> Result<Opening<
 }
 
 impl<A: Memory> Opening<A> {
-    /// What the threads share, and their parts.
+    /// What the threads share, and their parts. `K` says whether the seats' commits are kept in memory.
     ///
     /// The one error is `NoMemory`.
-    pub fn start<B: Group>(self) -> Result<(Shared<B, A>, FirstParts<B, A>), Error>
+    pub fn start<B: Group, K: Keeping>(self) -> Result<(Shared<B, A>, FirstParts<B, A, K>), Error>
         requires names { names_of self ≡ B.site }
         requires made { IsOpening B.site.seats self }
         requires opened { IsJustOpened (value_of self.core) }
@@ -121,16 +121,11 @@ impl<A: Memory> Opening<A> {
             mut view,
         } = self;
         let clean_view = board.another(&mut view);
-        let seats = match seats_of::<B, A>(alloc, &board, view, halves) {
+        let clean = CleanPart::new(clean_view);
+        let seats = match seats_of::<B, A, K>(alloc, &board, view, halves) {
             Ok(seats) => seats,
             Err(error) => {
-                drop(board);
-                drop(book);
-                drop(registry);
-                drop(popper);
-                drop(pusher);
-                drop(queue);
-                drop(core);
+                drop((core, queue, pusher, popper, registry, book, board));
                 return Err(error);
             }
         };
@@ -145,26 +140,20 @@ impl<A: Memory> Opening<A> {
         let parts = FirstParts {
             seats,
             ends: FlushEnds::new(popper, flush),
-            build: BuildPart {
-                view: build,
-                site: PhantomData,
-            },
-            clean: CleanPart {
-                view: clean_view,
-                site: PhantomData,
-            },
+            build: BuildPart::new(build),
+            clean,
         };
         Ok((shared, parts))
     }
 }
 
 // A seat for each half.
-fn seats_of<B: Group, A: Memory>(
+fn seats_of<B: Group, A: Memory, K: Keeping>(
     alloc: A,
     board: &Board<A>,
     mut view: View,
     halves: Vec<Half<A>, A>,
-) -> Result<Vec<Seat<B, A>, A>, Error>
+) -> Result<Vec<Seat<B, A, K>, A>, Error>
     requires board { board.now ≡ B.site.board }
     requires view { HasSeenNothing B.site.board view }
     requires counted { length halves.items ≡ B.site.seats }

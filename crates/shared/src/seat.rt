@@ -7,15 +7,17 @@ use nsf_core::Ticket;
 use records::Txn;
 use std::alloc::Global;
 use std::marker::{Model, PhantomData};
+use threads_sessions::{Keeping, Told};
 
-/// One thread's place among those that share a core. To a contract it is a `SeatValue`.
+/// One thread's place among those that share a core. `K` says whether its commits are kept in memory. To a contract it
+/// is a `SeatValue`.
 #[derive(Drop)]
-pub struct Seat<B: Group, A: Memory = Global> {
-    pub(crate) part: SeatPart<B, A>,
+pub struct Seat<B: Group, A: Memory = Global, K: Keeping = Told> {
+    pub(crate) part: SeatPart<B, A, K>,
     pub(crate) view: View,
 }
 
-impl<B: Group, A: Memory> Model for Seat<B, A> {
+impl<B: Group, A: Memory, K: Keeping> Model for Seat<B, A, K> {
     ghost use Rattle.std.specs.Prelude.{◌≡◌};
     ghost use Rattle.shared.specs.Seats.{SeatValue};
 
@@ -45,7 +47,7 @@ impl<B: Group> Model for Ack<B> {
     ghost invariant = { λ a. (a.view.board ≡ B.site.board) × (a.ticket.«record» ≤ a.view.horizon) };
 }
 
-impl<B: Group, A: Memory> Seat<B, A> {
+impl<B: Group, A: Memory, K: Keeping> Seat<B, A, K> {
     ghost use Rattle.threads_sessions.specs.Values.{is_active, is_ready, is_unfinished};
 
     /// Whether the transaction is one of the seat's.

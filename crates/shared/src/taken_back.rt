@@ -5,9 +5,9 @@ ghost use Rattle.locked_core.specs.Locked.{locked_of};
 use crate::seat::{Ack, Seat};
 use board::View;
 use locked_core::{Group, Locked, Memory};
-use threads_sessions::{Registry, Session};
+use threads_sessions::{Keeping, Registry, Session};
 
-impl<B: Group, A: Memory> Seat<B, A> {
+impl<B: Group, A: Memory, K: Keeping> Seat<B, A, K> {
     /// Compares the seat's session with the one under the lock: they are the same. Nothing changes.
     pub fn compare(&mut self, registry: &Registry<A>, locked: &mut Locked<B, A>)
         requires { registry.now ≡ B.site.table }
@@ -19,7 +19,7 @@ impl<B: Group, A: Memory> Seat<B, A> {
     }
 
     /// The session.
-    pub fn into_session(self) -> Session<A>
+    pub fn into_session(self) -> Session<A, K>
         ensures { result ≡ self.session }
     {
         let Seat { part, view: _ } = self;

@@ -15,6 +15,7 @@ use locked_core::{Group, Memory};
 use nsf_core::Ticket;
 use records::{Body, Error, Key, Rid, Txn};
 use std::sync::Wait;
+use threads_sessions::Keeping;
 
 #[tactic(auto, using(crate::proofs::Ready::ready_active))]
 impl<B: Group, A: Memory> Shared<B, A> {
@@ -22,10 +23,10 @@ impl<B: Group, A: Memory> Shared<B, A> {
     ///
     /// `NoSuchTxn` where it isn't: where it is none of the seat's, has a change to finish, or is rolling back. Nothing
     /// is done then. Else the refusals of the core's `start_insert`.
-    pub fn insert_if_ready<R: Wait>(
+    pub fn insert_if_ready<R: Wait, K: Keeping>(
         &self,
         rt: &R,
-        seat: &mut Seat<B, A>,
+        seat: &mut Seat<B, A, K>,
         txn: Txn,
         key: Key,
         body: Body,
@@ -54,10 +55,10 @@ impl<B: Group, A: Memory> Shared<B, A> {
     /// Deletes a row in a transaction of the seat, as `delete` does, if the transaction is ready.
     ///
     /// `NoSuchTxn` where it isn't, as in `insert_if_ready`, and else the refusals of the core's `start_delete`.
-    pub fn delete_if_ready<R: Wait>(
+    pub fn delete_if_ready<R: Wait, K: Keeping>(
         &self,
         rt: &R,
-        seat: &mut Seat<B, A>,
+        seat: &mut Seat<B, A, K>,
         txn: Txn,
         rid: Rid,
     ) -> Result<Change, Error>
@@ -84,10 +85,10 @@ impl<B: Group, A: Memory> Shared<B, A> {
     /// Puts another row in place of a row, in a transaction of the seat, as `update` does, if the transaction is ready.
     ///
     /// `NoSuchTxn` where it isn't, as in `insert_if_ready`, and else the refusals of the core's `start_update`.
-    pub fn update_if_ready<R: Wait>(
+    pub fn update_if_ready<R: Wait, K: Keeping>(
         &self,
         rt: &R,
-        seat: &mut Seat<B, A>,
+        seat: &mut Seat<B, A, K>,
         txn: Txn,
         rid: Rid,
         key: Key,
@@ -118,10 +119,10 @@ impl<B: Group, A: Memory> Shared<B, A> {
     ///
     /// `NoSuchTxn` where it isn't, as in `insert_if_ready`, and else the refusals of the core's `commit`. After a
     /// refusal the seat is as before.
-    pub fn commit_if_ready<R: Wait>(
+    pub fn commit_if_ready<R: Wait, K: Keeping>(
         &self,
         rt: &R,
-        seat: &mut Seat<B, A>,
+        seat: &mut Seat<B, A, K>,
         txn: Txn,
     ) -> Result<Ticket, Error>
         ensures unready { is_ready seat.old.session txn ≡ false → result ≡ Err NoSuchTxn }

@@ -10,6 +10,7 @@ use locked_core::{Group, Memory};
 use sector_device::Device;
 use std::marker::{Model, PhantomData};
 use threads_flusher::FlushPart;
+use threads_sessions::Keeping;
 
 /// A view of the group's board for a thread that has no seat, as a loop. To a contract it is a `Sighting`.
 #[derive(Drop)]
@@ -31,7 +32,7 @@ impl<B: Group> Model for GroupView<B> {
 
 impl<B: Group, A: Memory> Shared<B, A> {
     /// Makes a view of the board for a thread that has no seat. It has seen what the seat has.
-    pub fn another_view(&self, seat: &mut Seat<B, A>) -> GroupView<B>
+    pub fn another_view<K: Keeping>(&self, seat: &mut Seat<B, A, K>) -> GroupView<B>
         ensures view { result ≡ record seat.old.sight { name = leaves_as seat.old.sight.name; stops = false } }
         ensures seat { seat.new ≡ record seat.old
             { sight = record seat.old.sight { name = stays_as seat.old.sight.name } } }

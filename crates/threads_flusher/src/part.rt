@@ -169,8 +169,8 @@ impl<B: Group, D: Device, A: Memory> FlushPart<B, D, A> {
     pub fn stands(&self)
         ensures { IsFlusher D.past_of B.site.opened self.now }
     {
-        // a call, so that what the writer's type keeps is at hand
-        let _synced = self.writer.synced();
+        // a look at a field, so that what the type keeps is at hand
+        let _ = &self.writer;
     }
 
     /// Pops the records that wait in the queue, as far as it finds any, and holds them. No clause says how many.
@@ -348,6 +348,13 @@ impl<B: Group, D: Device, A: Memory> FlushPart<B, D, A> {
         let flipped = self.writer.checkpoint_flip();
         publish(board, &mut self.view, &mut self.publications, &self.writer);
         flipped
+    }
+
+    /// The device as it is now.
+    pub fn device(&self) -> &D
+        ensures { result.now ≡ device_of self.now.writer }
+    {
+        self.writer.device()
     }
 
     /// The number of the last record that the writer has synced. That a crash leaves it says `IsFlusher` (`stands`).

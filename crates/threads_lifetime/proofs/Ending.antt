@@ -1,12 +1,13 @@
 -- What is left at the end.
-use Rattle.std.proofs.Common.{◌≡◌, ◌+◌, ◌-◌, ◌++◌, ◌≤◌, ◌⊎◌, ℕ, Bool, List, [], length, map, Some, take, true, false, inl, inr, refl, sym, ap, ◌∙◌, subst}
+use Rattle.std.proofs.Common.{◌≡◌, ◌+◌, ◌-◌, ◌++◌, ◌≤◌, ◌⊎◌, ℕ, Bool, List, [], length, map, None, Some, take, true, false, inl, inr, refl, sym, ap, ◌∙◌, subst}
 use Rattle.std.proofs.Common.{arith, append-nil, length-append, length-take}
 use Rattle.std.proofs.Math.Logic.{∥∥₁_map}
 use Rattle.std.proofs.lemmas.Bool.{false≢true}
 use Rattle.std.proofs.lemmas.List.{take-append-le, take-take, take_all}
 use Rattle.std.proofs.lemmas.List.Elements.{All-weaker}
 use Rattle.std.specs.List.{All}
-use Rattle.std.specs.Prelude.{slice_get}
+use Rattle.std.specs.Prelude.{IfSome, Option, slice_get}
+use Rattle.std.specs.declared.vec.Vec.{Vec}
 use Rattle.record_values.specs.GeometryValue.{GeometryValue}
 use Rattle.records.specs.RecordValue.{RecordValue}
 use Rattle.record_values.specs.declared.error.Error.{Error}
@@ -36,7 +37,7 @@ use Rattle.shared.specs.Seats.{SeatValue}
 use Rattle.threads_lifetime.proofs.Gathering.{commits_in}
 use Rattle.threads_lifetime.proofs.Lists.{map_count, map_get, same_list}
 use Rattle.threads_lifetime.proofs.Tables.{all_up_to, cells_alone, first_commits, rows_alone, with_all}
-use Rattle.threads_lifetime.specs.Closing.{GivesAll, GivesSome, IsCoreOf, table_with}
+use Rattle.threads_lifetime.specs.Closing.{GivesAll, GivesSome, IsClosed, IsCoreOf, table_with}
 use Rattle.threads_lifetime.specs.Gathered.{AreAllSeats, AreCommitsOf, AreSeen, sessions_of}
 use Rattle.threads_lifetime.specs.Written.{WritesOn}
 
@@ -103,16 +104,16 @@ module _ (o : Opened) (seats : List SeatValue) (core : CoreValue) (pushed popped
 
   -- ---- what the core and the device are
 
-  module _ (none : core.outbox ≡ []) (commits : List CommitValue) (from : (count : ℕ) (all : AreAllCommits (sessions_of seats) count)
-      → commits ≡ commits_in all.commits) where
-    table_is : (shared : IsShared o core pushed (sessions_of seats))
-        → with_commits o.given.table shared.register.commits.commits ≡ table_with o.given.table commits
-    table_is shared =
-        sym (with_all o.given.table shared.register.commits.commits) ∙ ap (table_with o.given.table) (sym (from core.commits shared.register.commits))
+  module _ (none : core.outbox ≡ []) (shared : IsShared o core pushed (sessions_of seats)) where
+    abbrev gathered : List CommitValue
+    gathered = commits_in shared.register.commits.commits
 
-    core_of : IsShared o core pushed (sessions_of seats) → IsCoreOf o seats popped core commits
-    core_of shared =
-        let is = shared.tables.committed ∙ table_is shared in
+    table_is : with_commits o.given.table shared.register.commits.commits ≡ table_with o.given.table gathered
+    table_is = sym (with_all o.given.table shared.register.commits.commits)
+
+    core_of : IsCoreOf o seats popped core gathered
+    core_of =
+        let is = shared.tables.committed ∙ table_is in
         record {
           pushed = pushed;
           shared = shared;
@@ -125,8 +126,8 @@ module _ (o : Opened) (seats : List SeatValue) (core : CoreValue) (pushed popped
 
     all_given : (g : GeometryValue) (handed : List RecordValue) (floor : ℕ) → handed ≡ pushed → floor ≡ o.given.last + length handed
         → core.last ≡ o.given.last + length made → IsCellsOf core (cells_after (opening_cells o.given) made)
-        → IsShared o core pushed (sessions_of seats) → (image : CrashState) → GivesBeginning o g handed floor image → GivesAll o g core commits image
-    all_given g handed floor same synced last cells shared image left =
+        → (image : CrashState) → GivesBeginning o g handed floor image → GivesAll o g core gathered image
+    all_given g handed floor same synced last cells image left =
         let all_made : made ≡ handed = ap (λ l. pushed ++ l) none ∙ (append-nil pushed ∙ sym same) in
         let whole : take left.count handed ≡ made = take_all left.count handed (omega (arith, left.least, synced)) ∙ sym all_made in
         let number : o.given.last + length made ≡ core.last = sym last in
@@ -140,7 +141,7 @@ module _ (o : Opened) (seats : List SeatValue) (core : CoreValue) (pushed popped
               ap (λ (rs : List RecordValue). (given_after o.given rs).table) (sym so_many)
               ∙ (shared.tables.recovered core.last (omega (arith, last))
               ∙ (ap (with_commits o.given.table) (all_up_to o.given.last core.last shared.register.commits.commits shared.register.history.rising)
-              ∙ table_is shared));
+              ∙ table_is));
           life = cells.life;
           last = number;
           cells = cells_after (opening_cells o.given) made;
@@ -148,6 +149,13 @@ module _ (o : Opened) (seats : List SeatValue) (core : CoreValue) (pushed popped
           recovers = is;
           alone = λ none_active. is ∙ cells_alone core (cells_after (opening_cells o.given) made) cells none_active;
         }
+
+    -- where commits were kept, it is these
+    kept_is : {A : Type 0} (kept : Option (Vec CommitValue A))
+        → IfSome kept (λ v. (count : ℕ) (all : AreAllCommits (sessions_of seats) count) → v.items ≡ commits_in all.commits)
+        → IfSome kept (λ v. v.items ≡ gathered)
+    kept_is None from = tt
+    kept_is (Some v) from = from core.commits shared.register.commits
 
 -- ---- answers
 
@@ -170,29 +178,29 @@ module _ {D : Type 0} (past_of : D → DevicePast) (o : Opened) (seats : List Se
       weaker (past_of old) (past_of new) (GivesBeginning o now handed floor) (λ image. ∥ GivesSome o g seats popped floor image ∥₁)
       (some_left g now handed floor same begins)
 
-  module _ (core : CoreValue) (is : core ≡ l.core) (none : l.core.outbox ≡ []) (commits : List CommitValue)
-      (from : (count : ℕ) (all : AreAllCommits (sessions_of seats) count) → commits ≡ commits_in all.commits) where
-    pub commits_closed : ∥ AreCommitsOf seats commits ∥₁
-    commits_closed = ∥∥₁_map shared (λ (h : IsShared o l.core l.pushed (sessions_of seats)).
-        all_commits seats l.core.commits h.register.commits commits (from l.core.commits h.register.commits))
-
-    pub core_closed : ∥ IsCoreOf o seats popped core commits ∥₁
-    core_closed = subst (λ (v : CoreValue). ∥ IsCoreOf o seats popped v commits ∥₁) (sym is)
-        (∥∥₁_map shared (core_of o seats l.core l.pushed popped first_popped none commits from))
-
-    pub device_closed : (last : (g : GeometryValue) → l.core.last ≡ end_of (lock.run_of g o l)) (cells : (g : GeometryValue)
+  module _ (core : CoreValue) (is : core ≡ l.core) (none : l.core.outbox ≡ []) where
+    pub all_closed : (last : (g : GeometryValue) → l.core.last ≡ end_of (lock.run_of g o l)) (cells : (g : GeometryValue)
         → IsCellsOf l.core (cells_at (lock.run_of g o l) l.core.last)) (g now : GeometryValue) (handed : List RecordValue) (floor : ℕ) → now ≡ g
         → handed ≡ l.pushed
-        → floor ≡ o.given.last + length handed → (image : CrashState) → GivesBeginning o now handed floor image → ∥ GivesAll o g core commits image ∥₁
-    device_closed last cells g now handed floor same all synced image left =
+        → floor ≡ o.given.last + length handed → (device : D)
+        → ((image : CrashState) → IsCrashState (past_of device).disk image → GivesBeginning o now handed floor image)
+        → {A : Type 0} (kept : Option (Vec CommitValue A))
+        → IfSome kept (λ v. (count : ℕ) (all : AreAllCommits (sessions_of seats) count) → v.items ≡ commits_in all.commits)
+        → ∥ IsClosed past_of o g seats popped core device kept ∥₁
+    all_closed last cells g now handed floor same all synced device left kept from =
         let made : List RecordValue = l.pushed ++ l.core.outbox in
         let so_many : take (l.core.last - o.given.last) made ≡ made = take_all (l.core.last - o.given.last) made (omega (arith, last g)) in
         let of_core : IsCellsOf l.core (cells_after (opening_cells o.given) made) =
         subst (λ (rs : List RecordValue). IsCellsOf l.core (cells_after (opening_cells o.given) rs)) so_many (cells g) in
-        subst (λ (v : CoreValue). ∥ GivesAll o g v commits image ∥₁) (sym is)
-        (∥∥₁_map shared (λ (h : IsShared o l.core l.pushed (sessions_of seats)).
-        all_given o seats l.core l.pushed popped first_popped none commits from g handed floor all synced (last g) of_core h image
-        (subst (λ (x : GeometryValue). GivesBeginning o x handed floor image) same left)))
+        subst (λ (v : CoreValue). ∥ IsClosed past_of o g seats popped v device kept ∥₁) (sym is)
+        (∥∥₁_map shared (λ (h : IsShared o l.core l.pushed (sessions_of seats)). record {
+          commits = commits_in h.register.commits.commits;
+          of_seats = all_commits seats l.core.commits h.register.commits (commits_in h.register.commits.commits) refl;
+          of_core = core_of o seats l.core l.pushed popped first_popped none h;
+          gives = λ image crash. all_given o seats l.core l.pushed popped first_popped none h g handed floor all synced (last g) of_core image
+              (subst (λ (x : GeometryValue). GivesBeginning o x handed floor image) same (left image crash));
+          given = kept_is o seats l.core l.pushed popped first_popped none h kept from;
+        }))
 
     pub horizon_closed : (last : (g : GeometryValue) → l.core.last ≡ end_of (lock.run_of g o l)) (g : GeometryValue) (handed : List RecordValue) (horizon : ℕ)
         → handed ≡ l.pushed → horizon ≡ o.given.last + length handed → horizon ≡ core.last
@@ -241,13 +249,12 @@ module _ {D A : Type 0} (past_of : D → DevicePast) (failures : D
       by true has = inr (failed has, λ before. subst (λ (d : D). Rises (failures (device_of old.writer)) (failures d)) (sym is) (writes.counted has before))
       by false has = inl (sound has ∙ memory has why, writes.stays has, ap failures is ∙ writes.quiet has)
 
-  module _ (core : CoreValue) (core_is : core ≡ l.core) (none : l.core.outbox ≡ []) (commits : List CommitValue)
-      (from : (count : ℕ) (all : AreAllCommits (sessions_of seats) count) → commits ≡ commits_in all.commits) where
-    pub all_at_end : (last : (g : GeometryValue) → l.core.last ≡ end_of (lock.run_of g o l)) (cells : (g : GeometryValue)
+  module _ (core : CoreValue) (core_is : core ≡ l.core) (none : l.core.outbox ≡ []) where
+    pub closed_at_end : (last : (g : GeometryValue) → l.core.last ≡ end_of (lock.run_of g o l)) (cells : (g : GeometryValue)
         → IsCellsOf l.core (cells_at (lock.run_of g o l) l.core.last)) → f.handed ≡ l.pushed → synced_of f.writer ≡ last_handed o f
-        → ((image : CrashState) → IsCrashState (past_of device).disk image → FlushLeaves o f image) → (image : CrashState)
-        → IsCrashState (past_of device).disk image
-        → ∥ GivesAll o (halves_of old.writer).geometry core commits image ∥₁
-    all_at_end last cells all synced left image crash =
-        device_closed past_of o seats l book under popped first_popped core core_is none commits from last cells (halves_of old.writer).geometry
-        (halves_of f.writer).geometry f.handed (synced_of f.writer) writes.geometry all synced image (left image crash)
+        → ((image : CrashState) → IsCrashState (past_of device).disk image → FlushLeaves o f image) → {X : Type 0} (kept : Option (Vec CommitValue X))
+        → IfSome kept (λ v. (count : ℕ) (all : AreAllCommits (sessions_of seats) count) → v.items ≡ commits_in all.commits)
+        → ∥ IsClosed past_of o (halves_of old.writer).geometry seats popped core device kept ∥₁
+    closed_at_end last cells all synced left kept from =
+        all_closed past_of o seats l book under popped first_popped core core_is none last cells (halves_of old.writer).geometry
+        (halves_of f.writer).geometry f.handed (synced_of f.writer) writes.geometry all synced device left kept from

@@ -1,11 +1,10 @@
 -- The next commit is at the front of its seat's list.
 use Rattle.std.proofs.Common.{◌≡◌, ◌+◌, ◌<◌, ◌≤◌, ℕ, zero, suc, Bool, true, false, cond, eqb, eq-eqb, ne_eqb, List, [], ◌∷◌, ◌++◌, length, map, Option, None}
-use Rattle.std.proofs.Common.{Some, Result, Ok, Err, IfOk, IfNone, IfSome, Vec, inl, inr, refl, sym, ap, ◌∙◌, subst, arith, append-nil, vec_len}
+use Rattle.std.proofs.Common.{Some, IfNone, IfSome, Vec, inl, inr, refl, sym, ap, ◌∙◌, subst, arith, append-nil, vec_len}
 use Rattle.std.proofs.lemmas.Bool.{cases_eq, eqb-true}
 use Rattle.std.proofs.lemmas.List.{reverse-append}
 use Rattle.std.specs.Option.{option_to_list}
 use Rattle.std.specs.Prelude.{IsSome, reverse, slice_get, slice_index_or, slice_set}
-use Rattle.record_values.specs.declared.error.Error.{Error}
 use Rattle.threads_register.specs.Register.{AreAllCommits, AreBySeats, AreNumbered, Commits, made_by}
 use Rattle.threads_sessions.specs.Values.{CommitValue, SessionValue}
 use Rattle.shared.specs.Seats.{SeatValue}
@@ -205,11 +204,3 @@ seen_more book seats k seat here before now j s below at = elim (cases_eq j k) [
 
 pub seats_kept : (items : List SeatValue) (k : ℕ) (old new : SeatValue) → slice_get items k ≡ Some old → new ≡ old → slice_set items k new ≡ items
 seats_kept items k old new at same = ap (slice_set items k) same ∙ set_itself items k old at
-
--- ---- the answer
-
-pub gathered_of : {A : Type 0} (lists : List (List CommitValue)) (book : List SessionValue) (result : Result (Vec CommitValue A) Error)
-    → IfOk result (λ v. (now : List SessionValue) (count : ℕ) → lists ≡ commits_of now → (all : AreAllCommits now count) → v.items ≡ commits_in all.commits)
-    → lists ≡ commits_of book → IfOk result (λ v. (count : ℕ) (all : AreAllCommits book count) → v.items ≡ commits_in all.commits)
-gathered_of lists book (Ok v) gathered is = λ count all. gathered book count is all
-gathered_of lists book (Err e) gathered is = tt

@@ -1,5 +1,6 @@
 -- What is left at the end: of the device, of the core and of the commits.
-use Rattle.std.specs.Prelude.{◌≡◌, ◌+◌, ◌++◌, ◌∷◌, ◌≤◌, [], List, filter, length, nat_le, take, ℕ}
+use Rattle.std.specs.Prelude.{◌≡◌, ◌+◌, ◌++◌, ◌∷◌, ◌≤◌, [], IfSome, List, Option, filter, length, nat_le, take, ℕ}
+use Rattle.std.specs.declared.vec.Vec.{Vec}
 use Rattle.record_values.specs.GeometryValue.{GeometryValue}
 use Rattle.records.specs.RecordValue.{RecordValue}
 use Rattle.core_model.specs.Served.{items_of}
@@ -11,7 +12,7 @@ use Rattle.model.specs.Cells.{Cells}
 use Rattle.model.specs.Given.{Given, given_after, recovered}
 use Rattle.model.specs.Table.{Table, applied}
 use Rattle.core_parts.specs.View.{CoreValue}
-use Rattle.sector_device.specs.Disk.{CrashState}
+use Rattle.sector_device.specs.Disk.{CrashState, IsCrashState}
 use Rattle.sector_device.specs.DevicePast.{DevicePast}
 use Rattle.store_reader.specs.Contents.{Gives}
 use Rattle.threads_sessions.specs.Values.{CommitValue}
@@ -58,6 +59,16 @@ pub record GivesAll (o : Opened) (g : GeometryValue) (core : CoreValue) (commits
   pub recovers : given ≡ recovered cells core.last
   pub alone : core.txns.active ≡ []
       → given ≡ record { table = core.heap.rows; entries = core.index.entries; life = core.life; last = core.last }
+
+-- All is taken back, and these are the commits of the seats, by number: the core is as the seats left it, whatever a
+-- crash leaves of the device gives all that was made, and where commits were kept, just these were.
+pub record IsClosed {D A : Type 0} (past_of : D → DevicePast) (o : Opened) (g : GeometryValue) (seats : List SeatValue)
+    (popped : List RecordValue) (core : CoreValue) (device : D) (kept : Option (Vec CommitValue A)) : Type 0 where
+  pub commits : List CommitValue
+  pub of_seats : AreCommitsOf seats commits
+  pub of_core : IsCoreOf o seats popped core commits
+  pub gives : (image : CrashState) → IsCrashState (past_of device).disk image → GivesAll o g core commits image
+  pub given : IfSome kept (λ v. v.items ≡ commits)
 
 -- The crash state gives what some of the records that these seats, the builder and the cleaner made, the first ones,
 -- make of what was opened, with every record up to the floor; those that the flusher had popped are the first that were

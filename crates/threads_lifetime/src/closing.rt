@@ -1,15 +1,15 @@
 //! Taking all that was shared back into one hand.
-ghost use Rattle.std.specs.Prelude.{◌≡◌, ◌⊎◌, ◌≤◌, ℕ, [], All, IfErr, IfOk, OnOk, false, length, map, take, true};
-ghost use Rattle.sector_device.specs.Disk.{CrashState, IsCrashState};
+ghost use Rattle.std.specs.Prelude.{◌≡◌, ◌⊎◌, ◌≤◌, ℕ, [], All, IfErr, IfOk, IfSome, OnOk, false, is_some, length, map};
+ghost use Rattle.std.specs.Prelude.{take, true};
 ghost use Rattle.sector_device.specs.DevicePast.{LeavesOnly, Rises};
 ghost use Rattle.record_values.specs.declared.error.Error.TheVariants.{DeviceFailed, NoMemory};
 ghost use Rattle.nsf_core.specs.Value.{value_of};
 ghost use Rattle.store_writer.specs.Parts.{device_of, halves_of, has_failed, synced_of};
-ghost use Rattle.threads_lifetime.specs.Closing.{GivesAll, GivesSome, IsCoreOf, KeepsPublished};
+ghost use Rattle.threads_lifetime.specs.Closing.{GivesSome, IsClosed, KeepsPublished};
 ghost use Rattle.locked_core.specs.Locked.{locked_of};
 ghost use Rattle.threads_register.specs.Register.{AreAllCommits};
 ghost use Rattle.threads_flusher.specs.Part.{last_handed, popped_by};
-ghost use Rattle.threads_lifetime.specs.Gathered.{AreAllSeats, AreCommitsOf, sessions_of};
+ghost use Rattle.threads_lifetime.specs.Gathered.{AreAllSeats, sessions_of};
 ghost use Rattle.threads_lifetime.specs.Written.{WritesOn};
 
 use crate::gather::{compare_all, gather_commits};
@@ -19,7 +19,7 @@ use locked_core::Locked;
 use nsf_core::Core;
 use records::Error;
 use sector_device::Device;
-use shared::{Ack, Group, Memory, Parts, Seat, Shared};
+use shared::{Ack, Group, Keeping, Memory, Parts, Seat, Shared};
 use std::alloc::Global;
 use std::sync::Wait;
 use threads_flusher::FlushPart;
@@ -27,13 +27,13 @@ use threads_queue::RecordQueue;
 use threads_sessions::Commit;
 
 /// What is left at the end: the device, to which every record was written; the core; the number of the last record; and
-/// the commits of all seats, in the order of their numbers.
+/// the commits of all seats, in the order of their numbers, where they were kept.
 #[derive(Drop)]
 pub struct Closed<D, A: Memory = Global> {
     pub device: D,
     pub core: Core<A>,
     pub horizon: u64,
-    pub commits: Vec<Commit<A>, A>,
+    pub commits: Option<Vec<Commit<A>, A>>,
 }
 
 // No acknowledgement names a record that isn't synced.
@@ -52,16 +52,16 @@ fn settle_all<B: Group, D: Device, A: Memory>(
     }
 }
 
-// Writes every record out, and gathers the commits of the seats by number.
-fn close<B: Group, D: Device, R: Wait, A: Memory>(
+// Writes every record out, and gathers the commits of the seats by number, where they were kept.
+fn close<B: Group, D: Device, R: Wait, A: Memory, K: Keeping>(
     rt: &R,
     alloc: A,
     queue: &RecordQueue<A>,
     board: &Board<A>,
     locked: &mut Locked<B, A>,
-    seats: Vec<Seat<B, A>, A>,
+    seats: Vec<Seat<B, A, K>, A>,
     flush: &mut FlushPart<B, D, A>,
-) -> Result<Vec<Commit<A>, A>, Error>
+) -> Result<Option<Vec<Commit<A>, A>>, Error>
     requires queue { queue.now ≡ B.site.queue }
     requires board { board.now ≡ B.site.board }
     ensures writes { WritesOn D.past_of D.failures B.site.opened flush.old flush.new }
@@ -70,8 +70,9 @@ fn close<B: Group, D: Device, R: Wait, A: Memory>(
     ensures all { OnOk result (flush.new.handed ≡ (locked_of locked.new).pushed) }
     ensures none_waits { OnOk result ((locked_of locked.new).core.outbox ≡ []) }
     ensures synced { OnOk result (synced_of flush.new.writer ≡ last_handed B.site.opened flush.new) }
-    ensures gathered { IfOk result (λ v. (count : ℕ) (all : AreAllCommits (sessions_of seats.items) count)
-        → v.items ≡ map (λ c. c.1) all.commits) }
+    ensures given { IfOk result (λ r. is_some r ≡ K.kept) }
+    ensures gathered { IfOk result (λ r. IfSome r (λ v. (count : ℕ)
+        (all : AreAllCommits (sessions_of seats.items) count) → v.items ≡ map (λ c. c.1) all.commits)) }
     ensures book { (locked_of locked.new).book ≡ (locked_of locked.old).book }
     ensures sound { OnOk result (has_failed flush.new.writer ≡ false) }
     ensures err { IfErr result (λ e. (e ≡ NoMemory) ⊎ ((e ≡ DeviceFailed) × (has_failed flush.new.writer ≡ true))) }
@@ -96,6 +97,10 @@ fn told<B: Group, D: Device, A: Memory>(flush: &FlushPart<B, D, A>, error: Error
 /// the queue too, in groups or, once the log is full, in an image. Then the device holds what the core does, and each
 /// acknowledgement is of a record on it.
 ///
+/// The commits of all seats are numbered from 1 on, each seat's in order. The core has them, and whatever a crash
+/// leaves of the device gives what was opened with all of them set over it (`closed`). Where they were kept, just these
+/// are given (`given`).
+///
 /// A crash at any moment of the call, and of the device that is given back, whatever the answer is, leaves what some of
 /// the records that were made make of what was opened, the first ones, with all that were synced before; and each
 /// acknowledgement is of one of those.
@@ -105,19 +110,17 @@ fn told<B: Group, D: Device, A: Memory>(flush: &FlushPart<B, D, A>, error: Error
 ///
 /// `DeviceFailed` where the device failed, now or earlier, and else `NoMemory`. With `Ok` no call of it has failed
 /// (`sound`, `quiet`).
-pub fn finish<B: Group, D: Device, R: Wait, A: Memory>(
+pub fn finish<B: Group, D: Device, R: Wait, A: Memory, K: Keeping>(
     rt: &R,
     alloc: A,
     shared: Shared<B, A>,
-    parts: Parts<B, D, A>,
+    parts: Parts<B, D, A, K>,
     acks: Vec<Ack<B>, A>,
 ) -> Result<Closed<D, A>, (Error, D)>
     requires seats { AreAllSeats B.site.seats parts.seats.items }
-    ensures commits { IfOk result (λ c. ∥ AreCommitsOf parts.seats.items c.commits.items ∥₁) }
-    ensures core { IfOk result (λ c. ∥ IsCoreOf B.site.opened parts.seats.items (popped_by parts.flush)
-        (value_of c.core) c.commits.items ∥₁) }
-    ensures device { IfOk result (λ c. (image : CrashState) → IsCrashState (D.past_of c.device).disk image
-        → ∥ GivesAll B.site.opened (halves_of parts.flush.writer).geometry (value_of c.core) c.commits.items image ∥₁) }
+    ensures closed { IfOk result (λ c. ∥ IsClosed D.past_of B.site.opened (halves_of parts.flush.writer).geometry
+        parts.seats.items (popped_by parts.flush) (value_of c.core) c.device c.commits ∥₁) }
+    ensures given { IfOk result (λ c. is_some c.commits ≡ K.kept) }
     ensures horizon { IfOk result (λ c. c.horizon ≡ (value_of c.core).last) }
     ensures acks { IfOk result (λ c. All (λ a. a.ticket.«record» ≤ c.horizon) acks.items) }
     ensures acked { All (λ a. a.ticket.«record» ≤ synced_of parts.flush.writer) acks.items }
@@ -157,13 +160,8 @@ pub fn finish<B: Group, D: Device, R: Wait, A: Memory>(
             locked.each_hold();
             let horizon = flush.synced();
             let (core, pusher, book) = locked.into_parts();
-            drop(pusher);
-            drop(book);
             let (device, ends) = flush.into_parts();
-            drop(ends);
-            drop(queue);
-            drop(registry);
-            drop(board);
+            drop((pusher, book, ends, queue, registry, board));
             Ok(Closed {
                 device,
                 core,
@@ -174,11 +172,7 @@ pub fn finish<B: Group, D: Device, R: Wait, A: Memory>(
         Err(error) => {
             let why = told(&flush, error);
             let (rest, ends) = flush.into_parts();
-            drop(ends);
-            drop(locked);
-            drop(queue);
-            drop(registry);
-            drop(board);
+            drop((ends, locked, queue, registry, board));
             Err((why, rest))
         }
     }

@@ -1,6 +1,6 @@
 //! The commits of all seats, by number.
 ghost use Rattle.std.specs.Prelude.{◌≡◌, ◌<◌, ℕ, List, false, true, length, map, reverse, IfErr, IfNone, IfOk, IfSome};
-ghost use Rattle.std.specs.Prelude.{Some, slice_get};
+ghost use Rattle.std.specs.Prelude.{Some, is_some, slice_get};
 ghost use Rattle.record_values.specs.declared.error.Error.TheVariants.{NoMemory};
 ghost use Rattle.locked_core.specs.Locked.{locked_of};
 ghost use Rattle.threads_register.specs.Register.{AreAllCommits};
@@ -10,7 +10,7 @@ ghost use Rattle.threads_lifetime.specs.Gathered.{sessions_of};
 
 use locked_core::Locked;
 use records::Error;
-use shared::{Group, Memory, Seat};
+use shared::{Group, Keeping, Memory, Seat};
 use std::sync::Wait;
 use threads_sessions::{Commit, Registry};
 
@@ -83,42 +83,58 @@ fn gather<R: Wait, A: Memory>(
     unreachable!()
 }
 
-// The commits of each seat, the last one first.
-fn lists_of_seats<B: Group, A: Memory>(
+// The commits of a seat that keeps them, the last one first.
+fn reversed<B: Group, A: Memory, K: Keeping>(seat: Seat<B, A, K>) -> Vec<Commit<A>, A>
+    requires { K.kept ≡ true }
+    ensures { reverse result.items ≡ seat.session.commits }
+{
+    let Some(mut commits) = seat.into_session().into_commits() else {
+        unreachable!()
+    };
+    commits.reverse();
+    commits
+}
+
+// The commits of each seat, where they are kept, the last one first.
+fn lists_of_seats<B: Group, A: Memory, K: Keeping>(
     alloc: A,
-    seats: Vec<Seat<B, A>, A>,
+    seats: Vec<Seat<B, A, K>, A>,
 ) -> Result<Vec<Vec<Commit<A>, A>, A>, Error>
+    requires { K.kept ≡ true }
     ensures lists { IfOk result (λ lists. lists_of lists.items ≡ commits_of (sessions_of seats.items)) }
     ensures no_memory { IfErr result (λ e. e ≡ NoMemory) }
 {
     let mut lists = Vec::with_capacity(alloc, seats.len())?;
     for seat in seats {
-        let mut commits = seat.into_session().into_commits();
-        commits.reverse();
-        lists.push(commits)?;
+        lists.push(reversed(seat))?;
     }
     Ok(lists)
 }
 
-// The commits of all seats, by number.
-pub(crate) fn gather_commits<B: Group, R: Wait, A: Memory>(
+// The commits of all seats, by number, where they are kept.
+pub(crate) fn gather_commits<B: Group, R: Wait, A: Memory, K: Keeping>(
     rt: &R,
     alloc: A,
-    seats: Vec<Seat<B, A>, A>,
-) -> Result<Vec<Commit<A>, A>, Error>
-    ensures ok { IfOk result (λ v. (count : ℕ) (all : AreAllCommits (sessions_of seats.items) count)
-        → v.items ≡ map (λ c. c.1) all.commits) }
+    seats: Vec<Seat<B, A, K>, A>,
+) -> Result<Option<Vec<Commit<A>, A>>, Error>
+    ensures given { IfOk result (λ r. is_some r ≡ K.kept) }
+    ensures ok { IfOk result (λ r. IfSome r (λ v. (count : ℕ) (all : AreAllCommits (sessions_of seats.items) count)
+        → v.items ≡ map (λ c. c.1) all.commits)) }
     ensures no_memory { IfErr result (λ e. e ≡ NoMemory) }
 {
+    if !K::keeps() {
+        return Ok(None);
+    }
     let lists = lists_of_seats(alloc, seats)?;
-    gather(rt, alloc, lists)
+    let gathered = gather(rt, alloc, lists)?;
+    Ok(Some(gathered))
 }
 
 // The session that each seat shows is the one under the lock.
-pub(crate) fn compare_all<B: Group, A: Memory>(
+pub(crate) fn compare_all<B: Group, A: Memory, K: Keeping>(
     registry: &Registry<A>,
     locked: &mut Locked<B, A>,
-    seats: &mut Vec<Seat<B, A>, A>,
+    seats: &mut Vec<Seat<B, A, K>, A>,
 )
     requires { registry.now ≡ B.site.table }
     ensures seen { AreSeen (locked_of locked.old).book seats.old.items }

@@ -1,7 +1,7 @@
 //! A store that many threads have open.
 //!
-//! One call opens the store that a device holds, and gives what its threads need: what they share, a seat for each, the
-//! part of the thread that writes to the device, and the view of the one that builds the index.
+//! One call opens the store that a device holds, and gives what its threads need: what they share, a seat for each, and
+//! the parts of those that write to the device, build the index and clean it.
 //!
 //! Proved: `open_store` opens a store as a restart does (`opened`), tells one that no core may begin with (`Unsound`),
 //! or refuses (`refused`). It has 16 seats at most. `open_engine` shares an engine that served: the store opens with
@@ -11,14 +11,14 @@
 //! new seats and a flusher's part with nothing popped (`seats`, `flush`). Neither: that `open_engine` doesn't read the
 //! device, and writes each sector once at most.
 //!
-//! The end of what many seats share: everything is taken back into one hand, every record is written out, and the
-//! commits of all seats are put in the order of their numbers.
+//! The end of what many seats share: everything is taken back into one hand, and every record is written out. The
+//! commits of all seats are given by number, where they are kept.
 //!
-//! Proved: after an `Ok` of `finish` the commits of all seats are numbered 1 to n, each once, each seat's in order
-//! (`commits`). Each crash state gives the opened table with all of them set over it (`device`). Whatever the answer,
-//! at each moment a crash leaves what the first records made, with all that were synced as it began (`images`, `left`);
-//! each acknowledgement handed in is of such a record (`acked`). Neither: that `finish` returns. Two of its loops have
-//! no bound.
+//! Proved: after an `Ok` of `finish` the commits of all seats are numbered 1 to n, each once, each seat's in order, and
+//! each crash state gives the opened table with all of them set over it (`closed`). Where a group keeps its commits in
+//! memory, `finish` gives just these (`closed`, `given`). Whatever the answer, at each moment a crash leaves what the
+//! first records made, with all that were synced as it began (`images`, `left`); each acknowledgement handed in is of
+//! such a record (`acked`). Neither: that `finish` returns. Two of its loops have no bound.
 //!
 //! Lemmas about its public words that crates above may cite, in `proofs`: `Orders`.
 #![tactic(auto)]

@@ -11,7 +11,7 @@ use crate::store::OpenStore;
 use records::Error;
 use restart::restart;
 use sector_device::Device;
-use shared::{FirstParts, Group, Memory, Parts, Shared, open};
+use shared::{FirstParts, Group, Keeping, Memory, Parts, Shared, open};
 use threads_flusher::FlushPart;
 
 /// Opens the store on the device, as `restart` does, for so many threads with a seat each.
@@ -62,10 +62,13 @@ pub fn open_store<D: Device, A: Memory>(
 impl<D: Device, A: Memory> OpenStore<D, A> {
     /// What the threads share, and what each of them has: new seats, each at its number; the part of the flusher, which
     /// has popped nothing, over the device with all of it synced, an empty log and no image under way; and the parts of
-    /// the builder and the cleaner. The board begins at what is synced.
+    /// the builder and the cleaner. The board begins at what is synced. `K` says whether the seats' commits are kept in
+    /// memory: then `finish` gives them.
     ///
     /// The one error is `NoMemory`, and the device is given back then, as it is.
-    pub fn start<B: Group>(self) -> Result<(Shared<B, A>, Parts<B, D, A>), (Error, D)>
+    pub fn start<B: Group, K: Keeping>(
+        self,
+    ) -> Result<(Shared<B, A>, Parts<B, D, A, K>), (Error, D)>
         requires names { self.site ≡ B.site }
         ensures seats { IfOk result (λ r. AreNewSeats B.site.board B.site.seats r.1.seats.items) }
         ensures flush { IfOk result (λ r. IsNewFlusher D.past_of B.site.board B.site.opened r.1.flush) }
@@ -80,7 +83,7 @@ impl<D: Device, A: Memory> OpenStore<D, A> {
             opening,
             writer,
         } = self;
-        match opening.start::<B>() {
+        match opening.start::<B, K>() {
             Ok((shared, parts)) => {
                 let FirstParts {
                     seats,

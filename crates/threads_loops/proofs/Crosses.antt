@@ -39,6 +39,7 @@ use Rattle.threads_flusher.below.threads_queue.specs.declared.memory.Memory as m
 use Rattle.threads_flusher.below.threads_queue.proofs.queue.Pusher.TheSendSync as pusher
 use Rattle.threads_flusher.below.threads_queue.proofs.queue.RecordQueue.TheSendSync as queue
 use Rattle.threads_sessions.specs.contracts.half.Half as Half
+use Rattle.threads_sessions.specs.declared.keeping.Keeping as keeping
 use Rattle.threads_sessions.proofs.half.Half.TheSendSync as half
 use Rattle.threads_sessions.proofs.table.Registry.TheSendSync as registry
 use Rattle.board.proofs.board.Board.TheSendSync as board
@@ -166,8 +167,8 @@ module _ (B : RattleType) (g : group.Ghosts B.Denot) (m : memory.Ghosts H.Denot)
       )
       )
 
-  pub seat_send : IsSend (Seat.the_row B H g m ghosts)
-  seat_send = seat.the_send B H g m ghosts send frees
+  pub seat_send : (K : RattleType) (k : keeping.Ghosts K.Denot) → IsSend (Seat.the_row B H K g m ghosts k)
+  seat_send K k = seat.the_send B H K g m ghosts k send frees
 
   pub flush_send : (D : RattleType) (d : device.Ghosts D.Denot) → IsSend D → IsSend (FlushPart.the_row B D H g d m ghosts)
   flush_send D d s = flush_part.the_send B D H g d m ghosts s send frees

@@ -1,4 +1,5 @@
 pub mod Values
+pub mod History
 pub mod Active
 pub mod Steps
 pub mod Halves

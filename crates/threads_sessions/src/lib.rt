@@ -6,6 +6,10 @@
 //! that isn't finished, and whether it is rolling back. Each call makes a step of the core and the session's change
 //! together, or neither. A transaction that the seat did not begin is unknown to it.
 //!
+//! Contracts alone tell of what a seat has done: of its commits, with their rows, and of what it did to the index
+//! ([`Told`]). That wants no room, so it is never refused for want of it; that it takes no bytes no clause says. Where
+//! a type says so ([`Kept`]), its commits are kept in memory, and `into_commits` gives them.
+//!
 //! Proved: each call serves the core the event of its name, with the reply that it answers (`served`), and makes of the
 //! session what the step tells (`ok`). A refusal leaves the session as it was (`unchanged`); a transaction of another
 //! seat is refused and the core not asked (`foreign`). Not here, but in `threads_register`: that a session agrees with
@@ -22,6 +26,8 @@
 mod active;
 mod commit;
 mod half;
+mod history;
+mod keeping;
 mod knowledge;
 mod rule;
 mod session;
@@ -31,6 +37,7 @@ mod turn;
 
 pub use commit::Commit;
 pub use half::Half;
+pub use keeping::{Keeping, Kept, Told};
 pub use session::Session;
 pub use table::Registry;
 pub use turn::Turn;

@@ -1,68 +1,61 @@
 //! A session, and what it tells.
-ghost use Rattle.std.specs.Prelude.{◌≡◌, map};
+ghost use Rattle.std.specs.Prelude.{◌≡◌, map, IfSome, is_some};
 ghost use Rattle.threads_sessions.specs.Values.{SessionValue, empty_session, is_active, is_ready, is_unfinished};
 
 use crate::active::{ActiveTxn, place_of};
 use crate::commit::Commit;
-use crate::turn::Turn;
+use crate::history::History;
+use crate::keeping::{Keeping, Told};
 use records::Txn;
 use std::alloc::{Allocator, Global};
 use std::marker::Model;
 
-/// What a seat knows of its own transactions. To a contract it is a `SessionValue`.
+/// What a seat knows of its own transactions, and its history. To a contract it is a `SessionValue`.
 #[derive(Drop)]
-pub struct Session<A: Allocator = Global> {
+pub struct Session<A: Allocator = Global, K: Keeping = Told> {
     pub(crate) alloc: A,
-    pub(crate) commits: Vec<Commit<A>, A>,
-    pub(crate) turns: Vec<Turn, A>,
+    pub(crate) history: History<A, K>,
     pub(crate) active: Vec<ActiveTxn<A>, A>,
 }
 
-impl<A: Allocator> Model for Session<A> {
+impl<A: Allocator, K: Keeping> Model for Session<A, K> {
     ghost use Rattle.std.specs.Prelude.{map};
     ghost use Rattle.threads_sessions.specs.Values.{SessionValue};
     ghost use Rattle.threads_sessions.specs.Active.{active_value};
+    ghost use Rattle.threads_sessions.specs.History.{commits_of};
 
     ghost Value = { SessionValue };
 
     ghost view = { λ s. record {
-      commits = s.commits.items;
-      turns = s.turns.items;
+      commits = commits_of K.kept s.history;
+      turns = s.history.turns.items;
       active = map active_value s.active.items;
     } };
 }
 
-impl<A: Allocator + Copy> Session<A> {
+impl<A: Allocator + Copy, K: Keeping> Session<A, K> {
     /// A session without commit, creation or transaction. It takes no memory.
-    pub fn new(alloc: A) -> Session<A>
+    pub fn new(alloc: A) -> Session<A, K>
         ensures { result ≡ empty_session }
     {
         Session {
             alloc,
-            commits: Vec::new(alloc),
-            turns: Vec::new(alloc),
+            history: History::new(alloc),
             active: Vec::new(alloc),
         }
     }
 
-    /// The commits, in the order in which they were made.
-    pub fn into_commits(self) -> Vec<Commit<A>, A>
-        ensures { result.items ≡ self.commits }
+    /// The commits, in the order in which they were made, where they are kept.
+    pub fn into_commits(self) -> Option<Vec<Commit<A>, A>>
+        ensures given { is_some result ≡ K.kept }
+        ensures commits { IfSome result (λ v. v.items ≡ self.commits) }
     {
         let Session {
             alloc: _,
-            commits,
-            turns: _,
+            history,
             active: _,
         } = self;
-        commits
-    }
-
-    /// What it did to the index, in the order in which it was done: each creation and each dropping.
-    pub fn turns(&self) -> &[Turn]
-        ensures { result.now ≡ self.now.turns }
-    {
-        &self.turns
+        history.into_list()
     }
 
     /// Whether the transaction is one of the seat's.

@@ -16,6 +16,7 @@ use crate::active::{
     ActiveTxn, note_change, note_step, note_undo, place_of, reserve_row, take_out,
 };
 use crate::commit::Commit;
+use crate::keeping::Keeping;
 use crate::session::Session;
 use crate::turn::Turn;
 use model::Write;
@@ -23,7 +24,7 @@ use nsf_core::{Core, Detached, Ticket, Undone};
 use records::{Body, Error, Key, Rid, Row, Txn};
 use std::alloc::Allocator;
 
-impl<A: Allocator + Copy> Session<A> {
+impl<A: Allocator + Copy, K: Keeping> Session<A, K> {
     /// Begins a transaction of the seat.
     ///
     /// The refusals are those of the core's `begin`, `NoMemory` the last of them; it comes also where there is none for
@@ -70,8 +71,12 @@ impl<A: Allocator + Copy> Session<A> {
         let Some(i) = place_of(&self.active, txn) else {
             return Err(Error::NoSuchTxn);
         };
-        core.check_insert(txn)?;
-        reserve_row(&mut self.active, i)?;
+        // Room is made first, so that the core looks for the place once. Where there is none, the core's refusal comes
+        // before.
+        if let Err(no_memory) = reserve_row(&mut self.active, i) {
+            core.check_insert(txn)?;
+            return Err(no_memory);
+        }
         let rid = core.start_insert(txn, key, body)?;
         let row = Some(Row { key, body });
         note_change(&mut self.active, i, core, Write { rid, row });
@@ -95,8 +100,10 @@ impl<A: Allocator + Copy> Session<A> {
         let Some(i) = place_of(&self.active, txn) else {
             return Err(Error::NoSuchTxn);
         };
-        core.check_change(txn, rid)?;
-        reserve_row(&mut self.active, i)?;
+        if let Err(no_memory) = reserve_row(&mut self.active, i) {
+            core.check_change(txn, rid)?;
+            return Err(no_memory);
+        }
         core.start_delete(txn, rid)?;
         note_change(&mut self.active, i, core, Write { rid, row: None });
         Ok(())
@@ -127,8 +134,10 @@ impl<A: Allocator + Copy> Session<A> {
         let Some(i) = place_of(&self.active, txn) else {
             return Err(Error::NoSuchTxn);
         };
-        core.check_change(txn, rid)?;
-        reserve_row(&mut self.active, i)?;
+        if let Err(no_memory) = reserve_row(&mut self.active, i) {
+            core.check_change(txn, rid)?;
+            return Err(no_memory);
+        }
         core.start_update(txn, rid, key, body)?;
         let row = Some(Row { key, body });
         note_change(&mut self.active, i, core, Write { rid, row });
@@ -202,8 +211,8 @@ impl<A: Allocator + Copy> Session<A> {
     /// the rows at the places that it held is the last one.
     ///
     /// `NoSuchTxn` where the transaction isn't one of the seat's, and else the refusals of the core's `commit`,
-    /// `NoMemory` the last of them; it comes also where there is none for the session's part. After a refusal both are
-    /// as before.
+    /// `NoMemory` the last of them. Where commits are kept, it comes also for want of room for one more. After a
+    /// refusal both are as before.
     pub fn commit(&mut self, core: &mut Core<A>, txn: Txn) -> Result<Ticket, Error>
         requires { is_active self.old txn ≡ true → IsReadyOrNone (txn_shown (value_of core.old) txn) }
         ensures foreign { is_active self.old txn ≡ false → (result ≡ Err NoSuchTxn)
@@ -217,10 +226,10 @@ impl<A: Allocator + Copy> Session<A> {
             return Err(Error::NoSuchTxn);
         };
         core.check_commit(txn)?;
-        self.commits.reserve(1)?;
+        self.history.reserve()?;
         let ticket = core.commit(txn)?;
         let writes = take_out(&mut self.active, i, txn);
-        self.commits.push_reserved(Commit {
+        self.history.push(Commit {
             record: ticket.record,
             number: ticket.commit,
             writes,
@@ -228,37 +237,31 @@ impl<A: Allocator + Copy> Session<A> {
         Ok(ticket)
     }
 
-    /// Creates the index, and keeps the number of the record that tells of it.
+    /// Creates the index. The session tells of it, with the number of its record.
     ///
-    /// The refusals are those of the core's `create_index`, `NoMemory` the last of them; it comes also where there is
-    /// none for the session's part. After a refusal both are as before.
+    /// The refusals are those of the core's `create_index`. After a refusal both are as before.
     pub fn create_index(&mut self, core: &mut Core<A>) -> Result<Ticket, Error>
         ensures served { Serves (value_of core.old) Event.Create (reply_by reply_of_ticket result) (value_of core.new) }
         ensures ok { IfOk result (λ ticket. self.new ≡ with_turn self.old (Created ticket.«record»)) }
         ensures unchanged { OnErr result (self.new ≡ self.old) }
     {
-        core.check_create()?;
-        self.turns.reserve(1)?;
         let ticket = core.create_index()?;
-        self.turns.push_reserved(Turn::Created(ticket.record));
+        self.history.note(Turn::Created(ticket.record));
         Ok(ticket)
     }
 
-    /// Drops the index, be it complete or not, and keeps the number of the record that tells of it. The entries that
+    /// Drops the index, be it complete or not. The session tells of it, with the number of its record. The entries that
     /// the index had are answered, for the caller to let go.
     ///
-    /// The refusals are those of the core's `drop_index`, `NoMemory` the last of them; it comes also where there is
-    /// none for the session's part. After a refusal both are as before.
+    /// The refusals are those of the core's `drop_index`. After a refusal both are as before.
     pub fn drop_index(&mut self, core: &mut Core<A>) -> Result<Detached<A>, Error>
         ensures served { Serves (value_of core.old) Event.Drop (reply_by reply_of_detached result) (value_of core.new) }
         ensures taken { IfOk result (λ d. entries_of d ≡ (value_of core.old).index.entries) }
         ensures ok { IfOk result (λ d. self.new ≡ with_turn self.old (Dropped d.ticket.«record»)) }
         ensures unchanged { OnErr result (self.new ≡ self.old) }
     {
-        core.check_drop()?;
-        self.turns.reserve(1)?;
         let Detached { ticket, entries } = core.detach_index()?;
-        self.turns.push_reserved(Turn::Dropped(ticket.record));
+        self.history.note(Turn::Dropped(ticket.record));
         Ok(Detached { ticket, entries })
     }
 }

@@ -5,6 +5,7 @@ ghost use Rattle.threads_sessions.specs.Halves.{IsNew};
 
 use crate::Session;
 use crate::half::{Half, HalfMaker};
+use crate::keeping::Keeping;
 use crate::knowledge::Knowledge;
 use crate::rule::{Change, Compare, Halve, HandOver, Make, RegistryRule, Said, TakeIn};
 use atomic_table::{Seat, Shared, Table};
@@ -89,7 +90,12 @@ impl<A: Allocator + Copy> Registry<A> {
     }
 
     /// The two halves of a session come together: they showed one session, and from now on they show this one.
-    pub fn change(&self, mine: &mut Half<A>, theirs: &mut Half<A>, session: &Session<A>)
+    pub fn change<K: Keeping>(
+        &self,
+        mine: &mut Half<A>,
+        theirs: &mut Half<A>,
+        session: &Session<A, K>,
+    )
         requires mine { mine.old.table ≡ self.now }
         requires theirs { theirs.old.table ≡ self.now }
         requires number { theirs.old.number ≡ mine.old.number }
@@ -100,16 +106,16 @@ impl<A: Allocator + Copy> Registry<A> {
         let shared = &self.table.shared;
         let whole = shared.split_seat::<HandOver>(&mut mine.seat);
         shared.join_seat::<TakeIn>(&mut theirs.seat, whole);
-        show::<Brand, A>(shared, &mut theirs.seat, session);
+        show::<Brand, A, K>(shared, &mut theirs.seat, session);
         mine.seat = shared.split_seat::<Halve>(&mut theirs.seat);
     }
 }
 
 // Two halves that are joined in one token showed one session, and show this one from now on.
-fn show<N: Said, A: Allocator>(
+fn show<N: Said, A: Allocator, K: Keeping>(
     shared: &Shared<Session<A>, Knowledge, (), RegistryRule>,
     both: &mut Seat<Session<A>, Knowledge>,
-    session: &Session<A>,
+    session: &Session<A, K>,
 )
     requires said { session.now ≡ N.session }
     requires table { both.old.table_id ≡ shared.now.table_id }

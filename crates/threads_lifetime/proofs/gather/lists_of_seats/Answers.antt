@@ -1,7 +1,6 @@
 use Rattle.std.proofs.Common.{ap, ◌∙◌, sym, ◌++◌, ◌∷◌, []}
 use Rattle.threads_sessions.specs.Values.{CommitValue, SessionValue}
 use Rattle.shared.specs.Seats.{SeatValue}
-use Rattle.std.proofs.lemmas.List.{reverse-reverse}
 use Rattle.std.specs.Prelude.{reverse}
 use Rattle.std.specs.declared.vec.Vec.{Vec}
 use Rattle.threads_lifetime.specs.Gathered.{commits_of, lists_of, sessions_of}
@@ -11,13 +10,12 @@ use Rattle.threads_lifetime.proofs.gather.lists_of_seats.Goals as goal
 pub loop-seat-preserved : goal.loop-seat-preserved
 loop-seat-preserved g c =
     let was = c.loop-seat.invariant in
-    let its = c.into_commits-commits.ensures ∙ ap (λ (s : SessionValue). s.commits) c.into_session.ensures in
-    let commits = ap reverse c.reverse.ensures.items ∙ (reverse-reverse c.into_commits-commits.result.items ∙ its) in record {
+    let commits = c.reversed.ensures in record {
       can = tt;
       finite = tt;
       lists =
           ap lists_of c.in_ok-push.ensures.items
-          ∙ (map_more (λ (v : Vec CommitValue _). reverse v.items) c.loop-seat.lists.items c.reverse.new.self
+          ∙ (map_more (λ (v : Vec CommitValue _). reverse v.items) c.loop-seat.lists.items c.reversed.result
           ∙ ((λ i. was.lists i ++ commits i ∷ [])
           ∙ sym (ap commits_of (map_more (λ (s : SeatValue). s.session) c.loop-seat.yielded c.in-Some.seat)
           ∙ map_more (λ (s : SessionValue). s.commits) (sessions_of c.loop-seat.yielded) c.in-Some.seat.session)));

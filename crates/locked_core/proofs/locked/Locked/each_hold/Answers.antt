@@ -18,7 +18,7 @@ returns-clause-last g c = end_is g.B.Group.site.opened (value_of c.args.self.now
 
 pub returns-clause-cells : goal.returns-clause-cells
 returns-clause-cells g c = λ geometry. cells_now g.B.Group.site.opened (value_of c.args.self.now.core) c.args.self.now.pusher.records
-    (map shown c.args.self.now.book.items) c.args.self.now.shared geometry c.active_txns-txns.ensures.sound
+    (map shown c.args.self.now.book.items) c.args.self.now.shared geometry c.stands.ensures.sound
 
 pub returns-clause-store : goal.returns-clause-store
 returns-clause-store g c = store_now g.B.Group.site.opened (value_of c.args.self.now.core) c.args.self.now.pusher.records

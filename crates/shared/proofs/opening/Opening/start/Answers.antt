@@ -1,4 +1,4 @@
-use Rattle.std.proofs.Common.{[], ap, subst}
+use Rattle.std.proofs.Common.{[], ap, subst, sym}
 use Rattle.board.specs.Views.{Sighting}
 use Rattle.threads_sessions.specs.Halves.{IsNew}
 use Rattle.locked_core.specs.Names.{Names}
@@ -22,4 +22,5 @@ pub returns-clause-clean : goal.returns-clause-clean
 returns-clause-clean g c =
     let nothing = subst (λ z. HasSeenNothing z c.args.self.view) (ap (λ (n : Names). n.board) c.requires.names)
     (ap (λ (v : Sighting). record v { name = [] }) c.requires.made.view) in
-    sees_nothing g.B.Group.site.board c.args.self.view _ _ nothing c.another-clean_view.ensures.leaves
+    subst (λ v. HasSeenNothing g.B.Group.site.board v) (sym c.new-clean.ensures)
+    (sees_nothing g.B.Group.site.board c.args.self.view _ _ nothing c.another-clean_view.ensures.leaves)
