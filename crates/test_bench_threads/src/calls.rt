@@ -18,8 +18,12 @@ pub(crate) fn create_index<B: Group, R: Wait>(
 }
 
 /// Whether the index is complete.
-pub(crate) fn is_complete<B: Group, R: Wait>(rt: &R, shared: &Shared<B>) -> bool {
-    matches!(life(rt, shared), Life::Complete)
+pub(crate) fn is_complete<B: Group, R: Wait>(
+    rt: &R,
+    shared: &Shared<B>,
+    seat: &mut Seat<B>,
+) -> bool {
+    matches!(life(rt, shared, seat), Life::Complete)
 }
 
 // Puts a row with this number as its key.

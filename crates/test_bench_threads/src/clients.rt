@@ -106,9 +106,13 @@ fn create<B: Group, R: Wait + Clock>(
 }
 
 // Looks now and then until the index is complete, and answers when it was seen to be.
-fn await_complete<B: Group, R: Wait + Clock>(rt: &R, shared: &Shared<B>) -> Result<u64, Error> {
+fn await_complete<B: Group, R: Wait + Clock>(
+    rt: &R,
+    shared: &Shared<B>,
+    seat: &mut Seat<B>,
+) -> Result<u64, Error> {
     for _ in 0..LOOKS {
-        if is_complete(rt, shared) {
+        if is_complete(rt, shared, seat) {
             return Ok(now(rt));
         }
         sleep(rt, BETWEEN_LOOKS);
@@ -129,7 +133,7 @@ fn lead<B: Group, R: Wait + Clock + CpuClock>(
     let mut complete = 0;
     if plan.before == 0 {
         created = create(rt, shared, seat)?;
-        complete = await_complete(rt, shared)?;
+        complete = await_complete(rt, shared, seat)?;
     }
     let used = used_by_all(rt);
     let begun = now(rt);
@@ -139,7 +143,7 @@ fn lead<B: Group, R: Wait + Clock + CpuClock>(
         signals.pause.store(true, Ordering::SeqCst);
         created = create(rt, shared, seat)?;
         signals.pause.store(false, Ordering::SeqCst);
-        complete = await_complete(rt, shared)?;
+        complete = await_complete(rt, shared, seat)?;
     }
     sleep(rt, plan.after.saturating_mul(1_000));
     Ok(Times {

@@ -6,7 +6,7 @@ use crate::clock::{now, sleep};
 use crate::rounds::{Disk, formatted};
 use anyhow::Result;
 use records::{ENTRIES_MAX, Error, PAGES_MAX, Rid, SLOTS_PER_PAGE};
-use shared::{BuildPart, Group, Seat, Shared};
+use shared::{BuildPart, Group, Seat, Shared, Told};
 use std::alloc::Global;
 use std::marker::Brand;
 use std::mem::forget;
@@ -201,7 +201,7 @@ fn begin<B: Group + Send + Sync, R: Threads + Wait + Clock + Sync>(
 ) -> Result<(u64, u64), Error>
     requires names { store.site ≡ B.site }
 {
-    match start::<B, Disk, Global>(store) {
+    match start::<B, Disk, Global, Told>(store) {
         Ok((shared, parts)) => {
             let taken = play_with(rt, alloc, &shared, parts);
             forget(shared);

@@ -1,4 +1,4 @@
-//! How long the end of all threads takes behind many commits of one seat.
+//! How long the end of all threads takes behind many commits of one seat, which are told alone.
 ghost use Rattle.std.specs.Prelude.{◌≡◌};
 ghost use Rattle.threads_lifetime.specs.Gathered.{AreAllSeats};
 ghost use Rattle.shared.specs.Seats.{AreNewSeats};
@@ -7,7 +7,7 @@ use crate::clock::now;
 use crate::rounds::{Disk, formatted};
 use anyhow::Result;
 use records::Error;
-use shared::{Group, Seat, Shared};
+use shared::{Group, Seat, Shared, Told};
 use std::alloc::Global;
 use std::marker::Brand;
 use std::mem::forget;
@@ -76,7 +76,7 @@ fn play<B: Group, R: Wait + Clock>(
 ) -> Result<u64, Error>
     requires names { store.site ≡ B.site }
 {
-    let (shared, mut parts) = match start::<B, Disk, Global>(store) {
+    let (shared, mut parts) = match start::<B, Disk, Global, Told>(store) {
         Ok(started) => started,
         Err((error, disk)) => {
             drop(disk);

@@ -2,9 +2,9 @@
 //! an idle store costs. Without arguments it lets two writers commit beside a small build, and says whether there were
 //! commits and the build ended; `table` prints figures, of one number of writers where one is given; `drop` says how
 //! long a drop of a full index takes, and others wait for it; `finish N` how long the end of all threads takes behind N
-//! commits of one seat; `picture FILE` draws commits a second over time, beside a build; `file FILE` makes stores in
-//! new files, whose names begin so, and prints commits a second on them, with real syncs, and how long an opening
-//! takes.
+//! commits of one seat; `hold N` how much memory is held behind half of N commits of eight seats, and behind all;
+//! `picture FILE` draws commits a second over time, beside a build; `file FILE` makes stores in new files, whose names
+//! begin so, and prints commits a second on them, with real syncs, and how long an opening takes.
 //!
 //! Proved: that it is safe, and meets what the calls below ask. Neither proved nor tested: that a figure is right.
 #![tactic(auto)]
@@ -14,6 +14,7 @@ mod clients;
 mod clock;
 mod dropping;
 mod finishing;
+mod holding;
 mod on_file;
 mod picture;
 mod rounds;
@@ -67,6 +68,7 @@ fn run<
         "idle" => table::idle(rt, given.parse().unwrap_or(8)),
         "drop" => dropping::drop_full(rt),
         "finish" => finishing::measure(rt, given.parse().unwrap_or(1_000_000)),
+        "hold" => holding::measure(rt, given.parse().unwrap_or(2_000_000)),
         "file" => on_file::measure(rt, given),
         "picture" => picture::draw(rt, 4, given),
         "table" => {

@@ -4,7 +4,7 @@ ghost use Rattle.std.specs.Prelude.{◌≡◌};
 use crate::clients::{Client, Commit, Plan, Times, work_all};
 use records::{Error, Geometry};
 use sector_device::Device;
-use shared::{Group, Seat, Shared};
+use shared::{Group, Seat, Shared, Told};
 use std::alloc::Global;
 use std::marker::Brand;
 use std::mem::forget;
@@ -13,7 +13,7 @@ use std::sync::Wait;
 use std::thread::Threads;
 use std::time::CpuClock;
 use store_file::{Detached, FileDisk};
-use test_shared::{LoopParts, Parts, Ran, open, run, start};
+use test_shared::{Parts, Ran, open, run, start};
 use threads_lifetime::{OpenStore, format_store};
 use threads_loops::NoGate;
 
@@ -137,17 +137,7 @@ fn work<
     count: usize,
     plan: Plan,
 ) -> Result<Round, Error> {
-    let Parts {
-        seats,
-        flush,
-        build,
-        clean,
-    } = parts;
-    let loops = LoopParts {
-        flush,
-        build,
-        clean,
-    };
+    let (seats, loops) = parts.split();
     match clients_of(alloc, seats, count) {
         Ok(clients) => {
             let work = move || work_all(rt, shared, clients, plan);
@@ -168,7 +158,7 @@ fn begin<
 >(rt: &R, alloc: Global, store: OpenStore<D>, count: usize, plan: Plan) -> Result<Round, Error>
     requires names { store.site ≡ B.site }
 {
-    match start::<B, D, Global>(store) {
+    match start::<B, D, Global, Told>(store) {
         Ok((shared, parts)) => {
             let round = work(rt, alloc, &shared, parts, count, plan);
             drop(shared);

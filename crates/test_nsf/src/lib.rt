@@ -1,16 +1,32 @@
-//! The examples of README and of `nsf`, run: one thread makes a store, and many go on with it; and a store that lives
-//! through a day of requests and one of clients.
+//! The examples of README and of `nsf`, run: one thread makes a store, and many go on with it. And tests of the crate
+//! `headline`, over disks in memory.
 //!
-//! Proved of them is safety, and that the contracts suffice for such a caller.
+//! Three days and a build; and a day that is stopped at each moment of each of its requests, and of its opening, over a
+//! disk that loses what was done later. That is done once more where a call of the device fails, and where an
+//! allocation is refused. What is found is what a plain program makes of the replies. And a day of clients that is
+//! stopped at each moment since its opening began, or since they had ended.
+//!
+//! Proved: the clauses of `Device` and `Mortal` for that disk; of the tests safety, and that the contracts suffice for
+//! such a caller.
 #![tactic(auto)]
 
+#[cfg(test)]
+mod days_tests;
+#[cfg(test)]
+mod found;
 #[cfg(test)]
 mod full_index;
 #[cfg(test)]
 mod many_threads;
 #[cfg(test)]
+mod moments_tests;
+#[cfg(test)]
 mod one_thread;
+#[cfg(test)]
+mod recorded;
 #[cfg(test)]
 mod shared_day;
 #[cfg(test)]
 mod tests;
+#[cfg(test)]
+mod told;

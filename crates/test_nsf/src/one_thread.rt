@@ -1,5 +1,7 @@
 //! A store under one thread.
-use nsf::{Body, Engine, Error, Event, Geometry, Key, MemDisk, Reply, Rid, format_store, restart};
+use nsf::{
+    Body, Device, Engine, Error, Event, Geometry, Key, MemDisk, Reply, Rid, format_store, restart,
+};
 use std::alloc::Global;
 
 // The reply, unless it tells that nothing was done. (What is asked for below is never `Skipped`, nor is the log full.)
@@ -52,9 +54,9 @@ pub fn filled(alloc: Global) -> Result<MemDisk<Global>, Error> {
 }
 
 /// Where the rows with each of the keys lie, by the index of the store.
-pub fn find_each(
+pub fn find_each<D: Device>(
     alloc: Global,
-    engine: &Engine<MemDisk<Global>, Global>,
+    engine: &Engine<D, Global>,
     keys: &[&[u8]],
 ) -> Result<Vec<Vec<Rid>>, Error> {
     let mut found = Vec::new(alloc);

@@ -1,8 +1,9 @@
 //! A store that lives through a day of requests and a day of clients.
 use crate::many_threads::{Put, clients_of};
 use crate::one_thread::find_each;
-use headline::{Day, LivedBeside, SharedDay, live_beside};
-use nsf::{Body, Error, Event, Geometry, Key, Life, MemDisk, OpenError, Rid, Txn};
+use crate::recorded::{RecordedDisk, Stop};
+use headline::{Day, End, LivedBeside, SharedDay, live_beside};
+use nsf::{Body, Error, Event, Geometry, Key, Life, OpenError, Rid, Txn};
 use std::alloc::Global;
 use std::sync::Wait;
 use std::thread::Threads;
@@ -31,21 +32,21 @@ fn first_day(alloc: Global) -> Result<Day<Global>, Error> {
 }
 
 // A client for each of the other rows.
-fn second_day(alloc: Global, within: bool) -> Result<SharedDay<Put>, Error> {
+fn second_day(alloc: Global, end: End) -> Result<SharedDay<Put>, Error> {
     Ok(SharedDay {
         clients: clients_of(alloc, &KEYS[1..])?,
-        within,
+        end,
     })
 }
 
-fn new_disk(alloc: Global, geometry: Geometry) -> Result<MemDisk<Global>, Error> {
-    Ok(MemDisk::new(alloc, geometry.sectors(), 4_096)?)
+fn new_disk(alloc: Global, geometry: Geometry, stop: Stop) -> Result<RecordedDisk<Global>, Error> {
+    Ok(RecordedDisk::new(alloc, geometry.sectors(), 4_096, stop)?)
 }
 
 // How far the index is, and where the rows with the keys lie, if each client has put its row and all was written.
 fn found_in(
     alloc: Global,
-    lived: &LivedBeside<Put, MemDisk<Global>>,
+    lived: &LivedBeside<Put, RecordedDisk<Global>>,
 ) -> Result<(Life, Vec<Vec<Rid>>), OpenError> {
     lived.shared.written?;
     for client in &lived.shared.clients {
@@ -60,19 +61,45 @@ fn found_in(
     }
 }
 
+// What is found, and whether the disk stopped at the last of its moments.
+fn taken_apart(
+    alloc: Global,
+    lived: LivedBeside<Put, RecordedDisk<Global>>,
+) -> (Result<(Life, Vec<Vec<Rid>>), OpenError>, bool) {
+    let found = found_in(alloc, &lived);
+    let LivedBeside {
+        answers,
+        shared,
+        engine,
+        ..
+    } = lived;
+    drop(answers);
+    drop(shared);
+    let disk = engine.into_device();
+    let is_last = disk.is_last;
+    drop(disk);
+    (found, is_last)
+}
+
 /// What is found behind a day of requests and a day of two clients that await their acknowledgements, once the index is
-/// built to its end.
+/// built to its end: how far the index is, and where the rows lie. And whether the disk stopped at the last of its
+/// moments.
 pub fn live<R: Threads + Wait + Sync>(
     rt: &R,
     alloc: Global,
-    within: bool,
-) -> Result<(Life, Vec<Vec<Rid>>), OpenError> {
+    end: End,
+    stop: Stop,
+) -> Result<(Life, Vec<Vec<Rid>>, bool), OpenError> {
     let geometry = Geometry::new(1, 64, 4)?;
     let days = [first_day(alloc)?];
-    let day = second_day(alloc, within)?;
-    let disk = new_disk(alloc, geometry)?;
+    let day = second_day(alloc, end)?;
+    let disk = new_disk(alloc, geometry, stop)?;
     match live_beside(rt, alloc, disk, geometry, &days, day, true) {
-        Ok(lived) => found_in(alloc, &lived),
+        Ok(lived) => {
+            let (found, is_last) = taken_apart(alloc, lived);
+            let (life, rids) = found?;
+            Ok((life, rids, is_last))
+        }
         Err(refusal) => Err(refusal.error),
     }
 }

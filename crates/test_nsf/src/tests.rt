@@ -2,9 +2,15 @@
 use crate::full_index::serve_a_crowd;
 use crate::many_threads::put_two;
 use crate::one_thread::{filled, find};
+use crate::recorded::Stop;
 use crate::shared_day::live;
+use headline::End;
 use nsf::{Error, Fate, Life};
+use std::alloc::Global;
+use std::process::Abort;
+use std::sync::Wait;
 use std::test::Fail;
+use std::thread::Threads;
 
 // One thread leaves a store, threads go on with it behind a crash, and behind another one each row is found once.
 #[test]
@@ -29,15 +35,40 @@ fn a_client_is_told_that_the_index_is_full(rt: HostRuntime) -> Result<(), Fail> 
     Ok(())
 }
 
-// A day of requests, a day of clients that is cut off or isn't, and a build: each row is found once.
+// More than the moments of a day of clients.
+const MANY: u64 = 1_000;
+
+// Stops a day of clients at each moment that it may stop at. Each row is found once, but where the clients may not have
+// put theirs: then no more than once.
+fn stop_at_each<R: Threads + Wait + Sync + Abort>(
+    rt: &R,
+    alloc: Global,
+    end: End,
+) -> Result<(), Fail> {
+    for behind in 0..MANY {
+        let fates = [Fate::Junk, Fate::New];
+        let (life, found, is_last) = live(rt, alloc, end, Stop { behind, fates })?;
+        assert!(rt; life == Life::Complete);
+        for (at, rids) in found.iter().enumerate() {
+            let may_lack = end == End::Opening && at > 0;
+            assert!(rt;
+                rids.len() == 1 || (may_lack && rids.is_empty()),
+                "{end:?}, {behind}, {at}"
+            );
+        }
+        if is_last || end == End::Behind {
+            return Ok(());
+        }
+    }
+    Err("fewer moments")?
+}
+
+// A day of requests, and a day of clients behind it, each of which awaits the acknowledgement of a row. That stops
+// behind all that was done, as the rest is written out, or at any moment; then the index is built.
 #[test]
 fn a_day_of_clients_behind_one_of_requests(rt: HostRuntime) -> Result<(), Fail> {
-    for within in [true, false] {
-        let (life, found) = live(&rt, rt.alloc(), within)?;
-        assert!(&rt; life == Life::Complete);
-        for rids in &found {
-            assert_eq!(&rt; rids.len(), 1);
-        }
+    for end in [End::Behind, End::Closing, End::Opening] {
+        stop_at_each(&rt, rt.alloc(), end)?;
     }
     Ok(())
 }

@@ -1,4 +1,4 @@
-//! Tests of one seat to which memory is refused.
+//! Tests of one seat, whose commits are kept, to which memory is refused.
 //!
 //! Proved of them is safety.
 #![tactic(auto)]

@@ -4,7 +4,7 @@ ghost use Rattle.std.specs.Prelude.{◌≡◌};
 use crate::requests::Answer;
 use records::{Error, Key, Rid};
 use sector_device::Device;
-use shared::{Group, Memory, Seat, Shared};
+use shared::{Group, Kept, Memory, Seat, Shared};
 use std::alloc::Global;
 use std::sync::Wait;
 use test_memory::Refusing;
@@ -29,7 +29,7 @@ enum Look {
 fn make_look<B: Group, A: Memory, R: Wait>(
     rt: &R,
     shared: &Shared<B, A>,
-    seat: &mut Seat<B, A>,
+    seat: &mut Seat<B, A, Kept>,
     kind: Look,
 ) -> Result<(), Error>
     ensures { seat.new.number ≡ seat.old.number }
@@ -38,9 +38,9 @@ fn make_look<B: Group, A: Memory, R: Wait>(
         Look::Get => {
             get(rt, shared, seat, Rid { page: 0, slot: 0 });
         }
-        Look::Find => drop(find(rt, shared, Key::new(b"ant")?)),
+        Look::Find => drop(find(rt, shared, seat, Key::new(b"ant")?)),
         Look::Life => {
-            life(rt, shared);
+            life(rt, shared, seat);
         }
     }
     Ok(())
@@ -51,7 +51,7 @@ fn make_look<B: Group, A: Memory, R: Wait>(
 fn commit_short<B: Group, A: Memory, R: Wait>(
     rt: &R,
     shared: &Shared<B, A>,
-    seat: &mut Seat<B, A>,
+    seat: &mut Seat<B, A, Kept>,
     memory: &Refusing<Global>,
 ) -> Result<u64, Error>
     ensures { seat.new.number ≡ seat.old.number }
@@ -86,7 +86,7 @@ fn last_in_queue<B: Group, D: Device, A: Memory, R: Wait>(
 fn pushes<B: Group, D: Device, A: Memory, R: Wait>(
     rt: &R,
     shared: &Shared<B, A>,
-    seat: &mut Seat<B, A>,
+    seat: &mut Seat<B, A, Kept>,
     flush: &mut FlushPart<B, D, A>,
     memory: &Refusing<Global>,
     kind: Look,
@@ -107,7 +107,7 @@ fn pushes<B: Group, D: Device, A: Memory, R: Wait>(
 pub(crate) fn look_all<B: Group, D: Device, A: Memory, R: Wait>(
     rt: &R,
     shared: &Shared<B, A>,
-    seat: &mut Seat<B, A>,
+    seat: &mut Seat<B, A, Kept>,
     flush: &mut FlushPart<B, D, A>,
     memory: &Refusing<Global>,
 ) -> Option<Answer>

@@ -7,7 +7,7 @@ use crate::looks::look_all;
 use crate::requests::{Answer, Last, Request, ask_again};
 use records::Error;
 use sector_device::Device;
-use shared::{Group, Memory, Seat, Shared};
+use shared::{Group, Kept, Memory, Seat, Shared};
 use std::alloc::Global;
 use std::marker::Brand;
 use std::sync::Wait;
@@ -37,7 +37,7 @@ pub(crate) struct Played<D> {
 fn answer_all<B: Group, A: Memory, R: Wait>(
     rt: &R,
     shared: &Shared<B, A>,
-    seat: &mut Seat<B, A>,
+    seat: &mut Seat<B, A, Kept>,
     memory: &Refusing<Global>,
     steps: &[(Request, Answer)],
 ) -> Option<Answer>
@@ -59,7 +59,7 @@ fn close<B: Group, D: Device, A: Memory, R: Wait>(
     rt: &R,
     alloc: A,
     shared: Shared<B, A>,
-    parts: Parts<B, D, A>,
+    parts: Parts<B, D, A, Kept>,
     memory: &Refusing<Global>,
 ) -> Result<(bool, D), (Error, D)>
     requires { AreAllSeats B.site.seats parts.seats.items }
@@ -76,7 +76,7 @@ fn close<B: Group, D: Device, A: Memory, R: Wait>(
 fn take_turn<B: Group, D: Device, A: Memory, R: Wait>(
     rt: &R,
     shared: &Shared<B, A>,
-    seat: &mut Seat<B, A>,
+    seat: &mut Seat<B, A, Kept>,
     flush: &mut FlushPart<B, D, A>,
     memory: &Refusing<Global>,
     turn: Turn<'_>,
@@ -93,7 +93,7 @@ fn take_turn<B: Group, D: Device, A: Memory, R: Wait>(
 fn begin_first<B: Group, D: Device, A: Memory, R: Wait>(
     rt: &R,
     shared: &Shared<B, A>,
-    seats: &mut Vec<Seat<B, A>, A>,
+    seats: &mut Vec<Seat<B, A, Kept>, A>,
     flush: &mut FlushPart<B, D, A>,
     memory: &Refusing<Global>,
     turn: Turn<'_>,
@@ -112,7 +112,7 @@ fn play_with<B: Group, D: Device, A: Memory, R: Wait>(
     rt: &R,
     alloc: A,
     shared: Shared<B, A>,
-    mut parts: Parts<B, D, A>,
+    mut parts: Parts<B, D, A, Kept>,
     memory: &Refusing<Global>,
     turn: Turn<'_>,
 ) -> Result<Played<D>, (Error, D)>
@@ -146,7 +146,7 @@ fn play_in<B: Group, D: Device, A: Memory, R: Wait>(
 ) -> Result<Played<D>, (Error, D)>
     requires names { store.site ≡ B.site }
 {
-    match start::<B, D, A>(store) {
+    match start::<B, D, A, Kept>(store) {
         Ok((shared, parts)) => play_with(rt, alloc, shared, parts, memory, turn),
         Err(refused) => Err(refused),
     }

@@ -3,7 +3,7 @@ ghost use Rattle.std.specs.Prelude.{◌≡◌};
 
 use nsf_core::Ticket;
 use records::{Body, Error, Key, Rid, Txn};
-use shared::{Change, Group, Memory, Seat, Shared};
+use shared::{Change, Group, Kept, Memory, Seat, Shared};
 use std::alloc::Global;
 use std::sync::Wait;
 use test_memory::Refusing;
@@ -75,7 +75,7 @@ fn written(ticket: Ticket) -> Answer {
 fn carried<B: Group, A: Memory, R: Wait>(
     rt: &R,
     shared: &Shared<B, A>,
-    seat: &mut Seat<B, A>,
+    seat: &mut Seat<B, A, Kept>,
     memory: &Refusing<Global>,
     refused: u64,
     txn: Txn,
@@ -100,7 +100,7 @@ fn carried<B: Group, A: Memory, R: Wait>(
 fn make_change<B: Group, A: Memory, R: Wait>(
     rt: &R,
     shared: &Shared<B, A>,
-    seat: &mut Seat<B, A>,
+    seat: &mut Seat<B, A, Kept>,
     last: &mut Last,
     request: Request,
 ) -> Result<Change, Error>
@@ -133,7 +133,7 @@ fn make_change<B: Group, A: Memory, R: Wait>(
 fn ask<B: Group, A: Memory, R: Wait>(
     rt: &R,
     shared: &Shared<B, A>,
-    seat: &mut Seat<B, A>,
+    seat: &mut Seat<B, A, Kept>,
     memory: &Refusing<Global>,
     last: &mut Last,
     request: Request,
@@ -173,7 +173,7 @@ fn told(answered: Result<Answer, Error>) -> Answer {
 pub(crate) fn ask_again<B: Group, A: Memory, R: Wait>(
     rt: &R,
     shared: &Shared<B, A>,
-    seat: &mut Seat<B, A>,
+    seat: &mut Seat<B, A, Kept>,
     memory: &Refusing<Global>,
     last: &mut Last,
     request: Request,

@@ -3,14 +3,14 @@ ghost use Rattle.std.specs.Prelude.{◌≡◌};
 
 use nsf_core::Ticket;
 use records::{Body, Error, Key, Rid, Txn};
-use shared::{Change, Group, Memory, Seat, Shared};
+use shared::{Change, Group, Keeping, Memory, Seat, Shared};
 use std::sync::Wait;
 
 /// Begins a transaction.
-pub fn begin<B: Group, A: Memory, R: Wait>(
+pub fn begin<B: Group, A: Memory, R: Wait, K: Keeping>(
     rt: &R,
     shared: &Shared<B, A>,
-    seat: &mut Seat<B, A>,
+    seat: &mut Seat<B, A, K>,
 ) -> Result<Txn, Error>
     ensures { seat.new.number ≡ seat.old.number }
 {
@@ -18,10 +18,10 @@ pub fn begin<B: Group, A: Memory, R: Wait>(
 }
 
 /// Inserts a row.
-pub fn insert<B: Group, A: Memory, R: Wait>(
+pub fn insert<B: Group, A: Memory, R: Wait, K: Keeping>(
     rt: &R,
     shared: &Shared<B, A>,
-    seat: &mut Seat<B, A>,
+    seat: &mut Seat<B, A, K>,
     txn: Txn,
     key: Key,
     body: Body,
@@ -32,10 +32,10 @@ pub fn insert<B: Group, A: Memory, R: Wait>(
 }
 
 /// Puts another row in the place of one.
-pub fn update<B: Group, A: Memory, R: Wait>(
+pub fn update<B: Group, A: Memory, R: Wait, K: Keeping>(
     rt: &R,
     shared: &Shared<B, A>,
-    seat: &mut Seat<B, A>,
+    seat: &mut Seat<B, A, K>,
     txn: Txn,
     rid: Rid,
     key: Key,
@@ -47,10 +47,10 @@ pub fn update<B: Group, A: Memory, R: Wait>(
 }
 
 /// Deletes a row.
-pub fn delete<B: Group, A: Memory, R: Wait>(
+pub fn delete<B: Group, A: Memory, R: Wait, K: Keeping>(
     rt: &R,
     shared: &Shared<B, A>,
-    seat: &mut Seat<B, A>,
+    seat: &mut Seat<B, A, K>,
     txn: Txn,
     rid: Rid,
 ) -> Result<Change, Error>
@@ -68,10 +68,10 @@ fn whole(change: Change) -> Result<Rid, Error> {
 }
 
 /// Inserts a row with all the steps of the change.
-pub fn put<B: Group, A: Memory, R: Wait>(
+pub fn put<B: Group, A: Memory, R: Wait, K: Keeping>(
     rt: &R,
     shared: &Shared<B, A>,
-    seat: &mut Seat<B, A>,
+    seat: &mut Seat<B, A, K>,
     txn: Txn,
     key: Key,
     body: Body,
@@ -82,10 +82,10 @@ pub fn put<B: Group, A: Memory, R: Wait>(
 }
 
 /// Deletes a row with all the steps of the change.
-pub fn remove<B: Group, A: Memory, R: Wait>(
+pub fn remove<B: Group, A: Memory, R: Wait, K: Keeping>(
     rt: &R,
     shared: &Shared<B, A>,
-    seat: &mut Seat<B, A>,
+    seat: &mut Seat<B, A, K>,
     txn: Txn,
     rid: Rid,
 ) -> Result<Rid, Error>
@@ -95,10 +95,10 @@ pub fn remove<B: Group, A: Memory, R: Wait>(
 }
 
 /// Makes the steps that a change still owes.
-pub fn carry_on<B: Group, A: Memory, R: Wait>(
+pub fn carry_on<B: Group, A: Memory, R: Wait, K: Keeping>(
     rt: &R,
     shared: &Shared<B, A>,
-    seat: &mut Seat<B, A>,
+    seat: &mut Seat<B, A, K>,
     txn: Txn,
 ) -> Result<(), Error>
     ensures { seat.new.number ≡ seat.old.number }
@@ -107,10 +107,10 @@ pub fn carry_on<B: Group, A: Memory, R: Wait>(
 }
 
 /// Takes a transaction back.
-pub fn abort<B: Group, A: Memory, R: Wait>(
+pub fn abort<B: Group, A: Memory, R: Wait, K: Keeping>(
     rt: &R,
     shared: &Shared<B, A>,
-    seat: &mut Seat<B, A>,
+    seat: &mut Seat<B, A, K>,
     txn: Txn,
 ) -> Result<(), Error>
     ensures { seat.new.number ≡ seat.old.number }
@@ -119,10 +119,10 @@ pub fn abort<B: Group, A: Memory, R: Wait>(
 }
 
 /// Commits a transaction.
-pub fn commit<B: Group, A: Memory, R: Wait>(
+pub fn commit<B: Group, A: Memory, R: Wait, K: Keeping>(
     rt: &R,
     shared: &Shared<B, A>,
-    seat: &mut Seat<B, A>,
+    seat: &mut Seat<B, A, K>,
     txn: Txn,
 ) -> Result<Ticket, Error>
     ensures { seat.new.number ≡ seat.old.number }
@@ -131,10 +131,10 @@ pub fn commit<B: Group, A: Memory, R: Wait>(
 }
 
 /// Waits until the record of a ticket is safe.
-pub fn await_ack<B: Group, A: Memory, R: Wait>(
+pub fn await_ack<B: Group, A: Memory, R: Wait, K: Keeping>(
     rt: &R,
     shared: &Shared<B, A>,
-    seat: &mut Seat<B, A>,
+    seat: &mut Seat<B, A, K>,
     ticket: Ticket,
 ) -> Result<(), Error>
     ensures { seat.new.number ≡ seat.old.number }
@@ -146,10 +146,10 @@ pub fn await_ack<B: Group, A: Memory, R: Wait>(
 }
 
 /// Creates the index.
-pub fn create_index<B: Group, A: Memory, R: Wait>(
+pub fn create_index<B: Group, A: Memory, R: Wait, K: Keeping>(
     rt: &R,
     shared: &Shared<B, A>,
-    seat: &mut Seat<B, A>,
+    seat: &mut Seat<B, A, K>,
 ) -> Result<Ticket, Error>
     ensures { seat.new.number ≡ seat.old.number }
 {
@@ -157,10 +157,10 @@ pub fn create_index<B: Group, A: Memory, R: Wait>(
 }
 
 /// Drops the index.
-pub fn drop_index<B: Group, A: Memory, R: Wait>(
+pub fn drop_index<B: Group, A: Memory, R: Wait, K: Keeping>(
     rt: &R,
     shared: &Shared<B, A>,
-    seat: &mut Seat<B, A>,
+    seat: &mut Seat<B, A, K>,
 ) -> Result<Ticket, Error>
     ensures { seat.new.number ≡ seat.old.number }
 {

@@ -15,6 +15,7 @@ pub use calls::{
     remove, update,
 };
 pub use looks::{find, get, has_failed, is_acked, life, progress};
-pub use runs::{LoopParts, Ran, build, run};
+pub use runs::{Ran, build, run};
+pub use shared::LoopParts;
 pub use store::{open, start, take_back};
 pub use threads_lifetime::Parts;

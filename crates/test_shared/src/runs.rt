@@ -3,20 +3,11 @@ ghost use Rattle.std.specs.Prelude.{IfOk};
 
 use records::Error;
 use sector_device::Device;
-use shared::{BuildPart, CleanPart, Group, Shared};
+use shared::{BuildPart, Group, LoopParts, Shared};
 use std::mem::forget;
 use std::sync::Wait;
 use std::thread::Threads;
-use threads_flusher::FlushPart;
 use threads_loops::{BuilderEnd, Ended, Gate, build_loop, run_beside};
-
-/// The parts of the loops.
-#[derive(Drop)]
-pub struct LoopParts<B: Group, D: Device> {
-    pub flush: FlushPart<B, D>,
-    pub build: BuildPart<B>,
-    pub clean: CleanPart<B>,
-}
 
 /// What is left of the loops, what the clients returned, and how the flusher ended.
 #[derive(Drop)]

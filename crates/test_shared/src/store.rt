@@ -5,7 +5,7 @@ ghost use Rattle.shared.specs.Seats.{AreNewSeats};
 
 use records::Error;
 use sector_device::Device;
-use shared::{Group, Memory, Shared};
+use shared::{Group, Keeping, Memory, Shared};
 use std::mem::forget;
 use std::sync::Wait;
 use threads_lifetime::{OpenError, OpenStore, Parts, finish, open_store};
@@ -24,22 +24,22 @@ pub fn open<D: Device, A: Memory>(
 }
 
 /// Hands out what the threads share, and the parts of each.
-pub fn start<B: Group, D: Device, A: Memory>(
+pub fn start<B: Group, D: Device, A: Memory, K: Keeping>(
     store: OpenStore<D, A>,
-) -> Result<(Shared<B, A>, Parts<B, D, A>), (Error, D)>
+) -> Result<(Shared<B, A>, Parts<B, D, A, K>), (Error, D)>
     requires { store.site ≡ B.site }
     ensures { IfOk result (λ r. AreNewSeats B.site.board B.site.seats r.1.seats.items) }
 {
-    store.start::<B>()
+    store.start::<B, K>()
 }
 
 /// The device, once all is taken back and what was made is written out, or why it isn't. What else is left is not let
 /// go: to prove its destructors would cost more than the tests.
-pub fn take_back<B: Group, D: Device, A: Memory, R: Wait>(
+pub fn take_back<B: Group, D: Device, A: Memory, K: Keeping, R: Wait>(
     rt: &R,
     alloc: A,
     shared: Shared<B, A>,
-    parts: Parts<B, D, A>,
+    parts: Parts<B, D, A, K>,
 ) -> (D, Option<Error>)
     requires { AreAllSeats B.site.seats parts.seats.items }
 {

@@ -3,7 +3,8 @@ ghost use Rattle.std.specs.Prelude.{◌≡◌};
 
 use program_demonstration::key_of;
 use records::{Body, Error, Rid, Txn};
-use shared::{Group, Seat, Shared};
+use shared::{Group, Kept, Seat, Shared};
+use std::alloc::Global;
 use std::sync::Wait;
 use test_shared::{create_index, drop_index, get, put};
 
@@ -11,7 +12,7 @@ use test_shared::{create_index, drop_index, get, put};
 pub fn insert<B: Group, R: Wait>(
     rt: &R,
     shared: &Shared<B>,
-    seat: &mut Seat<B>,
+    seat: &mut Seat<B, Global, Kept>,
     txn: Txn,
     first: u16,
     second: u16,
@@ -32,7 +33,7 @@ pub fn insert<B: Group, R: Wait>(
 pub fn reads<B: Group, R: Wait>(
     rt: &R,
     shared: &Shared<B>,
-    seat: &mut Seat<B>,
+    seat: &mut Seat<B, Global, Kept>,
     rid: Rid,
     first: u16,
     second: u16,
@@ -50,7 +51,7 @@ pub fn reads<B: Group, R: Wait>(
 pub fn make_anew<B: Group, R: Wait>(
     rt: &R,
     shared: &Shared<B>,
-    seat: &mut Seat<B>,
+    seat: &mut Seat<B, Global, Kept>,
 ) -> Result<(), Error>
     ensures { seat.new.number ≡ seat.old.number }
 {

@@ -6,7 +6,7 @@ use crate::found::formatted;
 use program_demonstration::set_up;
 use records::{Error, Geometry};
 use sector_device::{Device, MemDisk};
-use shared::{BuildPart, Group, GroupView, Seat, Shared};
+use shared::{BuildPart, Group, GroupView, Kept, Seat, Shared};
 use std::alloc::Global;
 use std::cell::Cell;
 use std::marker::Brand;
@@ -29,7 +29,7 @@ type Seen = (u64, bool, bool);
 struct DropsIndex<'a, B: Group, R> {
     rt: &'a R,
     shared: &'a Shared<B>,
-    seat: Cell<Option<Seat<B>>>,
+    seat: Cell<Option<Seat<B, Global, Kept>>>,
     dropped: Cell<bool>,
 }
 
@@ -67,7 +67,7 @@ fn stop_and_look<B: Group, D: Device>(
 fn build_held<B: Group, D: Device, R: Wait>(
     rt: &R,
     shared: &Shared<B>,
-    mut seat: Seat<B>,
+    mut seat: Seat<B, Global, Kept>,
     flush: &mut FlushPart<B, D>,
     part: &mut BuildPart<B>,
 ) -> Ended {
@@ -90,7 +90,7 @@ fn build_held<B: Group, D: Device, R: Wait>(
 fn create_and_build<B: Group, D: Device, R: Wait>(
     rt: &R,
     shared: &Shared<B>,
-    mut seat: Seat<B>,
+    mut seat: Seat<B, Global, Kept>,
     flush: &mut FlushPart<B, D>,
     part: &mut BuildPart<B>,
 ) -> Result<Ended, Error> {
@@ -110,7 +110,7 @@ fn build_in<B: Group, D: Device + Drop, R: Wait>(
 ) -> Result<Ended, Error>
     requires names { store.site ≡ B.site }
 {
-    match start::<B, D, Global>(store) {
+    match start::<B, D, Global, Kept>(store) {
         Ok((shared, mut parts)) => {
             let ended = match parts.seats.pop() {
                 Some(seat) => {

@@ -8,7 +8,7 @@ use crate::seats::{Told, WRITERS, Writer, gather, seats_of, write_all, writers_o
 use crate::stage::{HeldDisk, Stage};
 use records::Error;
 use sector_device::Device;
-use shared::{Group, Shared};
+use shared::{Group, Kept, Shared};
 use std::alloc::{AllocError, Global};
 use std::marker::Brand;
 use std::mem::forget;
@@ -99,18 +99,7 @@ fn end<B: Group, D: Device + Drop, R: Wait>(
     let told = gather(alloc, &clients);
     match seats_of(alloc, clients) {
         Ok(seats) => {
-            let LoopParts {
-                flush,
-                build,
-                clean,
-            } = loops;
-            let parts = Parts {
-                seats,
-                flush,
-                build,
-                clean,
-            };
-            let (device, end) = take_back(rt, alloc, shared, parts);
+            let (device, end) = take_back(rt, alloc, shared, loops.with_seats(seats));
             left_with(told, flusher.and(flushed).err(), end, device)
         }
         Err(AllocError) => {
@@ -162,22 +151,12 @@ fn play_with<B: Group + Send + Sync, D: Device + Send + Drop, R: Threads + Wait 
     rt: &R,
     alloc: Global,
     shared: Shared<B>,
-    parts: Parts<B, D>,
+    parts: Parts<B, D, Global, Kept>,
     stage: &Stage<'_, R>,
 ) -> Result<Left<D>, Error>
     requires seats { AreNewSeats B.site.board B.site.seats parts.seats.items }
 {
-    let Parts {
-        seats,
-        flush,
-        build,
-        clean,
-    } = parts;
-    let loops = LoopParts {
-        flush,
-        build,
-        clean,
-    };
+    let (seats, loops) = parts.split();
     match writers_of(alloc, seats) {
         Ok(writers) => run_all(rt, alloc, shared, writers, loops, stage),
         Err(_) => {
@@ -197,7 +176,7 @@ fn play_in<B: Group + Send + Sync, D: Device + Send + Drop, R: Threads + Wait + 
 ) -> Result<Left<D>, Error>
     requires names { store.site ≡ B.site }
 {
-    match start::<B, D, Global>(store) {
+    match start::<B, D, Global, Kept>(store) {
         Ok((shared, parts)) => play_with(rt, alloc, shared, parts, stage),
         Err((error, device)) => {
             drop(device);

@@ -8,7 +8,7 @@ use model::Life;
 use nsf_core::Ticket;
 use program_demonstration::{key_of, set_up};
 use records::{Error, Rid};
-use shared::{Group, Seat, Shared};
+use shared::{Group, Kept, Seat, Shared};
 use std::alloc::{AllocError, Global};
 use std::rt::Clock;
 use std::sync::Wait;
@@ -58,7 +58,7 @@ pub struct Put {
 /// refused; and what it saw of the index.
 #[derive(Drop)]
 pub struct Writer<B: Group> {
-    pub seat: Seat<B>,
+    pub seat: Seat<B, Global, Kept>,
     number: u16,
     kept: Vec<Put>,
     gone: Vec<Put>,
@@ -102,7 +102,7 @@ impl Built {
 // Waits until a ticket is acknowledged, or both loops are held, or the device has failed.
 fn wait_unless_held<B: Group, R: Wait + Clock>(
     shared: &Shared<B>,
-    seat: &mut Seat<B>,
+    seat: &mut Seat<B, Global, Kept>,
     stage: &Stage<'_, R>,
     ticket: &Ticket,
 )
@@ -121,7 +121,7 @@ fn wait_unless_held<B: Group, R: Wait + Clock>(
 fn change<B: Group, R: Wait>(
     rt: &R,
     shared: &Shared<B>,
-    seat: &mut Seat<B>,
+    seat: &mut Seat<B, Global, Kept>,
     numbers: (u16, u16),
     gone: Option<Rid>,
 ) -> Result<(Rid, Ticket), Error>
@@ -141,7 +141,7 @@ fn change<B: Group, R: Wait>(
 fn take_back<B: Group, R: Wait>(
     rt: &R,
     shared: &Shared<B>,
-    seat: &mut Seat<B>,
+    seat: &mut Seat<B, Global, Kept>,
     numbers: (u16, u16),
 ) -> Result<Rid, Error>
     ensures { seat.new.number ≡ seat.old.number }
@@ -157,7 +157,7 @@ fn take_back<B: Group, R: Wait>(
 fn fill<B: Group, R: Wait + Clock>(
     rt: &R,
     shared: &Shared<B>,
-    seat: &mut Seat<B>,
+    seat: &mut Seat<B, Global, Kept>,
     stage: &Stage<'_, R>,
 ) -> Result<(), Error>
     ensures { seat.new.number ≡ seat.old.number }
@@ -179,7 +179,7 @@ fn fill<B: Group, R: Wait + Clock>(
 fn lead<B: Group, R: Wait + Clock>(
     rt: &R,
     shared: &Shared<B>,
-    seat: &mut Seat<B>,
+    seat: &mut Seat<B, Global, Kept>,
     stage: &Stage<'_, R>,
 ) -> Result<bool, Error>
     ensures { seat.new.number ≡ seat.old.number }
@@ -379,7 +379,7 @@ fn write<B: Group, R: Wait + Clock>(
 /// A writer for each of these seats.
 pub fn writers_of<B: Group>(
     alloc: Global,
-    seats: Vec<Seat<B>>,
+    seats: Vec<Seat<B, Global, Kept>>,
 ) -> Result<Vec<Writer<B>>, AllocError>
     ensures { IfOk result (λ writers. map (λ w. w.seat) writers.items ≡ seats.items) }
 {
@@ -461,7 +461,7 @@ pub fn gather<B: Group>(alloc: Global, writers: &[Writer<B>]) -> Result<Told, Al
 pub fn seats_of<B: Group>(
     alloc: Global,
     writers: Vec<Writer<B>>,
-) -> Result<Vec<Seat<B>>, AllocError>
+) -> Result<Vec<Seat<B, Global, Kept>>, AllocError>
     ensures { IfOk result (λ seats. seats.items ≡ map (λ w. w.seat) writers.items) }
 {
     let mut seats = Vec::with_capacity(alloc, writers.len())?;
@@ -474,9 +474,16 @@ pub fn seats_of<B: Group>(
 // ---- behind the writers
 
 // Waits until the index is complete.
-fn await_index<B: Group, R: Wait + Clock>(rt: &R, shared: &Shared<B>, stage: &Stage<'_, R>) {
+fn await_index<B: Group, R: Wait + Clock>(
+    rt: &R,
+    shared: &Shared<B>,
+    seat: &mut Seat<B, Global, Kept>,
+    stage: &Stage<'_, R>,
+)
+    ensures { seat.new.number ≡ seat.old.number }
+{
     for _ in stage.looks() {
-        if let Life::Complete = life(rt, shared) {
+        if let Life::Complete = life(rt, shared, seat) {
             return;
         }
         stage.rest();
@@ -488,7 +495,7 @@ fn await_index<B: Group, R: Wait + Clock>(rt: &R, shared: &Shared<B>, stage: &St
 fn leave_mark<B: Group, R: Wait + Clock>(
     rt: &R,
     shared: &Shared<B>,
-    seat: &mut Seat<B>,
+    seat: &mut Seat<B, Global, Kept>,
     stage: &Stage<'_, R>,
 ) -> Result<(), Error>
     ensures { seat.new.number ≡ seat.old.number }
@@ -501,8 +508,14 @@ fn leave_mark<B: Group, R: Wait + Clock>(
 }
 
 // Whether the index finds the second row at its place alone.
-fn finds_row<B: Group, R: Wait>(rt: &R, shared: &Shared<B>) -> Result<bool, Error> {
-    let found = find(rt, shared, key_of(ROWS, 1)?)?;
+fn finds_row<B: Group, R: Wait>(
+    rt: &R,
+    shared: &Shared<B>,
+    seat: &mut Seat<B, Global, Kept>,
+) -> Result<bool, Error>
+    ensures { seat.new.number ≡ seat.old.number }
+{
+    let found = find(rt, shared, seat, key_of(ROWS, 1)?)?;
     Ok(found.as_slice() == [SECOND_ROW].as_slice())
 }
 
@@ -511,17 +524,16 @@ fn finds_row<B: Group, R: Wait>(rt: &R, shared: &Shared<B>) -> Result<bool, Erro
 fn end<B: Group, R: Wait + Clock>(
     rt: &R,
     shared: &Shared<B>,
-    seat: &mut Seat<B>,
+    seat: &mut Seat<B, Global, Kept>,
     stage: &Stage<'_, R>,
 ) -> Result<Built, Error>
     ensures { seat.new.number ≡ seat.old.number }
 {
-    await_index(rt, shared, stage);
+    await_index(rt, shared, seat, stage);
     make_anew(rt, shared, seat)?;
-    await_index(rt, shared, stage);
+    await_index(rt, shared, seat, stage);
     leave_mark(rt, shared, seat, stage)?;
-    Ok(Built {
-        found: finds_row(rt, shared)?,
-        told: progress(shared, seat) > 0,
-    })
+    let found = finds_row(rt, shared, seat)?;
+    let told = progress(shared, seat) > 0;
+    Ok(Built { found, told })
 }
