@@ -13,7 +13,7 @@ use Rattle.node_parts.specs.declared.NodeParts.{NodeParts}
 use Rattle.node_parts.specs.declared.NodeParts.TheVariants.{Inner}
 use Rattle.node_parts.specs.Order.{is_below, insert_entry, IsAscending}
 use Rattle.node_parts.specs.Tree.{Tree, leaf, branch, entries, forest_entries, forest_of, trees_of, trees_of-forest_of, count, depth, forest_depth, IsInner}
-use Rattle.node_parts.specs.Seen.{least_of, AreLabelled, tree_of, IsSound}
+use Rattle.node_parts.specs.Seen.{least_of, AreLabelled, tree_of, IsSoundNode}
 use Rattle.node_parts.specs.Balance.{IsTree, AreTrees}
 use Rattle.node_parts.specs.Rows.{trees, branches}
 use Rattle.node_parts.proofs.Children.{all_entries, place_of, child_lower, child_ascending}
@@ -45,21 +45,21 @@ prefix_len-upto p (x ∷ xs) = pick (prefix_len-upto p xs) (p x)
     pick h false = omega arith
 
 -- a pair belongs to a child that there is
-pub at_range : {A : Type 0} (parts : NodeParts A) (row : Vec (Child A) A) (t : Tree) (k : ℕ) (p : Pair) → tree_of parts ≡ t → parts ≡ Inner row → IsSound parts
-    → 0 < length (entries t) → k ≡ place_in t p → k < length row.items
+pub at_range : {A : Type 0} (parts : NodeParts A) (row : Vec (Child A) A) (t : Tree) (k : ℕ) (p : Pair) → tree_of parts ≡ t → parts ≡ Inner row
+    → IsSoundNode parts → 0 < length (entries t) → k ≡ place_in t p → k < length row.items
 at_range parts row t k p v e i s z =
     let seen : t ≡ branch (forest_of (trees row.items)) = sym v ∙ ap tree_of e in
     let some : 0 < length row.items = rows.some_child row.items (rw seen at s) in
-    let sound : (vec_len row ≤ 32) × (32 ≤ vec_capacity row) × AreLabelled row.items = subst IsSound e i in
+    let sound : (vec_len row ≤ 32) × (32 ≤ vec_capacity row) × AreLabelled row.items = subst IsSoundNode e i in
     omega (arith, z ∙ place_in-row p row.items t seen sound.2, some, prefix_len-upto (λ x. not (is_below p x.least)) row.items)
 
 pub at_child : {A : Type 0} (parts : NodeParts A) (row : Vec (Child A) A) (t u : Tree) (k : ℕ) (c : Child A) (p : Pair) → tree_of parts ≡ t → parts ≡ Inner row
-    → IsSound parts → IsAscending (entries t) → 0 < length (entries t) → IsTree (depth t) t → k ≡ place_in t p → c ≡ get_or row.items k c → u ≡ c.node.value
+    → IsSoundNode parts → IsAscending (entries t) → 0 < length (entries t) → IsTree (depth t) t → k ≡ place_in t p → c ≡ get_or row.items k c → u ≡ c.node.value
     → IsAt t u row.items k c p
 at_child parts row t u k c p v e i a s b z d f =
     let seen : t ≡ branch (forest_of (trees row.items)) = sym v ∙ ap tree_of e in
     let some : 0 < length row.items = rows.some_child row.items (rw seen at s) in
-    let sound : (vec_len row ≤ 32) × (32 ≤ vec_capacity row) × AreLabelled row.items = subst IsSound e i in
+    let sound : (vec_len row ≤ 32) × (32 ≤ vec_capacity row) × AreLabelled row.items = subst IsSoundNode e i in
     let place : k ≡ place_of p row.items - 1 = z ∙ place_in-row p row.items t seen sound.2 in
     record {
       seen = seen;

@@ -84,8 +84,8 @@ fn insert_in_leaf<A: Allocator>(
     Some(Child { least, node: upper })
 }
 
-/// Puts an entry into a node or one below it, by its path. If the node itself is split, its upper half comes back.
-fn insert_below<A: Allocator>(
+/// Puts an entry into a node and what is below it, by its path. If the node itself is split, its upper half comes back.
+fn insert_in_subtree<A: Allocator>(
     node: &mut Node<A>,
     path: &[usize],
     entry: Entry,
@@ -109,8 +109,9 @@ fn insert_below<A: Allocator>(
         return insert_in_leaf(node, *at, entry, spares);
     };
     let child = &mut row[*at];
+    // the label is that of the child as it will be: it gets the entry next
     lower(&mut child.least, entry.pair);
-    let upper = insert_below(&mut child.node, below, entry, spares)?;
+    let upper = insert_in_subtree(&mut child.node, below, entry, spares)?;
     if row.len() < FULL {
         insert_at(row, *at + 1, upper);
         return None;
@@ -179,7 +180,7 @@ pub fn insert_top<A: Allocator>(
 {
     match root {
         None => first(spares.take_leaf(), entry),
-        Some(mut node) => match insert_below(&mut node, path, entry, spares) {
+        Some(mut node) => match insert_in_subtree(&mut node, path, entry, spares) {
             None => node,
             Some(upper) => join(spares.take_inner(), node, upper),
         },

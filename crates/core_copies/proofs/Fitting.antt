@@ -22,7 +22,7 @@ use Rattle.model.specs.Table.{Table}
 use Rattle.model.specs.Following.{ArePlaced}
 use Rattle.model.specs.Inside.{AreChangesWithin, AreInside}
 use Rattle.model.proofs.PlacedLaws.{placed_one_more}
-use Rattle.txn_table.specs.Sound.{EachSoundTxn, IsSound}
+use Rattle.txn_table.specs.Sound.{EachSoundTxn, IsSoundTable}
 use Rattle.txn_table.specs.Table.{TxnState, has_any, state_of}
 use Rattle.core_model.specs.Changes.{Changes, Unchanged, as_list, ◌▹◌}
 use Rattle.core_model.specs.Invariants.{IsHolderOf, IsNumbered}
@@ -114,7 +114,7 @@ module _ (v : CoreValue) (safe : ∥ IsSafe v ∥₁) where
 
 -- ---- the cells
 
-module _ (v : CoreValue) (is : IsKnown v) (sound : IsSound v.txns) (cells : Cells) (h : IsCellsOf v cells) where
+module _ (v : CoreValue) (is : IsKnown v) (sound : IsSoundTable v.txns) (cells : Cells) (h : IsCellsOf v cells) where
   -- what holds of no change, and of the changes of each active transaction
   each_list : (P : List ChangeValue → Type 0) → P [] → ((t : ℕ) (x : TxnState) → state_of t v.txns.active ≡ Some x → P x.changes) → (t : ℕ)
       → P (list_of cells.pending t)
@@ -179,7 +179,7 @@ start_fits g cells fits = record {
     no_entries : length (entries (empty {X = Mark} {R = pair_cmp})) ≡ 0
     no_entries = sym (len-entries (empty {X = Mark} {R = pair_cmp})) ∙ len-empty pair_cmp Mark
 
-pub is_start : (v : CoreValue) → IsKnown v → IsSound v.txns → (life : Life) (lists : Pending) → life ≡ v.life
+pub is_start : (v : CoreValue) → IsKnown v → IsSoundTable v.txns → (life : Life) (lists : Pending) → life ≡ v.life
     → ((t : ℕ) → get lists t ≡ list_shown (state_of t v.txns.active)) → len lists ≤ length v.txns.active
     → (cells : Cells) → IsCellsOf v cells → IsStartOf v cells life lists
 is_start v is sound life lists life_is each few cells h = record {
@@ -196,7 +196,7 @@ is_start v is sound life lists life_is each few cells h = record {
     fewer : length (entries cells.pending) ≤ length v.txns.active
     fewer = subst (λ (m : Pending). length (entries m) ≤ length v.txns.active) same (let counted = len-entries lists in omega (arith, few, counted))
 
-pub is_whole : (v : CoreValue) → IsKnown v → IsSound v.txns → (cells : Cells) → cells.rows ≡ v.heap.rows → cells.entries ≡ v.index.entries
+pub is_whole : (v : CoreValue) → IsKnown v → IsSoundTable v.txns → (cells : Cells) → cells.rows ≡ v.heap.rows → cells.entries ≡ v.index.entries
     → ((t : ℕ) → get cells.pending t ≡ list_shown (state_of t v.txns.active)) → len cells.pending ≤ length v.txns.active → cells.life ≡ v.life
     → IsCellsOf v cells × FitsStoreOf v cells
 is_whole v is sound cells rows entries_are each few life =

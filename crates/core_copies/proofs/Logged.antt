@@ -7,7 +7,7 @@ use Rattle.model.specs.Cells.{Cells, cells_after}
 use Rattle.model.specs.Given.{opening_cells}
 use Rattle.model.specs.History.{Item}
 use Rattle.model.specs.declared.write.Write.{Write}
-use Rattle.txn_table.specs.Sound.{IsSound}
+use Rattle.txn_table.specs.Sound.{IsSoundTable}
 use Rattle.core_model.proofs.Laws.{fit_step, made_cells, opened_fit, same_store}
 use Rattle.core_model.specs.Histories.{CanOpen, Opened, opened}
 use Rattle.core_model.specs.Invariants.{IsWellFormed, Runs, no_step, one_step}
@@ -44,7 +44,7 @@ made_lists o can made items writes s h =
 
 module _ (o : Opened) (made : List RecordValue) (pairs : List (Event × Reply)) (v : CoreValue) (s : State) (k : Standing) (h : HasServed o made pairs s k)
     (is : IsState v s k) where
-  pub made_shown : CanOpen o → IsSound v.txns → IsCellsOf v (cells_after (opening_cells o.given) made)
+  pub made_shown : CanOpen o → IsSoundTable v.txns → IsCellsOf v (cells_after (opening_cells o.given) made)
   made_shown can sound = cells_shown v s k (cells_after (opening_cells o.given) made) sound is (made_cells o can made _ _ s h.log)
       (made_lists o can made _ _ s h.log)
 

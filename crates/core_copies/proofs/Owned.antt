@@ -7,7 +7,7 @@ use Rattle.records.specs.ChangeValue.{ChangeValue}
 use Rattle.record_values.specs.Maps.{alike, nat_exact}
 use Rattle.record_values.specs.Values.{Place}
 use Rattle.model.specs.Cells.{Cells}
-use Rattle.txn_table.specs.Sound.{IsSound, OneHolder, Rises}
+use Rattle.txn_table.specs.Sound.{IsSoundTable, OneHolder, Rises}
 use Rattle.txn_table.specs.Table.{TxnState, has_any, holder_of, is_among, state_of}
 use Rattle.core_model.specs.Changes.{as_list}
 use Rattle.core_model.specs.Records.{HasCells, IsListOf}
@@ -77,7 +77,7 @@ first_among r rs = λ i. (itself r.page i && itself r.slot i) || is_among r rs
 
 -- ---- lists
 
-module _ (v : CoreValue) (s : State) (k : Standing) (cells : Cells) (sound : IsSound v.txns) (st : IsState v s k) (h : HasLists s cells) (t : ℕ) where
+module _ (v : CoreValue) (s : State) (k : Standing) (cells : Cells) (sound : IsSoundTable v.txns) (st : IsState v s k) (h : HasLists s cells) (t : ℕ) where
   some_list : (list : List ChangeValue) → (◌≡◌ {A = Option (List ChangeValue)} (Some list) None) → ⊥
   some_list list e = absurd cc
 
@@ -110,7 +110,7 @@ module _ (v : CoreValue) (s : State) (k : Standing) (cells : Cells) (sound : IsS
   list_is (Some x) here one list = of_active x here one.0 one.2.changes (get cells.pending t) refl
       (subst (IsListOf (get cells.pending t)) one.1 list) x.rows refl
 
-pub cells_shown : (v : CoreValue) (s : State) (k : Standing) (cells : Cells) → IsSound v.txns → IsState v s k → HasCells s cells → HasLists s cells
+pub cells_shown : (v : CoreValue) (s : State) (k : Standing) (cells : Cells) → IsSoundTable v.txns → IsState v s k → HasCells s cells → HasLists s cells
     → IsCellsOf v cells
 cells_shown v s k cells sound st has h = record {
   rows = has.rows ∙ st.shown.rows;

@@ -1,7 +1,7 @@
 //! A core is copied for an image of its store.
 ghost use Rattle.std.specs.Prelude.{◌≡◌, IfOk, IfErr};
 ghost use Rattle.model.specs.Cells.{Cells};
-ghost use Rattle.txn_table.specs.Sound.{IsSound};
+ghost use Rattle.txn_table.specs.Sound.{IsSoundTable};
 ghost use Rattle.nsf_core.specs.Value.{value_of};
 ghost use Rattle.core_copies.specs.Pieces.{IsPieceOf, IsWholeOf};
 ghost use Rattle.core_copies.specs.Shown.{IsCellsOf};
@@ -32,11 +32,10 @@ impl<A: Allocator + Copy> Copies<A> for Core<A> {
     fn copy_whole(&self, alloc: A) -> Result<Chunk<A>, Error>
         ensures number { IfOk result (λ chunk. chunk.number ≡ (value_of self.now).last) }
         ensures whole { IfOk result (λ chunk. IsWholeOf (value_of self.now) chunk.piece) }
-        ensures sound { IsSound (value_of self.now).txns }
+        ensures sound { IsSoundTable (value_of self.now).txns }
         ensures no_memory { IfErr result (λ e. e ≡ Error.NoMemory) }
     {
-        let _pages = self.pages();
-        let _txns = self.active_txns();
+        self.stands();
         let cells = CellMaps {
             rows: all_rows(alloc, self)?,
             entries: all_entries(alloc, self)?,
@@ -53,11 +52,10 @@ impl<A: Allocator + Copy> Copies<A> for Core<A> {
         ensures number { IfOk result (λ chunk. chunk.number ≡ (value_of self.now).last) }
         ensures piece { IfOk result (λ chunk. (cells : Cells) → IsCellsOf (value_of self.now) cells
             → IsPieceOf (value_of self.now) cells place chunk.piece) }
-        ensures sound { IsSound (value_of self.now).txns }
+        ensures sound { IsSoundTable (value_of self.now).txns }
         ensures no_memory { IfErr result (λ e. e ≡ Error.NoMemory) }
     {
-        let _pages = self.pages();
-        let _txns = self.active_txns();
+        self.stands();
         let number = self.last();
         match place {
             CopyPlace::Start => {

@@ -4,7 +4,7 @@ ghost use Rattle.record_values.specs.GeometryValue.{GeometryValue};
 ghost use Rattle.records.specs.RecordValue.{RecordValue};
 ghost use Rattle.model.specs.Cells.{Cells, cells_after};
 ghost use Rattle.model.specs.Given.{opening_cells};
-ghost use Rattle.txn_table.specs.Sound.{IsSound};
+ghost use Rattle.txn_table.specs.Sound.{IsSoundTable};
 ghost use Rattle.core_model.specs.Histories.{CanOpen, Opened, opened};
 ghost use Rattle.core_model.specs.Invariants.{IsWellFormed};
 ghost use Rattle.core_model.specs.Records.{HasCells, action_of, set_by_any};
@@ -27,7 +27,7 @@ pub fn each_list()
     ensures begins { (o : Opened) → HasLists (opened o) (opening_cells o.given) }
     ensures goes_on { (s : State) (e : MachineStep) (cells : Cells) → IsWellFormed s → IsEnabled s e → HasLists s cells
         → HasLists (after s e) (set_by_any cells (action_of s e)) }
-    ensures shown { (v : CoreValue) (s : State) (k : Standing) (cells : Cells) → IsSound v.txns → IsState v s k
+    ensures shown { (v : CoreValue) (s : State) (k : Standing) (cells : Cells) → IsSoundTable v.txns → IsState v s k
         → HasCells s cells → HasLists s cells → IsCellsOf v cells }
 {}
 
@@ -36,7 +36,7 @@ pub fn each_list()
 pub fn made_cells()
     ensures shown { (o : Opened) → CanOpen o
         → (made : List RecordValue) (pairs : List (Event × Reply)) (v : CoreValue) (s : State) (k : Standing)
-        → HasServed o made pairs s k → IsSound v.txns → IsState v s k
+        → HasServed o made pairs s k → IsSoundTable v.txns → IsState v s k
         → IsCellsOf v (cells_after (opening_cells o.given) made) }
     ensures store { (o : Opened) (made : List RecordValue) (pairs : List (Event × Reply)) (v : CoreValue) (s : State)
         (k : Standing) → HasServed o made pairs s k → IsState v s k → (g : GeometryValue) → g.pages ≡ o.pages

@@ -106,7 +106,7 @@ pub(crate) fn page_rows<A: Allocator + Copy>(
     ensures rows { IfOk result (λ rows. IsPageOf (unlisted (value_of core.now)) page rows) }
     ensures no_memory { IfErr result (λ e. e ≡ Error.NoMemory) }
 {
-    let _pages = core.pages();
+    core.stands();
     match core.page_slots(page) {
         Some(slots) => Ok(PageRows::new(alloc, page, slots)?),
         None => Ok(PageRows::empty(alloc)),
@@ -175,7 +175,7 @@ pub(crate) fn next_entries<A: Allocator + Copy>(
         (unlisted (value_of core.now)) above entries.items) }
     ensures no_memory { IfErr result (λ e. e ≡ Error.NoMemory) }
 {
-    let _pages = core.pages();
+    core.stands();
     let mut entries = Vec::with_capacity(alloc, CHUNK_ENTRIES)?;
     let mut last = above;
     let mut run: &[Entry] = &[];

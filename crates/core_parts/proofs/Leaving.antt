@@ -12,7 +12,7 @@ use Rattle.record_values.specs.declared.error.Error.TheVariants.{NoSuchTxn}
 use Rattle.records.specs.declared.record.TxnAction.{TxnAction}
 use Rattle.txn_table.specs.Table as table
 use Rattle.txn_table.specs.Table.{TableValue, TxnState, holder_of, without}
-use Rattle.txn_table.specs.Sound.{IsSound}
+use Rattle.txn_table.specs.Sound.{IsSoundTable}
 use Rattle.txn_table.proofs.TableLaws.{holder_of-without, holder_of-without_other, state_of-without}
 use Rattle.core_model.proofs.Laws.{nat_decided, not_none, reserved_left, update_apart, update_here}
 use Rattle.core_model.specs.States.{State}
@@ -45,7 +45,7 @@ shorter t x (e ∷ es) h = by (eqb t e.0) h (shorter t x es)
     by true h rest = omega arith
     by false h rest = let r : length (without t es) + 1 ≡ length es = rest h in omega (arith, r)
 
-module _ (v : CoreValue) (s : State) (k : Standing) (h : Shows v s k) (t : ℕ) (x : TxnState) (here : txn_shown v t ≡ Some x) (sound : IsSound v.txns)
+module _ (v : CoreValue) (s : State) (k : Standing) (h : Shows v s k) (t : ℕ) (x : TxnState) (here : txn_shown v t ≡ Some x) (sound : IsSoundTable v.txns)
     (action : TxnAction) (committed : Table) where
   abbrev active' : List (ℕ × TxnState)
   active' = without t v.txns.active
@@ -163,7 +163,7 @@ module _ (v : CoreValue) (t : ℕ) where
         (wants_memory v s k is.shown (Event.Commit t) (known v s k is.shown t x.0 x.1) (is_ready v s k is.shown t x.0 x.1 (subst IsReadyOrNone x.1 asked)) refl
         (Reply.Committed (k.made + 1) (k.commits + 1)) (MachineStep.Commit t) (refl, refl) (λ n. n) (λ n. has.numbered) (inl (λ n. not_none refl n))))
 
-    pub end_served : HasNoChange (txn_shown v t) → IsSound v.txns → (v' : CoreValue) → v' ≡ ended v t TxnAction.End → Serves v (Event.End t) Ended v'
+    pub end_served : HasNoChange (txn_shown v t) → IsSoundTable v.txns → (v' : CoreValue) → v' ≡ ended v t TxnAction.End → Serves v (Event.End t) Ended v'
     end_served asked sound v' same s k is =
         let x = there v t has.active in
         subst (λ w. Answers v s k (Event.End t) Ended w) (sym same)
@@ -173,7 +173,7 @@ module _ (v : CoreValue) (t : ℕ) where
         (subst (λ n. Shows (ended v t TxnAction.End) (after s (MachineStep.End t)) (record k { made = k.made + 1; active = k.active - 1; commits = n }))
         (sym is.shown.commits) (left_shown v s k is.shown t x.0 x.1 sound TxnAction.End s.committed v.commits)) refl)
 
-    pub commit_served : IsReadyOrNone (txn_shown v t) → IsSound v.txns → (n c : ℕ) (v' : CoreValue) → n ≡ v.last + 1 → c ≡ v.commits + 1
+    pub commit_served : IsReadyOrNone (txn_shown v t) → IsSoundTable v.txns → (n c : ℕ) (v' : CoreValue) → n ≡ v.last + 1 → c ≡ v.commits + 1
         → v' ≡ record (ended v t TxnAction.Commit) { commits = v.commits + 1 } → Serves v (Event.Commit t) (Reply.Committed n c) v'
     commit_served asked sound n c v' ns cs same s k is =
         let x = there v t has.active in

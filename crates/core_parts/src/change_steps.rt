@@ -19,7 +19,7 @@ fn entry_of(step: Option<Step>) -> Option<(Pair, TxnAction)>
 }
 
 /// The entry that a change marks, where it marks one, and what the record says. It is the first step.
-pub(crate) fn old_mark(change: &Change, indexed: bool) -> Option<(Pair, TxnAction)>
+pub(crate) fn marks_old(change: &Change, indexed: bool) -> Option<(Pair, TxnAction)>
     ensures { result ≡ option_and_then entry_in (marks_old indexed change.now) }
 {
     entry_of(forward(change, indexed, 0))
@@ -29,14 +29,14 @@ pub(crate) fn old_mark(change: &Change, indexed: bool) -> Option<(Pair, TxnActio
 fn row_step(change: &Change, indexed: bool) -> Option<Step>
     ensures { result ≡ Some (sets_new change.now) }
 {
-    match old_mark(change, indexed) {
+    match marks_old(change, indexed) {
         None => forward(change, indexed, 0),
         Some(_) => forward(change, indexed, 1),
     }
 }
 
 /// What the record of a change's row says.
-pub(crate) fn new_row(change: &Change, indexed: bool) -> TxnAction
+pub(crate) fn sets_new(change: &Change, indexed: bool) -> TxnAction
     ensures { result ≡ TxnAction.Forward Part.Slot change.now }
 {
     let Some(step) = row_step(change, indexed) else {
@@ -46,17 +46,17 @@ pub(crate) fn new_row(change: &Change, indexed: bool) -> TxnAction
 }
 
 /// The entry that a change puts, where it puts one, and what the record says. It is the last step.
-pub(crate) fn new_entry(change: &Change, indexed: bool) -> Option<(Pair, TxnAction)>
+pub(crate) fn puts_new(change: &Change, indexed: bool) -> Option<(Pair, TxnAction)>
     ensures { result ≡ option_and_then entry_in (puts_new indexed change.now) }
 {
-    match old_mark(change, indexed) {
+    match marks_old(change, indexed) {
         None => entry_of(forward(change, indexed, 1)),
         Some(_) => entry_of(forward(change, indexed, 2)),
     }
 }
 
 /// The entry that the undo of a change marks, where it marks one, and what the record says. It is the first step.
-pub(crate) fn new_mark(change: &Change, indexed: bool) -> Option<(Pair, TxnAction)>
+pub(crate) fn marks_new(change: &Change, indexed: bool) -> Option<(Pair, TxnAction)>
     ensures { result ≡ option_and_then entry_in (marks_new indexed change.now) }
 {
     entry_of(undo(change, indexed, 0))
@@ -66,14 +66,14 @@ pub(crate) fn new_mark(change: &Change, indexed: bool) -> Option<(Pair, TxnActio
 fn row_back_step(change: &Change, indexed: bool) -> Option<Step>
     ensures { result ≡ Some (sets_old change.now (is_none (puts_old indexed change.now))) }
 {
-    match new_mark(change, indexed) {
+    match marks_new(change, indexed) {
         None => undo(change, indexed, 0),
         Some(_) => undo(change, indexed, 1),
     }
 }
 
 /// What the record of the row says that the undo of a change sets back.
-pub(crate) fn old_row(change: &Change, indexed: bool) -> TxnAction
+pub(crate) fn sets_old(change: &Change, indexed: bool) -> TxnAction
     ensures { result ≡ TxnAction.Undo Part.Slot change.now (is_none (puts_old indexed change.now)) }
 {
     let Some(step) = row_back_step(change, indexed) else {
@@ -83,10 +83,10 @@ pub(crate) fn old_row(change: &Change, indexed: bool) -> TxnAction
 }
 
 /// The entry that the undo of a change puts back, where it puts one, and what the record says. It is the last step.
-pub(crate) fn old_entry(change: &Change, indexed: bool) -> Option<(Pair, TxnAction)>
+pub(crate) fn puts_old(change: &Change, indexed: bool) -> Option<(Pair, TxnAction)>
     ensures { result ≡ option_and_then entry_in (puts_old indexed change.now) }
 {
-    match new_mark(change, indexed) {
+    match marks_new(change, indexed) {
         None => entry_of(undo(change, indexed, 1)),
         Some(_) => entry_of(undo(change, indexed, 2)),
     }

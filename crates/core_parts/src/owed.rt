@@ -8,7 +8,7 @@ ghost use Rattle.core_parts.specs.Private.{HasRecord};
 ghost use Rattle.core_parts.specs.Replies.{reply_by};
 ghost use Rattle.core_parts.specs.Parts.{parts_of};
 
-use crate::change_steps::{new_entry, new_row};
+use crate::change_steps::{puts_new, sets_new};
 use crate::parts::{CoreParts, progress_after_row};
 use records::{Change, Error, Mark, RecordNumber, Txn};
 use std::alloc::Allocator;
@@ -42,11 +42,11 @@ impl<A: Allocator + Copy> CoreParts<A> {
         match self.txns.progress(txn) {
             Some(Progress::OwesRow) => {
                 let progress = progress_after_row(&change, indexed);
-                let action = new_row(&change, indexed);
+                let action = sets_new(&change, indexed);
                 self.set_row(number, txn, progress, change.rid, change.rows.new(), action)?
             }
             Some(Progress::OwesEntry) => {
-                let Some(put) = new_entry(&change, indexed) else {
+                let Some(put) = puts_new(&change, indexed) else {
                     unreachable!()
                 };
                 self.set_entry(number, txn, Progress::Ready, Mark::Live, put)?

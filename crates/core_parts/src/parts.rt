@@ -18,10 +18,10 @@ ghost use Rattle.core_parts.specs.Private.{IsUnchangeable, first_made, mark_firs
 ghost use Rattle.core_parts.specs.Private.{HasRecord, ended, IsAble, IsPlaceFor, IsUnroomy, MayStart};
 ghost use Rattle.core_parts.specs.Private.{next_change, reserved_of, row_first, row_progress};
 ghost use Rattle.core_parts.specs.Private.{HasNextNumber};
-ghost use Rattle.txn_table.specs.Sound.{IsSound};
+ghost use Rattle.txn_table.specs.Sound.{IsSoundTable};
 ghost use Rattle.core_parts.specs.Parts.{parts_of};
 
-use crate::change_steps::{new_entry, new_row, old_mark};
+use crate::change_steps::{marks_old, puts_new, sets_new};
 use btree_node::Cleared;
 use heap_pages::Heap;
 use marked_index::{MarkedIndex, Stepped};
@@ -102,7 +102,7 @@ fn may_reserve<A: Allocator + Clone>(index: &MarkedIndex<A>, indexed: bool) -> b
 pub(crate) fn progress_after_row(change: &Change, indexed: bool) -> Progress
     ensures { result ≡ row_progress (pairs.new_pair indexed change.now) }
 {
-    match new_entry(change, indexed) {
+    match puts_new(change, indexed) {
         Some(_) => Progress::OwesEntry,
         None => Progress::Ready,
     }
@@ -234,7 +234,7 @@ impl<A: Allocator + Copy> CoreParts<A> {
         ensures few { result ≤ 65536 }
         ensures within { result ≤ (parts_of self.now).index.pledged }
     {
-        let _pledged = self.index.pledged();
+        self.index.stands();
         self.txns.reserved(txn).unwrap_or(0)
     }
 
@@ -309,7 +309,7 @@ impl<A: Allocator + Copy> CoreParts<A> {
         let indexed = self.indexed();
         let reserved = self.reserved(txn);
         let progress = progress_after_row(&change, indexed);
-        let made = record_of(number, txn, new_row(&change, indexed));
+        let made = record_of(number, txn, sets_new(&change, indexed));
         note(&mut self.txns, &mut self.outbox, made, txn, change)?;
         reserve(
             &mut self.index,
@@ -371,7 +371,7 @@ impl<A: Allocator + Copy> CoreParts<A> {
         ensures unchanged { OnErr result (parts_of self.new ≡ parts_of self.old) }
         ensures no_memory { IfErr result (λ e. e ≡ Error.NoMemory) }
     {
-        match old_mark(&change, self.indexed()) {
+        match marks_old(&change, self.indexed()) {
             None => self.set_first(number, txn, change),
             Some(marked) => self.mark_first(number, txn, change, marked),
         }
@@ -411,11 +411,11 @@ impl<A: Allocator + Copy> CoreParts<A> {
         requires number { number ≡ (parts_of self.old).last + 1 }
         requires whole { IsTrue (txn_has_rows action) }
         ensures ok { OnOk result (parts_of self.new ≡ ended (parts_of self.old) txn action) }
-        ensures sound { IsSound (parts_of self.old).txns }
+        ensures sound { IsSoundTable (parts_of self.old).txns }
         ensures unchanged { OnErr result (parts_of self.new ≡ parts_of self.old) }
         ensures no_memory { IfErr result (λ e. e ≡ Error.NoMemory) }
     {
-        let _active = self.txns.len();
+        self.txns.stands();
         let reserved = self.reserved(txn);
         self.outbox.push_back(record_of(number, txn, action))?;
         let Ok(()) = self.txns.end(txn) else {

@@ -11,7 +11,7 @@ ghost use Rattle.core_parts.specs.Replies.{reply_by};
 ghost use Rattle.core_parts.specs.Undoing.{undone_reply};
 ghost use Rattle.core_parts.specs.Parts.{parts_of};
 
-use crate::change_steps::{new_mark, old_entry, old_row};
+use crate::change_steps::{marks_new, puts_old, sets_old};
 use crate::parts::CoreParts;
 use crate::reply::Undone;
 use records::{Change, Error, Mark, Part, RecordNumber, Txn};
@@ -44,8 +44,8 @@ impl<A: Allocator + Copy> CoreParts<A> {
     {
         let indexed = self.indexed();
         let row = change.rows.old();
-        let action = old_row(&change, indexed);
-        match old_entry(&change, indexed) {
+        let action = sets_old(&change, indexed);
+        match puts_old(&change, indexed) {
             Some(_) => { self.set_row(number, txn, Progress::UndoesEntry, change.rid, row, action) }
             None => {
                 self.set_row(number, txn, Progress::Rolling, change.rid, row, action)?;
@@ -66,7 +66,7 @@ impl<A: Allocator + Copy> CoreParts<A> {
         ensures unchanged { OnErr result (parts_of self.new ≡ parts_of self.old) }
         ensures no_memory { IfErr result (λ e. e ≡ Error.NoMemory) }
     {
-        let Some(put) = old_entry(&change, self.indexed()) else {
+        let Some(put) = puts_old(&change, self.indexed()) else {
             unreachable!()
         };
         self.set_entry(number, txn, Progress::Rolling, Mark::Live, put)?;
@@ -85,7 +85,7 @@ impl<A: Allocator + Copy> CoreParts<A> {
         ensures unchanged { OnErr result (parts_of self.new ≡ parts_of self.old) }
         ensures no_memory { IfErr result (λ e. e ≡ Error.NoMemory) }
     {
-        match new_mark(&change, self.indexed()) {
+        match marks_new(&change, self.indexed()) {
             Some(marked) => {
                 self.set_entry(number, txn, Progress::UndoesRow, Mark::Marked, marked)
             }

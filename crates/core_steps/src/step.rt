@@ -34,11 +34,11 @@ pub struct Step {
 pub fn forward(change: &Change, indexed: bool, made: usize) -> Option<Step>
     ensures { result ≡ slice_get (forward_steps indexed change.now) made }
 {
-    let first = mark_old(change, indexed);
+    let first = marks_old(change, indexed);
     match (first, made) {
         (Some(_), 0) => first,
-        (Some(_), 1) | (None, 0) => Some(set_new(change)),
-        (Some(_), 2) | (None, 1) => put_new(change, indexed),
+        (Some(_), 1) | (None, 0) => Some(sets_new(change)),
+        (Some(_), 2) | (None, 1) => puts_new(change, indexed),
         _ => None,
     }
 }
@@ -53,11 +53,11 @@ pub fn forward(change: &Change, indexed: bool, made: usize) -> Option<Step>
 pub fn undo(change: &Change, indexed: bool, made: usize) -> Option<Step>
     ensures { result ≡ slice_get (undo_steps indexed change.now) made }
 {
-    let first = mark_new(change, indexed);
+    let first = marks_new(change, indexed);
     match (first, made) {
         (Some(_), 0) => first,
-        (Some(_), 1) | (None, 0) => Some(set_old(change, put_old(change, indexed).is_none())),
-        (Some(_), 2) | (None, 1) => put_old(change, indexed),
+        (Some(_), 1) | (None, 0) => Some(sets_old(change, puts_old(change, indexed).is_none())),
+        (Some(_), 2) | (None, 1) => puts_old(change, indexed),
         _ => None,
     }
 }
@@ -88,7 +88,7 @@ fn moved_pair(change: &Change, indexed: bool, row: Option<Row>) -> Option<Pair>
 }
 
 // The step that marks the entry of the old row, where the change has it.
-fn mark_old(change: &Change, indexed: bool) -> Option<Step>
+fn marks_old(change: &Change, indexed: bool) -> Option<Step>
     ensures { result ≡ marks_old indexed change.now }
 {
     let pair = moved_pair(change, indexed, change.rows.old())?;
@@ -100,7 +100,7 @@ fn mark_old(change: &Change, indexed: bool) -> Option<Step>
 }
 
 // The step that sets the row of a change.
-fn set_new(change: &Change) -> Step
+fn sets_new(change: &Change) -> Step
     ensures { result ≡ sets_new change.now }
 {
     let rid = change.rid;
@@ -112,7 +112,7 @@ fn set_new(change: &Change) -> Step
 }
 
 // The step that puts the entry of the new row, where the change has it.
-fn put_new(change: &Change, indexed: bool) -> Option<Step>
+fn puts_new(change: &Change, indexed: bool) -> Option<Step>
     ensures { result ≡ puts_new indexed change.now }
 {
     let pair = moved_pair(change, indexed, change.rows.new())?;
@@ -124,7 +124,7 @@ fn put_new(change: &Change, indexed: bool) -> Option<Step>
 }
 
 // The undo's step that marks the entry of the new row, where the change has it.
-fn mark_new(change: &Change, indexed: bool) -> Option<Step>
+fn marks_new(change: &Change, indexed: bool) -> Option<Step>
     ensures { result ≡ marks_new indexed change.now }
 {
     let pair = moved_pair(change, indexed, change.rows.new())?;
@@ -137,7 +137,7 @@ fn mark_new(change: &Change, indexed: bool) -> Option<Step>
 
 // The undo's step that sets the old row, or none; `last` where it takes the change off its
 // transaction's list.
-fn set_old(change: &Change, last: bool) -> Step
+fn sets_old(change: &Change, last: bool) -> Step
     ensures { result ≡ sets_old change.now last }
 {
     let rid = change.rid;
@@ -149,7 +149,7 @@ fn set_old(change: &Change, last: bool) -> Step
 }
 
 // The undo's step that puts the entry of the old row, where the change has it. It is the last.
-fn put_old(change: &Change, indexed: bool) -> Option<Step>
+fn puts_old(change: &Change, indexed: bool) -> Option<Step>
     ensures { result ≡ puts_old indexed change.now }
 {
     let pair = moved_pair(change, indexed, change.rows.old())?;

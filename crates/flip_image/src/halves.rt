@@ -6,7 +6,7 @@ ghost use Rattle.sector_device.specs.Values.{zero_sector};
 ghost use Rattle.record_values.specs.GeometryValue.{GeometryValue, IsGeometry, sectors_in, sectors_of};
 ghost use Rattle.store_image_half.specs.Image.{no_cells};
 ghost use Rattle.store_image_half.specs.Layout.{image_end, image_end_in};
-ghost use Rattle.store_image_half.specs.Damage.{IsSoundIn, TheHeader, IsUnreadIn};
+ghost use Rattle.store_image_half.specs.Damage.{SaysSomethingIn, TheHeader, IsUnreadIn};
 ghost use Rattle.flip_image.specs.Layout.{other, header_sector_in, header_sector, log_first_in, log_first};
 ghost use Rattle.flip_image.specs.Store.{Names, flip_sector, IsFlipping, IsSuperblockIn, IsStore, IsStoreIn};
 ghost use Rattle.flip_image.specs.Store.{HoldsImageIn, IsFormatted, AreGatesClosed, AreLogGatesZero, IsFormatSector};
@@ -149,7 +149,7 @@ impl Halves {
         ensures quiet { OnOk result (D.failures device.new ≡ D.failures device.old) }
         ensures told { IfErr result (λ e. e ≢ Error.DeviceFailed → D.failures device.new ≡ D.failures device.old) }
         ensures memory { IfErr result (λ e. e ≡ Error.NoMemory
-            → IsSoundIn version self.now.geometry (header_sector_in version self.now.geometry self.now.current)
+            → SaysSomethingIn version self.now.geometry (header_sector_in version self.now.geometry self.now.current)
             (D.past_of device.old).disk.content TheHeader) }
         ensures later { D.failures device.old ≤ D.failures device.new }
     {

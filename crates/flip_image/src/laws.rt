@@ -29,9 +29,9 @@ pub fn one_store()
         → IsRefused image errors.OldVersion }
 {}
 
-/// A law: which store an image is of, and that a half is fresh, depends on no sector of that half's log. So what
-/// `format` leaves stays while only half A's log is written.
-pub fn log_apart()
+/// A law: which store an image is of, with this half as its current one, depends on no sector of that half's log
+/// (`store`); nor does it that a half is fresh. So what `format` leaves stays while only half A's log is written.
+pub fn store_beside_log()
     ensures store { (g : GeometryValue) (half : Half) (image other : CrashState)
         → SameOutside (InLog g half) image other
         → IsStore g half image → IsStore g half other }

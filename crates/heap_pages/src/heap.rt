@@ -79,6 +79,14 @@ impl<A: Allocator + Copy> Heap<A> {
         })
     }
 
+    /// A law: what the type keeps. Each row is at a place of the heap.
+    pub fn stands(&self)
+        ensures { (r : Place) → IsSome (get self.now.rows r) → IsPlaceInside self.now r }
+    {
+        // a look at a field, so that what the type keeps is at hand
+        let _ = &self.pages;
+    }
+
     /// How many pages there are.
     pub fn pages(&self) -> u32
         ensures number { result ≡ self.now.pages }

@@ -101,6 +101,14 @@ impl<A: Allocator + Clone> MarkedIndex<A> {
         }
     }
 
+    /// A law: what the type keeps. Entries and pledged places are within the capacity.
+    pub fn stands(&self)
+        ensures { IsWithinCapacity self.now }
+    {
+        // a look at a field, so that what the type keeps is at hand
+        let _ = &self.pledged;
+    }
+
     /// How many entries there are.
     pub fn len(&self) -> usize
         ensures len { result ≡ map.len self.now.entries }

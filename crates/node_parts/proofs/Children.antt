@@ -7,7 +7,7 @@ use Rattle.node_parts.specs.declared.Entry.{Entry}
 use Rattle.node_parts.specs.declared.Child.{Child}
 use Rattle.node_parts.specs.Order.{is_below, mark_in, AllAbove, IsAscending}
 use Rattle.node_parts.specs.Tree.{Tree, branch, entries, forest_entries, forest_of, depth, forest_depth}
-use Rattle.node_parts.specs.Seen.{least_of, AreLabelled, tree_of, IsSound}
+use Rattle.node_parts.specs.Seen.{least_of, AreLabelled, tree_of, IsSoundNode}
 use Rattle.std.specs.Prelude.{Vec, vec_len, vec_capacity}
 use Rattle.node_parts.specs.declared.NodeParts.{NodeParts}
 use Rattle.node_parts.specs.declared.NodeParts.TheVariants.{Inner}
@@ -88,9 +88,9 @@ pub seen_inner : {A : Type 0} (parts : NodeParts A) (cs : Vec (Child A) A) (t : 
     → t ≡ branch (forest_of (map (λ c. c.node.value) cs.items))
 seen_inner parts cs t v e = sym v ∙ ap tree_of e
 
-pub sound_inner : {A : Type 0} (parts : NodeParts A) (cs : Vec (Child A) A) → IsSound parts → parts ≡ Inner cs → (vec_len cs ≤ 32) × (32 ≤ vec_capacity cs)
+pub sound_inner : {A : Type 0} (parts : NodeParts A) (cs : Vec (Child A) A) → IsSoundNode parts → parts ≡ Inner cs → (vec_len cs ≤ 32) × (32 ≤ vec_capacity cs)
     × AreLabelled cs.items
-sound_inner parts cs h e = subst IsSound e h
+sound_inner parts cs h e = subst IsSoundNode e h
 
 -- what is known of the child at a place
 pub child_lower : {A : Type 0} (cs : List (Child A)) (t u : Tree) (n : ℕ) (c : Child A) → t ≡ branch (forest_of (map (λ c. c.node.value) cs))

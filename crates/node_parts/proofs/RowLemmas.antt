@@ -7,7 +7,7 @@ use Rattle.node_parts.specs.declared.Child.{Child}
 use Rattle.node_parts.specs.declared.NodeParts.{NodeParts}
 use Rattle.node_parts.specs.declared.NodeParts.TheVariants.{Leaf, Inner}
 use Rattle.node_parts.specs.Tree.{Tree, leaf, branch, none, entries, forest_of, trees_of, count}
-use Rattle.node_parts.specs.Seen.{least_of, AreLabelled, tree_of, IsSound}
+use Rattle.node_parts.specs.Seen.{least_of, AreLabelled, tree_of, IsSoundNode}
 use Rattle.node_parts.specs.Rows.{trees}
 use Rattle.node_parts.proofs.Children.{all_entries}
 
@@ -65,8 +65,8 @@ no_children parts cs t v e z = no_trees cs.items (ap count (sym (ap tree_of e) �
 pub leaf_is : {A : Type 0} (parts : NodeParts A) (es : Vec Entry A) (t : Tree) → tree_of parts ≡ t → parts ≡ Leaf es → t ≡ leaf es.items
 leaf_is parts es t v e = sym v ∙ ap tree_of e
 
-pub sound_leaf : {A : Type 0} (parts : NodeParts A) (es : Vec Entry A) → IsSound parts → parts ≡ Leaf es → (vec_len es ≤ 32) × (32 ≤ vec_capacity es)
-sound_leaf parts es h e = subst IsSound e h
+pub sound_leaf : {A : Type 0} (parts : NodeParts A) (es : Vec Entry A) → IsSoundNode parts → parts ≡ Leaf es → (vec_len es ≤ 32) × (32 ≤ vec_capacity es)
+sound_leaf parts es h e = subst IsSoundNode e h
 
 pub inner_is : {A : Type 0} (parts : NodeParts A) (cs : Vec (Child A) A) (t : Tree) → tree_of parts ≡ t → parts ≡ Inner cs
     → t ≡ branch (forest_of (trees cs.items))

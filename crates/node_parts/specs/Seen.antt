@@ -23,6 +23,6 @@ AreLabelled [] = Unit {0}
 AreLabelled (c ∷ cs) = (least_of (entries c.node.value) ≡ Some c.least) × AreLabelled cs
 
 -- a node has at most 32 items, and room for 32; each child has its label
-abbrev pub IsSound : {A : Type 0} → NodeParts A → Type 0
-IsSound (Leaf es) = (vec_len es ≤ 32) × (32 ≤ vec_capacity es)
-IsSound (Inner cs) = (vec_len cs ≤ 32) × (32 ≤ vec_capacity cs) × AreLabelled cs.items
+abbrev pub IsSoundNode : {A : Type 0} → NodeParts A → Type 0
+IsSoundNode (Leaf es) = (vec_len es ≤ 32) × (32 ≤ vec_capacity es)
+IsSoundNode (Inner cs) = (vec_len cs ≤ 32) × (32 ≤ vec_capacity cs) × AreLabelled cs.items

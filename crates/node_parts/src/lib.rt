@@ -65,11 +65,11 @@ impl<A: Allocator> Model for Node<A> {
 
     ghost coded = { tree_code };
 
-    ghost use Rattle.node_parts.specs.Seen.{tree_of, IsSound};
+    ghost use Rattle.node_parts.specs.Seen.{tree_of, IsSoundNode};
 
     ghost view = { λ n. tree_of n.parts };
 
-    ghost invariant = { λ n. IsSound n.parts };
+    ghost invariant = { λ n. IsSoundNode n.parts };
 
     ghost size = { depth };
 

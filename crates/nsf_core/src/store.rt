@@ -25,7 +25,7 @@ ghost use Rattle.core_model.specs.Histories.{CanOpen};
 ghost use Rattle.core_parts.specs.Builds.{built};
 ghost use Rattle.core_parts.specs.Cleaning.{cleaner};
 ghost use Rattle.core_parts.specs.Undoing.{undone_reply};
-ghost use Rattle.txn_table.specs.Sound.{IsSound};
+ghost use Rattle.txn_table.specs.Sound.{IsSoundTable};
 ghost use Rattle.txn_table.specs.Table.{holds_rows};
 ghost use Rattle.heap_pages.specs.Pages.{IsPlaceInside};
 ghost use Rattle.record_values.specs.Values.{Place};
@@ -88,6 +88,18 @@ impl<A: Allocator + Copy> Core<A> {
             outbox: VecDeque::new(alloc),
         };
         Ok(Core { parts })
+    }
+
+    /// A law: what the type keeps. The core stands for some state of the machine, each row is at a place of its pages,
+    /// and no row is held by two transactions.
+    pub fn stands(&self)
+        ensures safe { ∥ IsSafe (value_of self.now) ∥₁ }
+        ensures rows_inside { (r : Place) → IsSome (map.get (value_of self.now).heap.rows r)
+            → IsPlaceInside (value_of self.now).heap r }
+        ensures sound { IsSoundTable (value_of self.now).txns }
+    {
+        self.parts.heap.stands();
+        self.parts.txns.stands();
     }
 
     /// Leaves this row at the place, or none, while no transaction is active. It makes no record.
@@ -360,7 +372,7 @@ impl<A: Allocator + Copy> Core<A> {
     /// How many transactions are active.
     pub fn active_txns(&self) -> usize
         ensures number { result ≡ length (value_of self.now).txns.active }
-        ensures sound { IsSound (value_of self.now).txns }
+        ensures sound { IsSoundTable (value_of self.now).txns }
     {
         self.parts.txns.len()
     }

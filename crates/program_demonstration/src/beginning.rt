@@ -4,7 +4,8 @@ ghost use Rattle.std.specs.Prelude.{◌≡◌};
 use crate::rows::set_up;
 use model::Life;
 use records::Error;
-use shared::{Group, Seat, Shared};
+use shared::{Group, Kept, Seat, Shared};
+use std::alloc::Global;
 use std::sync::Wait;
 
 /// What is done to a store before the writers begin.
@@ -20,11 +21,11 @@ pub enum Beginning {
 fn create_where_none<B: Group, R: Wait>(
     rt: &R,
     shared: &Shared<B>,
-    seat: &mut Seat<B>,
+    seat: &mut Seat<B, Global, Kept>,
 ) -> Result<(), Error>
     ensures { seat.new.number ≡ seat.old.number }
 {
-    match shared.life(rt) {
+    match shared.life(rt, seat) {
         Life::Absent => {
             shared.create_index(rt, seat)?;
             Ok(())
@@ -37,7 +38,7 @@ fn create_where_none<B: Group, R: Wait>(
 pub(crate) fn prepare<B: Group, R: Wait>(
     rt: &R,
     shared: &Shared<B>,
-    seat: &mut Seat<B>,
+    seat: &mut Seat<B, Global, Kept>,
     beginning: Beginning,
 ) -> Result<(), Error>
     ensures { seat.new.number ≡ seat.old.number }

@@ -49,7 +49,7 @@ pub(crate) fn watch<B: Group, R: Wait + Clock, E: Write>(
 ) -> io::Result<()> {
     let mut shown = 0;
     for _ in rt.forever() {
-        let life = shared.life(rt);
+        let life = shared.life_without_seat(rt);
         let tried = view.progress(shared);
         if tried > shown {
             progress.show(tried)?;

@@ -4,7 +4,8 @@ ghost use Rattle.program_demonstration.specs.Private.{Commits, KeepsCommits};
 
 use nsf_core::Ticket;
 use records::{Body, Error, Key, Rid, Txn};
-use shared::{Group, Seat, Shared};
+use shared::{Group, Kept, Seat, Shared};
+use std::alloc::Global;
 use std::sync::Wait;
 
 // The rows of each of the two commits.
@@ -24,7 +25,7 @@ pub fn key_of(first: u16, second: u16) -> Result<Key, Error> {
 pub(crate) fn begin<B: Group, R: Wait>(
     rt: &R,
     shared: &Shared<B>,
-    seat: &mut Seat<B>,
+    seat: &mut Seat<B, Global, Kept>,
 ) -> Result<Txn, Error>
     ensures { KeepsCommits seat.old seat.new }
 {
@@ -36,7 +37,7 @@ pub(crate) fn begin<B: Group, R: Wait>(
 pub(crate) fn insert<B: Group, R: Wait>(
     rt: &R,
     shared: &Shared<B>,
-    seat: &mut Seat<B>,
+    seat: &mut Seat<B, Global, Kept>,
     txn: Txn,
     first: u16,
     second: u16,
@@ -57,7 +58,7 @@ pub(crate) fn insert<B: Group, R: Wait>(
 pub(crate) fn delete<B: Group, R: Wait>(
     rt: &R,
     shared: &Shared<B>,
-    seat: &mut Seat<B>,
+    seat: &mut Seat<B, Global, Kept>,
     txn: Txn,
     rid: Rid,
 ) -> Result<(), Error>
@@ -76,7 +77,7 @@ pub(crate) fn delete<B: Group, R: Wait>(
 pub(crate) fn abort<B: Group, R: Wait>(
     rt: &R,
     shared: &Shared<B>,
-    seat: &mut Seat<B>,
+    seat: &mut Seat<B, Global, Kept>,
     txn: Txn,
 ) -> Result<(), Error>
     ensures { KeepsCommits seat.old seat.new }
@@ -88,7 +89,7 @@ pub(crate) fn abort<B: Group, R: Wait>(
 pub(crate) fn commit<B: Group, R: Wait>(
     rt: &R,
     shared: &Shared<B>,
-    seat: &mut Seat<B>,
+    seat: &mut Seat<B, Global, Kept>,
     txn: Txn,
 ) -> Result<Ticket, Error>
     ensures ok { IfOk result (Commits seat.old seat.new) }
@@ -104,7 +105,7 @@ pub(crate) fn commit<B: Group, R: Wait>(
 fn put_rows<B: Group, R: Wait>(
     rt: &R,
     shared: &Shared<B>,
-    seat: &mut Seat<B>,
+    seat: &mut Seat<B, Global, Kept>,
     from: u16,
 ) -> Result<(), Error>
     ensures { seat.new.number ≡ seat.old.number }
@@ -122,7 +123,7 @@ fn put_rows<B: Group, R: Wait>(
 pub fn set_up<B: Group, R: Wait>(
     rt: &R,
     shared: &Shared<B>,
-    seat: &mut Seat<B>,
+    seat: &mut Seat<B, Global, Kept>,
 ) -> Result<(), Error>
     ensures { seat.new.number ≡ seat.old.number }
 {

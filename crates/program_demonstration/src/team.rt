@@ -18,14 +18,13 @@ use crate::progress::{Progress, watch};
 use crate::writer::{Acknowledged, Writer, write};
 use records::Error;
 use sector_device::Device;
-use shared::{Ack, BuildPart, CleanPart, Group, GroupView, Seat, Shared};
+use shared::{Ack, Group, GroupView, Kept, LoopParts, Seat, Shared};
 use std::alloc::{AllocError, Global};
 use std::io::Write;
 use std::marker::Brand;
 use std::rt::Clock;
 use std::sync::Wait;
 use std::thread::{Threads, for_each_mut, join};
-use threads_flusher::FlushPart;
 use threads_lifetime::{Closed, OpenError, OpenStore, Parts, finish, open_store};
 use threads_loops::{BuilderEnd, Ended, Gate, NotRun, run_beside};
 
@@ -83,7 +82,7 @@ pub struct Worked<D> {
 // What the writers leave, in one hand.
 #[derive(Drop)]
 struct Gathered<B: Group> {
-    seats: Vec<Seat<B>>,
+    seats: Vec<Seat<B, Global, Kept>>,
     acks: Vec<Ack<B>>,
     acknowledged: Vec<Acknowledged>,
 }
@@ -92,7 +91,7 @@ struct Gathered<B: Group> {
 fn add_writers<B: Group>(
     alloc: Global,
     writers: &mut Vec<Writer<B>>,
-    seats: Vec<Seat<B>>,
+    seats: Vec<Seat<B, Global, Kept>>,
 ) -> Result<(), AllocError>
     requires { writers.old.items ≡ [] }
     ensures seats { OnOk result (map (λ w. w.seat) writers.new.items ≡ seats.items) }
@@ -114,7 +113,10 @@ fn add_writers<B: Group>(
 }
 
 // A writer for each of the seats.
-fn writers_of<B: Group>(alloc: Global, seats: Vec<Seat<B>>) -> Result<Vec<Writer<B>>, AllocError>
+fn writers_of<B: Group>(
+    alloc: Global,
+    seats: Vec<Seat<B, Global, Kept>>,
+) -> Result<Vec<Writer<B>>, AllocError>
     ensures seats { IfOk result (λ writers. map (λ w. w.seat) writers.items ≡ seats.items) }
     ensures none { IfOk result (λ writers. (k : ℕ) (w : _) → slice_get writers.items k ≡ Some w
         → w.acknowledged.items ≡ []) }
@@ -253,7 +255,7 @@ fn add_all<B: Group>(gathered: &mut Gathered<B>, writers: Vec<Writer<B>>) -> Res
 fn gather<B: Group>(
     alloc: Global,
     writers: Vec<Writer<B>>,
-    last: Seat<B>,
+    last: Seat<B, Global, Kept>,
 ) -> Result<Gathered<B>, AllocError>
     ensures seats { IfOk result (λ g. g.seats.items ≡ map (λ w. w.seat) writers.items ++ last ∷ []) }
     ensures acks { IfOk result (λ g. g.acks.items ≡ flat_map (λ w. w.acks.items) writers.items) }
@@ -274,14 +276,6 @@ fn gather<B: Group>(
             Err(AllocError)
         }
     }
-}
-
-// The parts of the three loops.
-#[derive(Drop)]
-struct LoopParts<B: Group, D: Device> {
-    flush: FlushPart<B, D>,
-    build: BuildPart<B>,
-    clean: CleanPart<B>,
 }
 
 // What is left where the threads could not begin, or where there was no memory for what they left, with what was
@@ -317,7 +311,7 @@ fn close<B: Group, D: Device, R: Wait>(
     rt: &R,
     alloc: Global,
     shared: Shared<B>,
-    parts: Parts<B, D>,
+    parts: Parts<B, D, Global, Kept>,
     acks: Vec<Ack<B>>,
 ) -> (D, Option<Error>)
     requires seats { AreAllSeats B.site.seats parts.seats.items }
@@ -348,7 +342,7 @@ fn take_back<B: Group, D: Device + Drop, R: Wait>(
     alloc: Global,
     shared: Shared<B>,
     writers: Vec<Writer<B>>,
-    last: Seat<B>,
+    last: Seat<B, Global, Kept>,
     loops: LoopParts<B, D>,
     before: Refusals,
 ) -> Worked<D>
@@ -365,17 +359,7 @@ fn take_back<B: Group, D: Device + Drop, R: Wait>(
         acks,
         acknowledged,
     } = gathered;
-    let LoopParts {
-        flush,
-        build,
-        clean,
-    } = loops;
-    let parts = Parts {
-        seats,
-        flush,
-        build,
-        clean,
-    };
+    let parts = loops.with_seats(seats);
     let (device, end) = close(rt, alloc, shared, parts, acks);
     let mut refusals = before;
     refusals.end = end;
@@ -392,7 +376,7 @@ fn end<B: Group, D: Device + Drop, R: Wait>(
     alloc: Global,
     shared: Shared<B>,
     ended: Ended<B, D, Vec<Writer<B>>>,
-    last: Seat<B>,
+    last: Seat<B, Global, Kept>,
 ) -> Worked<D>
     requires seats { AreAllSeats B.site.seats (map (λ w. w.seat) ended.clients.items ++ last ∷ []) }
     requires told { AllTell (λ w. w.seat) (λ w. w.acks.items) (λ w. w.acknowledged.items) ended.clients.items }
@@ -423,6 +407,23 @@ fn end<B: Group, D: Device + Drop, R: Wait>(
     take_back(rt, alloc, shared, clients, last, loops, refusals)
 }
 
+// The parts of the loops, as they come back where a thread was wanting.
+fn parts_back<B: Group, D: Device, F: Drop>(not_run: NotRun<B, D, F>) -> LoopParts<B, D> {
+    let NotRun {
+        flush,
+        build,
+        clean,
+        clients,
+        want,
+    } = not_run;
+    drop((clients, want));
+    LoopParts {
+        flush,
+        build,
+        clean,
+    }
+}
+
 // Runs the writers and the three loops, each in a thread. Where a thread is wanting, the parts of the loops come back.
 fn run_all<
     B: Group + Send + Sync,
@@ -435,7 +436,7 @@ fn run_all<
     team: Team<'_, R, G, L, E>,
     shared: &Shared<B>,
     writers: Vec<Writer<B>>,
-    last: &mut Seat<B>,
+    last: &mut Seat<B, Global, Kept>,
     loops: LoopParts<B, D>,
 ) -> Result<Ended<B, D, Vec<Writer<B>>>, LoopParts<B, D>>
     ensures len { IfOk result (λ e. vec_len e.clients ≡ vec_len writers) }
@@ -474,26 +475,8 @@ fn run_all<
         ),
     );
     match ran {
-        Ok((ended, reason)) => {
-            drop(reason);
-            Ok(ended)
-        }
-        Err(not_run) => {
-            let NotRun {
-                flush,
-                build,
-                clean,
-                clients,
-                want,
-            } = not_run;
-            drop(clients);
-            drop(want);
-            Err(LoopParts {
-                flush,
-                build,
-                clean,
-            })
-        }
+        Ok((ended, _)) => Ok(ended),
+        Err(not_run) => Err(parts_back(not_run)),
     }
 }
 
@@ -501,15 +484,15 @@ fn run_all<
 #[derive(Drop)]
 struct Staff<B: Group> {
     writers: Vec<Writer<B>>,
-    last: Seat<B>,
+    last: Seat<B, Global, Kept>,
 }
 
 // Prepares the store by the last of the seats, and gives the others to writers.
-fn prepared<B: Group, R: Wait>(
+fn staff_of<B: Group, R: Wait>(
     rt: &R,
     alloc: Global,
     shared: &Shared<B>,
-    mut seats: Vec<Seat<B>>,
+    mut seats: Vec<Seat<B, Global, Kept>>,
     beginning: Beginning,
 ) -> Result<Staff<B>, Error>
     requires { AreNewSeats B.site.board B.site.seats seats.items }
@@ -575,23 +558,13 @@ fn work_together<
     G: Gate + Sync,
     L: Listener + Sync,
     E: Write + Send + Drop,
->(team: Team<'_, R, G, L, E>, shared: Shared<B>, parts: Parts<B, D>) -> Worked<D>
+>(team: Team<'_, R, G, L, E>, shared: Shared<B>, parts: Parts<B, D, Global, Kept>) -> Worked<D>
     requires seats { AreNewSeats B.site.board B.site.seats parts.seats.items }
     ensures { KeepsAll D.past_of B.site.opened result.device result.acknowledged.items }
 {
     let alloc = team.alloc;
-    let Parts {
-        seats,
-        flush,
-        build,
-        clean,
-    } = parts;
-    let loops = LoopParts {
-        flush,
-        build,
-        clean,
-    };
-    match prepared(team.rt, alloc, &shared, seats, team.beginning) {
+    let (seats, loops) = parts.split();
+    match staff_of(team.rt, alloc, &shared, seats, team.beginning) {
         Ok(staff) => work_staffed(team, shared, staff, loops),
         Err(error) => {
             drop(team);
@@ -613,7 +586,7 @@ fn begin<
     requires names { store.site ≡ B.site }
     ensures { IfOk result (λ worked. KeepsAll D.past_of B.site.opened worked.device worked.acknowledged.items) }
 {
-    match store.start::<B>() {
+    match store.start::<B, Kept>() {
         Ok((shared, parts)) => Ok(work_together(team, shared, parts)),
         Err((error, device)) => {
             drop(team);

@@ -6,7 +6,8 @@ use crate::listener::{Listener, Turn};
 use crate::rows::{abort, begin, commit, delete, insert};
 use nsf_core::Ticket;
 use records::{Error, Rid, Txn};
-use shared::{Ack, Group, Seat, Shared};
+use shared::{Ack, Group, Kept, Seat, Shared};
+use std::alloc::Global;
 use std::sync::Wait;
 
 /// A row that a writer put, by the writer's number and that of its transaction, and the ticket of the commit, which was
@@ -21,7 +22,7 @@ pub struct Acknowledged {
 /// A writer: its seat and its number, what it was told to be safe, and why it ended early, if so.
 #[derive(Drop)]
 pub struct Writer<B: Group> {
-    pub seat: Seat<B>,
+    pub seat: Seat<B, Global, Kept>,
     pub number: u16,
     pub acks: Vec<Ack<B>>,
     pub acknowledged: Vec<Acknowledged>,
@@ -32,7 +33,7 @@ pub struct Writer<B: Group> {
 fn delete_row<B: Group, R: Wait>(
     rt: &R,
     shared: &Shared<B>,
-    seat: &mut Seat<B>,
+    seat: &mut Seat<B, Global, Kept>,
     txn: Txn,
     place: Option<Rid>,
 ) -> Result<(), Error>
@@ -48,7 +49,7 @@ fn delete_row<B: Group, R: Wait>(
 fn commit_safely<B: Group, R: Wait>(
     rt: &R,
     shared: &Shared<B>,
-    seat: &mut Seat<B>,
+    seat: &mut Seat<B, Global, Kept>,
     txn: Txn,
 ) -> Result<(Ticket, Ack<B>), Error>
     ensures ok { IfOk result (λ r. Commits seat.old seat.new r.0 × (r.1.ticket ≡ r.0)) }
@@ -64,7 +65,7 @@ fn commit_safely<B: Group, R: Wait>(
 fn begin_without<B: Group, R: Wait>(
     rt: &R,
     shared: &Shared<B>,
-    seat: &mut Seat<B>,
+    seat: &mut Seat<B, Global, Kept>,
     place: Option<Rid>,
 ) -> Result<Txn, Error>
     ensures { KeepsCommits seat.old seat.new }
@@ -87,7 +88,7 @@ fn deleted_by(number: u16, before: Option<Rid>) -> Option<Rid> {
 fn change<B: Group, R: Wait>(
     rt: &R,
     shared: &Shared<B>,
-    seat: &mut Seat<B>,
+    seat: &mut Seat<B, Global, Kept>,
     writer: u16,
     number: u16,
     place: Option<Rid>,

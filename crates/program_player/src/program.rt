@@ -184,7 +184,12 @@ fn start(alloc: Global, sectors: u64, geometry: Geometry, fails_at: u64) -> Resu
 }
 
 // The number of the write or sync that is cut short, or 0: so many more than a start makes.
-fn cut_at(alloc: Global, sectors: u64, geometry: Geometry, stop: Option<u32>) -> Result<u64, Error>
+fn stop_number(
+    alloc: Global,
+    sectors: u64,
+    geometry: Geometry,
+    stop: Option<u32>,
+) -> Result<u64, Error>
     ensures cut { IfOk result (IsCutAt sectors geometry stop) }
     ensures refused { IfErr result (IsNoStart sectors geometry) }
 {
@@ -214,7 +219,7 @@ fn start_for(alloc: Global, arguments: &Arguments, geometry: Geometry) -> Result
     ensures refused { IfErr result (IsNoStart (sectors_asked arguments.now.sectors geometry) geometry) }
 {
     let sectors = sectors_for(arguments, geometry);
-    let fails_at = cut_at(alloc, sectors, geometry, arguments.stop)?;
+    let fails_at = stop_number(alloc, sectors, geometry, arguments.stop)?;
     start(alloc, sectors, geometry, fails_at)
 }
 
@@ -268,8 +273,8 @@ fn end<W: Write>(
     }
 }
 
-// The commands of the text and the store for them, or why there are none.
-fn prepared(
+// Reads the commands, and makes and opens a new store for them; or the first fault.
+fn commands_and_store(
     alloc: Global,
     arguments: &Arguments,
     text: &[u8],
@@ -294,7 +299,7 @@ pub fn run_script<W: Write>(
 ) -> io::Result<u8>
     ensures { IfOk result (λ status. Plays W.contents arguments.now text.now status output.old output.new) }
 {
-    match prepared(alloc, arguments, text) {
+    match commands_and_store(alloc, arguments, text) {
         Ok((commands, session)) => {
             let last = run_commands(session, &commands, output)?;
             end(alloc, arguments, last, output)

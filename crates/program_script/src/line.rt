@@ -9,7 +9,7 @@ ghost use Rattle.program_script.specs.Reading.{crash_at, get_at, find_at, store_
 use crate::command::Command;
 use crate::fate::Fate;
 use crate::parts::{cut_at, four_parts, only_part, three_parts, two_parts};
-use crate::word::{count_of, rid_of, text_of, txn_of};
+use crate::word::{bytes_of, count_of, rid_of, txn_of};
 use records::Txn;
 use std::alloc::{AllocError, Global};
 
@@ -42,10 +42,10 @@ fn insert_of(alloc: Global, rest: Option<&[u8]>) -> Result<Option<Command>, Allo
     let Some(txn) = txn_of(txn) else {
         return Ok(None);
     };
-    let Some(key) = text_of(alloc, key)? else {
+    let Some(key) = bytes_of(alloc, key)? else {
         return Ok(None);
     };
-    let Some(body) = text_of(alloc, body)? else {
+    let Some(body) = bytes_of(alloc, body)? else {
         return Ok(None);
     };
     Ok(Some(Command::Insert { txn, key, body }))
@@ -74,10 +74,10 @@ fn update_of(alloc: Global, rest: Option<&[u8]>) -> Result<Option<Command>, Allo
     let Some(rid) = rid_of(rid) else {
         return Ok(None);
     };
-    let Some(key) = text_of(alloc, key)? else {
+    let Some(key) = bytes_of(alloc, key)? else {
         return Ok(None);
     };
-    let Some(body) = text_of(alloc, body)? else {
+    let Some(body) = bytes_of(alloc, body)? else {
         return Ok(None);
     };
     Ok(Some(Command::Update {
@@ -133,7 +133,7 @@ fn find_of(alloc: Global, rest: Option<&[u8]>) -> Result<Option<Command>, AllocE
     let Some(word) = only_part(b' ', rest) else {
         return Ok(None);
     };
-    let key = text_of(alloc, word)?;
+    let key = bytes_of(alloc, word)?;
     Ok(key.map(|key| Command::Find { key }))
 }
 

@@ -104,7 +104,7 @@ fn hex_of(alloc: Global, digits: &[u8]) -> Result<Option<ByteText>, AllocError>
 
 /// The bytes that this word gives: as they stand, or in hexadecimal digits.
 #[tactic(auto, unfolding(crate::specs::Reading::text_at))]
-pub fn text_of(alloc: Global, word: &[u8]) -> Result<Option<ByteText>, AllocError>
+pub fn bytes_of(alloc: Global, word: &[u8]) -> Result<Option<ByteText>, AllocError>
     ensures { IfOk result (λ r. r ≡ text_at word.now) }
 {
     match word {

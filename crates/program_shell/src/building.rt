@@ -91,8 +91,9 @@ fn full(build: Build) -> Refused {
     }
 }
 
-// Makes the index anew, if that is wanted; or answers what hinders a build.
-fn prepare<D: Device>(store: &mut Store<D>, build: Build) -> Result<(), Refused> {
+// Refused where the store isn't sound, also where the index is to be made anew. Then makes it anew, if that is wanted,
+// or is refused where there is none.
+fn ready_index<D: Device>(store: &mut Store<D>, build: Build) -> Result<(), Refused> {
     if !store.core().can_open() {
         return Err(Refused::Unsound);
     }
@@ -112,7 +113,7 @@ pub(crate) fn build_index<D: Device, E: Write>(
     build: Build,
     errors: &mut E,
 ) -> Result<u64, Refused> {
-    prepare(store, build)?;
+    ready_index(store, build)?;
     let built = build_on(store, build.shows_progress, errors);
     if build.shows_progress {
         let _ = writeln!(errors);

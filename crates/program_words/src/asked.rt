@@ -90,11 +90,33 @@ const PROGRESS_HELP: &str =
 // Each of these hands on one call alone, so that what follows has no more to read than it needs. What falls by the way
 // is let go of by a call.
 
-fn with_arg<'a>(command: Command<'a>, arg: Arg<'a>) -> Result<Command<'a>, AllocError> {
-    command.arg(arg)
+fn with_arg<'a>(
+    command: Result<Command<'a>, AllocError>,
+    arg: Arg<'a>,
+) -> Result<Command<'a>, AllocError> {
+    match command {
+        Ok(command) => command.arg(arg),
+        Err(error) => {
+            drop(arg);
+            Err(error)
+        }
+    }
 }
 
 fn with_verb<'a>(
+    command: Result<Command<'a>, AllocError>,
+    verb: Result<Command<'a>, AllocError>,
+) -> Result<Command<'a>, AllocError> {
+    match command {
+        Ok(command) => with_made_verb(command, verb),
+        Err(error) => {
+            drop(verb);
+            Err(error)
+        }
+    }
+}
+
+fn with_made_verb<'a>(
     command: Command<'a>,
     verb: Result<Command<'a>, AllocError>,
 ) -> Result<Command<'a>, AllocError> {
@@ -145,44 +167,44 @@ fn verb_with_file<'a>(
     about: &'a str,
 ) -> Result<Command<'a>, AllocError> {
     let file = path_arg(alloc, "FILE", "The store's file");
-    with_arg(bare_verb(alloc, name, about), file)
+    with_arg(Ok(bare_verb(alloc, name, about)), file)
 }
 
 fn new_verb<'a>(alloc: Global) -> Result<Command<'a>, AllocError> {
-    let verb = verb_with_file(alloc, "new", NEW_ABOUT)?;
+    let verb = verb_with_file(alloc, "new", NEW_ABOUT);
     let pages = number_arg(alloc, "pages", 1, PAGES_MAX, PAGES_HELP);
-    let verb = with_arg(verb, pages)?;
+    let verb = with_arg(verb, pages);
     let entries = number_arg(alloc, "entries", ENTRIES_MIN, ENTRIES_MAX, ENTRIES_HELP);
-    let verb = with_arg(verb, entries)?;
+    let verb = with_arg(verb, entries);
     let slots = number_arg(alloc, "slots", LOG_SLOTS_MIN, LOG_SLOTS_MAX, SLOTS_HELP);
     with_arg(verb, slots)
 }
 
 fn run_verb<'a>(alloc: Global) -> Result<Command<'a>, AllocError> {
-    let verb = verb_with_file(alloc, "run", RUN_ABOUT)?;
+    let verb = verb_with_file(alloc, "run", RUN_ABOUT);
     with_arg(verb, flag_arg(alloc, "durable", DURABLE_HELP))
 }
 
 fn build_verb<'a>(alloc: Global) -> Result<Command<'a>, AllocError> {
-    let verb = verb_with_file(alloc, "build", BUILD_ABOUT)?;
-    let verb = with_arg(verb, flag_arg(alloc, "again", AGAIN_HELP))?;
+    let verb = verb_with_file(alloc, "build", BUILD_ABOUT);
+    let verb = with_arg(verb, flag_arg(alloc, "again", AGAIN_HELP));
     with_arg(verb, flag_arg(alloc, "progress", PROGRESS_HELP))
 }
 
 fn migrate_verb<'a>(alloc: Global) -> Result<Command<'a>, AllocError> {
-    let verb = bare_verb(alloc, "migrate", MIGRATE_ABOUT);
+    let verb = Ok(bare_verb(alloc, "migrate", MIGRATE_ABOUT));
     let old = path_arg(alloc, "OLD", "The file of the store of version 1");
-    let verb = with_arg(verb, old)?;
+    let verb = with_arg(verb, old);
     with_arg(verb, path_arg(alloc, "NEW", "The file that is made"))
 }
 
 fn command<'a>(alloc: Global) -> Result<Command<'a>, AllocError> {
-    let all = with_verb(program(alloc)?, new_verb(alloc))?;
-    let all = with_verb(all, run_verb(alloc))?;
-    let all = with_verb(all, verb_with_file(alloc, "check", CHECK_ABOUT))?;
-    let all = with_verb(all, verb_with_file(alloc, "dump", DUMP_ABOUT))?;
-    let all = with_verb(all, verb_with_file(alloc, "stat", STAT_ABOUT))?;
-    let all = with_verb(all, build_verb(alloc))?;
+    let all = with_verb(program(alloc), new_verb(alloc));
+    let all = with_verb(all, run_verb(alloc));
+    let all = with_verb(all, verb_with_file(alloc, "check", CHECK_ABOUT));
+    let all = with_verb(all, verb_with_file(alloc, "dump", DUMP_ABOUT));
+    let all = with_verb(all, verb_with_file(alloc, "stat", STAT_ABOUT));
+    let all = with_verb(all, build_verb(alloc));
     with_verb(all, migrate_verb(alloc))
 }
 

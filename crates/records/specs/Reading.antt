@@ -32,6 +32,7 @@ None >>= f = None
 abbrev pub number_at : ℕ → List ℕ → Option (ℕ × List ℕ)
 number_at n bytes = if nat_lt (length bytes) n then None else Some (big_number n bytes, drop n bytes)
 
+-- a number of two, four or eight bytes, and what is behind it
 unfoldable pub u16_at : List ℕ → Option (ℕ × List ℕ)
 u16_at bytes = number_at 2 bytes
 
@@ -41,6 +42,7 @@ u32_at bytes = number_at 4 bytes
 unfoldable pub u64_at : List ℕ → Option (ℕ × List ℕ)
 u64_at bytes = number_at 8 bytes
 
+-- a byte, and what is behind it
 unfoldable pub byte_at : List ℕ → Option (ℕ × List ℕ)
 byte_at [] = None
 byte_at (b ∷ rest) = Some (b, rest)
@@ -50,6 +52,7 @@ short_at max bytes = do
   n ← byte_at bytes
   if nat_lt (length n.1) n.0 then None else if nat_lt max n.0 then None else Some (take n.0 n.1, drop n.0 n.1)
 
+-- a place whose slot a page has, and what is behind it
 unfoldable pub rid_at : List ℕ → Option (Place × List ℕ)
 rid_at bytes = do
   page ← u32_at bytes

@@ -3,94 +3,44 @@ ghost use Rattle.std.specs.Prelude.{◌≡◌, ◌≤◌, ◌-◌, ◌++◌, Lis
 ghost use Rattle.records.specs.RecordValue.{RecordValue, has_part, txn_has_rows, has_rows};
 ghost use Rattle.records.specs.Spelling.{spelling, Fits};
 ghost use Rattle.std.specs.Option.{option_map};
-ghost use Rattle.records.specs.Reading.{u16_at, u32_at, u64_at, byte_at, short_at, rid_at, present_row_at, row_at};
-ghost use Rattle.records.specs.Reading.{rows_of, change_at, pair_at, flag_at, part_at, forward_at, undo_at};
-ghost use Rattle.records.specs.Reading.{txn_action_at, index_action_at, action_at, record_at};
+ghost use Rattle.records.specs.Reading.{short_at, present_row_at, row_at, change_at, pair_at, flag_at, part_at};
+ghost use Rattle.records.specs.Reading.{forward_at, undo_at, txn_action_at, index_action_at, action_at, record_at};
 
 use crate::change::{CHANGES_MAX, Change, Rows};
+use crate::front::{byte_of, rid_of, u64_of};
 use crate::record::{Action, IndexAction, Part, Record, TxnAction};
-use byteorder::{BigEndian, ByteOrder};
-use record_values::{
-    BODY_MAX, Body, KEY_MAX, Key, Pair, RecordNumber, Rid, Row, SLOTS_PER_PAGE, Txn,
-};
+use record_values::{BODY_MAX, Body, KEY_MAX, Key, Pair, RecordNumber, Row, Txn};
 
-#[tactic(auto, unfolding(crate::specs::Reading::u16_at))]
-fn u16_of(bytes: &[u8]) -> Option<(u16, &[u8])>
-    ensures { option_map (λ x. (x.0, x.1.now)) result ≡ u16_at bytes.now }
-{
-    if bytes.len() < 2 {
-        return None;
-    }
-    Some((BigEndian::read_u16(bytes), &bytes[2..]))
-}
-
-#[tactic(auto, unfolding(crate::specs::Reading::u32_at))]
-fn u32_of(bytes: &[u8]) -> Option<(u32, &[u8])>
-    ensures { option_map (λ x. (x.0, x.1.now)) result ≡ u32_at bytes.now }
-{
-    if bytes.len() < 4 {
-        return None;
-    }
-    Some((BigEndian::read_u32(bytes), &bytes[4..]))
-}
-
-#[tactic(auto, unfolding(crate::specs::Reading::u64_at))]
-fn u64_of(bytes: &[u8]) -> Option<(u64, &[u8])>
-    ensures { option_map (λ x. (x.0, x.1.now)) result ≡ u64_at bytes.now }
-{
-    if bytes.len() < 8 {
-        return None;
-    }
-    Some((BigEndian::read_u64(bytes), &bytes[8..]))
-}
-
-#[tactic(auto, unfolding(crate::specs::Reading::byte_at))]
-fn byte_of(bytes: &[u8]) -> Option<(u8, &[u8])>
-    ensures { option_map (λ x. (x.0, x.1.now)) result ≡ byte_at bytes.now }
-{
-    match bytes {
-        [] => None,
-        [byte, rest @ ..] => Some((*byte, rest)),
-    }
-}
-
+// A field of so many bytes at most, which has its length in front.
 #[tactic(auto, unfolding(crate::specs::Reading::short_at))]
+fn short_of(max: usize, bytes: &[u8]) -> Option<(&[u8], &[u8])>
+    ensures read { option_map (λ x. (x.0.now, x.1.now)) result ≡ short_at max bytes.now }
+    ensures within { IfSome result (λ x. length x.0.now ≤ max) }
+{
+    let (len, rest) = byte_of(bytes)?;
+    let len = usize::from(len);
+    if rest.len() < len {
+        return None;
+    }
+    if max < len {
+        return None;
+    }
+    let (field, rest) = rest.split_at(len);
+    Some((field, rest))
+}
+
 fn key_of(bytes: &[u8]) -> Option<(Key, &[u8])>
     ensures { option_map (λ x. (x.0, x.1.now)) result ≡ short_at KEY_MAX bytes.now }
 {
-    let (len, rest) = byte_of(bytes)?;
-    let len = usize::from(len);
-    if rest.len() < len {
-        return None;
-    }
-    let (key, rest) = rest.split_at(len);
+    let (key, rest) = short_of(KEY_MAX, bytes)?;
     Some((Key::new(key).ok()?, rest))
 }
 
-#[tactic(auto, unfolding(crate::specs::Reading::short_at))]
 fn body_of(bytes: &[u8]) -> Option<(Body, &[u8])>
     ensures { option_map (λ x. (x.0, x.1.now)) result ≡ short_at BODY_MAX bytes.now }
 {
-    let (len, rest) = byte_of(bytes)?;
-    let len = usize::from(len);
-    if rest.len() < len {
-        return None;
-    }
-    let (body, rest) = rest.split_at(len);
+    let (body, rest) = short_of(BODY_MAX, bytes)?;
     Some((Body::new(body).ok()?, rest))
-}
-
-#[tactic(auto, unfolding(crate::specs::Reading::rid_at))]
-fn rid_of(bytes: &[u8]) -> Option<(Rid, &[u8])>
-    ensures { option_map (λ x. (x.0, x.1.now)) result ≡ rid_at bytes.now }
-{
-    let (page, rest) = u32_of(bytes)?;
-    let (slot, rest) = u16_of(rest)?;
-    if slot < SLOTS_PER_PAGE {
-        Some((Rid { page, slot }, rest))
-    } else {
-        None
-    }
 }
 
 #[tactic(auto, unfolding(crate::specs::Reading::present_row_at))]
@@ -122,17 +72,6 @@ fn row_of(bytes: &[u8]) -> Option<(Option<Row>, &[u8])>
     }
 }
 
-fn both_rows(old: Option<Row>, new: Option<Row>) -> Option<Rows>
-    ensures { result ≡ rows_of old new }
-{
-    match (old, new) {
-        (None, None) => None,
-        (None, Some(new)) => Some(Rows::Inserted { new }),
-        (Some(old), None) => Some(Rows::Deleted { old }),
-        (Some(old), Some(new)) => Some(Rows::Updated { old, new }),
-    }
-}
-
 #[tactic(auto, unfolding(crate::specs::Reading::change_at))]
 fn change_of(bytes: &[u8]) -> Option<(Change, &[u8])>
     ensures { option_map (λ x. (x.0, x.1.now)) result ≡ change_at bytes.now }
@@ -147,7 +86,7 @@ fn change_of(bytes: &[u8]) -> Option<(Change, &[u8])>
     let Some((new, rest)) = row_of(rest) else {
         return None;
     };
-    let rows = both_rows(old, new)?;
+    let rows = Rows::from_both(old, new)?;
     if position < CHANGES_MAX {
         Some((
             Change {

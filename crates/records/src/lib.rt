@@ -2,8 +2,8 @@
 //! that they are made of.
 //!
 //! Proved: `encode_into` appends a record's spelling (`ok`), `decode` reads just what is one (`found`, `none`). No
-//! spelling begins another (the law `one_spelling`). Only tested (`test_values`): the text of refusals, and the vectors
-//! of the format document.
+//! spelling begins another (the law `one_spelling`). `front` takes single fields off some bytes. Only tested
+//! (`test_values`): the text of refusals, and the vectors of the format document.
 //!
 //! Lemmas about its public words that crates above may cite, in `proofs`: `Fields`, `Numbers`, `Spellings`, `Steps` and
 //! `Wide`.
@@ -12,6 +12,7 @@
 mod change;
 mod decode;
 mod encode;
+pub mod front;
 mod laws;
 mod record;
 mod sink;

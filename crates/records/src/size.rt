@@ -6,6 +6,7 @@ ghost use Rattle.records.specs.Spelling.{TxnActionFits, IndexActionFits, ActionF
 
 use crate::change::{Change, Rows};
 use crate::record::{Action, IndexAction, RECORD_MAX, Record, TxnAction};
+use crate::within::{number_fits, rid_fits, txn_fits};
 use record_values::{BODY_MAX, KEY_MAX, Pair, Rid, Row};
 
 fn row_size(row: &Row) -> usize
@@ -33,8 +34,7 @@ fn rid_size(rid: &Rid) -> usize
     ensures most { result ≡ 6 }
     ensures fits { RidFits rid.now }
 {
-    let _page = rid.page;
-    let _slot = rid.slot;
+    rid_fits(rid);
     6
 }
 
@@ -89,7 +89,7 @@ fn action_size(action: &Action) -> usize
 {
     match action {
         Action::OfTxn { txn, action } => {
-            let _number = txn.number();
+            txn_fits(*txn);
             txn_action_size(action)
         }
         Action::OfIndex { action } => index_action_size(action),
@@ -104,7 +104,7 @@ impl Record {
         ensures most { result ≤ RECORD_MAX }
         ensures fits { Fits self.now }
     {
-        let _number = self.number.get();
+        number_fits(self.number);
         16 + action_size(&self.action)
     }
 }

@@ -1,12 +1,36 @@
 //! Whether a record is within the limits of a version of the format.
 ghost use Rattle.std.specs.Prelude.{◌≡◌, ◌≤◌, ◌++◌, ◌↔◌, ℕ, List, length, take, IsTrue, IfSome, IfNone};
+ghost use Rattle.record_values.specs.declared.number.TheConstants.{LAST_NUMBER};
 ghost use Rattle.records.specs.RecordValue.{RecordValue};
 ghost use Rattle.records.specs.Spelling.{spelling, RowFitsIn, RowsFitIn, ChangeFitsIn, PairFitsIn, TxnActionFitsIn};
 ghost use Rattle.records.specs.Spelling.{IndexActionFitsIn, ActionFitsIn, FitsIn, RidFits, IsTxn};
 
 use crate::change::{Change, Rows};
 use crate::record::{Action, IndexAction, Record, TxnAction};
-use record_values::{Pair, Rid, Row, Version};
+use record_values::{Pair, RecordNumber, Rid, Row, Txn, Version};
+
+// A law: the place is within the limits of its type. The fields are read, so that these are at hand.
+pub(crate) fn rid_fits(rid: &Rid)
+    ensures { RidFits rid.now }
+{
+    let _page = rid.page;
+    let _slot = rid.slot;
+}
+
+// A law: so is the number of a transaction.
+pub(crate) fn txn_fits(txn: Txn)
+    ensures { IsTxn txn }
+{
+    let _number = txn.number();
+}
+
+// A law: so is the number of a record.
+pub(crate) fn number_fits(number: RecordNumber)
+    ensures first { 1 ≤ number }
+    ensures last { number ≤ LAST_NUMBER }
+{
+    let _number = number.get();
+}
 
 fn row_fits(version: Version, row: &Row) -> bool
     ensures { IsTrue result ↔ RowFitsIn version row.now }
@@ -22,13 +46,6 @@ fn rows_fit(version: Version, rows: &Rows) -> bool
         Rows::Deleted { old } => row_fits(version, old),
         Rows::Updated { old, new } => row_fits(version, old) && row_fits(version, new),
     }
-}
-
-fn rid_fits(rid: &Rid)
-    ensures { RidFits rid.now }
-{
-    let _page = rid.page;
-    let _slot = rid.slot;
 }
 
 fn change_fits(version: Version, change: &Change) -> bool
@@ -73,7 +90,7 @@ fn action_fits(version: Version, action: &Action) -> bool
 {
     match action {
         Action::OfTxn { txn, action } => {
-            let _number = txn.number();
+            txn_fits(*txn);
             txn_action_fits(version, action)
         }
         Action::OfIndex { action } => index_action_fits(version, action),
@@ -85,7 +102,7 @@ impl Record {
     pub fn fits_in(&self, version: Version) -> bool
         ensures { IsTrue result ↔ FitsIn version self.now }
     {
-        let _number = self.number.get();
+        number_fits(self.number);
         action_fits(version, &self.action)
     }
 

@@ -38,7 +38,7 @@ use Rattle.store_writer.specs.declared.writer.FlipReply.TheVariants.{Flipped}
 use Rattle.store_writer.specs.declared.writer.StepReply.TheVariants.{StartAgain, Taken}
 use Rattle.store_writer.specs.declared.image.NewImage.{NewImage}
 use Rattle.store_writer.specs.declared.writer.Writer.{Writer}
-use Rattle.txn_table.specs.Sound.{IsSound}
+use Rattle.txn_table.specs.Sound.{IsSoundTable}
 use Rattle.restart.specs.declared.parts.EngineParts.{EngineParts}
 use Rattle.restart.specs.Copies.{CannotFlip, CannotTake, IsPieceNow, MakesCurrent, MayFlip, TakesPiece, copies_left}
 use Rattle.restart.specs.Copies.{copies_to_flip, left_at}
@@ -52,8 +52,8 @@ not_none : (image : Option NewImage) (i : NewImage) → image ≡ Some i → ima
 not_none image i is none = cc
 
 module _ {D M : Type 0} (past_of : D → DevicePast) (run : Run) (handed : ℕ) (s : State) (k : Standing) (engine : EngineParts D M)
-    (is : StandsAt past_of run handed s k engine) (sound : has_failed engine ≡ false) (txns : IsSound (core_of engine).txns)
-    (shown : (v : CoreValue) (s : State) (k : Standing) (cells : Cells) → IsSound v.txns → IsState v s k → HasCells s cells → HasLists s cells
+    (is : StandsAt past_of run handed s k engine) (sound : has_failed engine ≡ false) (txns : IsSoundTable (core_of engine).txns)
+    (shown : (v : CoreValue) (s : State) (k : Standing) (cells : Cells) → IsSoundTable v.txns → IsState v s k → HasCells s cells → HasLists s cells
     → IsCellsOf v cells)
     (one : (v : CoreValue) (a b : Cells) → IsCellsOf v a → IsCellsOf v b → a ≡ b)
     (page_next : (run : Run) (handed page : ℕ) (rows : Table) → IsWriter past_of run handed (writer_of engine) → has_failed engine ≡ false
@@ -160,8 +160,8 @@ due_now past_of engine place can sound next =
 
 -- what the layers below say of a copy of this core and of this writer
 pub record CopyLaws {D M : Type 0} (past_of : D → DevicePast) (engine : EngineParts D M) : Type 0 where
-  pub txns : IsSound (core_of engine).txns
-  pub shown : (v : CoreValue) (s : State) (k : Standing) (cells : Cells) → IsSound v.txns → IsState v s k → HasCells s cells → HasLists s cells
+  pub txns : IsSoundTable (core_of engine).txns
+  pub shown : (v : CoreValue) (s : State) (k : Standing) (cells : Cells) → IsSoundTable v.txns → IsState v s k → HasCells s cells → HasLists s cells
       → IsCellsOf v cells
   pub one : (v : CoreValue) (a b : Cells) → IsCellsOf v a → IsCellsOf v b → a ≡ b
   pub page : (run : Run) (handed page : ℕ) (rows : Table) → IsWriter past_of run handed (writer_of engine) → has_failed engine ≡ false

@@ -33,7 +33,7 @@ use Rattle.store_writer.specs.declared.copying.Copying.TheVariants.{Idle}
 use Rattle.restart.specs.declared.parts.EngineParts.{EngineParts}
 use Rattle.restart.specs.Building.{HasCome}
 use Rattle.restart.specs.Parts.{core_of, device_of, horizon_of, writer_of}
-use Rattle.restart.specs.Reopening.{IsCoreOf, IsOpened, IsTurned, Recovers, opening}
+use Rattle.restart.specs.Reopening.{BeginsOver, IsCoreOf, IsOpened, IsTurned, Recovers, opening}
 use Rattle.restart.specs.Migrating.{IsMigrated}
 use Rattle.restart.proofs.Numbers.{count_to_end}
 use Rattle.restart.specs.Store.{CanRun, IsAt, Past, StandsAt, Survives, items_told, over, run_of}
@@ -134,15 +134,11 @@ module _ {D M : Type 0} (past_of : D → DevicePast) (before : CrashState) (engi
 -- ---- what is made of what was opened
 
 module _ {D M : Type 0} (past_of : D → DevicePast) (before after : D) (engine : EngineParts D M) (halves : HalvesValue) (log : Log)
-    (found : IsCoreOf (past_of before).disk.content (past_of after) halves log (core_of engine)) (device : device_of engine ≡ after)
+    (found : IsCoreOf (past_of before).disk.content (past_of after) halves log (core_of engine)) (made : BeginsOver past_of after halves log engine)
     (half : (pages base : ℕ) (cells : Cells) (s : State) → HasCells s cells → IsLogOf pages base cells [] s) (lists : (o : Opened)
-    → HasLists (opened o) (opening_cells o.given)) (size : engine.geometry ≡ halves.geometry) (idle : engine.writer.copying ≡ Idle)
-    (no_image : writer.image_of (writer_of engine) ≡ None)
-    (synced : ℕ) (synced_is : synced ≡ (core_of engine).last) (writes : (cells : Cells) → IsOpenedAt (past_of after) halves log synced cells
-    → IsWriter past_of (opened_run halves synced cells) synced (writer_of engine))
-    (none : engine.outgoing.items ≡ []) (reached_is : horizon_of engine ≡ synced) (sound : writer.has_failed (writer_of engine) ≡ false) where
-  number : synced ≡ found.given.last
-  number = synced_is ∙ ap (λ (v : CoreValue). v.last) found.holds
+    → HasLists (opened o) (opening_cells o.given)) where
+  number : (core_of engine).last ≡ found.given.last
+  number = ap (λ (v : CoreValue). v.last) found.holds
 
   abbrev moved : IsCoreOf (past_of before).disk.content (past_of (device_of engine)) halves log (core_of engine)
   moved = record {
@@ -150,18 +146,18 @@ module _ {D M : Type 0} (past_of : D → DevicePast) (before after : D) (engine 
     gives = found.gives;
     holds = found.holds;
     shown = found.shown;
-    opened-at = subst (λ d. IsOpenedAt (past_of d) halves log found.given.last (opening_cells found.given)) (sym device) found.opened-at;
+    opened-at = subst (λ d. IsOpenedAt (past_of d) halves log found.given.last (opening_cells found.given)) (sym made.device-is) found.opened-at;
   }
 
   takes : (cells : Cells) → IsOpenedAt (past_of (device_of engine)) halves log found.given.last cells
       → IsWriter past_of (opened_run halves found.given.last cells) found.given.last (writer_of engine)
   takes cells at = subst (λ n. IsWriter past_of (opened_run halves n cells) n (writer_of engine)) number
-      (writes cells (subst (λ n. IsOpenedAt (past_of after) halves log n cells) (sym number)
-      (subst (λ d. IsOpenedAt (past_of d) halves log found.given.last cells) device at)))
+      (made.writes cells (subst (λ n. IsOpenedAt (past_of after) halves log n cells) (sym number)
+      (subst (λ d. IsOpenedAt (past_of d) halves log found.given.last cells) made.device-is at)))
 
   pub can_run_made : CanRun past_of engine
-  can_run_made = can_run_opened past_of (past_of before).disk.content engine halves log moved half lists size idle no_image takes none (reached_is
-      ∙ number) sound
+  can_run_made = can_run_opened past_of (past_of before).disk.content engine halves log moved half lists made.geometry made.idle made.no-image takes
+      made.none-handed (made.synced ∙ number) made.sound
 
   pub opened_made : IsTurned past_of before after → IsOpened past_of before engine
   opened_made turned = record {
@@ -169,19 +165,19 @@ module _ {D M : Type 0} (past_of : D → DevicePast) (before after : D) (engine 
     given = found.given;
     gives = found.gives;
     core = found.holds;
-    horizon = reached_is ∙ number;
-    sound = sound;
-    device = subst (IsTurned past_of before) (sym device) turned;
+    horizon = made.synced ∙ number;
+    sound = made.sound;
+    device = subst (IsTurned past_of before) (sym made.device-is) turned;
     synced = moved.opened-at.all_synced;
-    begins = λ opens. begins_at past_of (past_of before).disk.content engine halves log moved half lists size idle no_image takes none (reached_is
-        ∙ number) sound opens;
-    come = λ opens. come_to past_of (past_of before).disk.content engine halves log moved half lists size idle no_image takes none (reached_is
-        ∙ number) sound opens;
+    begins = λ opens. begins_at past_of (past_of before).disk.content engine halves log moved half lists made.geometry made.idle made.no-image takes
+        made.none-handed (made.synced ∙ number) made.sound opens;
+    come = λ opens. come_to past_of (past_of before).disk.content engine halves log moved half lists made.geometry made.idle made.no-image takes
+        made.none-handed (made.synced ∙ number) made.sound opens;
   }
 
   pub recovers_made : (past : Past M) (floor : ℕ) → Survives past floor (past_of before).disk.content → Recovers past_of past floor engine
-  recovers_made past floor left = recovers_run past_of (past_of before).disk.content engine halves log moved half lists size idle no_image takes none
-      (reached_is ∙ number) sound past floor left
+  recovers_made past floor left = recovers_run past_of (past_of before).disk.content engine halves log moved half lists made.geometry made.idle
+      made.no-image takes made.none-handed (made.synced ∙ number) made.sound past floor left
 
 -- ---- what is moved from another device
 
@@ -199,27 +195,23 @@ still past_of d = record {
 }
 
 module _ {D M : Type 0} (past_of : D → DevicePast) (new : D) (engine : EngineParts D M) (halves : HalvesValue) (log : Log)
-    (found : IsCoreOf (past_of new).disk.content (past_of new) halves log (core_of engine)) (device : device_of engine ≡ new)
+    (found : IsCoreOf (past_of new).disk.content (past_of new) halves log (core_of engine)) (made : BeginsOver past_of new halves log engine)
     (half : (pages base : ℕ) (cells : Cells) (s : State) → HasCells s cells → IsLogOf pages base cells [] s) (lists : (o : Opened)
-    → HasLists (opened o) (opening_cells o.given)) (size : engine.geometry ≡ halves.geometry) (idle : engine.writer.copying ≡ Idle)
-    (no_image : writer.image_of (writer_of engine) ≡ None)
-    (synced : ℕ) (synced_is : synced ≡ (core_of engine).last) (writes : (cells : Cells) → IsOpenedAt (past_of new) halves log synced cells
-    → IsWriter past_of (opened_run halves synced cells) synced (writer_of engine))
-    (none : engine.outgoing.items ≡ []) (reached_is : horizon_of engine ≡ synced) (sound : writer.has_failed (writer_of engine) ≡ false) where
+    → HasLists (opened o) (opening_cells o.given)) where
   abbrev there : IsCoreOf (past_of (device_of engine)).disk.content (past_of (device_of engine)) halves log (core_of engine)
   there = record {
     given = found.given;
-    gives = subst (λ d. Gives (past_of d).disk.content halves.geometry found.given) (sym device) found.gives;
+    gives = subst (λ d. Gives (past_of d).disk.content halves.geometry found.given) (sym made.device-is) found.gives;
     holds = found.holds;
     shown = found.shown;
-    opened-at = subst (λ d. IsOpenedAt (past_of d) halves log found.given.last (opening_cells found.given)) (sym device) found.opened-at;
+    opened-at = subst (λ d. IsOpenedAt (past_of d) halves log found.given.last (opening_cells found.given)) (sym made.device-is) found.opened-at;
   }
 
   pub migrated : (old : CrashState) → GivesIn One old halves.geometry found.given → IsMigrated old past_of engine
   unfolding opened_made
   migrated old gave = record {
-    opened = opened_made past_of (device_of engine) (device_of engine) engine halves log there refl half lists size idle no_image synced synced_is (λ cells at.
-        writes cells (subst (λ d. IsOpenedAt (past_of d) halves log synced cells) device at)) none reached_is sound (still past_of (device_of engine));
+    opened = opened_made past_of (device_of engine) (device_of engine) engine halves log there
+        (subst (λ d. BeginsOver past_of d halves log engine) (sym made.device-is) made) half lists (still past_of (device_of engine));
     gave = gave;
   }
 

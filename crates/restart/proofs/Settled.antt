@@ -46,7 +46,7 @@ use Rattle.store_writer.specs.Writer.{IsWriter, StandsFor}
 use Rattle.store_writer.specs.declared.copying.Copying.TheVariants.{GivenUp, Idle}
 use Rattle.store_writer.specs.declared.image.NewImage.{NewImage}
 use Rattle.store_writer.specs.declared.writer.Writer.{Writer}
-use Rattle.txn_table.specs.Sound.{IsSound}
+use Rattle.txn_table.specs.Sound.{IsSoundTable}
 use Rattle.txn_table.specs.Table.{state_of}
 use Rattle.restart.specs.declared.event.Event.TheVariants.{Copy}
 use Rattle.restart.specs.declared.event.Reply.{Reply}
@@ -237,8 +237,8 @@ module _ {D M : Type 0} (past_of : D → DevicePast) (engine : EngineParts D M) 
 
   module _ (quiet : IsQuiet v) (all : unwritten engine ≡ []) (sound : has_failed engine ≡ false) (empty : (writer.log_of (writer_of engine)).open_slots ≡ 0)
       (none : writer.image_of (writer_of engine) ≡ None) (idle : writer.copying_of (writer_of engine) ≡ Idle)
-      (txns : IsSound v.txns)
-      (shown : (v : CoreValue) (s : State) (k : Standing) (cells : Cells) → IsSound v.txns → IsState v s k → HasCells s cells → HasLists s cells
+      (txns : IsSoundTable v.txns)
+      (shown : (v : CoreValue) (s : State) (k : Standing) (cells : Cells) → IsSoundTable v.txns → IsState v s k → HasCells s cells → HasLists s cells
       → IsCellsOf v cells)
       (one : (v : CoreValue) (a b : Cells) → IsCellsOf v a → IsCellsOf v b → a ≡ b) where
     abbrev run : Run
@@ -365,9 +365,9 @@ module _ {D M : Type 0} (past_of : D → DevicePast) (engine : EngineParts D M) 
 
 -- a copy that was answered so leaves the writer with everything
 pub written_whole : {D M : Type 0} (past_of : D → DevicePast) (failures : D → ℕ) (r : Reply M) (n : ℕ) (old new : EngineParts D M) → r ≡ reply.Flipped n
-    → CopiesAnew past_of failures r old new → CanRun past_of new → IsQuiet (core_of old) → IsSound (core_of old).txns
-    → ((v : CoreValue) (s : State) (k : Standing) (cells : Cells) → IsSound v.txns → IsState v s k → HasCells s cells → HasLists s cells → IsCellsOf v cells)
-    → ((v : CoreValue) (a b : Cells) → IsCellsOf v a → IsCellsOf v b → a ≡ b)
+    → CopiesAnew past_of failures r old new → CanRun past_of new → IsQuiet (core_of old) → IsSoundTable (core_of old).txns
+    → ((v : CoreValue) (s : State) (k : Standing) (cells : Cells) → IsSoundTable v.txns → IsState v s k → HasCells s cells → HasLists s cells
+    → IsCellsOf v cells) → ((v : CoreValue) (a b : Cells) → IsCellsOf v a → IsCellsOf v b → a ≡ b)
     → WritesWhole past_of failures old (writer_of new)
 written_whole past_of failures r n old new is told can quiet txns shown one =
     let copies : CopiesAnew past_of failures (reply.Flipped n) old new = subst (λ (x : Reply _). CopiesAnew past_of failures x old new) is told in
@@ -377,7 +377,7 @@ written_whole past_of failures r n old new is told can quiet txns shown one =
     record {
       settled = subst (λ (o : Opened). IsSettled past_of o (writer_of new)) (ap opened_of core_is)
           (settled past_of new can (ap (λ (v : CoreValue). v.txns.active) core_is ∙ quiet) (current.all refl) well.sound (current.emptied refl) current.none
-          current.idle (subst IsSound (sym (ap (λ (v : CoreValue). v.txns) core_is)) txns) shown one);
+          current.idle (subst IsSoundTable (sym (ap (λ (v : CoreValue). v.txns) core_is)) txns) shown one);
       quiet = well.quiet;
       survives = λ past is. weaker (past_of (device_of old)) (past_of (device_of new)) _ (Survives past (horizon_of old))
           (survives_without past (reply.Flipped n) is.answered (horizon_of old)) (copies.runs past is).1;

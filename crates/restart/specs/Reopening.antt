@@ -3,6 +3,7 @@ use Rattle.std.specs.Prelude.{◌≡◌, ◌≢◌, ◌⊎◌, ℕ, ◌≤◌, f
 use Rattle.record_values.specs.GeometryValue.{GeometryValue}
 use Rattle.record_values.specs.declared.error.Error.{Error}
 use Rattle.record_values.specs.declared.error.Error.TheVariants.{DeviceFailed}
+use Rattle.model.specs.Cells.{Cells}
 use Rattle.model.specs.Given.{Given, IsBeginning, opening_cells}
 use Rattle.sector_device.specs.Disk.{CrashState, IsCrashState, IsSynced}
 use Rattle.sector_device.specs.DevicePast.{DevicePast, LeavesOnly}
@@ -15,7 +16,7 @@ use Rattle.core_loader.specs.Loaded.{holding}
 use Rattle.core_model.specs.Histories.{CanOpen, opened}
 use Rattle.core_model.specs.Events.{standing_at}
 use Rattle.core_parts.specs.View.{CoreValue, IsState}
-use Rattle.store_writer.specs.Writer.{IsOpenedAt}
+use Rattle.store_writer.specs.Writer.{IsOpenedAt, IsWriter, opened_run}
 use Rattle.restart.specs.declared.parts.EngineParts.{EngineParts}
 use Rattle.store_writer.specs.Parts.{halves_of, image_of}
 use Rattle.store_writer.specs.declared.copying.Copying.TheVariants.{Idle}
@@ -102,6 +103,22 @@ abbrev pub StaysOfAnyRun : (M : Type 0) → {D : Type 0} → (D → DevicePast) 
 StaysOfAnyRun M past_of before after = IsSynced (past_of before).disk → (past : Past M) (floor : ℕ)
     → Survives past floor (past_of before).disk.content
     → LeavesOnly (past_of before) (past_of after) (Survives past floor)
+
+-- The engine over this device, with these halves and this log, has made no record, and the writer has all that the core
+-- began with. (No public clause cites this.)
+pub record BeginsOver {D M : Type 0} (past_of : D → DevicePast) (device : D) (halves : HalvesValue) (log : Log)
+    (engine : EngineParts D M) : Type 0 where
+  pub device-is : device_of engine ≡ device
+  pub halves-are : halves_of (writer_of engine) ≡ halves
+  pub log-is : log_of engine ≡ log
+  pub geometry : engine.geometry ≡ halves.geometry
+  pub none-handed : engine.outgoing.items ≡ []
+  pub idle : copying_of engine ≡ Idle
+  pub no-image : image_of (writer_of engine) ≡ None
+  pub synced : horizon_of engine ≡ (core_of engine).last
+  pub sound : has_failed engine ≡ false
+  pub writes : (cells : Cells) → IsOpenedAt (past_of device) halves log (core_of engine).last cells
+      → IsWriter past_of (opened_run halves (core_of engine).last cells) (core_of engine).last (writer_of engine)
 
 -- The core of what a store gives, whose half with an empty log was made current. (No public clause cites this.)
 pub record IsCoreOf (before : CrashState) (after : DevicePast) (halves : HalvesValue) (log : Log)

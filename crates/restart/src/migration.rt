@@ -27,7 +27,6 @@ use sector_device::Device;
 use std::alloc::Allocator;
 use store_opener::write_over;
 use store_reader::{Restored, one_old_answer, read_store_in, room_for_given};
-use store_writer::StoreWriter;
 
 /// Why a store wasn't moved.
 #[derive(Clone, Copy, Debug, PartialEq, Eq, thiserror::Error)]
@@ -88,18 +87,8 @@ pub fn migrate<O: Device, N: Device, A: Allocator + Copy>(
     each_list();
     match move_store(alloc, old, &mut new) {
         Ok((core, halves, log)) => {
-            let synced = core.last();
-            let outgoing = Vec::new(alloc);
-            let writer = StoreWriter::new(alloc, new, halves, log, synced);
-            Ok(Engine {
-                parts: EngineParts {
-                    core,
-                    writer,
-                    outgoing,
-                    alloc,
-                    geometry: halves.geometry(),
-                },
-            })
+            let parts = EngineParts::over(alloc, new, core, halves, log);
+            Ok(Engine { parts })
         }
         Err(error) => Err((error, new)),
     }

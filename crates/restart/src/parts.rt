@@ -2,6 +2,8 @@
 ghost use Rattle.std.specs.Prelude.{◌≡◌, ◌↔◌, [], IsTrue};
 
 use crate::Reply;
+use flip_image::Halves;
+use gate_log::LogArea;
 use nsf_core::Core;
 use records::{Error, Geometry, Record};
 use sector_device::Device;
@@ -21,11 +23,34 @@ pub(crate) struct EngineParts<D: Device, A: Allocator> {
 }
 
 impl<D: Device, A: Allocator + Copy> EngineParts<D, A> {
+    ghost use Rattle.model.specs.Cells.{Cells};
+    ghost use Rattle.nsf_core.specs.Value.{value_of};
+    ghost use Rattle.store_writer.specs.Writer.{IsOpenedAt};
     ghost use Rattle.restart.specs.declared.event.Event.TheVariants.{Flush};
-    ghost use Rattle.restart.specs.Parts.{unhanded};
+    ghost use Rattle.restart.specs.Parts.{core_of, unhanded};
+    ghost use Rattle.restart.specs.Reopening.{BeginsOver};
     ghost use Rattle.restart.specs.Lawful.{IsFlushAnswer};
     ghost use Rattle.restart.specs.Store.{CanRun, ServesOn, KeepsAround, OpensSlotsAlone};
     ghost use Rattle.restart.specs.Handing.{HandsOver};
+
+    // The parts of an engine over what was opened on the device: it has made no record.
+    pub(crate) fn over(alloc: A, device: D, core: Core<A>, halves: Halves, log: LogArea) -> Self
+        requires { (cells : Cells) × IsOpenedAt (D.past_of device) halves log (value_of core).last cells }
+        ensures core { core_of result ≡ value_of core }
+        ensures begins { BeginsOver D.past_of device halves log result }
+    {
+        let synced = core.last();
+        let geometry = halves.geometry();
+        let writer = StoreWriter::new(alloc, device, halves, log, synced);
+        let outgoing = Vec::new(alloc);
+        EngineParts {
+            core,
+            writer,
+            outgoing,
+            alloc,
+            geometry,
+        }
+    }
 
     // Whether the writer has every record that was made.
     fn is_handed_over(&self) -> bool

@@ -23,7 +23,6 @@ use records::Error;
 use sector_device::{Device, Failed};
 use std::alloc::Allocator;
 use store_opener::{sync_and_read, write_back, written_back};
-use store_writer::StoreWriter;
 
 /// Opens the store on the device: syncs it, reads it, and takes back what the transactions did that neither committed
 /// nor ended. What is left is loaded into a core. Then it is written into the half that wasn't current, with an empty
@@ -58,18 +57,8 @@ pub fn restart<D: Device, A: Allocator + Copy>(
     written_back();
     match open_core(alloc, &mut device) {
         Ok((core, halves, log)) => {
-            let synced = core.last();
-            let outgoing = Vec::new(alloc);
-            let writer = StoreWriter::new(alloc, device, halves, log, synced);
-            Ok(Engine {
-                parts: EngineParts {
-                    core,
-                    writer,
-                    outgoing,
-                    alloc,
-                    geometry: halves.geometry(),
-                },
-            })
+            let parts = EngineParts::over(alloc, device, core, halves, log);
+            Ok(Engine { parts })
         }
         Err(error) => Err((error, device)),
     }

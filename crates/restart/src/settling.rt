@@ -80,7 +80,7 @@ impl<D: Device, A: Allocator + Copy> Engine<D, A> {
         each_list();
         one_copy();
         let Engine { mut parts } = self;
-        let _txns = parts.core.active_txns();
+        parts.core.stands();
         match parts.copy_anew() {
             Reply::Flipped(_) => {
                 let EngineParts {

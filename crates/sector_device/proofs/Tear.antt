@@ -8,7 +8,7 @@ use Rattle.std.proofs.lemmas.Grind.{common_steps}
 use Rattle.sector_device.specs.declared.call.Fate.{Fate}
 use Rattle.sector_device.specs.declared.call.Fate.TheVariants.{Old, New, Zero, Gate, Junk}
 use Rattle.sector_device.specs.Disk.{CrashState, sector, IsSector, IsDiskWhole, IsCrashState}
-use Rattle.sector_device.specs.Memory.{MemoryState, disk_of}
+use Rattle.sector_device.specs.Memory.{MemoryState, disk_of, unsynced_since, Represents}
 use Rattle.sector_device.specs.Crash.{IsJunk, IsFilled, HasFate, fate_at, unsynced_below, IsCrashed}
 
 -- the sectors below k have their fates, and the others are as they were
@@ -105,6 +105,28 @@ fate_sector New old new bytes of_old of_new is = subst IsSector (sym is) of_new
 fate_sector Zero old new bytes of_old of_new is = filled_sector 0 bytes (omega arith) is
 fate_sector Gate old new bytes of_old of_new is = filled_sector 165 bytes (omega arith) is
 fate_sector Junk old new bytes of_old of_new is = junk_sector bytes is
+
+-- what a crash makes of the vectors is what it makes of the state
+pub crashed_state : (fates : List Fate) (s : MemoryState) (calls : ℕ) (content before : CrashState) (written_at : List ℕ) (synced_at : ℕ) (image : CrashState)
+    → Represents s calls content before written_at synced_at
+    → IsCrashed fates (record { content = content; synced = before; unsynced = unsynced_since synced_at written_at }) image → IsCrashed fates s image
+crashed_state fates s calls content before written_at synced_at image represents crashed = record {
+  sectors = crashed.sectors ∙ ap length (sym represents.content_is);
+  synced = λ k is. crashed.synced k (subst (λ f. slice_index_or f k false ≡ false) represents.unsynced_is is)
+      ∙ ap (λ c. sector c k) (sym represents.content_is);
+  unsynced = λ k below is. fated k is (crashed.unsynced k (omega (arith, below, ap length represents.content_is))
+      (subst (λ f. slice_index_or f k false ≡ true) represents.unsynced_is is));
+}
+  where
+    fated : (k : ℕ) → slice_index_or s.unsynced k false ≡ true
+        → HasFate (fate_at fates (unsynced_below (unsynced_since synced_at written_at) k)) (sector before k) (sector content k) (sector image k)
+        → HasFate (fate_at fates (unsynced_below s.unsynced k)) (sector s.synced k) (sector s.content k) (sector image k)
+    fated k is fate =
+        subst (λ f. HasFate (fate_at fates (unsynced_below f k)) (sector s.synced k) (sector s.content k) (sector image k)) (sym represents.unsynced_is)
+        (subst (λ c. HasFate (fate_at fates (unsynced_below (unsynced_since synced_at written_at) k)) (sector s.synced k) (sector c k) (sector image k))
+        (sym represents.content_is)
+        (subst (λ b. HasFate (fate_at fates (unsynced_below (unsynced_since synced_at written_at) k)) b (sector content k) (sector image k))
+        (sym (represents.before_is k is)) fate))
 
 -- it is a crash image of the disk
 pub crash_image : (fates : List Fate) (s : MemoryState) (image : CrashState) → IsDiskWhole s.content

@@ -9,7 +9,7 @@ ghost use Rattle.sector_device.specs.Memory.{initial_state, state_after, Represe
 ghost use Rattle.sector_device.specs.Values.{zero_sector};
 
 use crate::call::Call;
-use crate::crash::crash_behind;
+use crate::crash::{crash_behind, tear};
 use crate::{Device, Failed, Fate, SECTOR_SIZE, zero_sector};
 use std::alloc::{AllocError, Allocator};
 
@@ -115,8 +115,17 @@ impl<A: Allocator + Copy> MemDisk<A> {
         ensures room { record_room self.new ≡ record_room self.old }
         ensures anew { calls_left self.new ≡ record_room self.new }
     {
-        let now = self.moment();
-        self.crash_at(now, fates);
+        tear(
+            &mut self.content,
+            &self.before,
+            &self.written_at,
+            self.synced_at,
+            fates,
+        );
+        self.first.copy_from_slice(&self.content);
+        self.calls.clear();
+        self.written_at.fill(0);
+        self.synced_at = 0;
     }
 
     /// Stops the disk as a loss of power at this moment would have: what was done later never came to it. All else is

@@ -12,7 +12,7 @@ use Rattle.record_values.specs.declared.pair.Pair.{Pair}
 use Rattle.sorted_scan.specs.FullRuns.{MergeValue}
 use Rattle.sorted_scan.specs.Pairs.{is_above, least, AreSame, IsOnceEach, IsLow}
 use Rattle.sorted_scan.specs.Runs.{ScanStep, Took, HandedOut, ScanRun, with_step, takes, is_given, last_pair, AreInTurn, MayHandOut, IsAtEnd}
-use Rattle.sorted_scan.specs.Scans.{ScanValue, page_from, HasRun, IsSound}
+use Rattle.sorted_scan.specs.Scans.{ScanValue, page_from, HasRun, IsSoundScan}
 use Rattle.sorted_scan.proofs.Order.{less_is, above_above, among_others, same_pair}
 use Rattle.sorted_scan.proofs.Counts.{same_all, same_contains, same_length, same_once, not_again, rest_once}
 use Rattle.sorted_scan.proofs.Least.{least_has, least_none}
@@ -89,7 +89,7 @@ above_least p rest once lowest k d h =
     ]
 
 module _ (pages next_page : ℕ) (low : Option Pair) (remaining : ℕ) (gathered : List Pair) (merge : MergeValue)
-    (sound : IsSound pages next_page low remaining gathered merge) (past : pages ≤ next_page) where
+    (sound : IsSoundScan pages next_page low remaining gathered merge) (past : pages ≤ next_page) where
   abbrev merged : List Pair
   merged = merge.pairs
 
@@ -136,7 +136,7 @@ module _ (pages next_page : ℕ) (low : Option Pair) (remaining : ℕ) (gathered
           let a = sound.counted ∙ ap length all_merged ∙ same_length merged (p ∷ rest) same in
           omega (arith, a)
 
-      pub sound_out : left.runs ≤ merge.runs → IsSound pages next_page (Some p) (remaining - 1) gathered left
+      pub sound_out : left.runs ≤ merge.runs → IsSoundScan pages next_page (Some p) (remaining - 1) gathered left
       sound_out no_more =
           let it = least_has merged p (sym first) in
           let once = same_once merged (p ∷ rest) same (subst IsOnceEach all_merged sound.once) in

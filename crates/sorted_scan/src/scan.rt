@@ -136,7 +136,7 @@ pub struct Scan<A: Allocator> {
 
 impl<A: Allocator> Model for Scan<A> {
     ghost use Rattle.std.specs.Prelude.{◌++◌};
-    ghost use Rattle.sorted_scan.specs.Scans.{ScanValue, page_from, IsSound};
+    ghost use Rattle.sorted_scan.specs.Scans.{ScanValue, page_from, IsSoundScan};
 
     ghost Value = { ScanValue };
 
@@ -147,7 +147,7 @@ impl<A: Allocator> Model for Scan<A> {
       waiting = s.gathered.items ++ s.merge.pairs;
     } };
 
-    ghost invariant = { λ s. IsSound s.pages s.next_page s.last s.remaining s.gathered.items s.merge };
+    ghost invariant = { λ s. IsSoundScan s.pages s.next_page s.last s.remaining s.gathered.items s.merge };
 }
 
 impl<A: Allocator + Copy> Scan<A> {

@@ -1,5 +1,5 @@
 -- Why a step of reading was refused, told of the whole that it is a step of.
-use Rattle.std.proofs.Common.{◌≡◌, ◌⊎◌, inl, inr, ℕ, ◌<◌, List, take, Some, sym, ap, ◌∙◌, subst}
+use Rattle.std.proofs.Common.{◌≡◌, ◌⊎◌, inl, inr, ℕ, ◌<◌, ◌≤◌, List, take, Some, sym, ap, ◌∙◌, subst, arith}
 use Rattle.std.specs.Prelude.{slice_get}
 use Rattle.sector_device.specs.Disk.{CrashState, sector}
 use Rattle.sector_device.specs.DevicePast.{Rises}
@@ -12,12 +12,20 @@ use Rattle.store_image_parts.specs.declared.head.Head.{Head}
 use Rattle.store_image_parts.specs.declared.header.Header.{Header}
 use Rattle.store_image_half.specs.Layout.{heads_at}
 use Rattle.store_image_half.specs.Image.{IsHeaderIn, AreHeads, IsImageIn, header_of}
-use Rattle.store_image_half.specs.Damage.{AnItem, APage, AnEntry, TheHeader, TheHeads, IsSoundIn, IsHindered, IsUnreadIn, sector_of}
+use Rattle.store_image_half.specs.Damage.{AnItem, APage, AnEntry, TheHeader, TheHeads, SaysSomethingIn, IsHindered, IsUnreadIn, sector_of}
 use Rattle.record_values.specs.declared.error.Error.TheVariants.{Damaged}
 use Rattle.store_image_half.specs.Steps.{HoldsLists, HoldsPages, HoldsEntries, IsItemRefused, AreListsRefused, IsPageRefused, ArePagesRefused}
 use Rattle.store_image_half.specs.Steps.{AreEntriesRefused}
 use Rattle.store_image_half.proofs.Sound.{items_sound, pages_sound, header_first, heads_first, items_first, pages_first, entries_first}
 use Rattle.store_image_half.proofs.Growing.{slice_get-take}
+
+-- ---- how often the device failed
+
+pub later_than : (a b c : ℕ) → b ≡ a → b ≤ c → a ≤ c
+later_than a b c same later = omega (arith, same, later)
+
+pub not_fewer : (a b : ℕ) → b ≡ a → a ≤ b
+not_fewer a b same = omega (arith, same)
 
 -- a refusal after calls that did not fail
 pub refuses_later : (a b c : ℕ) (e : Error) → b ≡ a → IsHindered b c e → IsHindered a c e
@@ -35,8 +43,8 @@ module _ (v : Version) (g : GeometryValue) (first : ℕ) (image now : CrashState
     at_h,
     below,
     is,
-    (λ sound. unsound (subst (λ (x : CrashState). IsSoundIn v g first x (AnItem h p)) (sym same) sound)),
-    (λ q less. subst (λ (x : CrashState). IsSoundIn v g first x (AnItem h q)) same (before q less)),
+    (λ sound. unsound (subst (λ (x : CrashState). SaysSomethingIn v g first x (AnItem h p)) (sym same) sound)),
+    (λ q less. subst (λ (x : CrashState). SaysSomethingIn v g first x (AnItem h q)) same (before q less)),
     (λ k q y less at_y lower. items_sound v g first image (take h heads) pending held k q y (slice_get-take h k heads less ∙ at_y) lower),
   )
 
@@ -47,27 +55,27 @@ module _ (v : Version) (g : GeometryValue) (first : ℕ) (image now : CrashState
     page,
     below,
     is,
-    (λ sound. unsound (subst (λ (x : CrashState). IsSoundIn v g first x (APage page)) (sym same) sound)),
+    (λ sound. unsound (subst (λ (x : CrashState). SaysSomethingIn v g first x (APage page)) (sym same) sound)),
     (λ earlier less. pages_sound v g first image page rows held earlier less),
   )
 
   -- ---- the whole image
 
-  pub header_unread : IsHindered b c e ⊎ ((e ≡ Damaged first) × (¬ IsSoundIn v g first now TheHeader)) → IsUnreadIn v g first image a c e
+  pub header_unread : IsHindered b c e ⊎ ((e ≡ Damaged first) × (¬ SaysSomethingIn v g first now TheHeader)) → IsUnreadIn v g first image a c e
   header_unread (inl refused) = inl (refuses_later a b c e quiet refused)
   header_unread (inr (is, unsound)) = inr (
     first,
     is,
-    header_first v g first image (λ sound. unsound (subst (λ (x : CrashState). IsSoundIn v g first x TheHeader) (sym same) sound)),
+    header_first v g first image (λ sound. unsound (subst (λ (x : CrashState). SaysSomethingIn v g first x TheHeader) (sym same) sound)),
   )
 
   module _ (header : Header) (is_header : IsHeaderIn v g (sector image first) header) where
-    pub heads_unread : IsHindered b c e ⊎ ((e ≡ Damaged (heads_at first)) × (¬ IsSoundIn v g first now TheHeads)) → IsUnreadIn v g first image a c e
+    pub heads_unread : IsHindered b c e ⊎ ((e ≡ Damaged (heads_at first)) × (¬ SaysSomethingIn v g first now TheHeads)) → IsUnreadIn v g first image a c e
     heads_unread (inl refused) = inl (refuses_later a b c e quiet refused)
     heads_unread (inr (is, unsound)) = inr (
       heads_at first,
       is,
-      heads_first v g first image header is_header (λ sound. unsound (subst (λ (x : CrashState). IsSoundIn v g first x TheHeads) (sym same) sound)),
+      heads_first v g first image header is_header (λ sound. unsound (subst (λ (x : CrashState). SaysSomethingIn v g first x TheHeads) (sym same) sound)),
     )
 
     module _ (heads : List Head) (are_heads : AreHeads (sector image (heads_at first)) heads) where
@@ -77,9 +85,9 @@ module _ (v : Version) (g : GeometryValue) (first : ℕ) (image now : CrashState
         sector_of v g first (AnItem h p),
         is,
         items_first v g first image header is_header heads are_heads h p x at_x below
-            (λ sound. unsound (subst (λ (y : CrashState). IsSoundIn v g first y (AnItem h p)) (sym same) sound))
-            (λ q less. subst (λ (y : CrashState). IsSoundIn v g first y (AnItem h q)) same (before q less))
-            (λ k q y less at_y lower. subst (λ (z : CrashState). IsSoundIn v g first z (AnItem k q)) same (others k q y less at_y lower)),
+            (λ sound. unsound (subst (λ (y : CrashState). SaysSomethingIn v g first y (AnItem h p)) (sym same) sound))
+            (λ q less. subst (λ (y : CrashState). SaysSomethingIn v g first y (AnItem h q)) same (before q less))
+            (λ k q y less at_y lower. subst (λ (z : CrashState). SaysSomethingIn v g first z (AnItem k q)) same (others k q y less at_y lower)),
       )
 
       module _ (pending : Pending) (lists : HoldsLists v g first image heads pending) where
@@ -89,8 +97,8 @@ module _ (v : Version) (g : GeometryValue) (first : ℕ) (image now : CrashState
           sector_of v g first (APage page),
           is,
           pages_first v g first image header is_header heads are_heads pending lists page below
-              (λ sound. unsound (subst (λ (y : CrashState). IsSoundIn v g first y (APage page)) (sym same) sound))
-              (λ earlier less. subst (λ (y : CrashState). IsSoundIn v g first y (APage earlier)) same (before earlier less)),
+              (λ sound. unsound (subst (λ (y : CrashState). SaysSomethingIn v g first y (APage page)) (sym same) sound))
+              (λ earlier less. subst (λ (y : CrashState). SaysSomethingIn v g first y (APage earlier)) same (before earlier less)),
         )
 
         pub entries_unread : (rows : Table) → HoldsPages v g first image g.pages rows → AreEntriesRefused v g first now header.entries b c e
@@ -100,8 +108,8 @@ module _ (v : Version) (g : GeometryValue) (first : ℕ) (image now : CrashState
           sector_of v g first (AnEntry i),
           is,
           entries_first v g first image header is_header heads are_heads pending lists rows held i below
-              (λ sound. unsound (subst (λ (y : CrashState). IsSoundIn v g first y (AnEntry i)) (sym same) sound))
-              (λ j less. subst (λ (y : CrashState). IsSoundIn v g first y (AnEntry j)) same (before j less)),
+              (λ sound. unsound (subst (λ (y : CrashState). SaysSomethingIn v g first y (AnEntry i)) (sym same) sound))
+              (λ j less. subst (λ (y : CrashState). SaysSomethingIn v g first y (AnEntry j)) same (before j less)),
         )
 
 -- ---- what the sink has

@@ -22,7 +22,8 @@ use Rattle.store_image_parts.specs.declared.header.Header.{Header}
 use Rattle.store_image_parts.proofs.OneReading.{one_entry}
 use Rattle.store_image_half.specs.Layout.{heads_at}
 use Rattle.store_image_half.specs.Image.{IsHeaderIn, AreHeads, IsImageIn, header_of, head_of, item_of}
-use Rattle.store_image_half.specs.Damage.{Part, TheHeader, TheHeads, AnItem, APage, AnEntry, sector_of, IsLookedAt, IsSoundIn, IsDamagedAtIn, IsFirstDamagedIn}
+use Rattle.store_image_half.specs.Damage.{Part, TheHeader, TheHeads, AnItem, APage, AnEntry, sector_of, IsLookedAt, SaysSomethingIn, IsDamagedAtIn}
+use Rattle.store_image_half.specs.Damage.{IsFirstDamagedIn}
 use Rattle.store_image_half.specs.Steps.{HoldsLists, HoldsPages, HoldsEntries}
 use Rattle.store_image_half.proofs.Lists.{option_cases, not_past}
 use Rattle.store_image_half.proofs.OneImage.{one_header_at, one_heads}
@@ -61,9 +62,9 @@ at_index xs i below = elim (option_cases (slice_get xs i)) [
 ]
 
 module _ (v : Version) (g : GeometryValue) (first : ℕ) (image : CrashState) where
-  pub first_damaged : (part : Part) → IsLookedAt v g first image part → ¬ IsSoundIn v g first image part
-      → ((earlier : Part) → IsLookedAt v g first image earlier → sector_of v g first earlier < sector_of v g first part → IsSoundIn v g first image earlier)
-      → IsFirstDamagedIn v g first image (sector_of v g first part)
+  pub first_damaged : (part : Part) → IsLookedAt v g first image part → ¬ SaysSomethingIn v g first image part
+      → ((earlier : Part) → IsLookedAt v g first image earlier → sector_of v g first earlier < sector_of v g first part
+      → SaysSomethingIn v g first image earlier) → IsFirstDamagedIn v g first image (sector_of v g first part)
   first_damaged part looked unsound sound = record {
     damaged = record { part = part; looked = looked; unsound = unsound; sector-is = refl };
     before = λ earlier lt damage. damage.unsound (sound damage.part damage.looked (omega (arith, damage.sector-is, lt)));
@@ -75,7 +76,7 @@ module _ (v : Version) (g : GeometryValue) (first : ℕ) (image : CrashState) wh
 
   -- the items of lists that are those of the heads
   pub items_sound : (heads : List Head) (pending : Pending) → HoldsLists v g first image heads pending → (h position : ℕ) (x : Head)
-      → slice_get heads h ≡ Some x → position < x.changes → IsSoundIn v g first image (AnItem h position)
+      → slice_get heads h ≡ Some x → position < x.changes → SaysSomethingIn v g first image (AnItem h position)
   items_sound heads pending held h position x at_x below =
       let found = mapped head_of (slice_get (entries pending) h) x (sym (slice_get-map head_of (entries pending) h)
       ∙ ap (λ (hs : List Head). slice_get hs h) held.heads-are ∙ at_x) in
@@ -83,14 +84,14 @@ module _ (v : Version) (g : GeometryValue) (first : ℕ) (image : CrashState) wh
       let c = at_index found.0.1 position room in
       (item_of c.0, (held.each h found.0 found.1).items position c.0 c.1)
 
-  pub pages_sound : (n : ℕ) (rows : Table) → HoldsPages v g first image n rows → (page : ℕ) → page < n → IsSoundIn v g first image (APage page)
+  pub pages_sound : (n : ℕ) (rows : Table) → HoldsPages v g first image n rows → (page : ℕ) → page < n → SaysSomethingIn v g first image (APage page)
   pages_sound n rows held page below = (
     held.edges page below,
     λ slot lt.
         (get rows (record { page = page; slot = slot }), held.slots (record { page = page; slot = slot }) below lt),
   )
 
-  pub entries_sound : (n : ℕ) (m : Index) → HoldsEntries v g first image n m → (i : ℕ) → i < n → IsSoundIn v g first image (AnEntry i)
+  pub entries_sound : (n : ℕ) (m : Index) → HoldsEntries v g first image n m → (i : ℕ) → i < n → SaysSomethingIn v g first image (AnEntry i)
   entries_sound n m held i below =
       let e = at_index (entries m) i (omega (arith, held.count, below)) in (
         e.0,
@@ -106,7 +107,8 @@ module _ (v : Version) (g : GeometryValue) (first : ℕ) (image : CrashState) wh
 
   -- ---- an image is nowhere damaged
 
-  held_by : (base : ℕ) (cells : Cells) → IsImageIn v g first image base cells → (part : Part) → IsLookedAt v g first image part → IsSoundIn v g first image part
+  held_by : (base : ℕ) (cells : Cells) → IsImageIn v g first image base cells → (part : Part) → IsLookedAt v g first image part
+      → SaysSomethingIn v g first image part
   held_by base cells is TheHeader looked = (header_of base cells, is.header-is)
   held_by base cells is TheHeads looked = (map head_of (entries cells.pending), is.heads-are)
   held_by base cells is (AnItem h position) (heads, x, are, at_x, below) =
@@ -132,10 +134,10 @@ module _ (v : Version) (g : GeometryValue) (first : ℕ) (image : CrashState) wh
   entry_late : (i n : ℕ) → n < 2 → ¬ (sector_of v g first (AnEntry i) < first + n)
   entry_late i n low lt = omega (arith, low, lt)
 
-  pub header_first : ¬ IsSoundIn v g first image TheHeader → IsFirstDamagedIn v g first image first
+  pub header_first : ¬ SaysSomethingIn v g first image TheHeader → IsFirstDamagedIn v g first image first
   header_first unsound = first_damaged TheHeader tt unsound sound
     where
-      sound : (earlier : Part) → IsLookedAt v g first image earlier → sector_of v g first earlier < first → IsSoundIn v g first image earlier
+      sound : (earlier : Part) → IsLookedAt v g first image earlier → sector_of v g first earlier < first → SaysSomethingIn v g first image earlier
       sound TheHeader looked lt = absurd (omega (arith, lt))
       sound TheHeads looked lt = absurd (omega (arith, lt))
       sound (AnItem h position) looked lt = absurd (item_late h position 0 (omega arith) (omega (arith, lt)))
@@ -143,10 +145,10 @@ module _ (v : Version) (g : GeometryValue) (first : ℕ) (image : CrashState) wh
       sound (AnEntry i) looked lt = absurd (entry_late i 0 (omega arith) (omega (arith, lt)))
 
   module _ (header : Header) (is_header : IsHeaderIn v g (sector image first) header) where
-    pub heads_first : ¬ IsSoundIn v g first image TheHeads → IsFirstDamagedIn v g first image (heads_at first)
+    pub heads_first : ¬ SaysSomethingIn v g first image TheHeads → IsFirstDamagedIn v g first image (heads_at first)
     heads_first unsound = first_damaged TheHeads tt unsound sound
       where
-        sound : (earlier : Part) → IsLookedAt v g first image earlier → sector_of v g first earlier < heads_at first → IsSoundIn v g first image earlier
+        sound : (earlier : Part) → IsLookedAt v g first image earlier → sector_of v g first earlier < heads_at first → SaysSomethingIn v g first image earlier
         sound TheHeader looked lt = (header, is_header)
         sound TheHeads looked lt = absurd (omega (arith, lt))
         sound (AnItem h position) looked lt = absurd (item_late h position 1 (omega arith) lt)
@@ -154,9 +156,9 @@ module _ (v : Version) (g : GeometryValue) (first : ℕ) (image : CrashState) wh
         sound (AnEntry i) looked lt = absurd (entry_late i 1 (omega arith) lt)
 
     module _ (heads : List Head) (are_heads : AreHeads (sector image (heads_at first)) heads) where
-      pub items_first : (h position : ℕ) (x : Head) → slice_get heads h ≡ Some x → position < x.changes → ¬ IsSoundIn v g first image (AnItem h position)
-          → ((q : ℕ) → q < position → IsSoundIn v g first image (AnItem h q))
-          → ((k q : ℕ) (y : Head) → k < h → slice_get heads k ≡ Some y → q < y.changes → IsSoundIn v g first image (AnItem k q))
+      pub items_first : (h position : ℕ) (x : Head) → slice_get heads h ≡ Some x → position < x.changes → ¬ SaysSomethingIn v g first image (AnItem h position)
+          → ((q : ℕ) → q < position → SaysSomethingIn v g first image (AnItem h q))
+          → ((k q : ℕ) (y : Head) → k < h → slice_get heads k ≡ Some y → q < y.changes → SaysSomethingIn v g first image (AnItem k q))
           → IsFirstDamagedIn v g first image (sector_of v g first (AnItem h position))
       items_first h position x at_x below unsound before others = first_damaged (AnItem h position) (heads, x, are_heads, at_x, below) unsound sound
         where
@@ -167,14 +169,14 @@ module _ (v : Version) (g : GeometryValue) (first : ℕ) (image : CrashState) wh
           p_below = omega (arith, (are_heads.fits h x at_x).changes, below)
 
           sound : (earlier : Part) → IsLookedAt v g first image earlier → sector_of v g first earlier < sector_of v g first (AnItem h position)
-              → IsSoundIn v g first image earlier
+              → SaysSomethingIn v g first image earlier
           sound TheHeader looked lt = (header, is_header)
           sound TheHeads looked lt = (heads, are_heads)
           sound (AnItem k q) (hs, y, are, at_y, less) lt =
               let at_k : slice_get heads k ≡ Some y = ap (λ (l : List Head). slice_get l k) (one_heads (sector image (heads_at first)) heads hs are_heads are)
               ∙ at_y in
               ⊎_elim
-              (λ same. subst (λ j. IsSoundIn v g first image (AnItem j q)) (sym same)
+              (λ same. subst (λ j. SaysSomethingIn v g first image (AnItem j q)) (sym same)
               (before q (positions_rise g first v h position q (subst (λ j.
               sector_of v g first (AnItem j q) < sector_of v g first (AnItem h position)) same lt))))
               (λ apart. ⊎_elim (λ lower. others k q y lower at_k less) (λ higher.
@@ -185,29 +187,31 @@ module _ (v : Version) (g : GeometryValue) (first : ℕ) (image : CrashState) wh
           sound (AnEntry i) looked lt = absurd (omega (arith, lt, item_inside g first v h position h_below p_below, pages_begin g first v g.pages))
 
       module _ (pending : Pending) (lists : HoldsLists v g first image heads pending) where
-        earlier_item : (k q : ℕ) → IsLookedAt v g first image (AnItem k q) → IsSoundIn v g first image (AnItem k q)
+        earlier_item : (k q : ℕ) → IsLookedAt v g first image (AnItem k q) → SaysSomethingIn v g first image (AnItem k q)
         earlier_item k q (hs, y, are, at_y, less) =
             items_sound heads pending lists k q y (ap (λ (l : List Head). slice_get l k) (one_heads (sector image (heads_at first)) heads hs are_heads are)
             ∙ at_y) less
 
-        pub pages_first : (page : ℕ) → page < g.pages → ¬ IsSoundIn v g first image (APage page)
-            → ((earlier : ℕ) → earlier < page → IsSoundIn v g first image (APage earlier)) → IsFirstDamagedIn v g first image (sector_of v g first (APage page))
+        pub pages_first : (page : ℕ) → page < g.pages → ¬ SaysSomethingIn v g first image (APage page)
+            → ((earlier : ℕ) → earlier < page → SaysSomethingIn v g first image (APage earlier))
+            → IsFirstDamagedIn v g first image (sector_of v g first (APage page))
         pages_first page below unsound before = first_damaged (APage page) below unsound sound
           where
             sound : (earlier : Part) → IsLookedAt v g first image earlier → sector_of v g first earlier < sector_of v g first (APage page)
-                → IsSoundIn v g first image earlier
+                → SaysSomethingIn v g first image earlier
             sound TheHeader looked lt = (header, is_header)
             sound TheHeads looked lt = (heads, are_heads)
             sound (AnItem k q) looked lt = earlier_item k q looked
             sound (APage other) looked lt = before other (pages_rise g first v other page lt)
             sound (AnEntry i) looked lt = absurd (omega (arith, lt, page_inside g first v page below))
 
-        pub entries_first : (rows : Table) → HoldsPages v g first image g.pages rows → (i : ℕ) → i < header.entries → ¬ IsSoundIn v g first image (AnEntry i)
-            → ((j : ℕ) → j < i → IsSoundIn v g first image (AnEntry j)) → IsFirstDamagedIn v g first image (sector_of v g first (AnEntry i))
+        pub entries_first : (rows : Table) → HoldsPages v g first image g.pages rows → (i : ℕ) → i < header.entries
+            → ¬ SaysSomethingIn v g first image (AnEntry i) → ((j : ℕ) → j < i → SaysSomethingIn v g first image (AnEntry j))
+            → IsFirstDamagedIn v g first image (sector_of v g first (AnEntry i))
         entries_first rows held i below unsound before = first_damaged (AnEntry i) (header, is_header, below) unsound sound
           where
             sound : (earlier : Part) → IsLookedAt v g first image earlier → sector_of v g first earlier < sector_of v g first (AnEntry i)
-                → IsSoundIn v g first image earlier
+                → SaysSomethingIn v g first image earlier
             sound TheHeader looked lt = (header, is_header)
             sound TheHeads looked lt = (heads, are_heads)
             sound (AnItem k q) looked lt = earlier_item k q looked

@@ -6,7 +6,6 @@ use Rattle.sector_device.specs.DevicePast.{Rises}
 use Rattle.record_values.specs.GeometryValue.{GeometryValue}
 use Rattle.record_values.specs.Version.{entries_per_sector}
 use Rattle.record_values.specs.declared.version.Version.{Version}
-use Rattle.record_values.specs.declared.version.Version.TheVariants.{Two}
 use Rattle.record_values.specs.Orders.{pair_cmp}
 use Rattle.record_values.specs.declared.rid.TheConstants.{SLOTS_PER_PAGE}
 use Rattle.records.specs.declared.change.TheConstants.{CHANGES_MAX}
@@ -58,20 +57,21 @@ IsAbove v g first image i e = (j : ℕ) (d : Pair × Mark) → i ≡ j + 1 → I
 
 -- The part says something: a header, heads, a change, the rows of a page with zeros in front of them and behind, or an
 -- entry that is above the one before it.
-abbrev pub IsSoundIn : Version → GeometryValue → ℕ → CrashState → Part → Type 0
-IsSoundIn v g first image TheHeader = (h : Header) × IsHeaderIn v g (sector image first) h
-IsSoundIn v g first image TheHeads = (heads : List Head) × AreHeads (sector image (heads_at first)) heads
-IsSoundIn v g first image (AnItem h position) = (i : UndoItem) × IsItemIn v g (item_bytes_in v image first h position) i
-IsSoundIn v g first image (APage page) = HasEdges v (page_bytes_in v image first page)
+abbrev pub SaysSomethingIn : Version → GeometryValue → ℕ → CrashState → Part → Type 0
+SaysSomethingIn v g first image TheHeader = (h : Header) × IsHeaderIn v g (sector image first) h
+SaysSomethingIn v g first image TheHeads = (heads : List Head) × AreHeads (sector image (heads_at first)) heads
+SaysSomethingIn v g first image (AnItem h position) = (i : UndoItem)
+    × IsItemIn v g (item_bytes_in v image first h position) i
+SaysSomethingIn v g first image (APage page) = HasEdges v (page_bytes_in v image first page)
     × ((slot : ℕ) → slot < SLOTS_PER_PAGE → (o : Option Row) × IsRowIn v (row_bytes_in v image first page slot) o)
-IsSoundIn v g first image (AnEntry i) = (e : Pair × Mark) × IsEntryIn v g (entry_bytes_in v g image first i) e
+SaysSomethingIn v g first image (AnEntry i) = (e : Pair × Mark) × IsEntryIn v g (entry_bytes_in v g image first i) e
     × IsAbove v g first image i e
 
 -- a part that a reader looks at and that says nothing is named by this sector
 pub record IsDamagedAtIn (v : Version) (g : GeometryValue) (first : ℕ) (image : CrashState) (n : ℕ) : Type 0 where
   pub part : Part
   pub looked : IsLookedAt v g first image part
-  pub unsound : ¬ IsSoundIn v g first image part
+  pub unsound : ¬ SaysSomethingIn v g first image part
   pub sector-is : n ≡ sector_of v g first part
 
 -- the first sector that the image is damaged at
@@ -87,8 +87,3 @@ IsHindered before now e = (e ≡ NoMemory) ⊎ ((e ≡ DeviceFailed) × Rises be
 abbrev pub IsUnreadIn : Version → GeometryValue → ℕ → CrashState → ℕ → ℕ → Error → Type 0
 IsUnreadIn v g first image before now e = IsHindered before now e
     ⊎ ((n : ℕ) × (e ≡ Damaged n) × IsFirstDamagedIn v g first image n)
-
--- ---- in version 2, which is written
-
-abbrev pub IsSound : GeometryValue → ℕ → CrashState → Part → Type 0
-IsSound g first image part = IsSoundIn Two g first image part

@@ -25,7 +25,7 @@ use Rattle.store_image_parts.specs.Spelling.{zeros, entry, head, HeadFits}
 use Rattle.store_image_half.specs.Layout.{undo_at, page_at, cut, page_bytes_in, row_of}
 use Rattle.store_image_half.specs.Image.{HoldsListIn, HasEdges, IsRow, IsRowIn, IsEntryIn, row_bytes_in, entry_bytes_in}
 use Rattle.store_image_half.specs.Image.{head_of}
-use Rattle.store_image_half.specs.Damage.{AnItem, APage, AnEntry, sector_of, IsSoundIn, IsHindered}
+use Rattle.store_image_half.specs.Damage.{AnItem, APage, AnEntry, sector_of, SaysSomethingIn, IsHindered}
 use Rattle.store_image_half.specs.Source.{IsNextBehind}
 
 -- the head may stand at index k behind these: each of those before it is used, and the last one has a lesser number
@@ -102,34 +102,35 @@ IsLastPair entries n (Some pair) = (m : ℕ) × (e : Pair × Mark) × (n ≡ m +
 abbrev pub IsItemRefused : Version → GeometryValue → ℕ → CrashState → (h count before now : ℕ) → Error → Type 0
 IsItemRefused v g first image h count before now e = IsHindered before now e
     ⊎ ((p : ℕ) × (p < count) × (e ≡ Damaged (sector_of v g first (AnItem h p)))
-    × (¬ IsSoundIn v g first image (AnItem h p)) × ((q : ℕ) → q < p → IsSoundIn v g first image (AnItem h q)))
+    × (¬ SaysSomethingIn v g first image (AnItem h p)) × ((q : ℕ) → q < p
+    → SaysSomethingIn v g first image (AnItem h q)))
 
 -- why lists are not read: the first undo item, by head and position, that says nothing
 abbrev pub AreListsRefused : Version → GeometryValue → ℕ → CrashState → List Head → (before now : ℕ) → Error → Type 0
 AreListsRefused v g first image heads before now e = IsHindered before now e
     ⊎ ((h : ℕ) × (p : ℕ) × (x : Head) × (slice_get heads h ≡ Some x) × (p < x.changes)
-    × (e ≡ Damaged (sector_of v g first (AnItem h p))) × (¬ IsSoundIn v g first image (AnItem h p))
-    × ((q : ℕ) → q < p → IsSoundIn v g first image (AnItem h q))
+    × (e ≡ Damaged (sector_of v g first (AnItem h p))) × (¬ SaysSomethingIn v g first image (AnItem h p))
+    × ((q : ℕ) → q < p → SaysSomethingIn v g first image (AnItem h q))
     × ((k q : ℕ) (y : Head) → k < h → slice_get heads k ≡ Some y → q < y.changes
-    → IsSoundIn v g first image (AnItem k q)))
+    → SaysSomethingIn v g first image (AnItem k q)))
 
 -- why a page is not read: it says nothing
 abbrev pub IsPageRefused : Version → GeometryValue → ℕ → CrashState → (page before now : ℕ) → Error → Type 0
 IsPageRefused v g first image page before now e = IsHindered before now e
-    ⊎ ((e ≡ Damaged (sector_of v g first (APage page))) × (¬ IsSoundIn v g first image (APage page)))
+    ⊎ ((e ≡ Damaged (sector_of v g first (APage page))) × (¬ SaysSomethingIn v g first image (APage page)))
 
 -- why pages are not read: the first that says nothing
 abbrev pub ArePagesRefused : Version → GeometryValue → ℕ → CrashState → (before now : ℕ) → Error → Type 0
 ArePagesRefused v g first image before now e = IsHindered before now e
     ⊎ ((page : ℕ) × (page < g.pages) × (e ≡ Damaged (sector_of v g first (APage page)))
-    × (¬ IsSoundIn v g first image (APage page)) × ((earlier : ℕ) → earlier < page
-    → IsSoundIn v g first image (APage earlier)))
+    × (¬ SaysSomethingIn v g first image (APage page)) × ((earlier : ℕ) → earlier < page
+    → SaysSomethingIn v g first image (APage earlier)))
 
 -- why entries are not read: the first that says nothing
 abbrev pub AreEntriesRefused : Version → GeometryValue → ℕ → CrashState → (count before now : ℕ) → Error → Type 0
 AreEntriesRefused v g first image count before now e = IsHindered before now e
     ⊎ ((i : ℕ) × (i < count) × (e ≡ Damaged (sector_of v g first (AnEntry i)))
-    × (¬ IsSoundIn v g first image (AnEntry i)) × ((j : ℕ) → j < i → IsSoundIn v g first image (AnEntry j)))
+    × (¬ SaysSomethingIn v g first image (AnEntry i)) × ((j : ℕ) → j < i → SaysSomethingIn v g first image (AnEntry j)))
 
 -- ---- writing
 

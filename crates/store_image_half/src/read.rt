@@ -9,7 +9,7 @@ ghost use Rattle.record_values.specs.declared.txn.TheConstants.{TXNS_MAX};
 ghost use Rattle.records.specs.declared.change.TheConstants.{CHANGES_MAX};
 ghost use Rattle.store_image_half.specs.Layout.{heads_at, page_at_in, entries_at_in, image_end_in};
 ghost use Rattle.store_image_half.specs.Image.{IsHeaderIn, AreHeads, IsImageIn, HoldsListIn, no_cells};
-ghost use Rattle.store_image_half.specs.Damage.{IsSoundIn, TheHeader, TheHeads, IsHindered, IsUnreadIn};
+ghost use Rattle.store_image_half.specs.Damage.{SaysSomethingIn, TheHeader, TheHeads, IsHindered, IsUnreadIn};
 ghost use Rattle.store_image_half.specs.Steps.{HoldsLists, HoldsPages, HoldsEntries, IsItemRefused, AreListsRefused};
 ghost use Rattle.store_image_half.specs.Steps.{IsPageRefused, ArePagesRefused, AreEntriesRefused, table_of};
 
@@ -34,7 +34,7 @@ fn read_header<D: Device>(
     requires inside { first < length (D.past_of device.old).disk.content }
     ensures found { IfOk result (IsHeaderIn version geometry (sector (D.past_of device.old).disk.content first)) }
     ensures refused { IfErr result (λ e. IsHindered (D.failures device.old) (D.failures device.new) e
-        ⊎ ((e ≡ Error.Damaged first) × (¬ IsSoundIn version geometry first
+        ⊎ ((e ≡ Error.Damaged first) × (¬ SaysSomethingIn version geometry first
         (D.past_of device.old).disk.content TheHeader))) }
     ensures reads { OnlyReads (D.past_of device.old) (D.past_of device.new) }
     ensures quiet { OnOk result (D.failures device.new ≡ D.failures device.old) }
@@ -63,7 +63,7 @@ fn read_heads<D: Device, A: Allocator + Copy>(
         AreHeads (sector (D.past_of device.old).disk.content (heads_at first)) heads.items) }
     ensures refused { IfErr result (λ e. IsHindered (D.failures device.old) (D.failures device.new) e
         ⊎ ((e ≡ Error.Damaged (heads_at first))
-        × (¬ IsSoundIn version geometry first (D.past_of device.old).disk.content TheHeads))) }
+        × (¬ SaysSomethingIn version geometry first (D.past_of device.old).disk.content TheHeads))) }
     ensures reads { OnlyReads (D.past_of device.old) (D.past_of device.new) }
     ensures quiet { OnOk result (D.failures device.new ≡ D.failures device.old) }
     ensures told { IfErr result (λ e. e ≢ Error.DeviceFailed → D.failures device.new ≡ D.failures device.old) }
@@ -325,7 +325,7 @@ pub fn read_image<D: Device, S: CellSink, A: Allocator + Copy>(
     ensures quiet { OnOk result (D.failures device.new ≡ D.failures device.old) }
     ensures told { IfErr result (λ e. e ≢ Error.DeviceFailed → D.failures device.new ≡ D.failures device.old) }
     ensures memory { IfErr result (λ e. e ≡ Error.NoMemory
-        → IsSoundIn version geometry first (D.past_of device.old).disk.content TheHeader) }
+        → SaysSomethingIn version geometry first (D.past_of device.old).disk.content TheHeader) }
     ensures later { D.failures device.old ≤ D.failures device.new }
 {
     let header = read_header(version, device, geometry, first)?;

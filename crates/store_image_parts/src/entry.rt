@@ -9,7 +9,8 @@ ghost use Rattle.store_image_parts.specs.Spelling.{entry, entry_in, entry_size, 
 
 use crate::buffer::Buffer;
 use crate::fields::put_pair;
-use crate::take::{byte_of, pair_of};
+use crate::take::pair_of;
+use records::front::byte_of;
 use records::{Mark, Pair, Version};
 
 /// The bytes of an entry.

@@ -8,7 +8,7 @@ ghost use Rattle.store_image_parts.specs.Spelling.{head, HeadFitsIfSome};
 
 use crate::buffer::Buffer;
 use crate::fields::{put_u16, put_u64};
-use crate::take::{u16_of, u64_of};
+use records::front::{u16_of, u64_of};
 use records::{CHANGES_MAX, Txn};
 
 /// The bytes of a transaction's head.

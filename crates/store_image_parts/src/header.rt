@@ -9,8 +9,9 @@ ghost use Rattle.store_image_parts.specs.Spelling.{HeaderFitsIn};
 
 use crate::buffer::Buffer;
 use crate::fields::{PAIR_SIZE, put_pair, put_u32, put_u64};
-use crate::take::{are_zeros, byte_of, pair_of, skip, u32_of, u64_of};
+use crate::take::{are_zeros, pair_of, skip};
 use model::Life;
+use records::front::{byte_of, u32_of, u64_of};
 use records::{LAST_NUMBER, Pair, Version};
 use sector_device::SECTOR_SIZE;
 

@@ -8,7 +8,8 @@ ghost use Rattle.store_image_parts.specs.Spelling.{item, item_in, item_size, Ite
 use crate::buffer::Buffer;
 use crate::fields::{put_rid, put_row};
 use crate::row::row_size;
-use crate::take::{are_zeros, both_rows, byte_of, rid_of, row_of};
+use crate::take::{are_zeros, row_of};
+use records::front::{byte_of, rid_of};
 use records::{Rid, Rows, Version};
 
 /// The bytes of an undo item.
@@ -51,7 +52,7 @@ fn item_of(version: Version, bytes: &[u8]) -> Option<(UndoItem, &[u8])>
     let Some((new, rest)) = row_of(version, rest) else {
         return None;
     };
-    let rows = both_rows(old, new)?;
+    let rows = Rows::from_both(old, new)?;
     if tag == 1 {
         Some((UndoItem { rid, rows }, rest))
     } else {

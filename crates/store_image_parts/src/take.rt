@@ -2,52 +2,11 @@
 ghost use Rattle.std.specs.Prelude.{◌≡◌, ◌≤◌, length, IfSome};
 ghost use Rattle.record_values.specs.Version.{key_max, body_max};
 ghost use Rattle.std.specs.Option.{option_map};
-ghost use Rattle.records.specs.Reading.{u16_at, u32_at, u64_at, byte_at, rid_at, rows_of};
 ghost use Rattle.store_image_parts.specs.Reading.{are_zeros, skipped, padded_at, row_at, pair_at};
 
 use crate::row::row_size;
-use byteorder::{BigEndian, ByteOrder};
-use records::{Body, Key, Pair, Rid, Row, Rows, SLOTS_PER_PAGE, Version};
-
-#[tactic(auto, unfolding(records::specs::Reading::u16_at))]
-pub(crate) fn u16_of(bytes: &[u8]) -> Option<(u16, &[u8])>
-    ensures { option_map (λ x. (x.0, x.1.now)) result ≡ u16_at bytes.now }
-{
-    if bytes.len() < 2 {
-        return None;
-    }
-    Some((BigEndian::read_u16(bytes), &bytes[2..]))
-}
-
-#[tactic(auto, unfolding(records::specs::Reading::u32_at))]
-pub(crate) fn u32_of(bytes: &[u8]) -> Option<(u32, &[u8])>
-    ensures { option_map (λ x. (x.0, x.1.now)) result ≡ u32_at bytes.now }
-{
-    if bytes.len() < 4 {
-        return None;
-    }
-    Some((BigEndian::read_u32(bytes), &bytes[4..]))
-}
-
-#[tactic(auto, unfolding(records::specs::Reading::u64_at))]
-pub(crate) fn u64_of(bytes: &[u8]) -> Option<(u64, &[u8])>
-    ensures { option_map (λ x. (x.0, x.1.now)) result ≡ u64_at bytes.now }
-{
-    if bytes.len() < 8 {
-        return None;
-    }
-    Some((BigEndian::read_u64(bytes), &bytes[8..]))
-}
-
-#[tactic(auto, unfolding(records::specs::Reading::byte_at))]
-pub(crate) fn byte_of(bytes: &[u8]) -> Option<(u8, &[u8])>
-    ensures { option_map (λ x. (x.0, x.1.now)) result ≡ byte_at bytes.now }
-{
-    match bytes {
-        [] => None,
-        [byte, rest @ ..] => Some((*byte, rest)),
-    }
-}
+use records::front::{byte_of, rid_of};
+use records::{Body, Key, Pair, Row, Version};
 
 // Whether each byte is zero.
 pub(crate) fn are_zeros(bytes: &[u8]) -> bool
@@ -74,59 +33,40 @@ pub(crate) fn skip(count: usize, bytes: &[u8]) -> Option<&[u8]>
     Some(&bytes[count..])
 }
 
-#[tactic(auto, unfolding(records::specs::Reading::rid_at))]
-pub(crate) fn rid_of(bytes: &[u8]) -> Option<(Rid, &[u8])>
-    ensures { option_map (λ x. (x.0, x.1.now)) result ≡ rid_at bytes.now }
+// A field of so many bytes at most, which has its length in front, and zeros behind it up to the most.
+#[tactic(auto, unfolding(crate::specs::Reading::padded_at))]
+fn padded_of(max: usize, bytes: &[u8]) -> Option<(&[u8], &[u8])>
+    ensures read { option_map (λ x. (x.0.now, x.1.now)) result ≡ padded_at max bytes.now }
+    ensures within { IfSome result (λ x. length x.0.now ≤ max) }
 {
-    let (page, rest) = u32_of(bytes)?;
-    let (slot, rest) = u16_of(rest)?;
-    if slot < SLOTS_PER_PAGE {
-        Some((Rid { page, slot }, rest))
-    } else {
-        None
+    let (len, rest) = byte_of(bytes)?;
+    let len = usize::from(len);
+    if max < len {
+        return None;
     }
+    if rest.len() < max {
+        return None;
+    }
+    if !are_zeros(&rest[len..max]) {
+        return None;
+    }
+    let (field, _) = rest.split_at(len);
+    let (_, behind) = rest.split_at(max);
+    Some((field, behind))
 }
 
-#[tactic(auto, unfolding(crate::specs::Reading::padded_at))]
 fn key_of(version: Version, bytes: &[u8]) -> Option<(Key, &[u8])>
     ensures { option_map (λ x. (x.0, x.1.now)) result ≡ padded_at (key_max version) bytes.now }
 {
-    let max = version.key_max();
-    let (len, rest) = byte_of(bytes)?;
-    let len = usize::from(len);
-    if max < len {
-        return None;
-    }
-    if rest.len() < max {
-        return None;
-    }
-    if !are_zeros(&rest[len..max]) {
-        return None;
-    }
-    let (key, _) = rest.split_at(len);
-    let (_, behind) = rest.split_at(max);
-    Some((Key::new(key).ok()?, behind))
+    let (key, rest) = padded_of(version.key_max(), bytes)?;
+    Some((Key::new(key).ok()?, rest))
 }
 
-#[tactic(auto, unfolding(crate::specs::Reading::padded_at))]
 fn body_of(version: Version, bytes: &[u8]) -> Option<(Body, &[u8])>
     ensures { option_map (λ x. (x.0, x.1.now)) result ≡ padded_at (body_max version) bytes.now }
 {
-    let max = version.body_max();
-    let (len, rest) = byte_of(bytes)?;
-    let len = usize::from(len);
-    if max < len {
-        return None;
-    }
-    if rest.len() < max {
-        return None;
-    }
-    if !are_zeros(&rest[len..max]) {
-        return None;
-    }
-    let (body, _) = rest.split_at(len);
-    let (_, behind) = rest.split_at(max);
-    Some((Body::new(body).ok()?, behind))
+    let (body, rest) = padded_of(version.body_max(), bytes)?;
+    Some((Body::new(body).ok()?, rest))
 }
 
 #[tactic(auto, unfolding(crate::specs::Reading::row_at))]
@@ -161,15 +101,4 @@ pub(crate) fn pair_of(version: Version, bytes: &[u8]) -> Option<(Pair, &[u8])>
         return None;
     };
     Some((Pair { key, rid }, rest))
-}
-
-pub(crate) fn both_rows(old: Option<Row>, new: Option<Row>) -> Option<Rows>
-    ensures { result ≡ rows_of old new }
-{
-    match (old, new) {
-        (None, None) => None,
-        (None, Some(new)) => Some(Rows::Inserted { new }),
-        (Some(old), None) => Some(Rows::Deleted { old }),
-        (Some(old), Some(new)) => Some(Rows::Updated { old, new }),
-    }
 }

@@ -1,13 +1,14 @@
 -- Why a reader of a store refuses it.
-use Rattle.std.proofs.Common.{◌≡◌, ◌⊎◌, ◌<◌, inl, inr, refl, ℕ, List, Result, Ok, Err, IfErr, ap, subst, ◌∙◌}
+use Rattle.std.proofs.Common.{◌≡◌, ◌⊎◌, ◌+◌, ◌*◌, ◌<◌, ◌≤◌, inl, inr, refl, ℕ, List, Result, Ok, Err, IfErr, sym, ap, subst, ◌∙◌, arith}
 use Rattle.std.specs.FinMap.{len}
 use Rattle.sector_device.specs.Disk.{CrashState}
 use Rattle.records.specs.RecordValue.{RecordValue}
 use Rattle.record_values.specs.declared.version.Version.{Version}
-use Rattle.record_values.specs.GeometryValue.{GeometryValue}
+use Rattle.record_values.specs.GeometryValue.{GeometryValue, sectors_in}
+use Rattle.record_values.specs.declared.geometry.TheConstants.{SLOT_SECTORS}
 use Rattle.record_values.specs.declared.error.Error.{Error}
 use Rattle.record_values.specs.declared.error.Error.TheVariants.{Damaged}
-use Rattle.gate_log.specs.Area.{Area, Log, HoldsGroupsIn, StandsIn, records_of, IsGateOf, IsFirstDamagedSlotIn, Refuses}
+use Rattle.gate_log.specs.Area.{Area, Log, IsAreaInside, HoldsGroupsIn, StandsIn, records_of, IsGateOf, IsFirstDamagedSlotIn, Refuses}
 use Rattle.store_image_half.specs.Damage.{IsFirstDamagedIn, IsUnreadIn}
 use Rattle.flip_image.specs.declared.half.Half.{Half}
 use Rattle.flip_image.specs.Layout.{header_sector_in, log_first_in}
@@ -83,3 +84,17 @@ module _ (v : Version) where
       → record { first = first; slots = slots } ≡ log_area_in v g half
   area_is first slots g half p q = ap (λ (n : ℕ). let area : Area = record { first = n; slots = slots } in area) p
       ∙ ap (λ (n : ℕ). let area : Area = record { first = log_first_in v g half; slots = n } in area) q
+
+  -- the log of a store's half lies on the device
+  pub area_inside : (first : ℕ) (g : GeometryValue) (half : Half) (area : Area) (image : CrashState) → area ≡ log_area_in v g half
+      → first ≡ log_first_in v g half → first + SLOT_SECTORS * g.slots ≤ sectors_in v g → IsStoreIn v g half image → IsAreaInside area image
+  area_inside first g half area image is value inside store =
+      subst (λ (a : Area). IsAreaInside a image) (sym is) (omega (arith, value, inside, store.room))
+
+-- ---- how often the device failed
+
+pub later_than : (a b c : ℕ) → b ≡ a → b ≤ c → a ≤ c
+later_than a b c same later = omega (arith, same, later)
+
+pub not_fewer : (a b : ℕ) → b ≡ a → a ≤ b
+not_fewer a b same = omega (arith, same)

@@ -13,7 +13,7 @@ use Rattle.model.specs.Following.{AreFollowing, IsFirstUnfit}
 use Rattle.model.specs.Given.{Given, recovered}
 use Rattle.gate_log.specs.Area.{Area, Log, HoldsGroupsIn, StandsIn, records_of, IsGateOf, IsFirstDamagedSlotIn}
 use Rattle.store_image_half.specs.Image.{no_cells}
-use Rattle.store_image_half.specs.Damage.{IsSoundIn, TheHeader, IsFirstDamagedIn}
+use Rattle.store_image_half.specs.Damage.{SaysSomethingIn, TheHeader, IsFirstDamagedIn}
 use Rattle.flip_image.specs.declared.half.Half.{Half}
 use Rattle.flip_image.specs.Layout.{header_sector_in, log_first_in}
 use Rattle.flip_image.specs.Store.{IsStoreIn, HoldsImageIn, IsRefusedIn}
@@ -67,7 +67,7 @@ IsUntouchedIn v image geometry = (half : Half) × HoldsStoreIn v image geometry 
 -- the content is of a store, whose current half begins with a header
 abbrev pub HasHeaderIn : Version → CrashState → Type 0
 HasHeaderIn v image = (geometry : GeometryValue) × (half : Half) × IsStoreIn v geometry half image
-    × IsSoundIn v geometry (header_sector_in v geometry half) image TheHeader
+    × SaysSomethingIn v geometry (header_sector_in v geometry half) image TheHeader
 
 -- the gate of the group of the first record that can't follow the ones before it, over these cells
 pub record IsMisplacedAtIn (v : Version) (geometry : GeometryValue) (half : Half) (image : CrashState) (base : ℕ)

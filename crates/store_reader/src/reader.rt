@@ -8,7 +8,7 @@ ghost use Rattle.model.specs.Given.{Given};
 ghost use Rattle.store_reader.specs.Restored.{given_in};
 ghost use Rattle.gate_log.specs.Area.{IsAreaInside, StandsIn, records_of, IsGateOf, Refuses};
 ghost use Rattle.store_image_half.specs.Image.{no_cells};
-ghost use Rattle.store_image_half.specs.Damage.{IsSoundIn, TheHeader, IsUnreadIn};
+ghost use Rattle.store_image_half.specs.Damage.{SaysSomethingIn, TheHeader, IsUnreadIn};
 ghost use Rattle.flip_image.specs.Layout.{header_sector_in};
 ghost use Rattle.flip_image.specs.Store.{IsStore, IsStoreIn, HoldsImageIn};
 ghost use Rattle.store_reader.specs.Contents.{Gives, GivesIn, HasHeader, HasHeaderIn, IsFound, IsFoundIn, IsUnreadable};
@@ -54,7 +54,7 @@ fn read_cells<D: Device, A: Allocator + Copy>(
     ensures quiet { OnOk result (D.failures device.new ≡ D.failures device.old) }
     ensures told { IfErr result (λ e. e ≢ Error.DeviceFailed → D.failures device.new ≡ D.failures device.old) }
     ensures memory { IfErr result (λ e. e ≡ Error.NoMemory
-        → IsSoundIn version halves.now.geometry (header_sector_in version halves.now.geometry halves.now.current)
+        → SaysSomethingIn version halves.now.geometry (header_sector_in version halves.now.geometry halves.now.current)
         (D.past_of device.old).disk.content TheHeader) }
     ensures later { D.failures device.old ≤ D.failures device.new }
 {

@@ -1,11 +1,14 @@
 -- What a flip leaves.
-use Rattle.std.proofs.Common.{◌≡◌, inl, inr, ⊎_elim, ℕ, ◌+◌, ◌-◌, ◌≤◌, false, List, length, drop, Option, None, IfSome, sym, ap, subst, ◌∙◌, arith}
+use Rattle.std.proofs.Common.{◌≡◌, inl, inr, ⊎_elim, ℕ, ◌+◌, ◌-◌, ◌≤◌, false, true, List, length, drop, Option, Some, None, IfSome, sym, ap, subst, ◌∙◌, arith}
+use Rattle.std.proofs.Common.{Result, Ok, Err, IfErr}
+use Rattle.std.specs.Result.{is_err}
 use Rattle.std.proofs.lemmas.Bool.{false≢true}
 use Rattle.sector_device.specs.Disk.{CrashState, sector, IsSynced, SameOutside}
-use Rattle.sector_device.specs.DevicePast.{DevicePast, LeavesOnly}
+use Rattle.sector_device.specs.DevicePast.{DevicePast, LeavesOnly, Rises}
 use Rattle.sector_device.proofs.Moments.{weaker}
 use Rattle.sector_device.proofs.Sectors.{crash_synced, same_outside_wider}
 use Rattle.record_values.specs.GeometryValue.{GeometryValue}
+use Rattle.record_values.specs.declared.error.Error.{Error}
 use Rattle.records.specs.RecordValue.{RecordValue}
 use Rattle.model.specs.Following.{AreFollowing}
 use Rattle.model.specs.Cells.{cells_after}
@@ -13,7 +16,7 @@ use Rattle.gate_log.specs.Area.{Area, Log, InArea, HoldsGroups, Stands}
 use Rattle.gate_log.proofs.Readings.{told_by_its_sectors}
 use Rattle.flip_image.specs.declared.half.Half.{Half}
 use Rattle.flip_image.specs.Layout.{HalvesValue, other, InHalf}
-use Rattle.flip_image.specs.Store.{Names, IsSuperblock, IsStore, IsFlipping}
+use Rattle.flip_image.specs.Store.{Names, IsDeviceFailure, IsSuperblock, IsStore, IsFlipping}
 use Rattle.flip_image.proofs.Sides.{behind_front, image_inside, log_inside, either_store}
 use Rattle.store_image_model.specs.Run.{Run, IsRun, end_of, cells_at, records_between}
 use Rattle.store_image_model.proofs.Runs.{redone, redone_following}
@@ -26,7 +29,7 @@ use Rattle.store_writer.specs.declared.copying.Copying.TheVariants.{Idle}
 use Rattle.store_writer.specs.Copying.{IsCopying}
 use Rattle.store_writer.specs.declared.image.Stage.TheVariants.{Whole}
 use Rattle.store_writer.specs.Image.{IsImageWhole, IsContent, IsUnderway, reach}
-use Rattle.store_writer.specs.Writer.{StandsFor, IsWriter}
+use Rattle.store_writer.specs.Writer.{CanFlip, StandsFor, IsWriter}
 use Rattle.store_writer.proofs.Numbers.{back_between, last_between}
 use Rattle.store_writer.proofs.Halves.{in_from_outside, half_apart}
 use Rattle.store_writer.proofs.Taking.{stand, left_kept}
@@ -159,3 +162,23 @@ module _ {D M : Type 0} (past_of : D → DevicePast) (run : Run) (handed : ℕ) 
           subst (LeftBy run new.synced handed) (sym is_now) (left_by run new.synced handed n now (omega (arith, synced_is)) handed_in
           (record { half = to; store = store_now; has = other_has now same }));
     }
+
+-- ---- whether it can be made current
+
+pub no_image : {D M : Type 0} (w : Writer D M) (handed : ℕ) → w.image ≡ None → ¬ CanFlip handed w
+no_image w handed none (image, there, _, _, _) = let never : Some image ≡ None = sym there ∙ none in cc never
+
+pub not_whole : {D M : Type 0} (w : Writer D M) (handed : ℕ) (image : NewImage) → w.image ≡ Some image → ¬ (image.stage ≡ Whole) → ¬ CanFlip handed w
+not_whole w handed image is part (found, there, whole, _, _) =
+    let same : image ≡ found = cc (is, there) in part (ap (λ (x : NewImage). x.stage) same ∙ whole)
+
+-- the image of a writer that stands is under way
+pub there_at : {D M : Type 0} (past_of : D → DevicePast) (run : Run) (handed : ℕ) (old : Writer D M) → IsWriter past_of run handed old → old.failed ≡ false
+    → (image : NewImage) → old.image ≡ Some image → IsUnderway run (other old.halves.current) (past_of old.device).disk.content old.synced image
+there_at past_of run handed old is sound image there =
+    subst (λ (t : Option NewImage). IfSome t (IsUnderway run (other old.halves.current) (past_of old.device).disk.content old.synced)) there
+    (is.holds sound).image
+
+pub rises_then : {T : Type 0} (before after : ℕ) (r : Result T Error) → is_err r ≡ true → IfErr r (IsDeviceFailure before after) → Rises before after
+rises_then before after (Ok x) err failed = absurd (false≢true err)
+rises_then before after (Err e) err failed = failed.1

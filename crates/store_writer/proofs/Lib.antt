@@ -13,6 +13,7 @@ mod Taking
 mod Stepwise
 mod Flipping
 mod Replies
+mod Flushing
 mod Places
 mod Pieces
 mod Opening

@@ -1,6 +1,7 @@
 -- What the writer keeps of the records that were handed to it, and of the image under way.
 use Rattle.std.specs.Prelude.{◌≡◌, ◌≢◌, ◌⊎◌, ℕ, ◌+◌, ◌-◌, ◌≤◌, ◌<◌, true, false, List, [], ◌++◌, length, take, drop}
 use Rattle.std.specs.Prelude.{Option, Some, None, IfSome, slice_get}
+use Rattle.std.specs.Prelude.{Result, Ok, OnOk, OnErr, IfOk, IfErr}
 use Rattle.std.specs.Option.{option_map_or}
 use Rattle.std.specs.FinMap as map
 use Rattle.sector_device.specs.Disk.{CrashState, IsSynced, IsCrashState, SameOutside}
@@ -46,7 +47,8 @@ use Rattle.store_writer.specs.declared.writer.FlipReply.{FlipReply}
 use Rattle.store_writer.specs.declared.writer.FlipReply.TheVariants.{Flipped, Behind}
 use Rattle.store_writer.specs.declared.copying.Copying.TheVariants.{Idle, Steps, GivenUp}
 use Rattle.store_writer.specs.Copying.{IsCopying}
-use Rattle.store_writer.specs.Image.{InNewSlot, IsUnderway, reach}
+use Rattle.store_writer.specs.declared.image.Plan.{Plan}
+use Rattle.store_writer.specs.Image.{BecomesImage, InNewSlot, IsPlan, IsUnderway, reach}
 use Rattle.store_writer.specs.Parts.{without_image}
 
 -- ---- what it stands for
@@ -209,6 +211,49 @@ IsNotFlushed failures e old new =
     ((e ≡ NoMemory) × (old.failed ≡ false) × (old.waiting.items ≢ []) × (¬ IsLogFull old) × (new ≡ old))
     ⊎ ((e ≡ DeviceFailed) × (new.failed ≡ true) × (old.failed ≡ false → (old.waiting.items ≢ [])
     × Rises (failures old.device) (failures new.device)) × (old.failed ≡ true → new ≡ old))
+
+-- What becomes of the image, whatever the answer is, after the first `count` waiting records were added to the current
+-- half's log. (No public clause cites this.)
+pub record HasCarriedOn {D M : Type 0} (past_of : D → DevicePast) (failures : D → ℕ) (count : ℕ) (plan : Plan M)
+    (old new : Writer D M) (result : Result FlushReply Error) : Type 0 where
+  pub writer : (run : Run) (handed : ℕ) → HasAppended past_of run handed count old → IsWriter past_of run handed new
+  pub images : (run : Run) (handed : ℕ) → HasAppended past_of run handed count old
+      → LeavesOnly (past_of old.device) (past_of new.device) (LeftBy run old.synced handed)
+  pub flushed : IfOk result (λ reply. (reply ≡ Flushed new.synced) × (new.synced ≡ old.synced + count)
+      × (new.failed ≡ old.failed))
+  pub rest : OnOk result ((new.halves ≡ old.halves) × (new.log ≡ old.log)
+      × (new.waiting.items ≡ drop count old.waiting.items))
+  pub image : OnOk result ((run : Run) (handed slots : ℕ) → HasAppended past_of run handed count old
+      → slots ≡ run.geometry.slots → 0 < count → IsPlan old.image slots old.synced (take count old.waiting.items) plan
+      → BecomesImage slots old.synced count old.image new.image)
+  pub err : IfErr result (λ e. (e ≡ DeviceFailed) × (new.failed ≡ true) × (new.synced ≡ old.synced)
+      × Rises (failures old.device) (failures new.device))
+  pub copying-is : new.copying ≡ old.copying
+  pub quiet : OnOk result (failures new.device ≡ failures old.device)
+  pub later : failures old.device ≤ failures new.device
+  pub around : WritesLogsAlone past_of old new
+  pub slot : WritesOnly past_of (InNewSlot old.image) old.device new.device
+  pub left : OnErr result ((old.image ≢ None) × IsAsBefore old new)
+
+-- What a flush of a group leaves, whatever it answers. (No public clause cites this.)
+pub record HasFlushed {D M : Type 0} (past_of : D → DevicePast) (failures : D → ℕ) (old new : Writer D M)
+    (result : Result FlushReply Error) : Type 0 where
+  pub writer : (run : Run) (handed : ℕ) → IsWriter past_of run handed old → IsWriter past_of run handed new
+  pub images : (run : Run) (handed : ℕ) → IsWriter past_of run handed old
+      → LeavesOnly (past_of old.device) (past_of new.device) (LeftBy run old.synced handed)
+  pub flushed : IfOk result (λ reply. IsFlushReply reply old new)
+  pub image : (n : ℕ) → result ≡ Ok (Flushed n)
+      → BecomesImage old.halves.geometry.slots old.synced (n - old.synced) old.image new.image
+  pub copying-is : new.copying ≡ old.copying
+  pub sound : OnOk result ((old.failed ≡ false) × (new.failed ≡ false))
+  pub full : old.failed ≡ false → old.waiting.items ≢ [] → IsLogFull old → result ≡ Ok LogFull
+  pub err : IfErr result (λ e. IsNotFlushed failures e old new)
+  pub kept : OnErr result (new.synced ≡ old.synced)
+  pub quiet : OnOk result (failures new.device ≡ failures old.device)
+  pub later : failures old.device ≤ failures new.device
+  pub around : WritesLogsAlone past_of old new
+  pub slot : WritesOnly past_of (InOpenedSlots old) old.device new.device
+  pub left : OnErr result (IsBeforeFlush old new)
 
 -- these are all cells as they were after the record `number`, and an image has room for them
 pub record IsWholeChunk (run : Run) (synced number : ℕ) (cells : Cells) : Type 0 where

@@ -21,11 +21,11 @@ ghost use Rattle.store_writer.specs.Image.{BecomesImage};
 ghost use Rattle.store_writer.specs.Parts.{device_of, halves_of, log_of, waiting_of, synced_of, has_failed, image_of};
 ghost use Rattle.store_writer.specs.Parts.{copying_of, without_image};
 
-use crate::image::{Stage, plan_for};
-use crate::writer::{Writer, is_full};
+use crate::image::Stage;
+use crate::writer::Writer;
 use crate::{Copying, FlipReply, FlushReply, StepReply};
 use flip_image::Halves;
-use gate_log::{Appended, LogArea, group_len, spell};
+use gate_log::LogArea;
 use records::{Error, Geometry, Record};
 use sector_device::Device;
 use std::alloc::Allocator;
@@ -181,36 +181,7 @@ impl<D: Device, A: Allocator + Copy> StoreWriter<D, A> {
         ensures slot { WritesOnly D.past_of (InOpenedSlots self.old) (device_of self.old) (device_of self.new) }
         ensures left { OnErr result (IsBeforeFlush self.old self.new) }
     {
-        if self.writer.failed {
-            return Err(Error::DeviceFailed);
-        }
-        let count = group_len(&self.writer.waiting);
-        if count == 0 {
-            return Ok(FlushReply::Nothing);
-        }
-        if is_full(self.writer.log, self.writer.halves.geometry()) {
-            return Ok(FlushReply::LogFull);
-        }
-        let body = spell(alloc, &self.writer.waiting[..count])?;
-        let plan = plan_for(
-            alloc,
-            self.writer.image,
-            self.writer.halves.geometry(),
-            self.writer.synced,
-            &self.writer.waiting[..count],
-        )?;
-        match self
-            .writer
-            .log
-            .append_spelled(&mut self.writer.device, &body)
-        {
-            Ok(Appended::Done) => self.writer.carry_on(count, plan),
-            Ok(Appended::Full) => Ok(FlushReply::LogFull),
-            Err(_) => {
-                self.writer.failed = true;
-                Err(Error::DeviceFailed)
-            }
-        }
+        self.writer.flush(alloc)
     }
 
     /// Takes what was copied into an image, into the half that isn't current. All cells, as the record of the chunk's

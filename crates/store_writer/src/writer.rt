@@ -1,23 +1,23 @@
 //! A device, its log, and the records that wait for it.
-ghost use Rattle.std.specs.Prelude.{◌≡◌, ◌≢◌, ◌↔◌, ◌+◌, ◌≤◌, ◌<◌, ℕ, length, take, drop, true};
-ghost use Rattle.std.specs.Prelude.{false, Some, None, IsTrue, OnOk, OnErr, IfOk, IfErr};
-ghost use Rattle.sector_device.specs.DevicePast.{LeavesOnly, Rises};
+ghost use Rattle.std.specs.Prelude.{◌≡◌, ◌≢◌, ◌↔◌, ◌+◌, ◌≤◌, ◌<◌, ℕ, length, take, true};
+ghost use Rattle.std.specs.Prelude.{false, Some, None, IsTrue, OnOk, OnErr, IfErr};
+ghost use Rattle.sector_device.specs.DevicePast.{LeavesOnly};
 ghost use Rattle.model.specs.Redo.{cells_of};
 ghost use Rattle.store_image_model.specs.Run.{Run};
 ghost use Rattle.store_image_model.specs.Places.{place_behind};
 ghost use Rattle.flip_image.specs.Layout.{other, InHalf};
 ghost use Rattle.store_writer.specs.Contents.{LeftBy};
 ghost use Rattle.store_writer.specs.Copying.{entries_behind, page_behind};
-ghost use Rattle.store_writer.specs.Image.{InNewSlot, IsPlan, BecomesImage};
+ghost use Rattle.store_writer.specs.Image.{IsPlan};
 
 use crate::Copying;
 use crate::image::{
-    NewImage, Plan, Stage, carry, lists_alone, stage_behind, with_page, write_first, write_next,
-    write_whole,
+    NewImage, Plan, Stage, carry, lists_alone, plan_for, stage_behind, with_page, write_first,
+    write_next, write_whole,
 };
 use crate::page::write_rows;
 use flip_image::Halves;
-use gate_log::LogArea;
+use gate_log::{Appended, LogArea, group_len, spell};
 use model::{CellMaps, Life, ListMap};
 use records::{Error, Geometry, Mark, Pair, Record};
 use sector_device::Device;
@@ -91,10 +91,44 @@ fn has_no_room(geometry: Geometry, count: u32, more: usize) -> bool
 }
 
 impl<D: Device, A: Allocator + Copy> Writer<D, A> {
-    ghost use Rattle.store_writer.specs.Writer.{IsWriter, HasAppended, HasBegun, HasKept, HasRows, HasTaken};
-    ghost use Rattle.store_writer.specs.Writer.{HaveEntries, IsAsBefore, IsChunk, IsEntriesChunk, IsLogFull, IsPast};
-    ghost use Rattle.store_writer.specs.Writer.{IsPageChunk, IsStartChunk, IsWholeChunk, MustStartAgain, HasFailed};
-    ghost use Rattle.store_writer.specs.Writer.{WritesLogsAlone, WritesOnly};
+    ghost use Rattle.store_writer.specs.Writer.{IsWriter, HasAppended, HasBegun, HasCarriedOn, HasFlushed, HasKept};
+    ghost use Rattle.store_writer.specs.Writer.{HasRows, HasTaken, HaveEntries, IsAsBefore, IsChunk, IsEntriesChunk};
+    ghost use Rattle.store_writer.specs.Writer.{IsPageChunk, IsPast, IsSomewhere, IsStartChunk, IsWholeChunk};
+    ghost use Rattle.store_writer.specs.Writer.{MustStartAgain, HasFailed, WritesOnly};
+
+    // Writes the next group of the records that wait, and syncs it.
+    pub(crate) fn flush(&mut self, alloc: A) -> Result<FlushReply, Error>
+        requires { IsSomewhere D.past_of self.old }
+        ensures { HasFlushed D.past_of D.failures self.old self.new result }
+    {
+        if self.failed {
+            return Err(Error::DeviceFailed);
+        }
+        let count = group_len(&self.waiting);
+        if count == 0 {
+            return Ok(FlushReply::Nothing);
+        }
+        if is_full(self.log, self.halves.geometry()) {
+            return Ok(FlushReply::LogFull);
+        }
+        let group = &self.waiting[..count];
+        let body = spell(alloc, group)?;
+        let plan = plan_for(
+            alloc,
+            self.image,
+            self.halves.geometry(),
+            self.synced,
+            group,
+        )?;
+        match self.log.append_spelled(&mut self.device, &body) {
+            Ok(Appended::Done) => self.carry_on(count, plan),
+            Ok(Appended::Full) => Ok(FlushReply::LogFull),
+            Err(_) => {
+                self.failed = true;
+                Err(Error::DeviceFailed)
+            }
+        }
+    }
 
     // The first waiting records, a group, were added to the current half's log: those above the base of an image go
     // into the log of its half, as planned.
@@ -103,26 +137,7 @@ impl<D: Device, A: Allocator + Copy> Writer<D, A> {
         requires planned { IsPlan self.old.image self.old.halves.geometry.slots self.old.synced
             (take count self.old.waiting.items) plan }
         requires sound { self.old.failed ≡ false }
-        ensures writer { (run : Run) (handed : ℕ) → HasAppended D.past_of run handed count self.old
-            → IsWriter D.past_of run handed self.new }
-        ensures images { (run : Run) (handed : ℕ) → HasAppended D.past_of run handed count self.old
-            → LeavesOnly (D.past_of self.old.device) (D.past_of self.new.device) (LeftBy run self.old.synced handed) }
-        ensures flushed { IfOk result (λ reply. (reply ≡ FlushReply.Flushed self.new.synced)
-            × (self.new.synced ≡ self.old.synced + count) × (self.new.failed ≡ self.old.failed)) }
-        ensures rest { OnOk result ((self.new.halves ≡ self.old.halves) × (self.new.log ≡ self.old.log)
-            × (self.new.waiting.items ≡ drop count self.old.waiting.items)) }
-        ensures image { OnOk result ((run : Run) (handed slots : ℕ) → HasAppended D.past_of run handed count self.old
-            → slots ≡ run.geometry.slots → 0 < count
-            → IsPlan self.old.image slots self.old.synced (take count self.old.waiting.items) plan
-            → BecomesImage slots self.old.synced count self.old.image self.new.image) }
-        ensures err { IfErr result (λ e. (e ≡ Error.DeviceFailed) × (self.new.failed ≡ true)
-            × (self.new.synced ≡ self.old.synced) × Rises (D.failures self.old.device) (D.failures self.new.device)) }
-        ensures copying { self.new.copying ≡ self.old.copying }
-        ensures quiet { OnOk result (D.failures self.new.device ≡ D.failures self.old.device) }
-        ensures later { D.failures self.old.device ≤ D.failures self.new.device }
-        ensures around { WritesLogsAlone D.past_of self.old self.new }
-        ensures slot { WritesOnly D.past_of (InNewSlot self.old.image) self.old.device self.new.device }
-        ensures left { OnErr result ((self.old.image ≢ None) × IsAsBefore self.old self.new) }
+        ensures { HasCarriedOn D.past_of D.failures count plan self.old self.new result }
     {
         match carry(&mut self.device, self.image, plan) {
             Ok(image) => {

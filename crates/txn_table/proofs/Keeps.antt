@@ -10,7 +10,7 @@ use Rattle.records.specs.declared.change.TheConstants.{CHANGES_MAX}
 use Rattle.record_values.specs.declared.txn.TheConstants.{TXNS_MAX}
 use Rattle.txn_table.specs.Table.{TxnState, TableValue, fresh_txn, is_among, with_rid, holder_of, with_next, without, change_noted, without_last, put_at}
 use Rattle.txn_table.specs.declared.progress.Progress.{Progress}
-use Rattle.txn_table.specs.Sound.{Rises, AllHeld, IsSoundTxn, EachSoundTxn, OneHolder, IsSound, IsTableKept}
+use Rattle.txn_table.specs.Sound.{Rises, AllHeld, IsSoundTxn, EachSoundTxn, OneHolder, IsSoundTable, IsTableKept}
 use Rattle.txn_table.proofs.Lookups.{holder_above, not_among, among_kept, among_new, among_more}
 use Rattle.txn_table.proofs.HeldRows.{AreHeldRows-noted, AreHeldRows-without}
 
@@ -45,8 +45,8 @@ OneHolder-next : (k : ℕ) (es : List (ℕ × TxnState)) → OneHolder es → On
 OneHolder-next k [] one = (λ r among. refl, tt)
 OneHolder-next k (e ∷ es) one = (λ r among. holder_of-next k r es ∙ one.0 r among, OneHolder-next k es one.1)
 
-pub IsSound-next : (t : TableValue) → length t.active < TXNS_MAX → IsSound t → IsSound (with_next t)
-IsSound-next t room sound = record {
+pub IsSoundTable-next : (t : TableValue) → length t.active < TXNS_MAX → IsSoundTable t → IsSoundTable (with_next t)
+IsSoundTable-next t room sound = record {
   few = omega (arith, length-append t.active ((t.begun + 1, fresh_txn) ∷ []));
   rising = Rises-next 0 t.begun t.active fresh_txn sound.rising;
   txns = EachSoundTxn-next (t.begun + 1) t.active sound.txns;
@@ -101,8 +101,8 @@ OneHolder-without txn (e ∷ es) one = by (eqb txn e.0) (OneHolder-without txn e
     by true ih = one.1
     by false ih = (λ r among. none-without txn r es (one.0 r among), ih)
 
-pub IsSound-without : (t : TableValue) (txn : ℕ) → IsSound t → IsSound (record t { active = without txn t.active })
-IsSound-without t txn sound =
+pub IsSoundTable-without : (t : TableValue) (txn : ℕ) → IsSoundTable t → IsSoundTable (record t { active = without txn t.active })
+IsSoundTable-without t txn sound =
     let shorter = length-without txn t.active in
     let before = sound.few in
     record {
@@ -210,10 +210,10 @@ OneHolder-set low high txn r (e ∷ es) w w' rises here more own one = by (λ h 
       rest (found false p.0) (λ k h. own k (ap (λ b. cond b (Some e.0) (holder_of r es)) (not_true (is_among r e.1.rows) (apart p.1)) ∙ h)),
     )
 
-pub IsSound-set : (t : TableValue) (txn : ℕ) (r : Place) (w w' : TxnState) → lookup (nat_eq txn) t.active ≡ Some w → IsSoundTxn w'
+pub IsSoundTable-set : (t : TableValue) (txn : ℕ) (r : Place) (w w' : TxnState) → lookup (nat_eq txn) t.active ≡ Some w → IsSoundTxn w'
     → ((q : Place) → is_among q w'.rows ≡ true → (is_among q w.rows ≡ true) ⊎ (q ≡ r))
-    → ((k : ℕ) → holder_of r t.active ≡ Some k → k ≡ txn) → IsSound t → IsSound (record t { active = set_value (nat_eq txn) t.active w' })
-IsSound-set t txn r w w' here is more own sound =
+    → ((k : ℕ) → holder_of r t.active ≡ Some k → k ≡ txn) → IsSoundTable t → IsSoundTable (record t { active = set_value (nat_eq txn) t.active w' })
+IsSoundTable-set t txn r w w' here is more own sound =
     let same = length-set txn t.active w' in
     let before = sound.few in
     record {
@@ -274,9 +274,9 @@ OneHolder-rows txn (e ∷ es) w w' here same one = by (λ h. OneHolder-rows txn 
     by rest holders true h = let its : e.1 ≡ w = cc in (λ q among. one.0 q (ap (is_among q) (ap (λ (x : TxnState). x.rows) its ∙ sym same) ∙ among), one.1)
     by rest holders false h = (λ q among. holders h q ∙ one.0 q among, rest h)
 
-pub IsSound-rows : (t : TableValue) (txn : ℕ) (w w' : TxnState) → lookup (nat_eq txn) t.active ≡ Some w → IsSoundTxn w' → w'.rows ≡ w.rows → IsSound t
-    → IsSound (record t { active = set_value (nat_eq txn) t.active w' })
-IsSound-rows t txn w w' here is same sound =
+pub IsSoundTable-rows : (t : TableValue) (txn : ℕ) (w w' : TxnState) → lookup (nat_eq txn) t.active ≡ Some w → IsSoundTxn w' → w'.rows ≡ w.rows → IsSoundTable t
+    → IsSoundTable (record t { active = set_value (nat_eq txn) t.active w' })
+IsSoundTable-rows t txn w w' here is same sound =
     let long = length-set txn t.active w' in
     let before = sound.few in
     record {
@@ -293,14 +293,14 @@ table active begun = record { active = active; begun = begun }
 
 pub IsTableKept-next : (t : TableValue) (held : List Place) → length t.active < TXNS_MAX → IsTableKept t held → IsTableKept (with_next t) held
 IsTableKept-next t held room kept = record {
-  sound = IsSound-next t room kept.sound;
+  sound = IsSoundTable-next t room kept.sound;
   held_rows = λ q. kept.held_rows q ∙ sym (ap is_some (holder_of-next (t.begun + 1) q t.active));
 }
 
 pub IsTableKept-without : (t : TableValue) (held : List Place) (txn : ℕ) (s : TxnState) → lookup (nat_eq txn) t.active ≡ Some s → IsTableKept t held
     → IsTableKept (table (without txn t.active) t.begun) (filter (λ r. not (is_among r s.rows)) held)
 IsTableKept-without t held txn s here kept = record {
-  sound = IsSound-without t txn kept.sound;
+  sound = IsSoundTable-without t txn kept.sound;
   held_rows = AreHeldRows-without txn held t.active s kept.sound.one_holder here kept.held_rows;
 }
 
@@ -308,7 +308,7 @@ pub IsTableKept-noted : (t : TableValue) (held : List Place) (txn : ℕ) (c : Ch
     → length s.changes < CHANGES_MAX → ((k : ℕ) → holder_of c.rid t.active ≡ Some k → k ≡ txn)
     → IsTableKept t held → IsTableKept (table (set_value (nat_eq txn) t.active (change_noted c s)) t.begun) (with_rid c.rid held)
 IsTableKept-noted t held txn c s here room own kept = record {
-  sound = IsSound-set t txn c.rid s (change_noted c s) here (IsSoundTxn-noted c s room (state_is txn t.active s here kept.sound.txns)) (λ q among.
+  sound = IsSoundTable-set t txn c.rid s (change_noted c s) here (IsSoundTxn-noted c s room (state_is txn t.active s here kept.sound.txns)) (λ q among.
       among_more q c.rid s.rows among) own kept.sound;
   held_rows = AreHeldRows-noted txn c held t.active s here kept.held_rows;
 }
@@ -316,7 +316,7 @@ IsTableKept-noted t held txn c s here room own kept = record {
 pub IsTableKept-without_last : (t : TableValue) (held : List Place) (txn : ℕ) (s : TxnState) → lookup (nat_eq txn) t.active ≡ Some s → IsTableKept t held
     → IsTableKept (table (set_value (nat_eq txn) t.active (without_last s)) t.begun) held
 IsTableKept-without_last t held txn s here kept = record {
-  sound = IsSound-rows t txn s (without_last s) here (IsSoundTxn-without_last s (state_is txn t.active s here kept.sound.txns)) refl kept.sound;
+  sound = IsSoundTable-rows t txn s (without_last s) here (IsSoundTxn-without_last s (state_is txn t.active s here kept.sound.txns)) refl kept.sound;
   held_rows = λ q. kept.held_rows q ∙ sym (ap is_some (holder_of-rows txn q t.active s (without_last s) here refl));
 }
 
@@ -326,6 +326,6 @@ pub IsTableKept-put_at : (p : Progress) (n : ℕ) (t : TableValue) (held : List 
 IsTableKept-put_at p n t held txn s here kept =
     let is = state_is txn t.active s here kept.sound.txns in
     record {
-      sound = IsSound-rows t txn s (put_at p n s) here (record { few = is.few; held = is.held }) refl kept.sound;
+      sound = IsSoundTable-rows t txn s (put_at p n s) here (record { few = is.few; held = is.held }) refl kept.sound;
       held_rows = λ q. kept.held_rows q ∙ sym (ap is_some (holder_of-rows txn q t.active s (put_at p n s) here refl));
     }

@@ -8,7 +8,7 @@ use Rattle.records.specs.ChangeValue.{ChangeValue}
 use Rattle.txn_table.specs.Table.{TxnState, TableValue, is_among, with_rid, change_noted, without_last, put_at, state_of, with_state, without, with_next}
 use Rattle.txn_table.specs.Table.{holder_of}
 use Rattle.txn_table.specs.declared.progress.Progress.{Progress}
-use Rattle.txn_table.specs.Sound.{Rises, OneHolder, IsSound}
+use Rattle.txn_table.specs.Sound.{Rises, OneHolder, IsSoundTable}
 use Rattle.txn_table.proofs.Lookups.{place_test, among_new, holder_above, holder_is}
 use Rattle.txn_table.proofs.HeldRows.{is_same, is_among-with_rid, holder_of-without_rows}
 use Rattle.txn_table.proofs.Keeps.{holder_of-next}
@@ -170,14 +170,14 @@ holds_it low high txn q (e ∷ es) s rises here holds = by (holds_it e.0 high tx
         rest (sym (ap (λ b. cond b (Some e.1) (state_of txn es)) (eqb_apart txn e.0 (λ x. omega arith))) ∙ here) h
 
 -- the end of the holder
-pub holder_of-without : (t : TableValue) (txn : ℕ) (q : Place) (s : TxnState) → IsSound t → state_of txn t.active ≡ Some s → holder_of q t.active ≡ Some txn
-    → holder_of q (without txn t.active) ≡ None
+pub holder_of-without : (t : TableValue) (txn : ℕ) (q : Place) (s : TxnState) → IsSoundTable t → state_of txn t.active ≡ Some s
+    → holder_of q t.active ≡ Some txn → holder_of q (without txn t.active) ≡ None
 holder_of-without t txn q s sound here holds =
     holder_of-without_rows txn q t.active s sound.one_holder here
     ∙ ap (λ b. cond b None (holder_of q t.active)) (holds_it 0 t.begun txn q t.active s sound.rising here holds)
 
 -- the end of another
-pub holder_of-without_other : (t : TableValue) (txn : ℕ) (q : Place) (s : TxnState) → IsSound t → state_of txn t.active ≡ Some s
+pub holder_of-without_other : (t : TableValue) (txn : ℕ) (q : Place) (s : TxnState) → IsSoundTable t → state_of txn t.active ≡ Some s
     → holder_of q t.active ≢ Some txn → holder_of q (without txn t.active) ≡ holder_of q t.active
 holder_of-without_other t txn q s sound here other =
     holder_of-without_rows txn q t.active s sound.one_holder here ∙ by (is_among q s.rows) refl

@@ -32,7 +32,7 @@ OneHolder [] = Unit {0}
 OneHolder (e ∷ es) = ((r : Place) → is_among r e.1.rows ≡ true → holder_of r es ≡ None) × OneHolder es
 
 -- at most `TXNS_MAX` transactions, with rising numbers from 1, and no row held by two of them
-pub record IsSound (t : TableValue) : Type 0 where
+pub record IsSoundTable (t : TableValue) : Type 0 where
   pub few : length t.active ≤ TXNS_MAX
   pub rising : Rises 0 t.active t.begun
   pub txns : EachSoundTxn t.active
@@ -44,5 +44,5 @@ AreHeldRows held active = (r : Place) → is_among r held ≡ is_some (holder_of
 
 -- what the fields of a table keep
 pub record IsTableKept (t : TableValue) (held : List Place) : Type 0 where
-  pub sound : IsSound t
+  pub sound : IsSoundTable t
   pub held_rows : AreHeldRows held t.active

@@ -7,7 +7,7 @@ ghost use Rattle.record_values.specs.Values.{Place};
 ghost use Rattle.txn_table.specs.Table.{TxnState, holds_rows, is_among, with_rid, holder_of, state_of, with_state};
 ghost use Rattle.txn_table.specs.Table.{with_next, without, change_noted, without_last, put_at, last_change};
 ghost use Rattle.txn_table.specs.Table.{change_refusal, touch_refusal};
-ghost use Rattle.txn_table.specs.Sound.{IsSound};
+ghost use Rattle.txn_table.specs.Sound.{IsSoundTable};
 
 use crate::active::ActiveTxn;
 use crate::progress::Progress;
@@ -75,10 +75,18 @@ impl<A: Allocator + Copy> TxnTable<A> {
         }
     }
 
+    /// A law: what the type keeps. No row is held by two transactions.
+    pub fn stands(&self)
+        ensures { IsSoundTable self.now }
+    {
+        // a look at a field, so that what the type keeps is at hand
+        let _ = &self.active;
+    }
+
     /// How many transactions are active.
     pub fn len(&self) -> usize
         ensures number { result ≡ length self.now.active }
-        ensures sound { IsSound self.now }
+        ensures sound { IsSoundTable self.now }
     {
         self.active.len()
     }
@@ -288,7 +296,7 @@ impl<A: Allocator + Copy> TxnTable<A> {
         ensures err { OnErr result (self.new ≡ self.old) }
 
         ensures held { OnOk result (holder_of change.rid self.new.active ≡ Some txn) }
-        ensures sound { IsSound self.old }
+        ensures sound { IsSoundTable self.old }
         ensures others { OnOk result ((r : Place) → r ≢ change.rid →
             holder_of r self.new.active ≡ holder_of r self.old.active) }
     {

@@ -32,10 +32,10 @@ returns-in_default-clause-entries g c =
     let v = value_of c.args.core.now in
     let few : length c.loop-run.entries.items < CHUNK_ENTRIES = omega (arith, c.loop-run-test.true, c.len.ensures) in
     let none = c.left_or_next.ensures.none (no_more c.left_or_next.result.now c.in_default.ensures.cases) in
-    last_chunk v (entries_known v c.pages-pages.ensures.safe) c.args.above c.loop-run.last c.loop-run.entries.items c.loop-run.invariant.copied few none
+    last_chunk v (entries_known v c.stands.ensures.safe) c.args.above c.loop-run.last c.loop-run.entries.items c.loop-run.invariant.copied few none
 
 pub returns-clause-entries : goal.returns-clause-entries
 returns-clause-entries g c =
     let v = value_of c.args.core.now in
     let many : length c.loop-run.entries.items ≡ CHUNK_ENTRIES = omega (arith, c.loop-run-test.false, c.len.ensures, c.loop-run.invariant.most) in
-    full_chunk v (entries_known v c.pages-pages.ensures.safe) c.args.above c.loop-run.last c.loop-run.entries.items c.loop-run.invariant.copied many
+    full_chunk v (entries_known v c.stands.ensures.safe) c.args.above c.loop-run.last c.loop-run.entries.items c.loop-run.invariant.copied many

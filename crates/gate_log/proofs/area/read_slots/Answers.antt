@@ -1,62 +1,126 @@
-use Rattle.std.proofs.Common.{◌≡◌, inl, inr, ◌+◌, ◌*◌, ◌<◌, ◌++◌, ◌∷◌, [], List, length, slice_range, ◌∙◌, ap, subst, refl, arith, length-append}
+use Rattle.std.proofs.Common.{◌≡◌, inl, inr, ℕ, ◌+◌, ◌*◌, ◌<◌, ◌≤◌, ◌++◌, ◌∷◌, [], List, Err, length, slice_range, ◌∙◌, ap, subst, refl, arith, length-append}
 use Rattle.std.specs.List.{concat}
+use Rattle.std.proofs.lemmas.Result.{err_from_is_err_and}
 use Rattle.sector_device.specs.Disk.{Disk}
+use Rattle.record_values.specs.declared.error.Error.{Error}
 use Rattle.records.specs.RecordValue.{RecordValue}
 use Rattle.gate_log.specs.Group.{IsGroupIn}
-use Rattle.gate_log.specs.Area.{IsOpen}
+use Rattle.gate_log.specs.Area.{IsOpen, Refuses}
 use Rattle.std.proofs.lemmas.List.{flat_map_more}
 use Rattle.sector_device.proofs.Within.{reads_none, reads_then}
 use Rattle.gate_log.proofs.Areas.{one_open, first_open, first_damaged, none_here, some_here}
-use Rattle.gate_log.proofs.Runs.{on_err_always}
 use Rattle.gate_log.proofs.area.read_slots.Goals as goal
 
-pub returns-then-count-slot-clause-refused : goal.returns-then-count-slot-clause-refused
-returns-then-count-slot-clause-refused g c =
+later_than : (a b c : ℕ) → b ≡ a → b ≤ c → a ≤ c
+later_than a b c same later = omega (arith, same, later)
+
+not_fewer : (a b : ℕ) → b ≡ a → a ≤ b
+not_fewer a b same = omega (arith, same)
+
+refuses_later : (a b c : ℕ) (e : Error) → b ≡ a → Refuses b c e → Refuses a c e
+refuses_later a b c e same refused = subst (λ (n : ℕ). Refuses n c e) same refused
+
+pub returns-in_err-is_open : goal.returns-in_err-is_open
+returns-in_err-is_open g c =
+    let before = c.loop-slot.invariant in
+    let p = err_from_is_err_and c.from_residual.result c.from_residual.ensures.1 in
+    rw (p.1 ∙ ap Err p.2) (record {
+      read = tt;
+      refused = inl (refuses_later _ _ _ _ before.quiet c.in_err-is_open.ensures.refused);
+      reads = reads_then _ _ _ before.reads c.is_open.ensures.reads;
+      quiet = tt;
+      told = λ other. c.in_err-is_open.ensures.told other ∙ before.quiet;
+      memory = λ is. absurd (c.in_err-is_open.ensures.no_memory is);
+      later = later_than _ _ _ before.quiet c.is_open.ensures.later;
+    })
+
+pub returns-then-count-slot : goal.returns-then-count-slot
+returns-then-count-slot g c =
     let slot = c.loop-slot.slot in
-    let read = c.loop-slot.invariant.read in
-    let is_open = subst (λ (d : Disk). IsOpen d.content (c.args.first + 8 * slot)) c.loop-slot.invariant.reads.disk
+    let before = c.loop-slot.invariant in
+    let read = before.read in
+    let is_open = subst (λ (d : Disk). IsOpen d.content (c.args.first + 8 * slot)) before.reads.disk
     (c.in_ok-is_open.ensures.value.0 c.if-not-branch.false) in
     let less : length read.0 < slot = omega (arith, read.2, c.if-count-slot.true) in
-    inr (
-      _,
-      refl,
-      first_damaged c.args.version c.args.first slot c.args.slots _ read.0 c.loop-slot-test.true read.1 (
-        is_open,
-        inl (length read.0, less, read.1.closed (length read.0) (omega arith) less),
-      ),
-    )
+    let quiet = c.in_ok-is_open.ensures.quiet ∙ before.quiet in
+    record {
+      read = tt;
+      refused = inr (
+        _,
+        refl,
+        first_damaged c.args.version c.args.first slot c.args.slots _ read.0 c.loop-slot-test.true read.1 (
+          is_open,
+          inl (length read.0, less, read.1.closed (length read.0) (omega arith) less),
+        ),
+      );
+      reads = reads_then _ _ _ before.reads c.is_open.ensures.reads;
+      quiet = tt;
+      told = λ _. quiet;
+      memory = λ never. absurd (cc);
+      later = not_fewer _ _ quiet;
+    }
 
-pub returns-in_default-clause-refused : goal.returns-in_default-clause-refused
-returns-in_default-clause-refused g c =
+pub returns-in_err-group : goal.returns-in_err-group
+returns-in_err-group g c =
+    let slot = c.loop-slot.slot in
+    let before = c.loop-slot.invariant in
+    let read = before.read in
+    let is_open = subst (λ (d : Disk). IsOpen d.content (c.args.first + 8 * slot)) before.reads.disk
+    (c.in_ok-is_open.ensures.value.0 c.if-not-branch.false) in
+    let all : length read.0 ≡ slot = omega (arith, read.2, read.1.room, c.if-count-slot.false) in
+    let quiet = c.in_ok-is_open.ensures.quiet ∙ before.quiet in
+    let p = err_from_is_err_and c.from_residual-in_err-group.result c.from_residual-in_err-group.ensures.1 in
+    rw (p.1 ∙ ap Err p.2) (record {
+      read = tt;
+      refused = inl (refuses_later _ _ _ _ quiet c.in_err-group.ensures.refused);
+      reads = reads_then _ _ _ before.reads (reads_then _ _ _ c.is_open.ensures.reads c.read_group.ensures.reads);
+      quiet = tt;
+      told = λ other. c.in_err-group.ensures.told other ∙ quiet;
+      memory = λ _. first_open c.args.version c.args.first slot c.args.slots _ read.0 c.loop-slot-test.true read.1 all is_open;
+      later = later_than _ _ _ quiet c.read_group.ensures.later;
+    })
+
+pub returns-in_default : goal.returns-in_default
+returns-in_default g c =
     let slot = c.loop-slot.slot in
     let gate = c.args.first + 8 * slot in
-    let read = c.loop-slot.invariant.read in
-    let same = c.is_open.ensures.reads.disk ∙ c.loop-slot.invariant.reads.disk in
-    let is_open = subst (λ (d : Disk). IsOpen d.content gate) c.loop-slot.invariant.reads.disk (c.in_ok-is_open.ensures.value.0 c.if-not-branch.false) in
+    let before = c.loop-slot.invariant in
+    let read = before.read in
+    let same = c.is_open.ensures.reads.disk ∙ before.reads.disk in
+    let is_open = subst (λ (d : Disk). IsOpen d.content gate) before.reads.disk (c.in_ok-is_open.ensures.value.0 c.if-not-branch.false) in
     let none = subst (λ (d : Disk). (records : List RecordValue)
     → ¬ IsGroupIn c.args.version records (concat (slice_range d.content (gate + 1) (gate + 8)))) same
     (none_here _ _ _ c.in_default.is c.in_ok-group.ensures.found) in
-    inr (_, refl, first_damaged c.args.version c.args.first slot c.args.slots _ read.0 c.loop-slot-test.true read.1 (is_open, inr none))
+    let quiet = c.in_ok-group.ensures.quiet ∙ (c.in_ok-is_open.ensures.quiet ∙ before.quiet) in
+    record {
+      read = tt;
+      refused = inr (_, refl, first_damaged c.args.version c.args.first slot c.args.slots _ read.0 c.loop-slot-test.true read.1 (is_open, inr none));
+      reads = reads_then _ _ _ before.reads (reads_then _ _ _ c.is_open.ensures.reads c.read_group.ensures.reads);
+      quiet = tt;
+      told = λ _. quiet;
+      memory = λ never. absurd (cc);
+      later = not_fewer _ _ quiet;
+    }
 
-pub returns-in_err-group-clause-memory : goal.returns-in_err-group-clause-memory
-returns-in_err-group-clause-memory g c =
+pub returns-in_err-append : goal.returns-in_err-append
+returns-in_err-append g c =
     let slot = c.loop-slot.slot in
-    let read = c.loop-slot.invariant.read in
-    let is_open = subst (λ (d : Disk). IsOpen d.content (c.args.first + 8 * slot)) c.loop-slot.invariant.reads.disk
+    let before = c.loop-slot.invariant in
+    let read = before.read in
+    let is_open = subst (λ (d : Disk). IsOpen d.content (c.args.first + 8 * slot)) before.reads.disk
     (c.in_ok-is_open.ensures.value.0 c.if-not-branch.false) in
     let all : length read.0 ≡ slot = omega (arith, read.2, read.1.room, c.if-count-slot.false) in
-    on_err_always _ c.from_residual-in_err-group.result (λ e no.
-    first_open c.args.version c.args.first slot c.args.slots _ read.0 c.loop-slot-test.true read.1 all is_open)
-
-pub returns-in_err-append-clause-memory : goal.returns-in_err-append-clause-memory
-returns-in_err-append-clause-memory g c =
-    let slot = c.loop-slot.slot in
-    let read = c.loop-slot.invariant.read in
-    let is_open = subst (λ (d : Disk). IsOpen d.content (c.args.first + 8 * slot)) c.loop-slot.invariant.reads.disk
-    (c.in_ok-is_open.ensures.value.0 c.if-not-branch.false) in
-    let all : length read.0 ≡ slot = omega (arith, read.2, read.1.room, c.if-count-slot.false) in
-    on_err_always _ c.from_residual-in_err-append.result (λ e no.
-    first_open c.args.version c.args.first slot c.args.slots _ read.0 c.loop-slot-test.true read.1 all is_open)
+    let quiet = c.in_ok-group.ensures.quiet ∙ (c.in_ok-is_open.ensures.quiet ∙ before.quiet) in
+    let p = err_from_is_err_and c.from_residual-in_err-append.result c.from_residual-in_err-append.ensures.1 in
+    rw p.1 (record {
+      read = tt;
+      refused = inl (inl p.2);
+      reads = reads_then _ _ _ before.reads (reads_then _ _ _ c.is_open.ensures.reads c.read_group.ensures.reads);
+      quiet = tt;
+      told = λ _. quiet;
+      memory = λ _. first_open c.args.version c.args.first slot c.args.slots _ read.0 c.loop-slot-test.true read.1 all is_open;
+      later = not_fewer _ _ quiet;
+    })
 
 pub loop-slot-init : goal.loop-slot-init
 loop-slot-init g c = record {

@@ -1,17 +1,32 @@
-use Rattle.std.proofs.Common.{◌≡◌, List, sym, ap, ◌∙◌, subst}
+use Rattle.std.proofs.Common.{◌≡◌, List, Err, refl, sym, ap, ◌∙◌, subst}
 use Rattle.std.proofs.lemmas.Result.{err_from_is_err_and}
 use Rattle.sector_device.specs.Disk.{Disk, CrashState, sector}
+use Rattle.sector_device.proofs.Within.{reads_then}
 use Rattle.model.specs.Cells.{Cells}
 use Rattle.store_image_parts.specs.declared.head.Head.{Head}
 use Rattle.store_image_half.specs.Layout.{heads_at}
 use Rattle.store_image_half.specs.Image.{AreHeads}
-use Rattle.store_image_half.specs.Damage.{IsUnreadIn}
 use Rattle.store_image_half.specs.Steps.{HoldsLists, HoldsPages, HoldsEntries, AreListsRefused}
-use Rattle.store_image_half.proofs.Refusing.{heads_unread, lists_unread, pages_unread, entries_unread, whole_image}
+use Rattle.store_image_half.proofs.Refusing.{header_unread, heads_unread, later_than, not_fewer, lists_unread, pages_unread, entries_unread, whole_image}
 use Rattle.store_image_half.proofs.read.read_image.Goals as goal
 
-pub returns-in_err-heads-clause-refused : goal.returns-in_err-heads-clause-refused
-returns-in_err-heads-clause-refused g c =
+pub returns-in_err-header : goal.returns-in_err-header
+returns-in_err-header g c =
+    let image : CrashState = (g.D.Device.past_of c.args.device.now).disk.content in
+    let p = err_from_is_err_and c.from_residual.result c.from_residual.ensures.1 in
+    rw (p.1 ∙ ap Err p.2) (record {
+      read = tt;
+      refused = header_unread c.args.version c.args.geometry c.args.first image image _ _ _ c.in_err-header.field-0.0 refl refl
+          c.in_err-header.ensures.refused;
+      reads = c.read_header.ensures.reads;
+      quiet = tt;
+      told = c.in_err-header.ensures.told;
+      memory = λ is. absurd (c.in_err-header.ensures.no_memory is);
+      later = c.read_header.ensures.later;
+    })
+
+pub returns-in_err-heads : goal.returns-in_err-heads
+returns-in_err-heads g c =
     let v = c.args.version in
     let x = c.args.geometry in
     let first = c.args.first in
@@ -20,10 +35,19 @@ returns-in_err-heads-clause-refused g c =
     (ap (λ (d : Disk). d.content) c.read_header.ensures.reads.disk) c.in_ok-header.ensures.quiet c.in_ok-header.header c.in_ok-header.ensures.found
     c.in_err-heads.ensures.refused in
     let p = err_from_is_err_and c.from_residual-in_err-heads.result c.from_residual-in_err-heads.ensures.1 in
-    rw p.1 (subst (IsUnreadIn v x first image _ _) (sym p.2) told)
+    let before = c.in_ok-header.ensures.quiet in
+    rw (p.1 ∙ ap Err p.2) (record {
+      read = tt;
+      refused = told;
+      reads = reads_then _ _ _ c.read_header.ensures.reads c.read_heads.ensures.reads;
+      quiet = tt;
+      told = λ other. c.in_err-heads.ensures.told other ∙ before;
+      memory = λ _. (c.in_ok-header.header, c.in_ok-header.ensures.found);
+      later = later_than _ _ _ before c.read_heads.ensures.later;
+    })
 
-pub returns-in_err-read_lists-clause-refused : goal.returns-in_err-read_lists-clause-refused
-returns-in_err-read_lists-clause-refused g c =
+pub returns-in_err-read_lists : goal.returns-in_err-read_lists
+returns-in_err-read_lists g c =
     let v = c.args.version in
     let x = c.args.geometry in
     let first = c.args.first in
@@ -37,10 +61,20 @@ returns-in_err-read_lists-clause-refused g c =
     (g.D.Device.failures c.read_heads.new.device) (g.D.Device.failures c.read_lists.new.device) c.in_err-read_lists.field-0.0) c.deref.ensures.value
     c.in_err-read_lists.ensures.refused) in
     let p = err_from_is_err_and c.from_residual-in_err-read_lists.result c.from_residual-in_err-read_lists.ensures.1 in
-    rw p.1 (subst (IsUnreadIn v x first image _ _) (sym p.2) told)
+    let first_reads = reads_then _ _ _ c.read_header.ensures.reads c.read_heads.ensures.reads in
+    let before = c.in_ok-heads.ensures.quiet ∙ c.in_ok-header.ensures.quiet in
+    rw (p.1 ∙ ap Err p.2) (record {
+      read = tt;
+      refused = told;
+      reads = reads_then _ _ _ first_reads c.read_lists.ensures.reads;
+      quiet = tt;
+      told = λ other. c.in_err-read_lists.ensures.told other ∙ before;
+      memory = λ _. (c.in_ok-header.header, c.in_ok-header.ensures.found);
+      later = later_than _ _ _ before c.read_lists.ensures.later;
+    })
 
-pub returns-in_err-read_pages-clause-refused : goal.returns-in_err-read_pages-clause-refused
-returns-in_err-read_pages-clause-refused g c =
+pub returns-in_err-read_pages : goal.returns-in_err-read_pages
+returns-in_err-read_pages g c =
     let v = c.args.version in
     let x = c.args.geometry in
     let first = c.args.first in
@@ -57,10 +91,21 @@ returns-in_err-read_pages-clause-refused g c =
     ∙ (c.in_ok-heads.ensures.quiet ∙ c.in_ok-header.ensures.quiet)) c.in_ok-header.header c.in_ok-header.ensures.found c.in_ok-heads.heads.items are
     pending lists c.in_err-read_pages.ensures.refused in
     let p = err_from_is_err_and c.from_residual-in_err-read_pages.result c.from_residual-in_err-read_pages.ensures.1 in
-    rw p.1 (subst (IsUnreadIn v x first image _ _) (sym p.2) told)
+    let first_reads = reads_then _ _ _ c.read_header.ensures.reads c.read_heads.ensures.reads in
+    let more_reads = reads_then _ _ _ first_reads c.read_lists.ensures.reads in
+    let before = c.in_ok-read_lists.ensures.quiet ∙ (c.in_ok-heads.ensures.quiet ∙ c.in_ok-header.ensures.quiet) in
+    rw (p.1 ∙ ap Err p.2) (record {
+      read = tt;
+      refused = told;
+      reads = reads_then _ _ _ more_reads c.read_pages.ensures.reads;
+      quiet = tt;
+      told = λ other. c.in_err-read_pages.ensures.told other ∙ before;
+      memory = λ _. (c.in_ok-header.header, c.in_ok-header.ensures.found);
+      later = later_than _ _ _ before c.read_pages.ensures.later;
+    })
 
-pub returns-in_err-read_entries-clause-refused : goal.returns-in_err-read_entries-clause-refused
-returns-in_err-read_entries-clause-refused g c =
+pub returns-in_err-read_entries : goal.returns-in_err-read_entries
+returns-in_err-read_entries g c =
     let v = c.args.version in
     let x = c.args.geometry in
     let first = c.args.first in
@@ -81,10 +126,22 @@ returns-in_err-read_entries-clause-refused g c =
     c.in_ok-heads.heads.items are
     pending lists rows pages c.in_err-read_entries.ensures.refused in
     let p = err_from_is_err_and c.from_residual-in_err-read_entries.result c.from_residual-in_err-read_entries.ensures.1 in
-    rw p.1 (subst (IsUnreadIn v x first image _ _) (sym p.2) told)
+    let first_reads = reads_then _ _ _ c.read_header.ensures.reads c.read_heads.ensures.reads in
+    let more_reads = reads_then _ _ _ first_reads c.read_lists.ensures.reads in
+    let most_reads = reads_then _ _ _ more_reads c.read_pages.ensures.reads in
+    let before = c.in_ok-read_pages.ensures.quiet ∙ (c.in_ok-read_lists.ensures.quiet ∙ (c.in_ok-heads.ensures.quiet ∙ c.in_ok-header.ensures.quiet)) in
+    rw (p.1 ∙ ap Err p.2) (record {
+      read = tt;
+      refused = told;
+      reads = reads_then _ _ _ most_reads c.read_entries.ensures.reads;
+      quiet = tt;
+      told = λ other. c.in_err-read_entries.ensures.told other ∙ before;
+      memory = λ _. (c.in_ok-header.header, c.in_ok-header.ensures.found);
+      later = later_than _ _ _ before c.read_entries.ensures.later;
+    })
 
-pub returns-clause-read : goal.returns-clause-read
-returns-clause-read g c =
+pub returns : goal.returns
+returns g c =
     let v = c.args.version in
     let x = c.args.geometry in
     let first = c.args.first in
@@ -108,8 +165,21 @@ returns-clause-read g c =
     ∙ ap (λ (y : Cells). y.pending) c.in_ok-read_entries.ensures.rest ∙ ap (λ (y : Cells). y.pending) c.in_ok-read_pages.ensures.rest in
     let same_rows : new.rows ≡ with_rows.rows = ap (λ (y : Cells). y.rows) c.set_life.ensures ∙ ap (λ (y : Cells). y.rows) c.in_ok-read_entries.ensures.rest in
     let same_entries : new.entries ≡ with_entries.entries = ap (λ (y : Cells). y.entries) c.set_life.ensures in
-    whole_image v x first image c.in_ok-header.header c.in_ok-heads.heads.items new c.in_ok-header.ensures.found are
-    (subst (HoldsLists v x first image c.in_ok-heads.heads.items) (sym same_lists) lists)
-    (subst (HoldsPages v x first image x.pages) (sym same_rows) pages)
-    (subst (HoldsEntries v x first image c.in_ok-header.header.entries) (sym same_entries) entries)
-    (ap (λ (y : Cells). y.life) c.set_life.ensures)
+    let first_reads = reads_then _ _ _ c.read_header.ensures.reads c.read_heads.ensures.reads in
+    let more_reads = reads_then _ _ _ first_reads c.read_lists.ensures.reads in
+    let most_reads = reads_then _ _ _ more_reads c.read_pages.ensures.reads in
+    let quiet = c.in_ok-read_entries.ensures.quiet ∙ (c.in_ok-read_pages.ensures.quiet
+    ∙ (c.in_ok-read_lists.ensures.quiet ∙ (c.in_ok-heads.ensures.quiet ∙ c.in_ok-header.ensures.quiet))) in
+    record {
+      read = whole_image v x first image c.in_ok-header.header c.in_ok-heads.heads.items new c.in_ok-header.ensures.found are
+          (subst (HoldsLists v x first image c.in_ok-heads.heads.items) (sym same_lists) lists)
+          (subst (HoldsPages v x first image x.pages) (sym same_rows) pages)
+          (subst (HoldsEntries v x first image c.in_ok-header.header.entries) (sym same_entries) entries)
+          (ap (λ (y : Cells). y.life) c.set_life.ensures);
+      refused = tt;
+      reads = reads_then _ _ _ most_reads c.read_entries.ensures.reads;
+      quiet = quiet;
+      told = tt;
+      memory = tt;
+      later = not_fewer _ _ quiet;
+    }

@@ -1,7 +1,8 @@
-use Rattle.std.proofs.Common.{◌≡◌, ◌↔◌, ◌<◌, ◌≤◌, ◌∙◌, IsTrue, List, [], arith, sym, ap, subst}
+use Rattle.std.proofs.Common.{◌≡◌, ◌↔◌, ◌<◌, ◌≤◌, ◌∙◌, IsTrue, List, [], Err, inl, refl, arith, rules, sym, ap, subst}
 use Rattle.std.proofs.lemmas.Result.{err_from_is_err_and}
 use Rattle.std.specs.FinMap.{len}
 use Rattle.sector_device.specs.Disk.{Disk, CrashState}
+use Rattle.sector_device.proofs.Within.{reads_then}
 use Rattle.record_values.specs.GeometryValue.{GeometryValue}
 use Rattle.records.specs.RecordValue.{RecordValue}
 use Rattle.gate_log.specs.Area.{StandsIn, records_of}
@@ -9,18 +10,30 @@ use Rattle.model.specs.Given.{Given}
 use Rattle.store_reader.specs.Restored.{given_in}
 use Rattle.store_reader.specs.Contents.{log_area_in, IsFoundIn, IsUntouchedIn}
 use Rattle.store_reader.proofs.Readings.{accepted_one, first_unfit, found, holds, restored, told_untouched}
-use Rattle.store_reader.proofs.Refusals.{Why, accepted, area_is, overfull, slot_damaged, record_misplaced}
+use Rattle.store_reader.proofs.Refusals.{area_inside, area_is, later_than, not_fewer, overfull, slot_damaged, record_misplaced}
 use Rattle.store_reader.proofs.reader.read_store_in.Goals as goal
 
-pub returns-in_err-halves-clause-accepted : goal.returns-in_err-halves-clause-accepted
-returns-in_err-halves-clause-accepted g c x given gives =
+pub returns-in_err-halves : goal.returns-in_err-halves
+returns-in_err-halves g c =
     let image : CrashState = (g.D.Device.past_of c.args.device.now).disk.content in
     let p = err_from_is_err_and c.from_residual.result c.from_residual.ensures.1 in
-    accepted c.args.version c.from_residual.result image x given _ _ gives
-    (rw p.1 (subst (Why c.args.version image _ _) (sym p.2) c.in_err-halves.ensures.refused))
+    rw (p.1 ∙ ap Err p.2) (record {
+      found = tt;
+      halves = tt;
+      untouched = tt;
+      area = tt;
+      numbered = tt;
+      accepted = λ x given gives. accepted_one c.args.version image x given _ _ _ gives c.in_err-halves.ensures.refused;
+      refused = c.in_err-halves.ensures.refused;
+      memory = c.in_err-halves.ensures.memory;
+      reads = c.open_store.ensures.reads;
+      quiet = tt;
+      told = c.in_err-halves.ensures.told;
+      later = c.open_store.ensures.later;
+    })
 
-pub returns-in_err-records-clause-refused : goal.returns-in_err-records-clause-refused
-returns-in_err-records-clause-refused g c =
+pub returns-in_err-records : goal.returns-in_err-records
+returns-in_err-records g c =
     let image : CrashState = (g.D.Device.past_of c.args.device.now).disk.content in
     let same = ap (λ (d : Disk). d.content) c.open_store.ensures.reads.disk in
     let at = c.in_ok-halves in
@@ -31,15 +44,43 @@ returns-in_err-records-clause-refused g c =
     let told = slot_damaged c.args.version image at.halves.geometry at.halves.current _ _ at.ensures.opened _ _ _ same at.ensures.quiet at.cells.last
     at.cells.cells at.ensures.imaged c.new-log.result.area area c.in_err-records.ensures.refused in
     let p = err_from_is_err_and c.from_residual-in_err-records.result c.from_residual-in_err-records.ensures.1 in
-    rw p.1 (subst (Why c.args.version image _ _) (sym p.2) told)
+    rw (p.1 ∙ ap Err p.2) (record {
+      found = tt;
+      halves = tt;
+      untouched = tt;
+      area = tt;
+      numbered = tt;
+      accepted = λ x given gives. accepted_one c.args.version image x given _ _ _ gives told;
+      refused = told;
+      memory = λ _. (at.halves.geometry, at.halves.current, at.ensures.opened, (_, at.ensures.imaged.header-is));
+      reads = reads_then _ _ _ c.open_store.ensures.reads c.read_all.ensures.reads;
+      quiet = tt;
+      told = λ other. c.in_err-records.ensures.told other ∙ at.ensures.quiet;
+      later = later_than _ _ _ at.ensures.quiet c.read_all.ensures.later;
+    })
 
-pub returns-in_err-records-clause-accepted : goal.returns-in_err-records-clause-accepted
-returns-in_err-records-clause-accepted g c x given gives =
-    accepted c.args.version c.from_residual-in_err-records.result (g.D.Device.past_of c.args.device.now).disk.content x given _ _ gives
-    (returns-in_err-records-clause-refused g c)
+pub returns-in_err-restored-in-Ok : goal.returns-in_err-restored-in-Ok
+returns-in_err-restored-in-Ok g c =
+    let at = c.in_ok-halves in
+    let quiet = c.in_ok-records.ensures.quiet ∙ at.ensures.quiet in
+    let p = err_from_is_err_and c.from_residual-in_err-restored-in-Ok.result c.from_residual-in_err-restored-in-Ok.ensures.1 in
+    rw p.1 (record {
+      found = tt;
+      halves = tt;
+      untouched = tt;
+      area = tt;
+      numbered = tt;
+      accepted = λ x given gives. inl p.2;
+      refused = inl (inl p.2);
+      memory = λ _. (at.halves.geometry, at.halves.current, at.ensures.opened, (_, at.ensures.imaged.header-is));
+      reads = reads_then _ _ _ c.open_store.ensures.reads c.read_all.ensures.reads;
+      quiet = tt;
+      told = λ _. quiet;
+      later = not_fewer _ _ quiet;
+    })
 
-pub returns-in-Ok-clause-found : goal.returns-in-Ok-clause-found
-returns-in-Ok-clause-found g c =
+pub returns-in-Ok : goal.returns-in-Ok
+returns-in-Ok g c =
     let h = g.D.Device.past_of in
     let image : CrashState = (h c.args.device.now).disk.content in
     let at = c.in_ok-halves in
@@ -57,36 +98,36 @@ returns-in-Ok-clause-found g c =
     c.in_ok-restored-in-Ok.ensures.given in
     let room : len given.entries ≤ geometry.entries =
     omega (arith, c.if-len-geometry.false, c.len.ensures, ap (λ (x : GeometryValue). x.entries) (c.geometry.view_is ∙ c.geometry-geometry.ensures)) in
-    subst (λ (x : GeometryValue). IsFoundIn c.args.version image x log given) (sym (c.in_ok-restored-in-Ok.ensures.geometry ∙ made.2))
-    (found c.args.version image geometry half at.cells.last at.cells.cells log read.0 c.deref.result.now given at.ensures.opened at.ensures.imaged area stands
-    (c.deref.ensures.value ∙ read.2) made.0 made.1 room)
-
-pub returns-in-Ok-clause-untouched : goal.returns-in-Ok-clause-untouched
-returns-in-Ok-clause-untouched g c =
-    let h = g.D.Device.past_of in
-    let image : CrashState = (h c.args.device.now).disk.content in
-    let at = c.in_ok-halves in
-    let geometry = at.halves.geometry in
-    let half = at.halves.current in
-    let log = c.read_all.new.self in
-    let area : log.area ≡ log_area_in c.args.version geometry half =
-    c.read_all.ensures.area ∙ c.new-log.ensures.area
-    ∙ area_is c.args.version c.log_first_in.result c.from.result geometry half c.log_first_in.ensures.value (c.from.ensures
-    ∙ ap (λ (x : GeometryValue). x.slots) (c.geometry.view_is ∙ c.geometry-geometry.ensures)) in
-    let read = c.in_ok-records.ensures.read in
-    let stands = subst (λ (d : Disk). StandsIn c.args.version log d.content read.0) at.ensures.reads.disk read.1 in
-    let made = restored geometry c.deref.result.now at.cells c.redo_all.new.self
-    (given_in c.in_ok-restored-in-Ok.restored) at.ensures.geometry c.in-Ok.ensures.following c.in-Ok.ensures.ok c.in_ok-restored-in-Ok.ensures.given in
     let told : IsTrue c.is_untouched.result ↔ IsTrue at.bare × (c.deref.result.now ≡ []) =
     subst (λ (l : List RecordValue). IsTrue c.is_untouched.result ↔ IsTrue at.bare × (l ≡ [])) (c.deref-in-Ok.ensures.value
     ∙ sym c.deref.ensures.value) c.is_untouched.ensures in
-    subst (λ (x : GeometryValue). IsTrue c.is_untouched.result ↔ IsUntouchedIn c.args.version image x) (sym (c.in_ok-restored-in-Ok.ensures.geometry ∙ made.2))
-    (told_untouched c.args.version image geometry half at.cells.last at.cells.cells c.deref.result.now at.bare c.is_untouched.result
-    (holds c.args.version image geometry half at.cells.last at.cells.cells log read.0 c.deref.result.now at.ensures.opened at.ensures.imaged area stands
-    (c.deref.ensures.value ∙ read.2) made.0) at.ensures.bare told)
+    let back = sym (c.in_ok-restored-in-Ok.ensures.geometry ∙ made.2) in
+    let quiet = c.in_ok-records.ensures.quiet ∙ at.ensures.quiet in
+    record {
+      found =
+          subst (λ (x : GeometryValue). IsFoundIn c.args.version image x log given) back
+          (found c.args.version image geometry half at.cells.last at.cells.cells log read.0 c.deref.result.now given at.ensures.opened at.ensures.imaged area
+          stands (c.deref.ensures.value ∙ read.2) made.0 made.1 room);
+      halves = at.ensures.opened;
+      untouched =
+          subst (λ (x : GeometryValue). IsTrue c.is_untouched.result ↔ IsUntouchedIn c.args.version image x) back
+          (told_untouched c.args.version image geometry half at.cells.last at.cells.cells c.deref.result.now at.bare c.is_untouched.result
+          (holds c.args.version image geometry half at.cells.last at.cells.cells log read.0 c.deref.result.now at.ensures.opened at.ensures.imaged area stands
+          (c.deref.ensures.value ∙ read.2) made.0) at.ensures.bare told);
+      area = area_inside c.args.version c.log_first_in.result geometry half log.area image area c.log_first_in.ensures.value c.log_first_in.ensures.inside
+          at.ensures.opened;
+      numbered = search rules;
+      accepted = λ x given gives. tt;
+      refused = tt;
+      memory = tt;
+      reads = reads_then _ _ _ c.open_store.ensures.reads c.read_all.ensures.reads;
+      quiet = quiet;
+      told = tt;
+      later = not_fewer _ _ quiet;
+    }
 
-pub returns-then-len-geometry-clause-refused : goal.returns-then-len-geometry-clause-refused
-returns-then-len-geometry-clause-refused g c =
+pub returns-then-len-geometry : goal.returns-then-len-geometry
+returns-then-len-geometry g c =
     let h = g.D.Device.past_of in
     let image : CrashState = (h c.args.device.now).disk.content in
     let at = c.in_ok-halves in
@@ -104,17 +145,29 @@ returns-then-len-geometry-clause-refused g c =
     c.in_ok-restored-in-Ok.ensures.given in
     let crowded : geometry.entries < len given.entries =
     omega (arith, c.if-len-geometry.true, c.len.ensures, ap (λ (x : GeometryValue). x.entries) (c.geometry.view_is ∙ c.geometry-geometry.ensures)) in
+    let quiet = c.in_ok-records.ensures.quiet ∙ at.ensures.quiet in
+    let told =
     overfull c.args.version image geometry half at.cells.last at.cells.cells c.deref.result.now c.header_sector_in.result _ _
     (holds c.args.version image geometry half at.cells.last at.cells.cells log read.0 c.deref.result.now at.ensures.opened at.ensures.imaged area stands
     (c.deref.ensures.value ∙ read.2) made.0)
-    (subst (λ (x : Given). geometry.entries < len x.entries) made.1 crowded) c.header_sector_in.ensures.value
+    (subst (λ (x : Given). geometry.entries < len x.entries) made.1 crowded) c.header_sector_in.ensures.value in
+    record {
+      found = tt;
+      halves = tt;
+      untouched = tt;
+      area = tt;
+      numbered = tt;
+      accepted = λ x given gives. accepted_one c.args.version image x given _ _ _ gives told;
+      refused = told;
+      memory = λ _. (at.halves.geometry, at.halves.current, at.ensures.opened, (_, at.ensures.imaged.header-is));
+      reads = reads_then _ _ _ c.open_store.ensures.reads c.read_all.ensures.reads;
+      quiet = tt;
+      told = λ _. quiet;
+      later = not_fewer _ _ quiet;
+    }
 
-pub returns-then-len-geometry-clause-accepted : goal.returns-then-len-geometry-clause-accepted
-returns-then-len-geometry-clause-accepted g c x given gives =
-    accepted_one c.args.version (g.D.Device.past_of c.args.device.now).disk.content x given _ _ _ gives (returns-then-len-geometry-clause-refused g c)
-
-pub returns-in-Unfit-clause-refused : goal.returns-in-Unfit-clause-refused
-returns-in-Unfit-clause-refused g c =
+pub returns-in-Unfit : goal.returns-in-Unfit
+returns-in-Unfit g c =
     let h = g.D.Device.past_of in
     let image : CrashState = (h c.args.device.now).disk.content in
     let now : CrashState = (h c.read_all.new.device).disk.content in
@@ -132,10 +185,41 @@ returns-in-Unfit-clause-refused g c =
     let index = c.in-Err.stopped.index in
     let first = first_unfit geometry c.deref.result.now (records_of read.0) at.cells index at.ensures.geometry (c.deref.ensures.value
     ∙ read.2) (c.in-Err.ensures.unfit c.in-Unfit.is) in
+    let quiet = c.in_ok-records.ensures.quiet ∙ at.ensures.quiet in
+    let told =
     record_misplaced c.args.version image geometry half _ _ at.ensures.opened now _ _ same (c.in_ok-records.ensures.quiet
     ∙ at.ensures.quiet) at.cells.last at.cells.cells at.ensures.imaged
-    log read.0 index area stands first c.misplaced.ensures.told
+    log read.0 index area stands first c.misplaced.ensures.told in
+    record {
+      found = tt;
+      halves = tt;
+      untouched = tt;
+      area = tt;
+      numbered = tt;
+      accepted = λ x given gives. accepted_one c.args.version image x given _ _ c.misplaced.result gives told;
+      refused = told;
+      memory = λ _. (geometry, half, at.ensures.opened, (_, at.ensures.imaged.header-is));
+      reads = reads_then _ _ _ c.open_store.ensures.reads (reads_then _ _ _ c.read_all.ensures.reads c.misplaced.ensures.reads);
+      quiet = tt;
+      told = λ other. c.misplaced.ensures.quiet (λ is. other is) ∙ quiet;
+      later = later_than _ _ _ quiet c.misplaced.ensures.later;
+    }
 
-pub returns-in-Unfit-clause-accepted : goal.returns-in-Unfit-clause-accepted
-returns-in-Unfit-clause-accepted g c x given gives =
-    accepted_one c.args.version (g.D.Device.past_of c.args.device.now).disk.content x given _ _ c.misplaced.result gives (returns-in-Unfit-clause-refused g c)
+pub returns : goal.returns
+returns g c =
+    let at = c.in_ok-halves in
+    let quiet = c.in_ok-records.ensures.quiet ∙ at.ensures.quiet in
+    record {
+      found = tt;
+      halves = tt;
+      untouched = tt;
+      area = tt;
+      numbered = tt;
+      accepted = λ x given gives. inl refl;
+      refused = inl (inl refl);
+      memory = λ _. (at.halves.geometry, at.halves.current, at.ensures.opened, (_, at.ensures.imaged.header-is));
+      reads = reads_then _ _ _ c.open_store.ensures.reads c.read_all.ensures.reads;
+      quiet = tt;
+      told = λ _. quiet;
+      later = not_fewer _ _ quiet;
+    }

@@ -8,7 +8,7 @@ pub returns-in_ok-lists-in-Start-clause-piece : goal.returns-in_ok-lists-in-Star
 returns-in_ok-lists-in-Start-clause-piece g c = λ cells of.
     let v = value_of c.args.self.now in
     at_place v cells _ c.args.place at.Start c.in-Start.is
-    (is_start v (known v c.pages-pages.ensures.safe c.pages-pages.ensures.rows_inside) c.active_txns-txns.ensures.sound c.life-life.result
+    (is_start v (known v c.stands.ensures.safe c.stands.ensures.rows_inside) c.stands.ensures.sound c.life-life.result
     c.in_ok-lists-in-Start.lists
     c.life-life.ensures.life c.in_ok-lists-in-Start.ensures.each c.in_ok-lists-in-Start.ensures.few cells of)
 

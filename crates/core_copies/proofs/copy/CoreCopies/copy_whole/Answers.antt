@@ -12,5 +12,5 @@ returns-clause-whole g c =
       pending = c.in_ok-all_lists.field-0;
       life = c.life.result;
     } in
-    is_whole v (known v c.pages-pages.ensures.safe c.pages-pages.ensures.rows_inside) c.active_txns-txns.ensures.sound copied
+    is_whole v (known v c.stands.ensures.safe c.stands.ensures.rows_inside) c.stands.ensures.sound copied
     c.in_ok-all_rows.ensures.rows c.in_ok-all_entries.ensures.entries c.in_ok-all_lists.ensures.each c.in_ok-all_lists.ensures.few c.life.ensures.life

@@ -24,15 +24,15 @@ returns-in_err-set_row-in-Some-OwesRow g c =
 
 pub unreachable-requires : goal.unreachable-requires
 unreachable-requires g c =
-    let none = new_none (is_indexed c.args.self.now.life) c.args.change (sym c.in_default-new_entry.is
-    ∙ (c.new_entry.ensures ∙ ap (λ b. option_and_then entry_in (puts_new b c.args.change)) c.indexed-indexed.ensures)) in
+    let none = new_none (is_indexed c.args.self.now.life) c.args.change (sym c.in_default-puts_new.is
+    ∙ (c.puts_new.ensures ∙ ap (λ b. option_and_then entry_in (puts_new b c.args.change)) c.indexed-indexed.ensures)) in
     ∥∥₁_elim c.requires.safe ⊥_prop
     (no_entry (parts_of c.args.self.now) c.args.txn c.args.change c.requires.newest _ c.in-Some-OwesEntry.ensures c.in-Some-OwesEntry.field-0-is none)
 
 pub set_entry-requires-clause-places : goal.set_entry-requires-clause-places
 set_entry-requires-clause-places g c =
     let some = new_some (is_indexed c.args.self.now.life) c.args.change c.in-Some.put (sym c.in-Some.is
-    ∙ (c.new_entry.ensures ∙ ap (λ b. option_and_then entry_in (puts_new b c.args.change)) c.indexed-indexed.ensures)) in
+    ∙ (c.puts_new.ensures ∙ ap (λ b. option_and_then entry_in (puts_new b c.args.change)) c.indexed-indexed.ensures)) in
     ∥∥₁_elim c.requires.safe le_prop (entry_enough (parts_of c.args.self.now) c.args.txn c.args.change c.requires.newest c.in-Some.put.0 some.0)
 
 pub returns-in_err-set_entry-in-Some-OwesEntry : goal.returns-in_err-set_entry-in-Some-OwesEntry
@@ -48,7 +48,7 @@ returns-in_ok-set_row-in-Some-OwesRow g c =
     (c.progress_after_row-progress.ensures ∙ ap (λ b. row_progress (new_pair b c.args.change)) c.indexed-indexed.ensures)
     (ap (λ (w : ChangeValue). w.rid) c.change.view_is)
     (c.new.ensures ∙ ap (λ (w : ChangeValue). new_row w.rows) c.change.view_is)
-    c.new_row-action.ensures
+    c.sets_new-action.ensures
     in
     row_carried v c.args.txn c.args.change c.requires.newest _ c.in-Some-OwesRow.ensures c.requires.asked c.requires.has c.in-Some-OwesRow.field-0-is _
     (c.in_ok-set_row-in-Some-OwesRow.ensures.ok ∙ same)
@@ -56,7 +56,7 @@ returns-in_ok-set_row-in-Some-OwesRow g c =
 pub returns-in_ok-set_entry-in-Some-OwesEntry : goal.returns-in_ok-set_entry-in-Some-OwesEntry
 returns-in_ok-set_entry-in-Some-OwesEntry g c =
     let some = new_some (is_indexed c.args.self.now.life) c.args.change c.in-Some.put (sym c.in-Some.is
-    ∙ (c.new_entry.ensures ∙ ap (λ b. option_and_then entry_in (puts_new b c.args.change)) c.indexed-indexed.ensures)) in
+    ∙ (c.puts_new.ensures ∙ ap (λ b. option_and_then entry_in (puts_new b c.args.change)) c.indexed-indexed.ensures)) in
     entry_carried (parts_of c.args.self.now) c.args.txn c.args.change c.requires.newest _ c.in-Some-OwesEntry.ensures c.requires.asked c.requires.has
     c.in-Some-OwesEntry.field-0-is c.in-Some.put some.0 some.1 _ c.in_ok-set_entry-in-Some-OwesEntry.ensures.ok
 

@@ -17,4 +17,4 @@ returns-clause-within g c =
     omega (arith, returns-clause-number g c, pledged)
 
 pub returns-clause-few : goal.returns-clause-few
-returns-clause-few g c = omega (arith, returns-clause-within g c, c.pledged-pledged.ensures.room.within, c.pledged-pledged.ensures.room.most)
+returns-clause-few g c = omega (arith, returns-clause-within g c, c.stands.ensures.within, c.stands.ensures.most)

@@ -41,7 +41,7 @@ returns-in-Some-clause-ok g c =
     let same = row_as v c.args.txn {f = UndoesEntry} refl
     (ap (λ (w : ChangeValue). w.rid) c.change.view_is)
     (c.old-row.ensures ∙ ap (λ (w : ChangeValue). old_row w.rows) c.change.view_is)
-    (c.old_row-action.ensures ∙ ap (Undo Slot c.args.change) (is_not_last (puts_old c.indexed-indexed.result c.args.change) _ c.in-Some.ensures))
+    (c.sets_old-action.ensures ∙ ap (Undo Slot c.args.change) (is_not_last (puts_old c.indexed-indexed.result c.args.change) _ c.in-Some.ensures))
     in
     rw some.0 (subst (λ w. OnOk c.set_row.result (parts_of c.set_row.new.self ≡ w)) same c.set_row.ensures.ok)
 
@@ -53,7 +53,7 @@ returns-in_ok-set_row-in-None-clause-ok g c =
     let same = row_as v c.args.txn {f = Rolling} refl
     (ap (λ (w : ChangeValue). w.rid) c.change.view_is)
     (c.old-row.ensures ∙ ap (λ (w : ChangeValue). old_row w.rows) c.change.view_is)
-    (c.old_row-action.ensures ∙ ap (Undo Slot c.args.change) (is_last c.indexed-indexed.result c.args.change c.in-None.ensures))
+    (c.sets_old-action.ensures ∙ ap (Undo Slot c.args.change) (is_last c.indexed-indexed.result c.args.change c.in-None.ensures))
     in
     rw none (taken_off_behind (parts_of c.set_row-in-None.new.self) _ c.args.txn c.pop_undo.new.self c.pop_undo.ensures.rest (c.in_ok-set_row-in-None.ensures.ok
     ∙ same))

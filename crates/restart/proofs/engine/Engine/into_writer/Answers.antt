@@ -19,7 +19,7 @@ returns-in-Flipped-clause-written g c =
     rw (← c.self.view_is) (
     written_whole g.D.Device.past_of g.D.Device.failures c.copy_anew.result _ c.self.inside.parts c.copy_anew.new.self c.in-Flipped.is
     c.copy_anew.ensures.copies
-    c.copy_anew.ensures.can_run quiet c.active_txns-txns.ensures.sound c.each_list.ensures.shown c.one_copy.ensures)
+    c.copy_anew.ensures.can_run quiet c.stands.ensures.sound c.each_list.ensures.shown c.one_copy.ensures)
 
 pub returns-in-Refused-clause-refused : goal.returns-in-Refused-clause-refused
 returns-in-Refused-clause-refused g c =

@@ -1,22 +1,50 @@
-use Rattle.std.proofs.Common.{List, ap, subst, ◌∙◌, arith}
-use Rattle.std.proofs.lemmas.List.{take_all}
-use Rattle.sector_device.specs.declared.call.Call.{Call}
-use Rattle.sector_device.specs.Disk.{IsCrashState}
-use Rattle.sector_device.specs.Memory.{initial_state, state_after}
+use Rattle.std.proofs.Common.{rules, ◌≡◌, ◌∙◌, ap, sym, subst, arith, ℕ, ◌+◌, ◌≤◌, ◌++◌, List, length, take, drop, replicate, slice_index, vec_len}
+use Rattle.std.proofs.Common.{vec_capacity}
+use Rattle.std.proofs.Math.ListN.{length-replicate}
+use Rattle.sector_device.specs.Disk.{CrashState, IsDiskWhole, IsCrashState}
+use Rattle.sector_device.specs.Memory.{initial_state, state_after, disk_of, unsynced_since}
 use Rattle.sector_device.specs.Crash.{IsCrashed}
-use Rattle.sector_device.specs.MemDisk.{past_of}
+use Rattle.sector_device.proofs.Sectors.{image_is_whole}
+use Rattle.sector_device.proofs.Tear.{crashed_state, crash_image}
+use Rattle.sector_device.proofs.Record.{represents_crashed, written_back, all_zero, synced_count, synced_count_at_most}
 use Rattle.sector_device.proofs.memory.MemDisk.crash.Goals as goal
 
-pub returns-clause-crash : goal.returns-clause-crash
-returns-clause-crash g c =
-    let p = past_of c.args.self.now in
-    let image = (past_of c.crash_at.new.self).disk.content in
-    subst (λ disk. IsCrashState disk image) (ap p.disk_at c.moment-now.ensures ∙ p.now) c.crash_at.ensures.crash
-
-pub returns-clause-fates : goal.returns-clause-fates
-returns-clause-fates g c =
+pub invariant_of-self : goal.invariant_of-self
+invariant_of-self g c =
     let d = c.args.self.now in
-    let calls = d.calls.items in
-    let image = (past_of c.crash_at.new.self).disk.content in
-    subst (λ (l : List Call). IsCrashed c.args.fates.now (state_after (initial_state d.first.items) l) image)
-    (take_all c.moment-now.result calls (omega (arith, c.moment-now.ensures))) c.crash_at.ensures.fates
+    let s = state_after (initial_state d.first.items) d.calls.items in
+    let image = c.tear.new.content in
+    let crashed_now : IsCrashed c.args.fates.now (record {
+      content = d.content.items;
+      synced = d.before.items;
+      unsynced = unsynced_since d.synced_at d.written_at.items;
+    }) image = search rules in
+    let crashed : IsCrashed c.args.fates.now s image = crashed_state _ _ _ _ _ _ _ _ d.represents crashed_now in
+    let crash : IsCrashState (disk_of s) image = crash_image _ s image d.represents.whole d.represents.synced_whole crashed in
+    let whole : IsDiskWhole image = image_is_whole (disk_of s) image d.represents.whole crash in
+    let size : length image ≡ length d.content.items = crashed_now.sectors in
+    let back : take d.content.len (image ++ drop (length image) d.content.items) ≡ image =
+    written_back image d.content.items d.content.len size d.content.ok.0 in
+    let content : CrashState = take d.content.len (image ++ drop (length image) d.content.items) in
+    let stamps : c.fill.new.self.items ≡ replicate (length d.written_at.items) 0 = c.fill.ensures.items (λ y is. is)
+    ∙ ap (λ n. replicate n 0) d.written_at.ok.0 in
+    let stamps_size : length c.fill.new.self.items ≡ length d.written_at.items = ap length stamps ∙ length-replicate (length d.written_at.items) 0 in
+    let none : (k : ℕ) → slice_index c.fill.new.self.items k ≡ 0 = λ k. ap (λ (l : List ℕ). slice_index l k) stamps ∙ all_zero (length d.written_at.items) k in
+    let long : length content ≡ length d.content.items = ap length back ∙ size in
+    let first : c.copy_from_slice.new.self.items ≡ content = c.copy_from_slice.ensures.items ∙ c.deref-3.ensures.value in
+    let represents = represents_crashed c.copy_from_slice.new.self.items content d.before.items c.clear.new.self.items c.fill.new.self.items first
+    c.clear.ensures.items (subst IsDiskWhole (sym back) whole) (d.represents.before_size ∙ sym long) (stamps_size ∙ d.represents.written_size
+    ∙ sym long) none in
+    let fewer = synced_count_at_most 0 c.fill.new.self.items in
+    let same : vec_capacity c.clear.new.self ≡ vec_capacity d.calls = c.clear.ensures.capacity in
+    let empty : vec_len c.clear.new.self ≡ 0 = c.clear.ensures.len in
+    let fits : length content ≤ vec_capacity c.clear.new.self = omega (arith, long, d.size, same) in
+    let room : vec_len c.clear.new.self + synced_count 0 c.fill.new.self.items ≤ vec_capacity c.clear.new.self =
+    omega (arith, fewer, stamps_size, d.represents.written_size, d.size, same, empty) in
+    record {
+      represents = represents;
+      first_size = ap length first;
+      first_whole = subst IsDiskWhole (sym (first ∙ back)) whole;
+      size = fits;
+      room = room;
+    }

@@ -1,5 +1,6 @@
-use Rattle.std.proofs.Common.{refl}
+use Rattle.std.proofs.Common.{Err, refl, sym, ap, ◌∙◌, arith}
 use Rattle.std.proofs.lemmas.Bool.{false≢true}
+use Rattle.std.proofs.lemmas.Result.{err_from_is_err_and}
 use Rattle.sector_device.proofs.Moments.{started}
 use Rattle.flip_image.specs.Layout.{other, InHalf}
 use Rattle.store_writer.specs.Contents.{LeftBy}
@@ -11,28 +12,74 @@ use Rattle.store_writer.proofs.store.StoreWriter.checkpoint_step.Goals as goal
 pub take-requires-clause-chunk : goal.take-requires-clause-chunk
 take-requires-clause-chunk g c = (rw (← c.self.view_is) at c.requires)
 
-pub returns-then-must_start_again-clause-writer : goal.returns-then-must_start_again-clause-writer
-returns-then-must_start_again-clause-writer g c =
+pub returns-then-self : goal.returns-then-self
+returns-then-self g c =
     rw (← c.self.view_is) (
-    λ run handed is chunk. without g.D.Device.past_of run handed GivenUp c.self.inside.writer refl is)
+    let old = c.self.inside.writer in
+    record {
+      writer = λ run handed is chunk. is;
+      images = λ run handed is. started (g.D.Device.past_of old.device) (LeftBy run old.synced handed) is.images;
+      stepped = tt;
+      sound = tt;
+      again = λ sound must. absurd (false≢true (sym sound ∙ c.if-self.true));
+      err = (refl, c.if-self.true, (λ sound. absurd (false≢true (sym sound ∙ c.if-self.true))), λ _. refl);
+      quiet = tt;
+      later = omega arith;
+      kept = refl;
+      around = none_alone g.D.Device.past_of (InHalf old.halves.geometry (other old.halves.current)) old.device;
+      left = refl;
+    })
 
-pub returns-then-must_start_again-clause-images : goal.returns-then-must_start_again-clause-images
-returns-then-must_start_again-clause-images g c =
+pub returns-then-must_start_again : goal.returns-then-must_start_again
+returns-then-must_start_again g c =
     rw (← c.self.view_is) (
-    λ run handed is.
-    started (g.D.Device.past_of c.self.inside.writer.device) (LeftBy run c.self.inside.writer.synced handed) is.images)
+    let old = c.self.inside.writer in
+    record {
+      writer = λ run handed is chunk. without g.D.Device.past_of run handed GivenUp old refl is;
+      images = λ run handed is. started (g.D.Device.past_of old.device) (LeftBy run old.synced handed) is.images;
+      stepped = (refl, c.if-must_start_again.ensures.0 refl);
+      sound = (c.if-self.false, c.if-self.false);
+      again = λ sound must. refl;
+      err = tt;
+      quiet = refl;
+      later = omega arith;
+      kept = refl;
+      around = none_alone g.D.Device.past_of (InHalf old.halves.geometry (other old.halves.current)) old.device;
+      left = tt;
+    })
 
-pub returns-then-must_start_again-clause-around : goal.returns-then-must_start_again-clause-around
-returns-then-must_start_again-clause-around g c =
-    rw (← c.self.view_is) (
-    none_alone g.D.Device.past_of
-    (InHalf c.self.inside.writer.halves.geometry (other c.self.inside.writer.halves.current)) c.self.inside.writer.device)
+pub returns-in_err-take : goal.returns-in_err-take
+returns-in_err-take g c =
+    let p = err_from_is_err_and c.from_residual.result c.from_residual.ensures.1 in
+    rw (← c.self.view_is, p.1 ∙ ap Err p.2) (record {
+      writer = c.take.ensures.writer;
+      images = c.take.ensures.images;
+      stepped = tt;
+      sound = tt;
+      again = λ sound must. absurd (false≢true (c.if-must_start_again.ensures.1 must));
+      err = c.in_err-take.ensures.err;
+      quiet = tt;
+      later = c.take.ensures.later;
+      kept = c.take.ensures.synced;
+      around = c.take.ensures.around;
+      left = c.in_err-take.ensures.left;
+    })
 
-pub returns-then-self-clause-around : goal.returns-then-self-clause-around
-returns-then-self-clause-around g c =
-    rw (← c.self.view_is) (
-    none_alone g.D.Device.past_of
-    (InHalf c.self.inside.writer.halves.geometry (other c.self.inside.writer.halves.current)) c.self.inside.writer.device)
+pub returns : goal.returns
+returns g c =
+    rw (← c.self.view_is) (record {
+      writer = c.take.ensures.writer;
+      images = c.take.ensures.images;
+      stepped = ((λ must. false≢true (c.if-must_start_again.ensures.1 must)), c.in_ok-take.ensures.taken);
+      sound = (c.if-self.false, c.in_ok-take.ensures.taken.1.5 ∙ c.if-self.false);
+      again = λ sound must. absurd (false≢true (c.if-must_start_again.ensures.1 must));
+      err = tt;
+      quiet = c.in_ok-take.ensures.quiet;
+      later = c.take.ensures.later;
+      kept = c.take.ensures.synced;
+      around = c.take.ensures.around;
+      left = tt;
+    })
 
 pub invariant_of-self : goal.invariant_of-self
 invariant_of-self g c =
@@ -48,23 +95,3 @@ pub invariant_of-self-2 : goal.invariant_of-self-2
 invariant_of-self-2 g c =
     let (run, handed, is, chunk) = (rw (← c.self.view_is) at c.requires) in
     (run, handed, c.take.ensures.writer run handed is chunk)
-
-pub returns-in_err-take-clause-writer : goal.returns-in_err-take-clause-writer
-returns-in_err-take-clause-writer g c =
-    rw (← c.self.view_is) c.take.ensures.writer
-
-pub returns-in_err-take-clause-images : goal.returns-in_err-take-clause-images
-returns-in_err-take-clause-images g c =
-    rw (← c.self.view_is) c.take.ensures.images
-
-pub returns-clause-writer : goal.returns-clause-writer
-returns-clause-writer g c =
-    rw (← c.self.view_is) c.take.ensures.writer
-
-pub returns-clause-images : goal.returns-clause-images
-returns-clause-images g c =
-    rw (← c.self.view_is) c.take.ensures.images
-
-pub returns-clause-stepped : goal.returns-clause-stepped
-returns-clause-stepped g c =
-    rw (← c.self.view_is) ((λ must. false≢true (c.if-must_start_again.ensures.1 must)), c.in_ok-take.ensures.taken)

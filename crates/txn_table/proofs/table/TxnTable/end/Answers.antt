@@ -4,7 +4,7 @@ use Rattle.txn_table.specs.Table.{TxnState, state_of, without}
 use Rattle.txn_table.specs.Sound.{IsTableKept}
 use Rattle.txn_table.proofs.Keeps.{table, IsTableKept-without}
 use Rattle.txn_table.specs.Table.{TableValue, holder_of}
-use Rattle.txn_table.specs.Sound.{IsSound}
+use Rattle.txn_table.specs.Sound.{IsSoundTable}
 use Rattle.txn_table.proofs.TableLaws.{holder_of-without, holder_of-without_other}
 use Rattle.txn_table.proofs.table.TxnTable.end.Goals as goal
 
@@ -25,11 +25,11 @@ returns-clause-released g c = λ r holds.
     let after = c.in-Some.ensures.entries ∙ ap (λ (v : TableValue). without c.args.txn v.active) c.self.view_is in
     let here = ap (λ (v : TableValue). state_of c.args.txn v.active) (sym c.self.view_is) ∙ sym c.in-Some.ensures.value in
     ap (holder_of r) after
-    ∙ holder_of-without c.args.self.now c.args.txn r c.in-Some.ended (subst IsSound c.self.view_is c.self.invariant.sound) here holds
+    ∙ holder_of-without c.args.self.now c.args.txn r c.in-Some.ended (subst IsSoundTable c.self.view_is c.self.invariant.sound) here holds
 
 pub returns-clause-others : goal.returns-clause-others
 returns-clause-others g c = λ r other.
     let after = c.in-Some.ensures.entries ∙ ap (λ (v : TableValue). without c.args.txn v.active) c.self.view_is in
     let here = ap (λ (v : TableValue). state_of c.args.txn v.active) (sym c.self.view_is) ∙ sym c.in-Some.ensures.value in
     ap (holder_of r) after
-    ∙ holder_of-without_other c.args.self.now c.args.txn r c.in-Some.ended (subst IsSound c.self.view_is c.self.invariant.sound) here other
+    ∙ holder_of-without_other c.args.self.now c.args.txn r c.in-Some.ended (subst IsSoundTable c.self.view_is c.self.invariant.sound) here other

@@ -1,5 +1,0 @@
-use Rattle.std.proofs.Common.{rules}
-use Rattle.core_steps.proofs.step.set_new.Goals as goal
-
-pub returns : goal.returns
-returns c = search rules
