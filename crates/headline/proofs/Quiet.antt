@@ -7,8 +7,6 @@ use Rattle.record_values.specs.declared.pair.Pair.{Pair}
 use Rattle.records.specs.RecordValue.{RecordValue}
 use Rattle.model.specs.Given.{Given}
 use Rattle.model.specs.Table.{IsPairOf}
-use Rattle.model.specs.declared.life.Life.{Life}
-use Rattle.model.specs.declared.life.Life.TheVariants.{Absent, Building, Complete}
 use Rattle.core_model.specs.Events as core
 use Rattle.core_model.specs.Events.{Standing, after_build, standing_after, standing_at}
 use Rattle.core_model.specs.Histories.{CanOpen, IsCovered, Opened, highest_of}
@@ -24,27 +22,22 @@ use Rattle.restart.specs.History.{answered, both, core_calls}
 use Rattle.restart.specs.Parts.{core_of, device_of, horizon_of, unhanded, unwritten}
 use Rattle.restart.specs.Reopening.{opening}
 use Rattle.restart.specs.Store.{IsAt, and_then, over}
-use Rattle.headline.specs.Fitting.{IsBuiltTo, IsIndexOf}
+use Rattle.headline.specs.Fitting.{IsIndexOf}
 use Rattle.headline.specs.Held.{IsQuiet}
 
 -- ---- the index that a core may begin with
 
-covered : (life : Life) (pair : Pair) → IsBuiltTo life pair → IsCovered life (highest_of life) pair
-covered Absent pair built = absurd built
-covered (Building None) pair built = absurd built
-covered (Building (Some highest)) pair built = built
-covered Complete pair built = tt
-
 pub index_over : (o : Opened) → CanOpen o → IsIndexOf o.given.table o.given.life o.given.entries
 index_over o opens = record { sound = opens.sound; whole = shown; gone = opens.empty }
   where
-    shown : (pair : Pair) → IsBuiltTo o.given.life pair → IsPairOf o.given.table pair → map.get o.given.entries pair ≡ Some Live
+    shown : (pair : Pair) → IsCovered o.given.life (highest_of o.given.life) pair → IsPairOf o.given.table pair
+        → map.get o.given.entries pair ≡ Some Live
     shown pair built is =
         let of_row : Pair = record { key = is.row.key; rid = pair.rid } in
         let same : of_row ≡ pair = ap (λ (key : List ℕ). let p : Pair = record { key = key; rid = pair.rid } in p) is.has_key in
         subst (λ (p : Pair). map.get o.given.entries p ≡ Some Live) same
         (opens.complete pair.rid is.row is.is_there
-        (subst (IsCovered o.given.life (highest_of o.given.life)) (sym same) (covered o.given.life pair built)))
+        (subst (IsCovered o.given.life (highest_of o.given.life)) (sym same) built))
 
 pub index_of : (g : GeometryValue) (given : Given) → CanOpen (over g given) → IsIndexOf given.table given.life given.entries
 index_of g given opens = index_over (over g given) opens

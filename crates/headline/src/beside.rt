@@ -49,7 +49,7 @@ pub struct NotLivedBeside<C, D: Mortal> {
     pub device: D,
 }
 
-// Stops the device: at one of its moments since the opening began, or since the clients had ended; or where it is.
+// Stops the device: at one of its moments since the opening began, or since the later mark; or where it is.
 fn stop_device<D: Mortal>(device: &mut D, opening: u64, closing: u64, end: End)
     ensures stopped { (first mid : ℕ) → D.marks opening first → D.marks closing mid → first ≤ mid
         → mid ≤ (D.past_of device.old).moment
@@ -204,8 +204,8 @@ fn refused_before<C, D: Mortal>(refusal: NotLived<Error, D, Global>) -> NotLived
 /// Formats the device, and lives through the days as `live_through` does. Behind them comes a day of clients. The store
 /// is opened, and they work, each with a seat of its own; meanwhile others build the index, clean it and write to the
 /// device (`serve_and_see`). The store stops then, as the day's `end` says: behind all that was done; or at any moment
-/// since the clients had ended, or since the opening began, at any write or sync of the device or between them. In the
-/// end it is opened once more and, where that is wanted, the build of its index is carried to its end.
+/// since clients and loops had ended, or since the opening began, at any write or sync of the device or between them.
+/// In the end it is opened once more and, where that is wanted, the build of its index is carried to its end.
 ///
 /// What it then holds is told by the days and the seats alone (`holds`). The rows are those that the days had left.
 /// Over them are set the commits of all seats up to the last record that was kept, in the order of their numbers. Of a
@@ -213,7 +213,7 @@ fn refused_before<C, D: Mortal>(refusal: NotLived<Error, D, Global>) -> NotLived
 /// of a row; as far as the index was built, the pair of each row is visible; and once its build was carried to its end,
 /// every row's.
 ///
-/// Where the clients had ended before the stop, the last record is not below any horizon that a seat has read: so
+/// Where clients and loops had ended before the stop, the last record is not below any horizon that a seat has read: so
 /// nothing is lost that was acknowledged. On a day that ends `Opening`, no clause says how many records were kept. (The
 /// flusher's part keeps that it publishes a horizon behind the sync of its records: `IsFlusher`.)
 ///

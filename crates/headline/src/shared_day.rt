@@ -7,7 +7,7 @@ use records::Error;
 pub enum End {
     /// Behind all that was done.
     Behind,
-    /// At any moment since the clients had ended, while the rest is written out.
+    /// At any moment since the clients and the loops beside them had ended, while the rest is written out.
     Closing,
     /// At any moment since the opening began.
     Opening,

@@ -15,7 +15,7 @@ use Rattle.core_parts.specs.declared.reply.BuildReply.TheVariants as reply
 use Rattle.core_parts.specs.View.{CoreValue}
 use Rattle.sector_device.specs.Disk.{Disk, CrashState, IsCrashState}
 use Rattle.sector_device.specs.DevicePast.{DevicePast, LeavesOnly, Rises}
-use Rattle.threads_sessions.specs.Values.{CommitValue, SessionValue, empty_session}
+use Rattle.threads_sessions.specs.Values.{CommitValue, SessionValue}
 use Rattle.shared.specs.Seats.{SeatValue}
 use Rattle.shared.specs.Served.{WasServed}
 use Rattle.threads_flusher.specs.Part.{IsKeptSince, IsNewest, Publication}
@@ -65,7 +65,7 @@ TellsBuild o told = IfOk told (λ ticket. ∥ WasServed o Event.Build (builds.bu
 pub record HasWorked {C : Type 0} (works : C → C → SeatValue → SeatValue → Type 0) (floor : ℕ) (client after : C)
     (session : SessionValue) : Type 0 where
   pub first : SeatValue
-  pub new : first.session ≡ empty_session
+  pub new : first.session ≡ record { commits = []; turns = []; active = [] }
   pub last : SeatValue
   pub has : last.session ≡ session
   pub known : last.sight.horizon ≤ floor
@@ -101,7 +101,7 @@ pub record IsLaterPast (old new : DevicePast) : Type 0 where
   pub later : old.moment ≤ new.moment
   pub kept : (t : ℕ) → t ≤ old.moment → new.disk_at t ≡ old.disk_at t
 
--- As the clients had ended, behind the opening, the device was shown. A crash at any moment since leaves what was
+-- Behind the opening, as clients and loops had ended, the device was shown. A crash at any moment since leaves what was
 -- opened with the seats' commits set over it, up to some record that isn't before the floor.
 pub record HadEnded {D : Type 0} (past_of : D → DevicePast) (shown : D → Type 0) (o : Opened) (geometry : GeometryValue)
     (seats : List SeatValue) (popped : List RecordValue) (floor : ℕ) (opened device : D) : Type 0 where

@@ -99,9 +99,9 @@ pub fn serve<C: Client + Send + Drop, D: Device + Send + Drop, R: Threads + Wait
     }
 }
 
-/// As `serve`. Once all clients have ended, before the rest is written out, `see` is called with the device, and what
-/// it answers comes back. A crash at any moment since then leaves all up to each horizon that a seat has read
-/// (`leaves`).
+/// As `serve`. Once all clients and the loops beside them have ended, before the rest is written out, `see` is called
+/// with the device, and what it answers comes back. That it is called so early no clause says. A crash at any moment
+/// since then leaves all up to each horizon that a seat has read (`leaves`).
 pub fn serve_and_see<
     C: Client + Send + Drop,
     D: Device + Send + Drop,

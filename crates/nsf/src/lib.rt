@@ -134,8 +134,8 @@
 //!
 //! Of many: all clients of `serve` have worked, each with a new seat of its own. Then a crash leaves what was opened
 //! with the commits of these seats set over it, up to some record. That isn't before any horizon that one of the seats
-//! has read; and where nothing was refused, it has all (`leaves`). So it is at any moment since the clients had ended,
-//! while the rest is written out (`leaves` of `serve_and_see`). What was left may be opened again (the law
+//! has read; and where nothing was refused, it has all (`leaves`). So it is at any moment since clients and loops had
+//! ended, while the rest is written out (`leaves` of `serve_and_see`). What was left may be opened again (the law
 //! `left_by_threads`). Why not all was written is told (`why`), and how the builder ended. Above it stands
 //! `live_beside` of `headline`. Only tested (`test_nsf`): both examples.
 #![tactic(auto)]
