@@ -7,7 +7,6 @@ use Rattle.atomic_table.specs.Seated.{TableId}
 use Rattle.threads_register.proofs.Laws.{get_set, get_set_other, set_length, some_is}
 use Rattle.threads_sessions.specs.Values.{SessionValue}
 use Rattle.threads_sessions.specs.Halves.{HalfValue, IsBook, shown}
-use Rattle.locked_core.specs.Seats.{SeatValue}
 
 get_read : {A : Type 0} (l : List A) (n : ℕ) (a : A) → n < length l → a ≡ slice_index_or l n a → slice_get l n ≡ Some a
 get_read [] n a lt e = absurd (omega arith)
@@ -38,10 +37,6 @@ module _ (z : TableId) (seats : ℕ) (items : List HalfValue) (n : ℕ) (p : Ses
   pub there : slice_get (map shown items) n ≡ Some p
   there = get_map items n old read ∙ (ap Some agree ∙ ap (λ (h : HalfValue). Some h.session) own)
 
-  -- as its contract tells
-  pub seen_there : (seat : SeatValue) → record { number = n; session = p } ≡ seat → slice_get (map shown items) seat.number ≡ Some seat.session
-  seen_there seat view = ap (λ (s : SeatValue). slice_get (map shown items) s.number) (sym view) ∙ (there ∙ ap (λ (s : SeatValue). Some s.session) view)
-
   module _ (book : IsBook z items) where
     pub half_at : (old.table ≡ z) × (old.number ≡ n)
     half_at = book n old read
@@ -62,10 +57,6 @@ module _ (z : TableId) (seats : ℕ) (items : List HalfValue) (n : ℕ) (p : Ses
       pub shown_set : map shown (slice_set items n new) ≡ slice_set (map shown items) n q
       shown_set = map-set shown items n new ∙ ap (slice_set (map shown items) n) (ap shown is)
 
-      pub seen_set : (seat : SeatValue) → record { number = n; session = p } ≡ seat
-          → map shown (slice_set items n new) ≡ slice_set (map shown items) seat.number q
-      seen_set seat view = shown_set ∙ ap (λ (s : SeatValue). slice_set (map shown items) s.number q) view
-
   -- it shows what it showed
   pub same_set : (new : HalfValue) → new ≡ old → map shown (slice_set items n new) ≡ map shown items
   same_set new is = ap (λ (h : HalfValue). map shown (slice_set items n h)) is ∙ ap (map shown) (set_itself items n old read)
@@ -73,3 +64,30 @@ module _ (z : TableId) (seats : ℕ) (items : List HalfValue) (n : ℕ) (p : Ses
 -- what a half shows that was looked at before it was changed
 pub changed_after : (old looked new : HalfValue) (q : SessionValue) → looked ≡ old → new ≡ record looked { session = q } → new ≡ record old { session = q }
 changed_after old looked new q same is = is ∙ ap (λ (h : HalfValue). record h { session = q }) same
+
+-- ---- two halves may come together: they are of this registry, and stand at one number
+
+abbrev pub CanMeet : TableId → HalfValue → HalfValue → Type 0
+CanMeet r mine theirs = (mine.table ≡ r) × (theirs.table ≡ r) × (theirs.number ≡ mine.number)
+
+pub meets : (z r : TableId) (seats : ℕ) (items : List HalfValue) (n : ℕ) (p : SessionValue) (old half : HalfValue) → length items ≡ seats → n < seats
+    → old ≡ slice_index_or items n old → half ≡ record { table = z; number = n; session = p } → IsBook z items → r ≡ z → CanMeet r half old
+meets z r seats items n p old half count within at own book is =
+    let its : (old.table ≡ z) × (old.number ≡ n) = book n old (get_read items n old (omega (arith, count, within)) at) in (
+      ap (λ (h : HalfValue). h.table) own ∙ sym is,
+      its.0 ∙ sym is,
+      its.1 ∙ sym (ap (λ (h : HalfValue). h.number) own),
+    )
+
+-- also after they were looked at
+pub meets_again : (r : TableId) (half old mine theirs : HalfValue) → mine ≡ half → theirs ≡ old → CanMeet r half old → CanMeet r mine theirs
+meets_again r half old mine theirs same unchanged can = (
+  ap (λ (h : HalfValue). h.table) same ∙ can.0,
+  ap (λ (h : HalfValue). h.table) unchanged ∙ can.1,
+  ap (λ (h : HalfValue). h.number) unchanged ∙ (can.2 ∙ sym (ap (λ (h : HalfValue). h.number) same)),
+)
+
+-- the seat's own half, after it shows another session
+pub half_after : (z : TableId) (n : ℕ) (p q : SessionValue) (half looked new : HalfValue) → half ≡ record { table = z; number = n; session = p }
+    → looked ≡ half → new ≡ record looked { session = q } → new ≡ record { table = z; number = n; session = q }
+half_after z n p q half looked new own same is = is ∙ ap (λ (h : HalfValue). record h { session = q }) (same ∙ own)

@@ -90,7 +90,7 @@ pub fn look<D: Device + Drop>(alloc: Global, device: D) -> Result<Found, Error> 
     match restart(alloc, device) {
         Ok(mut engine) => {
             let found = look_into(&mut engine);
-            drop(engine);
+            drop(engine.into_device());
             found
         }
         Err((error, device)) => {

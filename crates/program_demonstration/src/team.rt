@@ -435,6 +435,7 @@ fn run_all<
 >(
     team: Team<'_, R, G, L, E>,
     shared: &Shared<B>,
+    builder: &BuilderEnd<B>,
     writers: Vec<Writer<B>>,
     last: &mut Seat<B, Global, Kept>,
     loops: LoopParts<B, D>,
@@ -460,22 +461,14 @@ fn run_all<
         clean,
     } = loops;
     let view = shared.another_view(last);
-    let told = BuilderEnd::new();
-    let builder = &told;
-    let ran = run_beside(
-        rt,
-        shared,
-        flush,
-        build,
-        clean,
-        builder,
-        gate,
-        move || write_and_watch(
-            rt, shared, writers, changes, listener, view, builder, progress,
-        ),
+    let write = move || write_and_watch(
+        rt, shared, writers, changes, listener, view, builder, progress,
     );
-    match ran {
-        Ok((ended, _)) => Ok(ended),
+    match run_beside(rt, shared, flush, build, clean, builder, gate, write) {
+        Ok((ended, reason)) => {
+            drop(reason);
+            Ok(ended)
+        }
         Err(not_run) => Err(parts_back(not_run)),
     }
 }
@@ -540,7 +533,10 @@ fn work_staffed<
     let rt = team.rt;
     let alloc = team.alloc;
     let Staff { writers, mut last } = staff;
-    match run_all(team, &shared, writers, &mut last, loops) {
+    let told = BuilderEnd::new();
+    let ran = run_all(team, &shared, &told, writers, &mut last, loops);
+    drop(told);
+    match ran {
         Ok(ended) => end(rt, alloc, shared, ended, last),
         Err(loops) => {
             drop(shared);

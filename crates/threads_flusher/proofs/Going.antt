@@ -1,24 +1,18 @@
 -- How the flusher's part goes on from call to call.
-use Rattle.std.proofs.Common.{◌≡◌, ℕ, ◌+◌, ◌<◌, ◌≤◌, Bool, true, false, List, [], ◌∷◌, ◌++◌, length, take, Result, Ok, Err}
+use Rattle.std.proofs.Common.{◌≡◌, ℕ, ◌<◌, ◌≤◌, Bool, true, false, List, [], ◌∷◌, ◌++◌, Result, Ok, Err}
 use Rattle.std.proofs.Common.{IfErr, IfOk, OnErr, OnOk, inl, inr, refl}
-use Rattle.std.proofs.Common.{sym, ap, ◌∙◌, subst, arith, append-nil, append_assoc, length-append}
+use Rattle.std.proofs.Common.{sym, ap, ◌∙◌, subst, arith, append-nil, append_assoc}
 use Rattle.std.proofs.lemmas.Bool.{false≢true}
-use Rattle.std.proofs.lemmas.List.{take-append-le}
-use Rattle.record_values.specs.GeometryValue.{GeometryValue}
 use Rattle.records.specs.RecordValue.{RecordValue}
 use Rattle.record_values.specs.declared.error.Error.{Error}
-use Rattle.model.specs.Cells.{cells_after}
-use Rattle.model.specs.Given.{given_after, opening_cells}
-use Rattle.core_model.specs.Histories.{CanOpen, Opened}
+use Rattle.core_model.specs.Histories.{Opened}
 use Rattle.sector_device.specs.Disk.{CrashState}
 use Rattle.sector_device.specs.DevicePast.{DevicePast, LeavesOnly, Rises}
 use Rattle.sector_device.proofs.Counts.{rises_later}
 use Rattle.sector_device.proofs.Moments.{joined, started, weaker}
 use Rattle.board.specs.Views.{FlusherCount}
 use Rattle.flip_image.specs.Layout.{HalvesValue}
-use Rattle.store_reader.specs.Contents.{Gives}
 use Rattle.store_image_model.specs.declared.chunk.Piece.{Piece}
-use Rattle.store_writer.specs.Contents.{StoreHas}
 use Rattle.store_writer.specs.Parts.{device_of, halves_of, has_failed, synced_of}
 use Rattle.store_writer.specs.Writer.{HasFailed, IsAsBefore, IsFlipReply, IsNotFlushed, IsStepReply}
 use Rattle.store_writer.specs.declared.writer.FlipReply.{FlipReply}

@@ -1,10 +1,12 @@
 -- What each call leaves of the flusher's part.
-use Rattle.std.proofs.Common.{◌≡◌, ℕ, ◌+◌, ◌-◌, ◌≤◌, Bool, false, true≢false, List, [], ◌∷◌, ◌++◌, length, map, take}
-use Rattle.std.proofs.Common.{Result, Ok, Err, refl, sym, ap, subst, ◌∙◌, arith}
-use Rattle.std.proofs.Common.{append-nil, length-append, IfOk, IfErr, OnOk, OnErr, inl, inr}
+use Rattle.std.proofs.Common.{◌≡◌, ◌≢◌, ◌↔◌, ◌==◌, not, IsTrue, true, ℕ, ◌<◌, ◌+◌, ◌-◌, ◌≤◌, Bool, false, true≢false, List, [], ◌∷◌, ◌++◌, length, map, take}
+use Rattle.std.proofs.Common.{◌⊎◌, eqb, Option, None, Some, Result, Ok, Err, refl, sym, ap, subst, ◌∙◌, arith}
+use Rattle.std.proofs.Common.{append-nil, append_assoc, length-append, IfOk, IfErr, OnOk, OnErr, inl, inr}
 use Rattle.std.proofs.Math.Seq.{take-append_seam, take-length, take-nil}
+use Rattle.std.proofs.lemmas.Bool.Decides.{eqb_tells, nat_tests}
 use Rattle.std.proofs.lemmas.List.{length-take-le, map-append}
 use Rattle.std.specs.FinMap.{len}
+use Rattle.std.specs.Option.{SomeIff, option_eq}
 use Rattle.records.specs.RecordValue.{RecordValue}
 use Rattle.record_values.specs.GeometryValue.{GeometryValue}
 use Rattle.record_values.specs.declared.error.Error.{Error}
@@ -30,7 +32,7 @@ use Rattle.store_writer.specs.declared.writer.FlipReply.TheVariants.{Flipped, Be
 use Rattle.store_writer.specs.Parts.{device_of, halves_of, synced_of, has_failed}
 use Rattle.store_reader.specs.Contents.{Gives}
 use Rattle.store_writer.specs.Contents.{LeftBy, StoreHas}
-use Rattle.store_writer.specs.Writer.{AreNext, CanFlip, HasFailed, IsChunk, IsFlipReply, IsFlushReply, IsNotFlushed, IsWriter, longer, opened_run}
+use Rattle.store_writer.specs.Writer.{AreNext, HasFailed, IsChunk, IsFlipReply, IsFlushReply, IsNotFlushed, IsWriter, longer, opened_run}
 use Rattle.locked_core.specs.Following.{FitPlaces, FollowOpening}
 use Rattle.threads_flusher.specs.Part.{FlushValue, GivesBeginning, IsFlusher, IsNewest, FlushLeaves, MayOpenAgain, Publication, flush_value, last_handed}
 use Rattle.threads_flusher.specs.Part.{popped_by, publication_of, run_of}
@@ -45,6 +47,66 @@ front_is handed held = ap (λ k. take k (handed ++ held)) (omega (arith, length-
 -- all of them, where none is held
 pub all_handed : (popped : List RecordValue) → take (length popped - 0) popped ≡ popped
 all_handed popped = ap (λ k. take k popped) (omega arith) ∙ take-length popped
+
+-- the same, of lists that are these
+pub all_in : (popped p h : List RecordValue) → p ≡ popped → h ≡ [] → take (length p - length h) p ≡ popped
+all_in popped p h all none = ap (λ (l : List RecordValue). take (length l - length h) l) all
+    ∙ ap (λ (l : List RecordValue). take (length popped - length l) popped) none ∙ all_handed popped
+
+-- or as many as before
+pub same_front : (popped held p h : List RecordValue) → p ≡ popped → h ≡ held → take (length p - length h) p ≡ take (length popped - length held) popped
+same_front popped held p h all back = λ i. take (length (all i) - length (back i)) (all i)
+
+-- one more was popped
+pub popped_more : (handed held more popped now : List RecordValue) (item : RecordValue) → popped ≡ handed ++ (held ++ more) → now ≡ popped ++ item ∷ []
+    → now ≡ handed ++ (held ++ (more ++ item ∷ []))
+popped_more handed held more popped now item is pushed = pushed ∙ ap (λ (l : List RecordValue). l ++ item ∷ []) is
+    ∙ append_assoc handed (held ++ more) (item ∷ []) ∙ ap (λ (l : List RecordValue). handed ++ l) (append_assoc held more (item ∷ []))
+
+-- and is held
+pub held_more : (held more before now : List RecordValue) (item : RecordValue) → before ≡ held ++ more → now ≡ before ++ item ∷ []
+    → now ≡ held ++ (more ++ item ∷ [])
+held_more held more before now item is pushed =
+    pushed ∙ ap (λ (l : List RecordValue). l ++ item ∷ []) is ∙ append_assoc held more (item ∷ [])
+
+-- a test for none tells whether some are held
+none_of : (held : List RecordValue) → length held ≡ 0 → held ≡ []
+none_of [] size = refl
+none_of (r ∷ held) size = absurd (omega (arith, size))
+
+zero_then : (n : ℕ) (none : Bool) → none ≡ (n == 0) → none ≡ true → n ≡ 0
+zero_then n none is set = grind (arith, nat_tests)
+
+above_then : (n : ℕ) (none : Bool) → none ≡ (n == 0) → none ≡ false → 0 < n
+above_then n none is set = grind (arith, nat_tests)
+
+pub some_held : (held : List RecordValue) (n : ℕ) (none : Bool) → n ≡ length held → none ≡ (n == 0) → IsTrue (not none) ↔ (held ≢ [])
+some_held held n true size is = (
+  λ same. absurd (true≢false (sym same)),
+  λ some. absurd (some (none_of held (sym size ∙ zero_then n true is refl))),
+)
+some_held held n false size is = (λ _ empty. absurd (omega (arith, size, ap length empty, above_then n false is refl)), λ _. refl)
+
+-- what tells whether the last record that was popped has a number
+has_some : (from own last n left : ℕ) (handed held : List RecordValue) (same : Bool) → own ≡ from + length handed → n ≡ length held
+    → (own ≤ last) × (left ≡ last - own) → same ≡ eqb left n → ((eqb left n ≡ true) × (left ≡ n)) ⊎ ((eqb left n ≡ false) × (left ≢ n))
+    → IsTrue same ↔ (from + length (handed ++ held) ≡ last)
+has_some from own last n left handed held same at size below is (inl equal) = (
+  λ _. omega (arith, at, size, below.0, below.1, equal.1, length-append handed held),
+  λ _. is ∙ equal.0,
+)
+has_some from own last n left handed held same at size below is (inr other) = (
+  λ set. absurd (true≢false (sym set ∙ is ∙ other.0)),
+  λ all. absurd (other.1 (omega (arith, at, size, below.0, below.1, all, length-append handed held))),
+)
+
+pub has_all : (from own last n : ℕ) (handed held : List RecordValue) (left : Option ℕ) (same : Bool) → own ≡ from + length handed → n ≡ length held
+    → SomeIff left (own ≤ last) (last - own) → same ≡ option_eq eqb left (Some n) → IsTrue same ↔ (from + length (handed ++ held) ≡ last)
+has_all from own last n handed held None same at size below is = (
+  λ set. absurd (true≢false (sym set ∙ is)),
+  λ all. absurd (below (omega (arith, at, size, all, length-append handed held))),
+)
+has_all from own last n handed held (Some left) same at size below is = has_some from own last n left handed held same at size below is (eqb_tells left n)
 
 -- what is noted of a writer is noted as a publication
 pub noted_as : {D A : Type 0} (past_of : D → DevicePast) (before now : List (Writer D A)) (w : Writer D A) → now ≡ before ++ w ∷ []
@@ -291,6 +353,18 @@ module _ {D : Type 0} (past_of : D → DevicePast) (o : Opened) where
         newest = stands.newest;
       })
 
+  -- the fields hold what the type keeps
+  pub kept_by_popping : {A : Type 0} (old : FlushValue D A) (more popped held : List RecordValue) (w : Writer D A) (v : FlusherCount) (ps : List Publication)
+      (last : ℕ) → popped ≡ old.handed ++ (old.held ++ more) → held ≡ old.held ++ more → w ≡ old.writer → v ≡ old.published → ps ≡ old.publications
+      → IsFlusher past_of o old → last ≡ last_handed o old
+      → (popped ≡ popped_by (flush_value popped held w v ps)) × IsFlusher past_of o (flush_value popped held w v ps)
+      × (last ≡ last_handed o (flush_value popped held w v ps))
+  kept_by_popping old more popped held w v ps last all is same told noted stands at = (
+    all_popped old more popped held w v ps all is same told noted,
+    still_flusher old more popped held w v ps all is same told noted stands,
+    at ∙ sym (ap (last_handed o) (value_is old more popped held w v ps all is same told noted)),
+  )
+
 -- ---- answers
 
 module _ {D A : Type 0} (failures : D → ℕ) (old new : Writer D A) where
@@ -395,8 +469,7 @@ module _ {D : Type 0} (past_of : D → DevicePast) (o : Opened) where
     pub last_then : (more : ℕ) (p h : List RecordValue) (new : Writer D A) (now : FlusherCount) → more ≡ length records → p ≡ popped → h ≡ []
         → last + more ≡ last_handed o (flush_value p h new now ps)
     last_then more p h new now size all none =
-        let front : take (length p - length h) p ≡ popped = ap (λ (l : List RecordValue). take (length l - length h) l) all
-        ∙ ap (λ (l : List RecordValue). take (length popped - length l) popped) none ∙ all_handed popped in
+        let front : take (length p - length h) p ≡ popped = all_in popped p h all none in
         omega (arith, is, size, ap length same, ap length front, ap length kept.0, length-append (take (length popped - length held) popped) held)
 
   -- ---- as a look at the stop flag leaves them
@@ -442,34 +515,14 @@ module _ {D : Type 0} (past_of : D → DevicePast) (o : Opened) where
     pub may_tell : (has_failed new ≡ false → has_failed w ≡ false) → has_failed new ≡ false → v.failed ≡ false
     may_tell sound now = kept.1.failed ∙ sound now
 
-  -- ---- what a call tells, of the part that the contract names
+  -- ---- what a call tells
 
-  module _ {A : Type 0} (old f : FlushValue D A) (is : f ≡ old) (new : Writer D A) where
-    pub images_of : IsFlusher past_of o f → ((run : Run) (n : ℕ) → IsWriter past_of run n f.writer
-        → LeavesOnly (past_of (device_of f.writer)) (past_of (device_of new)) (LeftBy run (synced_of f.writer) n))
-        → LeavesOnly (past_of (device_of old.writer)) (past_of (device_of new)) (FlushLeaves o old)
-    images_of stands images =
-        subst (λ (x : FlushValue D A). LeavesOnly (past_of (device_of x.writer)) (past_of (device_of new)) (FlushLeaves o x)) is
-        (weaker (past_of (device_of f.writer)) (past_of (device_of new)) (LeftBy (run_of o f) (synced_of f.writer) (last_handed o f)) (FlushLeaves o f)
-        (is_left past_of o f stands) (images (run_of o f) (last_handed o f) stands.writer))
-
-    pub nothing_of : (result : Result FlushReply Error) → IsFlusher past_of o f
-        → (result ≡ Ok Nothing → (run : Run) (n : ℕ) → IsWriter past_of run n f.writer → synced_of f.writer ≡ n) → result ≡ Ok Nothing
-        → synced_of old.writer ≡ last_handed o old
-    nothing_of result stands nothing same = subst (λ (x : FlushValue D A). synced_of x.writer ≡ last_handed o x) is
-        (nothing same (run_of o f) (last_handed o f) stands.writer)
-
-    pub flipped_of : (result : Result FlipReply Error) → IsFlusher past_of o f
-        → ((run : Run) (n : ℕ) → IsWriter past_of run n f.writer → IfOk result (λ reply. IsFlipReply n reply f.writer new))
-        → IfOk result (λ reply. IsFlipReply (last_handed o old) reply old.writer new)
-    flipped_of result stands flipped = subst (λ (x : FlushValue D A). IfOk result (λ reply. IsFlipReply (last_handed o x) reply x.writer new)) is
-        (flipped (run_of o f) (last_handed o f) stands.writer)
-
-    pub behind_of : (result : Result FlipReply Error) → IsFlusher past_of o f
-        → ((run : Run) (n : ℕ) → IsWriter past_of run n f.writer → has_failed f.writer ≡ false → ¬ CanFlip n f.writer → result ≡ Ok Behind)
-        → has_failed old.writer ≡ false → ¬ CanFlip (last_handed o old) old.writer → result ≡ Ok Behind
-    behind_of result stands behind = subst (λ (x : FlushValue D A). has_failed x.writer ≡ false → ¬ CanFlip (last_handed o x) x.writer
-        → result ≡ Ok Behind) is (behind (run_of o f) (last_handed o f) stands.writer)
+  pub images_of : {A : Type 0} (f : FlushValue D A) (new : Writer D A) → IsFlusher past_of o f → ((run : Run) (n : ℕ) → IsWriter past_of run n f.writer
+      → LeavesOnly (past_of (device_of f.writer)) (past_of (device_of new)) (LeftBy run (synced_of f.writer) n))
+      → LeavesOnly (past_of (device_of f.writer)) (past_of (device_of new)) (FlushLeaves o f)
+  images_of f new stands images =
+      weaker (past_of (device_of f.writer)) (past_of (device_of new)) (LeftBy (run_of o f) (synced_of f.writer) (last_handed o f)) (FlushLeaves o f)
+      (is_left past_of o f stands) (images (run_of o f) (last_handed o f) stands.writer)
 
   pub chunk_of : {A : Type 0} (old f : FlushValue D A) → f ≡ old → (number : ℕ) {E : Type 0} (piece : Piece E) → IsChunk (run_of o old) old.writer number piece
       → IsChunk (run_of o f) f.writer number piece

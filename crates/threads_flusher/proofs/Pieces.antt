@@ -50,6 +50,10 @@ pub all_pushed : (from : ℕ) (handed popped pushed now : List RecordValue) → 
     → from + length popped ≡ from + length pushed → now ≡ pushed → handed ≡ now
 all_pushed from handed popped pushed now all is many same = all ∙ is ∙ take_all (length popped) pushed (omega (arith, many)) ∙ sym same
 
+-- what is the whole list begins it
+pub begins_with : (handed pushed : List RecordValue) → handed ≡ pushed → handed ≡ take (length handed) pushed
+begins_with handed pushed is = subst (λ (l : List RecordValue). handed ≡ take (length handed) l) is (sym (take_all (length handed) handed (omega arith)))
+
 -- ---- pieces
 
 -- where an image is under way, the copying has come to the place

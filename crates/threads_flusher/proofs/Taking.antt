@@ -43,6 +43,15 @@ module _ {D A : Type 0} where
         publications = refl;
       })
 
+  -- none was popped, or some were and then more
+  pub popped_none : (f : FlushValue D A) → f ≡ record f { held = f.held ++ [] }
+  popped_none f = ap (λ (l : List RecordValue). record f { held = l }) (sym (append-nil f.held))
+
+  pub popped_then : (old mid new : FlushValue D A) (first second : List RecordValue) → mid ≡ record old { held = old.held ++ first }
+      → new ≡ record mid { held = mid.held ++ second } → new ≡ record old { held = old.held ++ (first ++ second) }
+  popped_then old mid new first second one two = two ∙ ap (λ (f : FlushValue D A). record f { held = f.held ++ second }) one
+      ∙ ap (λ (l : List RecordValue). record old { held = l }) (append_assoc old.held first second)
+
   module _ (old mid : FlushValue D A) (popped : List RecordValue) (is : mid ≡ record old { held = old.held ++ popped }) where
     all_are : popped_by mid ≡ popped_by old ++ popped
     all_are = ap popped_by is ∙ sym (append_assoc old.handed old.held popped)
@@ -60,10 +69,17 @@ module _ {D A : Type 0} where
       publications = ap (λ (f : FlushValue D A). f.publications) is;
     }
 
+    -- and all else is as it was
+    pub same_published : (told : FlusherCount) → told ≡ mid.published → told ≡ old.published
+    same_published told now = now ∙ ap (λ (f : FlushValue D A). f.published) is
+
+    pub same_handed : (handed : List RecordValue) → handed ≡ mid.handed → handed ≡ old.handed
+    same_handed handed now = now ∙ ap (λ (f : FlushValue D A). f.handed) is
+
     module _ (new : FlushValue D A) (told : new.published ≡ mid.published) (noted : new.publications ≡ mid.publications)
         (still : copying_of new.writer ≡ copying_of mid.writer) where
       published_is : new.published ≡ old.published
-      published_is = told ∙ ap (λ (f : FlushValue D A). f.published) is
+      published_is = same_published new.published told
 
       noted_is : new.publications ≡ old.publications
       noted_is = noted ∙ ap (λ (f : FlushValue D A). f.publications) is

@@ -141,6 +141,12 @@ list_at [] k v l e at = absurd cc
 list_at (x ∷ xs) zero v l e at = sym (some_is (reverse x.items) l at) ∙ ap (λ (y : Vec CommitValue _). reverse y.items) (sym e)
 list_at (x ∷ xs) (suc k) v l e at = list_at xs k v l e at
 
+pub list_there : {A : Type 0} (lists : List (Vec CommitValue A)) (k : ℕ) (v : Vec CommitValue A) → k < length lists → v ≡ slice_index_or lists k v
+    → slice_get (lists_of lists) k ≡ Some (reverse v.items)
+list_there [] k v lt e = absurd (omega (arith, lt))
+list_there (x ∷ xs) zero v lt e = ap (λ (y : Vec CommitValue _). Some (reverse y.items)) (sym e)
+list_there (x ∷ xs) (suc k) v lt e = list_there xs k v (omega (arith, lt)) e
+
 pub list_within : {A : Type 0} (lists : List (Vec CommitValue A)) (k : ℕ) (l : List CommitValue) → slice_get (lists_of lists) k ≡ Some l → k < length lists
 list_within [] k l at = absurd cc
 list_within (x ∷ xs) zero l at = omega arith

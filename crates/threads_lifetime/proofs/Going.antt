@@ -1,9 +1,10 @@
 -- How the flusher's part goes on from call to call.
-use Rattle.std.proofs.Common.{◌≡◌, ℕ, ◌≤◌, true, false, List, [], ◌++◌, Result, Ok, Err, IfErr, OnOk, OnErr, inl, inr, refl, sym, ap, ◌∙◌, subst, arith}
+use Rattle.std.proofs.Common.{◌≡◌, ◌⊎◌, ℕ, ◌≤◌, true, false, List, [], ◌++◌, Result, Ok, Err, IfErr, OnOk, OnErr, inl, inr, refl, sym, ap, ◌∙◌, subst, arith}
 use Rattle.std.proofs.Common.{append-nil, append_assoc}
 use Rattle.std.proofs.lemmas.Bool.{false≢true}
 use Rattle.records.specs.RecordValue.{RecordValue}
 use Rattle.record_values.specs.declared.error.Error.{Error}
+use Rattle.record_values.specs.declared.error.Error.TheVariants.{DeviceFailed, NoMemory}
 use Rattle.core_model.specs.Histories.{Opened}
 use Rattle.sector_device.specs.Disk.{CrashState}
 use Rattle.sector_device.specs.DevicePast.{DevicePast, LeavesOnly, Rises}
@@ -121,6 +122,12 @@ module _ {D A : Type 0} (failures : D → ℕ) (old new : Writer D A) where
       → IfErr result (λ e. HasFailed failures e old new) → has_failed new ≡ false → failures (device_of new) ≡ failures (device_of old)
   quiet_call (Ok x) quiet err sound = quiet
   quiet_call (Err e) quiet device sound = absurd (false≢true (sym sound ∙ device.1))
+
+-- why a call was refused
+pub why_not_flushed : {D A : Type 0} (failures : D → ℕ) (old new : Writer D A) (e : Error) → IsNotFlushed failures e old new
+    → (e ≡ NoMemory) ⊎ ((e ≡ DeviceFailed) × (has_failed new ≡ true))
+why_not_flushed failures old new e (inl none) = inl none.0
+why_not_flushed failures old new e (inr device) = inr (device.0, device.1)
 
 -- ---- records that are taken
 

@@ -1,15 +1,17 @@
 -- When an image is copied, after each call of the flusher's part.
-use Rattle.std.proofs.Common.{◌≡◌, ◌≢◌, ℕ, ◌+◌, ap, arith, false, true, Option, None, Result, Ok, Err, IfOk, IfErr, OnOk, inl, inr, sym, subst, ◌∙◌}
+use Rattle.std.proofs.Common.{◌≡◌, ◌≢◌, ℕ, ◌+◌, ap, arith, false, true, Option, None, Some, Result, Ok, Err, IfOk, IfErr, OnOk, inl, inr, sym, subst, ◌∙◌}
 use Rattle.std.proofs.lemmas.Bool.{false≢true}
 use Rattle.record_values.specs.declared.error.Error.{Error}
 use Rattle.flip_image.specs.Layout.{HalvesValue, other}
 use Rattle.store_image_model.specs.declared.chunk.CopyPlace.{CopyPlace}
+use Rattle.store_image_model.specs.declared.chunk.CopyPlace.TheVariants as at
 use Rattle.store_image_model.specs.Places.{place_behind}
 use Rattle.store_image_model.specs.declared.chunk.Piece.{Piece}
 use Rattle.store_image_model.specs.declared.chunk.Piece.TheVariants.{Whole, Start, Page, Entries}
 use Rattle.model.specs.Cells.{Cells}
 use Rattle.core_parts.specs.View.{CoreValue}
 use Rattle.locked_core.specs.Made.{IsAllOf}
+use Rattle.store_writer.specs.Copying.{next_place}
 use Rattle.store_writer.specs.Parts.{copying_of, halves_of, has_failed, log_of}
 use Rattle.store_writer.specs.Writer.{HasFailed, IsFlipReply, IsFlushReply, IsNotFlushed, IsStepReply, MustStartAgain}
 use Rattle.store_writer.specs.declared.copying.Copying.{Copying}
@@ -22,7 +24,7 @@ use Rattle.store_writer.specs.declared.writer.StepReply.{StepReply}
 use Rattle.store_writer.specs.declared.writer.StepReply.TheVariants.{StartAgain, Taken}
 use Rattle.store_writer.specs.declared.writer.Writer.{Writer}
 use Rattle.threads_flusher.specs.Going.{LeavesImage, TakesIn}
-use Rattle.threads_flusher.specs.Images.{IsHalfFull}
+use Rattle.threads_flusher.specs.Images.{IsHalfFull, IsPieceDue}
 use Rattle.threads_flusher.specs.Part.{FlushValue}
 use Rattle.threads_loops.specs.Copying.{HasImage, IsAll, IsCopied, IsDue, IsWanted, StandsBy}
 
@@ -36,11 +38,17 @@ module _ {D A : Type 0} (old new : Writer D A) (halves : halves_of new ≡ halve
   half_more : log_of new ≡ record (log_of old) { open_slots = (log_of old).open_slots + 1 } → IsHalfFull new
   half_more more = omega (arith, half, ap (λ l. l.open_slots) more, ap (λ (h : HalvesValue). h.geometry.slots) halves)
 
-steps_on : (place : Option CopyPlace) → Steps place ≢ Idle
+pub steps_on : (place : Option CopyPlace) → Steps place ≢ Idle
 steps_on place same = cc
 
-given_on : GivenUp ≢ Idle
+pub given_on : GivenUp ≢ Idle
 given_on same = cc
+
+-- the piece that is next is due
+pub piece_due : {D A : Type 0} (place : CopyPlace) (w : Writer D A) → next_place (copying_of w) ≡ Some place → IsPieceDue place w
+piece_due at.Start w next = tt
+piece_due (at.Page page) w next = inr next
+piece_due (at.Entries above) w next = inr next
 
 pub stands_due : {D A : Type 0} (f : FlushValue D A) → IsDue f → StandsBy f
 stands_due f due sound copied = due sound

@@ -228,8 +228,9 @@ fn take_records<B: Group, D: Device, R: Wait, A: Memory>(
         return Ok(None);
     }
     let mut locked = shared.hold_to_flush(rt, part);
-    let looked = part.look(rt, shared.queue(), &mut *locked)?;
-    Ok(Some(looked))
+    let looked = part.look(rt, shared.queue(), &mut *locked);
+    drop(locked);
+    Ok(Some(looked?))
 }
 
 // Writes a group, where records wait, and tells whether one waits that the log has no room for.

@@ -3,8 +3,8 @@ use Rattle.program_demonstration.proofs.team.work_staffed.Goals as goal
 
 pub end-requires-clause-seats : goal.end-requires-clause-seats
 end-requires-clause-seats g c =
-    all_left (λ w. w.seat) g.B.Group.site.seats c.args.staff.writers c.in-Ok.ended.clients c.args.staff.last c.run_all.new.last
-    c.requires.seats c.run_all.ensures.last c.in-Ok.ensures.len (λ k w within. (c.in-Ok.ensures.wrote k w within).number)
+    all_left (λ w. w.seat) g.B.Group.site.seats c.args.staff.writers c.in-Ok.ended.clients c.args.staff.last c.run_all-ran.new.last
+    c.requires.seats c.run_all-ran.ensures.last c.in-Ok.ensures.len (λ k w within. (c.in-Ok.ensures.wrote k w within).number)
 
 pub end-requires-clause-told : goal.end-requires-clause-told
 end-requires-clause-told g c =

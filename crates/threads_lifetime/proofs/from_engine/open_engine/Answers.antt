@@ -25,57 +25,82 @@ invariant_of-result g c =
           (new_settled h _ c.in-Ok-into_writer.writer c.in-Ok-into_writer.ensures.written.settled),
     )
 
-pub returns-in-Ok-into_writer-clause-opened : goal.returns-in-Ok-into_writer-clause-opened
-returns-in-Ok-into_writer-clause-opened g c =
+pub returns-in-Ok-into_writer : goal.returns-in-Ok-into_writer
+returns-in-Ok-into_writer g c =
     let h = g.D.Device.past_of in
     let written = c.in-Ok-into_writer.ensures.written in
     let now = ap opened_of c.in-Ok-open.ensures.core ∙ c.in-Ok.ensures.fresh.same in
     record {
-      most = omega arith;
-      seats = c.in-Ok-open.ensures.made.counted.0;
-      quiet = none_active _ _ c.core.ensures _ c.active_txns.ensures.number c.if-active_txns-gt0.false;
-      opened = now;
-      sound = subst CanOpen (sym now) (c.can_open.ensures.0 c.if-not-can_open.false);
-      stays = λ image crash. subst (Opens image) (sym now) (stays_settled h _ c.in-Ok-into_writer.writer written.settled image crash);
-      survives = written.survives;
-      well = written.quiet;
-      around = written.around;
+      opened = record {
+        most = omega arith;
+        seats = c.in-Ok-open.ensures.made.counted.0;
+        quiet = none_active _ _ c.core.ensures _ c.active_txns.ensures.number c.if-active_txns-gt0.false;
+        opened = now;
+        sound = subst CanOpen (sym now) (c.can_open.ensures.0 c.if-not-can_open.false);
+        stays = λ image crash. subst (Opens image) (sym now) (stays_settled h _ c.in-Ok-into_writer.writer written.settled image crash);
+        survives = written.survives;
+        well = written.quiet;
+        around = written.around;
+      };
+      refused = tt;
+      many = λ more. absurd (omega (arith, more));
     }
 
-pub returns-then-active_txns-gt0-clause-refused : goal.returns-then-active_txns-gt0-clause-refused
-returns-then-active_txns-gt0-clause-refused g c = inl
-    (inl (refl, some_active _ _ c.core.ensures _ c.active_txns.ensures.number c.if-active_txns-gt0.true, refl))
+pub returns-then-active_txns-gt0 : goal.returns-then-active_txns-gt0
+returns-then-active_txns-gt0 g c = record {
+  opened = tt;
+  refused = inl
+      (inl (refl, some_active _ _ c.core.ensures _ c.active_txns.ensures.number c.if-active_txns-gt0.true, refl));
+  many = λ more. absurd (omega (arith, more));
+}
 
-pub returns-then-not-can_open-clause-refused : goal.returns-then-not-can_open-clause-refused
-returns-then-not-can_open-clause-refused g c = (
-  none_active _ _ c.core.ensures _ c.active_txns.ensures.number c.if-active_txns-gt0.false,
-  λ can. false≢true (sym c.if-not-can_open.true ∙ c.can_open.ensures.1 can),
-  refl,
-)
+pub returns-then-not-can_open : goal.returns-then-not-can_open
+returns-then-not-can_open g c = record {
+  opened = tt;
+  refused = (
+    none_active _ _ c.core.ensures _ c.active_txns.ensures.number c.if-active_txns-gt0.false,
+    λ can. false≢true (sym c.if-not-can_open.true ∙ c.can_open.ensures.1 can),
+    refl,
+  );
+  many = λ more. absurd (omega (arith, more));
+}
 
-pub returns-in-Err-clause-refused : goal.returns-in-Err-clause-refused
-returns-in-Err-clause-refused g c =
-    inl (inr (
-      none_active _ _ c.core.ensures _ c.active_txns.ensures.number c.if-active_txns-gt0.false,
-      c.can_open.ensures.0 c.if-not-can_open.false,
-      inl (c.in-Err.ensures.no_memory, refl),
-    ))
+pub returns-in-Err : goal.returns-in-Err
+returns-in-Err g c = record {
+  opened = tt;
+  refused = inl (inr (
+    none_active _ _ c.core.ensures _ c.active_txns.ensures.number c.if-active_txns-gt0.false,
+    c.can_open.ensures.0 c.if-not-can_open.false,
+    inl (c.in-Err.ensures.no_memory, refl),
+  ));
+  many = λ more. absurd (omega (arith, more));
+}
 
-pub returns-in-Err-open-clause-refused : goal.returns-in-Err-open-clause-refused
-returns-in-Err-open-clause-refused g c =
-    inl (inr (
-      none_active _ _ c.core.ensures _ c.active_txns.ensures.number c.if-active_txns-gt0.false,
-      c.can_open.ensures.0 c.if-not-can_open.false,
-      inl (c.in-Err-open.ensures.no_memory, refl),
-    ))
+pub returns-in-Err-open : goal.returns-in-Err-open
+returns-in-Err-open g c = record {
+  opened = tt;
+  refused = inl (inr (
+    none_active _ _ c.core.ensures _ c.active_txns.ensures.number c.if-active_txns-gt0.false,
+    c.can_open.ensures.0 c.if-not-can_open.false,
+    inl (c.in-Err-open.ensures.no_memory, refl),
+  ));
+  many = λ more. absurd (omega (arith, more));
+}
 
-pub returns-in-Err-into_writer-clause-refused : goal.returns-in-Err-into_writer-clause-refused
-returns-in-Err-into_writer-clause-refused g c =
-    inl (inr (
-      none_active _ _ c.core.ensures _ c.active_txns.ensures.number c.if-active_txns-gt0.false,
-      c.can_open.ensures.0 c.if-not-can_open.false,
-      inr c.in-Err-into_writer.ensures.refused,
-    ))
+pub returns-in-Err-into_writer : goal.returns-in-Err-into_writer
+returns-in-Err-into_writer g c = record {
+  opened = tt;
+  refused = inl (inr (
+    none_active _ _ c.core.ensures _ c.active_txns.ensures.number c.if-active_txns-gt0.false,
+    c.can_open.ensures.0 c.if-not-can_open.false,
+    inr c.in-Err-into_writer.ensures.refused,
+  ));
+  many = λ more. absurd (omega (arith, more));
+}
 
-pub returns-then-seats-gt-SEATS_MAX-clause-refused : goal.returns-then-seats-gt-SEATS_MAX-clause-refused
-returns-then-seats-gt-SEATS_MAX-clause-refused g c = inr (refl, omega arith, refl)
+pub returns-then-seats-gt-SEATS_MAX : goal.returns-then-seats-gt-SEATS_MAX
+returns-then-seats-gt-SEATS_MAX g c = record {
+  opened = tt;
+  refused = inr (refl, omega arith, refl);
+  many = λ more. refl;
+}

@@ -1,4 +1,5 @@
 use Rattle.std.proofs.Common.{refl, ap, ◌∙◌, sym, arith, length, ◌+◌, ◌≡◌}
+use Rattle.std.proofs.lemmas.Result.{err_from_is_err_and}
 use Rattle.threads_lifetime.specs.Gathered.{lists_of}
 use Rattle.threads_lifetime.proofs.Lists.{set_count}
 use Rattle.threads_lifetime.proofs.Gathering.{moved, none_left, one_more, starts}
@@ -20,7 +21,15 @@ loop-preserved g c =
     (one_more _ _ _ _ c.loop.gathered.items all.commits _
     (moved _ _ _ _ _ _ _ all.commits refl (omega (arith, c.len.ensures)) refl (c.loop.invariant book count is all)) t)
 
-pub returns-in-None-take_next-clause-ok : goal.returns-in-None-take_next-clause-ok
-returns-in-None-take_next-clause-ok g c = λ book count is all.
-    none_left (c.len.result + 1) (lists_of c.loop.lists.items) c.loop.gathered.items all.commits
-    (moved _ _ _ _ _ _ _ all.commits refl (omega (arith, c.len.ensures)) refl (c.loop.invariant book count is all)) c.in-None-take_next.ensures.none
+pub returns-in_err-push-in-Some-take_next : goal.returns-in_err-push-in-Some-take_next
+returns-in_err-push-in-Some-take_next g c =
+    let p = err_from_is_err_and c.from_residual.result c.from_residual.ensures.1 in
+    rw p.1 (record { ok = tt; no_memory = p.2 })
+
+pub returns-in-None-take_next : goal.returns-in-None-take_next
+returns-in-None-take_next g c = record {
+  ok = λ book count is all.
+      none_left (c.len.result + 1) (lists_of c.loop.lists.items) c.loop.gathered.items all.commits
+      (moved _ _ _ _ _ _ _ all.commits refl (omega (arith, c.len.ensures)) refl (c.loop.invariant book count is all)) c.in-None-take_next.ensures.none;
+  no_memory = tt;
+}

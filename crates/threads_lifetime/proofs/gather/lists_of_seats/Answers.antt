@@ -1,4 +1,5 @@
 use Rattle.std.proofs.Common.{ap, ◌∙◌, sym, ◌++◌, ◌∷◌, []}
+use Rattle.std.proofs.lemmas.Result.{err_from_is_err_and}
 use Rattle.threads_sessions.specs.Values.{CommitValue, SessionValue}
 use Rattle.shared.specs.Seats.{SeatValue}
 use Rattle.std.specs.Prelude.{reverse}
@@ -20,3 +21,13 @@ loop-seat-preserved g c =
           ∙ sym (ap commits_of (map_more (λ (s : SeatValue). s.session) c.loop-seat.yielded c.in-Some.seat)
           ∙ map_more (λ (s : SessionValue). s.commits) (sessions_of c.loop-seat.yielded) c.in-Some.seat.session)));
     }
+
+pub returns-in_err-lists : goal.returns-in_err-lists
+returns-in_err-lists g c =
+    let p = err_from_is_err_and c.from_residual.result c.from_residual.ensures.1 in
+    rw p.1 (record { lists = tt; no_memory = p.2 })
+
+pub returns-in_err-push : goal.returns-in_err-push
+returns-in_err-push g c =
+    let p = err_from_is_err_and c.from_residual-in_err-push.result c.from_residual-in_err-push.ensures.1 in
+    rw p.1 (record { lists = tt; no_memory = p.2 })

@@ -25,8 +25,8 @@ invariant_of-result g c =
           (new_over_core g.D.Device.past_of c.args.device c.in-Ok.engine is emptied can _ _ parted.parts parted.left),
     )
 
-pub returns-in-Ok-open-clause-opened : goal.returns-in-Ok-open-clause-opened
-returns-in-Ok-open-clause-opened g c =
+pub returns-in-Ok-open : goal.returns-in-Ok-open
+returns-in-Ok-open g c =
     let is = c.in-Ok.ensures.opened in
     let emptied = c.in-Ok.ensures.emptied in
     let parted = c.in-Ok-take_apart.ensures in
@@ -35,45 +35,68 @@ returns-in-Ok-open-clause-opened g c =
     let over_engine = opened_is g.D.Device.past_of c.args.device c.in-Ok.engine is emptied can _ _ parted.parts parted.left in
     let now = ap opened_of c.in-Ok-open.ensures.core ∙ over_engine in
     record {
-      most = omega arith;
-      seats = c.in-Ok-open.ensures.made.counted.0;
-      opened = subst (λ (o : Opened). Opens (g.D.Device.past_of c.args.device).disk.content o) (sym now)
-          (opens g.D.Device.past_of c.args.device c.in-Ok.engine is);
-      sound = subst CanOpen (sym now) can;
-      device = subst (λ (d : g.row.D.Denot). IsTurned g.D.Device.past_of c.args.device d) (sym parted.parts.device) is.device;
-      synced = subst (λ (d : g.row.D.Denot). IsSynced (g.D.Device.past_of d).disk) (sym parted.parts.device) is.synced;
-      quiet = ap g.D.Device.failures parted.parts.device ∙ c.in-Ok.ensures.quiet;
+      opened = record {
+        most = omega arith;
+        seats = c.in-Ok-open.ensures.made.counted.0;
+        opened = subst (λ (o : Opened). Opens (g.D.Device.past_of c.args.device).disk.content o) (sym now)
+            (opens g.D.Device.past_of c.args.device c.in-Ok.engine is);
+        sound = subst CanOpen (sym now) can;
+        device = subst (λ (d : g.row.D.Denot). IsTurned g.D.Device.past_of c.args.device d) (sym parted.parts.device) is.device;
+        synced = subst (λ (d : g.row.D.Denot). IsSynced (g.D.Device.past_of d).disk) (sym parted.parts.device) is.synced;
+        quiet = ap g.D.Device.failures parted.parts.device ∙ c.in-Ok.ensures.quiet;
+      };
+      refused = tt;
+      many = λ more. absurd (omega (arith, more));
     }
 
-pub returns-then-not-can_open-clause-refused : goal.returns-then-not-can_open-clause-refused
-returns-then-not-can_open-clause-refused g c =
-    unsound_opened g.D.Device.past_of c.args.device c.in-Ok.engine c.in-Ok.ensures.opened _ c.core.ensures
-    (λ can. false≢true (sym c.if-not-can_open.true ∙ c.can_open.ensures.1 can)) g.D.Device.failures _ c.into_device.ensures.device c.in-Ok.ensures.quiet
+pub returns-then-not-can_open : goal.returns-then-not-can_open
+returns-then-not-can_open g c = record {
+  opened = tt;
+  refused = unsound_opened g.D.Device.past_of c.args.device c.in-Ok.engine c.in-Ok.ensures.opened _ c.core.ensures
+      (λ can. false≢true (sym c.if-not-can_open.true ∙ c.can_open.ensures.1 can)) g.D.Device.failures _ c.into_device.ensures.device c.in-Ok.ensures.quiet;
+  many = λ more. absurd (omega (arith, more));
+}
 
-pub returns-in-Err-take_apart-clause-refused : goal.returns-in-Err-take_apart-clause-refused
-returns-in-Err-take_apart-clause-refused g c =
+pub returns-in-Err-take_apart : goal.returns-in-Err-take_apart
+returns-in-Err-take_apart g c =
     let is = c.in-Ok.ensures.opened in
     let can : CanOpen (over is.geometry is.given) = sound_opened g.D.Device.past_of c.args.device c.in-Ok.engine is _ c.core.ensures
     (c.can_open.ensures.0 c.if-not-can_open.false) in
-    inr (inl (
-      refl,
-      lacks_memory g.D.Device.past_of c.args.device c.in-Ok.engine is g.D.Device.failures _ can
-          (c.into_device-in-Err-take_apart.ensures.device ∙ c.in-Err-take_apart.ensures.back.keeps.device) c.in-Ok.ensures.quiet,
-    ))
+    record {
+      opened = tt;
+      refused = inr (inl (
+        refl,
+        lacks_memory g.D.Device.past_of c.args.device c.in-Ok.engine is g.D.Device.failures _ can
+            (c.into_device-in-Err-take_apart.ensures.device ∙ c.in-Err-take_apart.ensures.back.keeps.device) c.in-Ok.ensures.quiet,
+      ));
+      many = λ more. absurd (omega (arith, more));
+    }
 
-pub returns-in-Err-open-clause-refused : goal.returns-in-Err-open-clause-refused
-returns-in-Err-open-clause-refused g c =
+pub returns-in-Err-open : goal.returns-in-Err-open
+returns-in-Err-open g c =
     let is = c.in-Ok.ensures.opened in
     let can : CanOpen (over is.geometry is.given) = sound_opened g.D.Device.past_of c.args.device c.in-Ok.engine is _ c.core.ensures
     (c.can_open.ensures.0 c.if-not-can_open.false) in
-    inr (inl (
-      c.in-Err-open.ensures.no_memory,
-      lacks_memory g.D.Device.past_of c.args.device c.in-Ok.engine is g.D.Device.failures _ can
-          (c.into_device-in-Err-open.ensures.device ∙ c.in-Ok-take_apart.ensures.parts.device) c.in-Ok.ensures.quiet,
-    ))
+    record {
+      opened = tt;
+      refused = inr (inl (
+        c.in-Err-open.ensures.no_memory,
+        lacks_memory g.D.Device.past_of c.args.device c.in-Ok.engine is g.D.Device.failures _ can
+            (c.into_device-in-Err-open.ensures.device ∙ c.in-Ok-take_apart.ensures.parts.device) c.in-Ok.ensures.quiet,
+      ));
+      many = λ more. absurd (omega (arith, more));
+    }
 
-pub returns-then-seats-gt-SEATS_MAX-clause-refused : goal.returns-then-seats-gt-SEATS_MAX-clause-refused
-returns-then-seats-gt-SEATS_MAX-clause-refused g c = inr (inr (refl, omega arith, refl))
+pub returns-then-seats-gt-SEATS_MAX : goal.returns-then-seats-gt-SEATS_MAX
+returns-then-seats-gt-SEATS_MAX g c = record {
+  opened = tt;
+  refused = inr (inr (refl, omega arith, refl));
+  many = λ more. refl;
+}
 
-pub returns-in-Err-clause-refused : goal.returns-in-Err-clause-refused
-returns-in-Err-clause-refused g c = inl c.in-Err.ensures.refused
+pub returns-in-Err : goal.returns-in-Err
+returns-in-Err g c = record {
+  opened = tt;
+  refused = inl c.in-Err.ensures.refused;
+  many = λ more. absurd (omega (arith, more));
+}

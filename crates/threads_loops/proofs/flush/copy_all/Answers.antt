@@ -1,29 +1,45 @@
+use Rattle.std.proofs.lemmas.Result.{err_from_is_err_and, on_ok_weaker}
 use Rattle.threads_flusher.proofs.Going.{goes_then}
 use Rattle.threads_loops.proofs.Rounds.{copied_by_taking, due_by_taking, stands_due, whole_behind}
 use Rattle.threads_loops.proofs.Through.{through_then}
-use Rattle.std.proofs.lemmas.Result.{on_ok_weaker}
 use Rattle.threads_loops.proofs.flush.copy_all.Goals as goal
 
-pub take_chunk-requires-clause-late : goal.take_chunk-requires-clause-late
-take_chunk-requires-clause-late g c = due_by_taking _ _ c.copied_whole.ensures.takes c.requires.late
+pub take_chunk-requires : goal.take_chunk-requires
+take_chunk-requires g c = record {
+  chunk = c.in_ok-chunk.ensures.chunk;
+  late = due_by_taking _ _ c.copied_whole.ensures.takes c.requires.late;
+}
 
-pub returns-in_err-chunk-clause-late : goal.returns-in_err-chunk-clause-late
-returns-in_err-chunk-clause-late g c = due_by_taking _ _ c.copied_whole.ensures.takes c.requires.late
+pub returns-in_err-chunk : goal.returns-in_err-chunk
+returns-in_err-chunk g c =
+    let new = c.copied_whole.new.part in
+    let is = c.copied_whole.ensures in
+    let due = due_by_taking c.args.part.now new is.takes c.requires.late in
+    let p = err_from_is_err_and c.from_residual.result c.from_residual.ensures.1 in
+    rw p.1 (record {
+      goes_on = is.goes_on;
+      through = is.through;
+      copying = stands_due new due;
+      image = tt;
+      late = due;
+      whole = tt;
+    })
 
-pub returns-in_err-chunk-clause-copying : goal.returns-in_err-chunk-clause-copying
-returns-in_err-chunk-clause-copying g c = stands_due c.copied_whole.new.part (due_by_taking _ _ c.copied_whole.ensures.takes c.requires.late)
-
-pub returns-clause-goes_on : goal.returns-clause-goes_on
-returns-clause-goes_on g c = goes_then g.D.Device.past_of g.D.Device.failures g.B.Group.site.opened _ _ _ c.copied_whole.ensures.goes_on
-    c.take_chunk.ensures.goes_on
-
-pub returns-clause-through : goal.returns-clause-through
-returns-clause-through g c = through_then g.D.Device.past_of g.D.Device.failures g.B.Group.site.opened _ _ _ c.copied_whole.ensures.through
-    c.take_chunk.ensures.through
-
-pub returns-clause-image : goal.returns-clause-image
-returns-clause-image g c = on_ok_weaker c.take_chunk.result (copied_by_taking _ _ c.copied_whole.ensures.takes c.take_chunk.new.part) c.take_chunk.ensures.image
-
-pub returns-clause-whole : goal.returns-clause-whole
-returns-clause-whole g c = on_ok_weaker c.take_chunk.result (whole_behind c.copied_whole.new.part.writer c.take_chunk.new.part.writer
-    c.in_ok-chunk.chunk.piece c.in_ok-chunk.ensures.whole) c.take_chunk.ensures.behind
+pub returns : goal.returns
+returns g c =
+    let past_of = g.D.Device.past_of in
+    let failures = g.D.Device.failures in
+    let o = g.B.Group.site.opened in
+    let old = c.args.part.now in
+    let mid = c.copied_whole.new.part in
+    let new = c.take_chunk.new.part in
+    let first = c.copied_whole.ensures in
+    let is = c.take_chunk.ensures in
+    record {
+      goes_on = goes_then past_of failures o old mid new first.goes_on is.goes_on;
+      through = through_then past_of failures o old mid new first.through is.through;
+      copying = is.copying;
+      image = on_ok_weaker c.take_chunk.result (copied_by_taking old mid first.takes new) is.image;
+      late = is.late;
+      whole = on_ok_weaker c.take_chunk.result (whole_behind mid.writer new.writer c.in_ok-chunk.chunk.piece c.in_ok-chunk.ensures.whole) is.behind;
+    }

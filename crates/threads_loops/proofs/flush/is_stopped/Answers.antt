@@ -1,23 +1,25 @@
 use Rattle.std.proofs.Common.{ap}
 use Rattle.threads_flusher.proofs.Going.{goes_by_taking}
 use Rattle.threads_flusher.proofs.Taking.{took_look}
+use Rattle.threads_flusher.specs.Going.{TakesIn}
 use Rattle.threads_flusher.specs.Part.{FlushValue}
 use Rattle.threads_loops.proofs.Rounds.{stands_by_taking}
 use Rattle.threads_loops.proofs.Through.{through_taking}
 use Rattle.threads_loops.proofs.flush.is_stopped.Goals as goal
 
-pub returns-clause-goes_on : goal.returns-clause-goes_on
-returns-clause-goes_on g c = goes_by_taking g.D.Device.past_of g.D.Device.failures g.B.Group.site.opened c.args.part.now c.stopped-is_stopped.new.self
-    c.stands.ensures
-    (took_look _ _ c.stopped-is_stopped.ensures.looks)
-
-pub returns-clause-through : goal.returns-clause-through
-returns-clause-through g c = through_taking g.D.Device.past_of g.D.Device.failures g.B.Group.site.opened c.args.part.now c.stopped-is_stopped.new.self
-    (took_look _ _ c.stopped-is_stopped.ensures.looks)
-
-pub returns-clause-copying : goal.returns-clause-copying
-returns-clause-copying g c = stands_by_taking c.args.part.now c.stopped-is_stopped.new.self
-    (took_look _ _ c.stopped-is_stopped.ensures.looks)
-
-pub returns-clause-writer : goal.returns-clause-writer
-returns-clause-writer g c = ap (λ (f : FlushValue _ _). f.writer) c.stopped-is_stopped.ensures.looks
+pub returns : goal.returns
+returns g c =
+    let past_of = g.D.Device.past_of in
+    let failures = g.D.Device.failures in
+    let o = g.B.Group.site.opened in
+    let old = c.args.part.now in
+    let new = c.stopped-is_stopped.new.self in
+    let is = c.stopped-is_stopped.ensures in
+    let takes : TakesIn old new = took_look old new is.looks in
+    record {
+      goes_on = goes_by_taking past_of failures o old new c.stands.ensures takes;
+      through = through_taking past_of failures o old new takes;
+      copying = stands_by_taking old new takes;
+      writer = ap (λ (f : FlushValue _ _). f.writer) is.looks;
+      seen = is.seen;
+    }

@@ -1,52 +1,53 @@
 use Rattle.std.proofs.Common.{◌∙◌}
+use Rattle.std.proofs.lemmas.Result.{err_from_is_err_and, on_ok_weaker}
+use Rattle.threads_flusher.specs.Going.{GoesOn}
 use Rattle.threads_flusher.proofs.Going.{goes_by_taking, goes_then}
+use Rattle.threads_loops.specs.Through.{PassesThrough}
 use Rattle.threads_loops.proofs.Rounds.{image_from, stands_by_taking, wanted_by_taking}
 use Rattle.threads_loops.proofs.Through.{through_taking, through_then}
-use Rattle.std.proofs.lemmas.Result.{on_ok_weaker}
 use Rattle.threads_loops.proofs.flush.round.Goals as goal
-
-pub returns-in_err-is_full-clause-goes_on : goal.returns-in_err-is_full-clause-goes_on
-returns-in_err-is_full-clause-goes_on g c =
-    let past_of = g.D.Device.past_of in
-    let failures = g.D.Device.failures in
-    let o = g.B.Group.site.opened in
-    goes_then past_of failures o _ _ _ (goes_by_taking past_of failures o _ _ c.stands.ensures c.take_records-looked.ensures.takes)
-    c.write.ensures.goes_on
-
-pub returns-in_err-is_full-clause-through : goal.returns-in_err-is_full-clause-through
-returns-in_err-is_full-clause-through g c =
-    let past_of = g.D.Device.past_of in
-    let failures = g.D.Device.failures in
-    let o = g.B.Group.site.opened in
-    through_then past_of failures o _ _ _ (through_taking past_of failures o _ _ c.take_records-looked.ensures.takes) c.write.ensures.through
-
-pub returns-in_err-is_full-clause-copying : goal.returns-in_err-is_full-clause-copying
-returns-in_err-is_full-clause-copying g c =
-    c.write.ensures.copying (stands_by_taking _ _ c.take_records-looked.ensures.takes c.requires.copying)
 
 pub copy_some-requires : goal.copy_some-requires
 copy_some-requires g c = record {
   copying = c.write.ensures.copying (stands_by_taking _ _ c.take_records-looked.ensures.takes c.requires.copying);
 }
 
-pub returns-clause-goes_on : goal.returns-clause-goes_on
-returns-clause-goes_on g c =
+pub returns-in_err-is_full : goal.returns-in_err-is_full
+returns-in_err-is_full g c =
     let past_of = g.D.Device.past_of in
     let failures = g.D.Device.failures in
     let o = g.B.Group.site.opened in
-    goes_then past_of failures o _ _ _ (goes_then past_of failures o _ _ _
-    (goes_by_taking past_of failures o _ _ c.stands.ensures c.take_records-looked.ensures.takes) c.write.ensures.goes_on) c.copy_some.ensures.goes_on
-
-pub returns-clause-through : goal.returns-clause-through
-returns-clause-through g c =
-    let past_of = g.D.Device.past_of in
-    let failures = g.D.Device.failures in
-    let o = g.B.Group.site.opened in
-    through_then past_of failures o _ _ _ (through_then past_of failures o _ _ _
-    (through_taking past_of failures o _ _ c.take_records-looked.ensures.takes) c.write.ensures.through) c.copy_some.ensures.through
-
-pub returns-clause-image : goal.returns-clause-image
-returns-clause-image g c =
+    let old = c.args.part.now in
+    let got = c.take_records-looked.new.part in
+    let new = c.write.new.part in
     let takes = c.take_records-looked.ensures.takes in
-    on_ok_weaker c.copy_some.result (λ image wanted. image_from c.args.part.now c.write.new.part c.copy_some.new.part
-    (c.write.ensures.half ∙ takes.got.halves) (image (c.in_ok-is_full.ensures.image (wanted_by_taking _ _ takes wanted)))) c.copy_some.ensures.image
+    let is = c.write.ensures in
+    let p = err_from_is_err_and c.from_residual.result c.from_residual.ensures.1 in
+    rw p.1 (record {
+      goes_on = goes_then past_of failures o old got new (goes_by_taking past_of failures o old got c.stands.ensures takes) is.goes_on;
+      through = through_then past_of failures o old got new (through_taking past_of failures o old got takes) is.through;
+      copying = is.copying (stands_by_taking old got takes c.requires.copying);
+      image = tt;
+    })
+
+pub returns : goal.returns
+returns g c =
+    let past_of = g.D.Device.past_of in
+    let failures = g.D.Device.failures in
+    let o = g.B.Group.site.opened in
+    let old = c.args.part.now in
+    let got = c.take_records-looked.new.part in
+    let mid = c.write.new.part in
+    let new = c.copy_some.new.part in
+    let takes = c.take_records-looked.ensures.takes in
+    let goes : GoesOn past_of failures o old mid = goes_then past_of failures o old got mid
+    (goes_by_taking past_of failures o old got c.stands.ensures takes) c.write.ensures.goes_on in
+    let through : PassesThrough past_of failures o old mid = through_then past_of failures o old got mid
+    (through_taking past_of failures o old got takes) c.write.ensures.through in
+    record {
+      goes_on = goes_then past_of failures o old mid new goes c.copy_some.ensures.goes_on;
+      through = through_then past_of failures o old mid new through c.copy_some.ensures.through;
+      copying = c.copy_some.ensures.copying;
+      image = on_ok_weaker c.copy_some.result (λ image wanted. image_from old mid new (c.write.ensures.half ∙ takes.got.halves)
+          (image (c.in_ok-is_full.ensures.image (wanted_by_taking old got takes wanted)))) c.copy_some.ensures.image;
+    }

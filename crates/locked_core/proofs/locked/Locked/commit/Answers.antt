@@ -1,4 +1,4 @@
-use Rattle.std.proofs.Common.{map, sym, ap, ◌∙◌}
+use Rattle.std.proofs.Common.{map, sym, ap, ◌∙◌, refl, arith}
 use Rattle.records.specs.declared.record.Action.TheVariants.{OfTxn}
 use Rattle.records.specs.declared.record.TxnAction.{TxnAction}
 use Rattle.core_model.specs.Events.{Event}
@@ -7,10 +7,21 @@ use Rattle.threads_register.proofs.Laws.{commit_record}
 use Rattle.threads_sessions.specs.Halves.{shown}
 use Rattle.threads_sessions.specs.Values.{is_active, is_ready}
 use Rattle.locked_core.specs.Seats.{SeatValue}
-use Rattle.locked_core.proofs.Book.{book_set, changed_after, count_set, seen_set, seen_there, shown_set, there}
+use Rattle.locked_core.proofs.Book.{book_set, changed_after, count_set, half_after, meets, meets_again, shown_set, there}
 use Rattle.locked_core.proofs.Kept.{commit_kept, kept_in, ready_now}
 use Rattle.locked_core.proofs.Recorded.{recorded_own}
 use Rattle.locked_core.proofs.locked.Locked.commit.Goals as goal
+
+pub index_mut-theirs-requires : goal.index_mut-theirs-requires
+index_mut-theirs-requires g c =
+    let was = c.args.self.now in
+    omega (arith, was.seats, was.book.ok.0, c.seat.invariant.1)
+
+pub compare-requires : goal.compare-requires
+compare-requires g c =
+    let was = c.args.self.now in
+    let can = meets _ _ _ _ _ _ _ _ was.seats c.seat.invariant.1 c.index_mut-theirs.ensures.value c.seat.invariant.0 was.halves c.requires.registry in
+    record { mine = can.0; theirs = can.1; number = can.2 }
 
 pub commit-committed-requires : goal.commit-committed-requires
 commit-committed-requires g c = λ own.
@@ -19,6 +30,13 @@ commit-committed-requires g c = λ own.
     (there _ _ _ _ _ _ _ was.seats c.seat.invariant.1 c.index_mut-theirs.ensures.value c.seat.invariant.0 c.compare.ensures.agree) was.shared c.args.txn
     (ap (λ (s : SeatValue). is_ready s.session c.args.txn) c.seat.view_is
     ∙ c.requires.ready (ap (λ (s : SeatValue). is_active s.session c.args.txn) (sym c.seat.view_is) ∙ own))
+
+pub change-requires : goal.change-requires
+change-requires g c =
+    let was = c.args.self.now in
+    let can = meets_again _ _ _ _ _ c.compare.ensures.mine c.compare.ensures.theirs
+    (meets _ _ _ _ _ _ _ _ was.seats c.seat.invariant.1 c.index_mut-theirs.ensures.value c.seat.invariant.0 was.halves c.requires.registry) in
+    record { mine = can.0; theirs = can.1; number = can.2 }
 
 pub invariant_of-self : goal.invariant_of-self
 invariant_of-self g c =
@@ -41,24 +59,29 @@ invariant_of-self g c =
           shared c.args.txn step.result step.ensures.foreign step.ensures.served step.ensures.ok step.ensures.unchanged);
     }
 
-pub returns-clause-before : goal.returns-clause-before
-returns-clause-before g c =
-    let was = c.args.self.now in
-    seen_there _ _ _ _ _ _ _ was.seats c.seat.invariant.1 c.index_mut-theirs.ensures.value c.seat.invariant.0 c.compare.ensures.agree _ c.seat.view_is
+pub invariant_of-seat : goal.invariant_of-seat
+invariant_of-seat g c = (half_after _ _ _ _ _ _ _ c.seat.invariant.0 c.compare.ensures.mine c.change.ensures.mine, c.seat.invariant.1)
 
-pub returns-clause-book : goal.returns-clause-book
-returns-clause-book g c =
-    let was = c.args.self.now in
-    seen_set _ _ _ _ _ _ _ was.seats c.seat.invariant.1 c.index_mut-theirs.ensures.value c.seat.invariant.0 c.compare.ensures.agree was.halves _ _
-    (changed_after _ _ _ _ c.compare.ensures.theirs c.change.ensures.theirs) _ c.seat.view_is
-
-pub returns-clause-recorded : goal.returns-clause-recorded
-returns-clause-recorded g c =
-    let o = g.B.Group.site.opened in
+pub returns : goal.returns
+returns g c =
+    rw (← c.seat.view_is) (
     let was = c.args.self.now in
     let step = c.commit-committed in
     let new = value_of step.new.core in
-    recorded_own o (value_of was.core) new was.pusher.records (map shown was.book.items) was.shared (Event.Commit c.args.txn)
-    (OfTxn c.args.txn TxnAction.Commit)
-    (λ kept ticket serves. commit_record o was.pusher.records (value_of was.core) kept c.args.txn ticket new serves)
-    (is_active c.seat.inside.session c.args.txn) step.result step.ensures.foreign step.ensures.served
+    let mine = there _ _ _ _ _ _ _ was.seats c.seat.invariant.1 c.index_mut-theirs.ensures.value c.seat.invariant.0 c.compare.ensures.agree in
+    record {
+      before = mine;
+      foreign = step.ensures.foreign;
+      served = step.ensures.served;
+      ok = step.ensures.ok;
+      recorded = recorded_own g.B.Group.site.opened (value_of was.core) new was.pusher.records (map shown was.book.items)
+          was.shared (Event.Commit c.args.txn)
+          (OfTxn c.args.txn TxnAction.Commit)
+          (λ kept ticket serves. commit_record g.B.Group.site.opened was.pusher.records (value_of was.core) kept c.args.txn ticket new serves)
+          (is_active c.seat.inside.session c.args.txn) step.result step.ensures.foreign step.ensures.served;
+      refused = step.ensures.unchanged;
+      number = refl;
+      book = shown_set _ _ _ _ _ _ _ was.seats c.seat.invariant.1 c.index_mut-theirs.ensures.value c.seat.invariant.0 c.compare.ensures.agree was.halves _ _
+          (changed_after _ _ _ _ c.compare.ensures.theirs c.change.ensures.theirs);
+      pushed = refl;
+    })

@@ -1,11 +1,21 @@
-use Rattle.std.proofs.Common.{List, map, ap, ◌∙◌, subst, sym}
+use Rattle.std.proofs.Common.{List, refl, ap, ◌∙◌, subst, sym, arith}
 use Rattle.nsf_core.specs.Value.{value_of}
-use Rattle.threads_sessions.specs.Halves.{HalfValue, shown}
 use Rattle.threads_sessions.specs.Values.{SessionValue}
 use Rattle.locked_core.specs.Locked.{LockedValue}
 use Rattle.locked_core.specs.Names.{IsShared}
-use Rattle.locked_core.proofs.Book.{book_set, count_set, same_set, seen_there}
+use Rattle.locked_core.proofs.Book.{book_set, count_set, meets, same_set, there}
 use Rattle.locked_core.proofs.locked.Locked.compare_seat.Goals as goal
+
+pub index_mut-requires : goal.index_mut-requires
+index_mut-requires g c =
+    let was = c.args.self.now in
+    omega (arith, was.seats, was.book.ok.0, c.seat.invariant.1)
+
+pub compare-requires : goal.compare-requires
+compare-requires g c =
+    let was = c.args.self.now in
+    let can = meets _ _ _ _ _ _ _ _ was.seats c.seat.invariant.1 c.index_mut.ensures.value c.seat.invariant.0 was.halves c.requires in
+    record { mine = can.0; theirs = can.1; number = can.2 }
 
 pub invariant_of-self : goal.invariant_of-self
 invariant_of-self g c =
@@ -22,13 +32,16 @@ invariant_of-self g c =
           (sym (same_set _ _ _ _ _ _ _ was.seats c.seat.invariant.1 c.index_mut.ensures.value c.seat.invariant.0 c.compare.ensures.agree _ is)) was.shared;
     }
 
-pub returns-clause-before : goal.returns-clause-before
-returns-clause-before g c =
-    let was = c.args.self.now in
-    seen_there _ _ _ _ _ _ _ was.seats c.seat.invariant.1 c.index_mut.ensures.value c.seat.invariant.0 c.compare.ensures.agree _ c.seat.view_is
+pub invariant_of-seat : goal.invariant_of-seat
+invariant_of-seat g c = (c.compare.ensures.mine ∙ c.seat.invariant.0, c.seat.invariant.1)
 
-pub returns-clause-same : goal.returns-clause-same
-returns-clause-same g c =
+pub returns : goal.returns
+returns g c =
+    rw (← c.seat.view_is) (
     let was = c.args.self.now in
-    ap (λ (book : List SessionValue). (λ (l : LockedValue). l) (record { core = value_of was.core; pushed = was.pusher.records; book = book }))
-    (same_set _ _ _ _ _ _ _ was.seats c.seat.invariant.1 c.index_mut.ensures.value c.seat.invariant.0 c.compare.ensures.agree _ c.compare.ensures.theirs)
+    record {
+      before = there _ _ _ _ _ _ _ was.seats c.seat.invariant.1 c.index_mut.ensures.value c.seat.invariant.0 c.compare.ensures.agree;
+      seat = refl;
+      same = ap (λ (book : List SessionValue). (λ (l : LockedValue). l) (record { core = value_of was.core; pushed = was.pusher.records; book = book }))
+          (same_set _ _ _ _ _ _ _ was.seats c.seat.invariant.1 c.index_mut.ensures.value c.seat.invariant.0 c.compare.ensures.agree _ c.compare.ensures.theirs);
+    })

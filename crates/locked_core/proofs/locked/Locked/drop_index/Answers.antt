@@ -1,14 +1,25 @@
-use Rattle.std.proofs.Common.{map, rules}
+use Rattle.std.proofs.Common.{map, refl, arith}
 use Rattle.records.specs.declared.record.Action.TheVariants.{OfIndex}
 use Rattle.records.specs.declared.record.IndexAction.{IndexAction}
 use Rattle.core_model.specs.Events.{Event}
 use Rattle.nsf_core.specs.Value.{value_of}
 use Rattle.threads_register.proofs.Laws.{drop_record}
 use Rattle.threads_sessions.specs.Halves.{shown}
-use Rattle.locked_core.proofs.Book.{book_set, count_set, seen_set, seen_there, shown_set, there}
+use Rattle.locked_core.proofs.Book.{book_set, count_set, half_after, meets, shown_set, there}
 use Rattle.locked_core.proofs.Kept.{drop_kept, kept_in}
 use Rattle.locked_core.proofs.Recorded.{recorded_drop}
 use Rattle.locked_core.proofs.locked.Locked.drop_index.Goals as goal
+
+pub index_mut-requires : goal.index_mut-requires
+index_mut-requires g c =
+    let was = c.args.self.now in
+    omega (arith, was.seats, was.book.ok.0, c.seat.invariant.1)
+
+pub change-requires : goal.change-requires
+change-requires g c =
+    let was = c.args.self.now in
+    let can = meets _ _ _ _ _ _ _ _ was.seats c.seat.invariant.1 c.index_mut.ensures.value c.seat.invariant.0 was.halves c.requires in
+    record { mine = can.0; theirs = can.1; number = can.2 }
 
 pub invariant_of-self : goal.invariant_of-self
 invariant_of-self g c =
@@ -31,25 +42,28 @@ invariant_of-self g c =
           shared step.result step.ensures.served step.ensures.ok step.ensures.unchanged);
     }
 
-pub returns-clause-before : goal.returns-clause-before
-returns-clause-before g c =
-    let was = c.args.self.now in
-    seen_there _ _ _ _ _ _ _ was.seats c.seat.invariant.1 c.index_mut.ensures.value c.seat.invariant.0 c.change.ensures.agree _ c.seat.view_is
+pub invariant_of-seat : goal.invariant_of-seat
+invariant_of-seat g c = (half_after _ _ _ _ _ _ _ c.seat.invariant.0 refl c.change.ensures.mine, c.seat.invariant.1)
 
-pub returns-clause-book : goal.returns-clause-book
-returns-clause-book g c =
-    let was = c.args.self.now in
-    seen_set _ _ _ _ _ _ _ was.seats c.seat.invariant.1 c.index_mut.ensures.value c.seat.invariant.0 c.change.ensures.agree was.halves _ _
-    c.change.ensures.theirs _ c.seat.view_is
-
-pub returns-clause-ok : goal.returns-clause-ok
-returns-clause-ok g c = search rules
-
-pub returns-clause-recorded : goal.returns-clause-recorded
-returns-clause-recorded g c =
-    let o = g.B.Group.site.opened in
+pub returns : goal.returns
+returns g c =
+    rw (← c.seat.view_is) (
     let was = c.args.self.now in
     let step = c.drop_index-dropped in
     let new = value_of step.new.core in
-    recorded_drop o (value_of was.core) new was.pusher.records (map shown was.book.items) was.shared Event.Drop (OfIndex IndexAction.Drop)
-    (λ kept ticket serves. drop_record o was.pusher.records (value_of was.core) kept ticket new serves) step.result step.ensures.served
+    let mine = there _ _ _ _ _ _ _ was.seats c.seat.invariant.1 c.index_mut.ensures.value c.seat.invariant.0 c.change.ensures.agree in
+    record {
+      before = mine;
+      served = step.ensures.served;
+      taken = step.ensures.taken;
+      ok = step.ensures.ok;
+      recorded = recorded_drop g.B.Group.site.opened (value_of was.core) new was.pusher.records (map shown was.book.items)
+          was.shared Event.Drop (OfIndex IndexAction.Drop)
+          (λ kept ticket serves. drop_record g.B.Group.site.opened was.pusher.records (value_of was.core) kept ticket new serves) step.result
+          step.ensures.served;
+      refused = step.ensures.unchanged;
+      number = refl;
+      book = shown_set _ _ _ _ _ _ _ was.seats c.seat.invariant.1 c.index_mut.ensures.value c.seat.invariant.0 c.change.ensures.agree was.halves _ _
+          c.change.ensures.theirs;
+      pushed = refl;
+    })

@@ -1,6 +1,8 @@
-use Rattle.std.proofs.Common.{ap}
+use Rattle.std.proofs.Common.{refl, ap, ◌∙◌}
+use Rattle.std.proofs.lemmas.List.{length-map}
 use Rattle.nsf_core.specs.Value.{value_of}
 use Rattle.threads_queue.specs.Ends.{Handed}
+use Rattle.threads_sessions.specs.Halves.{shown}
 use Rattle.locked_core.proofs.Kept.{all_new, new_book, new_shared}
 use Rattle.locked_core.proofs.locked.Locked.new.Goals as goal
 
@@ -15,5 +17,10 @@ invariant_of-result g c =
           (ap (λ (h : Handed). h.records) c.requires.pusher) c.requires.book ∣₁;
     }
 
-pub returns-clause-book : goal.returns-clause-book
-returns-clause-book g c = all_new g.B.Group.site.table c.args.book.items c.requires.book
+pub returns : goal.returns
+returns g c = record {
+  core = refl;
+  pushed = ap (λ (h : Handed). h.records) c.requires.pusher;
+  book = all_new g.B.Group.site.table c.args.book.items c.requires.book;
+  seats = length-map c.args.book.items shown ∙ c.requires.seats;
+}

@@ -1,14 +1,20 @@
-use Rattle.std.proofs.Common.{ap, ◌∙◌}
+use Rattle.std.proofs.Common.{refl, sym, ap, ◌∙◌}
 use Rattle.board.specs.Views.{FlusherCount}
-use Rattle.threads_flusher.proofs.Keeping.{behind_of, flip_rises, flipped_of, images_of, kept_by_call, may_publish, noted_as}
+use Rattle.threads_flusher.proofs.Keeping.{flip_rises, images_of, kept_by_call, may_publish, may_tell, noted_as, still_sound}
 use Rattle.threads_flusher.proofs.part.FlushPart.flip.Goals as goal
 
-pub publish-requires-clause-horizon : goal.publish-requires-clause-horizon
-publish-requires-clause-horizon g c =
+pub publish-requires : goal.publish-requires
+publish-requires g c =
+    let made = c.checkpoint_flip-flipped in
+    let failures = g.D.Device.failures in
     let stands = c.self.invariant.2 in
-    may_publish g.D.Device.past_of g.B.Group.site.opened _ _ _ _ _ (c.self.invariant.1, stands) c.checkpoint_flip-flipped.new.self
-    (flip_rises g.D.Device.failures c.self.inside.writer c.checkpoint_flip-flipped.new.self _ c.checkpoint_flip-flipped.result
-    (c.checkpoint_flip-flipped.ensures.flipped _ _ stands.writer) c.checkpoint_flip-flipped.ensures.kept)
+    record {
+      board = c.self.invariant.4 ∙ sym c.requires;
+      horizon = may_publish g.D.Device.past_of g.B.Group.site.opened _ _ _ _ _ (c.self.invariant.1, c.self.invariant.2) made.new.self
+          (flip_rises failures c.self.inside.writer made.new.self _ made.result (made.ensures.flipped _ _ stands.writer) made.ensures.kept);
+      failed = may_tell g.D.Device.past_of g.B.Group.site.opened _ _ _ _ _ (c.self.invariant.1, c.self.invariant.2) made.new.self
+          (still_sound failures c.self.inside.writer made.new.self made.result made.ensures.sound made.ensures.err);
+    }
 
 pub invariant_of-self : goal.invariant_of-self
 invariant_of-self g c =
@@ -21,14 +27,26 @@ invariant_of-self g c =
     (ap (λ (n : FlusherCount). n.failed) c.publish.ensures.published) in
     (c.self.invariant.0, kept.0, kept.1, c.self.invariant.3, ap (λ (n : FlusherCount). n.board) c.publish.ensures.published ∙ c.self.invariant.4)
 
-pub returns-clause-images : goal.returns-clause-images
-returns-clause-images g c = images_of g.D.Device.past_of g.B.Group.site.opened _ _ c.self.view_is c.checkpoint_flip-flipped.new.self c.self.invariant.2
-    c.checkpoint_flip-flipped.ensures.images
-
-pub returns-clause-flipped : goal.returns-clause-flipped
-returns-clause-flipped g c = flipped_of g.D.Device.past_of g.B.Group.site.opened _ _ c.self.view_is c.checkpoint_flip-flipped.new.self
-    c.checkpoint_flip-flipped.result c.self.invariant.2 c.checkpoint_flip-flipped.ensures.flipped
-
-pub returns-clause-behind : goal.returns-clause-behind
-returns-clause-behind g c = behind_of g.D.Device.past_of g.B.Group.site.opened _ _ c.self.view_is c.checkpoint_flip-flipped.new.self
-    c.checkpoint_flip-flipped.result c.self.invariant.2 c.checkpoint_flip-flipped.ensures.behind
+pub returns : goal.returns
+returns g c =
+    rw (← c.self.view_is) (
+    let stands = c.self.invariant.2 in
+    let made = c.checkpoint_flip-flipped in
+    record {
+      publishes = record {
+        handed = refl;
+        held = refl;
+        published = c.publish.ensures.published;
+        noted = noted_as g.D.Device.past_of _ _ _ c.publish.ensures.noted;
+      };
+      images = images_of g.D.Device.past_of g.B.Group.site.opened _ made.new.self stands made.ensures.images;
+      flipped = made.ensures.flipped _ _ stands.writer;
+      behind = made.ensures.behind _ _ stands.writer;
+      sound = made.ensures.sound;
+      err = made.ensures.err;
+      kept = made.ensures.kept;
+      quiet = made.ensures.quiet;
+      later = made.ensures.later;
+      around = made.ensures.around;
+      left = made.ensures.left;
+    })
