@@ -4,7 +4,7 @@
 //! Three days and a build; and a day that is stopped at each moment of each of its requests, and of its opening, over a
 //! disk that loses what was done later. That is done once more where a call of the device fails, and where an
 //! allocation is refused. What is found is what a plain program makes of the replies. And a day of clients that is
-//! stopped at each moment since its opening began, or since they had ended.
+//! stopped at each moment since its opening began, or while the rest is written out.
 //!
 //! Proved: the clauses of `Device` and `Mortal` for that disk; of the tests safety, and that the contracts suffice for
 //! such a caller.

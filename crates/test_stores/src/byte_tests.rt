@@ -23,41 +23,42 @@ const SCRIPT: &str = "begin\ninsert 1 =ant =x\ncommit 1\nflush\n\
 
 // The first restart makes half B current: half A is in sectors 2 to 1083, half B begins at 1084, and its first gate is
 // in 2134.
+const SECTORS: [Sector<'static>; 11] = [
+    (
+        0,
+        &[(0, b"NSFINDEX\0\0\0\x02\0\0\0\x01\0\0\0\x40\0\0\0\x04")],
+    ),
+    // half A is current again
+    (1, &[]),
+    // its header: the index is being built, the image is of record 6, and there are two entries
+    (2, &[(0, b"\x01"), (72, b"\x06\0\0\0\x02")]),
+    // one list, of transaction 2, and its one change
+    (3, &[(7, b"\x02\0\x01")]),
+    (4, &[(0, b"\x01\0\0\0\0\0\x01"), (135, b"\x01\x01a")]),
+    // the rows
+    (
+        1028,
+        &[(64, b"\x01\x03ant"), (122, b"\x01x"), (192, b"\x01\x01a")],
+    ),
+    (1029, &[]),
+    // the entries
+    (
+        1044,
+        &[
+            (0, b"\x01a"),
+            (62, b"\x01\x01"),
+            (64, b"\x03ant"),
+            (127, b"\x01"),
+        ],
+    ),
+    (1052, &[]),
+    // the group in the log of half B
+    (2134, &[(0, b"\xa5")]),
+    (2135, &[(0, GROUP)]),
+];
+
 fn check_store(rt: &impl Abort, disk: &mut Disk) -> Result<(), Fail> {
-    let sectors: [Sector<'_>; 11] = [
-        (
-            0,
-            &[(0, b"NSFINDEX\0\0\0\x02\0\0\0\x01\0\0\0\x40\0\0\0\x04")],
-        ),
-        // half A is current again
-        (1, &[]),
-        // its header: the index is being built, the image is of record 6, and there are two entries
-        (2, &[(0, b"\x01"), (72, b"\x06\0\0\0\x02")]),
-        // one list, of transaction 2, and its one change
-        (3, &[(7, b"\x02\0\x01")]),
-        (4, &[(0, b"\x01\0\0\0\0\0\x01"), (135, b"\x01\x01a")]),
-        // the rows
-        (
-            1028,
-            &[(64, b"\x01\x03ant"), (122, b"\x01x"), (192, b"\x01\x01a")],
-        ),
-        (1029, &[]),
-        // the entries
-        (
-            1044,
-            &[
-                (0, b"\x01a"),
-                (62, b"\x01\x01"),
-                (64, b"\x03ant"),
-                (127, b"\x01"),
-            ],
-        ),
-        (1052, &[]),
-        // the group in the log of half B
-        (2134, &[(0, b"\xa5")]),
-        (2135, &[(0, GROUP)]),
-    ];
-    for sector in sectors {
+    for sector in SECTORS {
         check(rt, disk, sector)?;
     }
     // the rest of its slot, and the next gate

@@ -172,19 +172,19 @@ fn held_at_last<M: StoreMemory>(
 
 // The device fails at this of those calls, and then the restarts behind it at that of theirs. Just where it fails, that
 // is told.
-fn stop_at(
+fn stop_at<M: StoreMemory>(
     rt: &impl Abort,
+    memory: M,
     alloc: Global,
     whole: &Whole<'_>,
     case: Case,
     (call, restart_call): (u64, u64),
 ) -> Result<Stopped, Fail> {
-    let memory = ample(alloc);
     let disk = Disk::formatted(alloc, 1, 4)?.failing(case.0, call);
-    let (told, disk) = run_over(rt, &memory, disk, whole);
+    let (told, disk) = run_over(rt, memory, disk, whole);
     let failed = call <= disk.made();
     assert!(rt; told.failed == failed, "call {call}, {case:?}");
-    let (left, again) = held_at_last(rt, &memory, disk, case, restart_call)?;
+    let (left, again) = held_at_last(rt, memory, disk, case, restart_call)?;
     Ok(Stopped {
         safe: told.safe,
         left,
@@ -194,18 +194,19 @@ fn stop_at(
 }
 
 // Stops a run at this call, and the restarts behind it at one in so many of their calls. What they leave is the same.
-fn stop_restarts(
+fn stop_restarts<M: StoreMemory>(
     rt: &impl Abort,
+    memory: M,
     alloc: Global,
     whole: &Whole<'_>,
     (case, every): (Case, u64),
     call: u64,
 ) -> Result<Stopped, Fail> {
-    let once = stop_at(rt, alloc, whole, case, (call, 0))?;
+    let once = stop_at(rt, memory, alloc, whole, case, (call, 0))?;
     let first = call.checked_rem(every).unwrap_or(0).saturating_add(1);
     for more in 0..CALLS {
         let restart_call = first.saturating_add(more.saturating_mul(every));
-        let stopped = stop_at(rt, alloc, whole, case, (call, restart_call))?;
+        let stopped = stop_at(rt, memory, alloc, whole, case, (call, restart_call))?;
         assert!(rt;
             stopped.left == once.left,
             "calls {call} and {restart_call}, {case:?}"
@@ -217,43 +218,83 @@ fn stop_restarts(
     Err("fewer calls of a restart")?
 }
 
-// Stops a run at each of those calls in turn. What is left is what the store held as all was told to be safe, with all
-// that was told to be so, and never less than a stop before left.
-fn stop_at_each(
+// What is left is what the store held as all was told to be safe, with all that was told to be so, and not less than a
+// stop before left. Where nothing failed it is all.
+fn check_left(
     rt: &impl Abort,
+    given: &[Contents],
+    stopped: &Stopped,
+    last: u64,
+    (case, call): ((Case, u64), u64),
+) {
+    let left = &stopped.left;
+    assert!(rt; given.contains(left), "call {call}, {case:?}: {left:?}");
+    assert!(rt;
+        stopped.safe <= left.last && last <= left.last,
+        "call {call}, {case:?}"
+    );
+    assert!(rt;
+        stopped.failed || given.last() == Some(left),
+        "{case:?}: {left:?}"
+    );
+}
+
+// Stops a run at each of those calls in turn, and looks at what is left.
+fn stop_at_each<M: StoreMemory>(
+    rt: &impl Abort,
+    memory: M,
     alloc: Global,
     whole: &Whole<'_>,
     case: (Case, u64),
 ) -> Result<(), Fail> {
-    let given = &whole.given;
     let mut last: u64 = 0;
     for call in 1..CALLS {
-        let stopped = stop_restarts(rt, alloc, whole, case, call)?;
-        let left = stopped.left;
-        assert!(rt; given.contains(&left), "call {call}, {case:?}: {left:?}");
-        assert!(rt;
-            stopped.safe <= left.last && last <= left.last,
-            "call {call}, {case:?}"
-        );
-        last = left.last;
+        let stopped = stop_restarts(rt, memory, alloc, whole, case, call)?;
+        check_left(rt, &whole.given, &stopped, last, (case, call));
         if !stopped.failed {
-            assert!(rt; given.last() == Some(&left), "{case:?}: {left:?}");
             return Ok(());
         }
+        last = stopped.left.last;
     }
     Err("fewer calls")?
+}
+
+// The same of each case.
+fn stop_in_each<M: StoreMemory>(
+    rt: &impl Abort,
+    memory: M,
+    alloc: Global,
+    whole: &Whole<'_>,
+    cases: &[(Case, u64)],
+) -> Result<(), Fail> {
+    assert!(rt; whole.given.len() == 5);
+    for case in cases {
+        stop_at_each(rt, memory, alloc, whole, *case)?;
+    }
+    Ok(())
+}
+
+// Stops a run of these requests so.
+fn stop_over<M: StoreMemory>(
+    rt: &impl Abort,
+    memory: M,
+    alloc: Global,
+    events: &[Event],
+    cases: &[(Case, u64)],
+) -> Result<(), Fail> {
+    let whole = whole_by_new(memory, alloc, events)?;
+    let stopped = stop_in_each(rt, memory, alloc, &whole, cases);
+    drop(whole);
+    stopped
 }
 
 // Stops a run of the script so.
 fn stop(rt: &impl Abort, alloc: Global, cases: &[(Case, u64)]) -> Result<(), Fail> {
     let events = requests(alloc, SCRIPT)?;
     let memory = ample(alloc);
-    let whole = whole_by_new(&memory, alloc, &events)?;
-    assert!(rt; whole.given.len() == 5);
-    for case in cases {
-        stop_at_each(rt, alloc, &whole, *case)?;
-    }
-    Ok(())
+    let stopped = stop_over(rt, &memory, alloc, &events, cases);
+    drop(events);
+    stopped
 }
 
 // The calls that change what is kept fail in turn, with each fate of what is not synced, and behind each of them each

@@ -57,26 +57,68 @@ pub(crate) fn held_on<M: StoreMemory>(memory: M, disk: Disk) -> Result<(Contents
     Ok(held)
 }
 
-// One run of the script over so many pages and slots tells these numbers, and ends with a flip. What a crash leaves
+// What these requests are answered, what a crash leaves then, and how many entries.
+fn run_and_crash<M: StoreMemory>(
+    memory: M,
+    alloc: Global,
+    disk: Disk,
+    events: &[Event],
+) -> Result<(Vec<Answer>, (Contents, usize)), Fail> {
+    let (answers, disk) = run_over(memory, alloc, disk, events)?;
+    match held_on(memory, disk.crash(Fate::Junk)) {
+        Ok(left) => Ok((answers, left)),
+        Err(fail) => {
+            drop(answers);
+            Err(fail)
+        }
+    }
+}
+
+// The answers tell these numbers, and end with a flip.
+fn check_answers(
+    rt: &impl Abort,
+    alloc: Global,
+    answers: &[Answer],
+    wanted: &[u64],
+) -> Result<(), Fail> {
+    assert!(rt; matches!(answers.last(), Some(Answer::Flipped(_))));
+    assert!(rt;
+        numbers_of(alloc, answers)?.ends_with(wanted),
+        "{answers:?}"
+    );
+    Ok(())
+}
+
+// One run of the requests over so many pages and slots tells these numbers, and ends with a flip. What a crash leaves
 // then, and how many entries.
+fn flip_over<M: StoreMemory>(
+    rt: &impl Abort,
+    memory: M,
+    alloc: Global,
+    events: &[Event],
+    (pages, slots): (u32, u32),
+    wanted: &[u64],
+) -> Result<(Contents, usize), Fail> {
+    let disk = Disk::formatted(alloc, pages, slots)?;
+    let (answers, left) = run_and_crash(memory, alloc, disk, events)?;
+    let checked = check_answers(rt, alloc, &answers, wanted);
+    drop(answers);
+    checked?;
+    Ok(left)
+}
+
+// The same of a script.
 fn flip(
     rt: &impl Abort,
     alloc: Global,
     script: &str,
-    (pages, slots): (u32, u32),
+    size: (u32, u32),
     wanted: &[u64],
 ) -> Result<(Contents, usize), Fail> {
-    let memory = ample(alloc);
     let events = requests(alloc, script)?;
-    let disk = Disk::formatted(alloc, pages, slots)?;
-    let (answers, disk) = run_over(&memory, alloc, disk, &events)?;
-    let left = held_on(&memory, disk.crash(Fate::Junk))?;
-    assert!(rt; matches!(answers.last(), Some(Answer::Flipped(_))));
-    assert!(rt;
-        numbers_of(alloc, &answers)?.ends_with(wanted),
-        "{answers:?}"
-    );
-    Ok(left)
+    let left = flip_over(rt, &ample(alloc), alloc, &events, size, wanted);
+    drop(events);
+    left
 }
 
 // Four transactions of 50 rows each, with this behind them.

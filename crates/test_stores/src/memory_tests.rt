@@ -4,7 +4,7 @@ use nsf_core::BuildReply;
 use records::Error;
 use restart::Event;
 use sector_device::Fate;
-use std::alloc::Global;
+use std::alloc::{AllocError, Global};
 use std::process::Abort;
 use std::test::Fail;
 use test_memory::Refusing;
@@ -116,32 +116,82 @@ fn play(
     play_in(rt, &Refusing::new(alloc, before), alloc, requests)
 }
 
-// Refuses each allocation in turn, and at last none. What was answered, and which of these answers were to a second
-// request.
+// Plays the requests where this allocation is refused: the place of the request that was made again, and how many
+// allocations were refused. All else is as it was played with none.
+fn play_short(
+    rt: &impl Abort,
+    alloc: Global,
+    requests: (&[Event], u32),
+    before: u64,
+    wanted: &Played,
+) -> Result<(Option<usize>, u64), Fail> {
+    let played = play(rt, alloc, requests, before)?;
+    assert!(rt;
+        played.answers == wanted.answers && played.left == wanted.left,
+        "allocation {before}"
+    );
+    let told = (played.again, played.refused);
+    drop(played);
+    Ok(told)
+}
+
+// Keeps the answer at this place, if there is one.
+fn keep(again: &mut Vec<Answer>, wanted: &Played, place: Option<usize>) -> Result<(), AllocError> {
+    if let Some(place) = place {
+        if let Some(answer) = wanted.answers.get(place) {
+            again.push(*answer)?;
+        }
+    }
+    Ok(())
+}
+
+// Refuses each allocation in turn, and at last none. Keeps the answers that were to a second request.
+fn refuse_until_none(
+    rt: &impl Abort,
+    alloc: Global,
+    requests: (&[Event], u32),
+    wanted: &Played,
+    again: &mut Vec<Answer>,
+) -> Result<(), Fail> {
+    for before in 0..PLAYS {
+        let (place, refused) = play_short(rt, alloc, requests, before, wanted)?;
+        if refused == 0 {
+            return Ok(());
+        }
+        keep(again, wanted, place)?;
+    }
+    Err("fewer allocations")?
+}
+
+// The answers that were to a second request, as each allocation was refused in turn.
+fn answers_again(
+    rt: &impl Abort,
+    alloc: Global,
+    requests: (&[Event], u32),
+) -> Result<Vec<Answer>, Fail> {
+    let wanted = play(rt, alloc, requests, u64::MAX)?;
+    let mut again = Vec::new(alloc);
+    let refused = refuse_until_none(rt, alloc, requests, &wanted, &mut again);
+    drop(wanted);
+    match refused {
+        Ok(()) => Ok(again),
+        Err(fail) => {
+            drop(again);
+            Err(fail)
+        }
+    }
+}
+
+// The same of a script.
 fn refuse_each(
     rt: &impl Abort,
     alloc: Global,
     (script, pages): (&str, u32),
 ) -> Result<Vec<Answer>, Fail> {
     let events = requests(alloc, script)?;
-    let wanted = play(rt, alloc, (&events, pages), u64::MAX)?;
-    let mut again = Vec::new(alloc);
-    for before in 0..PLAYS {
-        let played = play(rt, alloc, (&events, pages), before)?;
-        assert!(rt;
-            played.answers == wanted.answers && played.left == wanted.left,
-            "allocation {before}"
-        );
-        if played.refused == 0 {
-            return Ok(again);
-        }
-        if let Some(place) = played.again {
-            if let Some(answer) = wanted.answers.get(place) {
-                again.push(*answer)?;
-            }
-        }
-    }
-    Err("fewer allocations")?
+    let again = answers_again(rt, alloc, (&events, pages));
+    drop(events);
+    again
 }
 
 // A row is deleted behind the scan of a build.

@@ -123,8 +123,7 @@ fn is_same(
 }
 
 // The same, of an old disk with these sectors. It is as before, and has no sector that a crash may change.
-fn moved<M: StoreMemory>(
-    memory: M,
+fn moved(
     alloc: Global,
     edits: &[Edit<'_>],
     sectors: u64,
@@ -132,7 +131,7 @@ fn moved<M: StoreMemory>(
 ) -> Result<Result<MovedStore, MigrateError>, Fail> {
     let (mut old, new) = disks(alloc, edits, sectors)?;
     let before = sectors_of(alloc, &mut old);
-    let moved = move_and_run(memory, alloc, &mut old, new, events);
+    let moved = move_and_run(&ample(alloc), alloc, &mut old, new, events);
     let mut left = old.crash(Fate::Junk);
     let after = sectors_of(alloc, &mut left);
     drop(left);
@@ -163,10 +162,14 @@ fn ant() -> Result<Row, Error> {
     })
 }
 
+// What a store holds is this.
+fn check_held(rt: &impl Abort, held: &Contents, wanted: &Contents) {
+    assert_eq!(rt; *held, *wanted);
+}
+
 // Moves a store with these sectors, and opens it again behind a crash. What it holds both times is this.
-fn check_moved<M: StoreMemory>(
+fn check_moved(
     rt: &impl Abort,
-    memory: M,
     alloc: Global,
     edits: &[Edit<'_>],
     wanted: Contents,
@@ -177,21 +180,20 @@ fn check_moved<M: StoreMemory>(
             answers,
             disk,
         },
-    ) = moved(memory, alloc, edits, SECTORS, &[])?
+    ) = moved(alloc, edits, SECTORS, &[])?
     else {
         return Err("a store that is moved")?;
     };
     drop(answers);
-    let again = held_on(memory, disk.crash(Fate::Junk));
-    assert_eq!(rt; held, wanted);
+    let again = held_on(&ample(alloc), disk.crash(Fate::Junk));
+    check_held(rt, &held, &wanted);
     let (again, _) = again?;
-    assert_eq!(rt; again, wanted);
+    check_held(rt, &again, &wanted);
     Ok(())
 }
 
 #[test]
 fn stores_of_version_1_are_moved(rt: HostRuntime) -> Result<(), Fail> {
-    let memory = ample(rt.alloc());
     let rows = (Some(ant()?), None);
     let marked = pair(b"a", Rid { page: 0, slot: 1 })?;
     let live = pair(b"ant", Rid { page: 0, slot: 0 })?;
@@ -222,15 +224,15 @@ fn stores_of_version_1_are_moved(rt: HostRuntime) -> Result<(), Fail> {
         (IMAGED_UNFINISHED, imaged),
     ];
     for (edits, wanted) in cases {
-        check_moved(&rt, &memory, rt.alloc(), edits, wanted)?;
+        check_moved(&rt, rt.alloc(), edits, wanted)?;
     }
     Ok(())
 }
 
 // What a moved store answers to a script.
-fn answers_of<M: StoreMemory>(memory: M, alloc: Global, script: &str) -> Result<Vec<Answer>, Fail> {
+fn answers_of(alloc: Global, script: &str) -> Result<Vec<Answer>, Fail> {
     let events = requests(alloc, script)?;
-    match moved(memory, alloc, LOGGED, SECTORS, &events)? {
+    match moved(alloc, LOGGED, SECTORS, &events)? {
         Ok(MovedStore { answers, disk, .. }) => {
             drop(disk);
             Ok(answers?)
@@ -241,8 +243,7 @@ fn answers_of<M: StoreMemory>(memory: M, alloc: Global, script: &str) -> Result<
 
 #[test]
 fn a_moved_store_goes_on(rt: HostRuntime) -> Result<(), Fail> {
-    let memory = ample(rt.alloc());
-    let answers = answers_of(&memory, rt.alloc(), "begin\ninsert 1 =b =\ncommit 1\n")?;
+    let answers = answers_of(rt.alloc(), "begin\ninsert 1 =b =\ncommit 1\n")?;
     let [Answer::Txn(_), Answer::Rid(rid), Answer::Ticket(ticket)] = *answers else {
         return Err("a row of a transaction that commits")?;
     };
@@ -251,13 +252,12 @@ fn a_moved_store_goes_on(rt: HostRuntime) -> Result<(), Fail> {
 }
 
 // Why a store with these sectors isn't moved to a disk of so many.
-fn why_not_moved<M: StoreMemory>(
-    memory: M,
+fn why_not_moved(
     alloc: Global,
     edits: &[Edit<'_>],
     sectors: u64,
 ) -> Result<Option<MigrateError>, Fail> {
-    match moved(memory, alloc, edits, sectors, &[])? {
+    match moved(alloc, edits, sectors, &[])? {
         Ok(moved) => {
             drop(moved);
             Ok(None)
@@ -266,85 +266,88 @@ fn why_not_moved<M: StoreMemory>(
     }
 }
 
+const DAMAGED: MigrateError = MigrateError::Old(Error::Damaged { sector: 0 });
+
+// Stores by what is wrong with them, their sectors, those of the new disk, and why they aren't moved.
+const NOT_MOVED: [(&str, &[Edit<'_>], u64, MigrateError); 5] = [
+    (
+        "a new disk too small",
+        LOGGED,
+        SECTORS - 1,
+        MigrateError::New(Error::DeviceTooSmall),
+    ),
+    (
+        "version 2",
+        &[SUPERBLOCK_1, (0, 11, b"\x02")],
+        SECTORS,
+        DAMAGED,
+    ),
+    (
+        "version 2, and a new disk too small",
+        &[SUPERBLOCK_1, (0, 11, b"\x02")],
+        0,
+        DAMAGED,
+    ),
+    (
+        "more pages",
+        &[SUPERBLOCK_1, (0, 15, b"\x02")],
+        SECTORS,
+        MigrateError::Old(Error::DeviceTooSmall),
+    ),
+    (
+        "no store",
+        &[],
+        SECTORS,
+        MigrateError::Old(Error::NotFormatted),
+    ),
+];
+
 #[test]
 fn stores_that_are_not_moved(rt: HostRuntime) -> Result<(), Fail> {
-    let memory = ample(rt.alloc());
-    let damaged = MigrateError::Old(Error::Damaged { sector: 0 });
-    let cases: [(&str, &[Edit<'_>], u64, MigrateError); 5] = [
-        (
-            "a new disk too small",
-            LOGGED,
-            SECTORS - 1,
-            MigrateError::New(Error::DeviceTooSmall),
-        ),
-        (
-            "version 2",
-            &[SUPERBLOCK_1, (0, 11, b"\x02")],
-            SECTORS,
-            damaged,
-        ),
-        (
-            "version 2, and a new disk too small",
-            &[SUPERBLOCK_1, (0, 11, b"\x02")],
-            0,
-            damaged,
-        ),
-        (
-            "more pages",
-            &[SUPERBLOCK_1, (0, 15, b"\x02")],
-            SECTORS,
-            MigrateError::Old(Error::DeviceTooSmall),
-        ),
-        (
-            "no store",
-            &[],
-            SECTORS,
-            MigrateError::Old(Error::NotFormatted),
-        ),
-    ];
-    for (name, edits, sectors, wanted) in cases {
-        let refused = why_not_moved(&memory, rt.alloc(), edits, sectors)?;
+    for (name, edits, sectors, wanted) in NOT_MOVED {
+        let refused = why_not_moved(rt.alloc(), edits, sectors)?;
         assert_eq!(rt; refused, Some(wanted), "{name}");
     }
-    let refused = why_not_open(&memory, old_disk(rt.alloc(), LOGGED)?);
+    let refused = why_not_open(rt.alloc(), old_disk(rt.alloc(), LOGGED)?);
     assert_eq!(rt; refused, Some(Error::OldVersion));
     Ok(())
 }
 
+// The sectors of a store, and the one at which it is damaged.
+const HARMED: [(&[Edit<'_>], u64); 18] = [
+    (&[SUPERBLOCK_1, (0, 24, b"\x01")], 0),
+    (&[SUPERBLOCK_1, (0, 15, b"\0")], 0),
+    (&[SUPERBLOCK_1, (2, 0, b"\x03")], 2),
+    (&[SUPERBLOCK_1, (2, 1, b"\x01")], 2),
+    (&[SUPERBLOCK_1, (2, 45, b"\x01")], 2),
+    (&[SUPERBLOCK_1, (3, 39, b"\x01")], 3),
+    (&[SUPERBLOCK_1, (3, 9, b"\x01")], 3),
+    (&[SUPERBLOCK_1, (3, 7, b"\x01\0\x01")], 4),
+    (&[SUPERBLOCK_1, (516, 0, b"\x01")], 516),
+    (&[SUPERBLOCK_1, (516, 64, b"\x02")], 516),
+    (&[SUPERBLOCK_1, (516, 64, b"\x01\x19")], 516),
+    (&[SUPERBLOCK_1, (516, 64, b"\x01"), (516, 90, b"\x26")], 516),
+    (&[SUPERBLOCK_1, (523, 0, b"\x02")], 516),
+    (&[SUPERBLOCK_1, (2, 44, b"\x01")], 524),
+    (&[SUPERBLOCK_1, (528, 0, b"\xa5")], 528),
+    (&[SUPERBLOCK_1, (528, 0, b"\xa5"), (529, 0, DROP)], 528),
+    (
+        &[
+            SUPERBLOCK_1,
+            (2, 40, b"\x01"),
+            (528, 0, b"\xa5"),
+            (529, 0, GROUP),
+        ],
+        528,
+    ),
+    (&[SUPERBLOCK_1, (536, 0, b"\xa5")], 536),
+];
+
 #[test]
 fn harmed_stores_of_version_1(rt: HostRuntime) -> Result<(), Fail> {
-    let memory = ample(rt.alloc());
-    let cases: [(&[Edit<'_>], u64); 18] = [
-        (&[SUPERBLOCK_1, (0, 24, b"\x01")], 0),
-        (&[SUPERBLOCK_1, (0, 15, b"\0")], 0),
-        (&[SUPERBLOCK_1, (2, 0, b"\x03")], 2),
-        (&[SUPERBLOCK_1, (2, 1, b"\x01")], 2),
-        (&[SUPERBLOCK_1, (2, 45, b"\x01")], 2),
-        (&[SUPERBLOCK_1, (3, 39, b"\x01")], 3),
-        (&[SUPERBLOCK_1, (3, 9, b"\x01")], 3),
-        (&[SUPERBLOCK_1, (3, 7, b"\x01\0\x01")], 4),
-        (&[SUPERBLOCK_1, (516, 0, b"\x01")], 516),
-        (&[SUPERBLOCK_1, (516, 64, b"\x02")], 516),
-        (&[SUPERBLOCK_1, (516, 64, b"\x01\x19")], 516),
-        (&[SUPERBLOCK_1, (516, 64, b"\x01"), (516, 90, b"\x26")], 516),
-        (&[SUPERBLOCK_1, (523, 0, b"\x02")], 516),
-        (&[SUPERBLOCK_1, (2, 44, b"\x01")], 524),
-        (&[SUPERBLOCK_1, (528, 0, b"\xa5")], 528),
-        (&[SUPERBLOCK_1, (528, 0, b"\xa5"), (529, 0, DROP)], 528),
-        (
-            &[
-                SUPERBLOCK_1,
-                (2, 40, b"\x01"),
-                (528, 0, b"\xa5"),
-                (529, 0, GROUP),
-            ],
-            528,
-        ),
-        (&[SUPERBLOCK_1, (536, 0, b"\xa5")], 536),
-    ];
-    for (edits, sector) in cases {
+    for (edits, sector) in HARMED {
         assert_eq!(rt;
-            why_not_moved(&memory, rt.alloc(), edits, 0)?,
+            why_not_moved(rt.alloc(), edits, 0)?,
             Some(MigrateError::Old(Error::Damaged { sector })),
             "{edits:?}"
         );

@@ -8,7 +8,7 @@ use std::process::Abort;
 use std::rt::Files;
 use std::test::Fail;
 use std::{fs, io};
-use store_file::{OpenError, Trouble, Troubled, create, discard, open, publish, read};
+use store_file::{OpenError, StoreFile, Trouble, Troubled, create, discard, open, publish, read};
 use test_memory::Refusing;
 
 const NEVER: u64 = u64::MAX;
@@ -238,24 +238,49 @@ fn a_file_that_is_harmed_while_it_is_open_is_told(rt: HostRuntime) -> Result<(),
     Ok(())
 }
 
-// Makes a file, and writes to it, over these files of the system.
-fn make_and_write<R: Files<File = File> + AllocGlobal>(
-    files: &Watched<'_, R>,
-    path: &str,
-) -> Result<Option<Trouble>, OpenError> {
-    let alloc = files.rt.alloc();
-    creates(files, alloc, path, 2)?;
+// Gives a file its name. Where it doesn't get it, its draft is removed.
+fn publish_or_discard<F: Files + AllocGlobal>(files: &F, path: &str) -> Result<(), OpenError>
+where
+    F::File: StoreFile,
+{
     if let Err(error) = publish(files, path) {
         let _ = discard(files, path);
         return Err(error);
     }
-    let mut disk = open(files, alloc, path)?;
-    let trouble = match write(&mut disk, 9) {
+    Ok(())
+}
+
+// Why a disk can't be written, if it can't.
+fn trouble_in_writing<D: Device + Troubled>(disk: &mut D) -> Option<Trouble> {
+    match write(disk, 9) {
         Ok(()) => None,
         Err(Failed) => disk.trouble(),
-    };
+    }
+}
+
+// Makes a file, and writes to it, over these files of the system.
+fn make_and_write<F: Files + AllocGlobal>(
+    files: &F,
+    path: &str,
+) -> Result<Option<Trouble>, OpenError>
+where
+    F::File: StoreFile,
+{
+    let alloc = files.alloc();
+    creates(files, alloc, path, 2)?;
+    publish_or_discard(files, path)?;
+    let mut disk = open(files, alloc, path)?;
+    let trouble = trouble_in_writing(&mut disk);
     drop(disk);
     Ok(trouble)
+}
+
+// The same, where the calls are noted.
+fn make_watched<R: Files<File = File> + AllocGlobal>(
+    files: &Watched<'_, R>,
+    path: &str,
+) -> Result<Option<Trouble>, OpenError> {
+    make_and_write(files, path)
 }
 
 // What a file holds is synced, and its name. A sector takes two writes, which take only a part.
@@ -265,7 +290,7 @@ fn write_watched<R: Files<File = File> + AllocGlobal + Abort>(
     path: &str,
 ) -> Result<(), Fail> {
     let files = Watched { rt, log };
-    assert_eq!(rt; make_and_write(&files, path)?, None);
+    assert_eq!(rt; make_watched(&files, path)?, None);
     assert!(rt; log.take().are(b"kwwwwsflrfkwwwwswws"));
     let bytes = fs::read(rt, path)?;
     assert!(rt; bytes.len() == 1_024 && bytes.iter().filter(|byte| **byte == 9).count() == 512);
@@ -321,6 +346,20 @@ fn a_look_at_a_draft_is_not_in_its_makers_way(rt: HostRuntime) -> Result<(), Fai
     Ok(())
 }
 
+// Of a file that was made and written, or wasn't, this trouble is told.
+fn check_trouble(
+    rt: &impl Abort,
+    made: Result<Option<Trouble>, OpenError>,
+    trouble: Trouble,
+) -> Result<(), Fail> {
+    match made {
+        Ok(told) => assert_eq!(rt; told, Some(trouble)),
+        Err(OpenError::Io(told)) => assert_eq!(rt; told, trouble),
+        Err(_) => return Err(Fail::new("another refusal")),
+    }
+    Ok(())
+}
+
 // What is there after the call fails that so many come before: no draft, and the file itself or nothing.
 fn fail_after<R: Files<File = File> + AllocGlobal + Abort>(
     rt: &R,
@@ -329,12 +368,9 @@ fn fail_after<R: Files<File = File> + AllocGlobal + Abort>(
     trouble: Trouble,
 ) -> Result<(), Fail> {
     let log = Log::new(before, code);
-    let files = Watched { rt, log: &log };
-    match make_and_write(&files, "failed") {
-        Ok(told) => assert_eq!(rt; told, Some(trouble)),
-        Err(OpenError::Io(told)) => assert_eq!(rt; told, trouble),
-        Err(_) => return Err(Fail::new("another refusal")),
-    }
+    let made = make_watched(&Watched { rt, log: &log }, "failed");
+    drop(log);
+    check_trouble(rt, made, trouble)?;
     assert!(rt; !fs::exists(rt, "failed.new")?);
     if fs::exists(rt, "failed")? {
         check(rt, &[("failed", Call::Open, "done")]);
@@ -343,23 +379,41 @@ fn fail_after<R: Files<File = File> + AllocGlobal + Abort>(
     Ok(())
 }
 
-// So many calls of an opened disk come before the one that fails, a write or a sync. Nothing reaches the file behind
-// it.
+// A write or a sync of this disk fails. Nothing reaches the file behind it.
+fn spoil_disk<D: Device>(rt: &impl Abort, log: &Log, disk: &mut D) {
+    assert!(rt; write(disk, 1).is_err());
+    log.take();
+    assert!(rt; write(disk, 2).is_err());
+    assert!(rt; disk.sync().is_err());
+    assert!(rt; log.take().are(b""));
+}
+
+// The same of the disk over a file.
+fn spoil_file<F: Files + AllocGlobal>(
+    rt: &impl Abort,
+    files: &F,
+    log: &Log,
+    path: &str,
+) -> Result<(), Fail>
+where
+    F::File: StoreFile,
+{
+    let mut disk = open(files, files.alloc(), path)?;
+    spoil_disk(rt, log, &mut disk);
+    drop(disk);
+    Ok(())
+}
+
+// So many calls of an opened disk come before the one that fails.
 fn spoil<R: Files<File = File> + AllocGlobal + Abort>(
     rt: &R,
     path: &str,
     before: u64,
 ) -> Result<(), Fail> {
     let log = Log::new(before, 5);
-    let files = Watched { rt, log: &log };
-    let mut disk = open(&files, rt.alloc(), path)?;
-    assert!(rt; write(&mut disk, 1).is_err());
-    log.take();
-    assert!(rt; write(&mut disk, 2).is_err());
-    assert!(rt; disk.sync().is_err());
-    assert!(rt; log.take().are(b""));
-    drop(disk);
-    Ok(())
+    let spoiled = spoil_file(rt, &Watched { rt, log: &log }, &log, path);
+    drop(log);
+    spoiled
 }
 
 #[test]
@@ -380,7 +434,7 @@ fn make_single<R: Files<File = File> + AllocGlobal + Abort>(
 ) -> Result<(), Fail> {
     let log = Log::new(7, code);
     let files = Watched { rt, log: &log };
-    let made = make_and_write(&files, path);
+    let made = make_watched(&files, path);
     assert!(rt; matches!(made, Err(OpenError::NoSecondName)));
     Ok(())
 }

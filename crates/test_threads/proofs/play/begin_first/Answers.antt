@@ -1,5 +1,5 @@
 use Rattle.threads_lifetime.proofs.Orders.{all_new, first_set}
-use Rattle.test_seats.proofs.play.begin_first.Goals as goal
+use Rattle.test_threads.proofs.play.begin_first.Goals as goal
 
 pub returns-then-is_empty : goal.returns-then-is_empty
 returns-then-is_empty g c = all_new g.B.Group.site.board g.B.Group.site.seats c.args.seats.now.items c.requires

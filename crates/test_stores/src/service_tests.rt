@@ -3,6 +3,9 @@ use crate::answers::Answers;
 use crate::program::{run, serve};
 use std::alloc::{AllocError, Global};
 use std::fs;
+use std::fs::File;
+use std::process::Abort;
+use std::rt::Files;
 use std::test::Fail;
 
 const FULL: &str =
@@ -56,27 +59,56 @@ fn many(alloc: Global) -> Result<String, AllocError> {
     Ok(script)
 }
 
+// Runs these commands on the store in the file of these words: the status is 0, the answers end so, and this is said,
+// where it is to be looked at.
+fn fill<R: Abort + Files<File = File> + AllocGlobal>(
+    rt: &R,
+    words: &[&str],
+    script: &str,
+    end: &[u8],
+    wanted: Option<&[u8]>,
+) {
+    let mut answers = Answers::new(rt, "");
+    let (status, said) = serve(words, script, &mut answers);
+    assert_eq!(rt; status, 0);
+    assert!(rt; answers.text.ends_with(end));
+    if let Some(wanted) = wanted {
+        assert_eq!(rt; said.as_slice(), wanted);
+    }
+    drop(answers);
+    drop(said);
+}
+
+// Words, the status that they end with, and what is printed and said.
+type Call = (&'static [&'static str], u8, &'static str, &'static str);
+
+const WAY_OUT: [Call; 3] = [
+    (&["nsf-store", "build", "f"], 1, "", AGAIN),
+    (
+        &["nsf-store", "build", "--again", "f"],
+        0,
+        "complete, 60 pairs attempted\n",
+        "",
+    ),
+    (&["nsf-store", "check", "f"], 0, "sound\n", ""),
+];
+
 #[test]
 fn the_way_out_of_a_full_index_is_told(rt: HostRuntime) -> Result<(), Fail> {
     let new = &["nsf-store", "new", "f", "--pages", "1", "--entries", "64"];
     run(&rt, new.as_slice(), "", 0, "", "")?;
-    let mut answers = Answers::new(&rt, "");
+    let script = filling(rt.alloc())?;
     let words = &["nsf-store", "run", "f"];
-    let (status, said) = serve(
+    let end = b"refused 13 IndexFull\n";
+    fill(
+        &rt,
         words.as_slice(),
-        filling(rt.alloc())?.as_str(),
-        &mut answers,
+        &script,
+        end.as_slice(),
+        Some(FULL.as_bytes()),
     );
-    assert_eq!(rt; status, 0);
-    assert!(rt; answers.text.ends_with(b"refused 13 IndexFull\n"));
-    assert_eq!(rt; said.as_slice(), FULL.as_bytes());
-    let done = "complete, 60 pairs attempted\n";
-    let calls: [(&[&str], u8, &str, &str); 3] = [
-        (&["nsf-store", "build", "f"], 1, "", AGAIN),
-        (&["nsf-store", "build", "--again", "f"], 0, done, ""),
-        (&["nsf-store", "check", "f"], 0, "sound\n", ""),
-    ];
-    for (words, status, printed, said) in calls {
+    drop(script);
+    for (words, status, printed, said) in WAY_OUT {
         run(&rt, words, "", status, printed, said)?;
     }
     fs::remove_file(&rt, "f")?;
@@ -87,18 +119,13 @@ fn the_way_out_of_a_full_index_is_told(rt: HostRuntime) -> Result<(), Fail> {
 fn an_index_that_is_too_small_is_told(rt: HostRuntime) -> Result<(), Fail> {
     let new = &["nsf-store", "new", "s", "--pages", "2", "--entries", "64"];
     run(&rt, new.as_slice(), "", 0, "", "")?;
-    let mut answers = Answers::new(&rt, "");
+    let script = many(rt.alloc())?;
     let words = &["nsf-store", "run", "s"];
-    let (status, _) = serve(words.as_slice(), many(rt.alloc())?.as_str(), &mut answers);
-    assert!(rt; status == 0 && answers.text.ends_with(b"rid 1.2\nticket 68\n"));
-    run(
-        &rt,
-        &["nsf-store", "build", "--again", "s"],
-        "",
-        1,
-        "",
-        SMALL,
-    )?;
+    let end = b"rid 1.2\nticket 68\n";
+    fill(&rt, words.as_slice(), &script, end.as_slice(), None);
+    drop(script);
+    let again = &["nsf-store", "build", "--again", "s"];
+    run(&rt, again.as_slice(), "", 1, "", SMALL)?;
     fs::remove_file(&rt, "s")?;
     Ok(())
 }
@@ -144,27 +171,42 @@ const FAILED_DURABLE: Run<'_> = Run {
     said: CUT,
 };
 
-// As the last ticket is answered, the file holds all that it does in the end.
+// The program has answered and said this. Each line is answered before the next one is read. As the last ticket is
+// answered, the file holds all that it does in the end.
+fn check_answers<R: Abort + Files<File = File> + AllocGlobal>(
+    rt: &R,
+    answers: &Answers<'_, R>,
+    (status, said): (u8, &[u8]),
+    wanted: &Run<'_>,
+) -> Result<(), Fail> {
+    assert_eq!(rt; answers.text.as_slice(), wanted.answers.as_bytes());
+    assert_eq!(rt; said, wanted.said.as_bytes());
+    assert_eq!(rt; status, wanted.status);
+    assert!(rt; answers.flushes >= wanted.script.lines().count());
+    assert!(rt; wanted.is_cut || answers.held == fs::read(rt, "d")?);
+    Ok(())
+}
+
+// Runs the program so, and looks at what it answers and says.
+fn check_run<R: Abort + Files<File = File> + AllocGlobal>(
+    rt: &R,
+    wanted: &Run<'_>,
+) -> Result<(), Fail> {
+    let mut answers = Answers::new(rt, "d");
+    answers.cuts = wanted.is_cut;
+    let (status, said) = serve(wanted.words, wanted.script, &mut answers);
+    let checked = check_answers(rt, &answers, (status, &said), wanted);
+    drop(answers);
+    drop(said);
+    checked
+}
+
 #[test]
 fn a_durable_commit_is_safe_once_it_is_answered(rt: HostRuntime) -> Result<(), Fail> {
+    let new = &["nsf-store", "new", "d", "--pages", "1"];
     for wanted in [PUT, FAILED, FAILED_DURABLE] {
-        run(
-            &rt,
-            &["nsf-store", "new", "d", "--pages", "1"],
-            "",
-            0,
-            "",
-            "",
-        )?;
-        let mut answers = Answers::new(&rt, "d");
-        answers.cuts = wanted.is_cut;
-        let (status, said) = serve(wanted.words, wanted.script, &mut answers);
-        assert_eq!(rt; answers.text.as_slice(), wanted.answers.as_bytes());
-        assert_eq!(rt; said.as_slice(), wanted.said.as_bytes());
-        assert_eq!(rt; status, wanted.status);
-        // Each line is answered before the next one is read.
-        assert!(rt; answers.flushes >= wanted.script.lines().count());
-        assert!(rt; wanted.is_cut || answers.held == fs::read(&rt, "d")?);
+        run(&rt, new.as_slice(), "", 0, "", "")?;
+        check_run(&rt, &wanted)?;
         fs::remove_file(&rt, "d")?;
     }
     Ok(())

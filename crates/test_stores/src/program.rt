@@ -33,5 +33,7 @@ pub(crate) fn run<R: Abort + Files<File = File> + AllocGlobal>(
     assert_eq!(rt; answers.text.as_slice(), printed.as_bytes());
     assert_eq!(rt; errors.as_slice(), said.as_bytes());
     assert_eq!(rt; ended, status);
+    drop(answers);
+    drop(errors);
     Ok(())
 }

@@ -1,4 +1,4 @@
-// The calls of the crate, each made here once. What is opened is let go.
+// The calls of `store_file`, each made here once. What is opened is let go.
 use sector_device::{Device, Failed, SECTOR_SIZE};
 use std::alloc::Allocator;
 use std::process::Abort;
