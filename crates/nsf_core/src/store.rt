@@ -316,27 +316,6 @@ impl<A: Allocator + Copy> Core<A> {
         Ok(())
     }
 
-    /// Why `create_index` would be refused, but for want of memory: `IndexExists`, then `TxnsActive`,
-    /// and `Exhausted`.
-    pub fn check_create(&self) -> Result<(), Error>
-        ensures refused { IfErr result (IsRefused (value_of self.now) Event.Create) }
-        ensures fine { OnOk result (IsFine (value_of self.now) Event.Create) }
-    {
-        self.parts.may_create()?;
-        self.parts.next_number()?;
-        Ok(())
-    }
-
-    /// Why `drop_index` would be refused, but for want of memory: `NoIndex`, then `TxnsActive`, and `Exhausted`.
-    pub fn check_drop(&self) -> Result<(), Error>
-        ensures refused { IfErr result (IsRefused (value_of self.now) Event.Drop) }
-        ensures fine { OnOk result (IsFine (value_of self.now) Event.Drop) }
-    {
-        self.parts.may_drop()?;
-        self.parts.next_number()?;
-        Ok(())
-    }
-
     /// How many pages there are for rows. Each row is at a place of them.
     pub fn pages(&self) -> u32
         ensures number { result ≡ (value_of self.now).heap.pages }
