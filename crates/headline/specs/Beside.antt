@@ -50,8 +50,8 @@ pub record IsFoundBeside {C : Type 0} (geometry : GeometryValue) (old : AtRest) 
 -- Records were kept up to a last one. The rows are those that there were. Over them are set the commits of all seats up
 -- to that record, in the order of their numbers.
 --
--- Unless the store stopped within the opening or the clients' work, that record is not below the horizon. Where it
--- stopped behind all that was done and all was written, each commit of the seats was kept.
+-- Unless the day ends `Opening`, that record is not below the horizon. Where it stopped behind all that was done and
+-- all was written, each commit of the seats was kept.
 pub record IsServedBeside {C : Type 0} (geometry : GeometryValue) (old : AtRest) (seats : List SeatValue)
     (horizon : ℕ) (end : End) (answer : SharedAnswer C) (new : AtRest) : Type 0 where
   pub commits : List CommitValue
@@ -62,7 +62,7 @@ pub record IsServedBeside {C : Type 0} (geometry : GeometryValue) (old : AtRest)
       ((all : List CommitValue) × AreCommitsOf seats all × (new.rows ≡ table_with old.rows all))
   pub found : IsFoundBeside geometry old seats end answer new
 
--- The days have made a store of what it began with. Each client has worked over that with a new seat of its own, which
+-- The days have made a store of what it began with. Each client has worked with a new seat of its own, which
 -- has read no horizon above this one. What the seats did has made this store of that. Or it stopped within its opening,
 -- and rests as it did: what the clients did came later, and never came to the device.
 --

@@ -35,7 +35,7 @@ pub record Holds (geometry : GeometryValue) (store : AtRest) (built : Bool) (cor
   pub quiet : IsQuiet geometry core
 
 -- The days have made a store of what it began with. The engine was opened over that, and now holds it. It has made
--- steps of the builder alone; and none, where the build wasn't carried on. No call of the device has failed since.
+-- steps of the builder alone; and none, where the build wasn't carried on. The device's count of failures is as it was.
 pub record HasLived {D M : Type 0} (failures : D → ℕ) (geometry : GeometryValue) (began : AtRest) (days : List (Day M))
     (answers : List (Answer M)) (built : Bool) (engine : EngineParts D M) : Type 0 where
   pub store : AtRest
@@ -70,8 +70,8 @@ pub record IsUnbuilt {D M : Type 0} (failures : D → ℕ) (geometry : GeometryV
   pub quiet : IsQuiet geometry (core_of engine)
   pub failed : failures (device_of engine) ≡ failures (device_of opened)
 
--- Why a store wasn't opened, before its days or behind them. None of them, or all, have made a store; to open that,
--- there was no memory, or a call of the device failed.
+-- Why a store wasn't opened, before its days or behind them. It is what it began with, or what all the days have made
+-- of it. To open that, there was no memory, or a call of the device failed.
 pub record IsNotReopened {D M : Type 0} (failures : D → ℕ) (geometry : GeometryValue) (began : AtRest)
     (days : List (Day M)) (answers : List (Answer M)) (e : Error) (now : ℕ) : Type 0 where
   pub store : AtRest

@@ -49,7 +49,8 @@ pub struct NotLivedBeside<C, D: Mortal> {
     pub device: D,
 }
 
-// Stops the device: at one of its moments since the opening began, or since the later mark; or where it is.
+// Stops the device: at one of its moments since the opening began, or since clients and loops had ended; or where it
+// is.
 fn stop_device<D: Mortal>(device: &mut D, opening: u64, closing: u64, end: End)
     ensures stopped { (first mid : ℕ) → D.marks opening first → D.marks closing mid → first ≤ mid
         → mid ≤ (D.past_of device.old).moment
@@ -213,9 +214,10 @@ fn refused_before<C, D: Mortal>(refusal: NotLived<Error, D, Global>) -> NotLived
 /// of a row; as far as the index was built, the pair of each row is visible; and once its build was carried to its end,
 /// every row's.
 ///
-/// Where clients and loops had ended before the stop, the last record is not below any horizon that a seat has read: so
-/// nothing is lost that was acknowledged. On a day that ends `Opening`, no clause says how many records were kept. (The
-/// flusher's part keeps that it publishes a horizon behind the sync of its records: `IsFlusher`.)
+/// Unless the day ends `Opening`, the last record is not below any horizon that a seat has read. So nothing is lost
+/// that was acknowledged. On a day that ends `Opening` no clause says how many records were kept, also where its
+/// clients had ended. (The flusher's part keeps that no horizon is above what is synced, and each from its moment on:
+/// `IsFlusher`.)
 ///
 /// Where the build is refused, `unbuilt` tells why, as that of `live_through` does.
 ///

@@ -13,8 +13,8 @@
 //!
 //! Proved: `live_beside` (`holds`, `unbuilt`, `refused`, `many`, `too_small`, `unchanged`, `room`). Behind a whole day,
 //! and on one that stops while the rest is written out, nothing is lost that a seat has read to be safe. Only tested
-//! (`test_nsf`): two clients over a disk in memory. Neither: how many commits are kept of a day that stops before
-//! clients and loops have ended.
+//! (`test_nsf`): two clients over a disk in memory. Neither: how many commits are kept of a day that ends
+//! `Opening`; that one that ends `Closing` stops before all is written.
 //!
 //! What many threads leave, as the contract of one call: every seat is taken back, the power fails behind that, and the
 //! store is opened again.

@@ -9,7 +9,7 @@ pub enum End {
     Behind,
     /// At any moment since the clients and the loops beside them had ended, while the rest is written out.
     Closing,
-    /// At any moment since the opening began.
+    /// At any moment since the opening began, also one at which the clients had ended.
     Opening,
 }
 
@@ -21,7 +21,8 @@ pub struct SharedDay<C> {
 }
 
 /// What came of a day of clients: they, in their order, each as its work has left it; what was told of the builder; and
-/// why not all was written to the device, if so.
+/// why not all was written to the device, if so. Where the store stopped earlier, `built` and `written` were told later
+/// than that.
 #[derive(Drop)]
 pub struct SharedAnswer<C> {
     pub clients: Vec<C>,

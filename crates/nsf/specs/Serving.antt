@@ -101,8 +101,9 @@ pub record IsLaterPast (old new : DevicePast) : Type 0 where
   pub later : old.moment ≤ new.moment
   pub kept : (t : ℕ) → t ≤ old.moment → new.disk_at t ≡ old.disk_at t
 
--- Behind the opening, as clients and loops had ended, the device was shown. A crash at any moment since leaves what was
--- opened with the seats' commits set over it, up to some record that isn't before the floor.
+-- The device was shown, behind the opening. A crash at any moment since leaves what was opened with the seats' commits
+-- set over it. They go up to some record that isn't before the floor. (That clients and loops had ended then, and that
+-- the rest was written later, no field says.)
 pub record HadEnded {D : Type 0} (past_of : D → DevicePast) (shown : D → Type 0) (o : Opened) (geometry : GeometryValue)
     (seats : List SeatValue) (popped : List RecordValue) (floor : ℕ) (opened device : D) : Type 0 where
   pub was : D

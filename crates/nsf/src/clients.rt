@@ -66,17 +66,18 @@ pub struct Served<C, D> {
 ///
 /// Each client has worked, with a new seat of its own. Then a crash leaves what was opened with the commits of all
 /// seats set over it; where `written` tells a refusal, with those up to some record. No horizon that a seat has read
-/// is above that record: so nothing is lost that a client knows to be safe. Nor was it at any moment since the last
-/// horizon was published; when that was, no clause says. Since the store was opened, a crash at any moment leaves the
-/// commits up to some record; and before that what one could leave before the call, or what gives the same (`leaves`).
+/// is above that record: so nothing is lost that a client knows by its seat to be safe. Nor was it at any moment since
+/// the last horizon was published; when that was, no clause says. Since the store was opened, a crash at any moment
+/// leaves the commits up to some record; and before that what one could leave before the call, or what gives the same
+/// (`leaves`).
 ///
 /// A refusal is `NoMemory`, or `DeviceFailed` where the device's count of failures has risen (`why`); that never falls
 /// (`later`). A transaction that a client left active is taken back when the store is opened again.
 ///
 /// The errors are those of `open_store`, as `TooManyTxns` where there are more than 16 clients (`many`), and
-/// `NoMemory`, also where no thread can be made for what runs beside the clients: then no client is called. The device
-/// is given back then; a crash at any moment of the call leaves what one before could, or what gives the same
-/// (`refused`).
+/// `NoMemory`. That comes also where no thread can be made for what runs beside the clients; no client is called then.
+/// (No clause says the last.) The device is given back; a crash at any moment of the call leaves what one before
+/// could, or what gives the same (`refused`).
 pub fn serve<C: Client + Send + Drop, D: Device + Send + Drop, R: Threads + Wait + Sync>(
     rt: &R,
     alloc: Global,

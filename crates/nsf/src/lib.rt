@@ -110,8 +110,8 @@
 //!
 //! A program that starts threads itself opens the store by `open_store`, or by `open_engine` where an engine served it
 //! before: nothing that the engine holds is lost. It calls a function that is generic in the group with `Brand`. That
-//! one starts the store by `store.start::<B, ToldCommits>()`; what its seats have done takes no memory then. By
-//! `store.start::<B, KeptCommits>()` their commits are kept, and `finish` gives them. The caller says in its
+//! one starts the store by `store.start::<B, ToldCommits>()`; what its seats have done is told to contracts alone then.
+//! By `store.start::<B, KeptCommits>()` their commits are kept, and `finish` gives them. The caller says in its
 //! `Invariants.antt` what the group's names are, as here for a function `work`:
 //!
 //! ```antt
@@ -134,8 +134,8 @@
 //!
 //! Of many: all clients of `serve` have worked, each with a new seat of its own. Then a crash leaves what was opened
 //! with the commits of these seats set over it, up to some record. That isn't before any horizon that one of the seats
-//! has read; and where nothing was refused, it has all (`leaves`). So it is at any moment since clients and loops had
-//! ended, while the rest is written out (`leaves` of `serve_and_see`). What was left may be opened again (the law
+//! has read; and where nothing was refused, it has all (`leaves`). Nor is it before one at any moment since `see` was
+//! called, once clients and loops had ended (`leaves` of `serve_and_see`). What was left may be opened again (the law
 //! `left_by_threads`). Why not all was written is told (`why`), and how the builder ended. Above it stands
 //! `live_beside` of `headline`. Only tested (`test_nsf`): both examples.
 #![tactic(auto)]

@@ -1,5 +1,5 @@
 //! What stands at the front of some bytes. Each function takes one field off the front, and gives what is behind it;
-//! none where the bytes are too few.
+//! none where the bytes are too few, or are no such field.
 ghost use Rattle.std.specs.Prelude.{◌≡◌};
 ghost use Rattle.std.specs.Option.{option_map};
 ghost use Rattle.records.specs.Reading.{u16_at, u32_at, u64_at, byte_at, rid_at};

@@ -75,7 +75,7 @@ impl<A: Allocator + Copy> TxnTable<A> {
         }
     }
 
-    /// A law: what the type keeps. No row is held by two transactions.
+    /// A law: of what the type keeps, that no row is held by two transactions, and the numbers rise.
     pub fn stands(&self)
         ensures { IsSoundTable self.now }
     {
