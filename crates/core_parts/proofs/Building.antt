@@ -9,7 +9,7 @@ use Rattle.std.specs.FinMap.{get, len, nat_cmp-IsAntisymmetric, slice_cmp-IsAnti
 use Rattle.std.specs.List.{Contains}
 use Rattle.std.specs.Option.{IfSome}
 use Rattle.std.specs.Ordering.{eq_by_cmp, nat_cmp}
-use Rattle.std.specs.Prelude.{Err, IfErr, IfOk, Ok, OnErr, Result, min, ◌-◌, ◌^◌, ◌↔◌}
+use Rattle.std.specs.Prelude.{Err, IfErr, IfOk, Ok, OnErr, OnOk, Result, min, ◌-◌, ◌^◌, ◌↔◌}
 use Rattle.record_values.specs.Maps.{key_is, pair_exact, same_key, set_at, set_at-again, set_at-get}
 use Rattle.record_values.specs.Orders.{pair_cmp_total}
 use Rattle.record_values.specs.declared.error.Error.{Error}
@@ -27,7 +27,7 @@ use Rattle.model.specs.declared.life.Life.TheVariants.{Absent, Building, Complet
 use Rattle.marked_index.specs.Index.{IndexValue, IsAbsent, IsFull, entries_after}
 use Rattle.sorted_scan.specs.Pairs.{is_above, is_among}
 use Rattle.sorted_scan.specs.Runs.{HandedOut, IsAtEnd, IsSteady, MayHandOut, ScanRun, Took, is_given, is_missed, is_taken, last_pair, taken_in_a_row, with_step}
-use Rattle.sorted_scan.specs.Scans.{HasRun, ScanValue}
+use Rattle.sorted_scan.specs.Scans.{HasRun, ScanValue, begun, begun_run}
 use Rattle.core_model.proofs.Laws.{build_put_some, not_none}
 use Rattle.core_model.specs.Logs.{one_record}
 use Rattle.core_model.specs.Records.{action_of, place_action}
@@ -127,7 +127,27 @@ put_back v i back p absent put taken =
     (set_at-again pair_exact v.index.entries p (after_action BuildPut (get v.index.entries p)) None ∙ ap (set_at v.index.entries p) (sym absent)
     ∙ set_at-get pair_exact v.index.entries p)
 
+-- ---- a scan that begins
+pub run_begun : (scan : ScanValue) (pages pages' : ℕ) → scan ≡ begun None pages → pages ≡ pages' → HasRun scan (begun_run None pages)
+    → HasRun (begun None pages') (begun_run None pages')
+run_begun scan pages pages' made same run = subst (λ (n : ℕ). HasRun (begun None n) (begun_run None n)) same
+    (subst (λ (s : ScanValue). HasRun s (begun_run None pages)) made run)
+
 -- ---- a page that was taken
+pub taken_as : (v : CoreValue) (page : ℕ) (seen : List Pair) (scan : ScanValue) (pairs : List Pair) → seen ≡ pairs
+    → ((p : Pair) → Contains pairs p ↔ IsPairOnPage v.heap.rows page p) → (r : Result (Unit {0}) Error)
+    → OnOk r ((run : ScanRun) → HasRun v.scan run → HasRun scan (with_step run (Took page seen)))
+    → OnOk r (scan ≡ record v.scan { wanted = scan.wanted; waiting = scan.waiting }) → OnOk r (HasTaken v page (record v { scan = scan }))
+taken_as v page seen scan pairs same each (Ok x) ran place = record {
+  pairs = seen;
+  each = subst (λ (l : List Pair). (p : Pair) → Contains l p ↔ IsPairOnPage v.heap.rows page p) (sym same) each;
+  run = ran;
+  last_pair = ap (λ (s : ScanValue). s.last) place;
+  pages = ap (λ (s : ScanValue). s.pages) place;
+  others = refl;
+}
+taken_as v page seen scan pairs same each (Err e) ran place = tt
+
 module _ (rows : Rows) (page : ℕ) (pairs : List Pair) (each : (p : Pair) → Contains pairs p ↔ IsPairOnPage rows page p) (p : Pair) where
   abbrev on_page : Bool
   on_page = nat_eq p.rid.page page && is_pair_of (get rows p.rid) p

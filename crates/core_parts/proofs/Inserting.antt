@@ -4,6 +4,7 @@ use Rattle.std.proofs.Common.{Bool, List, None, Option, Some, ap, arith, cond, f
 use Rattle.std.proofs.Common.{◌<◌, ◌∙◌, ◌≡◌, ◌≢◌, ◌≤◌}
 use Rattle.std.proofs.lemmas.Bool.Decides.{nat_tests}
 use Rattle.std.specs.FinMap.{get, len}
+use Rattle.std.specs.Option.{option_or}
 use Rattle.std.specs.Ordering.{is_lt}
 use Rattle.std.specs.Prelude.{Contains, IsSome, ◌↔◌}
 use Rattle.std.specs.declared.cmp.Ordering.{Ordering}
@@ -129,6 +130,21 @@ is_place v held are r free least = record {
     not_held = λ has.
         none_or_some (holder_of q v.txns.active) other.unheld ((are q).0 has);
   });
+}
+
+-- a place that nobody holds is there to touch
+pub untouched : (t : ℕ) (r : Place) (es : List (ℕ × TxnState)) → table.change_refusal t es ≡ None → holder_of r es ≡ None → table.touch_refusal t r es ≡ None
+untouched t r es may unheld = ap (λ (o : Option Error). option_or o (table.busy_refusal t (holder_of r es))) may
+    ∙ ap (λ (o : Option ℕ). option_or None (table.busy_refusal t o)) unheld
+
+pub may_start : (v : CoreValue) (t : ℕ) (r : Place) → table.change_refusal t v.txns.active ≡ None → IsPlaceFor v r → HasPlacesLeft v → v.last < LAST_NUMBER
+    → MayStart v t r
+may_start v t r may place fits numbered = record {
+  able = able v t may;
+  free = untouched t r v.txns.active may place.free.unheld;
+  inside = place.free.inside.0;
+  fits = fits;
+  numbered = numbered;
 }
 
 module _ (v : CoreValue) (t : ℕ) (row : Row) (asked : IsReadyOrNone (txn_shown v t)) where

@@ -14,6 +14,7 @@ pub mod Cleaning
 pub mod Walked
 pub mod Finding
 mod Stepped
+mod Marking
 pub mod Undoing
 pub mod Checking
 mod Ordered

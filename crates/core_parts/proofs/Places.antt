@@ -1,5 +1,5 @@
 -- What a transaction has reserved is pledged.
-use Rattle.std.proofs.Common.{None, Option, Some, arith, refl, subst, ℕ, ◌+◌, ◌≡◌, ◌≤◌}
+use Rattle.std.proofs.Common.{None, Option, Some, arith, refl, subst, ℕ, ◌+◌, ◌-◌, ◌≡◌, ◌≤◌}
 use Rattle.std.specs.FinMap.{insert}
 use Rattle.txn_table.specs.Table.{TxnState}
 use Rattle.core_model.proofs.Laws.{reserved_insert}
@@ -35,3 +35,9 @@ few_reserved v t safe = few_by v t (txn_shown v t) refl safe
 -- each commit made a record
 pub few_commits : (v : CoreValue) → IsSafe v → v.commits ≤ v.last
 few_commits v safe = subst (λ n. n ≤ v.last) safe.is.shown.commits (subst (λ n. safe.standing.commits ≤ n) safe.is.shown.made safe.is.counted)
+
+pub places_left : (reserved used r u : ℕ) → reserved ≡ r → used ≡ u → reserved - used ≡ r - u
+places_left reserved used r u e f = λ i. e i - f i
+
+pub places_and : (reserved more r m : ℕ) → reserved ≡ r → more ≡ m → reserved + more ≡ r + m
+places_and reserved more r m e f = λ i. e i + f i

@@ -1,23 +1,31 @@
 -- A step of one transaction that sets a row or marks an entry: what the core shows after it.
-use Rattle.std.proofs.Common.{List, Option, Some, ap, arith, cond, eqb, length, refl, sym, ℕ, ◌+◌, ◌-◌, ◌∙◌, ◌≡◌, ◌≤◌}
+use Rattle.std.proofs.Common.{List, Option, Some, [], ap, arith, cond, eqb, length, refl, sym, true, ℕ, ◌++◌, ◌+◌, ◌-◌, ◌∙◌, ◌∷◌, ◌≡◌, ◌≤◌}
 use Rattle.std.specs.FinMap.{get, insert, len}
 use Rattle.record_values.specs.Maps.{set_at}
+use Rattle.records.specs.ChangeValue.{ChangeValue}
 use Rattle.records.specs.RecordValue.{RecordValue}
 use Rattle.record_values.specs.Values.{Place}
+use Rattle.heap_pages.specs.Pages.{HeapValue}
 use Rattle.record_values.specs.declared.pair.Mark.{Mark}
+use Rattle.record_values.specs.declared.pair.Mark.TheVariants.{Live}
 use Rattle.record_values.specs.declared.pair.Pair.{Pair}
+use Rattle.records.specs.declared.record.Action.{Action}
+use Rattle.records.specs.declared.record.Part.TheVariants.{OldEntry}
 use Rattle.records.specs.declared.record.TxnAction.{TxnAction}
+use Rattle.records.specs.declared.record.TxnAction.TheVariants.{Undo}
 use Rattle.record_values.specs.declared.row.Row.{Row}
 use Rattle.txn_table.specs.Table as table
-use Rattle.txn_table.specs.Table.{TableValue, TxnState, holder_of, put_at, without_last}
+use Rattle.txn_table.specs.Table.{TableValue, TxnState, change_noted, holder_of, put_at, without_last}
 use Rattle.txn_table.specs.declared.progress.Progress.{Progress}
+use Rattle.txn_table.specs.declared.progress.Progress.TheVariants.{Rolling}
 use Rattle.txn_table.proofs.TableLaws.{holder_of-put_at, holder_of-without_last}
-use Rattle.marked_index.specs.Index.{pledges_used}
+use Rattle.marked_index.specs.Index.{IndexValue, pledges_used}
 use Rattle.core_model.specs.States.{Active, State}
 use Rattle.core_model.specs.Steps.{reserved, with_places, with_txn}
 use Rattle.core_model.specs.Events.{Standing}
 use Rattle.core_parts.specs.View.{CoreValue, Shows, ShowsTxn}
-use Rattle.core_parts.specs.Private.{newest_taken_off, row_stepped}
+use Rattle.core_parts.specs.Private.{change_begun, entry_restored, entry_stepped, newest_taken_off, row_stepped}
+use Rattle.core_parts.proofs.Inserting.{some_is}
 use Rattle.core_parts.proofs.Moved.{HasMoved, moved_shown, places_are, same_number}
 use Rattle.core_parts.proofs.Started.{either, grown, long, state_set}
 
@@ -61,10 +69,48 @@ pub row_as : (v : CoreValue) (t : ℕ) {f f' : Progress} {r r' : Place} {row row
     → row_stepped v t f r row a ≡ row_stepped v t f' r' row' a'
 row_as v t e g h k = λ i. row_stepped v t (e i) (g i) (h i) (k i)
 
+-- a core by the parts of it that steps of transactions change
+pub changed : (v : CoreValue) {heap heap' : HeapValue} {txns txns' : TableValue} {index index' : IndexValue} {last last' : ℕ}
+    {outbox outbox' : List RecordValue} → heap ≡ heap' → txns ≡ txns' → index ≡ index' → last ≡ last' → outbox ≡ outbox'
+    → (◌≡◌ {A = CoreValue} (record v { heap = heap; txns = txns; index = index; last = last; outbox = outbox })
+    (record v { heap = heap'; txns = txns'; index = index'; last = last'; outbox = outbox' }))
+changed v rows active entries number records = λ i. record v { heap = rows i; txns = active i; index = entries i; last = number i; outbox = records i }
+
+-- a transaction is so far, with so many places
+pub put_as : (v : CoreValue) (t : ℕ) (p : Progress) (n m : ℕ) (txns : TableValue)
+    → txns ≡ record v.txns { active = table.with_state (put_at p n) t v.txns.active } → n ≡ m
+    → txns ≡ record v.txns { active = table.with_state (put_at p m) t v.txns.active }
+put_as v t p n m txns put same = put ∙ ap (λ (k : ℕ). record v.txns { active = table.with_state (put_at p k) t v.txns.active }) same
+
+-- a transaction has noted its change, is so far then, and has so many places
+pub begun_as : (v : CoreValue) (t : ℕ) (c : ChangeValue) (p q : Progress) (n m : ℕ) (noted txns : TableValue)
+    → noted ≡ record v.txns { active = table.with_state (change_noted c) t v.txns.active }
+    → txns ≡ record noted { active = table.with_state (put_at p n) t noted.active } → p ≡ q → n ≡ m
+    → txns ≡ record v.txns { active = change_begun v.txns.active t c q m }
+begun_as v t c p q n m noted txns change put so many = put
+    ∙ ap (λ (w : TableValue). record w { active = table.with_state (put_at p n) t w.active }) change
+    ∙ (λ i. record v.txns { active = change_begun v.txns.active t c (so i) (many i) })
+
+-- a record waits behind the others
+pub told : (before after : List RecordValue) (made : RecordValue) (n m : ℕ) (a b : Action) → after ≡ before ++ made ∷ []
+    → made ≡ record { number = n; action = a } → n ≡ m → a ≡ b → after ≡ before ++ record { number = m; action = b } ∷ []
+told before after made n m a b pushed is same tells = pushed ∙ ap (λ (r : RecordValue). before ++ r ∷ []) (is ∙ numbered)
+  where
+    numbered : (◌≡◌ {A = RecordValue} (record { number = n; action = a }) (record { number = m; action = b }))
+    numbered = λ i. record { number = same i; action = tells i }
+
 -- the newest change goes off the list behind a step
 pub taken_off_behind : (w target : CoreValue) (t : ℕ) (txns : TableValue) → txns ≡ record w.txns { active = table.with_state without_last t w.txns.active }
     → w ≡ target → record w { txns = txns } ≡ newest_taken_off target t
 taken_off_behind w target t txns popped same = ap (λ (x : TableValue). record w { txns = x }) popped ∙ ap (λ (x : CoreValue). newest_taken_off x t) same
+
+-- the old entry of a change is live again, and the change off the list
+pub restored : (v w : CoreValue) (t : ℕ) (c : ChangeValue) (old : Option Pair) (m : Pair × TxnAction) → old ≡ Some m.0 → m.1 ≡ Undo OldEntry c true
+    → (txns : TableValue) → w ≡ entry_stepped v t Rolling m.0 Live m.1 → txns ≡ record w.txns { active = table.with_state without_last t w.txns.active }
+    → (p : Pair) → old ≡ Some p → record w { txns = txns } ≡ entry_restored v t c p
+restored v w t c old m some action txns stepped popped p is =
+    taken_off_behind w (entry_stepped v t Rolling p Live (Undo OldEntry c true)) t txns popped
+    (stepped ∙ (λ i. entry_stepped v t Rolling (some_is m.0 p (sym some ∙ is) i) Live (action i)))
 
 -- ---- what the core shows
 module _ (v : CoreValue) (s : State) (k : Standing) (h : Shows v s k) (t : ℕ) (x : TxnState) (here : table.state_of t v.txns.active ≡ Some x) (x' : TxnState)

@@ -1,5 +1,5 @@
 -- What is there once a device is formatted.
-use Rattle.std.proofs.Common.{◌≡◌, inl, inr, ℕ, ◌+◌, ◌*◌, ◌<◌, ◌≤◌, ◌-◌, List, All, length, sym, ◌∙◌, ap, subst, arith}
+use Rattle.std.proofs.Common.{◌≡◌, inl, inr, ℕ, ◌+◌, ◌*◌, ◌<◌, ◌≤◌, ◌-◌, List, All, length, refl, sym, ◌∙◌, ap, subst, arith}
 use Rattle.sector_device.specs.Disk.{CrashState, sector, SameOutside}
 use Rattle.sector_device.specs.Values.{zero_sector, IsMarked, InRow, AreZeroSectors}
 use Rattle.sector_device.proofs.KnownSectors.{zero_bytes, zero_not_marked}
@@ -26,6 +26,10 @@ row_zeros : (image : CrashState) (first count : ℕ) → AreZeroSectors image fi
 row_zeros image first count zeros i below =
     let same : first + i ≡ first + 1 * i = omega arith in
     subst (All (λ b. b ≡ 0)) (sym (ap (sector image) same ∙ zeros i below)) zero_bytes
+
+-- nothing was written
+pub still : (S : ℕ → Type 0) (c : CrashState) → SameOutside S c c
+still S c = record { sectors = refl; same = λ k out. refl }
 
 -- a gate of zeros is closed
 pub gates_closed : (g : GeometryValue) (half : Half) (image : CrashState) → AreLogGatesZero g half image → AreGatesClosed g half image
@@ -87,3 +91,10 @@ module _ (g : GeometryValue) (header first pages log slots : ℕ) (is_header : h
       rows_there : AreZeros c5 first (16 * pages)
       rows_there = zeros_stay _ c4 c5 first (16 * pages) five (λ n from to is. omega (arith, to, is.2, is_log, is_first, is_pages))
           (row_zeros c4 first (16 * pages) rows)
+
+  -- all of it
+  pub all_there : IsGeometry g → sectors_of g ≤ length c0 → IsSuperblock g (sector c1 0) → sector c2 1 ≡ zero_sector → AreZeroSectors c3 header 1 2
+      → AreZeroSectors c4 first 1 (16 * pages) → AreZeroSectors c5 log 8 slots
+      → IsFormatted g c5 × SameOutside (IsFormatSector g) c0 c5 × (sector c5 1 ≡ zero_sector) × AreLogGatesZero g A c5
+  all_there limits room superblock flip heads rows gates =
+      (all_formatted limits room superblock flip heads rows, all_outside, flip_there flip, gates_there gates)

@@ -3,5 +3,6 @@ mod Spelled
 mod Formats
 mod Nothing
 mod Wider
+mod Results
 pub mod Stores
 pub mod Sides

@@ -1,11 +1,16 @@
 -- The bytes of a body, cut into sectors and joined again.
 use Rattle.std.specs.Prelude.{is_err}
-use Rattle.std.proofs.Common.{Result, Ok, Err, OnOk, IfErr, ◌≡◌, ℕ, ◌+◌, ◌*◌, ◌<◌, ◌≤◌, false, List, ◌++◌, length, take, drop, slice_range, sym, ap, ◌∙◌, arith}
+use Rattle.std.proofs.Common.{Result, Ok, Err, OnOk, OnErr, IfErr, ◌≡◌, ℕ, ◌+◌, ◌-◌, ◌*◌, ◌<◌, ◌≤◌, true, false, List}
+use Rattle.std.proofs.Common.{[], ◌++◌, length, take, drop, slice_range, sym, ap, ◌∙◌, subst, arith}
 use Rattle.std.proofs.Common.{zero, suc}
 use Rattle.std.specs.List.{concat}
 use Rattle.std.specs.Simd.{first_chunks}
 use Rattle.std.proofs.lemmas.List.{take-append-drop, nil_from_length, length-drop}
 use Rattle.sector_device.specs.Disk.{CrashState, sector}
+use Rattle.sector_device.specs.DevicePast.{Rises}
+use Rattle.record_values.specs.declared.error.Error.{Error}
+use Rattle.record_values.specs.declared.error.Error.TheVariants.{NoMemory, DeviceFailed}
+use Rattle.gate_log.specs.Area.{Refuses}
 use Rattle.sector_device.proofs.Sectors.{part_is}
 
 -- sectors joined give back the bytes that were cut into them
@@ -13,6 +18,10 @@ first_chunks-all : (k : ℕ) (xs : List ℕ) → length xs ≡ 512 * k → conca
 first_chunks-all zero xs long = sym (nil_from_length xs (omega arith))
 first_chunks-all (suc k) xs long =
     ap (λ (t : List ℕ). take 512 xs ++ t) (first_chunks-all k (drop 512 xs) (omega (arith, length-drop 512 xs))) ∙ take-append-drop 512 xs
+
+-- no sectors
+pub part_none : (image : CrashState) (low : ℕ) → concat (slice_range image low (low + 0)) ≡ []
+part_none image low = ap (λ n. concat (take n (drop low image))) (let e : low + 0 - low ≡ 0 = omega arith in e)
 
 -- seven sectors that were written hold the body
 pub body_written : (image rows : CrashState) (bytes : List ℕ) (n gate : ℕ) → gate + 8 ≤ length image → length bytes ≡ 3584 → n ≡ 7
@@ -41,3 +50,25 @@ on_err_always P (Err e) h = h e
 pub from_ok : {T E : Type 0} (P : Type 0) (r : Result T E) → is_err r ≡ false → OnOk r P → P
 from_ok P (Ok x) is h = h
 from_ok P (Err e) is h = absurd cc
+
+pub from_err : {T E : Type 0} (P : Type 0) (r : Result T E) → is_err r ≡ true → OnErr r P → P
+from_err P (Ok x) is h = absurd cc
+from_err P (Err e) is h = h
+
+-- ---- how often the device failed
+
+pub later_than : (a b c : ℕ) → b ≡ a → b ≤ c → a ≤ c
+later_than a b c same later = omega (arith, same, later)
+
+pub not_fewer : (a b : ℕ) → b ≡ a → a ≤ b
+not_fewer a b same = omega (arith, same)
+
+pub refuses_later : (a b c : ℕ) (e : Error) → b ≡ a → Refuses b c e → Refuses a c e
+refuses_later a b c e same refused = subst (λ (n : ℕ). Refuses n c e) same refused
+
+-- a failure of the device is no want of memory
+pub not_no_memory : {T : Type 0} (r : Result T Error) (before now : ℕ) → r ≡ Err NoMemory
+    → IfErr r (λ (e : Error). (e ≡ DeviceFailed) × Rises before now) → ⊥
+not_no_memory r before now is failed =
+    let no : NoMemory ≡ DeviceFailed = (subst (λ x. IfErr x (λ (e : Error). (e ≡ DeviceFailed) × Rises before now)) is failed).0 in
+    (cc)

@@ -6,6 +6,7 @@ mod Advances
 mod Single
 mod Ready
 mod SameSeat
+mod Waiting
 mod Made
 mod Backward
 mod Ends

@@ -219,3 +219,13 @@ pub left_over : (t : ℕ) (w : Write) (p q r : SessionValue) → IsUnderWay p t 
     × (unfinished_of r t ≡ Some w)
 left_over t w p q r made is same = subst (λ (v : SessionValue). IsUnderWay p t w v
     × (unfinished_of v t ≡ Some w)) (sym same) (made, made.unfinished (not_none q t is))
+
+-- a change is left to one of the seat's transactions alone
+pub none_foreign : (p : SessionValue) (t : ℕ) (w : Write) → false ≡ is_active p t → unfinished_of p t ≡ Some w → ⊥
+none_foreign p t w foreign asked = never (foreign ∙ active_too p t (unfinished_is_some p t ∙ ap is_some asked))
+  where
+    never : false ≡ true → ⊥
+    never e = absurd cc
+
+pub not_refused : (e : Error) → Some e ≡ None → ⊥
+not_refused e none = absurd cc

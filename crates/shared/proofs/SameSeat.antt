@@ -1,5 +1,5 @@
 -- A seat of which a call changed the session alone, or what it has seen.
-use Rattle.std.proofs.Common.{◌≡◌, Err, IfOk, Ok, OnErr, Result, refl, ◌∙◌, subst, sym}
+use Rattle.std.proofs.Common.{◌≡◌, Err, IfOk, Ok, OnErr, Result, refl, ◌∙◌, ap, subst, sym}
 use Rattle.record_values.specs.declared.error.Error.{Error}
 use Rattle.board.specs.Views.{Sighting}
 use Rattle.locked_core.specs.Seats as part
@@ -53,3 +53,28 @@ module _ (p new : part.SeatValue) (sight : Sighting) (old : SeatValue) (is : sea
 pub on_err : {T : Type 0} (r : Result T Error) (X : Type 0) → X → OnErr r X
 on_err (Ok t) X holds = tt
 on_err (Err e) X holds = holds
+
+-- its session alone changed before, and it is the same now
+pub still_alone : (first was new : SeatValue) → was ≡ record first { session = was.session } → new ≡ was → new ≡ record first { session = new.session }
+still_alone first was new alone same = subst (λ (s : SeatValue). s ≡ record first { session = s.session }) (sym same) alone
+
+-- and its session alone changes again
+pub again_alone : (first was new : SeatValue) → was ≡ record first { session = was.session } → new ≡ record was { session = new.session }
+    → new ≡ record first { session = new.session }
+again_alone first was new alone step = step ∙ ap (λ (s : SeatValue). record s { session = new.session }) alone
+
+-- ---- what an answer is not
+
+pub ok_no_err : {T : Type 0} (t : T) (e : Error) → Ok t ≡ Err e → ⊥
+ok_no_err t e is = absurd cc
+
+-- an error is the same beside whatever else might have been answered
+abbrev pub err_of : (T : Type 0) → Error → Result T Error
+err_of T e = Err e
+
+pub err_also : {S T : Type 0} (e f : Error) → err_of S e ≡ err_of S f → err_of T e ≡ err_of T f
+err_also {S} {T} e f is = ap told is
+  where
+    told : Result S Error → Result T Error
+    told (Ok s) = Err e
+    told (Err x) = Err x

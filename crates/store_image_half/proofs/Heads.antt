@@ -3,7 +3,7 @@ use Rattle.std.proofs.Common.{◌≡◌, ⊎_elim, ℕ, zero, suc, ◌+◌, ◌-
 use Rattle.std.proofs.Common.{length-append}
 use Rattle.std.specs.Prelude.{slice_get}
 use Rattle.std.proofs.lemmas.Bool.{cases_eq, cases_lt}
-use Rattle.std.proofs.lemmas.Option.{slice_get_within, slice_get_past}
+use Rattle.std.proofs.lemmas.Option.{none-some, slice_get_within, slice_get_past}
 use Rattle.store_image_parts.specs.declared.head.Head.{Head}
 use Rattle.store_image_parts.specs.Spelling.{head, HeadFits, HeadFitsIfSome}
 use Rattle.store_image_parts.proofs.OneReading.{one_head}
@@ -17,6 +17,22 @@ slice_get_push_before : {A : Type 0} (xs : List A) (y : A) (j : ℕ) → j < len
 slice_get_push_before [] y j below = absurd (omega (arith, below))
 slice_get_push_before (x ∷ xs) y zero below = refl
 slice_get_push_before (x ∷ xs) y (suc j) below = slice_get_push_before xs y j (omega (arith, below))
+
+pub no_head : (bytes : List ℕ) → AreFirstHeads bytes 0 []
+no_head bytes = record {
+  count = omega arith;
+  spelled = λ j less. absurd (omega (arith, less));
+  fits = λ j h at. absurd (none-some h at);
+  rising = λ j a b at_a at_b. absurd (none-some a at_a);
+}
+
+pub all_heads : (bytes : List ℕ) (k : ℕ) (hs : List Head) → k ≡ 16 → AreFirstHeads bytes k hs → AreHeads bytes hs
+all_heads bytes k hs all are = record {
+  count = omega (arith, all, are.count);
+  spelled = λ j less. are.spelled j (omega (arith, all, less));
+  fits = are.fits;
+  rising = are.rising;
+}
 
 module _ (bytes : List ℕ) (k : ℕ) (hs : List Head) (so_far : AreFirstHeads bytes k hs) where
   fits_so_far : (j : ℕ) → HeadFitsIfSome (slice_get hs j)

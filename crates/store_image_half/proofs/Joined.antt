@@ -1,10 +1,10 @@
 -- Parts of an image are written one after another.
 use Rattle.std.specs.Prelude.{is_err}
-use Rattle.std.proofs.Common.{◌≡◌, ◌⊎◌, inl, inr, ℕ, true, false, List, Result, Ok, Err, OnOk, OnErr, refl, sym, ◌∙◌}
+use Rattle.std.proofs.Common.{◌≡◌, ◌⊎◌, inl, inr, ℕ, true, false, List, Result, Ok, Err, OnOk, OnErr, refl, sym, ◌∙◌, arith}
 use Rattle.std.proofs.lemmas.Bool.{false≢true}
 use Rattle.sector_device.specs.declared.device.Failed.{Failed}
 use Rattle.sector_device.specs.Disk.{CrashState, after_write, IsFailedWrite, SameOutside}
-use Rattle.sector_device.specs.DevicePast.{DevicePast, Elapses, RunsWithin}
+use Rattle.sector_device.specs.DevicePast.{DevicePast, CountsFailure, Elapses, RunsWithin}
 use Rattle.sector_device.proofs.Moments.{joined, weaker}
 use Rattle.sector_device.proofs.Sectors.{content_after, same_outside_then, same_outside_wider}
 use Rattle.sector_device.proofs.Within.{within_start_unsynced, within_write}
@@ -60,3 +60,13 @@ on_ok_both (Err e) f p q = tt
 pub from_ok : {T E : Type 0} (P : Type 0) (r : Result T E) → is_err r ≡ false → OnOk r P → P
 from_ok P (Ok x) is h = h
 from_ok P (Err e) is h = absurd cc
+
+pub from_err : {T E : Type 0} (P : Type 0) (r : Result T E) → is_err r ≡ true → OnErr r P → P
+from_err P (Ok x) is h = absurd cc
+from_err P (Err e) is h = h
+
+-- ---- how often the device failed
+
+-- none failed
+pub counts_none : {T E : Type 0} (a b : ℕ) (x : T) → b ≡ a → CountsFailure {T = T} {E = E} a b (Ok x)
+counts_none a b x same = record { later = omega (arith, same); none = same; failed = tt }

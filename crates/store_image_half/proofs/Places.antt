@@ -67,3 +67,8 @@ same_item_sector Two i within = absurd (omega (arith, within))
 pub same_entry_sector : (v : Version) (i : ℕ) → 0 < (i + 1) % entries_per_sector v → i / entries_per_sector v ≡ (i + 1) / entries_per_sector v
 same_entry_sector One i within = omega (arith, within)
 same_entry_sector Two i within = omega (arith, within)
+
+-- the first item of a head begins a sector
+pub first_begins : (v : Version) (h : ℕ) → ¬ (0 < (64 * h + 0) % items_per_sector v)
+first_begins One h within = omega (arith, within)
+first_begins Two h within = omega (arith, within)

@@ -30,7 +30,7 @@ use Rattle.store_writer.specs.Copying.{IsCopying}
 use Rattle.store_writer.specs.declared.image.Stage.TheVariants.{Whole}
 use Rattle.store_writer.specs.Image.{IsImageWhole, IsContent, IsUnderway, reach}
 use Rattle.store_writer.specs.Writer.{CanFlip, StandsFor, IsWriter}
-use Rattle.store_writer.proofs.Numbers.{back_between, last_between}
+use Rattle.store_writer.proofs.Numbers.{back_between, last_between, length_between}
 use Rattle.store_writer.proofs.Halves.{in_from_outside, half_apart}
 use Rattle.store_writer.proofs.Taking.{stand, left_kept}
 use Rattle.store_writer.proofs.Left.{left_by}
@@ -171,6 +171,12 @@ no_image w handed none (image, there, _, _, _) = let never : Some image ≡ None
 pub not_whole : {D M : Type 0} (w : Writer D M) (handed : ℕ) (image : NewImage) → w.image ≡ Some image → ¬ (image.stage ≡ Whole) → ¬ CanFlip handed w
 not_whole w handed image is part (found, there, whole, _, _) =
     let same : image ≡ found = cc (is, there) in part (ap (λ (x : NewImage). x.stage) same ∙ whole)
+
+-- the records that wait are the last ones that were handed in
+pub waits_all : {D M : Type 0} (past_of : D → DevicePast) (run : Run) (handed : ℕ) (w : Writer D M) → IsWriter past_of run handed w
+    → w.synced + length w.waiting.items ≡ handed
+waits_all past_of run handed w is =
+    omega (arith, ap length is.waits, length_between run w.synced handed is.opened is.reached is.made, is.reached)
 
 -- the image of a writer that stands is under way
 pub there_at : {D M : Type 0} (past_of : D → DevicePast) (run : Run) (handed : ℕ) (old : Writer D M) → IsWriter past_of run handed old → old.failed ≡ false

@@ -1,5 +1,5 @@
 -- What a flush leaves of a writer.
-use Rattle.std.proofs.Common.{◌≡◌, ◌≢◌, inl, inr, ℕ, ◌+◌, ◌-◌, ◌<◌, ◌≤◌, true, false, List}
+use Rattle.std.proofs.Common.{◌≡◌, ◌≢◌, ◌↔◌, inl, inr, ℕ, ◌+◌, ◌-◌, ◌<◌, ◌≤◌, true, false, List}
 use Rattle.std.proofs.Common.{[], ◌∷◌, ◌++◌, length, take, Result, Ok, Err, IfOk, IfErr, OnOk, OnErr}
 use Rattle.std.proofs.Common.{⊎_elim, refl, sym, ap, subst, ◌∙◌, arith, length-append, length-take}
 use Rattle.std.proofs.lemmas.Bool.{false≢true}
@@ -14,6 +14,8 @@ use Rattle.sector_device.specs.DevicePast.{DevicePast, LeavesOnly, Rises}
 use Rattle.sector_device.proofs.Moments.{started, joined}
 use Rattle.gate_log.specs.Area.{Area, InSlot, IsAppended, Log, Stands}
 use Rattle.gate_log.specs.Group.{FitsGroup, spellings}
+use Rattle.gate_log.specs.declared.area.Appended.{Appended}
+use Rattle.gate_log.specs.declared.area.Appended.TheVariants.{Done, Full}
 use Rattle.gate_log.specs.declared.group.TheConstants.{GROUP_MAX}
 use Rattle.store_image_model.specs.Run.{Run}
 use Rattle.store_writer.specs.declared.image.Plan.{Plan}
@@ -38,6 +40,13 @@ on_ok (Err e) p = tt
 on_err : {T E P : Type 0} (r : Result T E) → P → OnErr r P
 on_err (Ok x) p = tt
 on_err (Err e) p = p
+
+-- a slot is closed where a group was added, and where adding it failed
+pub closed_where_done : (r : Result Appended Error) (n m : ℕ) → ((r ≡ Ok Full) ↔ (n ≡ m)) → r ≡ Ok Done → n ≢ m
+closed_where_done r n m full done all = cc (full.1 all, done)
+
+pub closed_where_failed : (r : Result Appended Error) (e : Error) (n m : ℕ) → ((r ≡ Ok Full) ↔ (n ≡ m)) → r ≡ Err e → n ≢ m
+closed_where_failed r e n m full failed all = cc (full.1 all, failed)
 
 -- ---- the records of a group
 

@@ -1,6 +1,6 @@
 -- What becomes of the half that isn't current where its gates are closed and an image is written into it.
 use Rattle.std.specs.Result.{is_err}
-use Rattle.std.proofs.Common.{Result, Ok, Err, OnOk, OnErr, ◌≡◌, ◌⊎◌, inl, inr, ⊎_elim, ℕ, true, false, List, sym, subst, ◌∙◌, arith}
+use Rattle.std.proofs.Common.{Result, Ok, Err, OnOk, OnErr, ◌≡◌, ◌⊎◌, inl, inr, ⊎_elim, ℕ, ◌≤◌, true, false, List, sym, subst, ◌∙◌, arith}
 use Rattle.std.proofs.lemmas.Bool.{false≢true, cases_lt}
 use Rattle.sector_device.specs.Disk.{CrashState, IsSynced, sector, SameOutside}
 use Rattle.sector_device.specs.DevicePast.{DevicePast, LeavesOnly, RunsWithin}
@@ -10,7 +10,9 @@ use Rattle.record_values.specs.GeometryValue.{GeometryValue}
 use Rattle.records.specs.RecordValue.{RecordValue}
 use Rattle.gate_log.specs.Area.{Area, Log, InArea, IsGate, Stands}
 use Rattle.gate_log.proofs.Readings.{told_by_its_sectors}
+use Rattle.store_image_half.specs.Layout.{InEntries}
 use Rattle.flip_image.specs.declared.half.Half.{Half}
+use Rattle.flip_image.specs.declared.half.Half.TheVariants.{A, B}
 use Rattle.flip_image.specs.Layout.{header_sector, log_first, InHalf, InHalfImage}
 use Rattle.flip_image.specs.Store.{Names}
 use Rattle.flip_image.proofs.Sides.{behind_front, image_inside, log_inside}
@@ -83,6 +85,17 @@ module _ (g : GeometryValue) (half : Half) (old mid : DevicePast) (area : Area) 
           omega (arith, there.0, (in_the_image n either).1))) stands.held;
       counted = stands.counted;
     }
+
+-- ---- the flip sector stays
+
+header_behind : (g : GeometryValue) (half : Half) → 2 ≤ header_sector g half
+header_behind g A = omega arith
+header_behind g B = omega arith
+
+pub named_behind : (g : GeometryValue) (half current : Half) (start count : ℕ) (old new : CrashState)
+    → SameOutside (InEntries g (header_sector g half) start count) old new → Names (sector old 1) current → Names (sector new 1) current
+named_behind g half current start count old new same named = subst (λ (b : List ℕ). Names b current)
+    (sym (same.same 1 (λ inside. omega (arith, inside.0, header_behind g half)))) named
 
 -- ---- an image under way is written
 

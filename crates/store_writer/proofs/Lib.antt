@@ -18,3 +18,4 @@ mod Places
 mod Pieces
 mod Opening
 mod Given
+mod Carrying

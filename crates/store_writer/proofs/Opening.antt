@@ -1,5 +1,5 @@
 -- How a writer begins, and goes on where more records are made or handed in.
-use Rattle.std.proofs.Common.{Result, Ok, Err, OnOk, OnErr, ◌≡◌, ℕ, ◌+◌, ◌-◌, ◌≤◌, false, List, [], ◌++◌, length, take, drop, Option, Some, None, IfSome, refl}
+use Rattle.std.proofs.Common.{◌≡◌, ◌≢◌, ◌==◌, ℕ, ◌+◌, ◌-◌, ◌≤◌, true, false, List, [], ◌∷◌, ◌++◌, length, take, drop, Option, Some, None, IfSome, refl}
 use Rattle.std.proofs.Common.{sym, ap, subst, ◌∙◌, arith, length-append, length-drop}
 use Rattle.std.proofs.lemmas.List.{take-append-le, drop-append-le}
 use Rattle.sector_device.specs.Disk.{CrashState, IsCrashState}
@@ -11,8 +11,8 @@ use Rattle.flip_image.specs.Layout.{HalvesValue}
 use Rattle.store_image_model.specs.Run.{Run, IsRun, end_of, cells_at, records_between}
 use Rattle.store_writer.specs.declared.writer.Writer.{Writer}
 use Rattle.store_writer.specs.Contents.{HalfHas, StoreHas, LeftBy}
-use Rattle.store_writer.specs.Writer.{StandsFor, IsWriter, IsOpenedAt, opened_run, longer, AreNext, IsSomewhere}
-use Rattle.std.proofs.lemmas.Bool.{false≢true}
+use Rattle.store_writer.specs.Writer.{StandsFor, IsWriter, IsOpenedAt, opened_run, longer, AreNext}
+use Rattle.std.proofs.lemmas.Bool.{eqb-true, false≢true}
 use Rattle.std.specs.FinMap as map
 use Rattle.flip_image.specs.declared.half.Half.{Half}
 use Rattle.flip_image.specs.Layout.{other, header_sector}
@@ -274,3 +274,14 @@ opened_writer past_of cells w is empty none idle = record {
         has = subst (HalfHas w.halves.geometry w.halves.current (past_of w.device).disk.content w.synced) (no_record w.synced cells) is.has;
       }));
 }
+
+-- ---- a list of records that is empty, or isn't
+
+pub none_in : (records : List RecordValue) (n : ℕ) → n ≡ length records → true ≡ (n == 0) → records ≡ []
+none_in [] n size none = refl
+none_in (r ∷ rs) n size none = absurd (omega (arith, size, eqb-true n 0 (sym none)))
+
+pub some_in : (records : List RecordValue) (n : ℕ) → n ≡ length records → false ≡ (n == 0) → records ≢ []
+some_in records n size some none =
+    let zero : n ≡ 0 = omega (arith, size, ap length none) in
+    false≢true (some ∙ ap (λ (k : ℕ). k == 0) zero)

@@ -1,15 +1,15 @@
 -- What an image that is written into the half that isn't current leaves of the current one.
-use Rattle.std.proofs.Common.{◌≡◌, ℕ, ◌≤◌, true, false, [], IfSome, sym, ap, subst, ◌∙◌, arith}
-use Rattle.sector_device.specs.Disk.{CrashState, SameOutside}
+use Rattle.std.proofs.Common.{◌≡◌, ℕ, ◌≤◌, true, false, [], length, IfSome, sym, ap, subst, ◌∙◌, arith}
+use Rattle.sector_device.specs.Disk.{CrashState, sector, SameOutside}
 use Rattle.sector_device.specs.DevicePast.{DevicePast, LeavesOnly}
 use Rattle.sector_device.proofs.Moments.{weaker}
-use Rattle.record_values.specs.GeometryValue.{GeometryValue}
+use Rattle.record_values.specs.GeometryValue.{GeometryValue, sectors_of}
 use Rattle.model.specs.Cells.{Cells}
 use Rattle.gate_log.specs.Area.{Area, Log, InArea, Stands}
 use Rattle.gate_log.proofs.Readings.{told_by_its_sectors}
 use Rattle.flip_image.specs.declared.half.Half.{Half}
 use Rattle.flip_image.specs.Layout.{HalvesValue, other, InHalf, InHalfImage}
-use Rattle.flip_image.specs.Store.{IsStore, HoldsImage}
+use Rattle.flip_image.specs.Store.{IsStore, HoldsImage, Names}
 use Rattle.flip_image.proofs.Sides.{other_apart, log_inside}
 use Rattle.store_image_model.specs.Run.{Run, IsCopiedFrom, end_of, cells_at}
 use Rattle.store_image_model.proofs.Runs.{copy_of_run}
@@ -59,6 +59,13 @@ module _ {D M : Type 0} (past_of : D → DevicePast) (run : Run) (handed : ℕ) 
 
   pub stand : StandsFor past_of run old
   stand = is.holds sound
+
+  -- a step of an image may write there
+  pub may_write : (sectors_of old.halves.geometry ≤ length content) × Names (sector content 1) half
+      × ((n : ℕ) → (past_of old.device).disk.unsynced n ≡ true → InHalfImage old.halves.geometry (other half) n)
+  may_write = subst (λ (x : GeometryValue). (sectors_of x ≤ length content) × Names (sector content 1) half
+      × ((n : ℕ) → (past_of old.device).disk.unsynced n ≡ true → InHalfImage x (other half) n)) (sym is.geometry-is)
+      (stand.store.room, stand.store.current, stand.loose)
 
   -- what is written into the other half changes nothing that the device gives
   module _ (c : CrashState) (same : SameOutside (InHalf g (other half)) content c) where

@@ -1,6 +1,7 @@
 -- Active transactions, in a list of their fields and in one of their values.
 use Rattle.std.proofs.Common.{◌≡◌, ℕ, ◌<◌, ◌+◌, zero, suc, Bool, true, false, cond, eqb, List, [], ◌∷◌, map, length, Option, Some, None, not, ◌&&◌, ◌≤◌, Vec}
-use Rattle.std.proofs.Common.{filter, take, drop, ◌++◌, ◌==◌, unwrap_or, vec_len, vec_capacity, refl, sym, ap, ◌∙◌, subst, arith}
+use Rattle.std.proofs.Common.{filter, take, drop, get_or, ◌++◌, ◌==◌, unwrap_or, vec_len, vec_capacity, refl, sym, ap, ◌∙◌, subst, arith}
+use Rattle.std.proofs.lemmas.List.{at_drop_more}
 use Rattle.std.specs.Prelude.{slice_get, slice_set, slice_index_or, MatchOption, is_some}
 use Rattle.threads_sessions.specs.declared.active.ActiveTxn.{ActiveTxn}
 use Rattle.std.specs.Option.{option_map}
@@ -86,6 +87,21 @@ pub found_at : {A : Type 0} (txn : ℕ) (xs : List (ActiveTxn A)) (r : Option �
     → MatchOption r (active_of txn (map active_value xs) ≡ None) (λ i. IsPlace txn xs i)
 found_at txn xs None e = find_none txn 0 xs (sym e)
 found_at txn xs (Some i) e = find txn i xs (sym e)
+
+-- the walk over the list, at one of them
+module _ {A : Type 0} (txn i : ℕ) (xs : List (ActiveTxn A)) (x : ActiveTxn A) (lt : i < length xs) (is : x ≡ get_or xs i x) (whole : Option ℕ)
+    (so_far : place_from txn i (drop i xs) ≡ whole) where
+  met : (b : Bool) → (txn == x.txn) ≡ b → cond b (Some i) (place_from txn (i + 1) (drop (i + 1) xs)) ≡ whole
+  met b test =
+      ap (λ (c : Bool). cond c (Some i) (place_from txn (i + 1) (drop (i + 1) xs))) (sym test)
+      ∙ (ap (λ (y : ActiveTxn A). cond (txn == y.txn) (Some i) (place_from txn (i + 1) (drop (i + 1) xs))) is
+      ∙ (sym (at_drop_more (place_from txn i) xs i x lt) ∙ so_far))
+
+  pub first_here : (txn == x.txn) ≡ true → Some i ≡ whole
+  first_here test = met true test
+
+  pub not_here : (txn == x.txn) ≡ false → place_from txn (i + 1) (drop (i + 1) xs) ≡ whole
+  not_here test = met false test
 
 pub active_there : (txn : ℕ) (active : List ActiveValue) (a : ActiveValue) → active_of txn active ≡ Some a → is_some (active_of txn active) ≡ true
 active_there txn active a e = ap is_some e

@@ -7,8 +7,9 @@
 //! together, or neither. A transaction that the seat did not begin is unknown to it.
 //!
 //! Contracts alone tell of what a seat has done: of its commits, with their rows, and of what it did to the index
-//! ([`Told`]). That wants no room, so it is never refused for want of it; that it takes no bytes no clause says. Where
-//! a type says so ([`Kept`]), its commits are kept in memory, and `into_commits` gives them.
+//! ([`Told`]). That wants no room, and the history refuses none for want of it (`reserve`). That `commit` doesn't, and
+//! that it takes no bytes, no public clause says. Where a type says so ([`Kept`]), its commits are kept in memory, and
+//! `into_commits` gives them.
 //!
 //! Proved: each call serves the core the event of its name, with the reply that it answers (`served`), and makes of the
 //! session what the step tells (`ok`). A refusal leaves the session as it was (`unchanged`); a transaction of another

@@ -1,24 +1,38 @@
-use Rattle.std.proofs.Common.{◌≡◌, inl, inr, ℕ, ◌+◌, ◌*◌, ◌<◌, ◌≤◌, ◌++◌, ◌∷◌, [], List, Err, length, slice_range, ◌∙◌, ap, subst, refl, arith, length-append}
+use Rattle.std.proofs.Common.{◌≡◌, inl, inr, ℕ, ◌+◌, ◌*◌, ◌<◌, ◌++◌, ◌∷◌, [], List, Err, length, slice_range, ◌∙◌, ap, subst, refl, arith, length-append}
 use Rattle.std.specs.List.{concat}
 use Rattle.std.proofs.lemmas.Result.{err_from_is_err_and}
-use Rattle.sector_device.specs.Disk.{Disk}
-use Rattle.record_values.specs.declared.error.Error.{Error}
+use Rattle.std.proofs.lemmas.Bool.{iff_false}
+use Rattle.sector_device.specs.Disk.{Disk, CrashState}
 use Rattle.records.specs.RecordValue.{RecordValue}
 use Rattle.gate_log.specs.Group.{IsGroupIn}
-use Rattle.gate_log.specs.Area.{IsOpen, Refuses}
+use Rattle.gate_log.specs.Area.{IsOpen, HoldsGroupsIn}
 use Rattle.std.proofs.lemmas.List.{flat_map_more}
 use Rattle.sector_device.proofs.Within.{reads_none, reads_then}
-use Rattle.gate_log.proofs.Areas.{one_open, first_open, first_damaged, none_here, some_here}
+use Rattle.gate_log.proofs.Areas.{one_closed, one_open, first_open, first_damaged, none_here, some_here}
+use Rattle.gate_log.proofs.Runs.{later_than, not_fewer, refuses_later}
 use Rattle.gate_log.proofs.area.read_slots.Goals as goal
 
-later_than : (a b c : ℕ) → b ≡ a → b ≤ c → a ≤ c
-later_than a b c same later = omega (arith, same, later)
+pub overflow_mul-gate : goal.overflow_mul-gate
+overflow_mul-gate g c = omega (arith, c.loop-slot-test.true, c.requires.number)
 
-not_fewer : (a b : ℕ) → b ≡ a → a ≤ b
-not_fewer a b same = omega (arith, same)
+pub overflow_add-gate : goal.overflow_add-gate
+overflow_add-gate g c = omega (arith, c.loop-slot-test.true, c.requires.number)
 
-refuses_later : (a b c : ℕ) (e : Error) → b ≡ a → Refuses b c e → Refuses a c e
-refuses_later a b c e same refused = subst (λ (n : ℕ). Refuses n c e) same refused
+pub is_open-requires : goal.is_open-requires
+is_open-requires g c = omega (
+  arith,
+  c.loop-slot-test.true,
+  c.requires.inside,
+  ap (λ (d : Disk). length d.content) c.loop-slot.invariant.reads.disk,
+)
+
+pub read_group-requires : goal.read_group-requires
+read_group-requires g c =
+    let same = c.is_open.ensures.reads.disk ∙ c.loop-slot.invariant.reads.disk in
+    record {
+      inside = omega (arith, c.loop-slot-test.true, c.requires.inside, ap (λ (d : Disk). length d.content) same);
+      number = omega (arith, c.loop-slot-test.true, c.requires.number);
+    }
 
 pub returns-in_err-is_open : goal.returns-in_err-is_open
 returns-in_err-is_open g c =
@@ -156,4 +170,38 @@ loop-slot-preserved g c =
       );
       reads = reads_then _ _ _ c.loop-slot.invariant.reads (reads_then _ _ _ c.is_open.ensures.reads c.read_group.ensures.reads);
       quiet = c.in_ok-group.ensures.quiet ∙ c.in_ok-is_open.ensures.quiet ∙ c.loop-slot.invariant.quiet;
+    }
+
+-- a slot that is closed
+pub loop-slot-preserved-then-not-branch : goal.loop-slot-preserved-then-not-branch
+loop-slot-preserved-then-not-branch g c =
+    let before = c.loop-slot.invariant in
+    let read = before.read in
+    let shut = subst (λ (d : Disk). ¬ IsOpen d.content (c.args.first + 8 * c.loop-slot.slot)) before.reads.disk
+    (iff_false c.in_ok-is_open.ensures.value c.if-not-branch.true) in
+    record {
+      read = (read.0, one_closed c.args.version c.args.first c.loop-slot.slot _ read.0 read.1 shut, read.2, read.3);
+      reads = reads_then _ _ _ before.reads c.is_open.ensures.reads;
+      quiet = c.in_ok-is_open.ensures.quiet ∙ before.quiet;
+    }
+
+pub returns : goal.returns
+returns g c =
+    let before = c.loop-slot.invariant in
+    let read = before.read in
+    let all : c.loop-slot.slot ≡ c.args.slots = omega (arith, c.loop-slot-test.false, c.loop-slot.auto.slot-end) in
+    let content : CrashState = (g.D.Device.past_of c.args.device.now).disk.content in
+    record {
+      read = (
+        read.0,
+        subst (λ (n : ℕ). HoldsGroupsIn c.args.version (record { first = c.args.first; slots = n }) content read.0) all read.1,
+        read.2,
+        read.3,
+      );
+      refused = tt;
+      reads = before.reads;
+      quiet = before.quiet;
+      told = tt;
+      memory = tt;
+      later = not_fewer _ _ before.quiet;
     }

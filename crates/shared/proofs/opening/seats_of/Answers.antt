@@ -1,12 +1,32 @@
-use Rattle.std.proofs.Common.{◌≡◌, ℕ, ap, ◌∙◌, arith, length, subst}
+use Rattle.std.proofs.Common.{◌≡◌, ℕ, ap, ◌∙◌, arith, length, subst, sym}
+use Rattle.std.proofs.lemmas.Result.{err_from_is_err_and}
 use Rattle.board.specs.Views.{Sighting}
 use Rattle.locked_core.specs.Seats.{SeatValue}
 use Rattle.shared.specs.Seats.{AreNewSeats}
 use Rattle.shared.proofs.Seats.{all_halves, first_half, more_seats, no_seats, rest_halves, sees_nothing, stays_blind}
 use Rattle.shared.proofs.opening.seats_of.Goals as goal
 
-pub new-part-requires-clause-half : goal.new-part-requires-clause-half
-new-part-requires-clause-half g c = first_half g.B.Group.site.table c.loop-half.number _ _ c.in-Some.half c.loop-half.invariant.halves c.in-Some.ensures.steps.0
+pub returns-in_err-seats : goal.returns-in_err-seats
+returns-in_err-seats g c =
+    let p = err_from_is_err_and c.from_residual.result c.from_residual.ensures.1 in
+    rw p.1 (record { seats = tt; no_memory = p.2 })
+
+pub another-view-requires : goal.another-view-requires
+another-view-requires g c = c.loop-half.invariant.board ∙ sym c.requires.board
+
+pub new-part-requires : goal.new-part-requires
+new-part-requires g c = record {
+  half = first_half g.B.Group.site.table c.loop-half.number _ _ c.in-Some.half c.loop-half.invariant.halves c.in-Some.ensures.steps.0;
+  number = omega (arith, c.loop-half.invariant.left, ap length c.in-Some.ensures.steps.0);
+}
+
+pub invariant_of-push : goal.invariant_of-push
+invariant_of-push g c = ap (λ (v : Sighting). v.board) c.another-view.ensures.leaves ∙ c.loop-half.invariant.board
+
+pub returns-in_err-push : goal.returns-in_err-push
+returns-in_err-push g c =
+    let p = err_from_is_err_and c.from_residual-in_err-push.result c.from_residual-in_err-push.ensures.1 in
+    rw p.1 (record { seats = tt; no_memory = p.2 })
 
 pub loop-half-preserved : goal.loop-half-preserved
 loop-half-preserved g c =
@@ -36,9 +56,9 @@ loop-half-init g c =
       halves = all_halves z.table _ _ c.requires.halves all;
     }
 
-pub returns-clause-seats : goal.returns-clause-seats
-returns-clause-seats g c =
+pub returns : goal.returns
+returns g c =
     let z = g.B.Group.site in
     let none = c.in-None.ensures.steps.0 in
     let all : c.loop-half.number ≡ z.seats = omega (arith, c.loop-half.invariant.left, none, c.loop-half.half-iterator.rest.ok) in
-    subst (λ (n : ℕ). AreNewSeats z.board n c.loop-half.seats.items) all c.loop-half.invariant.seats
+    record { seats = subst (λ (n : ℕ). AreNewSeats z.board n c.loop-half.seats.items) all c.loop-half.invariant.seats; no_memory = tt }

@@ -1,10 +1,25 @@
-use Rattle.std.proofs.Common.{◌≡◌, ◌+◌, ◌++◌, List, ℕ, length, refl, sym, ◌∙◌, ap, subst, arith, length-append}
+use Rattle.std.proofs.Common.{◌≡◌, inl, inr, ◌+◌, ◌*◌, ◌++◌, List, ℕ, length, refl, sym, ◌∙◌, ap, arith, length-append}
+use Rattle.std.proofs.lemmas.Result.{err_from_is_err_and}
 use Rattle.sector_device.specs.Disk.{Disk, sector}
 use Rattle.sector_device.proofs.Within.{reads_none, reads_more}
 use Rattle.store_image_half.specs.Layout.{bytes_of}
 use Rattle.store_image_half.proofs.Bytes.{no_bytes, bytes_more}
-use Rattle.store_image_half.proofs.Joined.{from_ok}
+use Rattle.store_image_half.proofs.Joined.{from_ok, from_err}
+use Rattle.store_image_half.proofs.Refusing.{later_than, not_fewer, refuses_later}
 use Rattle.store_image_half.proofs.page.read_bytes.Goals as goal
+
+pub returns-in_err-bytes : goal.returns-in_err-bytes
+returns-in_err-bytes g c =
+    let p = err_from_is_err_and c.from_residual.result c.from_residual.ensures.1 in
+    rw p.1 (record {
+      value = tt;
+      size = tt;
+      refused = inl p.2;
+      reads = reads_none _;
+      quiet = tt;
+      told = λ _. refl;
+      later = not_fewer _ _ refl;
+    })
 
 pub loop-k-init : goal.loop-k-init
 loop-k-init g c =
@@ -16,6 +31,43 @@ loop-k-init g c =
       reads = reads_none (h c.args.device.now);
       quiet = refl;
     }
+
+pub read-requires : goal.read-requires
+read-requires g c = omega (
+  arith,
+  c.requires.inside,
+  c.loop-k-test.true,
+  ap (λ (d : Disk). length d.content) c.loop-k.invariant.reads.disk,
+)
+
+pub returns-then-is_err : goal.returns-then-is_err
+returns-then-is_err g c =
+    let so_far = c.loop-k.invariant in
+    record {
+      value = tt;
+      size = tt;
+      refused = refuses_later _ _ _ _ so_far.quiet
+          (inr (refl, from_err _ c.read.result (sym c.is_err.ensures.value ∙ c.if-is_err.true) c.read.ensures.counts.failed));
+      reads = reads_more _ _ _ so_far.reads c.read.ensures.disk c.read.ensures.time;
+      quiet = tt;
+      told = λ other. absurd (other refl);
+      later = later_than _ _ _ so_far.quiet c.read.ensures.counts.later;
+    }
+
+pub returns-in_err-extend_from_slice : goal.returns-in_err-extend_from_slice
+returns-in_err-extend_from_slice g c =
+    let so_far = c.loop-k.invariant in
+    let quiet = from_ok _ c.read.result (sym c.is_err.ensures.value ∙ c.if-is_err.false) c.read.ensures.counts.none ∙ so_far.quiet in
+    let p = err_from_is_err_and c.from_residual-in_err-extend_from_slice.result c.from_residual-in_err-extend_from_slice.ensures.1 in
+    rw p.1 (record {
+      value = tt;
+      size = tt;
+      refused = inl p.2;
+      reads = reads_more _ _ _ so_far.reads c.read.ensures.disk c.read.ensures.time;
+      quiet = tt;
+      told = λ _. quiet;
+      later = not_fewer _ _ quiet;
+    })
 
 pub loop-k-preserved : goal.loop-k-preserved
 loop-k-preserved g c =
@@ -35,7 +87,16 @@ loop-k-preserved g c =
       quiet = from_ok _ c.read.result (sym c.is_err.ensures.value ∙ c.if-is_err.false) c.read.ensures.counts.none ∙ so_far.quiet;
     }
 
-pub returns-clause-value : goal.returns-clause-value
-returns-clause-value g c =
+pub returns : goal.returns
+returns g c =
+    let so_far = c.loop-k.invariant in
     let all : c.loop-k.k ≡ c.args.sectors = omega (arith, c.loop-k-test.false, c.loop-k.auto.k-end) in
-    c.loop-k.invariant.value ∙ ap (bytes_of (g.D.Device.past_of c.args.device.now).disk.content c.args.at) all
+    record {
+      value = so_far.value ∙ ap (bytes_of (g.D.Device.past_of c.args.device.now).disk.content c.args.at) all;
+      size = so_far.size ∙ ap (λ n. 512 * n) all;
+      refused = tt;
+      reads = so_far.reads;
+      quiet = so_far.quiet;
+      told = tt;
+      later = not_fewer _ _ so_far.quiet;
+    }

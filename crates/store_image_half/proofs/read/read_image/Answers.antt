@@ -1,14 +1,57 @@
-use Rattle.std.proofs.Common.{◌≡◌, List, Err, refl, sym, ap, ◌∙◌, subst}
+use Rattle.std.proofs.Common.{◌≡◌, ◌≤◌, List, length, Err, refl, sym, ap, ◌∙◌, subst, arith}
 use Rattle.std.proofs.lemmas.Result.{err_from_is_err_and}
 use Rattle.sector_device.specs.Disk.{Disk, CrashState, sector}
 use Rattle.sector_device.proofs.Within.{reads_then}
 use Rattle.model.specs.Cells.{Cells}
 use Rattle.store_image_parts.specs.declared.head.Head.{Head}
-use Rattle.store_image_half.specs.Layout.{heads_at}
+use Rattle.store_image_half.specs.Layout.{heads_at, image_end_in}
 use Rattle.store_image_half.specs.Image.{AreHeads}
 use Rattle.store_image_half.specs.Steps.{HoldsLists, HoldsPages, HoldsEntries, AreListsRefused}
 use Rattle.store_image_half.proofs.Refusing.{header_unread, heads_unread, later_than, not_fewer, lists_unread, pages_unread, entries_unread, whole_image}
 use Rattle.store_image_half.proofs.read.read_image.Goals as goal
+
+pub read_header-requires : goal.read_header-requires
+read_header-requires g c = omega (arith, c.requires.inside)
+
+pub read_heads-requires : goal.read_heads-requires
+read_heads-requires g c = record {
+  inside = omega (arith, c.requires.inside, ap (λ (d : Disk). length d.content) c.read_header.ensures.reads.disk);
+  number = omega (arith, c.requires.number);
+}
+
+pub read_lists-requires : goal.read_lists-requires
+read_lists-requires g c =
+    let same = c.read_heads.ensures.reads.disk ∙ c.read_header.ensures.reads.disk in
+    let now = (g.D.Device.past_of c.read_heads.new.device).disk.content in
+    record {
+      heads = subst (λ (l : List Head). AreHeads (sector now (heads_at c.args.first)) l) (sym c.deref.ensures.value)
+          (subst (λ (d : Disk). AreHeads (sector d.content (heads_at c.args.first)) c.in_ok-heads.heads.items) (sym c.read_heads.ensures.reads.disk)
+          c.in_ok-heads.ensures.found);
+      empty = ap (λ (x : Cells). x.pending) c.requires.empty;
+      inside = omega (arith, c.requires.inside, ap (λ (d : Disk). length d.content) same);
+      number = omega (arith, c.requires.number);
+    }
+
+pub read_pages-requires : goal.read_pages-requires
+read_pages-requires g c =
+    let same = c.read_lists.ensures.reads.disk ∙ (c.read_heads.ensures.reads.disk ∙ c.read_header.ensures.reads.disk) in
+    record {
+      empty = ap (λ (x : Cells). x.rows) c.in_ok-read_lists.ensures.rest ∙ ap (λ (x : Cells). x.rows) c.requires.empty;
+      inside = omega (arith, c.requires.inside, ap (λ (d : Disk). length d.content) same);
+      number = omega (arith, c.requires.number);
+    }
+
+pub read_entries-requires : goal.read_entries-requires
+read_entries-requires g c =
+    let same = c.read_pages.ensures.reads.disk
+    ∙ (c.read_lists.ensures.reads.disk ∙ (c.read_heads.ensures.reads.disk ∙ c.read_header.ensures.reads.disk)) in
+    record {
+      count = c.in_ok-header.ensures.found.room;
+      empty = ap (λ (x : Cells). x.entries) c.in_ok-read_pages.ensures.rest
+          ∙ (ap (λ (x : Cells). x.entries) c.in_ok-read_lists.ensures.rest ∙ ap (λ (x : Cells). x.entries) c.requires.empty);
+      inside = subst (λ (d : Disk). image_end_in c.args.version c.args.geometry c.args.first ≤ length d.content) (sym same) c.requires.inside;
+      number = c.requires.number;
+    }
 
 pub returns-in_err-header : goal.returns-in_err-header
 returns-in_err-header g c =

@@ -1,53 +1,73 @@
-use Rattle.std.proofs.Common.{◌≡◌, ⊎_elim, ℕ, ◌+◌, ◌<◌, List, length, Some, None, sym, ap, ◌∙◌, subst, arith}
+use Rattle.std.proofs.Common.{◌≡◌, ⊎_elim, ℕ, List, length, Some, None, Err, refl, sym, ap, ◌∙◌, subst, arith}
 use Rattle.std.specs.Prelude.{slice_get}
 use Rattle.std.specs.Option.{option_map}
 use Rattle.std.specs.FinMap.{entries}
 use Rattle.std.proofs.lemmas.Bool.{cases_eq}
 use Rattle.std.proofs.lemmas.Option.{same_Some, slice_get_within}
+use Rattle.std.proofs.lemmas.Result.{err_from_is_err_and}
 use Rattle.records.specs.ChangeValue.{ChangeValue}
+use Rattle.sector_device.proofs.Counts.{counts_later}
 use Rattle.store_image_half.specs.Layout.{InList}
 use Rattle.store_image_half.specs.Image.{HoldsList, InLists}
-use Rattle.store_image_half.proofs.Joined.{writes_then}
+use Rattle.store_image_half.proofs.Joined.{counts_none, writes_none, writes_then}
 use Rattle.store_image_half.proofs.Kept.{list_kept}
 use Rattle.store_image_half.proofs.Walk.{reached_next, before_end}
 use Rattle.store_image_half.proofs.Writing.{change_at, list_short, list_placed}
 use Rattle.store_image_half.proofs.whole.write_lists.Goals as goal
 
-pub write_list-requires-clause-count : goal.write_list-requires-clause-count
-write_list-requires-clause-count g c =
-    let cells = g.S.CellSource.cells c.args.source.now in
-    let there : slice_get (entries cells.pending) c.loop-h.h ≡ Some (c.in-Some.list.0, c.in-Some.list.1.now) =
-    sym (c.loop-h.invariant.reached _ c.list_behind.ensures) ∙ ap (option_map (λ l. (l.0, l.1.now))) c.in-Some.is in
-    list_short c.args.geometry cells c.requires.fits c.loop-h.h _ there
+pub loop-h-init : goal.loop-h-init
+loop-h-init g c = record {
+  reached = λ next is. is;
+  written = λ k list less at_k. absurd (omega (arith, less));
+  part = writes_none (InLists c.args.first (g.S.CellSource.cells c.args.source.now)) (g.D.Device.past_of c.args.device.now);
+  failures = refl;
+}
 
-pub write_list-requires-clause-positions : goal.write_list-requires-clause-positions
-write_list-requires-clause-positions g c = λ p d at_p.
+pub returns-in_default : goal.returns-in_default
+returns-in_default g c =
+    let lists = entries (g.S.CellSource.cells c.args.source.now).pending in
+    let so_far = c.loop-h.invariant in
+    record {
+      written = λ h list at_h.
+          let none : slice_get lists c.loop-h.h ≡ None = sym (so_far.reached _ c.list_behind.ensures)
+          ∙ ap (option_map (λ l. (l.0, l.1.now))) c.in_default.is in
+          so_far.written h list (before_end lists c.loop-h.h h list none at_h) at_h;
+      part = so_far.part;
+      counts = counts_none _ _ _ so_far.failures;
+    }
+
+pub write_list-requires : goal.write_list-requires
+write_list-requires g c =
     let cells = g.S.CellSource.cells c.args.source.now in
     let there : slice_get (entries cells.pending) c.loop-h.h ≡ Some (c.in-Some.list.0, c.in-Some.list.1.now) =
     sym (c.loop-h.invariant.reached _ c.list_behind.ensures) ∙ ap (option_map (λ l. (l.0, l.1.now))) c.in-Some.is in
-    let at : (d.position ≡ 0 + p) × (d.rid.page < c.args.geometry.pages) =
+    let at = λ (p : ℕ) (d : ChangeValue) (at_p : slice_get c.in-Some.list.1.now p ≡ Some d).
     change_at c.args.geometry.pages 0 p _ d (list_placed c.args.geometry cells c.requires.fits c.loop-h.h _ there) at_p in
-    omega (arith, at.0)
+    record {
+      head = omega (arith, c.loop-h-test.true);
+      count = list_short c.args.geometry cells c.requires.fits c.loop-h.h _ there;
+      positions = λ p d at_p. omega (arith, (at p d at_p).0);
+      pages = λ p d at_p. (at p d at_p).1;
+      inside = omega (arith, c.requires.inside, c.loop-h.invariant.part.outside.sectors);
+      number = c.requires.number;
+    }
 
-pub write_list-requires-clause-pages : goal.write_list-requires-clause-pages
-write_list-requires-clause-pages g c = λ p d at_p.
-    let cells = g.S.CellSource.cells c.args.source.now in
-    let there : slice_get (entries cells.pending) c.loop-h.h ≡ Some (c.in-Some.list.0, c.in-Some.list.1.now) =
-    sym (c.loop-h.invariant.reached _ c.list_behind.ensures) ∙ ap (option_map (λ l. (l.0, l.1.now))) c.in-Some.is in
-    let at : (d.position ≡ 0 + p) × (d.rid.page < c.args.geometry.pages) =
-    change_at c.args.geometry.pages 0 p _ d (list_placed c.args.geometry cells c.requires.fits c.loop-h.h _ there) at_p in
-    at.1
-
-pub returns-in_err-write_list-clause-part : goal.returns-in_err-write_list-clause-part
-returns-in_err-write_list-clause-part g c =
+pub returns-in_err-write_list : goal.returns-in_err-write_list
+returns-in_err-write_list g c =
     let hist = g.D.Device.past_of in
     let cells = g.S.CellSource.cells c.args.source.now in
     let first = c.args.first in
     let list : ℕ × List ChangeValue = (c.in-Some.list.0, c.in-Some.list.1.now) in
     let there : slice_get (entries cells.pending) c.loop-h.h ≡ Some list = sym (c.loop-h.invariant.reached _ c.list_behind.ensures)
     ∙ ap (option_map (λ l. (l.0, l.1.now))) c.in-Some.is in
-    writes_then (InLists first cells) (InList first c.loop-h.h (length list.1)) (hist c.args.device.now) (hist c.loop-h.device) (hist c.write_list.new.device)
-    (λ n is. (c.loop-h.h, list, there, is)) c.loop-h.invariant.part (record { outside = c.write_list.ensures.outside; within = c.write_list.ensures.within })
+    let p = err_from_is_err_and c.from_residual.result c.from_residual.ensures.1 in
+    rw (p.1 ∙ ap Err p.2) (record {
+      written = tt;
+      part = writes_then (InLists first cells) (InList first c.loop-h.h (length list.1)) (hist c.args.device.now) (hist c.loop-h.device)
+          (hist c.write_list.new.device) (λ n is. (c.loop-h.h, list, there, is)) c.loop-h.invariant.part
+          (record { outside = c.write_list.ensures.outside; within = c.write_list.ensures.within });
+      counts = counts_later _ _ _ _ c.loop-h.invariant.failures c.in_err-write_list.ensures.counts;
+    })
 
 pub loop-h-preserved : goal.loop-h-preserved
 loop-h-preserved g c =
@@ -76,13 +96,11 @@ loop-h-preserved g c =
       failures = c.in_ok-write_list.ensures.counts.none ∙ c.loop-h.invariant.failures;
     }
 
-pub returns-in_default-clause-written : goal.returns-in_default-clause-written
-returns-in_default-clause-written g c = λ h list at_h.
-    let lists = entries (g.S.CellSource.cells c.args.source.now).pending in
-    let none : slice_get lists c.loop-h.h ≡ None = sym (c.loop-h.invariant.reached _ c.list_behind.ensures)
-    ∙ ap (option_map (λ l. (l.0, l.1.now))) c.in_default.is in
-    c.loop-h.invariant.written h list (before_end lists c.loop-h.h h list none at_h) at_h
-
-pub returns-clause-written : goal.returns-clause-written
-returns-clause-written g c = λ h list at_h.
-    c.loop-h.invariant.written h list (omega (arith, slice_get_within _ h list at_h, c.requires.fits.txns, c.loop-h-test.false)) at_h
+pub returns : goal.returns
+returns g c =
+    let so_far = c.loop-h.invariant in
+    record {
+      written = λ h list at_h. so_far.written h list (omega (arith, slice_get_within _ h list at_h, c.requires.fits.txns, c.loop-h-test.false)) at_h;
+      part = so_far.part;
+      counts = counts_none _ _ _ so_far.failures;
+    }

@@ -1,21 +1,55 @@
-use Rattle.std.proofs.Common.{◌≡◌, ⊎_elim, inl, ℕ, ◌+◌, ◌*◌, ◌/◌, ◌%◌, ◌<◌, List, Some, length, refl, sym, ap, ◌∙◌, subst, arith}
+use Rattle.std.proofs.Common.{◌≡◌, ⊎_elim, inl, ℕ, ◌+◌, ◌*◌, ◌/◌, ◌%◌, ◌<◌, List, Some, length, Err, refl, sym, ap, ◌∙◌, subst, arith}
 use Rattle.std.specs.Prelude.{slice_get}
 use Rattle.std.proofs.lemmas.Bool.{cases_eq}
 use Rattle.std.proofs.lemmas.Option.{slice_get_within, slice_get_read, same_Some}
+use Rattle.std.proofs.lemmas.Result.{err_from_is_err_and}
 use Rattle.sector_device.specs.Disk.{Disk, sector, after_write}
 use Rattle.sector_device.proofs.Sectors.{sector_written, sector_other, content_after}
 use Rattle.sector_device.proofs.Within.{within_write}
 use Rattle.records.specs.ChangeValue.{ChangeValue}
+use Rattle.sector_device.proofs.Counts.{counts_later}
 use Rattle.store_image_half.specs.Layout.{cut, undo_at, InList}
 use Rattle.store_image_half.specs.Image.{IsItem, item_bytes, item_of}
 use Rattle.store_image_half.proofs.Cut.{cut_whole}
+use Rattle.store_image_half.proofs.Joined.{counts_none, writes_none}
 use Rattle.store_image_half.proofs.write.write_list.Goals as goal
 
-pub returns-in_err-write-clause-within : goal.returns-in_err-write-clause-within
-returns-in_err-write-clause-within g c =
+pub loop-position-init : goal.loop-position-init
+loop-position-init g c =
+    let none = writes_none (InList c.args.first c.args.h (length c.args.changes.now)) (g.D.Device.past_of c.args.device.now) in
+    record {
+      placed = λ p d less at_p. absurd (omega (arith, less));
+      outside = none.outside;
+      within = none.within;
+      failures = refl;
+    }
+
+pub overflow_add-at-in-loop-position : goal.overflow_add-at-in-loop-position
+overflow_add-at-in-loop-position g c = omega (arith, c.loop-position-test.true, c.requires.count, c.requires.head, c.requires.number)
+
+pub write-requires : goal.write-requires
+write-requires g c = omega (
+  arith,
+  c.loop-position-test.true,
+  c.requires.count,
+  c.requires.head,
+  c.requires.inside,
+  c.loop-position.invariant.outside.sectors,
+)
+
+pub returns-in_err-write : goal.returns-in_err-write
+returns-in_err-write g c =
     let at = undo_at c.args.first + 64 * c.args.h + c.loop-position.position in
     let inside : InList c.args.first c.args.h (length c.args.changes.now) at = (omega arith, omega (arith, c.loop-position-test.true)) in
-    within_write _ _ _ _ _ c.loop-position.invariant.within c.write.ensures.time at _ c.write.result (inl inside) c.write.ensures.ok c.write.ensures.err
+    let so_far = c.loop-position.invariant in
+    let p = err_from_is_err_and c.from_residual.result c.from_residual.ensures.1 in
+    rw (p.1 ∙ ap Err p.2) (record {
+      written = tt;
+      outside = content_after _ _ (g.D.Device.past_of c.loop-position.device).disk at _ _ c.write.result c.write.ensures.ok c.write.ensures.err inside
+          so_far.outside;
+      within = within_write _ _ _ _ _ so_far.within c.write.ensures.time at _ c.write.result (inl inside) c.write.ensures.ok c.write.ensures.err;
+      counts = counts_later _ _ _ _ so_far.failures c.in_err-write.ensures.counts;
+    })
 
 pub loop-position-preserved : goal.loop-position-preserved
 loop-position-preserved g c =
@@ -63,8 +97,15 @@ loop-position-preserved g c =
       failures = c.in_ok-write.ensures.counts.none ∙ so_far.failures;
     }
 
-pub returns-clause-written : goal.returns-clause-written
-returns-clause-written g c = record {
-  positions = c.requires.positions;
-  items = λ p e at_p. c.loop-position.invariant.placed p e (omega (arith, slice_get_within c.args.changes.now p e at_p, c.loop-position-test.false)) at_p;
-}
+pub returns : goal.returns
+returns g c =
+    let so_far = c.loop-position.invariant in
+    record {
+      written = record {
+        positions = c.requires.positions;
+        items = λ p e at_p. so_far.placed p e (omega (arith, slice_get_within c.args.changes.now p e at_p, c.loop-position-test.false)) at_p;
+      };
+      outside = so_far.outside;
+      within = so_far.within;
+      counts = counts_none _ _ _ so_far.failures;
+    }

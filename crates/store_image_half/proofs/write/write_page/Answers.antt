@@ -1,33 +1,64 @@
-use Rattle.std.proofs.Common.{◌≡◌, ⊎_elim, inl, ℕ, ◌+◌, ◌/◌, ◌<◌, List, [], length, sym, ap, ◌∙◌, subst, arith}
-use Rattle.std.specs.Prelude.{slice_get, Option}
+use Rattle.std.proofs.Common.{◌≡◌, ⊎_elim, inl, ℕ, ◌+◌, ◌/◌, ◌<◌, List, [], length, Err, refl, sym, ap, ◌∙◌, subst, arith}
 use Rattle.std.proofs.lemmas.Bool.{cases_eq}
 use Rattle.std.proofs.lemmas.Grind.{get_or-set_at}
+use Rattle.std.proofs.lemmas.Result.{err_from_is_err_and}
 use Rattle.sector_device.specs.Disk.{CrashState, Disk, sector}
 use Rattle.sector_device.proofs.Sectors.{sector_other, content_after}
 use Rattle.sector_device.proofs.Within.{within_write}
 use Rattle.record_values.specs.declared.version.Version.TheVariants.{Two}
-use Rattle.store_image_half.specs.Layout.{page_at, page_bytes, row_of, InPage}
+use Rattle.sector_device.proofs.Counts.{counts_later}
+use Rattle.store_image_half.specs.Layout.{page_at, row_of, InPage}
 use Rattle.store_image_half.specs.Image.{HasEdges, IsRow}
 use Rattle.store_image_half.proofs.Bytes.{bytes_written}
+use Rattle.store_image_half.proofs.Joined.{counts_none, writes_none}
 use Rattle.store_image_half.proofs.write.write_page.Goals as goal
 
-pub returns-in_err-write-clause-within : goal.returns-in_err-write-clause-within
-returns-in_err-write-clause-within g c =
+pub put_rows-requires : goal.put_rows-requires
+put_rows-requires g c = record { count = c.requires.rows; none = c.zero_page-bytes.ensures.rows }
+
+pub page_at-at-requires : goal.page_at-at-requires
+page_at-at-requires g c = omega (arith, c.from.ensures, c.requires.page, c.requires.number)
+
+pub loop-k-init : goal.loop-k-init
+loop-k-init g c =
+    let none = writes_none (InPage c.args.first c.args.page) (g.D.Device.past_of c.args.device.now) in
+    record {
+      written = λ j below. absurd (omega (arith, below));
+      outside = none.outside;
+      within = none.within;
+      failures = refl;
+    }
+
+pub overflow_add-at : goal.overflow_add-at
+overflow_add-at g c =
+    let at = c.page_at-at.result in
+    let at_is : at ≡ page_at c.args.first c.args.page = c.page_at-at.ensures ∙ ap (page_at c.args.first) c.from.ensures in
+    let few : c.loop-k.k < 16 = omega (arith, c.as_chunks.ensures.front_len, c.loop-k-test.true) in
+    omega (arith, at_is, few, c.requires.page, c.requires.number)
+
+pub write-requires : goal.write-requires
+write-requires g c =
+    let at = c.page_at-at.result in
+    let at_is : at ≡ page_at c.args.first c.args.page = c.page_at-at.ensures ∙ ap (page_at c.args.first) c.from.ensures in
+    let few : c.loop-k.k < 16 = omega (arith, c.as_chunks.ensures.front_len, c.loop-k-test.true) in
+    omega (arith, at_is, few, c.requires.page, c.requires.inside, c.loop-k.invariant.outside.sectors)
+
+pub returns-in_err-write : goal.returns-in_err-write
+returns-in_err-write g c =
     let at = c.page_at-at.result in
     let at_is : at ≡ page_at c.args.first c.args.page = c.page_at-at.ensures ∙ ap (page_at c.args.first) c.from.ensures in
     let few : c.loop-k.k < 16 = omega (arith, c.as_chunks.ensures.front_len, c.loop-k-test.true) in
     let inside : InPage c.args.first c.args.page (at + c.loop-k.k) = (omega (arith, at_is), omega (arith, at_is, few)) in
-    within_write _ _ _ _ _ c.loop-k.invariant.within c.write.ensures.time (at + c.loop-k.k) _ c.write.result (inl inside) c.write.ensures.ok c.write.ensures.err
-
-pub returns-in_err-write-clause-outside : goal.returns-in_err-write-clause-outside
-returns-in_err-write-clause-outside g c =
-    let at = c.page_at-at.result in
-    let at_is : at ≡ page_at c.args.first c.args.page = c.page_at-at.ensures ∙ ap (page_at c.args.first) c.from.ensures in
-    let few : c.loop-k.k < 16 = omega (arith, c.as_chunks.ensures.front_len, c.loop-k-test.true) in
-    content_after _ _ _ (at + c.loop-k.k) _ _ c.write.result c.write.ensures.ok c.write.ensures.err (
-      omega (arith, at_is),
-      omega (arith, at_is, few),
-    ) c.loop-k.invariant.outside
+    let so_far = c.loop-k.invariant in
+    let p = err_from_is_err_and c.from_residual.result c.from_residual.ensures.1 in
+    rw (p.1 ∙ ap Err p.2) (record {
+      edges = tt;
+      written = tt;
+      outside = content_after _ _ _ (at + c.loop-k.k) _ _ c.write.result c.write.ensures.ok c.write.ensures.err inside so_far.outside;
+      within = within_write _ _ _ _ _ so_far.within c.write.ensures.time (at + c.loop-k.k) _ c.write.result (inl inside) c.write.ensures.ok
+          c.write.ensures.err;
+      counts = counts_later _ _ _ _ so_far.failures c.in_err-write.ensures.counts;
+    })
 
 pub loop-k-preserved : goal.loop-k-preserved
 loop-k-preserved g c =
@@ -54,22 +85,19 @@ loop-k-preserved g c =
       failures = c.in_ok-write.ensures.counts.none ∙ so_far.failures;
     }
 
-pub returns-clause-edges : goal.returns-clause-edges
-returns-clause-edges g c =
+pub returns : goal.returns
+returns g c =
     let image : CrashState = (g.D.Device.past_of c.loop-k.device).disk.content in
     let rows : CrashState = c.as_chunks.result.0.now in
+    let so_far = c.loop-k.invariant in
     let size : length rows ≡ 16 = omega (arith, c.as_chunks.ensures.front_len) in
     let bytes = bytes_written image rows c.put_rows.new.page (length c.put_rows.new.page / 512) (page_at c.args.first c.args.page) 16
-    (omega (arith, c.requires.inside, c.requires.page, c.loop-k.invariant.outside.sectors)) (omega arith) (omega arith) c.as_chunks.ensures.front size
-    (λ j less. c.loop-k.invariant.written j (omega (arith, size, less, c.loop-k-test.false))) in
-    subst (HasEdges Two) (sym bytes) (c.put_rows.ensures.edges c.zero_page-bytes.ensures.edges)
-
-pub returns-clause-written : goal.returns-clause-written
-returns-clause-written g c = λ slot o there.
-    let image : CrashState = (g.D.Device.past_of c.loop-k.device).disk.content in
-    let rows : CrashState = c.as_chunks.result.0.now in
-    let size : length rows ≡ 16 = omega (arith, c.as_chunks.ensures.front_len) in
-    let bytes = bytes_written image rows c.put_rows.new.page (length c.put_rows.new.page / 512) (page_at c.args.first c.args.page) 16
-    (omega (arith, c.requires.inside, c.requires.page, c.loop-k.invariant.outside.sectors)) (omega arith) (omega arith) c.as_chunks.ensures.front size
-    (λ j less. c.loop-k.invariant.written j (omega (arith, size, less, c.loop-k-test.false))) in
-    subst (λ (b : List ℕ). IsRow (row_of Two b slot) o) (sym bytes) (c.put_rows.ensures.rows slot o there)
+    (omega (arith, c.requires.inside, c.requires.page, so_far.outside.sectors)) (omega arith) (omega arith) c.as_chunks.ensures.front size
+    (λ j less. so_far.written j (omega (arith, size, less, c.loop-k-test.false))) in
+    record {
+      edges = subst (HasEdges Two) (sym bytes) (c.put_rows.ensures.edges c.zero_page-bytes.ensures.edges);
+      written = λ slot o there. subst (λ (b : List ℕ). IsRow (row_of Two b slot) o) (sym bytes) (c.put_rows.ensures.rows slot o there);
+      outside = so_far.outside;
+      within = so_far.within;
+      counts = counts_none _ _ _ so_far.failures;
+    }

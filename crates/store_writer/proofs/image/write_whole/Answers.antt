@@ -1,67 +1,92 @@
-use Rattle.std.proofs.Common.{[], refl}
+use Rattle.std.proofs.Common.{◌∙◌, ℕ, [], Err, refl, ap, subst, arith}
+use Rattle.std.proofs.lemmas.Result.{err_from_is_err_and}
+use Rattle.sector_device.specs.DevicePast.{Rises}
 use Rattle.flip_image.specs.Layout.{other}
 use Rattle.store_reader.specs.Contents.{log_area}
 use Rattle.store_writer.proofs.Idle.{still_named, closing, closed_outside, imaging, imaged_outside, imaged_loose, imaged_log}
 use Rattle.store_writer.proofs.image.write_whole.Goals as goal
 
-pub returns-clause-any_moment : goal.returns-clause-any_moment
-returns-clause-any_moment g c =
-    let halves = c.args.halves in
-    let area = log_area halves.geometry (other halves.current) in
-    imaging halves.geometry (other halves.current) _ _ area refl c.requires.loose _ c.closed_log.ensures.any_moment c.closed_log.ensures.outside
-    c.in_ok-log.ensures.synced c.write_image.ensures.within
+pub closed_log-requires : goal.closed_log-requires
+closed_log-requires g c = record { room = c.requires.room }
 
-pub returns-clause-outside : goal.returns-clause-outside
-returns-clause-outside g c =
+pub returns-in_err-log : goal.returns-in_err-log
+returns-in_err-log g c =
     let halves = c.args.halves in
     let area = log_area halves.geometry (other halves.current) in
-    imaged_outside halves.geometry (other halves.current) _ _ area refl c.requires.loose _ c.closed_log.ensures.any_moment c.closed_log.ensures.outside
-    c.in_ok-log.ensures.synced c.write_image.ensures.within
+    let past_of = g.D.Device.past_of in
+    let old = past_of c.args.device.now in
+    let mid = past_of c.closed_log.new.device in
+    let p = err_from_is_err_and c.from_residual.result c.from_residual.ensures.1 in
+    rw (p.1 ∙ ap Err p.2) (record {
+      written = tt;
+      area = tt;
+      empty = tt;
+      loose = tt;
+      outside = closed_outside halves.geometry (other halves.current) old mid area refl c.requires.loose c.closed_log.ensures.outside;
+      any_moment = closing halves.geometry (other halves.current) old mid area refl c.requires.loose c.closed_log.ensures.any_moment;
+      counts = record { later = c.closed_log.ensures.counts.later; none = tt; failed = c.in_err-log.ensures.counts.failed };
+    })
 
-pub returns-clause-loose : goal.returns-clause-loose
-returns-clause-loose g c =
+pub write_image-requires : goal.write_image-requires
+write_image-requires g c =
     let halves = c.args.halves in
     let area = log_area halves.geometry (other halves.current) in
-    imaged_loose halves.geometry (other halves.current) _ _ area refl c.requires.loose _ c.closed_log.ensures.any_moment c.closed_log.ensures.outside
-    c.in_ok-log.ensures.synced c.write_image.ensures.within
+    record {
+      inside = omega (arith, c.requires.room, c.closed_log.ensures.outside.sectors);
+      current = still_named halves.geometry (other halves.current) (g.D.Device.past_of c.args.device.now)
+          (g.D.Device.past_of c.closed_log.new.device) area refl c.requires.loose halves.current c.closed_log.ensures.outside c.requires.current;
+      fits = c.requires.fits;
+      base = c.requires.number;
+    }
 
-pub returns-in_err-write_image-clause-any_moment : goal.returns-in_err-write_image-clause-any_moment
-returns-in_err-write_image-clause-any_moment g c =
+pub returns-in_err-write_image : goal.returns-in_err-write_image
+returns-in_err-write_image g c =
     let halves = c.args.halves in
     let area = log_area halves.geometry (other halves.current) in
-    imaging halves.geometry (other halves.current) _ _ area refl c.requires.loose _ c.closed_log.ensures.any_moment c.closed_log.ensures.outside
-    c.in_ok-log.ensures.synced c.write_image.ensures.within
+    let past_of = g.D.Device.past_of in
+    let old = past_of c.args.device.now in
+    let mid = past_of c.closed_log.new.device in
+    let new = past_of c.write_image.new.device in
+    let p = err_from_is_err_and c.from_residual-in_err-write_image.result c.from_residual-in_err-write_image.ensures.1 in
+    rw (p.1 ∙ ap Err p.2) (record {
+      written = tt;
+      area = tt;
+      empty = tt;
+      loose = tt;
+      outside = imaged_outside halves.geometry (other halves.current) old mid area refl c.requires.loose new c.closed_log.ensures.any_moment
+          c.closed_log.ensures.outside c.in_ok-log.ensures.synced c.write_image.ensures.within;
+      any_moment = imaging halves.geometry (other halves.current) old mid area refl c.requires.loose new c.closed_log.ensures.any_moment
+          c.closed_log.ensures.outside c.in_ok-log.ensures.synced c.write_image.ensures.within;
+      counts = record {
+        later = omega (arith, c.closed_log.ensures.counts.later, c.write_image.ensures.counts.later);
+        none = tt;
+        failed = subst (λ (n : ℕ). Rises n (g.D.Device.failures c.write_image.new.device)) c.in_ok-log.ensures.counts.none
+            c.in_err-write_image.ensures.counts.failed;
+      };
+    })
 
-pub returns-in_err-write_image-clause-outside : goal.returns-in_err-write_image-clause-outside
-returns-in_err-write_image-clause-outside g c =
+pub returns : goal.returns
+returns g c =
     let halves = c.args.halves in
     let area = log_area halves.geometry (other halves.current) in
-    imaged_outside halves.geometry (other halves.current) _ _ area refl c.requires.loose _ c.closed_log.ensures.any_moment c.closed_log.ensures.outside
-    c.in_ok-log.ensures.synced c.write_image.ensures.within
-
-pub returns-in_err-log-clause-any_moment : goal.returns-in_err-log-clause-any_moment
-returns-in_err-log-clause-any_moment g c =
-    let halves = c.args.halves in
-    let area = log_area halves.geometry (other halves.current) in
-    closing halves.geometry (other halves.current) _ _ area refl c.requires.loose c.closed_log.ensures.any_moment
-
-pub returns-in_err-log-clause-outside : goal.returns-in_err-log-clause-outside
-returns-in_err-log-clause-outside g c =
-    let halves = c.args.halves in
-    let area = log_area halves.geometry (other halves.current) in
-    closed_outside halves.geometry (other halves.current) (g.D.Device.past_of c.args.device.now)
-    (g.D.Device.past_of c.closed_log.new.device) area refl c.requires.loose c.closed_log.ensures.outside
-
-pub returns-clause-empty : goal.returns-clause-empty
-returns-clause-empty g c =
-    let halves = c.args.halves in
-    let area = log_area halves.geometry (other halves.current) in
-    imaged_log halves.geometry (other halves.current) _ _ area refl c.requires.loose _ c.closed_log.ensures.any_moment c.closed_log.ensures.outside
-    c.in_ok-log.ensures.synced c.write_image.ensures.within _ [] c.in_ok-log.ensures.area c.in_ok-log.ensures.empty
-
-pub write_image-requires-clause-current : goal.write_image-requires-clause-current
-write_image-requires-clause-current g c =
-    let halves = c.args.halves in
-    let area = log_area halves.geometry (other halves.current) in
-    still_named halves.geometry (other halves.current) (g.D.Device.past_of c.args.device.now)
-    (g.D.Device.past_of c.closed_log.new.device) area refl c.requires.loose halves.current c.closed_log.ensures.outside c.requires.current
+    let past_of = g.D.Device.past_of in
+    let old = past_of c.args.device.now in
+    let mid = past_of c.closed_log.new.device in
+    let new = past_of c.write_image.new.device in
+    record {
+      written = c.in_ok-write_image.ensures.written;
+      area = c.in_ok-log.ensures.area;
+      empty = imaged_log halves.geometry (other halves.current) old mid area refl c.requires.loose new c.closed_log.ensures.any_moment
+          c.closed_log.ensures.outside c.in_ok-log.ensures.synced c.write_image.ensures.within _ [] c.in_ok-log.ensures.area c.in_ok-log.ensures.empty;
+      loose = imaged_loose halves.geometry (other halves.current) old mid area refl c.requires.loose new c.closed_log.ensures.any_moment
+          c.closed_log.ensures.outside c.in_ok-log.ensures.synced c.write_image.ensures.within;
+      outside = imaged_outside halves.geometry (other halves.current) old mid area refl c.requires.loose new c.closed_log.ensures.any_moment
+          c.closed_log.ensures.outside c.in_ok-log.ensures.synced c.write_image.ensures.within;
+      any_moment = imaging halves.geometry (other halves.current) old mid area refl c.requires.loose new c.closed_log.ensures.any_moment
+          c.closed_log.ensures.outside c.in_ok-log.ensures.synced c.write_image.ensures.within;
+      counts = record {
+        later = omega (arith, c.closed_log.ensures.counts.later, c.write_image.ensures.counts.later);
+        none = c.in_ok-write_image.ensures.counts.none ∙ c.in_ok-log.ensures.counts.none;
+        failed = tt;
+      };
+    }

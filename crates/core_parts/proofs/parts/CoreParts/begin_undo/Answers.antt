@@ -16,14 +16,25 @@ set_entry-requires-clause-places g c =
     ∙ ap (λ b. option_and_then entry_in (marks_new b c.args.change)) c.indexed.ensures) in
     ∥∥₁_elim c.requires.safe le_prop (entry_enough (parts_of c.args.self.now) c.args.txn c.args.change c.requires.newest _ some.0)
 
-pub returns-in-Some-clause-ok : goal.returns-in-Some-clause-ok
-returns-in-Some-clause-ok g c =
+pub set_entry-requires-clause-safe : goal.set_entry-requires-clause-safe
+set_entry-requires-clause-safe g c = c.requires.safe
+
+pub set_entry-requires-clause-number : goal.set_entry-requires-clause-number
+set_entry-requires-clause-number g c = c.requires.number
+
+pub returns-in-Some : goal.returns-in-Some
+returns-in-Some g c =
     let some = new_marked (is_indexed c.args.self.now.life) c.args.change _ (c.in-Some.ensures
     ∙ ap (λ b. option_and_then entry_in (marks_new b c.args.change)) c.indexed.ensures) in
-    rw (some.0, ← some.1) c.set_entry.ensures.ok
+    let e = c.set_entry.ensures in
+    rw (some.0, ← some.1) (record { ok = e.ok; unchanged = e.unchanged; no_memory = e.no_memory })
 
-pub returns-in-None-clause-ok : goal.returns-in-None-clause-ok
-returns-in-None-clause-ok g c =
+pub restore_row-requires : goal.restore_row-requires
+restore_row-requires g c = record { safe = c.requires.safe; newest = c.requires.newest; number = c.requires.number }
+
+pub returns-in-None : goal.returns-in-None
+returns-in-None g c =
     let none = new_unmarked (is_indexed c.args.self.now.life) c.args.change (c.in-None.ensures
     ∙ ap (λ b. option_and_then entry_in (marks_new b c.args.change)) c.indexed.ensures) in
-    rw none c.restore_row.ensures.ok
+    let e = c.restore_row.ensures in
+    rw none (record { ok = e.ok; unchanged = e.unchanged; no_memory = e.no_memory })

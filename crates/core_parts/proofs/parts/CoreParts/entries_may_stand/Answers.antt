@@ -1,4 +1,5 @@
-use Rattle.std.proofs.Common.{Option, refl, subst}
+use Rattle.std.proofs.Common.{Option, refl, subst, sym, ◌∙◌}
+use Rattle.std.proofs.lemmas.Bool.{false≢true}
 use Rattle.record_values.specs.declared.pair.Mark.{Mark}
 use Rattle.record_values.specs.declared.pair.Pair.{Pair}
 use Rattle.btree_node.specs.Above.{IsLeastAbove}
@@ -10,6 +11,15 @@ use Rattle.core_parts.proofs.parts.CoreParts.entries_may_stand.Goals as goal
 
 pub loop-entry-init : goal.loop-entry-init
 loop-entry-init g c = let v : CoreValue = parts_of c.args.self.now in none_checked v.index.entries (MayStand v)
+
+pub returns-then-not-may_stand : goal.returns-then-not-may_stand
+returns-then-not-may_stand g c =
+    let v : CoreValue = parts_of c.args.self.now in
+    let least = subst (λ (o : Option (Pair × Mark)). IsLeastAbove v.index.entries c.loop-entry.last o)
+    {x = c.entry_above.result} c.in-Some.is c.entry_above.ensures in (
+      λ is. absurd (false≢true is),
+      λ each. sym c.if-not-may_stand.true ∙ c.may_stand.ensures.1 (each c.in-Some.entry.0 c.in-Some.entry.1 least.1),
+    )
 
 pub loop-entry-smaller : goal.loop-entry-smaller
 loop-entry-smaller g c =

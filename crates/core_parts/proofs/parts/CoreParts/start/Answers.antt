@@ -6,26 +6,32 @@ use Rattle.core_parts.specs.Private.{entry_in}
 use Rattle.core_parts.proofs.Pairs.{old_none, old_some}
 use Rattle.core_parts.proofs.parts.CoreParts.start.Goals as goal
 
-pub returns-in-None-clause-ok : goal.returns-in-None-clause-ok
-returns-in-None-clause-ok g c =
+pub set_first-requires : goal.set_first-requires
+set_first-requires g c = record { safe = c.requires.safe; may = c.requires.may; number = c.requires.number }
+
+pub mark_first-requires-clause-safe : goal.mark_first-requires-clause-safe
+mark_first-requires-clause-safe g c = c.requires.safe
+
+pub mark_first-requires-clause-may : goal.mark_first-requires-clause-may
+mark_first-requires-clause-may g c = c.requires.may
+
+pub mark_first-requires-clause-number : goal.mark_first-requires-clause-number
+mark_first-requires-clause-number g c = c.requires.number
+
+pub mark_first-requires-clause-action : goal.mark_first-requires-clause-action
+mark_first-requires-clause-action g c = (old_some (is_indexed c.args.self.now.life) c.args.change c.in-Some.marked (c.in-Some.ensures
+    ∙ ap (λ b. option_and_then entry_in (marks_old b c.args.change)) c.indexed.ensures)).1
+
+pub returns-in-None : goal.returns-in-None
+returns-in-None g c =
     let none = old_none (is_indexed c.args.self.now.life) c.args.change (c.in-None.ensures
     ∙ ap (λ b. option_and_then entry_in (marks_old b c.args.change)) c.indexed.ensures) in
-    rw none c.set_first.ensures.ok
+    let e = c.set_first.ensures in
+    rw none (record { ok = e.ok; held = e.held; unchanged = e.unchanged; no_memory = e.no_memory })
 
-pub returns-in-None-clause-held : goal.returns-in-None-clause-held
-returns-in-None-clause-held g c =
-    let none = old_none (is_indexed c.args.self.now.life) c.args.change (c.in-None.ensures
-    ∙ ap (λ b. option_and_then entry_in (marks_old b c.args.change)) c.indexed.ensures) in
-    rw none c.set_first.ensures.held
-
-pub returns-in-Some-clause-ok : goal.returns-in-Some-clause-ok
-returns-in-Some-clause-ok g c =
+pub returns-in-Some : goal.returns-in-Some
+returns-in-Some g c =
     let some = old_some (is_indexed c.args.self.now.life) c.args.change _ (c.in-Some.ensures
     ∙ ap (λ b. option_and_then entry_in (marks_old b c.args.change)) c.indexed.ensures) in
-    rw some.0 c.mark_first.ensures.ok
-
-pub returns-in-Some-clause-held : goal.returns-in-Some-clause-held
-returns-in-Some-clause-held g c =
-    let some = old_some (is_indexed c.args.self.now.life) c.args.change _ (c.in-Some.ensures
-    ∙ ap (λ b. option_and_then entry_in (marks_old b c.args.change)) c.indexed.ensures) in
-    rw some.0 c.mark_first.ensures.held
+    let e = c.mark_first.ensures in
+    rw some.0 (record { ok = e.ok; held = e.held; unchanged = e.unchanged; no_memory = e.no_memory })

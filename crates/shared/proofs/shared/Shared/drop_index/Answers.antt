@@ -1,44 +1,36 @@
-use Rattle.std.proofs.Common.{map, rules, subst}
+use Rattle.std.proofs.Common.{map, refl}
+use Rattle.std.proofs.lemmas.Result.{err_from_is_err_and}
 use Rattle.core_model.specs.Events.{Event, Refused}
 use Rattle.core_parts.specs.Replies.{reply_of_ticket}
 use Rattle.nsf_core.specs.Value.{value_of}
 use Rattle.threads_sessions.specs.Halves.{shown}
-use Rattle.shared.specs.Seats.{SeatValue}
-use Rattle.shared.specs.Served.{WasServedTo}
-use Rattle.shared.proofs.Moments.{served_to}
 use Rattle.threads_sessions.specs.Steps.{with_turn}
 use Rattle.threads_sessions.specs.Values.{SessionValue}
 use Rattle.threads_sessions.specs.declared.turn.Turn.TheVariants.{Dropped}
-use Rattle.shared.proofs.SameSeat.{on_err, same_session, with_session}
+use Rattle.shared.proofs.Moments.{served_to}
+use Rattle.shared.proofs.SameSeat.{same_session, with_session}
 use Rattle.shared.proofs.shared.Shared.drop_index.Goals as goal
 
-pub returns-in_err-dropped-clause-served : goal.returns-in_err-dropped-clause-served
-returns-in_err-dropped-clause-served g c =
-    let o = g.B.Group.site.opened in
+pub returns-in_err-dropped : goal.returns-in_err-dropped
+returns-in_err-dropped g c =
+    let p = err_from_is_err_and c.from_residual.result c.from_residual.ensures.1 in
     let was = c.deref_mut.result.now in
-    let reply = Refused c.in_err-dropped.field-0.0 in
-    let served =
-    subst (λ (s : SeatValue). ∥ WasServedTo o s.number s.session Event.Drop reply ∥₁) c.seat.view_is
-    (served_to o (value_of was.core) (value_of c.drop_index-dropped.new.self.core) was.pusher.records
-    (map shown was.book.items) was.shared Event.Drop reply c.in_err-dropped.ensures.served _ _ c.drop_index-dropped.ensures.before) in
-    search rules
+    let step = c.drop_index-dropped in
+    rw (← c.seat.view_is) (rw (p.1, p.2) (record {
+      served = served_to g.B.Group.site.opened (value_of was.core) (value_of step.new.self.core) was.pusher.records (map shown was.book.items) was.shared
+          Event.Drop (Refused c.in_err-dropped.field-0.0) c.in_err-dropped.ensures.served _ _ step.ensures.before;
+      ok = tt;
+      refused = same_session c.seat.inside.part step.new.seat c.seat.inside.view _ refl step.ensures.number c.in_err-dropped.ensures.refused;
+    }))
 
-pub returns-clause-served : goal.returns-clause-served
-returns-clause-served g c =
-    let o = g.B.Group.site.opened in
+pub returns : goal.returns
+returns g c =
     let was = c.deref_mut.result.now in
-    let reply = reply_of_ticket c.in_ok-dropped.field-0.ticket in
-    subst (λ (s : SeatValue). ∥ WasServedTo o s.number s.session Event.Drop reply ∥₁) c.seat.view_is
-    (served_to o (value_of was.core) (value_of c.drop_index-dropped.new.self.core) was.pusher.records
-    (map shown was.book.items) was.shared Event.Drop reply c.in_ok-dropped.ensures.served _ _ c.drop_index-dropped.ensures.before)
-
-pub returns-in_err-dropped-clause-refused : goal.returns-in_err-dropped-clause-refused
-returns-in_err-dropped-clause-refused g c =
-    let new = c.drop_index-dropped in
-    on_err _ _ (same_session c.seat.inside.part new.new.seat c.seat.inside.view _ c.seat.view_is new.ensures.number c.in_err-dropped.ensures.refused)
-
-pub returns-clause-ok : goal.returns-clause-ok
-returns-clause-ok g c =
-    let new = c.drop_index-dropped in
-    with_session c.seat.inside.part new.new.seat c.seat.inside.view _ c.seat.view_is new.ensures.number (λ (s : SessionValue).
-    with_turn s (Dropped c.in_ok-dropped.field-0.ticket.«record»)) c.in_ok-dropped.ensures.ok
+    let step = c.drop_index-dropped in
+    rw (← c.seat.view_is) (record {
+      served = served_to g.B.Group.site.opened (value_of was.core) (value_of step.new.self.core) was.pusher.records (map shown was.book.items) was.shared
+          Event.Drop (reply_of_ticket c.in_ok-dropped.field-0.ticket) c.in_ok-dropped.ensures.served _ _ step.ensures.before;
+      ok = with_session c.seat.inside.part step.new.seat c.seat.inside.view _ refl step.ensures.number (λ (s : SessionValue).
+          with_turn s (Dropped c.in_ok-dropped.field-0.ticket.«record»)) c.in_ok-dropped.ensures.ok;
+      refused = tt;
+    })

@@ -1,4 +1,4 @@
-use Rattle.std.proofs.Common.{true, ◌≡◌, ◌≤◌, ◌-◌, drop, ℕ, List, None, refl, sym, ap, subst, ◌∙◌, length, arith}
+use Rattle.std.proofs.Common.{true, ◌≡◌, ◌≤◌, ◌-◌, drop, ℕ, List, None, refl, sym, ap, subst, ◌∙◌, arith}
 use Rattle.std.proofs.lemmas.Bool.{false≢true}
 use Rattle.sector_device.specs.Disk.{sector}
 use Rattle.sector_device.proofs.Moments.{started}
@@ -14,10 +14,9 @@ use Rattle.store_writer.specs.Writer.{IsWriter}
 use Rattle.store_image_model.specs.Run.{Run}
 use Rattle.records.specs.RecordValue.{RecordValue}
 use Rattle.sector_device.specs.DevicePast.{LeavesOnly}
-use Rattle.store_writer.proofs.Numbers.{length_between}
 use Rattle.store_writer.proofs.Writing.{carried_on}
 use Rattle.store_writer.proofs.Idle.{from_ok, from_err}
-use Rattle.store_writer.proofs.Flipping.{leaves_flipping, flipped_one, no_image, not_whole, rises_then, there_at}
+use Rattle.store_writer.proofs.Flipping.{leaves_flipping, flipped_one, no_image, not_whole, rises_then, there_at, waits_all}
 use Rattle.store_writer.proofs.Alone.{none_alone, flipped_alone}
 use Rattle.store_writer.proofs.store.StoreWriter.checkpoint_flip.Goals as goal
 use Rattle.store_writer.proofs.store.StoreWriter.checkpoint_flip.Goals.{then-handed-image-via-then-handed-image}
@@ -91,10 +90,10 @@ returns-then-handed-image g c =
             let same : c.in-Some.image ≡ image = cc (c.in-Some.is, there) in
             let number : c.in-Some.image.number ≡ image.number = ap (λ (x : NewImage). x.number) same in
             let base : c.in-Some.image.base ≡ image.base = ap (λ (x : NewImage). x.base) same in
-            let count = length_between run old.synced handed is.opened is.reached is.made in
+            let count = waits_all g.D.Device.past_of run handed old is in
             elim c.then-handed-image.branch [
               | then-handed-image-via-then-handed-image w ↦ absurd
-                  (omega (arith, w.if-handed-image.true, c.len.ensures, ap length is.waits, count, is.reached, number, most))
+                  (omega (arith, w.if-handed-image.true, c.len.ensures, count, number, most))
               | then-handed-image-via-else-handed-image+then-reached-image w ↦ absurd
                   (omega (arith, w.if-reached-image.true, c.max-reached.ensures, number, base, reaches))
             ],
@@ -129,7 +128,7 @@ returns-then-is_err g c =
     } in
     let same : c.flip.new.self ≡ old.halves = from_err _ _ failed c.flip.ensures.err in
     let within : (run : Run) (handed : ℕ) → IsWriter past_of run handed old → image.number ≤ handed = λ run handed is.
-    omega (arith, c.if-handed-image.false, c.len.ensures, ap length is.waits, length_between run old.synced handed is.opened is.reached is.made, is.reached) in
+    omega (arith, c.if-handed-image.false, c.len.ensures, waits_all past_of run handed old is) in
     let reaches : image.number ≤ reach image old.synced = omega (arith, c.if-reached-image.false, c.max-reached.ensures) in
     let leaves : (run : Run) (handed : ℕ) → IsWriter past_of run handed old
     → LeavesOnly (past_of old.device) (past_of c.flip.new.device) (LeftBy run old.synced handed) = λ run handed is.
@@ -178,7 +177,7 @@ returns g c =
       failed = old.failed;
     } in
     let within : (run : Run) (handed : ℕ) → IsWriter past_of run handed old → image.number ≤ handed = λ run handed is.
-    omega (arith, c.if-handed-image.false, c.len.ensures, ap length is.waits, length_between run old.synced handed is.opened is.reached is.made, is.reached) in
+    omega (arith, c.if-handed-image.false, c.len.ensures, waits_all past_of run handed old is) in
     let reaches : image.number ≤ reach image old.synced = omega (arith, c.if-reached-image.false, c.max-reached.ensures) in
     let halves_is : c.flip.new.self ≡ record { geometry = old.halves.geometry; current = other old.halves.current } = from_ok _ _ good c.flip.ensures.flipped in
     let named : Names (sector (past_of new.device).disk.content 1) (other old.halves.current) =

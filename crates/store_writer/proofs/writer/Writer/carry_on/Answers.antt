@@ -1,4 +1,4 @@
-use Rattle.std.proofs.Common.{◌≡◌, true, ◌+◌, Option, IfSome, List, length, take, drop, refl, ap, subst, ◌∙◌, arith}
+use Rattle.std.proofs.Common.{◌≡◌, true, ◌+◌, Option, Some, IfSome, List, length, take, drop, refl, ap, subst, ◌∙◌, arith}
 use Rattle.record_values.specs.GeometryValue.{GeometryValue}
 use Rattle.records.specs.RecordValue.{RecordValue}
 use Rattle.flip_image.specs.Layout.{other}
@@ -6,17 +6,24 @@ use Rattle.store_writer.specs.declared.image.NewImage.{NewImage}
 use Rattle.store_writer.specs.declared.writer.Writer.{Writer}
 use Rattle.store_writer.specs.Image.{IsUnderway, BecomesImage}
 use Rattle.store_writer.proofs.CarryOn.{leaves_there, carried_one, failed_one, long, group_between}
+use Rattle.store_writer.proofs.Carrying.{new_log_open, new_log_room}
 use Rattle.store_writer.proofs.Logs.{carried_around}
 use Rattle.store_writer.proofs.writer.Writer.carry_on.Goals as goal
 
-pub carry-requires-clause-stands : goal.carry-requires-clause-stands
-carry-requires-clause-stands g c = λ i it.
+pub carry-requires : goal.carry-requires
+carry-requires g c =
     let w = c.args.self.now in
     let (run, handed, is) = c.requires.appended in
     let content = (g.D.Device.past_of w.device).disk.content in
-    let there : IsUnderway run (other w.halves.current) content w.synced i =
+    let there : (i : NewImage) → w.image ≡ Some i → IsUnderway run (other w.halves.current) content w.synced i = λ i it.
     subst (λ (t : Option NewImage). IfSome t (IsUnderway run (other w.halves.current) content w.synced)) it is.image in
-    (there.groups, there.stands)
+    record {
+      planned = (w.halves.geometry.slots, w.synced, take c.args.count w.waiting.items, c.requires.planned);
+      inside = λ i it. new_log_room run (other w.halves.current) content w.synced i (there i it) is.store.room;
+      room = λ i it. new_log_open run (other w.halves.current) content w.synced i (there i it);
+      synced = is.all_synced;
+      stands = λ i it. ((there i it).groups, (there i it).stands);
+    }
 
 pub returns-in-Ok : goal.returns-in-Ok
 returns-in-Ok g c =

@@ -1,13 +1,15 @@
-use Rattle.std.proofs.Common.{◌≡◌, ◌≢◌, ◌≤◌, List, Ok, Err, sym, ap, subst, ◌∙◌, take, length, refl}
+use Rattle.std.proofs.Common.{◌≡◌, ◌≢◌, ◌≤◌, List, Ok, Err, sym, ap, subst, ◌∙◌, take, length, length-take, refl, arith}
 use Rattle.std.proofs.lemmas.Bool.{false≢true}
 use Rattle.std.proofs.lemmas.Result.{err_from_is_err_and}
 use Rattle.records.specs.RecordValue.{RecordValue}
 use Rattle.record_values.specs.GeometryValue.{GeometryValue}
-use Rattle.gate_log.specs.Group.{IsGroup}
+use Rattle.gate_log.specs.Group.{FitsGroup, IsGroup}
 use Rattle.gate_log.specs.declared.area.Appended.TheVariants.{Done, Full}
 use Rattle.store_writer.specs.Image.{IsPlan}
 use Rattle.store_writer.specs.Writer.{FillsGroup, IsLogFull}
-use Rattle.store_writer.proofs.Flushing.{none_fit, some_fit, positive, fills, log_full, had_failed, none_waits, is_full, no_memory, append_failed, has, carried}
+use Rattle.store_writer.proofs.Flushing.{closed_where_done, closed_where_failed, none_fit, some_fit, positive, fills, log_full, had_failed, none_waits}
+use Rattle.store_writer.proofs.Flushing.{is_full, no_memory, append_failed, has, carried}
+use Rattle.store_writer.proofs.Writing.{all_synced, has_room, stood}
 use Rattle.store_writer.proofs.writer.Writer.flush.Goals as goal
 
 pub returns-then-self : goal.returns-then-self
@@ -49,38 +51,68 @@ returns-in_err-plan g c =
     no_memory g.D.Device.past_of g.D.Device.failures old c.if-self.false c.from_residual-in_err-plan.result
     (p.1 ∙ ap Err (p.2 ∙ c.in_err-plan.ensures.no_memory)) (some_fit old.waiting.items count c.if-count-eq0.false within) room
 
-pub carry_on-requires-clause-planned : goal.carry_on-requires-clause-planned
-carry_on-requires-clause-planned g c =
-    let old = c.args.self.now in
+pub slice_bounds-group-end : goal.slice_bounds-group-end
+slice_bounds-group-end g c = omega (
+  arith,
+  c.group_len-count.ensures.within,
+  ap length c.deref.ensures.value,
+  ap length c.deref-2.ensures.value,
+  length-take c.group_len-count.result c.deref-2.result.now,
+)
+
+pub spell-requires : goal.spell-requires
+spell-requires g c =
     let count = c.group_len-count.result in
-    subst (λ (x : GeometryValue). IsPlan old.image x.slots old.synced (take count old.waiting.items) c.in_ok-plan.plan) c.geometry-2.ensures
-    (subst (λ (rs : List RecordValue). IsPlan old.image c.geometry-2.result.slots old.synced (take count rs) c.in_ok-plan.plan) c.deref-2.ensures.value
-    c.in_ok-plan.ensures.planned)
+    subst (λ (rs : List RecordValue). FitsGroup (take count rs)) (c.deref.ensures.value ∙ sym c.deref-2.ensures.value)
+    (c.group_len-count.ensures.fits (omega (arith, c.if-count-eq0.false, c.group_len-count.ensures.within)))
 
-pub carry_on-requires-clause-sound : goal.carry_on-requires-clause-sound
-carry_on-requires-clause-sound g c = c.if-self.false
+pub plan_for-requires : goal.plan_for-requires
+plan_for-requires g c =
+    let count = c.group_len-count.result in
+    subst (λ (rs : List RecordValue). FitsGroup (take count rs)) (c.deref.ensures.value ∙ sym c.deref-2.ensures.value)
+    (c.group_len-count.ensures.fits (omega (arith, c.if-count-eq0.false, c.group_len-count.ensures.within)))
 
-pub carry_on-requires-clause-appended : goal.carry_on-requires-clause-appended
-carry_on-requires-clause-appended g c =
+pub append_spelled-requires : goal.append_spelled-requires
+append_spelled-requires g c =
+    let past_of = g.D.Device.past_of in
+    let old = c.args.self.now in
+    let (run, handed, is) = c.requires in
+    let stand = stood past_of run handed old is c.if-self.false in
+    record {
+      spelled = (_, subst (IsGroup (take c.group_len-count.result c.deref-2.result.now)) (sym c.deref-3.ensures.value) c.in_ok-body.ensures.ok);
+      inside = has_room past_of run handed old is c.if-self.false;
+      synced = all_synced past_of run handed old is c.if-self.false;
+      stands = (stand.groups, stand.stands);
+    }
+
+pub carry_on-requires : goal.carry_on-requires
+carry_on-requires g c =
     let old = c.args.self.now in
     let count = c.group_len-count.result in
     let within : count ≤ length old.waiting.items =
     subst (λ (rs : List RecordValue). count ≤ length rs) c.deref.ensures.value c.group_len-count.ensures.within in
     let room : ¬ IsLogFull old = λ full. false≢true (c.if-is_full.ensures.1 (full ∙ sym (ap (λ (x : GeometryValue). x.slots) c.geometry.ensures))) in
-    let done : c.append_spelled.result ≡ Ok Done = cc (c.in-Ok-Done.is, c.in-Ok-Done.field-0-is) in
-    let closed : old.log.open_slots ≢ old.log.area.slots = λ all. cc (c.append_spelled.ensures.full.1 all, done) in
+    let done : c.append_spelled.result ≡ Ok Done = c.in-Ok-Done.is ∙ ap Ok c.in-Ok-Done.field-0-is in
+    let closed : old.log.open_slots ≢ old.log.area.slots = closed_where_done c.append_spelled.result _ _ c.append_spelled.ensures.full done in
     let spelled : IsGroup (take count old.waiting.items) c.deref-3.result.now =
     subst (λ (rs : List RecordValue). IsGroup (take count rs) c.deref-3.result.now) c.deref-2.ensures.value
     (subst (IsGroup (take count c.deref-2.result.now)) (sym c.deref-3.ensures.value) c.in_ok-body.ensures.ok) in
-    let (run, handed, is) = c.requires in (
-      run,
-      handed,
-      has g.D.Device.past_of g.D.Device.failures old c.if-self.false c.requires count (positive count c.if-count-eq0.false) within room closed
-          c.append_spelled.new.device c.append_spelled.new.self c.append_spelled.ensures.area c.append_spelled.ensures.outside
-          (c.append_spelled.ensures.any_moment (take count old.waiting.items) spelled)
-          (λ groups stand. c.append_spelled.ensures.done done (take count old.waiting.items) groups spelled stand) (c.append_spelled.ensures.synced done)
-          run handed is,
-    )
+    let (run, handed, is) = c.requires in
+    record {
+      appended = (
+        run,
+        handed,
+        has g.D.Device.past_of g.D.Device.failures old c.if-self.false c.requires count (positive count c.if-count-eq0.false) within room closed
+            c.append_spelled.new.device c.append_spelled.new.self c.append_spelled.ensures.area c.append_spelled.ensures.outside
+            (c.append_spelled.ensures.any_moment (take count old.waiting.items) spelled)
+            (λ groups stand. c.append_spelled.ensures.done done (take count old.waiting.items) groups spelled stand) (c.append_spelled.ensures.synced done)
+            run handed is,
+      );
+      planned = subst (λ (x : GeometryValue). IsPlan old.image x.slots old.synced (take count old.waiting.items) c.in_ok-plan.plan) c.geometry-2.ensures
+          (subst (λ (rs : List RecordValue). IsPlan old.image c.geometry-2.result.slots old.synced (take count rs) c.in_ok-plan.plan) c.deref-2.ensures.value
+          c.in_ok-plan.ensures.planned);
+      sound = c.if-self.false;
+    }
 
 pub returns-in-Ok-Done : goal.returns-in-Ok-Done
 returns-in-Ok-Done g c =
@@ -89,8 +121,8 @@ returns-in-Ok-Done g c =
     let within : count ≤ length old.waiting.items =
     subst (λ (rs : List RecordValue). count ≤ length rs) c.deref.ensures.value c.group_len-count.ensures.within in
     let room : ¬ IsLogFull old = λ full. false≢true (c.if-is_full.ensures.1 (full ∙ sym (ap (λ (x : GeometryValue). x.slots) c.geometry.ensures))) in
-    let done : c.append_spelled.result ≡ Ok Done = cc (c.in-Ok-Done.is, c.in-Ok-Done.field-0-is) in
-    let closed : old.log.open_slots ≢ old.log.area.slots = λ all. cc (c.append_spelled.ensures.full.1 all, done) in
+    let done : c.append_spelled.result ≡ Ok Done = c.in-Ok-Done.is ∙ ap Ok c.in-Ok-Done.field-0-is in
+    let closed : old.log.open_slots ≢ old.log.area.slots = closed_where_done c.append_spelled.result _ _ c.append_spelled.ensures.full done in
     let spelled : IsGroup (take count old.waiting.items) c.deref-3.result.now =
     subst (λ (rs : List RecordValue). IsGroup (take count rs) c.deref-3.result.now) c.deref-2.ensures.value
     (subst (IsGroup (take count c.deref-2.result.now)) (sym c.deref-3.ensures.value) c.in_ok-body.ensures.ok) in
@@ -109,7 +141,7 @@ returns-in-Ok-Done g c =
 pub returns-in-Ok-Full : goal.returns-in-Ok-Full
 returns-in-Ok-Full g c =
     let old = c.args.self.now in
-    let full : c.append_spelled.result ≡ Ok Full = cc (c.in-Ok-Full.is, c.in-Ok-Full.field-0-is) in
+    let full : c.append_spelled.result ≡ Ok Full = c.in-Ok-Full.is ∙ ap Ok c.in-Ok-Full.field-0-is in
     let all = log_full g.D.Device.past_of old c.requires c.if-self.false (c.append_spelled.ensures.full.0 full) in
     absurd (false≢true (c.if-is_full.ensures.1 (all ∙ sym (ap (λ (x : GeometryValue). x.slots) c.geometry.ensures))))
 
@@ -120,7 +152,7 @@ returns g c =
     let within : count ≤ length old.waiting.items =
     subst (λ (rs : List RecordValue). count ≤ length rs) c.deref.ensures.value c.group_len-count.ensures.within in
     let room : ¬ IsLogFull old = λ full. false≢true (c.if-is_full.ensures.1 (full ∙ sym (ap (λ (x : GeometryValue). x.slots) c.geometry.ensures))) in
-    let closed : old.log.open_slots ≢ old.log.area.slots = λ all. cc (c.append_spelled.ensures.full.1 all, c.in-Err.is) in
+    let closed : old.log.open_slots ≢ old.log.area.slots = closed_where_failed c.append_spelled.result _ _ _ c.append_spelled.ensures.full c.in-Err.is in
     let spelled : IsGroup (take count old.waiting.items) c.deref-3.result.now =
     subst (λ (rs : List RecordValue). IsGroup (take count rs) c.deref-3.result.now) c.deref-2.ensures.value
     (subst (IsGroup (take count c.deref-2.result.now)) (sym c.deref-3.ensures.value) c.in_ok-body.ensures.ok) in

@@ -1,4 +1,4 @@
-use Rattle.std.proofs.Common.{true, ◌≡◌, inr, ℕ, Some, None, refl, sym, ap, subst, arith}
+use Rattle.std.proofs.Common.{true, ◌≡◌, inr, ℕ, Some, None, refl, sym, ap, subst, ◌∙◌, arith}
 use Rattle.std.proofs.lemmas.Bool.{false≢true}
 use Rattle.std.specs.FinMap as map
 use Rattle.sector_device.specs.Disk.{SameOutside}
@@ -10,6 +10,10 @@ use Rattle.model.specs.declared.life.Life.{Life}
 use Rattle.store_image_half.specs.Part.{IsImagePart}
 use Rattle.flip_image.specs.Layout.{other, header_sector, InHalf, InHalfImage}
 use Rattle.store_reader.specs.Contents.{log_area}
+use Rattle.store_image_half.specs.Source.{FitsImage}
+use Rattle.store_image_model.specs.Run.{Run}
+use Rattle.store_writer.specs.Contents.{LeftBy}
+use Rattle.store_writer.specs.Writer.{IsWriter}
 use Rattle.store_image_model.specs.declared.chunk.CopyPlace.TheVariants as at
 use Rattle.store_writer.specs.declared.copying.Copying.TheVariants.{Steps}
 use Rattle.store_writer.specs.declared.writer.Writer.{Writer}
@@ -17,81 +21,114 @@ use Rattle.store_writer.specs.declared.image.NewImage.{NewImage}
 use Rattle.store_writer.specs.declared.image.Stage.TheVariants.{Partly}
 use Rattle.store_writer.proofs.Stepwise.{start_taken}
 use Rattle.store_writer.proofs.Writing.{stood, carried_on}
-use Rattle.store_writer.proofs.Taking.{leaves_kept, stands_with}
+use Rattle.store_writer.proofs.Taking.{leaves_kept, may_write, stands_with}
 use Rattle.store_writer.proofs.Alone.{these_alone}
 use Rattle.store_writer.proofs.writer.Writer.take_start.Goals as goal
 
-pub returns-in-Ok-clause-images : goal.returns-in-Ok-clause-images
-returns-in-Ok-clause-images g c = λ run handed is.
+pub write_first-requires : goal.write_first-requires
+write_first-requires g c =
+    let (run, handed, is, start) = c.requires.start in
+    let (room, current, loose) = may_write g.D.Device.past_of run handed c.args.self.now is c.requires.sound in
+    record {
+      room = room;
+      current = current;
+      fits = subst (FitsImage c.args.self.now.halves.geometry) (sym c.lists_alone-cells.ensures)
+          (subst (λ (x : GeometryValue). FitsImage x (record { rows = map.empty; entries = map.empty; pending = c.args.lists; life = c.args.life }))
+          (sym is.geometry-is) start.fits);
+      loose = loose;
+    }
+
+pub returns-in-Ok : goal.returns-in-Ok
+returns-in-Ok g c =
+    let images : (run : Run) (handed : ℕ) → IsWriter g.D.Device.past_of run handed c.args.self.now
+    → LeavesOnly (g.D.Device.past_of c.args.self.now.device) (g.D.Device.past_of c.write_first.new.device)
+    (LeftBy run c.args.self.now.synced handed) = λ run handed is.
     let past_of = g.D.Device.past_of in
     let old = c.args.self.now in
     leaves_kept past_of run handed old is c.requires.sound (past_of c.write_first.new.device)
     (subst (λ (x : GeometryValue). LeavesOnly (past_of old.device) (past_of c.write_first.new.device)
-    (SameOutside (InHalf x (other old.halves.current)) (past_of old.device).disk.content)) is.geometry-is c.write_first.ensures.any_moment)
+    (SameOutside (InHalf x (other old.halves.current)) (past_of old.device).disk.content)) is.geometry-is c.write_first.ensures.any_moment) in
+    record {
+      writer = λ run handed is start.
+          let past_of = g.D.Device.past_of in
+          let old = c.args.self.now in
+          let half = other old.halves.current in
+          let now = (past_of c.write_first.new.device).disk in
+          let life : Life = c.lists_alone-cells.result.life in
+          let image : NewImage = record { base = c.args.number; number = c.args.number; stage = Partly 0 0 None life; log = c.in-Ok.log } in
+          let new : Writer g.row.D.Denot g.row.A.Denot = record {
+            device = c.write_first.new.device;
+            halves = old.halves;
+            log = old.log;
+            waiting = old.waiting;
+            synced = old.synced;
+            image = Some image;
+            copying = Steps (Some (at.Page 0));
+            failed = old.failed;
+          } in
+          let cells_are = c.lists_alone-cells.ensures in
+          let part = subst (λ (x : Cells). IsImagePart run.geometry (header_sector run.geometry half) now.content 0
+          (record x { rows = map.empty; entries = map.empty })) cells_are
+          (subst (λ (x : GeometryValue). IsImagePart x (header_sector x half) now.content 0
+          (record (cells_of c.lists_alone-cells.result) { rows = map.empty; entries = map.empty })) is.geometry-is c.in-Ok.ensures.written) in
+          let area : image.log.area ≡ log_area run.geometry half =
+          subst (λ (x : GeometryValue). image.log.area ≡ log_area x half) is.geometry-is c.in-Ok.ensures.area in
+          carried_on past_of run handed old new is refl refl refl
+          (λ sound. stands_with past_of run handed old is c.requires.sound new refl refl refl
+          (subst (λ (x : GeometryValue). SameOutside (InHalf x half) (past_of old.device).disk.content now.content) is.geometry-is
+          c.write_first.ensures.outside)
+          (subst (λ (x : GeometryValue). (n : ℕ) → now.unsynced n ≡ true → InHalfImage x half n) is.geometry-is c.in-Ok.ensures.loose)
+          (start_taken run half now.content old.synced image c.args.life c.args.lists is.opened refl
+          (ap (λ (l : Life). Partly 0 0 None l) (ap (λ (x : Cells). x.life) cells_are)) start part area c.in-Ok.ensures.empty)
+          (inr (omega (arith, (stood past_of run handed old is c.requires.sound).store.limits.some_page), (image, life, refl, refl))))
+          (images run handed is);
+      images = images;
+      taken =
+          let life : Life = c.lists_alone-cells.result.life in
+          let image : NewImage = record { base = c.args.number; number = c.args.number; stage = Partly 0 0 None life; log = c.in-Ok.log } in
+          let began : Partly 0 0 None life ≡ Partly 0 0 None c.args.life =
+          ap (λ (l : Life). Partly 0 0 None l) (ap (λ (x : Cells). x.life) c.lists_alone-cells.ensures) in
+          (image, (refl, refl, refl, refl, refl, refl), (refl, refl, began, c.in-Ok.ensures.empty.counted), refl);
+      synced = refl;
+      err = tt;
+      quiet = c.in-Ok.ensures.counts.none;
+      later = c.write_first.ensures.counts.later;
+      around = these_alone g.D.Device.past_of (InHalf c.args.self.now.halves.geometry (other c.args.self.now.halves.current)) c.args.self.now.device
+          c.write_first.new.device c.write_first.ensures.outside c.write_first.ensures.any_moment;
+      left = tt;
+    }
 
-pub returns-clause-images : goal.returns-clause-images
-returns-clause-images g c = λ run handed is.
+pub returns : goal.returns
+returns g c =
+    let images : (run : Run) (handed : ℕ) → IsWriter g.D.Device.past_of run handed c.args.self.now
+    → LeavesOnly (g.D.Device.past_of c.args.self.now.device) (g.D.Device.past_of c.write_first.new.device)
+    (LeftBy run c.args.self.now.synced handed) = λ run handed is.
     let past_of = g.D.Device.past_of in
     let old = c.args.self.now in
     leaves_kept past_of run handed old is c.requires.sound (past_of c.write_first.new.device)
     (subst (λ (x : GeometryValue). LeavesOnly (past_of old.device) (past_of c.write_first.new.device)
-    (SameOutside (InHalf x (other old.halves.current)) (past_of old.device).disk.content)) is.geometry-is c.write_first.ensures.any_moment)
-
-pub returns-clause-writer : goal.returns-clause-writer
-returns-clause-writer g c = λ run handed is start.
-    let old = c.args.self.now in
-    let new : Writer g.row.D.Denot g.row.A.Denot = record {
-      device = c.write_first.new.device;
-      halves = old.halves;
-      log = old.log;
-      waiting = old.waiting;
-      synced = old.synced;
-      image = old.image;
-      copying = old.copying;
-      failed = true;
-    } in
-    carried_on g.D.Device.past_of run handed old new is refl refl refl (λ sound. absurd (false≢true (sym sound))) (returns-clause-images g c run handed is)
-
-pub returns-in-Ok-clause-writer : goal.returns-in-Ok-clause-writer
-returns-in-Ok-clause-writer g c = λ run handed is start.
-    let past_of = g.D.Device.past_of in
-    let old = c.args.self.now in
-    let half = other old.halves.current in
-    let now = (past_of c.write_first.new.device).disk in
-    let life : Life = c.lists_alone-cells.result.life in
-    let image : NewImage = record { base = c.args.number; number = c.args.number; stage = Partly 0 0 None life; log = c.in-Ok.log } in
-    let new : Writer g.row.D.Denot g.row.A.Denot = record {
-      device = c.write_first.new.device;
-      halves = old.halves;
-      log = old.log;
-      waiting = old.waiting;
-      synced = old.synced;
-      image = Some image;
-      copying = Steps (Some (at.Page 0));
-      failed = old.failed;
-    } in
-    let cells_are = c.lists_alone-cells.ensures in
-    let part = subst (λ (x : Cells). IsImagePart run.geometry (header_sector run.geometry half) now.content 0
-    (record x { rows = map.empty; entries = map.empty })) cells_are
-    (subst (λ (x : GeometryValue). IsImagePart x (header_sector x half) now.content 0
-    (record (cells_of c.lists_alone-cells.result) { rows = map.empty; entries = map.empty })) is.geometry-is c.in-Ok.ensures.written) in
-    let area : image.log.area ≡ log_area run.geometry half =
-    subst (λ (x : GeometryValue). image.log.area ≡ log_area x half) is.geometry-is c.in-Ok.ensures.area in
-    carried_on past_of run handed old new is refl refl refl
-    (λ sound. stands_with past_of run handed old is c.requires.sound new refl refl refl
-    (subst (λ (x : GeometryValue). SameOutside (InHalf x half) (past_of old.device).disk.content now.content) is.geometry-is c.write_first.ensures.outside)
-    (subst (λ (x : GeometryValue). (n : ℕ) → now.unsynced n ≡ true → InHalfImage x half n) is.geometry-is c.in-Ok.ensures.loose)
-    (start_taken run half now.content old.synced image c.args.life c.args.lists is.opened refl
-    (ap (λ (l : Life). Partly 0 0 None l) (ap (λ (x : Cells). x.life) cells_are)) start part area c.in-Ok.ensures.empty)
-    (inr (omega (arith, (stood past_of run handed old is c.requires.sound).store.limits.some_page), (image, life, refl, refl))))
-    (returns-in-Ok-clause-images g c run handed is)
-
-pub returns-in-Ok-clause-around : goal.returns-in-Ok-clause-around
-returns-in-Ok-clause-around g c = these_alone g.D.Device.past_of
-    (InHalf c.args.self.now.halves.geometry (other c.args.self.now.halves.current)) c.args.self.now.device c.write_first.new.device
-    c.write_first.ensures.outside c.write_first.ensures.any_moment
-
-pub returns-clause-around : goal.returns-clause-around
-returns-clause-around g c = these_alone g.D.Device.past_of
-    (InHalf c.args.self.now.halves.geometry (other c.args.self.now.halves.current)) c.args.self.now.device c.write_first.new.device
-    c.write_first.ensures.outside c.write_first.ensures.any_moment
+    (SameOutside (InHalf x (other old.halves.current)) (past_of old.device).disk.content)) is.geometry-is c.write_first.ensures.any_moment) in
+    record {
+      writer = λ run handed is start.
+          let old = c.args.self.now in
+          let new : Writer g.row.D.Denot g.row.A.Denot = record {
+            device = c.write_first.new.device;
+            halves = old.halves;
+            log = old.log;
+            waiting = old.waiting;
+            synced = old.synced;
+            image = old.image;
+            copying = old.copying;
+            failed = true;
+          } in
+          carried_on g.D.Device.past_of run handed old new is refl refl refl (λ sound. absurd (false≢true (sym sound))) (images run handed is);
+      images = images;
+      taken = tt;
+      synced = refl;
+      err = (refl, refl, (λ _. c.in-Err.ensures.counts.failed), λ was. absurd (false≢true (sym c.requires.sound ∙ was)));
+      quiet = tt;
+      later = c.write_first.ensures.counts.later;
+      around = these_alone g.D.Device.past_of (InHalf c.args.self.now.halves.geometry (other c.args.self.now.halves.current)) c.args.self.now.device
+          c.write_first.new.device c.write_first.ensures.outside c.write_first.ensures.any_moment;
+      left = refl;
+    }

@@ -1,5 +1,40 @@
-use Rattle.std.proofs.Common.{rules}
+use Rattle.std.proofs.Common.{refl, sym, true≢false, ◌∙◌, arith}
+use Rattle.std.proofs.lemmas.Result.{err_from_is_err_and}
+use Rattle.nsf_core.specs.Value.{value_of}
+use Rattle.threads_sessions.specs.Steps.{taken_back}
+use Rattle.threads_sessions.proofs.Shown.{is_there, not_there, one_shown}
 use Rattle.threads_sessions.proofs.session.Session.undo_step.Goals as goal
 
-pub returns-clause-served : goal.returns-clause-served
-returns-clause-served g c = search rules
+pub returns-in_default : goal.returns-in_default
+returns-in_default g c =
+    let away = not_there c.args.self.now c.args.txn _ _ c.self.inside.active.items c.self.view_is
+    c.deref.result.now c.deref.ensures.value c.in_default.ensures.found in
+    record { foreign = λ none. (refl, refl); served = λ mine. absurd (true≢false (sym mine ∙ away)); ok = tt; unchanged = refl }
+
+pub returns-in_err-step : goal.returns-in_err-step
+returns-in_err-step g c =
+    let p = err_from_is_err_and c.from_residual.result c.from_residual.ensures.1 in
+    let there = is_there c.args.self.now c.args.txn _ _ c.self.inside.active.items c.self.view_is
+    c.deref.result.now c.deref.ensures.value c.in-Some.i c.in-Some.ensures.found in
+    rw (p.1, p.2) (record {
+      foreign = λ none. absurd (true≢false (sym there ∙ none));
+      served = λ mine. c.in_err-step.ensures;
+      ok = tt;
+      unchanged = refl;
+    })
+
+pub note_undo-requires : goal.note_undo-requires
+note_undo-requires g c = omega (arith, c.in-Some.ensures.within, c.deref.ensures.len)
+
+pub returns : goal.returns
+returns g c =
+    let there = is_there c.args.self.now c.args.txn _ _ c.self.inside.active.items c.self.view_is
+    c.deref.result.now c.deref.ensures.value c.in-Some.i c.in-Some.ensures.found in
+    record {
+      foreign = λ none. absurd (true≢false (sym there ∙ none));
+      served = λ mine. c.in_ok-step.ensures;
+      ok = one_shown c.args.self.now c.args.txn _ _ c.self.inside.active.items c.self.view_is
+          c.deref.result.now c.deref.ensures.value c.in-Some.i c.in-Some.ensures.found
+          (taken_back (value_of c.undo_step.new.self)) c.self.inside.active.items c.note_undo.new.active.items c.note_undo.ensures refl;
+      unchanged = tt;
+    }

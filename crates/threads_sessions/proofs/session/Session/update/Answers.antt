@@ -1,24 +1,84 @@
-use Rattle.std.proofs.Common.{Result, Err, sym, ap, ◌∙◌, subst}
+use Rattle.std.proofs.Common.{refl, sym, true≢false, Some, ◌∙◌, arith, subst}
 use Rattle.std.proofs.lemmas.Result.{err_from_is_err_and}
 use Rattle.record_values.specs.declared.error.Error.{Error}
-use Rattle.core_model.specs.Events.{Event, Reply, Refused, Update, Stepped}
 use Rattle.record_values.specs.declared.row.Row.{Row}
-use Rattle.nsf_core.specs.Value.{value_of}
+use Rattle.core_model.specs.Events.{Update, Refused}
 use Rattle.core_parts.specs.View.{Serves}
-use Rattle.core_parts.specs.Replies.{reply_by}
+use Rattle.nsf_core.specs.Value.{value_of}
+use Rattle.threads_sessions.specs.Steps.{change_seen}
+use Rattle.threads_sessions.proofs.Shown.{is_there, not_there, one_shown, same_shown}
 use Rattle.threads_sessions.proofs.session.Session.update.Goals as goal
 
-pub returns-in_err-check_change-clause-served : goal.returns-in_err-check_change-clause-served
-returns-in_err-check_change-clause-served g c = λ mine.
-    let p = err_from_is_err_and c.from_residual.result c.from_residual.ensures.1 in
-    let v = value_of c.args.core.now in
-    let row : Row = record { key = c.args.key; body = c.args.body } in
-    subst (λ (r : Result Unit Error). Serves v (Update c.args.txn c.args.rid row) (reply_by (λ x. Stepped) r) v) (sym (p.1 ∙ ap (λ e. Err e) p.2))
-    (c.in_err-check_change.ensures.refused_update row).1
+pub returns-in_default : goal.returns-in_default
+returns-in_default g c =
+    let away = not_there c.args.self.now c.args.txn _ _ c.self.inside.active.items c.self.view_is
+    c.deref.result.now c.deref.ensures.value c.in_default.ensures.found in
+    record { foreign = λ none. (refl, refl); served = λ mine. absurd (true≢false (sym mine ∙ away)); ok = tt; unchanged = refl }
 
-pub returns-in-Err-clause-served : goal.returns-in-Err-clause-served
-returns-in-Err-clause-served g c = λ mine.
+pub reserve_row-requires : goal.reserve_row-requires
+reserve_row-requires g c = omega (arith, c.in-Some.ensures.within, c.deref.ensures.len)
+
+pub check_change-requires : goal.check_change-requires
+check_change-requires g c =
+    c.requires (is_there c.args.self.now c.args.txn _ _ c.self.inside.active.items c.self.view_is
+    c.deref.result.now c.deref.ensures.value c.in-Some.i c.in-Some.ensures.found)
+
+pub returns-in_err-check_change : goal.returns-in_err-check_change
+returns-in_err-check_change g c =
+    let p = err_from_is_err_and c.from_residual.result c.from_residual.ensures.1 in
+    let there = is_there c.args.self.now c.args.txn _ _ c.self.inside.active.items c.self.view_is
+    c.deref.result.now c.deref.ensures.value c.in-Some.i c.in-Some.ensures.found in
+    rw (p.1, p.2) (record {
+      foreign = λ none. absurd (true≢false (sym there ∙ none));
+      served = λ mine. (c.in_err-check_change.ensures.refused_update (record { key = c.args.key; body = c.args.body })).1;
+      ok = tt;
+      unchanged = same_shown c.args.self.now c.args.txn _ _ c.self.inside.active.items c.self.view_is c.reserve_row.new.active.items c.reserve_row.ensures.same;
+    })
+
+pub returns-in-Err : goal.returns-in-Err
+returns-in-Err g c =
+    let there = is_there c.args.self.now c.args.txn _ _ c.self.inside.active.items c.self.view_is
+    c.deref.result.now c.deref.ensures.value c.in-Some.i c.in-Some.ensures.found in
     let v = value_of c.args.core.now in
     let row : Row = record { key = c.args.key; body = c.args.body } in
-    subst (λ (e : Error). Serves v (Update c.args.txn c.args.rid row) (Refused e) v) (sym c.in-Err.ensures.no_memory)
-    (c.in_ok-check_change.ensures.fine_update row)
+    record {
+      foreign = λ none. absurd (true≢false (sym there ∙ none));
+      served = λ mine. subst (λ (e : Error). Serves v (Update c.args.txn c.args.rid row) (Refused e) v)
+          (sym c.in-Err.ensures.no_memory) (c.in_ok-check_change.ensures.fine_update row);
+      ok = tt;
+      unchanged = same_shown c.args.self.now c.args.txn _ _ c.self.inside.active.items c.self.view_is c.reserve_row.new.active.items c.reserve_row.ensures.same;
+    }
+
+pub start_update-requires : goal.start_update-requires
+start_update-requires g c =
+    c.requires (is_there c.args.self.now c.args.txn _ _ c.self.inside.active.items c.self.view_is
+    c.deref.result.now c.deref.ensures.value c.in-Some.i c.in-Some.ensures.found)
+
+pub returns-in_err-start_update : goal.returns-in_err-start_update
+returns-in_err-start_update g c =
+    let p = err_from_is_err_and c.from_residual-in_err-start_update.result c.from_residual-in_err-start_update.ensures.1 in
+    let there = is_there c.args.self.now c.args.txn _ _ c.self.inside.active.items c.self.view_is
+    c.deref.result.now c.deref.ensures.value c.in-Some.i c.in-Some.ensures.found in
+    rw (p.1, p.2) (record {
+      foreign = λ none. absurd (true≢false (sym there ∙ none));
+      served = λ mine. c.in_err-start_update.ensures;
+      ok = tt;
+      unchanged = same_shown c.args.self.now c.args.txn _ _ c.self.inside.active.items c.self.view_is c.reserve_row.new.active.items c.reserve_row.ensures.same;
+    })
+
+pub note_change-requires : goal.note_change-requires
+note_change-requires g c = c.in_default-reserve_row.ensures.room
+
+pub returns : goal.returns
+returns g c =
+    let there = is_there c.args.self.now c.args.txn _ _ c.self.inside.active.items c.self.view_is
+    c.deref.result.now c.deref.ensures.value c.in-Some.i c.in-Some.ensures.found in
+    record {
+      foreign = λ none. absurd (true≢false (sym there ∙ none));
+      served = λ mine. c.in_ok-start_update.ensures;
+      ok = one_shown c.args.self.now c.args.txn _ _ c.self.inside.active.items c.self.view_is
+          c.deref.result.now c.deref.ensures.value c.in-Some.i c.in-Some.ensures.found
+          (change_seen (value_of c.start_update.new.self) (record { rid = c.args.rid; row = Some (record { key = c.args.key; body = c.args.body }) }))
+          c.reserve_row.new.active.items c.note_change.new.active.items c.note_change.ensures c.reserve_row.ensures.same;
+      unchanged = tt;
+    }

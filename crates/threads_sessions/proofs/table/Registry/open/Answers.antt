@@ -1,10 +1,29 @@
 use Rattle.threads_sessions.specs.Values.{empty_session}
 use Rattle.std.proofs.Common.{rules, ◌≡◌, ℕ, length, ap, ◌∙◌, sym, subst, arith}
 use Rattle.std.proofs.lemmas.Grind.{common_steps}
+use Rattle.std.proofs.lemmas.Result.{err_from_is_err_and}
 use Rattle.atomic_table.specs.Seated.{TableId}
 use Rattle.threads_sessions.specs.Halves.{HalfValue, IsNew, MakerValue}
 use Rattle.threads_sessions.proofs.Keeps.{IsNew-push, IsNew-nil}
 use Rattle.threads_sessions.proofs.table.Registry.open.Goals as goal
+
+pub returns-in_err-registry : goal.returns-in_err-registry
+returns-in_err-registry g c =
+    let p = err_from_is_err_and c.from_residual.result c.from_residual.ensures.1 in
+    rw p.1 (record { book = tt; seats = tt })
+
+pub make-one-requires : goal.make-one-requires
+make-one-requires g c = ap (λ (m : MakerValue). m.table) c.loop-number.invariant.next ∙ c.registry.view_is
+
+pub returns-in_err-push : goal.returns-in_err-push
+returns-in_err-push g c =
+    let p = err_from_is_err_and c.from_residual-in_err-push.result c.from_residual-in_err-push.ensures.1 in
+    rw p.1 (record { book = tt; seats = tt })
+
+pub returns-in_err-push-2 : goal.returns-in_err-push-2
+returns-in_err-push-2 g c =
+    let p = err_from_is_err_and c.from_residual-in_err-push-2.result c.from_residual-in_err-push-2.ensures.1 in
+    rw p.1 (record { book = tt; seats = tt })
 
 pub loop-number-init : goal.loop-number-init
 loop-number-init g c =

@@ -1,0 +1,29 @@
+use Rattle.std.proofs.Common.{◌∙◌, refl, sym}
+use Rattle.std.proofs.lemmas.Bool.{false≢true}
+use Rattle.shared.proofs.Ready.{ready_active}
+use Rattle.shared.proofs.shared.Shared.insert_if_ready.Goals as goal
+
+pub returns-then-not-ready : goal.returns-then-not-ready
+returns-then-not-ready g c = record {
+  unready = λ _. refl;
+  served = λ ready. absurd (false≢true (c.if-not-ready.ensures ∙ ready));
+  changed = tt;
+  row = tt;
+  rest = tt;
+  refused = refl;
+  seat = refl;
+}
+
+pub insert-requires : goal.insert-requires
+insert-requires g c = λ _. sym c.if-not-ready.ensures
+
+pub returns : goal.returns
+returns g c = record {
+  unready = λ none. absurd (false≢true (sym none ∙ sym c.if-not-ready.ensures));
+  served = λ ready. c.insert.ensures.served (ready_active c.args.seat.now.session c.args.txn ready);
+  changed = c.insert.ensures.changed;
+  row = c.insert.ensures.row;
+  rest = c.insert.ensures.rest;
+  refused = c.insert.ensures.refused;
+  seat = c.insert.ensures.seat;
+}

@@ -1,0 +1,31 @@
+use Rattle.std.proofs.Common.{◌∙◌, refl, sym}
+use Rattle.std.proofs.lemmas.Bool.{false≢true}
+use Rattle.shared.proofs.Ready.{ready_active}
+use Rattle.shared.proofs.shared.Shared.update_if_ready.Goals as goal
+
+pub returns-then-not-ready : goal.returns-then-not-ready
+returns-then-not-ready g c = record {
+  unready = λ _. refl;
+  served = λ ready. absurd (false≢true (c.if-not-ready.ensures ∙ ready));
+  place = tt;
+  changed = tt;
+  row = tt;
+  rest = tt;
+  refused = refl;
+  seat = refl;
+}
+
+pub update-requires : goal.update-requires
+update-requires g c = λ _. sym c.if-not-ready.ensures
+
+pub returns : goal.returns
+returns g c = record {
+  unready = λ none. absurd (false≢true (sym none ∙ sym c.if-not-ready.ensures));
+  served = λ ready. c.update.ensures.served (ready_active c.args.seat.now.session c.args.txn ready);
+  place = c.update.ensures.place;
+  changed = c.update.ensures.changed;
+  row = c.update.ensures.row;
+  rest = c.update.ensures.rest;
+  refused = c.update.ensures.refused;
+  seat = c.update.ensures.seat;
+}
