@@ -1,5 +1,5 @@
 // A device as its users see it: what its calls do, and what a crash may leave.
-ghost use Rattle.std.specs.Prelude.{◌≡◌, ◌<◌, ℕ, length, OnOk, OnErr};
+ghost use Rattle.std.specs.Prelude.{◌≡◌, ◌<◌, ℕ, ⊤, length, IfSome, OnOk, OnErr};
 ghost use Rattle.sector_device.specs.Disk.{sector, after_write, after_sync, IsFailedWrite};
 ghost use Rattle.sector_device.specs.DevicePast.{DevicePast, Elapses, CountsFailure};
 
@@ -23,6 +23,9 @@ pub trait Device {
 
     /// A count of failures, which each call that fails raises. At 2^64 - 1 it may stay.
     ghost failures: { Self → ℕ };
+
+    /// Which of the device's moments a number of its clock marks. A device without a clock needs not say.
+    ghost marks: { ℕ → ℕ → Type 0 } = { λ mark moment. ⊤ };
 
     /// How many sectors there are.
     fn sectors(&self) -> u64
@@ -51,4 +54,11 @@ pub trait Device {
         ensures err { OnErr result ((past_of self.new).disk ≡ (past_of self.old).disk) }
         ensures time { Elapses (past_of self.old) (past_of self.new) }
         ensures counts { CountsFailure (failures self.old) (failures self.new) result };
+
+    /// A number that marks the moment that it is, where the device has a clock.
+    fn clock(&self) -> Option<u64>
+        ensures { IfSome result (λ mark. marks mark (past_of self.now).moment) }
+    {
+        None
+    }
 }

@@ -77,6 +77,8 @@ impl<D: Device> Device for FaultDisk<D> {
 
     ghost failures = { λ f. D.failures f.device + fault_count f.fails_at f.made };
 
+    ghost marks = { D.marks };
+
     fn sectors(&self) -> u64 {
         self.device.sectors()
     }
@@ -152,5 +154,9 @@ impl<D: Device> Device for FaultDisk<D> {
             return Err(Failed);
         }
         self.device.sync()
+    }
+
+    fn clock(&self) -> Option<u64> {
+        self.device.clock()
     }
 }

@@ -1,7 +1,7 @@
 // A disk in memory. It keeps what it held at first and each write and sync since, which tell what a crash at any
 // moment might have left.
 ghost use Rattle.std.specs.Prelude.{◌≡◌, ◌+◌, ◌-◌, ◌^◌, ◌<◌, ◌≤◌, length, min, replicate, nat_le, count_by, vec_len};
-ghost use Rattle.std.specs.Prelude.{vec_capacity, IfOk, IsOk, OnOk, OnErr};
+ghost use Rattle.std.specs.Prelude.{vec_capacity, IfOk, IsOk, OnOk, OnErr, Some};
 ghost use Rattle.sector_device.specs.Disk.{sector, after_write, after_sync, IsCrashState, IsDiskWhole, IsSynced};
 ghost use Rattle.sector_device.specs.Disk.{IsFailedWrite};
 ghost use Rattle.sector_device.specs.DevicePast.{Elapses, CountsFailure};
@@ -215,6 +215,8 @@ impl<A: Allocator + Copy> Device for MemDisk<A> {
 
     ghost failures = { failures_of };
 
+    ghost marks = { λ mark moment. mark ≡ moment };
+
     fn sectors(&self) -> u64 {
         self.content.len() as u64
     }
@@ -280,5 +282,12 @@ impl<A: Allocator + Copy> Device for MemDisk<A> {
         let calls = self.calls.len();
         self.synced_at = calls;
         Ok(())
+    }
+
+    /// Each moment is marked by its own number.
+    fn clock(&self) -> Option<u64>
+        ensures { result ≡ Some (past_of self.now).moment }
+    {
+        Some(self.moment())
     }
 }
