@@ -1,6 +1,6 @@
 -- Each step keeps the rule of the board.
 use Rattle.std.proofs.Common.{◌≡◌, ◌≢◌, ℕ, zero, suc, ◌≤◌, max, Bool, true, false, eqb, List, [], ◌∷◌, ◌++◌, length, set, get_or, refl, sym, ap, ◌∙◌, subst}
-use Rattle.std.proofs.Common.{⊎_elim, le_refl, le_trans, arith}
+use Rattle.std.proofs.Common.{inl, inr, ⊎_elim, le_refl, le_trans, arith}
 use mathlib.Core.Logic.{dite}
 use mathlib.Core.Option.{none, some, some-ne-none, some-injective}
 use native.Mathlib.Decide.{ℕ_discrete}
@@ -8,10 +8,12 @@ use lib.ListN.{get_elem?}
 use Rattle.atomic_table.specs.Table.{State, Me, step, keeps, stepped, Allows, Splits, Joins, opening}
 use Rattle.atomic_table.proofs.Lists.{at_set, set_else, at_longer}
 use Rattle.board.specs.declared.knowledge.Knowledge.{Knowledge}
-use Rattle.board.specs.Views.{part_ways}
-use Rattle.board.specs.Rule.{Posted, flag, words_of, Fits, SomeStops, AllApart, IsBoardKept, first_view, spent_view}
-use Rattle.board.specs.Steps.{without_builder, builder_of, without_reader, reader_of, staying, leaving, seen_by, flushed_by, built_by, informed, RaisesHorizon}
-use Rattle.board.specs.Steps.{RaisesProgress, SetsFailed, SetsStop, ReadsHorizon, ReadsProgress, ReadsFailed, HearsStop, ReadsStop, Compares}
+use Rattle.board.specs.declared.knowledge.Note.{Note}
+use Rattle.board.specs.Views.{IsNoted, part_ways}
+use Rattle.board.specs.Rule.{Posted, flag, horizon_of, mark_of, words_of, Fits, SomeStops, AllApart, IsBoardKept, first_view, spent_view}
+use Rattle.board.specs.Steps.{without_builder, builder_of, without_reader, reader_of, staying, leaving, seen_by, flushed_by, built_by, informed, with_horizon}
+use Rattle.board.specs.Steps.{NotesMark, RaisesHorizon, RaisesProgress, SetsFailed, SetsStop, ReadsHorizon, ReadsMark, ReadsProgress, ReadsFailed, HearsStop}
+use Rattle.board.specs.Steps.{ReadsStop, Compares}
 use Rattle.board.proofs.Names.{off, at_end, apart_set, apart_end, apart_cut}
 
 at_here : {A : Type 0} (l : List A) (i : ℕ) (a b : A) → get_elem? l i ≡ some a → get_elem? (set l i b) i ≡ some b
@@ -67,24 +69,98 @@ written : (s : Table) (k : IsBoardKept s) (i : ℕ) (f : ℕ → ℕ) (b : Poste
     → set s.words i (f (get_or s.words i 0)) ≡ words_of b
 written s k i f b is = ap (λ (ws : List ℕ). set ws i (f (get_or ws i 0))) k.words ∙ is
 
+-- ---- what is noted
+
+-- a view that has read no mark
+none_noted : (notes : List Note) → IsNoted notes 0 0
+none_noted [] = (refl, refl)
+none_noted (n ∷ notes) = inr (none_noted notes)
+
+-- a horizon that is not above the newest note's, with that note's mark
+newest_noted : (notes : List Note) (seen : ℕ) → seen ≤ horizon_of notes → IsNoted notes seen (mark_of notes)
+newest_noted [] seen low = (omega arith, refl)
+newest_noted (n ∷ notes) seen low = inl (refl, low)
+
+-- what was noted is noted still, as the newest note's horizon rises
+raised_noted : (notes : List Note) (to safe mark : ℕ) → horizon_of notes ≤ to → IsNoted notes safe mark → IsNoted (with_horizon notes to) safe mark
+raised_noted [] to safe mark rises nothing = inr nothing
+raised_noted (n ∷ notes) to safe mark rises (inl here) = inl (here.0, le_trans here.1 rises)
+raised_noted (n ∷ notes) to safe mark rises (inr before) = inr before
+
+raised_horizon : (notes : List Note) (to : ℕ) → horizon_of (with_horizon notes to) ≡ to
+raised_horizon [] to = refl
+raised_horizon (n ∷ notes) to = refl
+
+-- the words say so then
+raised_words : (notes : List Note) (to progress : ℕ) (failed stopped : Bool) → to ∷ progress ∷ flag failed ∷ flag stopped ∷ mark_of notes ∷ []
+    ≡ words_of record { notes = with_horizon notes to; progress = progress; failed = failed; stopped = stopped }
+raised_words [] to progress failed stopped = refl
+raised_words (n ∷ notes) to progress failed stopped = refl
+
+-- ---- the steps
+
+pub notes_mark : (slots seat : ℕ) (me : Seated) (mark : ℕ) → me.0.flushes ≡ true
+    → Allows IsBoardKept slots seat me 4 (λ _. mark) (λ _. NotesMark (step slots 4 mark 0 none) me mark)
+notes_mark slots seat me mark flushes s k _ at _ =
+    let v : Knowledge = me.0 in
+    let w : Knowledge = record v { notes = record { horizon = v.published; mark = mark } ∷ v.notes } in
+    let old = k.fits seat v at in
+    let own = old.of_flusher flushes in
+    let b : Posted = record k.posted { notes = record { horizon = horizon_of k.posted.notes; mark = mark } ∷ k.posted.notes } in (
+      w,
+      keeps,
+      tt,
+      moved s k seat 4 mark me.1 v w b at (written s k 4 (λ _. mark) b refl)
+          (λ j u apart fit. record {
+            horizon = fit.horizon;
+            progress = fit.progress;
+            failed = fit.failed;
+            stopped = fit.stopped;
+            noted = inr fit.noted;
+            of_flusher = λ is. absurd (apart ((fit.of_flusher is).0 ∙ sym own.0));
+            of_builder = fit.of_builder;
+            stops = fit.stops;
+          })
+          record {
+            horizon = old.horizon;
+            progress = old.progress;
+            failed = old.failed;
+            stopped = old.stopped;
+            noted = inr old.noted;
+            of_flusher = λ _. (own.0, λ i. record { horizon = own.2 i; mark = mark } ∷ own.1 i, own.2, own.3);
+            of_builder = old.of_builder;
+            stops = old.stops;
+          }
+          (λ on. stops_on s.views seat v w at (λ did. did) (k.stops on))
+          refl
+          refl,
+      refl,
+    )
+
 pub raises_horizon : (slots seat : ℕ) (me : Seated) (n : ℕ) → me.0.flushes ≡ true
     → Allows IsBoardKept slots seat me 0 (λ x. max x n) (RaisesHorizon (step slots 0 n 0 none) me)
 raises_horizon slots seat me n flushes s k _ at _ =
     let v : Knowledge = me.0 in
-    let w : Knowledge = record v { published = max v.published n } in
+    let w : Knowledge = record v { published = max v.published n; notes = with_horizon v.notes (max v.published n) } in
     let old = k.fits seat v at in
     let own = old.of_flusher flushes in
-    let b : Posted = record k.posted { horizon = max k.posted.horizon n } in
-    let rises : k.posted.horizon ≤ max k.posted.horizon n = omega arith in (
+    let p : Posted = k.posted in
+    let to : ℕ = max (horizon_of p.notes) n in
+    let b : Posted = record p { notes = with_horizon p.notes to } in
+    let is : horizon_of b.notes ≡ to = raised_horizon p.notes to in
+    let up : horizon_of p.notes ≤ to = omega arith in
+    let rises : horizon_of p.notes ≤ horizon_of b.notes = subst (λ (h : ℕ). horizon_of p.notes ≤ h) (sym is) up in (
       w,
       keeps,
       tt,
-      moved s k seat 0 (max (get_or s.words 0 0) n) me.1 v w b at (written s k 0 (λ x. max x n) b refl)
+      moved s k seat 0 (max (get_or s.words 0 0) n) me.1 v w b at
+          (written s k 0 (λ x. max x n) b (raised_words p.notes to p.progress p.failed p.stopped))
           (λ j u apart fit. record {
             horizon = le_trans fit.horizon rises;
             progress = fit.progress;
             failed = fit.failed;
             stopped = fit.stopped;
+            noted = raised_noted p.notes to u.safe u.mark up fit.noted;
             of_flusher = λ is. absurd (apart ((fit.of_flusher is).0 ∙ sym own.0));
             of_builder = fit.of_builder;
             stops = fit.stops;
@@ -94,7 +170,13 @@ raises_horizon slots seat me n flushes s k _ at _ =
             progress = old.progress;
             failed = old.failed;
             stopped = old.stopped;
-            of_flusher = λ _. (own.0, ap (λ (x : ℕ). max x n) own.1, own.2);
+            noted = raised_noted p.notes to v.safe v.mark up old.noted;
+            of_flusher = λ _. (
+              own.0,
+              λ i. with_horizon (own.1 i) (max (own.2 i) n),
+              is ∙ ap (λ (x : ℕ). max x n) own.2,
+              own.3,
+            );
             of_builder = old.of_builder;
             stops = old.stops;
           }
@@ -122,6 +204,7 @@ raises_progress slots seat me n builds s k _ at _ =
             progress = le_trans fit.progress rises;
             failed = fit.failed;
             stopped = fit.stopped;
+            noted = fit.noted;
             of_flusher = fit.of_flusher;
             of_builder = λ is. absurd (apart ((fit.of_builder is).0 ∙ sym own.0));
             stops = fit.stops;
@@ -131,6 +214,7 @@ raises_progress slots seat me n builds s k _ at _ =
             progress = le_trans old.progress rises;
             failed = old.failed;
             stopped = old.stopped;
+            noted = old.noted;
             of_flusher = old.of_flusher;
             of_builder = λ _. (own.0, ap (λ (x : ℕ). max x n) own.1);
             stops = old.stops;
@@ -158,6 +242,7 @@ sets_failed slots seat me flushes s k _ at _ =
             progress = fit.progress;
             failed = λ _. refl;
             stopped = fit.stopped;
+            noted = fit.noted;
             of_flusher = λ is. absurd (apart ((fit.of_flusher is).0 ∙ sym own.0));
             of_builder = fit.of_builder;
             stops = fit.stops;
@@ -167,7 +252,8 @@ sets_failed slots seat me flushes s k _ at _ =
             progress = old.progress;
             failed = λ _. refl;
             stopped = old.stopped;
-            of_flusher = λ _. (own.0, own.1, refl);
+            noted = old.noted;
+            of_flusher = λ _. (own.0, own.1, own.2, refl);
             of_builder = old.of_builder;
             stops = old.stops;
           }
@@ -192,6 +278,7 @@ sets_stop slots seat me may s k _ at _ =
             progress = fit.progress;
             failed = fit.failed;
             stopped = λ _. refl;
+            noted = fit.noted;
             of_flusher = fit.of_flusher;
             of_builder = fit.of_builder;
             stops = fit.stops;
@@ -201,6 +288,7 @@ sets_stop slots seat me may s k _ at _ =
             progress = old.progress;
             failed = old.failed;
             stopped = λ _. refl;
+            noted = old.noted;
             of_flusher = old.of_flusher;
             of_builder = old.of_builder;
             stops = λ _. may;
@@ -226,18 +314,39 @@ reads_horizon slots seat me s k _ at _ =
     let n : ℕ = get_or s.words 0 0 in
     let w : Knowledge = record v { horizon = n; checked = false } in
     let old = k.fits seat v at in
-    let is : n ≡ k.posted.horizon = ap (λ (ws : List ℕ). get_or ws 0 0) k.words in
+    let is : n ≡ horizon_of k.posted.notes = ap (λ (ws : List ℕ). get_or ws 0 0) k.words in
     let mine : Fits k.posted k.flusher k.builder seat w =
     record {
       horizon = omega arith;
       progress = old.progress;
       failed = old.failed;
       stopped = old.stopped;
+      noted = old.noted;
       of_flusher = old.of_flusher;
       of_builder = old.of_builder;
       stops = old.stops;
     } in
     (w, keeps, tt, sees s k seat 0 me.1 v w at refl mine (λ did. did) refl refl, (omega arith, refl))
+
+pub reads_mark : (slots seat : ℕ) (me : Seated) → Allows IsBoardKept slots seat me 4 (λ n. n) (ReadsMark (step slots 4 0 0 none) me)
+reads_mark slots seat me s k _ at _ =
+    let v : Knowledge = me.0 in
+    let n : ℕ = get_or s.words 4 0 in
+    let w : Knowledge = record v { mark = n; safe = v.horizon } in
+    let old = k.fits seat v at in
+    let is : n ≡ mark_of k.posted.notes = ap (λ (ws : List ℕ). get_or ws 4 0) k.words in
+    let mine : Fits k.posted k.flusher k.builder seat w =
+    record {
+      horizon = old.horizon;
+      progress = old.progress;
+      failed = old.failed;
+      stopped = old.stopped;
+      noted = subst (IsNoted k.posted.notes v.horizon) (sym is) (newest_noted k.posted.notes v.horizon old.horizon);
+      of_flusher = old.of_flusher;
+      of_builder = old.of_builder;
+      stops = old.stops;
+    } in
+    (w, keeps, tt, sees s k seat 4 me.1 v w at refl mine (λ did. did) refl refl, refl)
 
 pub reads_progress : (slots seat : ℕ) (me : Seated) → Allows IsBoardKept slots seat me 1 (λ n. n) (ReadsProgress (step slots 1 0 0 none) me)
 reads_progress slots seat me s k _ at _ =
@@ -252,6 +361,7 @@ reads_progress slots seat me s k _ at _ =
       progress = omega arith;
       failed = old.failed;
       stopped = old.stopped;
+      noted = old.noted;
       of_flusher = old.of_flusher;
       of_builder = old.of_builder;
       stops = old.stops;
@@ -276,6 +386,7 @@ reads_failed slots seat me s k _ at _ =
       failed = λ on. sym is
           ∙ on;
       stopped = old.stopped;
+      noted = old.noted;
       of_flusher = old.of_flusher;
       of_builder = old.of_builder;
       stops = old.stops;
@@ -306,6 +417,7 @@ reads_stop slots seat me may s k _ at _ =
       failed = old.failed;
       stopped = λ on. sym is
           ∙ on;
+      noted = old.noted;
       of_flusher = old.of_flusher;
       of_builder = old.of_builder;
       stops = old.stops;
@@ -328,6 +440,7 @@ hears_stop slots seat me s k _ at _ =
       failed = old.failed;
       stopped = λ on. sym is
           ∙ on;
+      noted = old.noted;
       of_flusher = old.of_flusher;
       of_builder = old.of_builder;
       stops = old.stops;
@@ -344,17 +457,22 @@ compares slots seat me s k _ at _ =
       sees s k seat 0 me.1 v v at refl old (λ did. did) refl refl,
       (
         refl,
-        (λ is. (let own = old.of_flusher is in let seen = old.horizon in omega arith, λ on. sym (old.of_flusher is).2 ∙ old.failed on)),
+        (λ is. let own = old.of_flusher is in (
+          let seen = old.horizon in
+              omega arith,
+          λ on. sym own.3 ∙ old.failed on,
+          subst (λ (notes : List Note). IsNoted notes v.safe v.mark) own.1 old.noted,
+        )),
         (λ is. let own = old.of_builder is in let seen = old.progress in omega arith),
       ),
     )
 
 -- the first table
-pub begins : IsBoardKept (opening (0 ∷ 0 ∷ 0 ∷ 0 ∷ []) [] first_view)
+pub begins : IsBoardKept (opening (0 ∷ 0 ∷ 0 ∷ 0 ∷ 0 ∷ []) [] first_view)
 begins = record { posted = nothing; flusher = 0; builder = 0; words = refl; fits = one; stops = λ on. off on; apart = alone }
   where
     nothing : Posted
-    nothing = record { horizon = 0; progress = 0; failed = false; stopped = false }
+    nothing = record { notes = []; progress = 0; failed = false; stopped = false }
 
     one : FitsAll nothing 0 0 (first_view ∷ [])
     one zero v e =
@@ -364,7 +482,8 @@ begins = record { posted = nothing; flusher = 0; builder = 0; words = refl; fits
           progress = le_refl 0;
           failed = λ on. off on;
           stopped = λ on. off on;
-          of_flusher = λ _. (refl, refl, refl);
+          noted = (refl, refl);
+          of_flusher = λ _. (refl, refl, refl, refl);
           of_builder = λ _. (refl, refl);
           stops = λ on. off on;
         }
@@ -409,6 +528,7 @@ cuts_view seat v may s k at =
       progress = old.progress;
       failed = old.failed;
       stopped = old.stopped;
+      noted = old.noted;
       of_flusher = old.of_flusher;
       of_builder = old.of_builder;
       stops = old.stops;
@@ -418,6 +538,7 @@ cuts_view seat v may s k at =
       progress = old.progress;
       failed = old.failed;
       stopped = old.stopped;
+      noted = old.noted;
       of_flusher = λ on. off on;
       of_builder = λ on. off on;
       stops = λ on. off on;
@@ -441,6 +562,7 @@ tells_seen seat v =
       progress = old.progress;
       failed = old.failed;
       stopped = old.stopped;
+      noted = old.noted;
       of_flusher = λ on. off on;
       of_builder = λ on. off on;
       stops = λ on. off on;
@@ -455,9 +577,10 @@ tells_flushed seat v flushes =
     record {
       horizon = omega arith;
       progress = old.progress;
-      failed = λ on. own.2
+      failed = λ on. own.3
           ∙ on;
       stopped = old.stopped;
+      noted = old.noted;
       of_flusher = λ on. off on;
       of_builder = λ on. off on;
       stops = λ on. off on;
@@ -474,6 +597,7 @@ tells_built seat v builds =
       progress = omega arith;
       failed = old.failed;
       stopped = old.stopped;
+      noted = old.noted;
       of_flusher = λ on. off on;
       of_builder = λ on. off on;
       stops = λ on. off on;
@@ -493,6 +617,7 @@ cuts_builder seat v builds s k at =
       progress = f.progress;
       failed = f.failed;
       stopped = f.stopped;
+      noted = f.noted;
       of_flusher = f.of_flusher;
       of_builder = λ is. absurd (apart ((f.of_builder is).0 ∙ sym own.0));
       stops = f.stops;
@@ -502,6 +627,7 @@ cuts_builder seat v builds s k at =
       progress = old.progress;
       failed = old.failed;
       stopped = old.stopped;
+      noted = old.noted;
       of_flusher = old.of_flusher;
       of_builder = λ on. off on;
       stops = old.stops;
@@ -511,6 +637,7 @@ cuts_builder seat v builds s k at =
       progress = old.progress;
       failed = old.failed;
       stopped = old.stopped;
+      noted = old.noted;
       of_flusher = λ on. off on;
       of_builder = λ _.
           (refl, own.1);
@@ -530,6 +657,7 @@ cuts_reader seat v may never s k at =
       progress = old.progress;
       failed = old.failed;
       stopped = old.stopped;
+      noted = old.noted;
       of_flusher = old.of_flusher;
       of_builder = old.of_builder;
       stops = λ did. off (sym never ∙ did);
@@ -539,6 +667,7 @@ cuts_reader seat v may never s k at =
       progress = old.progress;
       failed = old.failed;
       stopped = old.stopped;
+      noted = old.noted;
       of_flusher = λ on. off on;
       of_builder = λ on. off on;
       stops = λ did. off (sym never ∙ did);
@@ -566,6 +695,7 @@ learns seat v other told never s k at apart there =
       progress = theirs.progress;
       failed = theirs.failed;
       stopped = mine.stopped;
+      noted = theirs.noted;
       of_flusher = mine.of_flusher;
       of_builder = mine.of_builder;
       stops = mine.stops;
@@ -576,6 +706,7 @@ learns seat v other told never s k at apart there =
       progress = omega arith;
       failed = λ on. off on;
       stopped = λ on. off on;
+      noted = none_noted k.posted.notes;
       of_flusher = λ on. off on;
       of_builder = λ on.
           off on;

@@ -1,8 +1,9 @@
 -- How views are cut and joined, and what each step on a word tells.
-use Rattle.std.specs.Prelude.{◌≡◌, ℕ, ◌≤◌, max, true, false, ◌==◌, []}
+use Rattle.std.specs.Prelude.{◌≡◌, ℕ, ◌≤◌, max, true, false, ◌==◌, List, [], ◌∷◌}
 use Rattle.atomic_table.specs.Table.{Me, Step}
 use Rattle.board.specs.declared.knowledge.Knowledge.{Knowledge}
-use Rattle.board.specs.Views.{stays_as, leaves_as}
+use Rattle.board.specs.declared.knowledge.Note.{Note}
+use Rattle.board.specs.Views.{IsNoted, stays_as, leaves_as}
 
 -- the builder's view is cut off the first one
 abbrev pub without_builder : Knowledge → Knowledge
@@ -45,8 +46,15 @@ abbrev pub informed : Knowledge → Knowledge → Knowledge
 informed v told = record v {
   horizon = told.horizon;
   progress = told.progress;
+  mark = told.mark;
+  safe = told.safe;
   failed = told.failed;
 }
+
+-- these notes, but the newest of them with this horizon
+abbrev pub with_horizon : List Note → ℕ → List Note
+with_horizon [] horizon = record { horizon = horizon; mark = 0 } ∷ []
+with_horizon (n ∷ notes) horizon = record n { horizon = horizon } ∷ notes
 
 -- What a step tells of the step, the view before, the number found or stored, and the view after. No
 -- view holds a slot of the table, so the second half of each pair stays as it was.
@@ -57,9 +65,20 @@ Seated = Me (Unit {0}) Knowledge
 abbrev Tells : Type 1
 Tells = Step (Unit {0}) → Seated → ℕ → Seated → Type 0
 
--- its count is raised to the number given, and never lowered
+-- its count is noted with the number given as its mark
+abbrev pub NotesMark : Tells
+NotesMark st m n m' =
+    m' ≡ (record m.0 { notes = record { horizon = m.0.published; mark = st.first } ∷ m.0.notes }, m.1)
+
+-- its count is raised to the number given, and never lowered, and its newest note goes with it
 abbrev pub RaisesHorizon : Tells
-RaisesHorizon st m n m' = m' ≡ (record m.0 { published = max m.0.published st.first }, m.1)
+RaisesHorizon st m n m' = m' ≡ (
+  record m.0 {
+    published = max m.0.published st.first;
+    notes = with_horizon m.0.notes (max m.0.published st.first);
+  },
+  m.1,
+)
 
 -- so is the builder's count
 abbrev pub RaisesProgress : Tells
@@ -76,6 +95,10 @@ SetsStop st m n m' = m' ≡ (record m.0 { stopped = true; stops = true }, m.1)
 -- it reads a horizon no less than the one it saw, and has not looked at the failed flag since
 abbrev pub ReadsHorizon : Tells
 ReadsHorizon st m n m' = (m.0.horizon ≤ n) × (m' ≡ (record m.0 { horizon = n; checked = false }, m.1))
+
+-- it reads a mark, and has seen this horizon then
+abbrev pub ReadsMark : Tells
+ReadsMark st m n m' = m' ≡ (record m.0 { mark = n; safe = m.0.horizon }, m.1)
 
 -- it reads a progress no less than the one it saw
 abbrev pub ReadsProgress : Tells
@@ -97,9 +120,11 @@ ReadsStop st m n m' =
 abbrev pub HearsStop : Tells
 HearsStop st m n m' = (m.0.stopped ≡ true → (n == 1) ≡ true) × (m' ≡ (record m.0 { stopped = n == 1 }, m.1))
 
--- nothing that the view knows to be seen is beyond what its holder has published
+-- Nothing that the view knows to be seen is beyond what its holder has published. What it knows to be
+-- seen with a mark was noted with that mark.
 abbrev pub Compares : Tells
 Compares st m n m' =
     (m' ≡ m)
-    × (m.0.flushes ≡ true → (m.0.horizon ≤ m.0.published) × (m.0.failed ≡ true → m.0.device_failed ≡ true))
+    × (m.0.flushes ≡ true → (m.0.horizon ≤ m.0.published) × (m.0.failed ≡ true → m.0.device_failed ≡ true)
+    × IsNoted m.0.notes m.0.safe m.0.mark)
     × (m.0.builds ≡ true → m.0.progress ≤ m.0.attempts)

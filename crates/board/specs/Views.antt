@@ -1,12 +1,14 @@
 -- What contracts see of the tokens that threads step with.
-use Rattle.std.specs.Prelude.{◌≡◌, ℕ, Bool, true, false, List, [], ◌∷◌, ◌++◌}
+use Rattle.std.specs.Prelude.{◌≡◌, ◌⊎◌, ◌≤◌, ℕ, Bool, true, false, List, [], ◌∷◌, ◌++◌}
 use Rattle.atomic_table.specs.Seated.{TableId}
 use Rattle.board.specs.declared.knowledge.Knowledge.{Knowledge}
+use Rattle.board.specs.declared.knowledge.Note.{Note}
 
 -- What the holder of a view has seen of a board: the last horizon and the last count of attempts
 -- that it read, whether it has read the failed flag since it last read the horizon, and whether it
 -- found the failed flag and the stop flag set.
 -- Then whether it has set the stop flag itself, and the view's name.
+-- And the mark that it read last, with the horizon that it had seen then.
 pub record Sighting : Type 0 where
   pub board : TableId
   pub horizon : ℕ
@@ -16,14 +18,18 @@ pub record Sighting : Type 0 where
   pub stopped : Bool
   pub stops : Bool
   pub name : List Bool
+  pub mark : ℕ
+  pub safe : ℕ
 
 -- What the flusher has published on a board: its own count, and whether it has said that its device
--- failed. And whether it found the stop flag set.
+-- failed. And whether it found the stop flag set. Then each horizon that it has published, with its
+-- mark, the newest first.
 pub record FlusherCount : Type 0 where
   pub board : TableId
   pub horizon : ℕ
   pub failed : Bool
   pub stopped : Bool
+  pub notes : List Note
 
 -- What the builder has published on a board: its own count of attempts. And whether it found the stop
 -- flag set.
@@ -43,7 +49,14 @@ nothing_seen board = record {
   stopped = false;
   stops = false;
   name = [];
+  mark = 0;
+  safe = 0;
 }
+
+-- one of these notes has this mark, and reaches the horizon; or both are 0
+abbrev pub IsNoted : List Note → (horizon mark : ℕ) → Type 0
+IsNoted [] horizon mark = (horizon ≡ 0) × (mark ≡ 0)
+IsNoted (n ∷ notes) horizon mark = ((n.mark ≡ mark) × (horizon ≤ n.horizon)) ⊎ IsNoted notes horizon mark
 
 -- Views have names, so that none is made unseen. The first view of a board has the empty name. Where
 -- a view becomes two, the one that stays adds false to its name, and the one that leaves adds true.
@@ -75,6 +88,8 @@ sighting_of board v = record {
   stopped = v.stopped;
   stops = v.stops;
   name = v.name;
+  mark = v.mark;
+  safe = v.safe;
 }
 
 -- what the holder of the flusher's view has published
@@ -84,6 +99,7 @@ flusher_count_of board v = record {
   horizon = v.published;
   failed = v.device_failed;
   stopped = v.stopped;
+  notes = v.notes;
 }
 
 -- what the holder of the builder's view has published

@@ -1,12 +1,12 @@
 //! The board, and the steps on it.
-ghost use Rattle.std.specs.Prelude.{◌≡◌, ◌≤◌, ℕ, true, false, [], max, IfOk, IsTrue};
-ghost use Rattle.board.specs.Views.{Sighting, FlusherCount, BuilderCount, nothing_seen, stays_as, leaves_as};
+ghost use Rattle.std.specs.Prelude.{◌≡◌, ◌≤◌, ℕ, true, false, [], ◌∷◌, max, IfOk, IsTrue};
+ghost use Rattle.board.specs.Views.{BuilderCount, FlusherCount, IsNoted, Sighting, leaves_as, nothing_seen, stays_as};
 
 use crate::knowledge::Knowledge;
 use crate::rule::{
-    BoardRule, Compare, CutBuilder, CutReader, CutView, HearStop, Learn, RaiseHorizon,
-    RaiseProgress, ReadFailed, ReadHorizon, ReadProgress, ReadStop, SetFailed, SetStop, TellBuilt,
-    TellFlushed, TellSeen,
+    BoardRule, Compare, CutBuilder, CutReader, CutView, HearStop, Learn, NoteMark, RaiseHorizon,
+    RaiseProgress, ReadFailed, ReadHorizon, ReadMark, ReadProgress, ReadStop, SetFailed, SetStop,
+    TellBuilt, TellFlushed, TellSeen,
 };
 use crate::views::{BuildView, FlushView, View};
 use crate::waits::Waits;
@@ -22,7 +22,9 @@ const FAILED: usize = 2;
 
 const STOP: usize = 3;
 
-/// Four words that threads share by a `&`, and what they sleep on. To a contract a board is its identity, which each of
+const MARK: usize = 4;
+
+/// Five words that threads share by a `&`, and what they sleep on. To a contract a board is its identity, which each of
 /// its views names.
 #[derive(Drop)]
 pub struct Board<A: Allocator> {
@@ -40,19 +42,20 @@ impl<A: Allocator> Model for Board<A> {
 
     ghost view = { λ b. b.table.shared.table_id };
 
-    ghost invariant = { λ b. b.table.shared.table_id.words ≡ 4 };
+    ghost invariant = { λ b. b.table.shared.table_id.words ≡ 5 };
 }
 
 impl<A: Allocator> Board<A> {
     /// A board with nothing published, the flusher's view, the builder's, and a first one for the other threads.
     ///
-    /// The error is that the memory for the four words was refused.
+    /// The error is that the memory for the five words was refused.
     pub fn new(alloc: A) -> Result<(Board<A>, FlushView, BuildView, View), AllocError>
-        ensures flush { IfOk result (λ r. r.1 ≡ record { board = r.0; horizon = 0; failed = false; stopped = false }) }
+        ensures flush { IfOk result (λ r. r.1
+            ≡ record { board = r.0; horizon = 0; failed = false; stopped = false; notes = [] }) }
         ensures build { IfOk result (λ r. r.2 ≡ record { board = r.0; progress = 0; stopped = false }) }
         ensures view { IfOk result (λ r. r.3 ≡ nothing_seen r.0) }
     {
-        let (table, mut seat) = Table::of_words(alloc, &[0; 4], &())?;
+        let (table, mut seat) = Table::of_words(alloc, &[0; 5], &())?;
         let builder = table.shared.split_seat::<CutBuilder>(&mut seat);
         let reader = table.shared.split_seat::<CutReader>(&mut seat);
         Ok((
@@ -83,13 +86,17 @@ impl<A: Allocator> Board<A> {
         View { seat }
     }
 
-    /// The flusher raises the horizon to the number of a record. A number that is not above its own count changes
-    /// nothing. Those who wait for the horizon are woken.
-    pub fn publish(&self, view: &mut FlushView, horizon: u64)
+    /// The flusher raises the horizon to the number of a record, and notes it with a mark of its own choice. A number
+    /// that is not above its own count raises nothing. Those who wait for the horizon are woken.
+    pub fn publish(&self, view: &mut FlushView, horizon: u64, mark: u64)
         requires { view.old.board ≡ self.now }
-        ensures { view.new ≡ record view.old { horizon = max view.old.horizon horizon } }
+        ensures { view.new ≡ record view.old {
+          horizon = max view.old.horizon horizon;
+          notes = record { horizon = max view.old.horizon horizon; mark = mark } ∷ view.old.notes;
+        } }
     {
         let shared = &self.table.shared;
+        shared.store::<NoteMark>(&mut view.seat, MARK, mark);
         let before = shared.fetch_max::<RaiseHorizon>(&mut view.seat, HORIZON, horizon);
         if before < horizon {
             self.waits.published.ring();
@@ -105,6 +112,16 @@ impl<A: Allocator> Board<A> {
     {
         let shared = &self.table.shared;
         shared.load::<ReadHorizon>(&mut view.seat, HORIZON)
+    }
+
+    /// Reads the mark of what the flusher has noted last, or 0 where it has noted nothing. The view keeps beside it the
+    /// horizon that it has seen by now: that one was noted with this mark, or is below one that was (`settle`).
+    pub fn mark(&self, view: &mut View) -> u64
+        requires { view.old.board ≡ self.now }
+        ensures seen { view.new ≡ record view.old { mark = result; safe = view.old.horizon } }
+    {
+        let shared = &self.table.shared;
+        shared.load::<ReadMark>(&mut view.seat, MARK)
     }
 
     /// The builder raises the count of its attempts. A number that is not above its own count changes nothing.
@@ -192,13 +209,15 @@ impl<A: Allocator> Board<A> {
     }
 
     /// One thread that holds the flusher's view and another, as at the end, has them compared. It learns that no
-    /// horizon which the other has seen is above the flusher's own count, and that a failed flag which it has seen is
-    /// true. The other view has now seen all that the flusher has published, so it reads no less from now on.
+    /// horizon which the other has seen is above the flusher's own count, that the horizon which it had seen with its
+    /// mark was noted with that mark, and that a failed flag which it has seen is true. The other view has now seen all
+    /// that the flusher has published, so it reads no less from now on.
     pub fn settle(&self, flush: &mut FlushView, view: &mut View)
         requires flush { flush.old.board ≡ self.now }
         requires view { view.old.board ≡ self.now }
         ensures same { flush.new ≡ flush.old }
         ensures horizon { view.old.horizon ≤ flush.old.horizon }
+        ensures noted { IsNoted flush.old.notes view.old.safe view.old.mark }
         ensures failed { IsTrue view.old.failed → IsTrue flush.old.failed }
         ensures informed { view.new ≡ record view.old { horizon = flush.old.horizon; failed = flush.old.failed } }
     {

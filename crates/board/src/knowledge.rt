@@ -1,13 +1,20 @@
-//! What the holder of one view knows and may do.
+//! What the holder of one view knows and may do. It is for proofs alone: no value of these types is ever made.
 use std::collections::LinkedList;
 
-/// What the holder of one view knows of the board, and what it may do there. It is for proofs alone: no value of it
-/// is ever made.
+/// A horizon that the flusher has published, and the mark that it gave to it.
+pub struct Note {
+    pub horizon: u64,
+    pub mark: u64,
+}
+
+/// What the holder of one view knows of the board, and what it may do there.
 pub struct Knowledge {
     /// It is the flusher's.
     pub flushes: bool,
     /// The flusher's own count: the horizon that it has published.
     pub published: u64,
+    /// Each horizon that it has published, with its mark, the newest first.
+    pub notes: LinkedList<Note>,
     /// The flusher has said that its device failed.
     pub device_failed: bool,
     /// It is the builder's.
@@ -24,6 +31,10 @@ pub struct Knowledge {
     pub horizon: u64,
     /// The last count of attempts that it has seen.
     pub progress: u64,
+    /// The last mark that it has read.
+    pub mark: u64,
+    /// The horizon that it had seen then.
+    pub safe: u64,
     /// It has read the failed flag since it last read the horizon.
     pub checked: bool,
     /// It has seen the failed flag set.

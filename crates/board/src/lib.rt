@@ -1,21 +1,22 @@
-//! A board of four words that threads read and write without a lock: how far the log is safe on the device, how far
-//! the builder of the index has come, whether the device failed, and whether the threads are to stop.
+//! A board of five words that threads read and write without a lock: how far the log is safe on the device, how far
+//! the builder of the index has come, whether the device failed, whether the threads are to stop, and a mark.
 //!
 //! A thread steps with a view, a token that it owns and that takes no bytes. The flusher has the [`FlushView`] and
-//! alone raises the horizon or says that the device failed. The builder has the [`BuildView`] and alone raises the
-//! progress. Both also read the stop flag. Every other thread has a [`View`]: it reads the four words and may set the
-//! stop flag.
+//! alone raises the horizon, notes a mark with it, or says that the device failed. The builder has the [`BuildView`]
+//! and alone raises the progress. Both also read the stop flag. Every other thread has a [`View`]: it reads the five
+//! words and may set the stop flag.
 //!
 //! Threads that have nothing to do sleep on the bells of the board, which its steps ring ([`Waits`]). Nothing rests on
 //! a ring: each sleep ends by itself.
 //!
 //! Only [`Board::new`] takes memory. Every other call returns at once with its answer: it takes no memory, waits for
-//! nothing and cannot fail. A call of the six kinds of step makes one atomic step on one word.
+//! nothing and cannot fail. `publish` makes two atomic steps, and each other read or write of a word is one.
 //!
 //! Proved: what each call does to the view that it steps with, and nothing else (`seen`, `stays`, `leaves`). No horizon
 //! or progress is read below one that the view saw (`rises`). `settle` tells that no horizon which another view saw is
-//! above the flusher's count (`horizon`). The flusher's own count is what is published: that it is at most what is
-//! synced is kept by the type above. Neither: that a read is of now, that a ring wakes anyone, that a thread gets on,
+//! above the flusher's count (`horizon`), and that the horizon which it had seen as it read a mark was noted with that
+//! mark (`noted`). The flusher's own count is what is published: that it is at most what is synced, and what a mark
+//! marks, is kept by the type above. Neither: that a read is of now, that a ring wakes anyone, that a thread gets on,
 //! or fairness.
 #![tactic(auto)]
 

@@ -13,6 +13,15 @@ impl TableRule<(), Knowledge, ()> for BoardRule {
     ghost first = { λ _. first_view };
 }
 
+/// The flusher notes its count, with a mark.
+pub(crate) struct NoteMark;
+
+impl Play<(), Knowledge> for NoteMark {
+    ghost use Rattle.board.specs.Steps.{NotesMark};
+
+    ghost then = { NotesMark };
+}
+
 /// The flusher raises the horizon.
 pub(crate) struct RaiseHorizon;
 
@@ -56,6 +65,15 @@ impl Play<(), Knowledge> for ReadHorizon {
     ghost use Rattle.board.specs.Steps.{ReadsHorizon};
 
     ghost then = { ReadsHorizon };
+}
+
+/// A thread reads the mark of the newest note.
+pub(crate) struct ReadMark;
+
+impl Play<(), Knowledge> for ReadMark {
+    ghost use Rattle.board.specs.Steps.{ReadsMark};
+
+    ghost then = { ReadsMark };
 }
 
 /// A thread reads the progress.

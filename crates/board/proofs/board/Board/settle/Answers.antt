@@ -20,5 +20,8 @@ join_seat-requires-2 g c = (search rules, search rules, search rules, omega arit
 pub returns-clause-horizon : goal.returns-clause-horizon
 returns-clause-horizon g c = search rules
 
+pub returns-clause-noted : goal.returns-clause-noted
+returns-clause-noted g c = search rules
+
 pub returns-clause-failed : goal.returns-clause-failed
 returns-clause-failed g c = search rules
