@@ -3,6 +3,7 @@ use Rattle.std.proofs.Common.{◌≡◌, ℕ, ◌<◌, ◌≤◌, Bool, true, fa
 use Rattle.std.proofs.Common.{IfErr, IfOk, OnErr, OnOk, inl, inr, refl}
 use Rattle.std.proofs.Common.{sym, ap, ◌∙◌, subst, arith, append-nil, append_assoc}
 use Rattle.std.proofs.lemmas.Bool.{false≢true}
+use Rattle.std.proofs.lemmas.List.Elements.{All-append, All-cons, All-nil, All-weaker}
 use Rattle.records.specs.RecordValue.{RecordValue}
 use Rattle.record_values.specs.declared.error.Error.{Error}
 use Rattle.core_model.specs.Histories.{Opened}
@@ -22,7 +23,7 @@ use Rattle.store_writer.specs.declared.writer.StepReply.TheVariants.{Taken, Star
 use Rattle.store_writer.specs.declared.writer.Writer.{Writer}
 use Rattle.store_writer.specs.declared.copying.Copying.{Copying}
 use Rattle.threads_flusher.specs.Going.{GoesOn, LeavesImage, TakesIn}
-use Rattle.threads_flusher.specs.Part.{FlushValue, GivesBeginning, IsFlusher, FlushLeaves, Publishes, popped_by, publication_of}
+use Rattle.threads_flusher.specs.Part.{FlushValue, GivesBeginning, IsFlusher, FlushLeaves, Publication, Publishes, popped_by, publication_of}
 use Rattle.threads_flusher.proofs.Keeping.{is_left}
 use Rattle.threads_flusher.proofs.Publications.{beginning_of, same_store}
 
@@ -81,8 +82,12 @@ module _ {D A : Type 0} (failures : D → ℕ) (old new : Writer D A) where
 -- ---- the part goes on
 
 module _ {D A : Type 0} (past_of : D → DevicePast) (failures : D → ℕ) (o : Opened) where
+  -- it was published no earlier than in this state
+  abbrev IsSince : FlushValue D A → Publication → Type 0
+  IsSince f p = (past_of (device_of f.writer)).moment ≤ p.moment
+
   -- by no call
-  pub goes_nowhere : (f : FlushValue D A) → IsFlusher past_of o f → GoesOn past_of failures o f f
+  pub goes_nowhere : {marks : ℕ → ℕ → Type 0} (f : FlushValue D A) → IsFlusher past_of marks o f → GoesOn past_of failures o f f
   goes_nowhere f is = record {
     popped = [];
     popped-are = sym (append-nil (popped_by f));
@@ -90,17 +95,18 @@ module _ {D A : Type 0} (past_of : D → DevicePast) (failures : D → ℕ) (o :
     handed = sym (append-nil f.handed);
     since = [];
     publications = sym (append-nil f.publications);
+    behind = All-nil (IsSince f);
     geometry = refl;
     rises = omega arith;
     horizon = omega arith;
-    images = started (past_of (device_of f.writer)) (FlushLeaves o f) (λ image crash. is_left past_of o f is image (is.writer.images image crash));
+    images = started (past_of (device_of f.writer)) (FlushLeaves o f) (λ image crash. is_left past_of _ o f is image (is.writer.images image crash));
     later = omega arith;
     counted = counted_same (has_failed f.writer) (has_failed f.writer) (failures (device_of f.writer)) (failures (device_of f.writer)) refl;
   }
 
   -- as an image is given up, or forgotten
-  pub goes_by_leaving : (copying : Copying) (old new : FlushValue D A) → IsFlusher past_of o old → LeavesImage copying old new
-      → GoesOn past_of failures o old new
+  pub goes_by_leaving : {marks : ℕ → ℕ → Type 0} (copying : Copying) (old new : FlushValue D A) → IsFlusher past_of marks o old
+      → LeavesImage copying old new → GoesOn past_of failures o old new
   goes_by_leaving copying old new is leaves =
       let here = goes_nowhere old is in
       subst (GoesOn past_of failures o old) (sym leaves) (record {
@@ -110,6 +116,7 @@ module _ {D A : Type 0} (past_of : D → DevicePast) (failures : D → ℕ) (o :
         handed = here.handed;
         since = here.since;
         publications = here.publications;
+        behind = here.behind;
         geometry = here.geometry;
         rises = here.rises;
         horizon = here.horizon;
@@ -119,7 +126,8 @@ module _ {D A : Type 0} (past_of : D → DevicePast) (failures : D → ℕ) (o :
       })
 
   -- by records that are popped and handed in
-  pub goes_by_taking : (old new : FlushValue D A) → IsFlusher past_of o new → TakesIn old new → GoesOn past_of failures o old new
+  pub goes_by_taking : {marks : ℕ → ℕ → Type 0} (old new : FlushValue D A) → IsFlusher past_of marks o new → TakesIn old new
+      → GoesOn past_of failures o old new
   goes_by_taking old new is takes = record {
     popped = takes.popped;
     popped-are = takes.popped-are;
@@ -127,6 +135,7 @@ module _ {D A : Type 0} (past_of : D → DevicePast) (failures : D → ℕ) (o :
     handed = takes.handed;
     since = [];
     publications = takes.publications ∙ sym (append-nil old.publications);
+    behind = All-nil (IsSince old);
     geometry = ap (λ (h : HalvesValue). h.geometry) takes.got.halves;
     rises = omega (arith, takes.got.synced);
     horizon = omega (arith, ap (λ (c : FlusherCount). c.horizon) takes.published);
@@ -134,13 +143,13 @@ module _ {D A : Type 0} (past_of : D → DevicePast) (failures : D → ℕ) (o :
         subst (λ (n : ℕ). LeavesOnly (past_of (device_of old.writer)) (past_of (device_of new.writer))
         (GivesBeginning o (halves_of new.writer).geometry new.handed n)) takes.got.synced
         (subst (λ (d : D). LeavesOnly (past_of d) (past_of (device_of new.writer)) (FlushLeaves o new)) takes.got.device
-        (started (past_of (device_of new.writer)) (FlushLeaves o new) (λ image crash. is_left past_of o new is image (is.writer.images image crash))));
+        (started (past_of (device_of new.writer)) (FlushLeaves o new) (λ image crash. is_left past_of _ o new is image (is.writer.images image crash))));
     later = omega (arith, ap failures takes.got.device);
     counted = counted_same (has_failed old.writer) (has_failed new.writer) (failures (device_of old.writer)) (failures (device_of new.writer)) takes.got.failed;
   }
 
   -- by a call of the writer
-  pub goes_by_call : (old new : FlushValue D A) → old.published.horizon ≤ synced_of old.writer → Publishes past_of old new
+  pub goes_by_call : {marks : ℕ → ℕ → Type 0} (old new : FlushValue D A) → old.published.horizon ≤ synced_of old.writer → Publishes past_of marks old new
       → (halves_of new.writer).geometry ≡ (halves_of old.writer).geometry → synced_of old.writer ≤ synced_of new.writer
       → LeavesOnly (past_of (device_of old.writer)) (past_of (device_of new.writer)) (FlushLeaves o old)
       → failures (device_of old.writer) ≤ failures (device_of new.writer)
@@ -153,6 +162,7 @@ module _ {D A : Type 0} (past_of : D → DevicePast) (failures : D → ℕ) (o :
     handed = publishes.handed ∙ sym (append-nil old.handed);
     since = publication_of past_of new.writer ∷ [];
     publications = publishes.noted;
+    behind = All-cons (IsSince old) (publication_of past_of new.writer) [] images.later (All-nil (IsSince old));
     geometry = geometry;
     rises = rises;
     horizon = omega (arith, low, rises, ap (λ (c : FlusherCount). c.horizon) publishes.published);
@@ -174,6 +184,8 @@ module _ {D A : Type 0} (past_of : D → DevicePast) (failures : D → ℕ) (o :
     handed = second.handed ∙ ap (λ l. l ++ second.more) first.handed ∙ append_assoc old.handed first.more second.more;
     since = first.since ++ second.since;
     publications = second.publications ∙ ap (λ l. l ++ second.since) first.publications ∙ append_assoc old.publications first.since second.since;
+    behind = All-append (IsSince old) first.since second.since first.behind
+        (All-weaker (IsSince mid) (IsSince old) (λ p late. omega (arith, late, first.images.later)) second.since second.behind);
     geometry = second.geometry ∙ first.geometry;
     rises = omega (arith, first.rises, second.rises);
     horizon = omega (arith, first.horizon, second.horizon);

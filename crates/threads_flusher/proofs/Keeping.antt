@@ -34,8 +34,9 @@ use Rattle.store_reader.specs.Contents.{Gives}
 use Rattle.store_writer.specs.Contents.{LeftBy, StoreHas}
 use Rattle.store_writer.specs.Writer.{AreNext, HasFailed, IsChunk, IsFlipReply, IsFlushReply, IsNotFlushed, IsWriter, longer, opened_run}
 use Rattle.locked_core.specs.Following.{FitPlaces, FollowOpening}
-use Rattle.threads_flusher.specs.Part.{FlushValue, GivesBeginning, IsFlusher, IsNewest, FlushLeaves, MayOpenAgain, Publication, flush_value, last_handed}
-use Rattle.threads_flusher.specs.Part.{popped_by, publication_of, run_of}
+use Rattle.threads_flusher.specs.Part.{FlushValue, GivesBeginning, IsFlusher, IsMarkOf, IsNewest, IsNotedOf, FlushLeaves, MayOpenAgain, Publication, count_of}
+use Rattle.threads_flusher.specs.Part.{flush_value, last_handed, popped_by, publication_of, run_of}
+use Rattle.threads_flusher.proofs.Notes.{all_noted}
 use Rattle.threads_flusher.proofs.Publications.{KeptBelow, all_kept_on, all_kept_with, kept_now, same_store}
 
 -- ---- lists
@@ -120,7 +121,7 @@ first_noted past_of before now w none is = ap (map (publication_of past_of)) (is
 
 -- ---- what is kept
 
-module _ {D : Type 0} (past_of : D → DevicePast) (o : Opened) where
+module _ {D : Type 0} (past_of : D → DevicePast) (marks : ℕ → ℕ → Type 0) (o : Opened) where
   -- a run over what was opened
   abbrev over : GeometryValue → List RecordValue → Run
   over g records = record { geometry = g; last = o.given.last; cells = opening_cells o.given; records = records }
@@ -174,11 +175,13 @@ module _ {D : Type 0} (past_of : D → DevicePast) (o : Opened) where
   abbrev now_kept : {A : Type 0} → List RecordValue → Writer D A → Publication → Type 0
   now_kept handed w = KeptBelow o (halves_of w).geometry handed (synced_of w) (past_of (device_of w))
 
-  pub begun : {A : Type 0} (w : Writer D A) (v : FlusherCount) → IsWriter past_of (opened_run (halves_of w) o.given.last (opening_cells o.given)) o.given.last w
+  -- at first, with what is published of it at once
+  pub begun : {A : Type 0} (w : Writer D A) (before : FlusherCount) (mark : ℕ)
+      → IsWriter past_of (opened_run (halves_of w) o.given.last (opening_cells o.given)) o.given.last w
       → (halves_of w).geometry.pages ≡ o.pages → (halves_of w).geometry.entries ≡ o.places
-      → len o.given.entries ≤ o.places → v.horizon ≡ synced_of w → v.failed ≡ has_failed w
-      → IsFlusher past_of o (flush_value [] [] w v (publication_of past_of w ∷ []))
-  begun w v is pages places room told flag =
+      → len o.given.entries ≤ o.places → before.notes ≡ [] → IsMarkOf marks mark (past_of (device_of w)).moment
+      → IsFlusher past_of marks o (flush_value [] [] w (count_of before w mark) (publication_of past_of w ∷ []))
+  begun w before mark is pages places room none marked =
       let writer : IsWriter past_of (over (halves_of w).geometry []) (o.given.last + 0) w =
       subst (λ n. IsWriter past_of (over (halves_of w).geometry []) n w) (omega arith) is in
       record {
@@ -187,14 +190,16 @@ module _ {D : Type 0} (past_of : D → DevicePast) (o : Opened) where
         fits = fits_none room;
         opens = opens_none;
         writer = writer;
-        horizon = omega (arith, told);
-        failed = flag;
+        horizon = omega arith;
+        failed = refl;
         kept = All-push (now_kept [] w) [] (publication_of past_of w) (All-nil (now_kept [] w))
             (kept_now o past_of [] w (leaves_now w [] places (fits_none room) opens_none writer));
-        newest = ([], publication_of past_of w, refl, sym told);
+        newest = ([], publication_of past_of w, refl, refl);
+        noted = all_noted marks past_of [] before.notes w mark
+            (subst (All (IsNotedOf marks [])) (sym none) (All-nil (IsNotedOf marks []))) marked;
       }
 
-  pub is_left : {A : Type 0} (f : FlushValue D A) → IsFlusher past_of o f → (image : CrashState)
+  pub is_left : {A : Type 0} (f : FlushValue D A) → IsFlusher past_of marks o f → (image : CrashState)
       → LeftBy (run_of o f) (synced_of f.writer) (last_handed o f) image
       → FlushLeaves o f image
   is_left f is = left_gives (halves_of f.writer).geometry f.handed (synced_of f.writer) is.places is.fits is.opens is.writer.opened
@@ -209,11 +214,11 @@ module _ {D : Type 0} (past_of : D → DevicePast) (o : Opened) where
       (started (past_of (device_of new)) (GivesBeginning o (halves_of new).geometry handed (synced_of new)) here))
 
   -- the writer has gone on, and stands for the same records
-  stands_on : {A : Type 0} (f : FlushValue D A) (w : Writer D A) (v : FlusherCount) (publications : List Publication) → IsFlusher past_of o f
+  stands_on : {A : Type 0} (f : FlushValue D A) (w : Writer D A) (v : FlusherCount) (publications : List Publication) → IsFlusher past_of marks o f
       → IsWriter past_of (run_of o f) (last_handed o f) w → v.horizon ≤ synced_of w → v.failed ≡ has_failed w
-      → All (now_kept f.handed w) publications → IsNewest publications v.horizon
-      → IsFlusher past_of o (record f { writer = w; published = v; publications = publications })
-  stands_on f w v publications is stands low flag kept newest = record {
+      → All (now_kept f.handed w) publications → IsNewest publications v.horizon → All (IsNotedOf marks publications) v.notes
+      → IsFlusher past_of marks o (record f { writer = w; published = v; publications = publications })
+  stands_on f w v publications is stands low flag kept newest noted = record {
     pages = ap (λ (g : GeometryValue). g.pages) stands.geometry-is ∙ is.pages;
     places = ap (λ (g : GeometryValue). g.entries) stands.geometry-is ∙ is.places;
     fits = is.fits;
@@ -224,14 +229,16 @@ module _ {D : Type 0} (past_of : D → DevicePast) (o : Opened) where
     failed = flag;
     kept = kept;
     newest = newest;
+    noted = noted;
   }
 
   -- by a call at each of whose moments a crash leaves what one before could
-  pub stands_by_call : {A : Type 0} (f : FlushValue D A) (w : Writer D A) (v : FlusherCount) → IsFlusher past_of o f
-      → IsWriter past_of (run_of o f) (last_handed o f) w → v.horizon ≡ synced_of w → v.failed ≡ has_failed w → synced_of f.writer ≤ synced_of w
+  pub stands_by_call : {A : Type 0} (f : FlushValue D A) (w : Writer D A) (mark : ℕ) → IsFlusher past_of marks o f
+      → IsWriter past_of (run_of o f) (last_handed o f) w → synced_of f.writer ≤ synced_of w → IsMarkOf marks mark (past_of (device_of w)).moment
       → LeavesOnly (past_of (device_of f.writer)) (past_of (device_of w)) (FlushLeaves o f)
-      → IsFlusher past_of o (record f { writer = w; published = v; publications = f.publications ++ publication_of past_of w ∷ [] })
-  stands_by_call f w v is stands told flag rises images =
+      → IsFlusher past_of marks o
+      (record f { writer = w; published = count_of f.published w mark; publications = f.publications ++ publication_of past_of w ∷ [] })
+  stands_by_call f w mark is stands rises marked images =
       let geometry : (halves_of w).geometry ≡ (halves_of f.writer).geometry = stands.geometry-is in
       let writer : IsWriter past_of (over (halves_of w).geometry f.handed) (last_handed o f) w =
       with_run (halves_of f.writer).geometry (halves_of w).geometry f.handed f.handed (last_handed o f) (last_handed o f) w (sym geometry) refl refl stands in
@@ -239,17 +246,18 @@ module _ {D : Type 0} (past_of : D → DevicePast) (o : Opened) where
       let run : LeavesOnly (past_of (device_of f.writer)) (past_of (device_of w)) (GivesBeginning o (halves_of w).geometry f.handed (synced_of f.writer)) =
       weaker (past_of (device_of f.writer)) (past_of (device_of w)) (FlushLeaves o f) (GivesBeginning o (halves_of w).geometry f.handed (synced_of f.writer))
       (λ image left. same_store o (halves_of f.writer).geometry (halves_of w).geometry f.handed (synced_of f.writer) image geometry left) images in
-      stands_on f w v (f.publications ++ publication_of past_of w ∷ []) is stands (omega (arith, told)) flag
+      stands_on f w (count_of f.published w mark) (f.publications ++ publication_of past_of w ∷ []) is stands (omega arith) refl
       (all_kept_with o (halves_of f.writer).geometry (halves_of w).geometry f.handed [] f.handed (synced_of f.writer) (synced_of w)
       (past_of (device_of f.writer)) (past_of (device_of w)) (sym (append-nil f.handed)) geometry rises run f.publications (publication_of past_of w) is.kept
       (kept_now o past_of f.handed w (leaves_now w f.handed places is.fits is.opens writer)))
-      (f.publications, publication_of past_of w, refl, sym told)
+      (f.publications, publication_of past_of w, refl, refl) (all_noted marks past_of f.publications f.published.notes w mark is.noted marked)
 
   -- by a call that doesn't touch the device, and publishes nothing
-  pub stands_without : {A : Type 0} (f : FlushValue D A) (w : Writer D A) (v : FlusherCount) → IsFlusher past_of o f
+  pub stands_without : {A : Type 0} (f : FlushValue D A) (w : Writer D A) (v : FlusherCount) → IsFlusher past_of marks o f
       → IsWriter past_of (run_of o f) (last_handed o f) w → device_of w ≡ device_of f.writer → synced_of w ≡ synced_of f.writer
-      → v.horizon ≡ f.published.horizon → v.failed ≡ has_failed w → IsFlusher past_of o (record f { writer = w; published = v })
-  stands_without f w v is stands device synced told flag =
+      → v.horizon ≡ f.published.horizon → v.failed ≡ has_failed w → v.notes ≡ f.published.notes
+      → IsFlusher past_of marks o (record f { writer = w; published = v })
+  stands_without f w v is stands device synced told flag notes =
       let geometry : (halves_of w).geometry ≡ (halves_of f.writer).geometry = stands.geometry-is in
       let writer : IsWriter past_of (over (halves_of w).geometry f.handed) (last_handed o f) w =
       with_run (halves_of f.writer).geometry (halves_of w).geometry f.handed f.handed (last_handed o f) (last_handed o f) w (sym geometry) refl refl stands in
@@ -258,10 +266,10 @@ module _ {D : Type 0} (past_of : D → DevicePast) (o : Opened) where
       (all_kept_on o (halves_of f.writer).geometry (halves_of w).geometry f.handed [] f.handed (synced_of f.writer) (synced_of w)
       (past_of (device_of f.writer)) (past_of (device_of w)) (sym (append-nil f.handed)) geometry (omega (arith, synced))
       (still_here f.writer w f.handed device synced (leaves_now w f.handed places is.fits is.opens writer)) f.publications is.kept)
-      (is.newest.0, is.newest.1, is.newest.2, is.newest.3 ∙ sym told)
+      (is.newest.0, is.newest.1, is.newest.2, is.newest.3 ∙ sym told) (subst (All (IsNotedOf marks f.publications)) (sym notes) is.noted)
 
   module _ {A : Type 0} (popped held : List RecordValue) (w : Writer D A) (v : FlusherCount) (ps : List Publication)
-      (all : popped ≡ popped_by (flush_value popped held w v ps)) (is : IsFlusher past_of o (flush_value popped held w v ps)) where
+      (all : popped ≡ popped_by (flush_value popped held w v ps)) (is : IsFlusher past_of marks o (flush_value popped held w v ps)) where
     abbrev handed : List RecordValue
     handed = take (length popped - length held) popped
 
@@ -289,7 +297,7 @@ module _ {D : Type 0} (past_of : D → DevicePast) (o : Opened) where
       pub takes : MayOpenAgain o popped → (new : Writer D A)
           → ((run : Run) (n : ℕ) → IsWriter past_of run n w → AreNext run n held → IsWriter past_of run (n + length held) new)
           → device_of new ≡ device_of w → synced_of new ≡ synced_of w → has_failed new ≡ has_failed w
-          → IsFlusher past_of o (flush_value popped [] new v ps)
+          → IsFlusher past_of marks o (flush_value popped [] new v ps)
       takes opens new took device synced failed =
           let now : IsWriter past_of (longer run held) (end_of run + length held) new = took (longer run held) (end_of run) stands (next run held small) in
           let list : handed ++ held ≡ take (length popped - 0) popped = sym all ∙ sym (all_handed popped) in
@@ -314,6 +322,7 @@ module _ {D : Type 0} (past_of : D → DevicePast) (o : Opened) where
                 (still_here w new (take (length popped - 0) popped) device synced
                 (leaves_now new (take (length popped - 0) popped) places fit open_again writer)) ps is.kept;
             newest = is.newest;
+            noted = is.noted;
           }
 
   -- ---- records that are popped
@@ -338,9 +347,9 @@ module _ {D : Type 0} (past_of : D → DevicePast) (o : Opened) where
 
   pub still_flusher : {A : Type 0} (old : FlushValue D A) (more popped held : List RecordValue) (w : Writer D A) (v : FlusherCount) (ps : List Publication)
       → popped ≡ old.handed ++ (old.held ++ more) → held ≡ old.held ++ more → w ≡ old.writer → v ≡ old.published → ps ≡ old.publications
-      → IsFlusher past_of o old → IsFlusher past_of o (flush_value popped held w v ps)
+      → IsFlusher past_of marks o old → IsFlusher past_of marks o (flush_value popped held w v ps)
   still_flusher old more popped held w v ps all is same told noted stands =
-      subst (IsFlusher past_of o) (sym (value_is old more popped held w v ps all is same told noted))
+      subst (IsFlusher past_of marks o) (sym (value_is old more popped held w v ps all is same told noted))
       (record {
         pages = stands.pages;
         places = stands.places;
@@ -351,13 +360,14 @@ module _ {D : Type 0} (past_of : D → DevicePast) (o : Opened) where
         failed = stands.failed;
         kept = stands.kept;
         newest = stands.newest;
+        noted = stands.noted;
       })
 
   -- the fields hold what the type keeps
   pub kept_by_popping : {A : Type 0} (old : FlushValue D A) (more popped held : List RecordValue) (w : Writer D A) (v : FlusherCount) (ps : List Publication)
       (last : ℕ) → popped ≡ old.handed ++ (old.held ++ more) → held ≡ old.held ++ more → w ≡ old.writer → v ≡ old.published → ps ≡ old.publications
-      → IsFlusher past_of o old → last ≡ last_handed o old
-      → (popped ≡ popped_by (flush_value popped held w v ps)) × IsFlusher past_of o (flush_value popped held w v ps)
+      → IsFlusher past_of marks o old → last ≡ last_handed o old
+      → (popped ≡ popped_by (flush_value popped held w v ps)) × IsFlusher past_of marks o (flush_value popped held w v ps)
       × (last ≡ last_handed o (flush_value popped held w v ps))
   kept_by_popping old more popped held w v ps last all is same told noted stands at = (
     all_popped old more popped held w v ps all is same told noted,
@@ -397,10 +407,10 @@ module _ {D A : Type 0} (failures : D → ℕ) (old new : Writer D A) where
 
 -- ---- the fields, after records were handed in or given back
 
-module _ {D : Type 0} (past_of : D → DevicePast) (o : Opened) where
+module _ {D : Type 0} (past_of : D → DevicePast) (marks : ℕ → ℕ → Type 0) (o : Opened) where
   -- the fields hold what the type keeps
   abbrev pub AreKept : {A : Type 0} (popped held : List RecordValue) → Writer D A → FlusherCount → List Publication → Type 0
-  AreKept popped held w v ps = (popped ≡ popped_by (flush_value popped held w v ps)) × IsFlusher past_of o (flush_value popped held w v ps)
+  AreKept popped held w v ps = (popped ≡ popped_by (flush_value popped held w v ps)) × IsFlusher past_of marks o (flush_value popped held w v ps)
 
   module _ {A : Type 0} (popped held : List RecordValue) (w : Writer D A) (v : FlusherCount) (ps : List Publication)
       (kept : AreKept popped held w v ps) (follow : FollowOpening o popped)
@@ -410,7 +420,7 @@ module _ {D : Type 0} (past_of : D → DevicePast) (o : Opened) where
       → AreNext (longer run more) (end_of run) more) (records : List RecordValue) (same : records ≡ held) where
     pub can_hand_in : (run : Run) × (n : ℕ) × IsWriter past_of run n w × AreNext run n records
     can_hand_in = subst (λ (l : List RecordValue). (run : Run) × (n : ℕ) × IsWriter past_of run n w
-        × AreNext run n l) (sym same) (can_take past_of o popped held w v ps kept.0 kept.1 follow fits longer_stands next)
+        × AreNext run n l) (sym same) (can_take past_of marks o popped held w v ps kept.0 kept.1 follow fits longer_stands next)
 
     pub kept_by_taking : MayOpenAgain o popped → (p h : List RecordValue) (new : Writer D A) → p ≡ popped → h ≡ []
         → ((run : Run) (n : ℕ) → IsWriter past_of run n w → AreNext run n records → IsWriter past_of run (n + length records) new)
@@ -421,7 +431,7 @@ module _ {D : Type 0} (past_of : D → DevicePast) (o : Opened) where
         → IsWriter past_of run (n + length l) new) same took in
         let now : AreKept popped [] new v ps = (
           sym (append-nil _ ∙ all_handed popped),
-          takes past_of o popped held w v ps kept.0 kept.1 follow fits longer_stands next opens new takes_held device synced failed,
+          takes past_of marks o popped held w v ps kept.0 kept.1 follow fits longer_stands next opens new takes_held device synced failed,
         ) in
         subst (λ x. AreKept x h new v ps) (sym all) (subst (λ x. AreKept popped x new v ps) (sym none) now)
 
@@ -432,33 +442,37 @@ module _ {D : Type 0} (past_of : D → DevicePast) (o : Opened) where
         let f : FlushValue D A = flush_value popped held w v ps in
         let now : AreKept popped held new v ps = (
           kept.0,
-          stands_without past_of o f new v kept.1 (keeps (run_of o f) (last_handed o f) kept.1.writer) device synced refl (kept.1.failed ∙ sym failed),
+          stands_without past_of marks o f new v kept.1 (keeps (run_of o f) (last_handed o f) kept.1.writer) device synced refl
+              (kept.1.failed ∙ sym failed) refl,
         ) in
         subst (λ x. AreKept x h new v ps) (sym all) (subst (λ x. AreKept popped x new v ps) (sym (back ∙ same)) now)
 
   -- at first
-  pub kept_at_first : {A : Type 0} (popped held : List RecordValue) (w : Writer D A) (v : FlusherCount) (ps : List Publication) (last : ℕ) → popped ≡ []
-      → held ≡ [] → ps ≡ publication_of past_of w ∷ []
-      → IsWriter past_of (opened_run (halves_of w) o.given.last (opening_cells o.given)) o.given.last w
-      → (halves_of w).geometry.pages ≡ o.pages → (halves_of w).geometry.entries ≡ o.places → len o.given.entries ≤ o.places → v.horizon ≡ synced_of w
-      → v.failed ≡ has_failed w → last ≡ synced_of w
-      → AreKept popped held w v ps × (last ≡ last_handed o (flush_value popped held w v ps))
-  kept_at_first popped held w v ps last none none_held one is pages places room low flag told =
-      subst (λ (p : List RecordValue). AreKept p held w v ps × (last ≡ last_handed o (flush_value p held w v ps))) (sym none)
-      (subst (λ (h : List RecordValue). AreKept [] h w v ps × (last ≡ last_handed o (flush_value [] h w v ps))) (sym none_held)
-      (subst (λ (l : List Publication). AreKept [] [] w v l × (last ≡ last_handed o (flush_value [] [] w v l))) (sym one)
-      ((refl, begun past_of o w v is pages places room low flag), omega (arith, told, is.opened, is.reached))))
+  module _ {A : Type 0} (popped held : List RecordValue) (w : Writer D A) (before v : FlusherCount) (ps : List Publication) (mark : ℕ)
+      (none : popped ≡ []) (none_held : held ≡ []) (told : v ≡ count_of before w mark) (one : ps ≡ publication_of past_of w ∷ []) where
+    pub first_is : flush_value popped held w v ps
+        ≡ record { handed = []; held = []; writer = w; published = count_of before w mark; publications = publication_of past_of w ∷ [] }
+    first_is = λ i. flush_value (none i) (none_held i) w (told i) (one i)
+
+    pub kept_at_first : (last : ℕ) → IsWriter past_of (opened_run (halves_of w) o.given.last (opening_cells o.given)) o.given.last w
+        → (halves_of w).geometry.pages ≡ o.pages → (halves_of w).geometry.entries ≡ o.places → len o.given.entries ≤ o.places → before.notes ≡ []
+        → IsMarkOf marks mark (past_of (device_of w)).moment → last ≡ synced_of w
+        → (popped ≡ popped_by (flush_value popped held w v ps)) × IsFlusher past_of marks o (flush_value popped held w v ps)
+        × (last ≡ last_handed o (flush_value popped held w v ps))
+    kept_at_first last is pages places room unmarked marked same =
+        subst (λ (f : FlushValue D A). (popped ≡ popped_by f) × IsFlusher past_of marks o f × (last ≡ last_handed o f)) (sym first_is)
+        (none, begun past_of marks o w before mark is pages places room unmarked marked, omega (arith, same, is.opened, is.reached))
 
   -- as the popping begins
   pub begins_popping : {A : Type 0} (old : FlushValue D A) (popped held : List RecordValue) (w : Writer D A) (v : FlusherCount) (ps : List Publication)
       → flush_value popped held w v ps ≡ old → AreKept popped held w v ps
-      → (w ≡ old.writer) × (v ≡ old.published) × (ps ≡ old.publications) × IsFlusher past_of o old
+      → (w ≡ old.writer) × (v ≡ old.published) × (ps ≡ old.publications) × IsFlusher past_of marks o old
       × ((more : List RecordValue) × (popped ≡ old.handed ++ (old.held ++ more)) × (held ≡ old.held ++ more))
   begins_popping old popped held w v ps is kept = (
     ap (λ (f : FlushValue D _). f.writer) is,
     ap (λ (f : FlushValue D _). f.published) is,
     ap (λ (f : FlushValue D _). f.publications) is,
-    subst (IsFlusher past_of o) is kept.1,
+    subst (IsFlusher past_of marks o) is kept.1,
     ([], kept.0 ∙ ap popped_by is ∙ ap (λ l. old.handed ++ l) (sym (append-nil old.held)), ap (λ (f : FlushValue D _). f.held) is ∙ sym (append-nil old.held)),
   )
 
@@ -478,8 +492,8 @@ module _ {D : Type 0} (past_of : D → DevicePast) (o : Opened) where
       → (now : FlusherCount) (set : Bool) → now ≡ record v { stopped = set } → AreKept popped held w now ps
   kept_by_look popped held w v ps kept now set is = (
     kept.0,
-    stands_without past_of o (flush_value popped held w v ps) w now kept.1 kept.1.writer refl refl
-        (ap (λ (c : FlusherCount). c.horizon) is) (ap (λ (c : FlusherCount). c.failed) is ∙ kept.1.failed),
+    stands_without past_of marks o (flush_value popped held w v ps) w now kept.1 kept.1.writer refl refl
+        (ap (λ (c : FlusherCount). c.horizon) is) (ap (λ (c : FlusherCount). c.failed) is ∙ kept.1.failed) (ap (λ (c : FlusherCount). c.notes) is),
   )
 
   -- ---- as a call of the writer leaves them
@@ -489,14 +503,16 @@ module _ {D : Type 0} (past_of : D → DevicePast) (o : Opened) where
     pub kept_by_call : (now : FlusherCount) (qs : List Publication) → qs ≡ ps ++ publication_of past_of new ∷ []
         → IsWriter past_of (run_of o (flush_value popped held w v ps)) (last_handed o (flush_value popped held w v ps)) new
         → ((run : Run) (n : ℕ) → IsWriter past_of run n w → LeavesOnly (past_of (device_of w)) (past_of (device_of new)) (LeftBy run (synced_of w) n))
-        → synced_of w ≤ synced_of new → now.horizon ≡ synced_of new → now.failed ≡ has_failed new → AreKept popped held new now qs
-    kept_by_call now qs noted stands images rises horizon failed =
+        → synced_of w ≤ synced_of new → ((mark : ℕ) × IsMarkOf marks mark (past_of (device_of new)).moment × (now ≡ count_of v new mark))
+        → AreKept popped held new now qs
+    kept_by_call now qs noted stands images rises told =
         let f : FlushValue D A = flush_value popped held w v ps in
         subst (λ (l : List Publication). AreKept popped held new now l) (sym noted) (
           kept.0,
-          stands_by_call past_of o f new now kept.1 stands horizon failed rises
+          subst (λ (c : FlusherCount). IsFlusher past_of marks o (flush_value popped held new c (ps ++ publication_of past_of new ∷ []))) (sym told.2)
+              (stands_by_call past_of marks o f new told.0 kept.1 stands rises told.1
               (weaker (past_of (device_of w)) (past_of (device_of new)) (LeftBy (run_of o f) (synced_of w) (last_handed o f)) (FlushLeaves o f)
-              (is_left past_of o f kept.1) (images (run_of o f) (last_handed o f) kept.1.writer)),
+              (is_left past_of marks o f kept.1) (images (run_of o f) (last_handed o f) kept.1.writer))),
         )
 
     -- it writes nothing
@@ -505,7 +521,8 @@ module _ {D : Type 0} (past_of : D → DevicePast) (o : Opened) where
     kept_without keeps device synced failed =
         let f : FlushValue D A = flush_value popped held w v ps in (
           kept.0,
-          stands_without past_of o f new v kept.1 (keeps (run_of o f) (last_handed o f) kept.1.writer) device synced refl (kept.1.failed ∙ sym failed),
+          stands_without past_of marks o f new v kept.1 (keeps (run_of o f) (last_handed o f) kept.1.writer) device synced refl
+              (kept.1.failed ∙ sym failed) refl,
         )
 
     -- what is published may be raised to what the writer has synced
@@ -517,18 +534,18 @@ module _ {D : Type 0} (past_of : D → DevicePast) (o : Opened) where
 
   -- ---- what a call tells
 
-  pub images_of : {A : Type 0} (f : FlushValue D A) (new : Writer D A) → IsFlusher past_of o f → ((run : Run) (n : ℕ) → IsWriter past_of run n f.writer
+  pub images_of : {A : Type 0} (f : FlushValue D A) (new : Writer D A) → IsFlusher past_of marks o f → ((run : Run) (n : ℕ) → IsWriter past_of run n f.writer
       → LeavesOnly (past_of (device_of f.writer)) (past_of (device_of new)) (LeftBy run (synced_of f.writer) n))
       → LeavesOnly (past_of (device_of f.writer)) (past_of (device_of new)) (FlushLeaves o f)
   images_of f new stands images =
       weaker (past_of (device_of f.writer)) (past_of (device_of new)) (LeftBy (run_of o f) (synced_of f.writer) (last_handed o f)) (FlushLeaves o f)
-      (is_left past_of o f stands) (images (run_of o f) (last_handed o f) stands.writer)
+      (is_left past_of marks o f stands) (images (run_of o f) (last_handed o f) stands.writer)
 
   pub chunk_of : {A : Type 0} (old f : FlushValue D A) → f ≡ old → (number : ℕ) {E : Type 0} (piece : Piece E) → IsChunk (run_of o old) old.writer number piece
       → IsChunk (run_of o f) f.writer number piece
   chunk_of old f is number {E} piece chunk = subst (λ (x : FlushValue D _). IsChunk (run_of o x) x.writer number piece) (sym is) chunk
 
-  pub can_step : {A : Type 0} (old f : FlushValue D A) → f ≡ old → IsFlusher past_of o f → (number : ℕ) {E : Type 0} (piece : Piece E)
+  pub can_step : {A : Type 0} (old f : FlushValue D A) → f ≡ old → IsFlusher past_of marks o f → (number : ℕ) {E : Type 0} (piece : Piece E)
       → IsChunk (run_of o old) old.writer number piece
       → (run : Run) × (n : ℕ) × IsWriter past_of run n f.writer × IsChunk run f.writer number piece
   can_step old f is stands number piece chunk = (run_of o f, last_handed o f, stands.writer, chunk_of old f is number piece chunk)

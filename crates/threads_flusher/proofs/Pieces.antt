@@ -60,8 +60,8 @@ begins_with handed pushed is = subst (λ (l : List RecordValue). handed ≡ take
 come_to : (image : Option NewImage) (i : NewImage) (P : Type 0) → image ≡ Some i → (image ≡ None) ⊎ P → P
 come_to image i P there due = ⊎_elim (λ none. absurd cc) (λ come. come) due
 
-module _ {D A : Type 0} (past_of : D → DevicePast) (o : Opened) (f : FlushValue D A) (is : IsFlusher past_of o f) (l : LockedValue)
-    (all : l.pushed ++ l.core.outbox ≡ f.handed) (last : (g : GeometryValue) → l.core.last ≡ end_of (lock.run_of g o l))
+module _ {D A : Type 0} {marks : ℕ → ℕ → Type 0} (past_of : D → DevicePast) (o : Opened) (f : FlushValue D A) (is : IsFlusher past_of marks o f)
+    (l : LockedValue) (all : l.pushed ++ l.core.outbox ≡ f.handed) (last : (g : GeometryValue) → l.core.last ≡ end_of (lock.run_of g o l))
     (store : (g : GeometryValue) → g.pages ≡ o.pages → g.entries ≡ o.places → IsOfGeometry l.core g) (number : ℕ) (told : number ≡ l.core.last) where
   abbrev g : GeometryValue
   g = (halves_of f.writer).geometry

@@ -1,5 +1,6 @@
 -- How the flusher's part goes on.
 use Rattle.std.specs.Prelude.{◌≡◌, ◌≤◌, ◌++◌, ℕ, List, false, true}
+use Rattle.std.specs.List.{All}
 use Rattle.records.specs.RecordValue.{RecordValue}
 use Rattle.core_model.specs.Histories.{Opened}
 use Rattle.sector_device.specs.DevicePast.{DevicePast, LeavesOnly, Rises}
@@ -24,9 +25,10 @@ abbrev pub LeavesImage : {D A : Type 0} → Copying → FlushValue D A → Flush
 LeavesImage copying old new = new ≡ record old { writer = without_image copying old.writer }
 
 -- It has gone on, by as many calls as there were: more records were popped and handed in, or as many, and none was
--- lost; no horizon went back, what was published before stays noted, and the store is the same. A crash at any moment
--- since leaves what some of the records that the writer has got now make of what was opened, the first ones, with all
--- that were synced at first. And if the device failed meanwhile, it counted that.
+-- lost; no horizon went back, what was published before stays noted, and the store is the same. What was published
+-- since was published at no earlier moment. A crash at any moment since leaves what some of the records that the writer
+-- has got now make of what was opened, the first ones, with all that were synced at first. And if the device failed
+-- meanwhile, it counted that.
 pub record GoesOn {D A : Type 0} (past_of : D → DevicePast) (failures : D
     → ℕ) (o : Opened) (old new : FlushValue D A) : Type 0 where
   pub popped : List RecordValue
@@ -35,6 +37,7 @@ pub record GoesOn {D A : Type 0} (past_of : D → DevicePast) (failures : D
   pub handed : new.handed ≡ old.handed ++ more
   pub since : List Publication
   pub publications : new.publications ≡ old.publications ++ since
+  pub behind : All (λ (p : Publication). (past_of (device_of old.writer)).moment ≤ p.moment) since
   pub geometry : (halves_of new.writer).geometry ≡ (halves_of old.writer).geometry
   pub rises : synced_of old.writer ≤ synced_of new.writer
   pub horizon : old.published.horizon ≤ new.published.horizon

@@ -1,6 +1,6 @@
 -- What contracts see of the flusher's part, and what it keeps.
-use Rattle.std.specs.Prelude.{◌≡◌, ℕ, ◌+◌, ◌-◌, ◌≤◌, List, [], ◌∷◌, ◌++◌, length, take}
-use Rattle.std.specs.List.{All}
+use Rattle.std.specs.Prelude.{◌≡◌, ◌≢◌, ◌⊎◌, ℕ, ◌+◌, ◌-◌, ◌≤◌, List, [], ◌∷◌, ◌++◌, length, take}
+use Rattle.std.specs.List.{All, Contains}
 use Rattle.record_values.specs.GeometryValue.{GeometryValue}
 use Rattle.records.specs.RecordValue.{RecordValue}
 use Rattle.model.specs.Cells.{cells_after}
@@ -9,6 +9,7 @@ use Rattle.core_model.specs.Histories.{CanOpen, Opened}
 use Rattle.sector_device.specs.Disk.{CrashState}
 use Rattle.sector_device.specs.DevicePast.{Between, DevicePast}
 use Rattle.board.specs.Views.{FlusherCount}
+use Rattle.board.specs.declared.knowledge.Note.{Note}
 use Rattle.store_image_model.specs.Run.{Run}
 use Rattle.locked_core.specs.Following.{FitPlaces}
 use Rattle.threads_queue.specs.Ends.{Handed}
@@ -103,11 +104,27 @@ abbrev pub IsNewest : List Publication → ℕ → Type 0
 IsNewest publications horizon = (earlier : List Publication) × (last : Publication)
     × (publications ≡ earlier ++ last ∷ []) × (last.horizon ≡ horizon)
 
+-- The number marks this moment of the device, where marks says which it marks; or it is 0, as where there is no clock.
+abbrev pub IsMarkOf : (marks : ℕ → ℕ → Type 0) → (mark moment : ℕ) → Type 0
+IsMarkOf marks mark moment = mark ≢ 0 → marks mark moment
+
+-- the horizon and the mark that were noted are of one of these publications
+abbrev pub IsNotedOf : (marks : ℕ → ℕ → Type 0) → List Publication → Note → Type 0
+IsNotedOf marks publications n = (p : Publication) × Contains publications p × (n.horizon ≡ p.horizon)
+    × IsMarkOf marks n.mark p.moment
+
+-- One of these publications reaches the horizon, and the mark is of its moment; or both are 0. So what that one keeps,
+-- this horizon among it, is kept by a crash at any moment since the one that the mark marks.
+abbrev pub IsSafeSince : (marks : ℕ → ℕ → Type 0) → List Publication → (safe mark : ℕ) → Type 0
+IsSafeSince marks publications safe mark = ((safe ≡ 0) × (mark ≡ 0))
+    ⊎ ((p : Publication) × Contains publications p × (safe ≤ p.horizon) × IsMarkOf marks mark p.moment)
+
 -- The writer stands for the records that it got over what was opened, and its store has the pages of that, and places
 -- for the entries after each of the records, with which a core may begin. What was published is not above what the
 -- writer has synced, and tells whether its device failed. And what was published at any time is kept since, at every
--- moment.
-pub record IsFlusher {D A : Type 0} (past_of : D → DevicePast) (o : Opened) (f : FlushValue D A) : Type 0 where
+-- moment; and whatever was noted is of such a publication.
+pub record IsFlusher {D A : Type 0} (past_of : D → DevicePast) (marks : ℕ → ℕ
+    → Type 0) (o : Opened) (f : FlushValue D A) : Type 0 where
   pub pages : (halves_of f.writer).geometry.pages ≡ o.pages
   pub places : (halves_of f.writer).geometry.entries ≡ o.places
   pub fits : FitPlaces o f.handed
@@ -117,14 +134,23 @@ pub record IsFlusher {D A : Type 0} (past_of : D → DevicePast) (o : Opened) (f
   pub failed : f.published.failed ≡ has_failed f.writer
   pub kept : All (IsKept past_of o f) f.publications
   pub newest : IsNewest f.publications f.published.horizon
+  pub noted : All (IsNotedOf marks f.publications) f.published.notes
 
 -- how far this writer has synced, as it is published now
 abbrev pub publication_of : {D A : Type 0} → (D → DevicePast) → Writer D A → Publication
 publication_of past_of w = record { horizon = synced_of w; moment = (past_of (device_of w)).moment }
 
--- what is published of a writer, behind what was published before
-abbrev pub count_of : {D A : Type 0} → FlusherCount → Writer D A → FlusherCount
-count_of before writer = record before { horizon = synced_of writer; failed = has_failed writer }
+-- what is noted of a writer as it is published, with a mark
+abbrev pub note_of : {D A : Type 0} → Writer D A → (mark : ℕ) → Note
+note_of writer mark = record { horizon = synced_of writer; mark = mark }
+
+-- what is published of a writer with a mark, behind what was published before
+abbrev pub count_of : {D A : Type 0} → FlusherCount → Writer D A → (mark : ℕ) → FlusherCount
+count_of before writer mark = record before {
+  horizon = synced_of writer;
+  failed = has_failed writer;
+  notes = note_of writer mark ∷ before.notes;
+}
 
 -- The writer has got these records more, which wait; and nothing else of it changed.
 pub record HasGot {D A : Type 0} (more : List RecordValue) (old new : Writer D A) : Type 0 where
@@ -136,12 +162,15 @@ pub record HasGot {D A : Type 0} (more : List RecordValue) (old new : Writer D A
   pub failed : has_failed new ≡ has_failed old
   pub image : image_of new ≡ image_of old
 
--- no record was popped or handed in, and what is published is now what the writer has synced, and whether its device
--- failed; this was published once
-pub record Publishes {D A : Type 0} (past_of : D → DevicePast) (old new : FlushValue D A) : Type 0 where
+-- No record was popped or handed in, and what is published is now what the writer has synced, and whether its device
+-- failed. This was published once, with a mark of the moment that it is.
+pub record Publishes {D A : Type 0} (past_of : D → DevicePast) (marks : ℕ → ℕ
+    → Type 0) (old new : FlushValue D A) : Type 0 where
   pub handed : new.handed ≡ old.handed
   pub held : new.held ≡ old.held
-  pub published : new.published ≡ count_of old.published new.writer
+  pub mark : ℕ
+  pub marked : IsMarkOf marks mark (past_of (device_of new.writer)).moment
+  pub published : new.published ≡ count_of old.published new.writer mark
   pub noted : new.publications ≡ old.publications ++ publication_of past_of new.writer ∷ []
 
 -- it has looked whether all are asked to stop, and nothing else of it changed

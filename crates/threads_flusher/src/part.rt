@@ -7,7 +7,7 @@ ghost use Rattle.sector_device.specs.DevicePast.{LeavesOnly};
 ghost use Rattle.records.specs.RecordValue.{RecordValue};
 ghost use Rattle.model.specs.Given.{opening_cells};
 ghost use Rattle.board.specs.Views.{FlusherCount};
-ghost use Rattle.threads_flusher.specs.Part.{count_of};
+ghost use Rattle.threads_flusher.specs.Part.{IsMarkOf, count_of};
 ghost use Rattle.store_writer.specs.Image.{BecomesImage};
 ghost use Rattle.store_writer.specs.Parts.{copying_of, device_of, halves_of, has_failed, image_of, synced_of};
 ghost use Rattle.store_writer.specs.Parts.{waiting_of};
@@ -36,8 +36,8 @@ use threads_queue::{Popper, RecordQueue};
 ///
 /// Its type keeps that the records that were popped are those that the writer has got and then those that are held, in
 /// order, each once; that the writer stands for the ones that it got, over what was opened; that no number is published
-/// above the last synced one; that all is published on the group's board; and that what was published at any time is
-/// kept by a crash at any moment since.
+/// above the last synced one; that all is published on the group's board; that what was published at any time is kept
+/// by a crash at any moment since; and that each mark that was published is of the moment of such a publication.
 #[derive(Drop)]
 pub struct FlushPart<B: Group, D: Device, A: Memory = Global> {
     pub(crate) alloc: A,
@@ -71,27 +71,39 @@ impl<B: Group, D: Device, A: Memory> Model for FlushPart<B, D, A> {
     ghost invariant = { λ p. (p.popper.queue ≡ B.site.queue)
         × (p.popper.records ≡ popped_by (flush_value p.popper.records p.held.items p.writer p.view
         (map (publication_of D.past_of) p.publications.items)))
-        × IsFlusher D.past_of B.site.opened (flush_value p.popper.records p.held.items p.writer p.view
+        × IsFlusher D.past_of D.marks B.site.opened (flush_value p.popper.records p.held.items p.writer p.view
         (map (publication_of D.past_of) p.publications.items))
         × (p.last ≡ last_handed B.site.opened (flush_value p.popper.records p.held.items p.writer p.view
         (map (publication_of D.past_of) p.publications.items)))
         × (p.view.board ≡ B.site.board) };
 }
 
-// Publishes how far the writer has synced, and whether its device failed.
-fn tell<D: Device, A: Memory>(board: &Board<A>, view: &mut FlushView, writer: &StoreWriter<D, A>)
+// A number that marks the moment that it is, or 0 where the device has no clock.
+fn mark_of<D: Device, A: Memory>(writer: &StoreWriter<D, A>) -> u64
+    ensures { IsMarkOf D.marks result (D.past_of (device_of writer.now)).moment }
+{
+    writer.device().clock().unwrap_or(0)
+}
+
+// Publishes how far the writer has synced, with this mark, and whether its device failed.
+fn tell<D: Device, A: Memory>(
+    board: &Board<A>,
+    view: &mut FlushView,
+    writer: &StoreWriter<D, A>,
+    mark: u64,
+)
     requires board { view.old.board ≡ board.now }
     requires horizon { view.old.horizon ≤ synced_of writer.now }
     requires failed { has_failed writer.now ≡ false → view.old.failed ≡ false }
-    ensures { view.new ≡ count_of view.old writer.now }
+    ensures { view.new ≡ count_of view.old writer.now mark }
 {
-    board.publish(view, writer.synced());
+    board.publish(view, writer.synced(), mark);
     if writer.has_failed() {
         board.fail(view);
     }
 }
 
-// Publishes it, and notes that it did.
+// Publishes it with a mark of the moment that it is, and notes that it did.
 fn publish<D: Device, A: Memory>(
     board: &Board<A>,
     view: &mut FlushView,
@@ -101,10 +113,12 @@ fn publish<D: Device, A: Memory>(
     requires board { view.old.board ≡ board.now }
     requires horizon { view.old.horizon ≤ synced_of writer.now }
     requires failed { has_failed writer.now ≡ false → view.old.failed ≡ false }
-    ensures published { view.new ≡ count_of view.old writer.now }
+    ensures published { (mark : ℕ) × IsMarkOf D.marks mark (D.past_of (device_of writer.now)).moment
+        × (view.new ≡ count_of view.old writer.now mark) }
     ensures noted { publications.new.items ≡ publications.old.items ++ writer.now ∷ [] }
 {
-    tell(board, view, writer);
+    let mark = mark_of(writer);
+    tell(board, view, writer, mark);
     *publications = publications.and(writer);
 }
 
@@ -114,7 +128,8 @@ impl<B: Group, D: Device, A: Memory> FlushPart<B, D, A> {
     ghost use Rattle.threads_flusher.specs.Part.{popped_by, publication_of, run_of};
 
     /// The part of a flusher that has popped nothing, with a writer over what was opened. How far that is synced is
-    /// published, so that a ticket from before is known to be safe from the beginning.
+    /// published, with a mark of the moment that it is, so that a ticket from before is known to be safe from the
+    /// beginning.
     pub fn new(
         alloc: A,
         board: &Board<A>,
@@ -131,13 +146,14 @@ impl<B: Group, D: Device, A: Memory> FlushPart<B, D, A> {
         requires fits { len B.site.opened.given.entries ≤ B.site.opened.places }
         requires horizon { ends.published.horizon ≤ synced_of writer }
         requires failed { ends.published.failed ≡ has_failed writer }
-        ensures { result ≡ record {
+        requires unmarked { ends.published.notes ≡ [] }
+        ensures { (mark : ℕ) × IsMarkOf D.marks mark (D.past_of (device_of writer)).moment × (result ≡ record {
           handed = [];
           held = [];
           writer = writer;
-          published = count_of ends.published writer;
+          published = count_of ends.published writer mark;
           publications = publication_of D.past_of writer ∷ [];
-        } }
+        }) }
     {
         let FlushEnds { popper, mut view } = ends;
         let mut publications = GhostList::new();
@@ -167,7 +183,7 @@ impl<B: Group, D: Device, A: Memory> FlushPart<B, D, A> {
 
     /// A law: what the type keeps.
     pub fn stands(&self)
-        ensures { IsFlusher D.past_of B.site.opened self.now }
+        ensures { IsFlusher D.past_of D.marks B.site.opened self.now }
     {
         // a look at a field, so that what the type keeps is at hand
         let _ = &self.writer;
@@ -265,7 +281,7 @@ impl<B: Group, D: Device, A: Memory> FlushPart<B, D, A> {
     /// The answers and refusals are those of the writer's `flush_group`; a failed device is told on the board.
     pub fn flush(&mut self, board: &Board<A>) -> Result<FlushReply, Error>
         requires { board.now ≡ B.site.board }
-        ensures publishes { Publishes D.past_of self.old self.new }
+        ensures publishes { Publishes D.past_of D.marks self.old self.new }
         ensures images { LeavesOnly (D.past_of (device_of self.old.writer)) (D.past_of (device_of self.new.writer))
             (FlushLeaves B.site.opened self.old) }
         ensures flushed { IfOk result (λ reply. IsFlushReply reply self.old.writer self.new.writer) }
@@ -301,7 +317,7 @@ impl<B: Group, D: Device, A: Memory> FlushPart<B, D, A> {
     pub fn take_piece(&mut self, board: &Board<A>, chunk: Chunk<A>) -> Result<StepReply, Error>
         requires board { board.now ≡ B.site.board }
         requires chunk { IsChunk (run_of B.site.opened self.old) self.old.writer chunk.number chunk.piece }
-        ensures publishes { Publishes D.past_of self.old self.new }
+        ensures publishes { Publishes D.past_of D.marks self.old self.new }
         ensures images { LeavesOnly (D.past_of (device_of self.old.writer)) (D.past_of (device_of self.new.writer))
             (FlushLeaves B.site.opened self.old) }
         ensures stepped { IfOk result (λ reply.
@@ -329,7 +345,7 @@ impl<B: Group, D: Device, A: Memory> FlushPart<B, D, A> {
     /// The answers and refusals are those of the writer's `checkpoint_flip`; a failed device is told on the board.
     pub fn flip(&mut self, board: &Board<A>) -> Result<FlipReply, Error>
         requires { board.now ≡ B.site.board }
-        ensures publishes { Publishes D.past_of self.old self.new }
+        ensures publishes { Publishes D.past_of D.marks self.old self.new }
         ensures images { LeavesOnly (D.past_of (device_of self.old.writer)) (D.past_of (device_of self.new.writer))
             (FlushLeaves B.site.opened self.old) }
         ensures flipped { IfOk result (λ reply. IsFlipReply

@@ -221,7 +221,7 @@ module _ {D A : Type 0} (past_of : D → DevicePast) (failures : D
       (halves_of f.writer).geometry f.handed (synced_of old.writer) writes.geometry begins writes.images)
 
   -- what was published before is kept at every moment since
-  pub kept_at_end : IsFlusher past_of o old → f.handed ≡ take (length f.handed) l.pushed
+  pub kept_at_end : {marks : ℕ → ℕ → Type 0} → IsFlusher past_of marks o old → f.handed ≡ take (length f.handed) l.pushed
       → All (IsKeptSince (λ floor image. ∥ GivesSome o (halves_of old.writer).geometry seats popped floor image ∥₁) (past_of device)) old.publications
   kept_at_end stands begins =
       let g : GeometryValue = (halves_of old.writer).geometry in

@@ -22,11 +22,12 @@ use Rattle.threads_lifetime.specs.Written.{HasTaken, WritesOn}
 -- ---- the part goes on
 
 module _ {D A : Type 0} (past_of : D → DevicePast) (failures : D → ℕ) (o : Opened) where
-  left_now : (f : FlushValue D A) → IsFlusher past_of o f → LeavesOnly (past_of (device_of f.writer)) (past_of (device_of f.writer)) (FlushLeaves o f)
-  left_now f is = started (past_of (device_of f.writer)) (FlushLeaves o f) (λ image crash. is_left past_of o f is image (is.writer.images image crash))
+  left_now : {marks : ℕ → ℕ → Type 0} (f : FlushValue D A) → IsFlusher past_of marks o f
+      → LeavesOnly (past_of (device_of f.writer)) (past_of (device_of f.writer)) (FlushLeaves o f)
+  left_now f is = started (past_of (device_of f.writer)) (FlushLeaves o f) (λ image crash. is_left past_of _ o f is image (is.writer.images image crash))
 
   -- by no call
-  pub writes_nothing : (f : FlushValue D A) → IsFlusher past_of o f → WritesOn past_of failures o f f
+  pub writes_nothing : {marks : ℕ → ℕ → Type 0} (f : FlushValue D A) → IsFlusher past_of marks o f → WritesOn past_of failures o f f
   writes_nothing f is = record {
     more = [];
     handed = sym (append-nil f.handed);
@@ -40,7 +41,8 @@ module _ {D A : Type 0} (past_of : D → DevicePast) (failures : D → ℕ) (o :
   }
 
   -- by records that are popped and handed in
-  pub writes_by_taking : (old new : FlushValue D A) → IsFlusher past_of o new → HasTaken old new → WritesOn past_of failures o old new
+  pub writes_by_taking : {marks : ℕ → ℕ → Type 0} (old new : FlushValue D A) → IsFlusher past_of marks o new → HasTaken old new
+      → WritesOn past_of failures o old new
   writes_by_taking old new is takes = record {
     more = takes.more;
     handed = takes.handed;
@@ -57,7 +59,8 @@ module _ {D A : Type 0} (past_of : D → DevicePast) (failures : D → ℕ) (o :
   }
 
   -- by a call of the writer
-  pub writes_by_call : (old new : FlushValue D A) → Publishes past_of old new → (halves_of new.writer).geometry ≡ (halves_of old.writer).geometry
+  pub writes_by_call : {marks : ℕ → ℕ → Type 0} (old new : FlushValue D A) → Publishes past_of marks old new
+      → (halves_of new.writer).geometry ≡ (halves_of old.writer).geometry
       → synced_of old.writer ≤ synced_of new.writer
       → LeavesOnly (past_of (device_of old.writer)) (past_of (device_of new.writer)) (FlushLeaves o old)
       → failures (device_of old.writer) ≤ failures (device_of new.writer)

@@ -1,6 +1,8 @@
 -- What is left of an engine that was opened and taken apart.
-use Rattle.std.proofs.Common.{◌≡◌, ℕ, List, [], refl, sym, ap, subst, ◌∙◌, arith}
+use Rattle.std.proofs.Common.{◌≡◌, ℕ, List, [], ◌∷◌, false, refl, sym, ap, subst, ◌∙◌, arith}
 use Rattle.std.proofs.lemmas.List.{nil_from_length}
+use Rattle.atomic_table.specs.Seated.{TableId}
+use Rattle.board.specs.Views.{FlusherCount}
 use Rattle.record_values.specs.GeometryValue.{GeometryValue}
 use Rattle.records.specs.RecordValue.{RecordValue}
 use Rattle.model.specs.Given.{opening_cells}
@@ -24,7 +26,8 @@ use Rattle.restart.specs.Parts.{core_of, device_of}
 use Rattle.restart.specs.Reopening.{IsEmptied, IsOpened, IsTurned, opening}
 use Rattle.restart.specs.Store.{Past, over, run_of}
 use Rattle.shared.specs.Openings.{IsJustOpened, opened_of}
-use Rattle.threads_lifetime.specs.Openings.{IsNewWriter, IsUnsound, LacksMemory, Opens}
+use Rattle.threads_flusher.specs.Part.{FlushValue, IsMarkOf, count_of, publication_of}
+use Rattle.threads_lifetime.specs.Openings.{IsNewFlusher, IsNewWriter, IsUnsound, LacksMemory, Opens}
 
 -- nothing was served
 both_same : {s new : State} {k next : Standing} → ServesAll s k [] new next → (new ≡ s) × (next ≡ k)
@@ -123,3 +126,30 @@ module _ {D A : Type 0} (past_of : D → DevicePast) (before : D) (engine : Engi
 
   pub new_over_core : IsNewWriter past_of (opened_of core) w
   new_over_core = subst (λ (x : Opened). IsNewWriter past_of x w) (sym opened_is) new_writer
+
+-- a part that is new, over a new writer and a board of which nothing was published
+pub new_flusher : {D A : Type 0} (past_of : D → DevicePast) (marks : ℕ → ℕ → Type 0) (board : TableId) (o : Opened) (w : Writer D A) → IsNewWriter past_of o w
+    → (before : FlusherCount) → before ≡ record { board = board; horizon = 0; failed = false; stopped = false; notes = [] }
+    → (mark : ℕ) → IsMarkOf marks mark (publication_of past_of w).moment → (f : FlushValue D A)
+    → f ≡ record { handed = []; held = []; writer = w; published = count_of before w mark; publications = publication_of past_of w ∷ [] }
+    → IsNewFlusher past_of marks board o f
+new_flusher past_of marks board o w is before begins mark marked f new = subst (IsNewFlusher past_of marks board o) (sym new)
+    (record {
+      handed = refl;
+      held = refl;
+      mark = mark;
+      marked = marked;
+      published = ap (λ (c : FlusherCount). count_of c w mark) begins ∙ (λ i. record {
+        board = board;
+        horizon = is.synced i;
+        failed = is.sound i;
+        stopped = false;
+        notes = record { horizon = is.synced i; mark = mark } ∷ [];
+      });
+      synced = is.synced;
+      sound = is.sound;
+      empty = is.empty;
+      idle = is.idle;
+      copying = is.copying;
+      publications = refl;
+    })

@@ -27,8 +27,9 @@ use Rattle.threads_flusher.specs.Part.{FlushValue, IsFlusher, last_handed, run_o
 
 -- ---- the image
 
-module _ {D A : Type 0} (past_of : D → DevicePast) (o : Opened) (f : FlushValue D A) (is : IsFlusher past_of o f) (l : LockedValue) (all : f.handed ≡ l.pushed)
-    (none : l.core.outbox ≡ []) (last : (g : GeometryValue) → l.core.last ≡ end_of (lock.run_of g o l)) (number : ℕ) (told : number ≡ l.core.last) where
+module _ {D A : Type 0} {marks : ℕ → ℕ → Type 0} (past_of : D → DevicePast) (o : Opened) (f : FlushValue D A) (is : IsFlusher past_of marks o f)
+    (l : LockedValue) (all : f.handed ≡ l.pushed) (none : l.core.outbox ≡ [])
+    (last : (g : GeometryValue) → l.core.last ≡ end_of (lock.run_of g o l)) (number : ℕ) (told : number ≡ l.core.last) where
   abbrev g : GeometryValue
   g = (halves_of f.writer).geometry
 

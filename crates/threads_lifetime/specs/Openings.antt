@@ -16,7 +16,7 @@ use Rattle.store_writer.specs.declared.writer.Writer.{Writer}
 use Rattle.store_writer.specs.Parts.{copying_of, halves_of, has_failed, image_of, log_of, synced_of}
 use Rattle.store_writer.specs.Writer.{IsWriter, WritesOnly, opened_run}
 use Rattle.store_writer.specs.declared.copying.Copying.TheVariants.{GivenUp, Idle}
-use Rattle.threads_flusher.specs.Part.{FlushValue, publication_of}
+use Rattle.threads_flusher.specs.Part.{FlushValue, IsMarkOf, publication_of}
 use Rattle.locked_core.specs.Names.{Names}
 use Rattle.restart.specs.Parts.{core_of, device_of, horizon_of, writer_of}
 use Rattle.restart.specs.Reopening.{IsNotOpened, IsTurned, IsUnwritten}
@@ -49,12 +49,20 @@ StaysOpenable disk = (image : CrashState) → IsCrashState disk image → IsOpen
 
 -- A flusher's part that has popped nothing: all that was opened is synced, and is published so, and the device has not
 -- failed. No slot of the log is open, and no image is under way, nor is a whole one to be taken. It was published once,
--- as it is.
-pub record IsNewFlusher {D A : Type 0} (past_of : D → DevicePast) (board : TableId) (o : Opened)
-    (f : FlushValue D A) : Type 0 where
+-- as it is, with a mark of the moment that it is.
+pub record IsNewFlusher {D A : Type 0} (past_of : D → DevicePast) (marks : ℕ → ℕ → Type 0) (board : TableId)
+    (o : Opened) (f : FlushValue D A) : Type 0 where
   pub handed : f.handed ≡ []
   pub held : f.held ≡ []
-  pub published : f.published ≡ record { board = board; horizon = o.given.last; failed = false; stopped = false }
+  pub mark : ℕ
+  pub marked : IsMarkOf marks mark (publication_of past_of f.writer).moment
+  pub published : f.published ≡ record {
+    board = board;
+    horizon = o.given.last;
+    failed = false;
+    stopped = false;
+    notes = record { horizon = o.given.last; mark = mark } ∷ [];
+  }
   pub synced : synced_of f.writer ≡ o.given.last
   pub sound : has_failed f.writer ≡ false
   pub empty : (log_of f.writer).open_slots ≡ 0

@@ -71,7 +71,7 @@ impl<D: Device, A: Memory> OpenStore<D, A> {
     ) -> Result<(Shared<B, A>, Parts<B, D, A, K>), (Error, D)>
         requires names { self.site ≡ B.site }
         ensures seats { IfOk result (λ r. AreNewSeats B.site.board B.site.seats r.1.seats.items) }
-        ensures flush { IfOk result (λ r. IsNewFlusher D.past_of B.site.board B.site.opened r.1.flush) }
+        ensures flush { IfOk result (λ r. IsNewFlusher D.past_of D.marks B.site.board B.site.opened r.1.flush) }
         ensures device { IfOk result (λ r. device_of r.1.flush.writer ≡ self.device) }
         ensures build { IfOk result (λ r. r.1.build ≡ record { progress = 0; stopped = false }) }
         ensures clean { IfOk result (λ r. HasSeenNothing B.site.board r.1.clean) }

@@ -22,28 +22,30 @@ use Rattle.threads_flusher.specs.Images.{IsHalfFull}
 use Rattle.threads_flusher.specs.Part.{FlushValue, FlushLeaves, Publishes, last_handed, run_of}
 use Rattle.threads_loops.specs.Through.{Calls, GoesThrough, IsFlip, IsFlush, IsStep, PassesThrough, RunsThrough}
 
-module _ {D A : Type 0} (past_of : D → DevicePast) (failures : D → ℕ) (o : Opened) where
-  pub through_none : (f : FlushValue D A) → PassesThrough past_of failures o f f
-  through_none f = record { states = []; steps = refl }
-
-  pub through_taking : (old new : FlushValue D A) → TakesIn old new → PassesThrough past_of failures o old new
-  through_taking old new takes = record { states = new ∷ []; steps = (inl takes, refl) }
-
-  steps_then : (old mid new : FlushValue D A) (states more : List (FlushValue D A)) → GoesThrough past_of failures o old states mid
-      → GoesThrough past_of failures o mid more new → GoesThrough past_of failures o old (states ++ more) new
-  steps_then old mid new [] more is then = subst (λ (f : FlushValue D A). GoesThrough past_of failures o f more new) is then
+-- from state to state, and then on
+module _ {D A : Type 0} (past_of : D → DevicePast) (marks : ℕ → ℕ → Type 0) (failures : D → ℕ) (o : Opened) where
+  steps_then : (old mid new : FlushValue D A) (states more : List (FlushValue D A)) → GoesThrough past_of marks failures o old states mid
+      → GoesThrough past_of marks failures o mid more new → GoesThrough past_of marks failures o old (states ++ more) new
+  steps_then old mid new [] more is then = subst (λ (f : FlushValue D A). GoesThrough past_of marks failures o f more new) is then
   steps_then old mid new (next ∷ states) more is then = (is.0, steps_then next mid new states more is.1 then)
 
-  pub through_then : (old mid new : FlushValue D A) → PassesThrough past_of failures o old mid → PassesThrough past_of failures o mid new
-      → PassesThrough past_of failures o old new
+module _ {D A : Type 0} {marks : ℕ → ℕ → Type 0} (past_of : D → DevicePast) (failures : D → ℕ) (o : Opened) where
+  pub through_none : (f : FlushValue D A) → PassesThrough past_of marks failures o f f
+  through_none f = record { states = []; steps = refl }
+
+  pub through_taking : (old new : FlushValue D A) → TakesIn old new → PassesThrough past_of marks failures o old new
+  through_taking old new takes = record { states = new ∷ []; steps = (inl takes, refl) }
+
+  pub through_then : (old mid new : FlushValue D A) → PassesThrough past_of marks failures o old mid → PassesThrough past_of marks failures o mid new
+      → PassesThrough past_of marks failures o old new
   through_then old mid new first second = record {
     states = first.states ++ second.states;
-    steps = steps_then old mid new first.states second.states first.steps second.steps;
+    steps = steps_then past_of marks failures o old mid new first.states second.states first.steps second.steps;
   }
 
   -- a whole image was given up, as its flip was refused
-  pub through_giving : (old mid new : FlushValue D A) → copying_of old.writer ≡ Steps None → Publishes past_of old mid
-      → IsFlipReply (last_handed o old) Behind old.writer mid.writer → LeavesImage GivenUp mid new → PassesThrough past_of failures o mid new
+  pub through_giving : (old mid new : FlushValue D A) → copying_of old.writer ≡ Steps None → Publishes past_of marks old mid
+      → IsFlipReply (last_handed o old) Behind old.writer mid.writer → LeavesImage GivenUp mid new → PassesThrough past_of marks failures o mid new
   through_giving old mid new whole publishes behind leaves =
       let same : last_handed o mid ≡ last_handed o old = ap (λ (l : List RecordValue). o.given.last + length l) publishes.handed in
       let cannot : ¬ CanFlip (last_handed o mid) mid.writer = subst (λ (n : ℕ). ¬ CanFlip n mid.writer) (sym same)
@@ -54,16 +56,16 @@ module _ {D A : Type 0} (past_of : D → DevicePast) (failures : D → ℕ) (o :
       }
 
   -- an image of an earlier loop was forgotten
-  pub through_forgetting : (old new : FlushValue D A) → LeavesImage Idle old new → RunsThrough past_of failures o old new
+  pub through_forgetting : (old new : FlushValue D A) → LeavesImage Idle old new → RunsThrough past_of marks failures o old new
   through_forgetting old new leaves = record { states = []; steps = leaves }
 
   -- ---- calls of the writer
 
   module _ (old new : FlushValue D A) where
-    pub through_call : Calls past_of failures o old new → PassesThrough past_of failures o old new
+    pub through_call : Calls past_of marks failures o old new → PassesThrough past_of marks failures o old new
     through_call call = record { states = new ∷ []; steps = (inr (inl call), refl) }
 
-    counted : Calls past_of failures o old new → has_failed new.writer ≡ true → has_failed old.writer ≡ false
+    counted : Calls past_of marks failures o old new → has_failed new.writer ≡ true → has_failed old.writer ≡ false
         → Rises (failures (device_of old.writer)) (failures (device_of new.writer))
     counted call = by call.made
       where
@@ -73,15 +75,16 @@ module _ {D A : Type 0} (past_of : D → DevicePast) (failures : D → ℕ) (o :
         by (inr (inl step)) = counted_by_call failures old.writer new.writer step.result step.sound step.err
         by (inr (inr flip)) = counted_by_call failures old.writer new.writer flip.result flip.sound flip.err
 
-    pub goes_by : old.published.horizon ≤ synced_of old.writer → Calls past_of failures o old new → GoesOn past_of failures o old new
+    pub goes_by : old.published.horizon ≤ synced_of old.writer → Calls past_of marks failures o old new → GoesOn past_of failures o old new
     goes_by low call = goes_by_call past_of failures o old new low call.publishes call.geometry call.rises call.images call.later (counted call)
 
-    module _ (publishes : Publishes past_of old new) (images : LeavesOnly (past_of (device_of old.writer)) (past_of (device_of new.writer)) (FlushLeaves o old))
+    module _ (publishes : Publishes past_of marks old new)
+        (images : LeavesOnly (past_of (device_of old.writer)) (past_of (device_of new.writer)) (FlushLeaves o old))
         (later : failures (device_of old.writer) ≤ failures (device_of new.writer)) where
       pub by_flush : (result : Result FlushReply Error) → halves_of new.writer ≡ halves_of old.writer
           → IfOk result (λ reply. IsFlushReply reply old.writer new.writer) → OnOk result ((has_failed old.writer ≡ false) × (has_failed new.writer ≡ false))
           → IfErr result (λ e. IsNotFlushed failures e old.writer new.writer) → OnErr result (synced_of new.writer ≡ synced_of old.writer)
-          → OnErr result (IsBeforeFlush old.writer new.writer) → Calls past_of failures o old new
+          → OnErr result (IsBeforeFlush old.writer new.writer) → Calls past_of marks failures o old new
       by_flush result halves flushed sound err kept left = record {
         made = inl (record { result = result; flushed = flushed; sound = sound; err = err; left = left });
         publishes = publishes;
@@ -94,7 +97,7 @@ module _ {D A : Type 0} (past_of : D → DevicePast) (failures : D → ℕ) (o :
       pub by_step : (number : ℕ) (piece : Piece A) (result : Result StepReply Error) → IsChunk (run_of o old) old.writer number piece
           → (has_failed old.writer ≡ false → IsHalfFull old.writer) → IfOk result (λ reply. IsStepReply number piece reply old.writer new.writer)
           → OnOk result ((has_failed old.writer ≡ false) × (has_failed new.writer ≡ false)) → IfErr result (λ e. HasFailed failures e old.writer new.writer)
-          → synced_of new.writer ≡ synced_of old.writer → OnErr result (IsAsBefore old.writer new.writer) → Calls past_of failures o old new
+          → synced_of new.writer ≡ synced_of old.writer → OnErr result (IsAsBefore old.writer new.writer) → Calls past_of marks failures o old new
       by_step number piece result chunk late stepped sound err kept left = record {
         made = inr (inl (record {
           number = number;
@@ -117,7 +120,7 @@ module _ {D A : Type 0} (past_of : D → DevicePast) (failures : D → ℕ) (o :
       pub by_flip : (result : Result FlipReply Error) → IfOk result (λ reply. IsFlipReply (last_handed o old) reply old.writer new.writer)
           → OnOk result ((has_failed old.writer ≡ false) × (has_failed new.writer ≡ false))
           → IfErr result (λ e. HasFailed failures e old.writer new.writer) → OnErr result (synced_of new.writer ≡ synced_of old.writer)
-          → OnErr result (IsAsBefore old.writer new.writer) → Calls past_of failures o old new
+          → OnErr result (IsAsBefore old.writer new.writer) → Calls past_of marks failures o old new
       by_flip result flipped sound err kept left = record {
         made = inr (inr (record { result = result; flipped = flipped; sound = sound; err = err; left = left }));
         publishes = publishes;

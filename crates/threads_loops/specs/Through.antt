@@ -46,10 +46,10 @@ pub record IsFlip {D A : Type 0} (failures : D → ℕ) (o : Opened) (old new : 
 
 -- One call of the writer: no record was popped or handed in, and what is published is what is synced now. A crash at
 -- any moment of it leaves what one before it could, with all that were synced then.
-pub record Calls {D A : Type 0} (past_of : D → DevicePast) (failures : D
+pub record Calls {D A : Type 0} (past_of : D → DevicePast) (marks : ℕ → ℕ → Type 0) (failures : D
     → ℕ) (o : Opened) (old new : FlushValue D A) : Type 0 where
   pub made : IsFlush failures old new ⊎ (IsStep failures o old new ⊎ IsFlip failures o old new)
-  pub publishes : Publishes past_of old new
+  pub publishes : Publishes past_of marks old new
   pub geometry : (halves_of new.writer).geometry ≡ (halves_of old.writer).geometry
   pub rises : synced_of old.writer ≤ synced_of new.writer
   pub images : LeavesOnly (past_of (device_of old.writer)) (past_of (device_of new.writer)) (FlushLeaves o old)
@@ -62,23 +62,24 @@ DropsImage o old new = (copying_of old.writer ≡ Steps None) × (¬ CanFlip (la
 
 -- from each state to the next by records that were popped and handed in, or by one call of the writer, or as an image
 -- was given up; and it is the last one now
-abbrev pub GoesThrough : {D A : Type 0} → (D → DevicePast) → (D → ℕ) → Opened → FlushValue D A → List (FlushValue D A)
-    → FlushValue D A → Type 0
-GoesThrough past_of failures o old [] new = new ≡ old
-GoesThrough past_of failures o old (next ∷ states) new = (TakesIn old next
-    ⊎ (Calls past_of failures o old next ⊎ DropsImage o old next))
-    × GoesThrough past_of failures o next states new
+abbrev pub GoesThrough : {D A : Type 0} → (D → DevicePast) → (marks : ℕ → ℕ → Type 0) → (D → ℕ) → Opened
+    → FlushValue D A → List (FlushValue D A) → FlushValue D A → Type 0
+GoesThrough past_of marks failures o old [] new = new ≡ old
+GoesThrough past_of marks failures o old (next ∷ states) new = (TakesIn old next
+    ⊎ (Calls past_of marks failures o old next ⊎ DropsImage o old next))
+    × GoesThrough past_of marks failures o next states new
 
 -- there are such states
-pub record PassesThrough {D A : Type 0} (past_of : D → DevicePast) (failures : D
+pub record PassesThrough {D A : Type 0} (past_of : D → DevicePast) (marks : ℕ → ℕ → Type 0) (failures : D
     → ℕ) (o : Opened) (old new : FlushValue D A) : Type 0 where
   pub states : List (FlushValue D A)
-  pub steps : GoesThrough past_of failures o old states new
+  pub steps : GoesThrough past_of marks failures o old states new
 
 -- the flusher, whose image, if one was under way, is forgotten
 abbrev pub forgotten : {D A : Type 0} → FlushValue D A → FlushValue D A
 forgotten f = record f { writer = without_image Idle f.writer }
 
 -- A loop forgets an image of an earlier one as it begins, and goes on through such states.
-abbrev pub RunsThrough : {D A : Type 0} → (D → DevicePast) → (D → ℕ) → Opened → FlushValue D A → FlushValue D A → Type 0
-RunsThrough past_of failures o old new = PassesThrough past_of failures o (forgotten old) new
+abbrev pub RunsThrough : {D A : Type 0} → (D → DevicePast) → (marks : ℕ → ℕ → Type 0) → (D → ℕ) → Opened
+    → FlushValue D A → FlushValue D A → Type 0
+RunsThrough past_of marks failures o old new = PassesThrough past_of marks failures o (forgotten old) new

@@ -43,7 +43,7 @@ pub fn flush_loop<B: Group, D: Device, R: Wait, G: Gate, A: Memory>(
     gate: &G,
 ) -> Result<(), Error>
     ensures goes_on { GoesOn D.past_of D.failures B.site.opened part.old part.new }
-    ensures through { RunsThrough D.past_of D.failures B.site.opened part.old part.new }
+    ensures through { RunsThrough D.past_of D.marks D.failures B.site.opened part.old part.new }
     ensures stopped { OnOk result (IsTrue part.new.published.stopped × (has_failed part.new.writer ≡ false)) }
     ensures failed { IfErr result (λ e. (e ≡ DeviceFailed) × (has_failed part.new.writer ≡ true)) }
 {
@@ -60,7 +60,7 @@ pub(crate) fn flush_until<B: Group, D: Device, R: Wait, G: Gate, A: Memory>(
     ended: &AtomicU64,
 ) -> Result<(), Error>
     ensures goes_on { GoesOn D.past_of D.failures B.site.opened part.old part.new }
-    ensures through { RunsThrough D.past_of D.failures B.site.opened part.old part.new }
+    ensures through { RunsThrough D.past_of D.marks D.failures B.site.opened part.old part.new }
     ensures stopped { OnOk result ((in_run ≡ false → IsTrue part.new.published.stopped)
         × (has_failed part.new.writer ≡ false)) }
     ensures failed { IfErr result (λ e. (e ≡ DeviceFailed) × (has_failed part.new.writer ≡ true)) }
@@ -103,7 +103,7 @@ fn is_stopped<B: Group, D: Device, A: Memory>(
     part: &mut FlushPart<B, D, A>,
 ) -> bool
     ensures goes_on { GoesOn D.past_of D.failures B.site.opened part.old part.new }
-    ensures through { PassesThrough D.past_of D.failures B.site.opened part.old part.new }
+    ensures through { PassesThrough D.past_of D.marks D.failures B.site.opened part.old part.new }
     ensures copying { StandsBy part.old → StandsBy part.new }
     ensures writer { part.new.writer ≡ part.old.writer }
     ensures seen { part.new.published.stopped ≡ result }
@@ -148,7 +148,7 @@ fn round<B: Group, D: Device, R: Wait, G: Gate, A: Memory>(
 ) -> Result<(), Error>
     requires copying { StandsBy part.old }
     ensures goes_on { GoesOn D.past_of D.failures B.site.opened part.old part.new }
-    ensures through { PassesThrough D.past_of D.failures B.site.opened part.old part.new }
+    ensures through { PassesThrough D.past_of D.marks D.failures B.site.opened part.old part.new }
     ensures copying { StandsBy part.new }
     ensures image { OnOk result (IsWanted part.old → HasImage part.old part.new) }
 {
@@ -188,7 +188,7 @@ fn copy_some<B: Group, D: Device, R: Wait, G: Gate, A: Memory>(
 ) -> Result<(), Error>
     requires copying { StandsBy part.old }
     ensures goes_on { GoesOn D.past_of D.failures B.site.opened part.old part.new }
-    ensures through { PassesThrough D.past_of D.failures B.site.opened part.old part.new }
+    ensures through { PassesThrough D.past_of D.marks D.failures B.site.opened part.old part.new }
     ensures copying { StandsBy part.new }
     ensures image { OnOk result (IsWanted part.old → HasImage part.old part.new) }
 {
@@ -240,7 +240,7 @@ fn write<B: Group, D: Device, G: Gate, A: Memory>(
     gate: &G,
 ) -> Result<bool, Error>
     ensures goes_on { GoesOn D.past_of D.failures B.site.opened part.old part.new }
-    ensures through { PassesThrough D.past_of D.failures B.site.opened part.old part.new }
+    ensures through { PassesThrough D.past_of D.marks D.failures B.site.opened part.old part.new }
     ensures copying { StandsBy part.old → StandsBy part.new }
     ensures half { halves_of part.new.writer ≡ halves_of part.old.writer }
     ensures image { OnOk result (IsWanted part.old → IsWanted part.new) }
@@ -266,7 +266,7 @@ fn copy<B: Group, D: Device, R: Wait, G: Gate, A: Memory>(
 ) -> Result<(), Error>
     requires copying { StandsBy part.old }
     ensures goes_on { GoesOn D.past_of D.failures B.site.opened part.old part.new }
-    ensures through { PassesThrough D.past_of D.failures B.site.opened part.old part.new }
+    ensures through { PassesThrough D.past_of D.marks D.failures B.site.opened part.old part.new }
     ensures copying { StandsBy part.new }
     ensures image { OnOk result (IsWanted part.old → HasImage part.old part.new) }
 {
@@ -298,7 +298,7 @@ fn copy_piece<B: Group, D: Device, R: Wait, G: Gate, A: Memory>(
     requires due { next_place (copying_of part.old.writer) ≡ Some place }
     requires late { IsDue part.old }
     ensures goes_on { GoesOn D.past_of D.failures B.site.opened part.old part.new }
-    ensures through { PassesThrough D.past_of D.failures B.site.opened part.old part.new }
+    ensures through { PassesThrough D.past_of D.marks D.failures B.site.opened part.old part.new }
     ensures copying { StandsBy part.new }
     ensures image { OnOk result (IsCopied part.old part.new) }
 {
@@ -316,7 +316,7 @@ fn copy_all<B: Group, D: Device, R: Wait, G: Gate, A: Memory>(
 ) -> Result<(), Error>
     requires late { IsDue part.old }
     ensures goes_on { GoesOn D.past_of D.failures B.site.opened part.old part.new }
-    ensures through { PassesThrough D.past_of D.failures B.site.opened part.old part.new }
+    ensures through { PassesThrough D.past_of D.marks D.failures B.site.opened part.old part.new }
     ensures copying { StandsBy part.new }
     ensures image { OnOk result (IsCopied part.old part.new) }
     ensures late { IsDue part.new }
@@ -336,7 +336,7 @@ fn copied_piece<B: Group, D: Device, R: Wait, A: Memory>(
 ) -> Result<Chunk<A>, Error>
     requires due { next_place (copying_of part.old.writer) ≡ Some place }
     ensures goes_on { GoesOn D.past_of D.failures B.site.opened part.old part.new }
-    ensures through { PassesThrough D.past_of D.failures B.site.opened part.old part.new }
+    ensures through { PassesThrough D.past_of D.marks D.failures B.site.opened part.old part.new }
     ensures takes { TakesIn part.old part.new }
     ensures chunk { IfOk result (λ chunk.
         IsChunk (run_of B.site.opened part.new) part.new.writer chunk.number chunk.piece) }
@@ -358,7 +358,7 @@ fn copied_whole<B: Group, D: Device, R: Wait, A: Memory>(
     part: &mut FlushPart<B, D, A>,
 ) -> Result<Chunk<A>, Error>
     ensures goes_on { GoesOn D.past_of D.failures B.site.opened part.old part.new }
-    ensures through { PassesThrough D.past_of D.failures B.site.opened part.old part.new }
+    ensures through { PassesThrough D.past_of D.marks D.failures B.site.opened part.old part.new }
     ensures takes { TakesIn part.old part.new }
     ensures chunk { IfOk result (λ chunk.
         IsChunk (run_of B.site.opened part.new) part.new.writer chunk.number chunk.piece) }
@@ -379,7 +379,7 @@ fn take_chunk<B: Group, D: Device, A: Memory>(
     requires chunk { IsChunk (run_of B.site.opened part.old) part.old.writer chunk.number chunk.piece }
     requires late { IsDue part.old }
     ensures goes_on { GoesOn D.past_of D.failures B.site.opened part.old part.new }
-    ensures through { PassesThrough D.past_of D.failures B.site.opened part.old part.new }
+    ensures through { PassesThrough D.past_of D.marks D.failures B.site.opened part.old part.new }
     ensures copying { StandsBy part.new }
     ensures image { OnOk result (IsCopied part.old part.new) }
     ensures late { IsDue part.new }
@@ -400,7 +400,7 @@ fn flip<B: Group, D: Device, A: Memory>(
     requires whole { copying_of part.old.writer ≡ Steps None }
     requires late { IsDue part.old }
     ensures goes_on { GoesOn D.past_of D.failures B.site.opened part.old part.new }
-    ensures through { PassesThrough D.past_of D.failures B.site.opened part.old part.new }
+    ensures through { PassesThrough D.past_of D.marks D.failures B.site.opened part.old part.new }
     ensures copying { StandsBy part.new }
     ensures image { OnOk result (copying_of part.old.writer ≢ Idle → HasImage part.old part.new) }
 {

@@ -88,7 +88,7 @@ pub fn run_beside<
         × (n.clients ≡ clients)) }
     ensures clients { IfOk result (λ r. F.post clients r.0.clients) }
     ensures goes_on { IfOk result (λ r. GoesOn D.past_of D.failures B.site.opened flush r.0.flush) }
-    ensures through { IfOk result (λ r. RunsThrough D.past_of D.failures B.site.opened flush r.0.flush) }
+    ensures through { IfOk result (λ r. RunsThrough D.past_of D.marks D.failures B.site.opened flush r.0.flush) }
     ensures sound { IfOk result (λ r. OnOk r.0.flushed (has_failed r.0.flush.writer ≡ false)) }
     ensures failed { IfOk result (λ r. IfErr r.0.flushed (λ error.
         (error ≡ DeviceFailed) × (has_failed r.0.flush.writer ≡ true))) }
@@ -185,7 +185,7 @@ fn run_loops<
         × (n.clients ≡ clients)) }
     ensures clients { IfOk result (λ r. F.post clients r.clients) }
     ensures goes_on { IfOk result (λ r. GoesOn D.past_of D.failures B.site.opened flush r.flush) }
-    ensures through { IfOk result (λ r. RunsThrough D.past_of D.failures B.site.opened flush r.flush) }
+    ensures through { IfOk result (λ r. RunsThrough D.past_of D.marks D.failures B.site.opened flush r.flush) }
     ensures sound { IfOk result (λ r. OnOk r.flushed (has_failed r.flush.writer ≡ false)) }
     ensures failed { IfOk result (λ r. IfErr r.flushed (λ error.
         (error ≡ DeviceFailed) × (has_failed r.flush.writer ≡ true))) }
@@ -203,7 +203,7 @@ fn run_loops<
                 × (n.clients ≡ clients)) }
             ensures clients { IfOk result (λ r. F.post clients r.clients) }
             ensures goes_on { IfOk result (λ r. GoesOn D.past_of D.failures B.site.opened flush r.flush) }
-            ensures through { IfOk result (λ r. RunsThrough D.past_of D.failures B.site.opened flush r.flush) }
+            ensures through { IfOk result (λ r. RunsThrough D.past_of D.marks D.failures B.site.opened flush r.flush) }
             ensures sound { IfOk result (λ r. OnOk r.flushed (has_failed r.flush.writer ≡ false)) }
             ensures failed { IfOk result (λ r. IfErr r.flushed (λ error.
                 (error ≡ DeviceFailed) × (has_failed r.flush.writer ≡ true))) }
@@ -246,7 +246,7 @@ fn flush_beside<
         × (n.clients ≡ clients)) }
     ensures clients { IfOk result (λ r. F.post clients r.clients) }
     ensures goes_on { IfOk result (λ r. GoesOn D.past_of D.failures B.site.opened flush r.flush) }
-    ensures through { IfOk result (λ r. RunsThrough D.past_of D.failures B.site.opened flush r.flush) }
+    ensures through { IfOk result (λ r. RunsThrough D.past_of D.marks D.failures B.site.opened flush r.flush) }
     ensures sound { IfOk result (λ r. OnOk r.flushed (has_failed r.flush.writer ≡ false)) }
     ensures failed { IfOk result (λ r. IfErr r.flushed (λ error.
         (error ≡ DeviceFailed) × (has_failed r.flush.writer ≡ true))) }

@@ -49,7 +49,7 @@ impl<B: Group, D: Device> Promise<Result<Flushed<B, D>, FlushPart<B, D>>> for Fl
 
     ghost kept_by = { λ p result. IfErr result (λ part. part ≡ p.0.value)
         × IfOk result (λ f. GoesOn D.past_of D.failures B.site.opened p.0.value f.flush)
-        × IfOk result (λ f. RunsThrough D.past_of D.failures B.site.opened p.0.value f.flush)
+        × IfOk result (λ f. RunsThrough D.past_of D.marks D.failures B.site.opened p.0.value f.flush)
         × IfOk result (λ f. OnOk f.ended (has_failed f.flush.writer ≡ false))
         × IfOk result (λ f. IfErr f.ended (λ e. (e ≡ DeviceFailed) × (has_failed f.flush.writer ≡ true))) };
 }
@@ -64,7 +64,7 @@ fn flush_in_run<B: Group, D: Device, R: Wait, G: Gate>(
 ) -> Result<Flushed<B, D>, FlushPart<B, D>>
     ensures called_off { IfErr result (λ part. part ≡ flush) }
     ensures goes_on { IfOk result (λ f. GoesOn D.past_of D.failures B.site.opened flush f.flush) }
-    ensures through { IfOk result (λ f. RunsThrough D.past_of D.failures B.site.opened flush f.flush) }
+    ensures through { IfOk result (λ f. RunsThrough D.past_of D.marks D.failures B.site.opened flush f.flush) }
     ensures sound { IfOk result (λ f. OnOk f.ended (has_failed f.flush.writer ≡ false)) }
     ensures failed { IfOk result (λ f. IfErr f.ended (λ e.
         (e ≡ DeviceFailed) × (has_failed f.flush.writer ≡ true))) }

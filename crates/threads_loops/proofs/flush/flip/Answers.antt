@@ -19,8 +19,8 @@ returns-in_err-flip g c =
     let old = c.args.part.now in
     let new = c.flip.new.self in
     let is = c.flip.ensures in
-    let call : Calls past_of failures o old new = by_flip past_of failures o old new is.publishes is.images is.later c.flip.result is.flipped is.sound
-    is.err is.kept is.left in
+    let call : Calls past_of g.D.Device.marks failures o old new = by_flip past_of failures o old new is.publishes is.images is.later c.flip.result is.flipped
+    is.sound is.err is.kept is.left in
     let p = err_from_is_err_and c.from_residual.result c.from_residual.ensures.1 in
     rw p.1 (record {
       goes_on = goes_by past_of failures o old new c.stands.ensures.horizon call;
@@ -37,8 +37,8 @@ returns-in-Flipped g c =
     let old = c.args.part.now in
     let new = c.flip.new.self in
     let is = c.flip.ensures in
-    let call : Calls past_of failures o old new = by_flip past_of failures o old new is.publishes is.images is.later c.flip.result is.flipped is.sound
-    is.err is.kept is.left in
+    let call : Calls past_of g.D.Device.marks failures o old new = by_flip past_of failures o old new is.publishes is.images is.later c.flip.result is.flipped
+    is.sound is.err is.kept is.left in
     let flipped : IsFlipReply (last_handed o old) (Flipped c.in-Flipped.field-0) old.writer new.writer =
     subst (λ (r : FlipReply). IsFlipReply (last_handed o old) r old.writer new.writer) c.in-Flipped.is c.in_ok-flip.ensures.flipped in
     record {
@@ -56,8 +56,8 @@ returns-then-may_wait g c =
     let old = c.args.part.now in
     let new = c.flip.new.self in
     let is = c.flip.ensures in
-    let call : Calls past_of failures o old new = by_flip past_of failures o old new is.publishes is.images is.later c.flip.result is.flipped is.sound
-    is.err is.kept is.left in
+    let call : Calls past_of g.D.Device.marks failures o old new = by_flip past_of failures o old new is.publishes is.images is.later c.flip.result is.flipped
+    is.sound is.err is.kept is.left in
     let behind : IsFlipReply (last_handed o old) Behind old.writer new.writer =
     subst (λ (r : FlipReply). IsFlipReply (last_handed o old) r old.writer new.writer) c.in-Behind.is c.in_ok-flip.ensures.flipped in
     record {
@@ -76,8 +76,8 @@ returns-else-may_wait g c =
     let new = c.flip.new.self in
     let last = c.give_up.new.self in
     let is = c.flip.ensures in
-    let call : Calls past_of failures o old new = by_flip past_of failures o old new is.publishes is.images is.later c.flip.result is.flipped is.sound
-    is.err is.kept is.left in
+    let call : Calls past_of g.D.Device.marks failures o old new = by_flip past_of failures o old new is.publishes is.images is.later c.flip.result is.flipped
+    is.sound is.err is.kept is.left in
     let behind : IsFlipReply (last_handed o old) Behind old.writer new.writer =
     subst (λ (r : FlipReply). IsFlipReply (last_handed o old) r old.writer new.writer) c.in-Behind.is c.in_ok-flip.ensures.flipped in
     record {

@@ -31,7 +31,7 @@ loop-preserved g c =
     let mid = c.is_stopped.new.part in
     let new = c.round.new.part in
     let goes : GoesOn past_of failures o old mid = goes_then past_of failures o old was mid c.loop.invariant.goes_on c.is_stopped.ensures.goes_on in
-    let through : RunsThrough past_of failures o old mid = through_then past_of failures o _ was mid c.loop.invariant.through
+    let through : RunsThrough past_of g.D.Device.marks failures o old mid = through_then past_of failures o _ was mid c.loop.invariant.through
     c.is_stopped.ensures.through in
     record {
       goes_on = goes_then past_of failures o old mid new goes c.round.ensures.goes_on;

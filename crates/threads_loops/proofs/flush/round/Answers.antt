@@ -42,7 +42,7 @@ returns g c =
     let takes = c.take_records-looked.ensures.takes in
     let goes : GoesOn past_of failures o old mid = goes_then past_of failures o old got mid
     (goes_by_taking past_of failures o old got c.stands.ensures takes) c.write.ensures.goes_on in
-    let through : PassesThrough past_of failures o old mid = through_then past_of failures o old got mid
+    let through : PassesThrough past_of g.D.Device.marks failures o old mid = through_then past_of failures o old got mid
     (through_taking past_of failures o old got takes) c.write.ensures.through in
     record {
       goes_on = goes_then past_of failures o old mid new goes c.copy_some.ensures.goes_on;

@@ -23,7 +23,7 @@ returns-in_err-reply g c =
     let old = c.args.part.now in
     let new = c.flush-flushed.new.self in
     let is = c.flush-flushed.ensures in
-    let call : Calls past_of failures o old new = by_flush past_of failures o old new is.publishes is.images is.later c.flush-flushed.result
+    let call : Calls past_of g.D.Device.marks failures o old new = by_flush past_of failures o old new is.publishes is.images is.later c.flush-flushed.result
     is.around.halves-are is.flushed is.sound is.err is.kept is.left in
     let p = err_from_is_err_and c.from_residual.result c.from_residual.ensures.1 in
     rw p.1 (record {
@@ -42,7 +42,7 @@ returns g c =
     let old = c.args.part.now in
     let new = c.flush-flushed.new.self in
     let is = c.flush-flushed.ensures in
-    let call : Calls past_of failures o old new = by_flush past_of failures o old new is.publishes is.images is.later c.flush-flushed.result
+    let call : Calls past_of g.D.Device.marks failures o old new = by_flush past_of failures o old new is.publishes is.images is.later c.flush-flushed.result
     is.around.halves-are is.flushed is.sound is.err is.kept is.left in
     record {
       goes_on = goes_by past_of failures o old new c.stands.ensures.horizon call;

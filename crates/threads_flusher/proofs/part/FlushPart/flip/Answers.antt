@@ -10,22 +10,21 @@ publish-requires g c =
     let stands = c.self.invariant.2 in
     record {
       board = c.self.invariant.4 ∙ sym c.requires;
-      horizon = may_publish g.D.Device.past_of g.B.Group.site.opened _ _ _ _ _ (c.self.invariant.1, c.self.invariant.2) made.new.self
+      horizon = may_publish g.D.Device.past_of g.D.Device.marks g.B.Group.site.opened _ _ _ _ _ (c.self.invariant.1, c.self.invariant.2) made.new.self
           (flip_rises failures c.self.inside.writer made.new.self _ made.result (made.ensures.flipped _ _ stands.writer) made.ensures.kept);
-      failed = may_tell g.D.Device.past_of g.B.Group.site.opened _ _ _ _ _ (c.self.invariant.1, c.self.invariant.2) made.new.self
+      failed = may_tell g.D.Device.past_of g.D.Device.marks g.B.Group.site.opened _ _ _ _ _ (c.self.invariant.1, c.self.invariant.2) made.new.self
           (still_sound failures c.self.inside.writer made.new.self made.result made.ensures.sound made.ensures.err);
     }
 
 pub invariant_of-self : goal.invariant_of-self
 invariant_of-self g c =
-    let kept = kept_by_call g.D.Device.past_of g.B.Group.site.opened _ _ _ _ _ (c.self.invariant.1, c.self.invariant.2)
+    let kept = kept_by_call g.D.Device.past_of g.D.Device.marks g.B.Group.site.opened _ _ _ _ _ (c.self.invariant.1, c.self.invariant.2)
     c.checkpoint_flip-flipped.new.self c.publish.new.view _ (noted_as g.D.Device.past_of _ _ _ c.publish.ensures.noted)
     (c.checkpoint_flip-flipped.ensures.writer _ _ c.self.invariant.2.writer) c.checkpoint_flip-flipped.ensures.images
     (flip_rises g.D.Device.failures c.self.inside.writer c.checkpoint_flip-flipped.new.self _ c.checkpoint_flip-flipped.result
     (c.checkpoint_flip-flipped.ensures.flipped _ _ c.self.invariant.2.writer) c.checkpoint_flip-flipped.ensures.kept)
-    (ap (λ (n : FlusherCount). n.horizon) c.publish.ensures.published)
-    (ap (λ (n : FlusherCount). n.failed) c.publish.ensures.published) in
-    (c.self.invariant.0, kept.0, kept.1, c.self.invariant.3, ap (λ (n : FlusherCount). n.board) c.publish.ensures.published ∙ c.self.invariant.4)
+    c.publish.ensures.published in
+    (c.self.invariant.0, kept.0, kept.1, c.self.invariant.3, ap (λ (n : FlusherCount). n.board) c.publish.ensures.published.2 ∙ c.self.invariant.4)
 
 pub returns : goal.returns
 returns g c =
@@ -36,10 +35,12 @@ returns g c =
       publishes = record {
         handed = refl;
         held = refl;
-        published = c.publish.ensures.published;
+        mark = c.publish.ensures.published.0;
+        marked = c.publish.ensures.published.1;
+        published = c.publish.ensures.published.2;
         noted = noted_as g.D.Device.past_of _ _ _ c.publish.ensures.noted;
       };
-      images = images_of g.D.Device.past_of g.B.Group.site.opened _ made.new.self stands made.ensures.images;
+      images = images_of g.D.Device.past_of g.D.Device.marks g.B.Group.site.opened _ made.new.self stands made.ensures.images;
       flipped = made.ensures.flipped _ _ stands.writer;
       behind = made.ensures.behind _ _ stands.writer;
       sound = made.ensures.sound;

@@ -16,7 +16,7 @@ compare-requires g c = record { queue = c.requires; popper = c.self.invariant.0 
 pub hand_in-requires : goal.hand_in-requires
 hand_in-requires g c =
     let same : c.replace-held.result.items ≡ c.self.inside.held.items = ap (λ v. v.items) c.replace-held.ensures.value in
-    can_hand_in g.D.Device.past_of g.B.Group.site.opened _ _ _ _ _ (
+    can_hand_in g.D.Device.past_of g.D.Device.marks g.B.Group.site.opened _ _ _ _ _ (
       c.self.invariant.1,
       c.self.invariant.2,
     ) c.compare.ensures.following c.compare.ensures.fits c.goes_on.ensures c.longer_run.ensures.next _ same
@@ -32,7 +32,7 @@ invariant_of-self g c =
     let opens : MayOpenAgain g.B.Group.site.opened c.self.inside.popper.records =
     popped_open g.B.Group.site.opened (value_of l.core) l.pusher.records
     (map shown l.book.items) c.self.inside.popper.records c.compare.ensures.beginning l.shared in
-    let kept = kept_by_taking g.D.Device.past_of g.B.Group.site.opened _ _ _ _ _ (
+    let kept = kept_by_taking g.D.Device.past_of g.D.Device.marks g.B.Group.site.opened _ _ _ _ _ (
       c.self.invariant.1,
       c.self.invariant.2,
     ) c.compare.ensures.following c.compare.ensures.fits c.goes_on.ensures c.longer_run.ensures.next _ same opens
@@ -41,7 +41,7 @@ invariant_of-self g c =
       ap (λ (p : Handed). p.queue) c.compare.ensures.popper ∙ c.self.invariant.0,
       kept.0,
       kept.1,
-      last_then g.D.Device.past_of g.B.Group.site.opened _ _ _ _ _ (
+      last_then g.D.Device.past_of g.D.Device.marks g.B.Group.site.opened _ _ _ _ _ (
         c.self.invariant.1,
         c.self.invariant.2,
       ) _ c.self.invariant.3 _ same c.len-more.result c.compare.new.popper.records c.replace-held.new.dest.items c.hand_in.new.self
@@ -107,7 +107,7 @@ invariant_of-self-in-Err g c =
     let same : c.replace-held.result.items ≡ c.self.inside.held.items = ap (λ v. v.items) c.replace-held.ensures.value in
     let all : c.compare.new.popper.records ≡ c.self.inside.popper.records = ap (λ (p : Handed). p.records) c.compare.ensures.popper in
     let o = g.B.Group.site.opened in
-    let kept = kept_by_refusal g.D.Device.past_of o _ _ _ _ _ (
+    let kept = kept_by_refusal g.D.Device.past_of g.D.Device.marks o _ _ _ _ _ (
       c.self.invariant.1,
       c.self.invariant.2,
     ) c.compare.ensures.following c.compare.ensures.fits c.goes_on.ensures c.longer_run.ensures.next _ same

@@ -8,7 +8,8 @@ use Rattle.threads_flusher.proofs.part.FlushPart.take.Goals as goal
 
 pub loop-init : goal.loop-init
 loop-init g c =
-    let begun = begins_popping g.D.Device.past_of g.B.Group.site.opened _ _ _ _ _ _ c.self.view_is (c.self.invariant.1, c.self.invariant.2) in (
+    let begun = begins_popping g.D.Device.past_of g.D.Device.marks g.B.Group.site.opened _ _ _ _ _ _ c.self.view_is
+    (c.self.invariant.1, c.self.invariant.2) in (
       c.self.invariant.0,
       c.self.invariant.4,
       begun.0,
@@ -56,7 +57,7 @@ returns-in_err-reserve g c =
     ◌∙◌ {A = List RecordValue} {c = old.held ++ more} c.reserve.ensures.items held in
     let p = err_from_is_err_and c.from_residual.result c.from_residual.ensures.1 in
     rw p.1 (record {
-      takes = (more, value_is g.D.Device.past_of g.B.Group.site.opened old more _ _ _ _ _ popped kept same told noted);
+      takes = (more, value_is g.D.Device.past_of g.D.Device.marks g.B.Group.site.opened old more _ _ _ _ _ popped kept same told noted);
       no_memory = p.2;
     })
 
@@ -67,7 +68,7 @@ invariant_of-self g c =
     let old : FlushValue g.row.D.Denot g.row.A.Denot = c.args.self.now in
     let kept : c.reserve.new.self.items ≡ old.held ++ more =
     ◌∙◌ {A = List RecordValue} {c = old.held ++ more} c.reserve.ensures.items held in
-    let is = kept_by_popping g.D.Device.past_of g.B.Group.site.opened old more _ _ _ _ _ _ popped kept same told noted stands last in
+    let is = kept_by_popping g.D.Device.past_of g.D.Device.marks g.B.Group.site.opened old more _ _ _ _ _ _ popped kept same told noted stands last in
     (queue, is.0, is.1, is.2, board)
 
 pub returns-in-None-pop : goal.returns-in-None-pop
@@ -80,7 +81,7 @@ returns-in-None-pop g c =
     let kept : c.reserve.new.self.items ≡ old.held ++ more =
     ◌∙◌ {A = List RecordValue} {c = old.held ++ more} c.reserve.ensures.items held in
     record {
-      takes = (more, value_is g.D.Device.past_of g.B.Group.site.opened old more _ _ _ _ _ all kept same told noted);
+      takes = (more, value_is g.D.Device.past_of g.D.Device.marks g.B.Group.site.opened old more _ _ _ _ _ all kept same told noted);
       no_memory = tt;
     }
 
@@ -93,5 +94,5 @@ invariant_of-self-in-None-pop g c =
     ◌∙◌ {A = List RecordValue} {c = old.handed ++ (old.held ++ more)} (ap (λ (p : Handed). p.records) c.in-None-pop.ensures) popped in
     let kept : c.reserve.new.self.items ≡ old.held ++ more =
     ◌∙◌ {A = List RecordValue} {c = old.held ++ more} c.reserve.ensures.items held in
-    let is = kept_by_popping g.D.Device.past_of g.B.Group.site.opened old more _ _ _ _ _ _ all kept same told noted stands last in
+    let is = kept_by_popping g.D.Device.past_of g.D.Device.marks g.B.Group.site.opened old more _ _ _ _ _ _ all kept same told noted stands last in
     (◌∙◌ {c = g.B.Group.site.queue} (ap (λ (p : Handed). p.queue) c.in-None-pop.ensures) queue, is.0, is.1, is.2, board)
