@@ -33,6 +33,6 @@ pub record IsOpening {A : Type 0} (count : ℕ) (o : Opening A) : Type 0 where
   pub counted : (length o.book.items ≡ count) × (length o.halves.items ≡ count)
   pub book : IsNew o.registry o.book.items
   pub halves : IsNew o.registry o.halves.items
-  pub flush : o.flush ≡ record { board = o.board; horizon = 0; failed = false; stopped = false }
+  pub flush : o.flush ≡ record { board = o.board; horizon = 0; failed = false; stopped = false; notes = [] }
   pub build : o.build ≡ record { board = o.board; progress = 0; stopped = false }
   pub view : o.view ≡ nothing_seen o.board

@@ -1,8 +1,9 @@
 //! What a seat learns from the board. No call here takes the lock.
-ghost use Rattle.std.specs.Prelude.{◌≡◌, ◌≤◌, ◌↔◌, ◌<◌, false, true, IfErr, IfNone, IfOk, IfSome, IsTrue};
+ghost use Rattle.std.specs.Prelude.{◌≡◌, ◌≢◌, ◌≤◌, ◌↔◌, ◌<◌, false, true, IfErr, IfNone, IfOk, IfSome, IsTrue};
+ghost use Rattle.std.specs.Prelude.{unwrap_or};
 ghost use Rattle.shared.specs.Waits.{HasReadWhy, IsAcked, IsNotAcked};
 
-use crate::seat::{Ack, Seat};
+use crate::seat::{Ack, Seat, mark_in};
 use crate::shared::Shared;
 use locked_core::{Group, Memory};
 use nsf_core::Ticket;
@@ -35,6 +36,24 @@ impl<B: Group, A: Memory> Shared<B, A> {
         ensures rises { seat.old.sight.horizon ≤ seat.new.sight.horizon }
     {
         self.board.horizon(&mut seat.view) >= ticket.record.get()
+    }
+
+    /// The mark that goes with the last horizon which the flusher has published: a number of the device's clock. `None`
+    /// where that has no clock. It takes no memory and waits for nothing.
+    ///
+    /// The seat keeps beside it the horizon that it has seen by now. A crash at any moment since the marked one keeps
+    /// that horizon (`settle` of `FlushPart`).
+    pub fn mark<K: Keeping>(&self, seat: &mut Seat<B, A, K>) -> Option<u64>
+        ensures seen { seat.new ≡ record seat.old {
+          sight = record seat.old.sight {
+            mark = unwrap_or result 0;
+            safe = seat.old.sight.horizon;
+          };
+        } }
+        ensures marked { IfSome result (λ mark. mark ≢ 0) }
+    {
+        seat.mark = self.board.mark(&mut seat.view);
+        mark_in(seat.mark)
     }
 
     // An acknowledgement, where the horizon that is read reaches the record.

@@ -101,7 +101,7 @@ impl<A: Memory> Opening<A> {
         ensures seats { IfOk result (λ r. AreNewSeats B.site.board B.site.seats r.1.seats.items) }
         ensures popper { IfOk result (λ r. r.1.ends.popper ≡ record { queue = B.site.queue; records = [] }) }
         ensures flush { IfOk result (λ r. r.1.ends.published
-            ≡ record { board = B.site.board; horizon = 0; failed = false; stopped = false }) }
+            ≡ record { board = B.site.board; horizon = 0; failed = false; stopped = false; notes = [] }) }
         ensures build { IfOk result (λ r. r.1.build ≡ record { progress = 0; stopped = false }) }
         ensures clean { IfOk result (λ r. HasSeenNothing B.site.board r.1.clean) }
         ensures no_memory { IfErr result (λ e. e ≡ NoMemory) }
@@ -166,7 +166,11 @@ fn seats_of<B: Group, A: Memory, K: Keeping>(
     for half in halves {
         let view = board.another(&mut view);
         let part = SeatPart::new(alloc, number, half);
-        seats.push(Seat { part, view })?;
+        seats.push(Seat {
+            part,
+            view,
+            mark: 0,
+        })?;
         number += 1;
     }
     Ok(seats)

@@ -1,5 +1,5 @@
 //! A seat, and what it is given for a ticket.
-ghost use Rattle.std.specs.Prelude.{◌≡◌};
+ghost use Rattle.std.specs.Prelude.{◌≡◌, ◌≢◌, IfSome, unwrap_or};
 
 use board::View;
 use locked_core::{Group, Memory, SeatPart};
@@ -15,6 +15,8 @@ use threads_sessions::{Keeping, Told};
 pub struct Seat<B: Group, A: Memory = Global, K: Keeping = Told> {
     pub(crate) part: SeatPart<B, A, K>,
     pub(crate) view: View,
+    // The mark that it has read last, or 0.
+    pub(crate) mark: u64,
 }
 
 impl<B: Group, A: Memory, K: Keeping> Model for Seat<B, A, K> {
@@ -25,7 +27,7 @@ impl<B: Group, A: Memory, K: Keeping> Model for Seat<B, A, K> {
 
     ghost view = { λ s. record { number = s.part.number; session = s.part.session; sight = s.view } };
 
-    ghost invariant = { λ s. s.view.board ≡ B.site.board };
+    ghost invariant = { λ s. (s.view.board ≡ B.site.board) × (s.mark ≡ s.view.mark) };
 }
 
 /// Says that the record of a ticket is safe on the device. To a contract it is an `AckValue`.
@@ -71,4 +73,19 @@ impl<B: Group, A: Memory, K: Keeping> Seat<B, A, K> {
     {
         self.part.unfinished(txn)
     }
+
+    /// The mark that the seat has read last, or 0 where it has read none.
+    pub fn last_mark(&self) -> u64
+        ensures { result ≡ self.now.sight.mark }
+    {
+        self.mark
+    }
+}
+
+// The mark that a word of the board is, unless it is 0.
+pub(crate) fn mark_in(word: u64) -> Option<u64>
+    ensures word { unwrap_or result 0 ≡ word }
+    ensures marked { IfSome result (λ mark. mark ≢ 0) }
+{
+    if word == 0 { None } else { Some(word) }
 }

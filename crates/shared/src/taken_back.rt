@@ -22,7 +22,11 @@ impl<B: Group, A: Memory, K: Keeping> Seat<B, A, K> {
     pub fn into_session(self) -> Session<A, K>
         ensures { result ≡ self.session }
     {
-        let Seat { part, view: _ } = self;
+        let Seat {
+            part,
+            view: _,
+            mark: _,
+        } = self;
         part.into_session()
     }
 }

@@ -1,9 +1,10 @@
 //! Views of the board for threads that have no seat.
-ghost use Rattle.std.specs.Prelude.{◌≡◌, ◌≤◌, false, true, IsTrue};
+ghost use Rattle.std.specs.Prelude.{◌≡◌, ◌≢◌, ◌≤◌, false, true, IfSome, IsTrue, unwrap_or};
 ghost use Rattle.board.specs.Views.{leaves_as, stays_as};
 ghost use Rattle.store_writer.specs.Parts.{has_failed, synced_of};
+ghost use Rattle.threads_flusher.specs.Part.{IsSafeSince};
 
-use crate::seat::Seat;
+use crate::seat::{Seat, mark_in};
 use crate::shared::Shared;
 use board::View;
 use locked_core::{Group, Memory};
@@ -64,6 +65,14 @@ impl<B: Group> GroupView<B> {
         shared.board.horizon(&mut self.view)
     }
 
+    /// A mark, as `Shared::mark` answers it. The view keeps beside it the horizon that it has seen by now.
+    pub fn mark<A: Memory>(&mut self, shared: &Shared<B, A>) -> Option<u64>
+        ensures seen { self.new ≡ record self.old { mark = unwrap_or result 0; safe = self.old.horizon } }
+        ensures marked { IfSome result (λ mark. mark ≢ 0) }
+    {
+        mark_in(shared.board.mark(&mut self.view))
+    }
+
     /// Whether the flusher has published that its device failed. It stays true once this view has seen it.
     pub fn failed<A: Memory>(&mut self, shared: &Shared<B, A>) -> bool
         ensures seen { self.new ≡ record self.old { failed = result; checked = true } }
@@ -73,8 +82,9 @@ impl<B: Group> GroupView<B> {
     }
 
     /// Compares what this view has seen with what the flusher has published: no horizon that it has seen is above the
-    /// last synced record, and a failed flag that it has seen is true. Nothing changes but the view, which has now seen
-    /// the horizon and the failed flag that were published.
+    /// last synced record, and a failed flag that it has seen is true. The horizon that it had seen with its mark was
+    /// published at the moment that this marks, or before. Nothing changes but the view, which has now seen the horizon
+    /// and the failed flag that were published.
     pub fn settle<D: Device, A: Memory>(
         &mut self,
         shared: &Shared<B, A>,
@@ -83,6 +93,7 @@ impl<B: Group> GroupView<B> {
         ensures same { flush.new ≡ flush.old }
         ensures horizon { self.old.horizon ≤ flush.old.published.horizon }
         ensures synced { self.old.horizon ≤ synced_of flush.old.writer }
+        ensures noted { IsSafeSince D.marks flush.old.publications self.old.safe self.old.mark }
         ensures failed { IsTrue self.old.failed → has_failed flush.old.writer ≡ true }
         ensures informed { self.new ≡ record self.old {
           horizon = flush.old.published.horizon;

@@ -21,7 +21,12 @@ new-part-requires g c = record {
 }
 
 pub invariant_of-push : goal.invariant_of-push
-invariant_of-push g c = ap (λ (v : Sighting). v.board) c.another-view.ensures.leaves ∙ c.loop-half.invariant.board
+invariant_of-push g c =
+    let leaves = c.another-view.ensures.leaves in
+    let was = c.loop-half.invariant in (
+      ap (λ (v : Sighting). v.board) leaves ∙ was.board,
+      sym (ap (λ (v : Sighting). v.mark) leaves ∙ ap (λ (v : Sighting). v.mark) was.nothing),
+    )
 
 pub returns-in_err-push : goal.returns-in_err-push
 returns-in_err-push g c =

@@ -70,7 +70,7 @@ returns g c =
       popper = ap (λ (e : EndsValue). e.popper) c.new-2.ensures
           ∙ (made.popper ∙ ap (λ (n : Names). record { queue = n.queue; records = [] }) c.requires.names);
       flush = ap (λ (e : EndsValue). e.published) c.new-2.ensures
-          ∙ (made.flush ∙ ap (λ (n : Names). record { board = n.board; horizon = 0; failed = false; stopped = false }) c.requires.names);
+          ∙ (made.flush ∙ ap (λ (n : Names). record { board = n.board; horizon = 0; failed = false; stopped = false; notes = [] }) c.requires.names);
       build = c.new-3.ensures ∙ ap (λ (v : BuilderCount). record { progress = v.progress; stopped = v.stopped }) made.build;
       clean = subst (λ v. HasSeenNothing g.B.Group.site.board v) (sym c.new-clean.ensures)
           (sees_nothing g.B.Group.site.board c.args.self.view _ _ nothing c.another-clean_view.ensures.leaves);
