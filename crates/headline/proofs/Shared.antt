@@ -1,6 +1,10 @@
 -- What a store is found with that clients used, until it stopped.
+use Rattle.std.proofs.Common.{zero, suc, ◌∷◌}
 use Rattle.std.proofs.Common.{◌≡◌, ◌≢◌, ⊎_elim, inl, inr, ℕ, ◌+◌, ◌≤◌, ◌<◌, ◌++◌, Bool, true, false, List, [], length, take, refl, sym, ap, subst, ◌∙◌}
-use Rattle.std.proofs.Common.{arith, Result, Ok, Err, IfErr, OnOk, Option, None, Some, IfSome, length-take}
+use Rattle.std.proofs.Common.{arith, map, Result, Ok, Err, IfErr, OnOk, Option, None, Some, IfSome, length-take}
+use Rattle.std.specs.Prelude.{slice_get, slice_index_or}
+use mathlib.Core.Logic.{dite}
+use native.Mathlib.Decide.{ℕ_discrete}
 use Rattle.std.proofs.Math.Logic.{∥∥₁_elim, ∥∥₁_map, ∥∥₁_prop}
 use Rattle.std.proofs.lemmas.Bool.{cases_lt}
 use Rattle.std.specs.Coded.{le_prop}
@@ -18,6 +22,9 @@ use Rattle.sector_device.proofs.Moments.{content_at_end}
 use Rattle.sector_device.proofs.Sectors.{content_is_image}
 use Rattle.store_reader.specs.Contents.{Gives}
 use Rattle.shared.specs.Seats.{SeatValue}
+use Rattle.threads_flusher.specs.Part.{IsKeptSince, IsSafeSince, Publication}
+use Rattle.std.proofs.lemmas.List.Elements.{All-contains}
+use Rattle.std.proofs.lemmas.Option.{get_or_from_slice_get, slice_get_within}
 use Rattle.threads_sessions.specs.Values.{CommitValue}
 use Rattle.threads_lifetime.specs.Closing.{GivesAll, GivesSome, IsCoreOf, table_with, up_to}
 use Rattle.threads_lifetime.specs.Gathered.{AreCommitsOf}
@@ -32,37 +39,55 @@ use Rattle.restart.specs.Reopening.{IsNotOpened, IsTurned}
 use Rattle.restart.specs.Store.{over}
 use Rattle.headline.specs.declared.day.Day.{Day}
 use Rattle.headline.specs.declared.shared_day.End.{End}
-use Rattle.headline.specs.declared.shared_day.End.TheVariants.{Behind, Closing, Opening}
+use Rattle.headline.specs.declared.shared_day.End.TheVariants.{Behind, Closing, Opening, Since}
 use Rattle.headline.specs.declared.shared_day.SharedAnswer.{SharedAnswer}
 use Rattle.headline.specs.declared.shared_day.SharedDay.{SharedDay}
 use Rattle.headline.specs.AtRest.{AtRest, resting}
-use Rattle.headline.specs.Beside.{HasLivedBeside, IsNotLivedBeside}
+use Rattle.headline.specs.Beside.{HasLivedBeside, IsNotLivedBeside, KeepsSafe, MayStopEarly}
 use Rattle.headline.specs.Days.{Answer, IsUnopened}
 use Rattle.headline.specs.Held.{HasLived, IsNotBuilt, IsNotReopened, IsUnbuilt}
 use Rattle.headline.specs.Kept.{EndsBuild, FindsShared, GivesDays, IsBegun, KeepsDays}
-use Rattle.headline.specs.Stops.{StopsAt}
+use Rattle.headline.specs.Stops.{StopsAt, mark_read}
 use Rattle.headline.proofs.Holding.{behind, not_reopened, unbuilt}
 use Rattle.headline.proofs.Stopped.{GivesBack, Images, between, now_gives, why_unopened}
 
 -- what the clients left of one opening they left of another that is the same, and the device was marked as they had ended
 pub worked_over : {C D : Type 0} (past_of : D → DevicePast) (works : C → C → SeatValue → SeatValue → Type 0) (marks : ℕ → ℕ → Type 0) (mark : ℕ)
-    (clients after : List C) (opened device : D) (written : Result Unit Error) (shown : D → Type 0) (x y : Opened) → x ≡ y
-    → (work : LeavesWork past_of works x clients after opened device written)
+    (clients after : List C) (opened device : D) (written : Result Unit Error) (shown : D → Type 0) (read : List ℕ) (x y : Opened) → x ≡ y
+    → (work : LeavesWork past_of marks works x clients after opened device written)
     → (ended : HadEnded past_of shown x work.leaves.geometry work.seats work.leaves.popped work.floor opened device)
-    → marks mark (past_of ended.was).moment
-    → (work : LeavesWork past_of works y clients after opened device written)
+    → marks mark (past_of ended.was).moment → read ≡ map (λ (s : SeatValue). s.sight.mark) work.seats
+    → (work : LeavesWork past_of marks works y clients after opened device written)
     × (ended : HadEnded past_of shown y work.leaves.geometry work.seats work.leaves.popped work.floor opened device)
-    × marks mark (past_of ended.was).moment
-worked_over past_of works marks mark clients after opened device written shown x y same work ended marked =
-    subst (λ (o : Opened). (work : LeavesWork past_of works o clients after opened device written)
+    × marks mark (past_of ended.was).moment × (read ≡ map (λ (s : SeatValue). s.sight.mark) work.seats)
+worked_over past_of works marks mark clients after opened device written shown read x y same work ended marked are =
+    subst (λ (o : Opened). (work : LeavesWork past_of marks works o clients after opened device written)
     × (ended : HadEnded past_of shown o work.leaves.geometry work.seats work.leaves.popped work.floor opened device)
-    × marks mark (past_of ended.was).moment) same (work, ended, marked)
+    × marks mark (past_of ended.was).moment × (read ≡ map (λ (s : SeatValue). s.sight.mark) work.seats)) same (work, ended, marked, are)
 
--- neither behind all that was done, nor as the clients had ended
-within_opening : (end : End) → (end ≡ Behind → ⊥) → (end ≡ Closing → ⊥) → end ≡ Opening
-within_opening Behind behind closing = absurd (behind refl)
-within_opening Closing behind closing = absurd (closing refl)
-within_opening Opening behind closing = refl
+-- ---- what a client has read
+
+at_mark : {X : Type 0} (f : X → ℕ) (xs : List X) (k : ℕ) → slice_index_or (map f xs) k 0 ≢ 0
+    → (x : X) × (slice_get xs k ≡ Some x) × (f x ≡ slice_index_or (map f xs) k 0)
+at_mark f [] k not = absurd (not refl)
+at_mark f (x ∷ xs) zero not = (x, refl, refl)
+at_mark f (x ∷ xs) (suc k) not = at_mark f xs k not
+
+mark_at : {X : Type 0} (f : X → ℕ) (xs : List X) (k : ℕ) (x : X) → slice_get xs k ≡ Some x → slice_index_or (map f xs) k 0 ≡ f x
+mark_at f [] k x at = absurd cc
+mark_at f (y ∷ xs) zero x at = ap f cc
+mark_at f (y ∷ xs) (suc k) x at = mark_at f xs k x at
+
+some_is : {X : Type 0} (a b : X) → Some a ≡ Some b → a ≡ b
+some_is a b e = cc
+
+-- neither behind all that was done, nor as the clients had ended, nor since one had read a mark
+within_opening : (end : End) (seats : List SeatValue) → (end ≡ Behind → ⊥) → (end ≡ Closing → ⊥)
+    → ((k : ℕ) (s : SeatValue) → end ≡ Since k → slice_get seats k ≡ Some s → s.sight.mark ≡ 0) → MayStopEarly end seats
+within_opening Behind seats behind closing none = behind refl
+within_opening Closing seats behind closing none = closing refl
+within_opening (Since k) seats behind closing none = λ s at. none k s refl at
+within_opening Opening seats behind closing none = tt
 
 on_ok : {T E : Type 0} (P Q : Type 0) (r : Result T E) → (P → Q) → OnOk r P → OnOk r Q
 on_ok P Q (Ok x) more is = more is
@@ -89,12 +114,87 @@ module _ {D M C : Type 0} (past_of : D → DevicePast) (failures : D → ℕ) (w
   abbrev o : Opened
   o = over g first
 
+  -- the seat has read a mark of this moment, since which all is kept up to the horizon that it had seen
+  pub record ReadsAt (h : GeometryValue) (seats : List SeatValue) (popped : List RecordValue) (opened after : D) (moment : ℕ) (s : SeatValue) : Type 0 where
+    published : Publication
+    is : published.moment ≡ moment
+    behind : (past_of opened).moment ≤ published.moment
+    reaches : s.sight.safe ≤ published.horizon
+    kept : IsKeptSince (λ floor image. ∥ GivesSome o h seats popped floor image ∥₁) (past_of after) published
+
+  -- the moment of the mark that the day's client has read, or that of the opening, where it has read none
+  pub read_at : (end : End) (marks : ℕ → ℕ → Type 0) (clients others : List C) (opened after : D) (written : Result Unit Error)
+      (work : LeavesWork past_of marks works o clients others opened after written) (read : List ℕ) (opening mark : ℕ)
+      → read ≡ map (λ (s : SeatValue). s.sight.mark) work.seats → (mark_read end read ≡ 0 → mark ≡ opening)
+      → (mark_read end read ≢ 0 → mark ≡ mark_read end read)
+      → marks opening (past_of before).moment → (past_of before).moment ≤ (past_of opened).moment
+      → (moment : ℕ) × marks mark moment × ((past_of before).moment ≤ moment) × (moment ≤ (past_of after).moment)
+      × ((k : ℕ) (s : SeatValue) → end ≡ Since k → slice_get work.seats k ≡ Some s → s.sight.mark ≢ 0
+      → ReadsAt work.leaves.geometry work.seats work.leaves.popped opened after moment s)
+  read_at Behind marks clients others opened after written work read opening mark are none one marked low =
+      let m = (past_of before).moment in
+      (m, subst (λ (n : ℕ). marks n m) (sym (none refl)) marked, omega arith, omega (arith, low, work.since.later), λ k s same at not. absurd cc)
+  read_at Closing marks clients others opened after written work read opening mark are none one marked low =
+      let m = (past_of before).moment in
+      (m, subst (λ (n : ℕ). marks n m) (sym (none refl)) marked, omega arith, omega (arith, low, work.since.later), λ k s same at not. absurd cc)
+  read_at Opening marks clients others opened after written work read opening mark are none one marked low =
+      let m = (past_of before).moment in
+      (m, subst (λ (n : ℕ). marks n m) (sym (none refl)) marked, omega arith, omega (arith, low, work.since.later), λ k s same at not. absurd cc)
+  read_at (Since k) marks clients others opened after written work read opening mark are none one marked low =
+      let m = (past_of before).moment in
+      let f : SeatValue → ℕ = λ s. s.sight.mark in
+      let so : slice_index_or read k 0 ≡ slice_index_or (map f work.seats) k 0 = ap (λ (l : List ℕ). slice_index_or l k 0) are in
+      dite (ℕ_discrete (slice_index_or read k 0) 0)
+      (λ no. (
+        m,
+        subst (λ (n : ℕ). marks n m) (sym (none no)) marked,
+        omega arith,
+        omega (arith, low, work.since.later),
+        λ j s same at not.
+            let here : k ≡ j = cc in
+            absurd (not (sym (mark_at f work.seats j s at) ∙ (ap (λ (i : ℕ). slice_index_or (map f work.seats) i 0) (sym here) ∙ (sym so ∙ no)))),
+      ))
+      (λ some.
+      let at = at_mark f work.seats k (λ no. some (so ∙ no)) in
+      let s = at.0 in
+      let mark_is : mark ≡ s.sight.mark = one some ∙ (so ∙ sym at.2) in
+      let not : s.sight.mark ≢ 0 = λ no. some (so ∙ (sym at.2 ∙ no)) in
+      let known = subst (λ (z : SeatValue). IsSafeSince marks work.publications z.sight.safe z.sight.mark) (get_or_from_slice_get work.seats k s s at.1)
+      (work.marked k s (slice_get_within work.seats k s at.1)) in
+      ⊎_elim (λ both. absurd (not both.1))
+      (λ published.
+      let p : Publication = published.0 in
+      let Kept : Publication → Type 0 =
+      IsKeptSince (λ floor image. ∥ GivesSome o work.leaves.geometry work.seats work.leaves.popped floor image ∥₁) (past_of after) in
+      let kept : Kept p = All-contains Kept work.publications p work.leaves.published published.1 in
+      let behind : (past_of opened).moment ≤ p.moment =
+      All-contains (λ (q : Publication). (past_of opened).moment ≤ q.moment) work.publications p work.behind published.1 in (
+        p.moment,
+        subst (λ (n : ℕ). marks n p.moment) (sym mark_is) (published.3 not),
+        omega (arith, low, behind),
+        kept.later,
+        λ j z same there nonzero.
+            let here : k ≡ j = cc in
+            let is-s : z ≡ s = some_is z s (sym there ∙ (ap (slice_get work.seats) (sym here) ∙ at.1)) in
+            record {
+              published = p;
+              is = refl;
+              behind = behind;
+              reaches = subst (λ (y : SeatValue). y.sight.safe ≤ p.horizon) (sym is-s) published.2;
+              kept = kept;
+            },
+      ))
+      known)
+
   module _ (day : SharedDay C) (answer : SharedAnswer C) (opened after found : D) (turned : IsTurned past_of before opened)
-      (work : LeavesWork past_of works o day.clients.items answer.clients.items opened after answer.written) (built : TellsBuild o answer.built)
+      (marks : ℕ → ℕ → Type 0) (work : LeavesWork past_of marks works o day.clients.items answer.clients.items opened after answer.written)
+      (built : TellsBuild o answer.built)
       (rises : failures before ≤ failures after) (why : IfErr answer.written (WhyUnwritten (failures before) (failures after)))
       (count : failures found ≡ failures after) (shown : D → Type 0)
       (ended : HadEnded past_of shown o work.leaves.geometry work.seats work.leaves.popped work.floor opened after)
-      (stops : StopsAt day.end (past_of before).moment (past_of ended.was).moment (past_of after) (past_of found)) where
+      (last-read : ℕ) (reads : (k : ℕ) (s : SeatValue) → day.end ≡ Since k → slice_get work.seats k ≡ Some s → s.sight.mark ≢ 0
+      → ReadsAt work.leaves.geometry work.seats work.leaves.popped opened after last-read s)
+      (stops : StopsAt day.end (past_of before).moment (past_of ended.was).moment last-read (past_of after) (past_of found)) where
     abbrev t : ℕ
     t = stops.stop.moment
 
@@ -122,6 +222,9 @@ module _ {D M C : Type 0} (past_of : D → DevicePast) (failures : D → ℕ) (w
         (subst (λ (d : Disk). IsCrashState d image) (work.since.kept t (omega (arith, less))) crash) in
         let behind : day.end ≡ Behind → ⊥ = λ is. omega (arith, less, stops.at-end is, work.since.later) in
         let closing : day.end ≡ Closing → ⊥ = λ is. omega (arith, less, stops.closing is, ended.before.later) in
+        let none : (k : ℕ) (s : SeatValue) → day.end ≡ Since k → slice_get work.seats k ≡ Some s → s.sight.mark ≡ 0 = λ k s is at.
+        dite (ℕ_discrete s.sight.mark 0) (λ no. no) (λ not.
+        let read = reads k s is at not in absurd (omega (arith, less, stops.since k is, read.is, read.behind))) in
         record {
           store = resting gave.given (failures found);
           lived = record {
@@ -130,7 +233,7 @@ module _ {D M C : Type 0} (past_of : D → DevicePast) (failures : D → ℕ) (w
             seats = work.seats;
             horizon = work.floor;
             worked = work.worked;
-            served = inr (within_opening day.end behind closing, refl);
+            served = inr (within_opening day.end work.seats behind closing none, refl);
             later = later_now;
             why = why_now;
           };
@@ -179,6 +282,7 @@ module _ {D M C : Type 0} (past_of : D → DevicePast) (failures : D → ℕ) (w
         → OnOk written ∥ All-written ∥₁ → ∥ (end ≡ Behind → OnOk written AllKept) ∥₁
     all_kept end at (Err e) all = ∣ (λ behind. tt) ∣₁
     all_kept Closing at (Ok u) all = ∣ (λ behind. absurd cc) ∣₁
+    all_kept (Since k) at (Ok u) all = ∣ (λ behind. absurd cc) ∣₁
     all_kept Opening at (Ok u) all = ∣ (λ behind. absurd cc) ∣₁
     all_kept Behind at (Ok u) all =
         let last : IsCrashState (past_of after).disk image =
@@ -196,13 +300,6 @@ module _ {D M C : Type 0} (past_of : D → DevicePast) (failures : D → ℕ) (w
           life = left.life;
           last = left.last;
         }))
-
-    -- unless it stopped within the opening, it stopped since the clients had ended
-    reached : (end : End) → (end ≡ Closing → (past_of ended.was).moment ≤ t) → (end ≡ Behind → t ≡ (past_of after).moment)
-        → end ≢ Opening → (past_of ended.was).moment ≤ t
-    reached Behind closing behind not = omega (arith, behind refl, ended.since.later)
-    reached Closing closing behind not = closing refl
-    reached Opening closing behind not = absurd (not refl)
 
     module _ (since : (past_of opened).moment ≤ t) (size : h ≡ g) (kept : day.end ≡ Behind → OnOk answer.written AllKept)
         (some : GivesSome o g work.seats work.leaves.popped first.last image) where
@@ -222,16 +319,28 @@ module _ {D M C : Type 0} (past_of : D → DevicePast) (failures : D → ℕ) (w
           let so : last-given.last ≡ first.last + length (take some.count records) = refl in
           omega (arith, so, length-take some.count records, some.most)
 
-      -- since the clients had ended, the horizon was reached
-      safe : day.end ≢ Opening → work.floor ≤ last-given.last
-      safe not =
-          let gave = ended.since.each t image (reached day.end stops.closing stops.at-end not) stops.stop.until crash in
-          ∥∥₁_elim (subst (λ (x : GeometryValue). Some-of x work.floor image) size gave) le_prop
-          (λ (other : GivesSome o g work.seats work.leaves.popped work.floor image).
+      -- all up to this horizon is kept by a crash at any moment since this one
+      abbrev Keeps : (moment floor : ℕ) → Type 0
+      Keeps moment floor = (u : ℕ) (i : CrashState) → moment ≤ u → u ≤ (past_of after).moment → IsCrashState ((past_of after).disk_at u) i → Some-of h floor i
+
+      reached : (moment floor : ℕ) → Keeps moment floor → moment ≤ t → floor ≤ last-given.last
+      reached moment floor keeps from =
+          ∥∥₁_elim (subst (λ (x : GeometryValue). Some-of x floor image) size (keeps t image from stops.stop.until crash)) le_prop
+          (λ (other : GivesSome o g work.seats work.leaves.popped floor image).
           let all = other.pushed ++ other.core.outbox in
           let so : (given_after first (take other.count all)).last ≡ first.last + length (take other.count all) = refl in
           let same = ap (λ (x : Given). x.last) (images.given image g g (given_after first (take other.count all)) last-given other.gives some.gives) in
           omega (arith, so, same, length-take other.count all, other.most, other.least))
+
+      -- so is all that is safe of a day that ends so
+      safe : (end : End) → day.end ≡ end → KeepsSafe end work.seats work.floor last-given.last
+      safe Behind is = reached (past_of ended.was).moment work.floor ended.since.each (omega (arith, stops.at-end is, ended.since.later))
+      safe Closing is = reached (past_of ended.was).moment work.floor ended.since.each (stops.closing is)
+      safe (Since k) is = λ s at not.
+          let read = reads k s is at not in
+          let low = reached read.published.moment read.published.horizon read.kept.each (omega (arith, read.is, stops.since k is)) in
+          omega (arith, low, read.reaches)
+      safe Opening is = tt
 
       all_of : AllKept → (all : List CommitValue) × AreCommitsOf work.seats all × (last-given.table ≡ table_with first.table all)
       all_of is = (is.commits, is.of-seats, ap (λ (x : Given). x.table) (images.given image g h last-given is.given some.gives is.gives) ∙ is.table)
@@ -255,7 +364,7 @@ module _ {D M C : Type 0} (past_of : D → DevicePast) (failures : D → ℕ) (w
             commits = some.commits;
             of-seats = some.all;
             rows = some.table ∙ ap (λ (n : ℕ). table_with first.table (up_to n some.commits)) (sym last);
-            safe = safe;
+            safe = safe day.end refl;
             whole = λ behind. on_ok _ _ answer.written all_of (kept behind);
             found = record {
               given = first;

@@ -1,6 +1,6 @@
 //! A store that lives through days of requests, and then a day of clients.
 ghost use Rattle.std.specs.Prelude.{◌≡◌, ◌⊎◌, ◌↔◌, ◌<◌, ◌≤◌, [], ℕ, List, length, true, Err, None, IfErr, IfOk, IfSome};
-ghost use Rattle.std.specs.Prelude.{OnOk, vec_len};
+ghost use Rattle.std.specs.Prelude.{OnOk, vec_len, ◌≢◌};
 ghost use Rattle.std.specs.declared.alloc.Global.{Global};
 ghost use Rattle.record_values.specs.GeometryValue.{GeometryValue, sectors_of};
 ghost use Rattle.record_values.specs.declared.error.Error.TheVariants.{DeviceTooSmall, TooManyTxns};
@@ -12,7 +12,7 @@ ghost use Rattle.headline.specs.declared.day.Day.{Day};
 ghost use Rattle.headline.specs.Days.{Answer};
 ghost use Rattle.headline.specs.Held.{HasLived, IsUnbuilt};
 ghost use Rattle.headline.specs.Kept.{FindsShared, KeepsDays};
-ghost use Rattle.headline.specs.Stops.{StopsAt};
+ghost use Rattle.headline.specs.Stops.{StopsAt, mark_read};
 ghost use Rattle.headline.specs.AtRest.{AtRest, resting};
 ghost use Rattle.headline.specs.Beside.{HasLivedBeside, IsNotLivedBeside};
 
@@ -49,18 +49,43 @@ pub struct NotLivedBeside<C, D: Mortal> {
     pub device: D,
 }
 
-// Stops the device: at one of its moments since the opening began, or since clients and loops had ended; or where it
-// is.
-fn stop_device<D: Mortal>(device: &mut D, opening: u64, closing: u64, end: End)
-    ensures stopped { (first mid : ℕ) → D.marks opening first → D.marks closing mid → first ≤ mid
-        → mid ≤ (D.past_of device.old).moment
-        → StopsAt end first mid (D.past_of device.old) (D.past_of device.new) }
+// The mark since which a day stops that ends so: the last one that its client has read; where it has read none, that of
+// the opening.
+fn read_by(marks: &[u64], end: End, opening: u64) -> u64
+    ensures none { mark_read end marks.now ≡ 0 → result ≡ opening }
+    ensures read { mark_read end marks.now ≢ 0 → result ≡ mark_read end marks.now }
+{
+    let End::Since(client) = end else {
+        return opening;
+    };
+    match marks.get(client) {
+        Some(mark) if *mark != 0 => *mark,
+        _ => opening,
+    }
+}
+
+// The marks of a day's moments: as its opening began, as clients and loops had ended, and the one that a client read.
+#[derive(Clone, Copy)]
+struct DayMarks {
+    opening: u64,
+    closing: u64,
+    read: u64,
+}
+
+// Stops the device: at one of its moments since the opening began, since clients and loops had ended, or since the one
+// that a client read a mark of; or where it is.
+fn stop_device<D: Mortal>(device: &mut D, marks: DayMarks, end: End)
+    ensures stopped { (first mid read : ℕ) → D.marks marks.opening first → D.marks marks.closing mid
+        → D.marks marks.read read → first ≤ mid → mid ≤ (D.past_of device.old).moment → first ≤ read
+        → read ≤ (D.past_of device.old).moment
+        → StopsAt end first mid read (D.past_of device.old) (D.past_of device.new) }
     ensures failures { D.failures device.new ≡ D.failures device.old }
 {
     match end {
         End::Behind => device.stop_now(),
-        End::Closing => device.stop(closing),
-        End::Opening => device.stop(opening),
+        End::Closing => device.stop(marks.closing),
+        End::Since(_) => device.stop(marks.read),
+        End::Opening => device.stop(marks.opening),
     }
 }
 
@@ -93,11 +118,17 @@ fn serve_clients<C: Client + Send + Drop, D: Mortal + Send, R: Threads + Wait + 
         Ok((served, closing)) => {
             let Served {
                 clients,
+                marks,
                 mut device,
                 built,
                 written,
             } = served;
-            stop_device(&mut device, opening, closing, end);
+            let day_marks = DayMarks {
+                opening,
+                closing,
+                read: read_by(&marks, end, opening),
+            };
+            stop_device(&mut device, day_marks, end);
             let answer = SharedAnswer {
                 clients,
                 built,
@@ -205,7 +236,8 @@ fn refused_before<C, D: Mortal>(refusal: NotLived<Error, D, Global>) -> NotLived
 /// Formats the device, and lives through the days as `live_through` does. Behind them comes a day of clients. The store
 /// is opened, and they work, each with a seat of its own; meanwhile others build the index, clean it and write to the
 /// device (`serve_and_see`). The store stops then, as the day's `end` says: behind all that was done; or at any moment
-/// since clients and loops had ended, or since the opening began, at any write or sync of the device or between them.
+/// since clients and loops had ended, since a client had read a mark of the device's clock, or since the opening began,
+/// at any write or sync of the device or between them.
 /// In the end it is opened once more and, where that is wanted, the build of its index is carried to its end.
 ///
 /// What it then holds is told by the days and the seats alone (`holds`). The rows are those that the days had left.
@@ -214,10 +246,10 @@ fn refused_before<C, D: Mortal>(refusal: NotLived<Error, D, Global>) -> NotLived
 /// of a row; as far as the index was built, the pair of each row is visible; and once its build was carried to its end,
 /// every row's.
 ///
-/// Unless the day ends `Opening`, the last record is not below any horizon that a seat has read. So nothing is lost
-/// that was acknowledged. On a day that ends `Opening` no clause says how many records were kept, also where its
-/// clients had ended. (The flusher's part keeps that no horizon is above what is synced, and each from its moment on:
-/// `IsFlusher`.)
+/// On a day that ends `Behind` or `Closing`, the last record is not below any horizon that a seat has read: nothing is
+/// lost that was acknowledged. On one that ends `Since` a client, it is not below the horizon that this client's seat
+/// had seen as it read the mark: nothing is lost that this client then knew to be acknowledged, wherever the store
+/// stopped later. On one that ends `Opening` no clause says how many records were kept.
 ///
 /// Where the build is refused, `unbuilt` tells why, as that of `live_through` does.
 ///

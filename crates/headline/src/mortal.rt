@@ -8,12 +8,9 @@ use std::alloc::Allocator;
 /// A device that may stop, as its power fails or the process that has it ends, and is found again. It keeps its count
 /// of failures.
 pub trait Mortal: Device + Drop {
-    /// Which of a device's moments a number may mark.
-    ghost marks: { ℕ → ℕ → Type 0 };
-
     /// Marks the moment that it is.
     fn mark(&self) -> u64
-        ensures { marks result (Self.past_of self.now).moment };
+        ensures { Self.marks result (Self.past_of self.now).moment };
 
     /// It stops where it is, and is found as any crash of now may have left it. Its moments count anew.
     fn stop_now(&mut self)
@@ -23,7 +20,7 @@ pub trait Mortal: Device + Drop {
     /// It stopped at one of its moments since the marked one, and is found likewise: what was done later never came to
     /// it.
     fn stop(&mut self, since: u64)
-        ensures stopped { (moment : ℕ) → marks since moment → moment ≤ (Self.past_of self.old).moment
+        ensures stopped { (moment : ℕ) → Self.marks since moment → moment ≤ (Self.past_of self.old).moment
             → HasStopped moment (Self.past_of self.old) (Self.past_of self.new) }
         ensures failures { Self.failures self.new ≡ Self.failures self.old };
 }
@@ -35,10 +32,8 @@ const FATES: [Fate; 5] = [Fate::Zero, Fate::New, Fate::Junk, Fate::Old, Fate::Ga
 impl<A: Allocator + Copy> Mortal for MemDisk<A> {
     ghost use Rattle.sector_device.specs.MemDisk.{failures_of, past_of};
 
-    ghost marks = { λ mark moment. Unit {0} };
-
     fn mark(&self) -> u64 {
-        0
+        self.moment()
     }
 
     fn stop_now(&mut self)
@@ -48,8 +43,8 @@ impl<A: Allocator + Copy> Mortal for MemDisk<A> {
         self.crash(&FATES);
     }
 
-    fn stop(&mut self, _since: u64)
-        ensures stopped { (moment : ℕ) → Unit {0} → moment ≤ (past_of self.old).moment
+    fn stop(&mut self, since: u64)
+        ensures stopped { (moment : ℕ) → since ≡ moment → moment ≤ (past_of self.old).moment
             → HasStopped moment (past_of self.old) (past_of self.new) }
         ensures failures { failures_of self.new ≡ failures_of self.old }
     {

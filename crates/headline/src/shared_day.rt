@@ -9,6 +9,9 @@ pub enum End {
     Behind,
     /// At any moment since the clients and the loops beside them had ended, while the rest is written out.
     Closing,
+    /// At any moment since the one that the mark is of which this client has read last (`Shared::mark`), amid all that
+    /// others do. Clients count from 0. Where there is no such client, or it has read none, it ends as `Opening`.
+    Since(usize),
     /// At any moment since the opening began, also one at which the clients had ended.
     Opening,
 }

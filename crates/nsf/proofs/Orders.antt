@@ -2,6 +2,7 @@
 use Rattle.std.proofs.Common.{◌≡◌, ◌∙◌, ◌+◌, ◌<◌, ◌≤◌, ◌∷◌, ℕ, zero, suc, List, [], Some, subst, length, map, inl, inr, refl, sym, ap, arith}
 use Rattle.std.proofs.lemmas.Bool.{cases_eq}
 use Rattle.std.proofs.lemmas.List.{length-map}
+use Rattle.std.proofs.lemmas.List.Elements.{All-cons, All-nil}
 use Rattle.std.proofs.lemmas.Option.{get_or_from_slice_get, slice_get_within}
 use Rattle.std.specs.Prelude.{slice_get, slice_index_or, slice_set}
 use Rattle.std.specs.declared.vec.Vec.{Vec}
@@ -9,7 +10,8 @@ use Rattle.atomic_table.specs.Seated.{TableId}
 use Rattle.threads_lifetime.specs.Gathered.{AreAllSeats}
 use Rattle.shared.specs.Seats.{AreNewSeats, SeatValue}
 use Rattle.threads_sessions.specs.Values.{empty_session}
-use Rattle.nsf.specs.Serving.{HaveWorked}
+use Rattle.std.specs.List.{All}
+use Rattle.nsf.specs.Serving.{HaveWorked, unnamed}
 
 -- what is at a place of a list
 pub some_at : {X : Type 0} (xs : List X) (k : ℕ) → k < length xs → (x : X) × (slice_get xs k ≡ Some x)
@@ -68,43 +70,43 @@ cons_rest a b xs ys e = cc
 
 in_order : {W C : Type 0} (client : W → C) (seat : W → SeatValue) (works : C → C → SeatValue → SeatValue → Type 0) (floor : ℕ) (xs ys : List W)
     (seats : List SeatValue) → length ys ≡ length xs
-    → map (λ (s : SeatValue). s.session) seats ≡ map (λ w. (seat w).session) ys
+    → map unnamed seats ≡ map (λ w. unnamed (seat w)) ys
     → ((k : ℕ) (w : W) → slice_get xs k ≡ Some w → (seat w).session ≡ empty_session)
     → ((k : ℕ) (w : W) → k < length xs
     → works (client (slice_index_or xs k w)) (client (slice_index_or ys k w)) (seat (slice_index_or xs k w)) (seat (slice_index_or ys k w)))
     → ((k : ℕ) (w : W) → slice_get ys k ≡ Some w → (seat w).sight.horizon ≤ floor)
     → HaveWorked works floor (map client xs) (map client ys) seats
-in_order client seat works floor [] [] [] same sessions new each low = tt
-in_order client seat works floor [] [] (s ∷ seats) same sessions new each low = absurd cc
-in_order client seat works floor [] (y ∷ ys) seats same sessions new each low = absurd cc
-in_order client seat works floor (x ∷ xs) [] seats same sessions new each low = absurd cc
-in_order client seat works floor (x ∷ xs) (y ∷ ys) [] same sessions new each low = absurd cc
-in_order client seat works floor (x ∷ xs) (y ∷ ys) (s ∷ seats) same sessions new each low = (
+in_order client seat works floor [] [] [] same left new each low = tt
+in_order client seat works floor [] [] (s ∷ seats) same left new each low = absurd cc
+in_order client seat works floor [] (y ∷ ys) seats same left new each low = absurd cc
+in_order client seat works floor (x ∷ xs) [] seats same left new each low = absurd cc
+in_order client seat works floor (x ∷ xs) (y ∷ ys) [] same left new each low = absurd cc
+in_order client seat works floor (x ∷ xs) (y ∷ ys) (s ∷ seats) same left new each low = (
   record {
     first = seat x;
     new = new 0 x refl;
     last = seat y;
-    has = sym (cons_first _ _ _ _ sessions);
-    known = low 0 y refl;
+    has = sym (cons_first _ _ _ _ left);
+    known = subst (λ (h : ℕ). h ≤ floor) (sym (ap (λ (z : SeatValue). z.sight.horizon) (cons_first _ _ _ _ left))) (low 0 y refl);
     worked = each 0 x (omega arith);
   },
-  in_order client seat works floor xs ys seats (omega (arith, same)) (cons_rest _ _ _ _ sessions) (λ k w at. new (suc k) w at)
+  in_order client seat works floor xs ys seats (omega (arith, same)) (cons_rest _ _ _ _ left) (λ k w at. new (suc k) w at)
       (λ k w within. each (suc k) w (omega (arith, within)))
       (λ k w at. low (suc k) w at),
 )
 
 pub all_worked : {W C X Y : Type 0} (client : W → C) (seat : W → SeatValue) (works : C → C → SeatValue → SeatValue → Type 0) (floor : ℕ)
     (before : Vec W X) (after : Vec W Y) (seats : List SeatValue) → after.len ≡ before.len
-    → map (λ (s : SeatValue). s.session) seats ≡ map (λ w. (seat w).session) after.items
+    → map unnamed seats ≡ map (λ w. unnamed (seat w)) after.items
     → ((k : ℕ) (w : W) → slice_get before.items k ≡ Some w → (seat w).session ≡ empty_session)
     → ((k : ℕ) (w : W) → k < before.len
     → works (client (slice_index_or before.items k w)) (client (slice_index_or after.items k w)) (seat (slice_index_or before.items k w))
     (seat (slice_index_or after.items k w)))
     → ((k : ℕ) (w : W) → slice_get after.items k ≡ Some w → (seat w).sight.horizon ≤ floor)
     → HaveWorked works floor (map client before.items) (map client after.items) seats
-all_worked client seat works floor before after seats same sessions new each low =
+all_worked client seat works floor before after seats same left new each low =
     in_order client seat works floor before.items after.items seats (sym after.ok.0
-    ∙ (same ∙ before.ok.0)) sessions new (λ k w within. each k w (subst (λ (m : ℕ). k < m) (sym before.ok.0) within)) low
+    ∙ (same ∙ before.ok.0)) left new (λ k w within. each k w (subst (λ (m : ℕ). k < m) (sym before.ok.0) within)) low
 
 -- a new seat has nothing in its session
 pub new_session : {W : Type 0} (seat : W → SeatValue) (board : TableId) (count : ℕ) (seats : List SeatValue) (xs : List W) → map seat xs ≡ seats
@@ -112,14 +114,36 @@ pub new_session : {W : Type 0} (seat : W → SeatValue) (board : TableId) (count
 new_session seat board count seats xs are new k w at =
     (new.each k (seat w) (ap (λ (l : List SeatValue). slice_get l k) (sym are) ∙ in_mapped seat xs k w at)).1
 
--- the sessions of seats
-session_map : {W : Type 0} (seat : W → SeatValue) (xs : List W) → map (λ (s : SeatValue). s.session) (map seat xs) ≡ map (λ w. (seat w).session) xs
-session_map seat [] = refl
-session_map seat (x ∷ xs) = ap (λ l. (seat x).session ∷ l) (session_map seat xs)
+-- seats, whatever their views' names are
+unnamed_map : {W : Type 0} (seat : W → SeatValue) (xs : List W) → map unnamed (map seat xs) ≡ map (λ w. unnamed (seat w)) xs
+unnamed_map seat [] = refl
+unnamed_map seat (x ∷ xs) = ap (λ l. unnamed (seat x) ∷ l) (unnamed_map seat xs)
 
-pub sessions_are : {W : Type 0} (seat : W → SeatValue) (seats : List SeatValue) (now old : List W) → seats ≡ map seat now
-    → map (λ w. (seat w).session) now ≡ map (λ w. (seat w).session) old → map (λ (s : SeatValue). s.session) seats ≡ map (λ w. (seat w).session) old
-sessions_are seat seats now old is same = ap (λ (l : List SeatValue). map (λ (s : SeatValue). s.session) l) is ∙ (session_map seat now ∙ same)
+pub left_so : {W : Type 0} (seat : W → SeatValue) (seats : List SeatValue) (now old : List W) → seats ≡ map seat now
+    → map (λ w. unnamed (seat w)) now ≡ map (λ w. unnamed (seat w)) old → map unnamed seats ≡ map (λ w. unnamed (seat w)) old
+left_so seat seats now old is same = ap (map unnamed) is ∙ (unnamed_map seat now ∙ same)
+
+-- what holds of what each has seen, holds of it under any name
+pub each_left : {W : Type 0} (seat : W → SeatValue) (P : (safe mark : ℕ) → Type 0) (ys : List W) (seats : List SeatValue)
+    → map unnamed seats ≡ map (λ w. unnamed (seat w)) ys
+    → ((k : ℕ) (w : W) → slice_get ys k ≡ Some w → P (seat w).sight.safe (seat w).sight.mark)
+    → All (λ (s : SeatValue). P s.sight.safe s.sight.mark) seats
+each_left seat P [] [] left each = All-nil (λ (s : SeatValue). P s.sight.safe s.sight.mark)
+each_left seat P [] (s ∷ seats) left each = absurd cc
+each_left seat P (y ∷ ys) [] left each = absurd cc
+each_left seat P (y ∷ ys) (s ∷ seats) left each =
+    All-cons (λ (z : SeatValue). P z.sight.safe z.sight.mark) s seats
+    (subst (λ (z : SeatValue). P z.sight.safe z.sight.mark) (sym (cons_first _ _ _ _ left)) (each 0 y refl))
+    (each_left seat P ys seats (cons_rest _ _ _ _ left) (λ k w at. each (suc k) w at))
+
+-- the marks that seats have read
+pub marks_are : {W : Type 0} (seat : W → SeatValue) (seats : List SeatValue) (now : List W) → seats ≡ map seat now
+    → map (λ w. (seat w).sight.mark) now ≡ map (λ (s : SeatValue). s.sight.mark) seats
+marks_are seat seats now is = sym (ap (map (λ (s : SeatValue). s.sight.mark)) is ∙ mark_map seat now)
+  where
+    mark_map : {W : Type 0} (seat : W → SeatValue) (xs : List W) → map (λ (s : SeatValue). s.sight.mark) (map seat xs) ≡ map (λ w. (seat w).sight.mark) xs
+    mark_map seat [] = refl
+    mark_map seat (x ∷ xs) = ap (λ l. (seat x).sight.mark ∷ l) (mark_map seat xs)
 
 -- ---- one of them in its place
 

@@ -1,6 +1,6 @@
 -- What is kept since a horizon was published.
 use Rattle.std.proofs.Common.{◌≡◌, ◌∙◌, ◌∷◌, ◌≤◌, ℕ, List, Some, subst, sym, arith}
-use Rattle.std.proofs.lemmas.List.Elements.{All-head, All-pop, All-same}
+use Rattle.std.proofs.lemmas.List.Elements.{All-cons, All-head, All-pop, All-same}
 use Rattle.std.specs.List.{All}
 use Rattle.sector_device.specs.Disk.{CrashState, IsCrashState}
 use Rattle.sector_device.specs.DevicePast.{DevicePast, LeavesOnly}
@@ -40,3 +40,11 @@ since_newest P mid now publications horizon newest low all behind =
       kept = behind.kept;
       each = λ t image from to crash. subst (λ h. P h image) newest.3 (kept.each t image (omega (arith, le, from)) to crash);
     }
+
+-- none was published before the first
+pub behind_first : (horizon moment : ℕ) (publications since : List Publication) → publications ≡ record { horizon = horizon; moment = moment } ∷ since
+    → All (λ (p : Publication). moment ≤ p.moment) since → All (λ (p : Publication). moment ≤ p.moment) publications
+behind_first horizon moment publications since is all =
+    let first : Publication = record { horizon = horizon; moment = moment } in
+    All-same (λ (p : Publication). moment ≤ p.moment) publications (first ∷ since) is
+    (All-cons (λ (p : Publication). moment ≤ p.moment) first since (omega arith) all)

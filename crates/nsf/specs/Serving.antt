@@ -15,10 +15,10 @@ use Rattle.core_parts.specs.declared.reply.BuildReply.TheVariants as reply
 use Rattle.core_parts.specs.View.{CoreValue}
 use Rattle.sector_device.specs.Disk.{Disk, CrashState, IsCrashState}
 use Rattle.sector_device.specs.DevicePast.{DevicePast, LeavesOnly, Rises}
-use Rattle.threads_sessions.specs.Values.{CommitValue, SessionValue}
+use Rattle.threads_sessions.specs.Values.{CommitValue}
 use Rattle.shared.specs.Seats.{SeatValue}
 use Rattle.shared.specs.Served.{WasServed}
-use Rattle.threads_flusher.specs.Part.{IsKeptSince, IsNewest, Publication}
+use Rattle.threads_flusher.specs.Part.{IsKeptSince, IsNewest, IsSafeSince, Publication}
 use Rattle.threads_loops.specs.Building.{EndsBuilder}
 use Rattle.threads_lifetime.specs.Closing.{GivesAll, GivesSome, IsCoreOf}
 use Rattle.threads_lifetime.specs.Gathered.{AreCommitsOf}
@@ -60,30 +60,36 @@ abbrev pub TellsBuild : Opened → Result Ticket Error → Type 0
 TellsBuild o told = IfOk told (λ ticket. ∥ WasServed o Event.Build (builds.built (reply.Done ticket)) ∥₁)
     × IfErr told (EndsBuilder o)
 
--- A client has worked with a seat that had an empty session, and has this one now. The horizon that the seat has read
--- last isn't above the floor.
+-- the seat, whatever its view's name is
+abbrev pub unnamed : SeatValue → SeatValue
+unnamed s = record s { sight = record s.sight { name = [] } }
+
+-- A client has worked with a seat that had an empty session, and left it as this one, but for its view's name. The
+-- horizon that the seat has read last isn't above the floor.
 pub record HasWorked {C : Type 0} (works : C → C → SeatValue → SeatValue → Type 0) (floor : ℕ) (client after : C)
-    (session : SessionValue) : Type 0 where
+    (seat : SeatValue) : Type 0 where
   pub first : SeatValue
   pub new : first.session ≡ record { commits = []; turns = []; active = [] }
   pub last : SeatValue
-  pub has : last.session ≡ session
-  pub known : last.sight.horizon ≤ floor
+  pub has : unnamed last ≡ unnamed seat
+  pub known : seat.sight.horizon ≤ floor
   pub worked : works client after first last
 
--- so has each client, in its place, with the session of the seat there
+-- so has each client, in its place, with the seat there
 abbrev pub HaveWorked : {C : Type 0} → (C → C → SeatValue → SeatValue → Type 0) → (floor : ℕ) → List C → List C
     → List SeatValue → Type 0
 HaveWorked works floor [] [] [] = Unit {0}
 HaveWorked works floor (client ∷ clients) (after ∷ others) (s ∷ seats) =
-    HasWorked works floor client after s.session × HaveWorked works floor clients others seats
+    HasWorked works floor client after s × HaveWorked works floor clients others seats
 HaveWorked works floor clients others seats = ⊥
 
 -- The clients have worked, each with a seat; and the device was written by these seats, up to some record that isn't
 -- before any horizon that one of them has read. Since the store was opened, a crash at any moment leaves what was
--- opened with the seats' commits set over it, up to some record.
-pub record LeavesWork {C D : Type 0} (past_of : D → DevicePast) (works : C → C → SeatValue → SeatValue → Type 0)
-    (o : Opened) (clients after : List C) (opened device : D) (written : Result Unit Error) : Type 0 where
+-- opened with the seats' commits set over it, up to some record. A mark that a seat has read is of a moment since then
+-- at which all up to the horizon that it had seen was published.
+pub record LeavesWork {C D : Type 0} (past_of : D → DevicePast) (marks : ℕ → ℕ → Type 0)
+    (works : C → C → SeatValue → SeatValue → Type 0) (o : Opened) (clients after : List C) (opened device : D)
+    (written : Result Unit Error) : Type 0 where
   pub seats : List SeatValue
   pub publications : List Publication
   pub floor : ℕ
@@ -91,6 +97,8 @@ pub record LeavesWork {C D : Type 0} (past_of : D → DevicePast) (works : C →
   pub since : LeavesOnly (past_of opened) (past_of device)
       (λ image. ∥ GivesSome o leaves.geometry seats leaves.popped o.given.last image ∥₁)
   pub worked : HaveWorked works floor clients after seats
+  pub behind : All (λ (p : Publication). (past_of opened).moment ≤ p.moment) publications
+  pub marked : All (λ (s : SeatValue). IsSafeSince marks publications s.sight.safe s.sight.mark) seats
 
 -- It is the same seat still. (No public clause cites this.)
 pub record KeepsSeat (old new : SeatValue) : Type 0 where

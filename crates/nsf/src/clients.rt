@@ -2,18 +2,20 @@
 ghost use Rattle.std.specs.Prelude.{◌≡◌, ◌⊎◌, ◌<◌, ◌≤◌, Err, IfErr, IfOk, List, Some, false, ℕ, map, vec_len};
 ghost use Rattle.std.specs.Prelude.{slice_get, slice_index_or};
 ghost use Rattle.std.specs.Fn.{FnOnceReturnsAt};
+ghost use Rattle.std.specs.List.{All};
 ghost use Rattle.record_values.specs.declared.error.Error.TheVariants.{DeviceFailed, NoMemory, TooManyTxns};
 ghost use Rattle.core_model.specs.Histories.{Opened};
 ghost use Rattle.sector_device.specs.DevicePast.{Rises};
 ghost use Rattle.store_writer.specs.Parts.{device_of, has_failed};
 ghost use Rattle.threads_flusher.specs.Going.{GoesOn};
+ghost use Rattle.threads_flusher.specs.Part.{IsSafeSince};
 ghost use Rattle.shared.specs.Seats.{AreNewSeats, SeatValue};
 ghost use Rattle.threads_lifetime.specs.Gathered.{AreAllSeats};
 ghost use Rattle.restart.specs.Reopening.{IsTurned};
 ghost use Rattle.threads_lifetime.specs.Openings.{IsNewFlusher, IsNotShared, Opens};
 ghost use Rattle.threads_lifetime.specs.declared.refusal.OpenError.TheVariants.{Refused};
 ghost use Rattle.nsf.specs.Serving.{HadEnded, HasRoom, IsLaterPast, WhyUnwritten, KeepsSeat, LeavesCommits, LeavesWork};
-ghost use Rattle.nsf.specs.Serving.{TellsBuild};
+ghost use Rattle.nsf.specs.Serving.{TellsBuild, unnamed};
 
 use nsf_core::Ticket;
 use records::Error;
@@ -52,6 +54,8 @@ pub trait Client {
 pub struct Served<C, D> {
     /// The clients, in their order, each as its work has left it.
     pub clients: Vec<C>,
+    /// Of each client's seat, the mark that it has read last (`Shared::mark`), or 0 where it has read none.
+    pub marks: Vec<u64>,
     pub device: D,
     /// What `run_beside` told of the builder: the ticket of an index, where one was completed meanwhile; else why none
     /// was.
@@ -66,10 +70,10 @@ pub struct Served<C, D> {
 ///
 /// Each client has worked, with a new seat of its own. Then a crash leaves what was opened with the commits of all
 /// seats set over it; where `written` tells a refusal, with those up to some record. No horizon that a seat has read
-/// is above that record: so nothing is lost that a client knows by its seat to be safe. Nor was it at any moment since
-/// the last horizon was published; when that was, no clause says. Since the store was opened, a crash at any moment
-/// leaves the commits up to some record; and before that what one could leave before the call, or what gives the same
-/// (`leaves`).
+/// is above that record: so nothing is lost that a client knows by its seat to be safe. Where a client has read a mark
+/// of the device's clock (`Shared::mark`), that was so at any moment since the one that it marks, of the horizon that
+/// the seat had seen then. Since the store was opened, a crash at any moment leaves the commits up to some record; and
+/// before that what one could leave before the call, or what gives the same (`leaves`).
 ///
 /// A refusal is `NoMemory`, or `DeviceFailed` where the device's count of failures has risen (`why`); that never falls
 /// (`later`). A transaction that a client left active is taken back when the store is opened again.
@@ -86,8 +90,8 @@ pub fn serve<C: Client + Send + Drop, D: Device + Send + Drop, R: Threads + Wait
 ) -> Result<Served<C, D>, (OpenError, D)>
     ensures leaves { IfOk result (λ s. (o : Opened) × Opens (D.past_of device).disk.content o
         × (opened : D) × IsTurned D.past_of device opened
-        × LeavesWork D.past_of C.works o clients.items s.clients.items opened s.device s.written
-        × TellsBuild o s.built) }
+        × (work : LeavesWork D.past_of D.marks C.works o clients.items s.clients.items opened s.device s.written)
+        × (s.marks.items ≡ map (λ (seat : SeatValue). seat.sight.mark) work.seats) × TellsBuild o s.built) }
     ensures why { IfOk result (λ s. IfErr s.written (WhyUnwritten (D.failures device) (D.failures s.device))) }
     ensures later { IfOk result (λ s. D.failures device ≤ D.failures s.device) }
     ensures clients { IfOk result (λ s. vec_len s.clients ≡ vec_len clients) }
@@ -119,8 +123,8 @@ pub fn serve_and_see<
     requires see { F.IsAlwaysCallable see }
     ensures leaves { IfOk result (λ r. (o : Opened) × Opens (D.past_of device).disk.content o
         × (opened : D) × IsTurned D.past_of device opened
-        × (work : LeavesWork D.past_of C.works o clients.items r.0.clients.items opened r.0.device r.0.written)
-        × TellsBuild o r.0.built
+        × (work : LeavesWork D.past_of D.marks C.works o clients.items r.0.clients.items opened r.0.device r.0.written)
+        × (r.0.marks.items ≡ map (λ (seat : SeatValue). seat.sight.mark) work.seats) × TellsBuild o r.0.built
         × HadEnded D.past_of (λ d. FnOnceReturnsAt F.FnOnce see d r.1) o work.leaves.geometry work.seats
         work.leaves.popped work.floor opened r.0.device) }
     ensures why { IfOk result (λ r. IfErr r.0.written (WhyUnwritten (D.failures device) (D.failures r.0.device))) }
@@ -152,8 +156,9 @@ fn begin<
 ) -> Result<(Served<C, D>, T), (OpenError, D)>
     requires names { store.site ≡ B.site }
     requires see { F.IsAlwaysCallable see }
-    ensures leaves { IfOk result (λ r. (work : LeavesWork D.past_of C.works B.site.opened clients.items
+    ensures leaves { IfOk result (λ r. (work : LeavesWork D.past_of D.marks C.works B.site.opened clients.items
         r.0.clients.items store.device r.0.device r.0.written)
+        × (r.0.marks.items ≡ map (λ (seat : SeatValue). seat.sight.mark) work.seats)
         × HadEnded D.past_of (λ d. FnOnceReturnsAt F.FnOnce see d r.1) B.site.opened work.leaves.geometry work.seats
         work.leaves.popped work.floor store.device r.0.device) }
     ensures told { IfOk result (λ r. TellsBuild B.site.opened r.0.built) }
@@ -207,30 +212,43 @@ fn desks_of<B: Group, C: Drop>(
 struct Room<B: Group, C> {
     clients: Vec<C>,
     seats: Vec<Seat<B>>,
+    marks: Vec<u64>,
 }
 
 fn room_for<B: Group, C: Drop>(alloc: Global, count: usize) -> Result<Room<B, C>, AllocError>
     ensures clients { IfOk result (λ room. HasRoom room.clients count) }
     ensures seats { IfOk result (λ room. HasRoom room.seats count) }
+    ensures marks { IfOk result (λ room. HasRoom room.marks count) }
 {
     let clients = Vec::with_capacity(alloc, count)?;
     let seats = Vec::with_capacity(alloc, count)?;
-    Ok(Room { clients, seats })
+    let marks = Vec::with_capacity(alloc, count)?;
+    Ok(Room {
+        clients,
+        seats,
+        marks,
+    })
 }
 
-// The clients of these desks, and their seats.
+// The clients of these desks, their seats, and the marks that these have read.
 fn parted<B: Group, C: Drop>(desks: Vec<Desk<B, C>>, room: Room<B, C>) -> Room<B, C>
     requires clients { HasRoom room.clients (vec_len desks) }
     requires seats { HasRoom room.seats (vec_len desks) }
+    requires marks { HasRoom room.marks (vec_len desks) }
     ensures clients { result.clients.items ≡ map (λ d. d.client) desks.items }
     ensures seats { result.seats.items ≡ map (λ d. d.seat) desks.items }
+    ensures marks { result.marks.items ≡ map (λ d. d.seat.sight.mark) desks.items }
 {
     let Room {
         mut clients,
         mut seats,
+        mut marks,
     } = room;
     for desk in desks {
         let Desk { client, seat } = desk;
+        let Ok(()) = marks.push(seat.last_mark()) else {
+            unreachable!()
+        };
         let Ok(()) = clients.push(client) else {
             unreachable!()
         };
@@ -238,7 +256,11 @@ fn parted<B: Group, C: Drop>(desks: Vec<Desk<B, C>>, room: Room<B, C>) -> Room<B
             unreachable!()
         };
     }
-    Room { clients, seats }
+    Room {
+        clients,
+        seats,
+        marks,
+    }
 }
 
 // Lets each client work, each in a thread.
@@ -352,8 +374,8 @@ fn close<B: Group, D: Device, R: Wait>(
     }
 }
 
-// No horizon that a seat has read is above the last that was published. Nothing changes but the names of the seats'
-// views.
+// No horizon that a seat has read is above the last that was published, and the mark that it has read is of a moment at
+// which the horizon was published that it had seen. Nothing changes but the names of the seats' views.
 fn settle_desk<B: Group, C, D: Device>(
     shared: &Shared<B>,
     desk: &mut Desk<B, C>,
@@ -362,8 +384,9 @@ fn settle_desk<B: Group, C, D: Device>(
     ensures same { flush.new ≡ flush.old }
     ensures client { desk.new.client ≡ desk.old.client }
     ensures number { desk.new.seat.number ≡ desk.old.seat.number }
-    ensures session { desk.new.seat.session ≡ desk.old.seat.session }
+    ensures seat { unnamed desk.new.seat ≡ unnamed desk.old.seat }
     ensures seen { desk.old.seat.sight.horizon ≤ flush.old.published.horizon }
+    ensures marked { IsSafeSince D.marks flush.old.publications desk.old.seat.sight.safe desk.old.seat.sight.mark }
 {
     let mut view = shared.another_view(&mut desk.seat);
     view.settle(shared, flush);
@@ -378,11 +401,13 @@ fn settle_desks<B: Group, C, D: Device>(
     ensures same { flush.new ≡ flush.old }
     ensures len { vec_len desks.new ≡ vec_len desks.old }
     ensures clients { map (λ d. d.client) desks.new.items ≡ map (λ d. d.client) desks.old.items }
-    ensures sessions { map (λ d. d.seat.session) desks.new.items ≡ map (λ d. d.seat.session) desks.old.items }
+    ensures seats { map (λ d. unnamed d.seat) desks.new.items ≡ map (λ d. unnamed d.seat) desks.old.items }
     ensures all { (count : ℕ) → AreAllSeats count (map (λ d. d.seat) desks.old.items)
         → AreAllSeats count (map (λ d. d.seat) desks.new.items) }
     ensures seen { (k : ℕ) (d : _) → slice_get desks.old.items k ≡ Some d
         → d.seat.sight.horizon ≤ flush.old.published.horizon }
+    ensures marked { (k : ℕ) (d : _) → slice_get desks.old.items k ≡ Some d
+        → IsSafeSince D.marks flush.old.publications d.seat.sight.safe d.seat.sight.mark }
 {
     for k in 0..desks.len() {
         let desk = &mut desks[k];
@@ -401,13 +426,17 @@ fn end<B: Group, C: Drop, D: Device, R: Wait>(
     requires seats { AreAllSeats B.site.seats (map (λ d. d.seat) ended.clients.items) }
     requires room { HasRoom room.clients (vec_len ended.clients) }
     requires places { HasRoom room.seats (vec_len ended.clients) }
+    requires marks { HasRoom room.marks (vec_len ended.clients) }
     ensures leaves { (seats : List SeatValue)
-        × (map (λ s. s.session) seats ≡ map (λ d. d.seat.session) ended.clients.items)
+        × (map unnamed seats ≡ map (λ d. unnamed d.seat) ended.clients.items)
         × LeavesCommits D.past_of B.site.opened seats ended.flush.publications ended.flush.published.horizon
-        result.device result.written }
+        result.device result.written
+        × (result.marks.items ≡ map (λ (seat : SeatValue). seat.sight.mark) seats) }
     ensures goes { IsLaterPast (D.past_of (device_of ended.flush.writer)) (D.past_of result.device) }
     ensures seen { (k : ℕ) (d : _) → slice_get ended.clients.items k ≡ Some d
         → d.seat.sight.horizon ≤ ended.flush.published.horizon }
+    ensures marked { (k : ℕ) (d : _) → slice_get ended.clients.items k ≡ Some d
+        → IsSafeSince D.marks ended.flush.publications d.seat.sight.safe d.seat.sight.mark }
     ensures why { IfErr result.written (λ e. (e ≡ NoMemory) ⊎ ((e ≡ DeviceFailed)
         × (has_failed ended.flush.writer ≡ false
         → Rises (D.failures (device_of ended.flush.writer)) (D.failures result.device)))) }
@@ -426,7 +455,11 @@ fn end<B: Group, C: Drop, D: Device, R: Wait>(
     } = ended;
     settle_desks(&shared, &mut desks, &mut flush);
     let room = parted(desks, room);
-    let Room { clients, seats } = room;
+    let Room {
+        clients,
+        seats,
+        marks,
+    } = room;
     let parts = Parts {
         seats,
         flush,
@@ -436,6 +469,7 @@ fn end<B: Group, C: Drop, D: Device, R: Wait>(
     let (device, written) = close(rt, alloc, shared, parts);
     Served {
         clients,
+        marks,
         device,
         built,
         written,
@@ -453,6 +487,7 @@ fn seated<B: Group, C: Drop>(
     ensures order { IfOk result (λ r. map (λ d. d.client) r.0.items ≡ clients.items) }
     ensures room { IfOk result (λ r. HasRoom r.1.clients (vec_len r.0)) }
     ensures places { IfOk result (λ r. HasRoom r.1.seats (vec_len r.0)) }
+    ensures marks { IfOk result (λ r. HasRoom r.1.marks (vec_len r.0)) }
 {
     let desks = desks_of(alloc, seats, clients)?;
     let room = room_for(alloc, desks.len())?;
@@ -477,9 +512,10 @@ fn seat_all<
 ) -> Result<(Served<C, D>, T), D>
     requires seats { AreNewSeats B.site.board B.site.seats parts.seats.items }
     requires see { F.IsAlwaysCallable see }
-    requires flush { IsNewFlusher D.past_of B.site.board B.site.opened parts.flush }
-    ensures leaves { IfOk result (λ r. (work : LeavesWork D.past_of C.works B.site.opened clients.items
+    requires flush { IsNewFlusher D.past_of D.marks B.site.board B.site.opened parts.flush }
+    ensures leaves { IfOk result (λ r. (work : LeavesWork D.past_of D.marks C.works B.site.opened clients.items
         r.0.clients.items (device_of parts.flush.writer) r.0.device r.0.written)
+        × (r.0.marks.items ≡ map (λ (seat : SeatValue). seat.sight.mark) work.seats)
         × HadEnded D.past_of (λ d. FnOnceReturnsAt F.FnOnce see d r.1) B.site.opened work.leaves.geometry work.seats
         work.leaves.popped work.floor (device_of parts.flush.writer) r.0.device) }
     ensures told { IfOk result (λ r. TellsBuild B.site.opened r.0.built) }

@@ -9,7 +9,7 @@ use std::alloc::Global;
 use std::sync::Wait;
 use std::thread::Threads;
 
-/// Puts a row with its key, and waits until the device has it.
+/// Puts a row with its key, waits until the device has it, and reads a mark. Then it puts one more, and doesn't wait.
 #[derive(Drop)]
 pub struct Put {
     pub key: Key,
@@ -19,22 +19,41 @@ pub struct Put {
 impl Put {
     // The row is put and committed in the transaction, or it is told why it isn't.
     fn put_in<B: Group, R: Wait>(
-        &self,
         rt: &R,
         shared: &Shared<B>,
         seat: &mut Seat<B>,
         txn: Txn,
+        key: Key,
     ) -> Result<Ticket, Error>
         ensures { seat.new.number ≡ seat.old.number }
     {
-        let change = shared.insert_if_ready(rt, seat, txn, self.key, Body::new(b"")?)?;
+        let change = shared.insert_if_ready(rt, seat, txn, key, Body::new(b"")?)?;
         match change.rest {
             Some(error) => Err(error),
             None => shared.commit_if_ready(rt, seat, txn),
         }
     }
 
-    /// The same in a transaction of its own, which is taken back where it isn't put.
+    // The same in a transaction of its own, which is taken back where it isn't put.
+    fn put_one<B: Group, R: Wait>(
+        rt: &R,
+        shared: &Shared<B>,
+        seat: &mut Seat<B>,
+        key: Key,
+    ) -> Result<Ticket, Error>
+        ensures { seat.new.number ≡ seat.old.number }
+    {
+        let txn = shared.begin(rt, seat)?;
+        match Put::put_in(rt, shared, seat, txn, key) {
+            Ok(ticket) => Ok(ticket),
+            Err(error) => {
+                shared.abort(rt, seat, txn)?;
+                Err(error)
+            }
+        }
+    }
+
+    /// Puts the row, and waits until the device has it.
     pub fn put<B: Group, R: Wait>(
         &self,
         rt: &R,
@@ -43,17 +62,24 @@ impl Put {
     ) -> Result<(), Error>
         ensures { seat.new.number ≡ seat.old.number }
     {
-        let txn = shared.begin(rt, seat)?;
-        match self.put_in(rt, shared, seat, txn) {
-            Ok(ticket) => {
-                shared.await_ack(rt, seat, ticket)?;
-                Ok(())
-            }
-            Err(error) => {
-                shared.abort(rt, seat, txn)?;
-                Err(error)
-            }
-        }
+        let ticket = Put::put_one(rt, shared, seat, self.key)?;
+        shared.await_ack(rt, seat, ticket)?;
+        Ok(())
+    }
+
+    // Puts the row, reads a mark, and puts one that is still under way as the client ends.
+    fn put_both<B: Group, R: Wait>(
+        &self,
+        rt: &R,
+        shared: &Shared<B>,
+        seat: &mut Seat<B>,
+    ) -> Result<(), Error>
+        ensures { seat.new.number ≡ seat.old.number }
+    {
+        self.put(rt, shared, seat)?;
+        shared.mark(seat);
+        Put::put_one(rt, shared, seat, Key::new(b"dog")?)?;
+        Ok(())
     }
 }
 
@@ -65,7 +91,7 @@ impl Client for Put {
         seat: &mut Seat<B>,
         _builder: &BuilderEnd<B>,
     ) {
-        self.done = self.put(rt, shared, seat);
+        self.done = self.put_both(rt, shared, seat);
     }
 }
 

@@ -39,8 +39,11 @@ impl<A: Allocator + Copy> RecordedDisk<A> {
     }
 }
 
+/// A number marks the one moment that has it.
 impl<A: Allocator + Copy> Device for RecordedDisk<A> {
     ghost past_of = { λ d. past_of d.disk };
+
+    ghost marks = { λ mark moment. mark ≡ moment };
 
     ghost failures = { λ d. failures_of d.disk };
 
@@ -59,12 +62,13 @@ impl<A: Allocator + Copy> Device for RecordedDisk<A> {
     fn sync(&mut self) -> Result<(), Failed> {
         self.disk.sync()
     }
+
+    fn clock(&self) -> Option<u64> {
+        Some(self.disk.moment())
+    }
 }
 
-/// A number marks the one moment that has it.
 impl<A: Allocator + Copy> Mortal for RecordedDisk<A> {
-    ghost marks = { λ mark moment. mark ≡ moment };
-
     fn mark(&self) -> u64 {
         self.disk.moment()
     }

@@ -38,6 +38,16 @@ fn a_client_is_told_that_the_index_is_full(rt: HostRuntime) -> Result<(), Fail> 
 // More than the moments of a day of clients.
 const MANY: u64 = 1_000;
 
+// Whether the row at this place may be lacking, as the day ends so: the first is from the day before, and the others
+// were each put by a client.
+fn may_lack(end: End, at: usize) -> bool {
+    match end {
+        End::Behind | End::Closing => false,
+        End::Since(client) => at > 0 && at - 1 != client,
+        End::Opening => at > 0,
+    }
+}
+
 // Stops a day of clients at each moment that it may stop at. Each row is found once, but where the clients may not have
 // put theirs: then no more than once.
 fn stop_at_each<R: Threads + Wait + Sync + Abort>(
@@ -50,9 +60,8 @@ fn stop_at_each<R: Threads + Wait + Sync + Abort>(
         let (life, found, is_last) = live(rt, alloc, end, Stop { behind, fates })?;
         assert!(rt; life == Life::Complete);
         for (at, rids) in found.iter().enumerate() {
-            let may_lack = end == End::Opening && at > 0;
             assert!(rt;
-                rids.len() == 1 || (may_lack && rids.is_empty()),
+                rids.len() == 1 || (may_lack(end, at) && rids.is_empty()),
                 "{end:?}, {behind}, {at}"
             );
         }
@@ -64,10 +73,18 @@ fn stop_at_each<R: Threads + Wait + Sync + Abort>(
 }
 
 // A day of requests, and a day of clients behind it, each of which awaits the acknowledgement of a row. That stops
-// behind all that was done, as the rest is written out, or at any moment; then the index is built.
+// behind all that was done, as the rest is written out, at any moment since one of them has read a mark, or at any
+// moment at all; then the index is built.
 #[test]
 fn a_day_of_clients_behind_one_of_requests(rt: HostRuntime) -> Result<(), Fail> {
-    for end in [End::Behind, End::Closing, End::Opening] {
+    let ends = [
+        End::Behind,
+        End::Closing,
+        End::Since(0),
+        End::Since(1),
+        End::Opening,
+    ];
+    for end in ends {
         stop_at_each(&rt, rt.alloc(), end)?;
     }
     Ok(())

@@ -13,7 +13,7 @@ pub returns-then-within : goal.returns-then-within
 returns-then-within g c = λ before is marked size began days answers keeps.
     let past_of = g.D.Device.past_of in
     let failures = g.D.Device.failures in
-    let marks = g.D.Mortal.marks in
+    let marks = g.D.Device.marks in
     let images : Images = record { geometry = c.one_answer.ensures.geometry; given = c.one_answer.ensures.given; readable = c.one_answer.ensures.readable } in
     let after = c.serve_within-answer.new.engine in
     let found = c.stop.new.self in

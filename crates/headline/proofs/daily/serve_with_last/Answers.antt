@@ -36,7 +36,7 @@ returns-clause-served g c = record {
   mid = c.run.new.self;
   lawful = c.in_ok-first.ensures.lawful;
   runs = c.in_ok-first.ensures.ran;
-  marked = subst (λ d. g.D.Mortal.marks c.mark-since.result (g.D.Device.past_of d).moment) c.device.ensures.device c.mark-since.ensures;
+  marked = subst (λ d. g.D.Device.marks c.mark-since.result (g.D.Device.past_of d).moment) c.device.ensures.device c.mark-since.ensures;
   lawful_last = c.serve-reply.ensures.lawful;
   serves = c.serve-reply.ensures.serves;
 }

@@ -1,4 +1,5 @@
-use Rattle.std.proofs.Common.{IfErr, ap, arith, subst}
+use Rattle.std.proofs.Common.{◌≡◌, IfErr, ap, arith, map, subst}
+use Rattle.shared.specs.Seats.{SeatValue}
 use Rattle.std.specs.Fn.{FnOnceReturnsAt}
 use Rattle.nsf.specs.Serving.{HadEnded, WhyUnwritten, LeavesWork}
 use Rattle.nsf.proofs.clients.begin.Goals as goal
@@ -14,7 +15,8 @@ returns-in-Ok-seat_all-clause-leaves g c =
     let past_of = g.D.Device.past_of in
     let served = c.in-Ok-seat_all.served.0 in
     let seen = c.in-Ok-seat_all.served.1 in
-    subst (λ d. (work : LeavesWork past_of g.C.Client.works g.B.Group.site.opened c.args.clients.items served.clients.items d served.device served.written)
+    subst (λ d. (work : LeavesWork past_of g.D.Device.marks g.C.Client.works g.B.Group.site.opened c.args.clients.items served.clients.items d served.device
+    served.written) × (served.marks.items ≡ map (λ (seat : SeatValue). seat.sight.mark) work.seats)
     × HadEnded past_of (λ was. FnOnceReturnsAt g.F.FnOnce c.args.see was seen) g.B.Group.site.opened work.leaves.geometry work.seats work.leaves.popped
     work.floor d served.device)
     c.in-Ok.ensures.device c.in-Ok-seat_all.ensures.leaves

@@ -1,10 +1,10 @@
-use Rattle.std.proofs.Common.{◌≡◌, ◌⊎◌, ◌≤◌, IfErr, false, subst, sym}
+use Rattle.std.proofs.Common.{◌≡◌, ◌∙◌, ◌⊎◌, ◌≤◌, IfErr, false, subst, sym}
 use Rattle.record_values.specs.declared.error.Error.TheVariants.{DeviceFailed, NoMemory}
 use Rattle.sector_device.specs.DevicePast.{Rises}
 use Rattle.store_writer.specs.Parts.{device_of, has_failed}
 use Rattle.threads_lifetime.specs.Gathered.{AreAllSeats}
 use Rattle.nsf.specs.Serving.{IsLaterPast, LeavesCommits}
-use Rattle.nsf.proofs.Orders.{sessions_are}
+use Rattle.nsf.proofs.Orders.{left_so, marks_are}
 use Rattle.nsf.proofs.clients.end.Goals as goal
 
 pub close-device-requires : goal.close-device-requires
@@ -15,9 +15,10 @@ pub returns-clause-leaves : goal.returns-clause-leaves
 returns-clause-leaves g c =
     let seats = c.parted-room.result.seats.items in (
       seats,
-      sessions_are (λ d. d.seat) seats c.settle_desks.new.desks.items c.args.ended.clients.items c.parted-room.ensures.seats c.settle_desks.ensures.sessions,
+      left_so (λ d. d.seat) seats c.settle_desks.new.desks.items c.args.ended.clients.items c.parted-room.ensures.seats c.settle_desks.ensures.seats,
       subst (λ f. LeavesCommits g.D.Device.past_of g.B.Group.site.opened seats f.publications f.published.horizon c.close-device.result.0
           c.close-device.result.1) c.settle_desks.ensures.same c.close-device.ensures.leaves,
+      c.parted-room.ensures.marks ∙ marks_are (λ d. d.seat) seats c.settle_desks.new.desks.items c.parted-room.ensures.seats,
     )
 
 pub returns-clause-goes : goal.returns-clause-goes

@@ -1,14 +1,15 @@
 use Rattle.std.proofs.Common.{List, ap, arith, map, subst, sym, ◌++◌, ◌∙◌, ◌≤◌}
 use Rattle.std.proofs.lemmas.List.Elements.{All-weaker}
+use Rattle.std.specs.List.{All}
 use Rattle.threads_lifetime.specs.Gathered.{AreAllSeats}
 use Rattle.shared.specs.Seats.{SeatValue}
 use Rattle.sector_device.specs.DevicePast.{LeavesOnly}
 use Rattle.store_writer.specs.Parts.{device_of, has_failed, synced_of}
-use Rattle.threads_flusher.specs.Part.{IsKept, Publication}
+use Rattle.threads_flusher.specs.Part.{IsKept, IsSafeSince, Publication}
 use Rattle.threads_lifetime.specs.Closing.{GivesSome}
 use Rattle.nsf.specs.Serving.{HaveWorked, IsLaterPast, TellsBuild}
-use Rattle.nsf.proofs.Orders.{all_left, all_new, all_worked, new_session}
-use Rattle.nsf.proofs.Published.{since_first, since_newest}
+use Rattle.nsf.proofs.Orders.{all_left, all_new, all_worked, each_left, new_session}
+use Rattle.nsf.proofs.Published.{behind_first, since_first, since_newest}
 use Rattle.nsf.proofs.Refusals.{unwritten_since}
 use Rattle.nsf.proofs.clients.seat_all.Goals as goal
 
@@ -45,6 +46,7 @@ returns-in-Ok-run_all-clause-leaves g c =
     let new = c.requires.flush in
     let left = c.end.ensures.leaves in
     let leaves = left.2 in
+    let publications = going.publications ∙ ap (λ l. l ++ going.since) new.publications in
     let before : IsLaterPast (past_of (device_of w)) (past_of (device_of mid.writer)) =
     record { later = going.images.later; kept = going.images.kept } in (
       record {
@@ -57,14 +59,17 @@ returns-in-Ok-run_all-clause-leaves g c =
             (λ image. ∥ GivesSome o leaves.geometry left.0 leaves.popped n image ∥₁)) new.synced
             (since_first (λ n image. ∥ GivesSome o leaves.geometry left.0 leaves.popped n image ∥₁) (past_of (device_of w))
             (past_of (device_of mid.writer)) (past_of c.end.result.device) mid.publications going.since (synced_of w)
-            (going.publications ∙ ap (λ l. l ++ going.since) new.publications) leaves.published before c.end.ensures.goes);
+            publications leaves.published before c.end.ensures.goes);
         worked =
             subst (λ (clients : List _). HaveWorked works floor clients c.end.result.clients.items left.0) c.in-Ok.ensures.order
             (subst (λ (after : List _). HaveWorked works floor (map (λ d. d.client) c.in-Ok.desks.items) after left.0) (sym c.end.ensures.order)
             (all_worked (λ d. d.client) (λ d. d.seat) works floor c.in-Ok.desks c.in-Ok-run_all.ended.clients left.0 c.in-Ok-run_all.ensures.len
             left.1 (new_session (λ d. d.seat) z.board z.seats c.args.parts.seats.items c.in-Ok.desks.items c.in-Ok.ensures.seats c.requires.seats)
             c.in-Ok-run_all.ensures.worked c.end.ensures.seen));
+        behind = behind_first (synced_of w) (past_of (device_of w)).moment mid.publications going.since publications going.behind;
+        marked = each_left (λ d. d.seat) (IsSafeSince g.D.Device.marks mid.publications) c.in-Ok-run_all.ended.clients.items left.0 left.1 c.end.ensures.marked;
       },
+      left.3,
       record {
         was = device_of mid.writer;
         shows = (c.device.result, c.see-seen.ensures, c.device.ensures);

@@ -7,7 +7,7 @@ use Rattle.nsf.proofs.clients.serve_and_see.Goals as goal
 
 pub returns-in-Ok-clause-leaves : goal.returns-in-Ok-clause-leaves
 returns-in-Ok-clause-leaves g c = IfOk-weaker c.begin.result _ _ (λ served is.
-    (c.in-Ok.store.site.opened, c.in-Ok.ensures.opened.opened, c.in-Ok.store.device, c.in-Ok.ensures.opened.device, is.0.0, is.1, is.0.1))
+    (c.in-Ok.store.site.opened, c.in-Ok.ensures.opened.opened, c.in-Ok.store.device, c.in-Ok.ensures.opened.device, is.0.0, is.0.1, is.1, is.0.2))
     (both _ _ c.begin.result c.begin.ensures.leaves c.begin.ensures.told)
 
 pub returns-in-Ok-clause-why : goal.returns-in-Ok-clause-why
