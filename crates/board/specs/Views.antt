@@ -53,6 +53,10 @@ nothing_seen board = record {
   safe = 0;
 }
 
+-- the flusher's count on this board, where it has published and read nothing
+abbrev pub nothing_published : TableId → FlusherCount
+nothing_published board = record { board = board; horizon = 0; failed = false; stopped = false; notes = [] }
+
 -- one of these notes has this mark, and reaches the horizon; or both are 0
 abbrev pub IsNoted : List Note → (horizon mark : ℕ) → Type 0
 IsNoted [] horizon mark = (horizon ≡ 0) × (mark ≡ 0)

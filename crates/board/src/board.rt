@@ -1,6 +1,7 @@
 //! The board, and the steps on it.
 ghost use Rattle.std.specs.Prelude.{◌≡◌, ◌≤◌, ℕ, true, false, [], ◌∷◌, max, IfOk, IsTrue};
-ghost use Rattle.board.specs.Views.{BuilderCount, FlusherCount, IsNoted, Sighting, leaves_as, nothing_seen, stays_as};
+ghost use Rattle.board.specs.Views.{BuilderCount, FlusherCount, IsNoted, Sighting, leaves_as, nothing_published};
+ghost use Rattle.board.specs.Views.{nothing_seen, stays_as};
 
 use crate::knowledge::Knowledge;
 use crate::rule::{
@@ -8,7 +9,7 @@ use crate::rule::{
     RaiseProgress, ReadFailed, ReadHorizon, ReadMark, ReadProgress, ReadStop, SetFailed, SetStop,
     TellBuilt, TellFlushed, TellSeen,
 };
-use crate::views::{BuildView, FlushView, View};
+use crate::views::{BuildView, FlushView, NewFlushView, View};
 use crate::waits::Waits;
 use atomic_table::Table;
 use std::alloc::{AllocError, Allocator};
@@ -49,9 +50,8 @@ impl<A: Allocator> Board<A> {
     /// A board with nothing published, the flusher's view, the builder's, and a first one for the other threads.
     ///
     /// The error is that the memory for the five words was refused.
-    pub fn new(alloc: A) -> Result<(Board<A>, FlushView, BuildView, View), AllocError>
-        ensures flush { IfOk result (λ r. r.1
-            ≡ record { board = r.0; horizon = 0; failed = false; stopped = false; notes = [] }) }
+    pub fn new(alloc: A) -> Result<(Board<A>, NewFlushView, BuildView, View), AllocError>
+        ensures flush { IfOk result (λ r. r.1 ≡ nothing_published r.0) }
         ensures build { IfOk result (λ r. r.2 ≡ record { board = r.0; progress = 0; stopped = false }) }
         ensures view { IfOk result (λ r. r.3 ≡ nothing_seen r.0) }
     {
@@ -63,7 +63,7 @@ impl<A: Allocator> Board<A> {
                 table,
                 waits: Waits::new(),
             },
-            FlushView { seat },
+            NewFlushView { seat },
             BuildView { seat: builder },
             View { seat: reader },
         ))

@@ -2,7 +2,8 @@
 //! the builder of the index has come, whether the device failed, whether the threads are to stop, and a mark.
 //!
 //! A thread steps with a view, a token that it owns and that takes no bytes. The flusher has the [`FlushView`] and
-//! alone raises the horizon, notes a mark with it, or says that the device failed. The builder has the [`BuildView`]
+//! alone raises the horizon, notes a mark with it, or says that the device failed. The board gives it as a
+//! [`NewFlushView`], of whose type it is known that nothing was published with it. The builder has the [`BuildView`]
 //! and alone raises the progress. Both also read the stop flag. Every other thread has a [`View`]: it reads the five
 //! words and may set the stop flag.
 //!
@@ -27,5 +28,5 @@ mod views;
 mod waits;
 
 pub use board::Board;
-pub use views::{BuildView, FlushView, View};
+pub use views::{BuildView, FlushView, NewFlushView, View};
 pub use waits::{Bell, Waits};

@@ -9,9 +9,9 @@
 //! under the lock gives (`served`). `get` of a place that the seat holds answers its own row (`own`). An
 //! acknowledgement is of a ticket that a horizon reached (`acked`), no horizon falls (`rises`), what the seat has seen
 //! leaves a wait one answer (the law `one_wait`), and the horizon that it had seen with its mark was published by the
-//! moment that this marks (`noted`). Neither: that a call which takes the lock or waits returns; fairness; that `find`,
-//! `life`, or `get` of another's place is of now; that a dropped seat gives its transactions back (they stay active
-//! until the store is opened again).
+//! moment that this marks, if it isn't 0 (`noted`). Neither: that a call which takes the lock or waits returns;
+//! fairness; that `find`, `life`, or `get` of another's place is of now; that a dropped seat gives its transactions
+//! back (they stay active until the store is opened again).
 #![tactic(auto)]
 
 mod abort;

@@ -10,7 +10,7 @@ use crate::builder::BuildPart;
 use crate::cleaner::CleanPart;
 use crate::seat::Seat;
 use crate::shared::Shared;
-use board::{Board, BuildView, FlushView, View};
+use board::{Board, BuildView, NewFlushView, View};
 use locked_core::{Group, Locked, Memory, SeatPart};
 use nsf_core::Core;
 use records::Error;
@@ -33,7 +33,7 @@ pub struct Opening<A: Memory = Global> {
     pub(crate) book: Vec<Half<A>, A>,
     pub(crate) halves: Vec<Half<A>, A>,
     pub(crate) board: Board<A>,
-    pub(crate) flush: FlushView,
+    pub(crate) flush: NewFlushView,
     pub(crate) build: BuildView,
     pub(crate) view: View,
 }

@@ -1,18 +1,18 @@
 //! What a flusher's part is made of.
 ghost use Rattle.std.specs.Prelude.{◌≡◌};
 
-use board::FlushView;
+use board::NewFlushView;
 use locked_core::Memory;
 use std::alloc::Global;
 use std::marker::Model;
 use threads_queue::Popper;
 
-/// The end of the queue that pops, and the flusher's view of the board, for a part that is to be made. Who has them
-/// alone can neither pop a record nor publish a horizon. To a contract they are an `EndsValue`.
+/// The end of the queue that pops, and the flusher's view as the board gave it, for a part that is to be made. Who has
+/// them alone can neither pop a record nor publish a horizon. To a contract they are an `EndsValue`.
 #[derive(Drop)]
 pub struct FlushEnds<A: Memory = Global> {
     pub(crate) popper: Popper<A>,
-    pub(crate) view: FlushView,
+    pub(crate) view: NewFlushView,
 }
 
 impl<A: Memory> Model for FlushEnds<A> {
@@ -29,7 +29,7 @@ impl<A: Memory> Model for FlushEnds<A> {
 
 impl<A: Memory> FlushEnds<A> {
     /// Both, for whoever makes what the threads share.
-    pub fn new(popper: Popper<A>, view: FlushView) -> FlushEnds<A>
+    pub fn new(popper: Popper<A>, view: NewFlushView) -> FlushEnds<A>
         ensures { result ≡ record { popper = popper; published = view } }
     {
         FlushEnds { popper, view }

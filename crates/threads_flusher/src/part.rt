@@ -37,7 +37,7 @@ use threads_queue::{Popper, RecordQueue};
 /// Its type keeps that the records that were popped are those that the writer has got and then those that are held, in
 /// order, each once; that the writer stands for the ones that it got, over what was opened; that no number is published
 /// above the last synced one; that all is published on the group's board; that what was published at any time is kept
-/// by a crash at any moment since; and that each mark that was published is of the moment of such a publication.
+/// by a crash at any moment since; and that each mark that was published is 0, or of the moment of such a publication.
 #[derive(Drop)]
 pub struct FlushPart<B: Group, D: Device, A: Memory = Global> {
     pub(crate) alloc: A,
@@ -146,7 +146,6 @@ impl<B: Group, D: Device, A: Memory> FlushPart<B, D, A> {
         requires fits { len B.site.opened.given.entries ≤ B.site.opened.places }
         requires horizon { ends.published.horizon ≤ synced_of writer }
         requires failed { ends.published.failed ≡ has_failed writer }
-        requires unmarked { ends.published.notes ≡ [] }
         ensures { (mark : ℕ) × IsMarkOf D.marks mark (D.past_of (device_of writer)).moment × (result ≡ record {
           handed = [];
           held = [];
@@ -155,7 +154,8 @@ impl<B: Group, D: Device, A: Memory> FlushPart<B, D, A> {
           publications = publication_of D.past_of writer ∷ [];
         }) }
     {
-        let FlushEnds { popper, mut view } = ends;
+        let FlushEnds { popper, view } = ends;
+        let mut view = view.begin();
         let mut publications = GhostList::new();
         publish(board, &mut view, &mut publications, &writer);
         let last = writer.synced();

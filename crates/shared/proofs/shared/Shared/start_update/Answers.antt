@@ -1,4 +1,4 @@
-use Rattle.std.proofs.Common.{Some, map, subst, sym, true, refl, ◌≡◌, ◌∙◌, ap}
+use Rattle.std.proofs.Common.{Some, map, subst, sym, true, refl, ◌≡◌}
 use Rattle.core_model.specs.Events.{Event, Reply}
 use Rattle.model.specs.declared.write.Write.{Write}
 use Rattle.core_parts.specs.Replies.{reply_by}
