@@ -2,4 +2,5 @@ mod Rounds
 mod Moments
 mod Steps
 mod Through
+mod Running
 pub mod Crosses

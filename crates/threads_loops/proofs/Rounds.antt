@@ -14,9 +14,7 @@ use Rattle.locked_core.specs.Made.{IsAllOf}
 use Rattle.store_writer.specs.Copying.{next_place}
 use Rattle.store_writer.specs.Parts.{copying_of, halves_of, has_failed, log_of}
 use Rattle.store_writer.specs.Writer.{HasFailed, IsFlipReply, IsFlushReply, IsNotFlushed, IsStepReply, MustStartAgain}
-use Rattle.store_writer.specs.declared.copying.Copying.{Copying}
 use Rattle.store_writer.specs.declared.copying.Copying.TheVariants.{Idle, Steps, GivenUp}
-use Rattle.store_writer.specs.declared.writer.FlipReply.{FlipReply}
 use Rattle.store_writer.specs.declared.writer.FlipReply.TheVariants.{Behind, Flipped}
 use Rattle.store_writer.specs.declared.writer.FlushReply.{FlushReply}
 use Rattle.store_writer.specs.declared.writer.FlushReply.TheVariants.{Flushed, Nothing, LogFull}
@@ -26,7 +24,7 @@ use Rattle.store_writer.specs.declared.writer.Writer.{Writer}
 use Rattle.threads_flusher.specs.Going.{LeavesImage, TakesIn}
 use Rattle.threads_flusher.specs.Images.{IsHalfFull, IsPieceDue}
 use Rattle.threads_flusher.specs.Part.{FlushValue}
-use Rattle.threads_loops.specs.Copying.{HasImage, IsAll, IsCopied, IsDue, IsWanted, StandsBy}
+use Rattle.threads_loops.specs.Copying.{HasImage, IsCopied, IsDue, IsWanted, StandsBy}
 
 -- half the slots of the log are open, where those of another writer are
 module _ {D A : Type 0} (old new : Writer D A) (halves : halves_of new ≡ halves_of old) (half : IsHalfFull old) where
@@ -160,7 +158,14 @@ image_from old mid new same (inr is) = inr (is.0, is.1 ∙ ap (λ (h : HalvesVal
 
 -- ---- a whole image
 
--- a piece of all cells is one
+-- the piece is of all cells
+abbrev IsAll : {A : Type 0} → Piece A → Type 0
+IsAll (Whole cells) = Unit {0}
+IsAll (Start life lists) = ⊥
+IsAll (Page page rows) = ⊥
+IsAll (Entries entries) = ⊥
+
+-- so it is as a copy of all cells tells
 pub all_of : {A : Type 0} (v : CoreValue) (cells : Cells) (piece : Piece A) → IsAllOf v cells piece → IsAll piece
 all_of v cells (Whole copied) is = tt
 all_of v cells (Start life lists) is = absurd is

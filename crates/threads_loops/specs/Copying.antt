@@ -1,8 +1,6 @@
 -- When an image of the flush loop begins (no public clause cites these).
 use Rattle.std.specs.Prelude.{◌≡◌, ◌≢◌, ◌⊎◌, false}
 use Rattle.flip_image.specs.Layout.{other}
-use Rattle.store_image_model.specs.declared.chunk.Piece.{Piece}
-use Rattle.store_image_model.specs.declared.chunk.Piece.TheVariants.{Whole, Start, Page, Entries}
 use Rattle.threads_flusher.specs.Images.{IsHalfFull}
 use Rattle.threads_flusher.specs.Part.{FlushValue}
 use Rattle.store_writer.specs.Parts.{copying_of, halves_of, has_failed}
@@ -28,10 +26,3 @@ IsCopied old new = (copying_of new.writer ≢ Idle) × (halves_of new.writer ≡
 abbrev pub HasImage : {D A : Type 0} → FlushValue D A → FlushValue D A → Type 0
 HasImage old new = IsCopied old new
     ⊎ ((copying_of new.writer ≡ Idle) × ((halves_of new.writer).current ≡ other (halves_of old.writer).current))
-
--- the piece is of all cells
-abbrev pub IsAll : {A : Type 0} → Piece A → Type 0
-IsAll (Whole cells) = Unit {0}
-IsAll (Start life lists) = ⊥
-IsAll (Page page rows) = ⊥
-IsAll (Entries entries) = ⊥

@@ -1,6 +1,7 @@
 -- The states that the flush loop goes through.
-use Rattle.std.specs.Prelude.{◌≡◌, ◌⊎◌, ◌≤◌, ℕ, List, [], ◌∷◌, None, Result, IfErr, IfOk, OnErr, OnOk, false}
+use Rattle.std.specs.Prelude.{◌≡◌, ◌⊎◌, ◌≤◌, ℕ, List, [], ◌∷◌, None, Result, IfErr, IfOk, OnErr, OnOk, false, true}
 use Rattle.record_values.specs.declared.error.Error.{Error}
+use Rattle.record_values.specs.declared.error.Error.TheVariants.{DeviceFailed}
 use Rattle.core_model.specs.Histories.{Opened}
 use Rattle.sector_device.specs.DevicePast.{DevicePast, LeavesOnly}
 use Rattle.store_image_model.specs.declared.chunk.Piece.{Piece}
@@ -11,7 +12,7 @@ use Rattle.store_writer.specs.declared.writer.FlipReply.{FlipReply}
 use Rattle.store_writer.specs.declared.writer.FlushReply.{FlushReply}
 use Rattle.store_writer.specs.declared.writer.StepReply.{StepReply}
 use Rattle.store_writer.specs.declared.copying.Copying.TheVariants.{GivenUp, Idle, Steps}
-use Rattle.threads_flusher.specs.Going.{LeavesImage, TakesIn}
+use Rattle.threads_flusher.specs.Going.{GoesOn, LeavesImage, TakesIn}
 use Rattle.threads_flusher.specs.Images.{IsHalfFull}
 use Rattle.threads_flusher.specs.Part.{FlushValue, FlushLeaves, Publishes, last_handed, run_of}
 
@@ -83,3 +84,12 @@ forgotten f = record f { writer = without_image Idle f.writer }
 abbrev pub RunsThrough : {D A : Type 0} → (D → DevicePast) → (marks : ℕ → ℕ → Type 0) → (D → ℕ) → Opened
     → FlushValue D A → FlushValue D A → Type 0
 RunsThrough past_of marks failures o old new = PassesThrough past_of marks failures o (forgotten old) new
+
+-- A loop has gone on so, and ended with `Ok` where its device has not failed, or else with `DeviceFailed`. (No public
+-- clause cites this.)
+pub record HasFlushed {D A : Type 0} (past_of : D → DevicePast) (marks : ℕ → ℕ → Type 0) (failures : D
+    → ℕ) (o : Opened) (old new : FlushValue D A) (ended : Result (Unit {0}) Error) : Type 0 where
+  pub goes_on : GoesOn past_of failures o old new
+  pub through : RunsThrough past_of marks failures o old new
+  pub sound : OnOk ended (has_failed new.writer ≡ false)
+  pub failed : IfErr ended (λ e. (e ≡ DeviceFailed) × (has_failed new.writer ≡ true))

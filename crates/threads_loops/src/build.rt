@@ -14,8 +14,8 @@ use crate::rest::{Rest, has_ended, leave_room};
 use nsf_core::{BuildReply, Ticket};
 use records::Error;
 use shared::{BuildPart, Group, Memory, Shared};
-use std::sync::Wait;
 use std::sync::atomic::AtomicU64;
+use std::sync::{MutexGuard, Wait};
 
 /// What a step of the builder means to the loop.
 #[derive(Clone, Copy)]
@@ -142,7 +142,7 @@ fn build_step<B: Group, R: Wait, A: Memory>(
     let attempts = locked.attempts();
     let is_quiet = locked.is_quiet();
     locked.push_outbox(rt, shared.queue());
-    drop(locked);
+    MutexGuard::unlock(locked);
     if matches!(built, Ok(BuildReply::Done(_))) {
         shared.board().waits().pushed.ring();
     }

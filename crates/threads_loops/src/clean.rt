@@ -10,8 +10,8 @@ use crate::rest::{Rest, has_ended, pause_cleaner};
 use nsf_core::CleanReply;
 use records::Error;
 use shared::{CleanPart, Group, Memory, Shared};
-use std::sync::Wait;
 use std::sync::atomic::AtomicU64;
+use std::sync::{MutexGuard, Wait};
 
 /// Makes steps of the cleaner, each under the lock anew, until the stop flag is read. What is refused it passes over.
 /// After some steps that removed nothing it leaves room for the others by a pause, and behind a round through the index
@@ -73,6 +73,6 @@ fn clean_step<B: Group, R: Wait, A: Memory>(
     locked.push_outbox(rt, shared.queue());
     let cleaned = locked.clean_step();
     locked.push_outbox(rt, shared.queue());
-    drop(locked);
+    MutexGuard::unlock(locked);
     cleaned
 }

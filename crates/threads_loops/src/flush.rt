@@ -9,7 +9,7 @@ ghost use Rattle.store_writer.specs.Writer.{IsChunk, MustStartAgain};
 ghost use Rattle.threads_flusher.specs.Going.{GoesOn, TakesIn};
 ghost use Rattle.store_writer.specs.declared.copying.Copying.TheVariants.{Idle, Steps};
 ghost use Rattle.threads_flusher.specs.Part.{last_handed, run_of};
-ghost use Rattle.threads_loops.specs.Copying.{HasImage, IsAll, IsCopied, IsDue, IsWanted, StandsBy};
+ghost use Rattle.threads_loops.specs.Copying.{HasImage, IsCopied, IsDue, IsWanted, StandsBy};
 ghost use Rattle.threads_loops.specs.Through.{PassesThrough, RunsThrough};
 
 use crate::gate::{Gate, Point};
@@ -17,8 +17,8 @@ use crate::rest::{Found, has_ended, rest_flusher};
 use records::{Error, Geometry};
 use sector_device::Device;
 use shared::{Group, Memory, Shared};
-use std::sync::Wait;
 use std::sync::atomic::AtomicU64;
+use std::sync::{MutexGuard, Wait};
 use store_image_model::{CHUNK_ENTRIES, Chunk, CopyPlace};
 use store_writer::{Copying, FlipReply, FlushReply};
 use threads_flusher::{FlushPart, Looked};
@@ -79,7 +79,7 @@ pub(crate) fn flush_until<B: Group, D: Device, R: Wait, G: Gate, A: Memory>(
         if has_ended(in_run, ended) {
             return Ok(());
         }
-        if is_stopped(shared, part) {
+        if part.stopped(shared.board()) {
             return Ok(());
         }
         rounds = rounds.wrapping_add(1);
@@ -95,22 +95,6 @@ pub(crate) fn flush_until<B: Group, D: Device, R: Wait, G: Gate, A: Memory>(
         quiet = rest_flusher(rt, bell, rings, seen, quiet);
     }
     unreachable!()
-}
-
-// Whether all are asked to stop.
-fn is_stopped<B: Group, D: Device, A: Memory>(
-    shared: &Shared<B, A>,
-    part: &mut FlushPart<B, D, A>,
-) -> bool
-    ensures goes_on { GoesOn D.past_of D.failures B.site.opened part.old part.new }
-    ensures through { PassesThrough D.past_of D.marks D.failures B.site.opened part.old part.new }
-    ensures copying { StandsBy part.old → StandsBy part.new }
-    ensures writer { part.new.writer ≡ part.old.writer }
-    ensures seen { part.new.published.stopped ≡ result }
-{
-    let is_stopped = part.stopped(shared.board());
-    part.stands();
-    is_stopped
 }
 
 // What was found in a round, before which so much was synced, and so much had been handed in, and which went well or
@@ -147,13 +131,11 @@ fn round<B: Group, D: Device, R: Wait, G: Gate, A: Memory>(
     gate: &G,
 ) -> Result<(), Error>
     requires copying { StandsBy part.old }
-    ensures goes_on { GoesOn D.past_of D.failures B.site.opened part.old part.new }
     ensures through { PassesThrough D.past_of D.marks D.failures B.site.opened part.old part.new }
     ensures copying { StandsBy part.new }
     ensures image { OnOk result (IsWanted part.old → HasImage part.old part.new) }
 {
     let _looked = take_records(rt, shared, part, takes, looks);
-    part.stands();
     let is_full = write(shared, part, gate)?;
     copy_some(rt, shared, part, is_full, gate)
 }
@@ -187,7 +169,6 @@ fn copy_some<B: Group, D: Device, R: Wait, G: Gate, A: Memory>(
     gate: &G,
 ) -> Result<(), Error>
     requires copying { StandsBy part.old }
-    ensures goes_on { GoesOn D.past_of D.failures B.site.opened part.old part.new }
     ensures through { PassesThrough D.past_of D.marks D.failures B.site.opened part.old part.new }
     ensures copying { StandsBy part.new }
     ensures image { OnOk result (IsWanted part.old → HasImage part.old part.new) }
@@ -229,7 +210,7 @@ fn take_records<B: Group, D: Device, R: Wait, A: Memory>(
     }
     let mut locked = shared.hold_to_flush(rt, part);
     let looked = part.look(rt, shared.queue(), &mut *locked);
-    drop(locked);
+    MutexGuard::unlock(locked);
     Ok(Some(looked?))
 }
 
@@ -239,13 +220,11 @@ fn write<B: Group, D: Device, G: Gate, A: Memory>(
     part: &mut FlushPart<B, D, A>,
     gate: &G,
 ) -> Result<bool, Error>
-    ensures goes_on { GoesOn D.past_of D.failures B.site.opened part.old part.new }
     ensures through { PassesThrough D.past_of D.marks D.failures B.site.opened part.old part.new }
     ensures copying { StandsBy part.old → StandsBy part.new }
     ensures half { halves_of part.new.writer ≡ halves_of part.old.writer }
     ensures image { OnOk result (IsWanted part.old → IsWanted part.new) }
 {
-    part.stands();
     if part.synced() == part.last_handed() {
         return Ok(false);
     }
@@ -265,12 +244,10 @@ fn copy<B: Group, D: Device, R: Wait, G: Gate, A: Memory>(
     gate: &G,
 ) -> Result<(), Error>
     requires copying { StandsBy part.old }
-    ensures goes_on { GoesOn D.past_of D.failures B.site.opened part.old part.new }
     ensures through { PassesThrough D.past_of D.marks D.failures B.site.opened part.old part.new }
     ensures copying { StandsBy part.new }
     ensures image { OnOk result (IsWanted part.old → HasImage part.old part.new) }
 {
-    part.stands();
     match part.copying() {
         Copying::Idle => {
             if !part.wants_image() {
@@ -287,7 +264,7 @@ fn copy<B: Group, D: Device, R: Wait, G: Gate, A: Memory>(
     }
 }
 
-// Copies the piece of this place, and takes it.
+// Copies the piece of this place under the lock, and takes it.
 fn copy_piece<B: Group, D: Device, R: Wait, G: Gate, A: Memory>(
     rt: &R,
     shared: &Shared<B, A>,
@@ -297,17 +274,22 @@ fn copy_piece<B: Group, D: Device, R: Wait, G: Gate, A: Memory>(
 ) -> Result<(), Error>
     requires due { next_place (copying_of part.old.writer) ≡ Some place }
     requires late { IsDue part.old }
-    ensures goes_on { GoesOn D.past_of D.failures B.site.opened part.old part.new }
     ensures through { PassesThrough D.past_of D.marks D.failures B.site.opened part.old part.new }
     ensures copying { StandsBy part.new }
     ensures image { OnOk result (IsCopied part.old part.new) }
 {
     gate.at(Point::CopyStep);
-    let chunk = copied_piece(rt, shared, part, place)?;
+    if part.has_failed() {
+        return Err(Error::DeviceFailed);
+    }
+    let mut locked = shared.hold_to_flush(rt, part);
+    let copied = part.copy_step(rt, shared.queue(), &mut *locked, place);
+    MutexGuard::unlock(locked);
+    let chunk = copied?;
     take_chunk(shared, part, chunk)
 }
 
-// Copies all cells, and takes them.
+// Copies all cells under the lock, and takes them.
 fn copy_all<B: Group, D: Device, R: Wait, G: Gate, A: Memory>(
     rt: &R,
     shared: &Shared<B, A>,
@@ -315,7 +297,6 @@ fn copy_all<B: Group, D: Device, R: Wait, G: Gate, A: Memory>(
     gate: &G,
 ) -> Result<(), Error>
     requires late { IsDue part.old }
-    ensures goes_on { GoesOn D.past_of D.failures B.site.opened part.old part.new }
     ensures through { PassesThrough D.past_of D.marks D.failures B.site.opened part.old part.new }
     ensures copying { StandsBy part.new }
     ensures image { OnOk result (IsCopied part.old part.new) }
@@ -323,51 +304,11 @@ fn copy_all<B: Group, D: Device, R: Wait, G: Gate, A: Memory>(
     ensures whole { OnOk result (copying_of part.new.writer ≡ Steps None) }
 {
     gate.at(Point::CopyStep);
-    let chunk = copied_whole(rt, shared, part)?;
-    take_chunk(shared, part, chunk)
-}
-
-// Copies the piece of this place, under the lock.
-fn copied_piece<B: Group, D: Device, R: Wait, A: Memory>(
-    rt: &R,
-    shared: &Shared<B, A>,
-    part: &mut FlushPart<B, D, A>,
-    place: CopyPlace,
-) -> Result<Chunk<A>, Error>
-    requires due { next_place (copying_of part.old.writer) ≡ Some place }
-    ensures goes_on { GoesOn D.past_of D.failures B.site.opened part.old part.new }
-    ensures through { PassesThrough D.past_of D.marks D.failures B.site.opened part.old part.new }
-    ensures takes { TakesIn part.old part.new }
-    ensures chunk { IfOk result (λ chunk.
-        IsChunk (run_of B.site.opened part.new) part.new.writer chunk.number chunk.piece) }
-{
-    part.stands();
-    if part.has_failed() {
-        return Err(Error::DeviceFailed);
-    }
-    let mut locked = shared.hold_to_flush(rt, part);
-    let copied = part.copy_step(rt, shared.queue(), &mut *locked, place);
-    part.stands();
-    copied
-}
-
-// Copies all cells, under the lock.
-fn copied_whole<B: Group, D: Device, R: Wait, A: Memory>(
-    rt: &R,
-    shared: &Shared<B, A>,
-    part: &mut FlushPart<B, D, A>,
-) -> Result<Chunk<A>, Error>
-    ensures goes_on { GoesOn D.past_of D.failures B.site.opened part.old part.new }
-    ensures through { PassesThrough D.past_of D.marks D.failures B.site.opened part.old part.new }
-    ensures takes { TakesIn part.old part.new }
-    ensures chunk { IfOk result (λ chunk.
-        IsChunk (run_of B.site.opened part.new) part.new.writer chunk.number chunk.piece) }
-    ensures whole { IfOk result (λ chunk. IsAll chunk.piece) }
-{
     let mut locked = shared.hold_to_flush(rt, part);
     let copied = part.copy_whole(rt, shared.queue(), &mut *locked);
-    part.stands();
-    copied
+    MutexGuard::unlock(locked);
+    let chunk = copied?;
+    take_chunk(shared, part, chunk)
 }
 
 // Takes a chunk that was copied, or gives the image up.
@@ -378,7 +319,6 @@ fn take_chunk<B: Group, D: Device, A: Memory>(
 ) -> Result<(), Error>
     requires chunk { IsChunk (run_of B.site.opened part.old) part.old.writer chunk.number chunk.piece }
     requires late { IsDue part.old }
-    ensures goes_on { GoesOn D.past_of D.failures B.site.opened part.old part.new }
     ensures through { PassesThrough D.past_of D.marks D.failures B.site.opened part.old part.new }
     ensures copying { StandsBy part.new }
     ensures image { OnOk result (IsCopied part.old part.new) }
@@ -386,7 +326,6 @@ fn take_chunk<B: Group, D: Device, A: Memory>(
     ensures behind { OnOk result (¬ MustStartAgain chunk.piece part.old.writer → copying_of part.new.writer
         ≡ Steps (place_behind (halves_of part.old.writer).geometry.pages chunk.piece)) }
 {
-    part.stands();
     part.take_piece(shared.board(), chunk)?;
     Ok(())
 }
@@ -399,12 +338,10 @@ fn flip<B: Group, D: Device, A: Memory>(
 ) -> Result<(), Error>
     requires whole { copying_of part.old.writer ≡ Steps None }
     requires late { IsDue part.old }
-    ensures goes_on { GoesOn D.past_of D.failures B.site.opened part.old part.new }
     ensures through { PassesThrough D.past_of D.marks D.failures B.site.opened part.old part.new }
     ensures copying { StandsBy part.new }
     ensures image { OnOk result (copying_of part.old.writer ≢ Idle → HasImage part.old part.new) }
 {
-    part.stands();
     let may_wait = !is_full && part.synced() < part.last_handed();
     match part.flip(shared.board())? {
         FlipReply::Flipped(_) => Ok(()),
@@ -412,7 +349,6 @@ fn flip<B: Group, D: Device, A: Memory>(
             if may_wait {
                 return Ok(());
             }
-            part.stands();
             part.give_up();
             Ok(())
         }

@@ -5,7 +5,7 @@ ghost use Rattle.store_writer.specs.Parts.{has_failed};
 ghost use Rattle.threads_flusher.specs.Going.{GoesOn};
 ghost use Rattle.threads_loops.specs.Building.{BuildsOn, HasBuilt, reason_of};
 ghost use Rattle.threads_loops.specs.Telling.{IsToldBy};
-ghost use Rattle.threads_loops.specs.Through.{RunsThrough};
+ghost use Rattle.threads_loops.specs.Through.{HasFlushed, RunsThrough};
 
 use crate::builder_end::BuilderEnd;
 use crate::gate::Gate;
@@ -184,11 +184,8 @@ fn run_loops<
     ensures not_run { IfErr result (λ n. (n.flush ≡ flush) × (n.build ≡ build) × (n.clean ≡ clean)
         × (n.clients ≡ clients)) }
     ensures clients { IfOk result (λ r. F.post clients r.clients) }
-    ensures goes_on { IfOk result (λ r. GoesOn D.past_of D.failures B.site.opened flush r.flush) }
-    ensures through { IfOk result (λ r. RunsThrough D.past_of D.marks D.failures B.site.opened flush r.flush) }
-    ensures sound { IfOk result (λ r. OnOk r.flushed (has_failed r.flush.writer ≡ false)) }
-    ensures failed { IfOk result (λ r. IfErr r.flushed (λ error.
-        (error ≡ DeviceFailed) × (has_failed r.flush.writer ≡ true))) }
+    ensures flusher { IfOk result (λ r.
+        HasFlushed D.past_of D.marks D.failures B.site.opened flush r.flush r.flushed) }
     ensures builder { IfOk result (λ r. HasBuilt B.site.opened build r.completed r.build) }
     ensures cleaner { IfOk result (λ r. r.clean ≡ record clean { stopped = r.clean.stopped }) }
 {
@@ -202,11 +199,8 @@ fn run_loops<
             ensures not_run { IfErr result (λ n. (n.flush ≡ flush) × (n.build ≡ build) × (n.clean ≡ clean)
                 × (n.clients ≡ clients)) }
             ensures clients { IfOk result (λ r. F.post clients r.clients) }
-            ensures goes_on { IfOk result (λ r. GoesOn D.past_of D.failures B.site.opened flush r.flush) }
-            ensures through { IfOk result (λ r. RunsThrough D.past_of D.marks D.failures B.site.opened flush r.flush) }
-            ensures sound { IfOk result (λ r. OnOk r.flushed (has_failed r.flush.writer ≡ false)) }
-            ensures failed { IfOk result (λ r. IfErr r.flushed (λ error.
-                (error ≡ DeviceFailed) × (has_failed r.flush.writer ≡ true))) }
+            ensures flusher { IfOk result (λ r.
+                HasFlushed D.past_of D.marks D.failures B.site.opened flush r.flush r.flushed) }
             ensures builder { IfOk result (λ r. HasBuilt B.site.opened build r.completed r.build) }
             ensures cleaner { IfOk result (λ r. r.clean ≡ record clean { stopped = r.clean.stopped }) }
         {
@@ -245,11 +239,8 @@ fn flush_beside<
     ensures not_run { IfErr result (λ n. (n.flush ≡ flush) × (n.build ≡ build) × (n.clean ≡ clean)
         × (n.clients ≡ clients)) }
     ensures clients { IfOk result (λ r. F.post clients r.clients) }
-    ensures goes_on { IfOk result (λ r. GoesOn D.past_of D.failures B.site.opened flush r.flush) }
-    ensures through { IfOk result (λ r. RunsThrough D.past_of D.marks D.failures B.site.opened flush r.flush) }
-    ensures sound { IfOk result (λ r. OnOk r.flushed (has_failed r.flush.writer ≡ false)) }
-    ensures failed { IfOk result (λ r. IfErr r.flushed (λ error.
-        (error ≡ DeviceFailed) × (has_failed r.flush.writer ≡ true))) }
+    ensures flusher { IfOk result (λ r.
+        HasFlushed D.past_of D.marks D.failures B.site.opened flush r.flush r.flushed) }
     ensures builder { IfOk result (λ r. HasBuilt B.site.opened build r.completed r.build) }
     ensures cleaner { IfOk result (λ r. r.clean ≡ record clean { stopped = r.clean.stopped }) }
 {

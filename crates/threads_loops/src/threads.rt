@@ -1,10 +1,7 @@
 //! The threads of a run, each of which waits for the word, and what each of them does then.
-ghost use Rattle.std.specs.Prelude.{◌≡◌, IfErr, IfOk, OnOk, false, true};
-ghost use Rattle.record_values.specs.declared.error.Error.TheVariants.{DeviceFailed};
-ghost use Rattle.store_writer.specs.Parts.{has_failed};
-ghost use Rattle.threads_flusher.specs.Going.{GoesOn};
+ghost use Rattle.std.specs.Prelude.{◌≡◌, IfErr, IfOk};
 ghost use Rattle.threads_loops.specs.Building.{HasBuilt};
-ghost use Rattle.threads_loops.specs.Through.{RunsThrough};
+ghost use Rattle.threads_loops.specs.Through.{HasFlushed};
 
 use crate::build::build_until;
 use crate::builder_end::BuilderEnd;
@@ -41,17 +38,12 @@ pub(crate) struct Flushed<B: Group, D: Device> {
 pub(crate) struct FlushesOn<B: Group, D: Device>(Snapshot<FlushPart<B, D>>);
 
 impl<B: Group, D: Device> Promise<Result<Flushed<B, D>, FlushPart<B, D>>> for FlushesOn<B, D> {
-    ghost use Rattle.std.specs.Prelude.{◌≡◌, IfErr, IfOk, OnOk, false, true};
-    ghost use Rattle.record_values.specs.declared.error.Error.TheVariants.{DeviceFailed};
-    ghost use Rattle.store_writer.specs.Parts.{has_failed};
-    ghost use Rattle.threads_flusher.specs.Going.{GoesOn};
-    ghost use Rattle.threads_loops.specs.Through.{RunsThrough};
+    ghost use Rattle.std.specs.Prelude.{◌≡◌, IfErr, IfOk};
+    ghost use Rattle.threads_loops.specs.Through.{HasFlushed};
 
     ghost kept_by = { λ p result. IfErr result (λ part. part ≡ p.0.value)
-        × IfOk result (λ f. GoesOn D.past_of D.failures B.site.opened p.0.value f.flush)
-        × IfOk result (λ f. RunsThrough D.past_of D.marks D.failures B.site.opened p.0.value f.flush)
-        × IfOk result (λ f. OnOk f.ended (has_failed f.flush.writer ≡ false))
-        × IfOk result (λ f. IfErr f.ended (λ e. (e ≡ DeviceFailed) × (has_failed f.flush.writer ≡ true))) };
+        × IfOk result (λ f.
+        HasFlushed D.past_of D.marks D.failures B.site.opened p.0.value f.flush f.ended) };
 }
 
 // What the flusher does in its thread: nothing, where the run was called off.
@@ -63,11 +55,7 @@ fn flush_in_run<B: Group, D: Device, R: Wait, G: Gate>(
     run: &Run,
 ) -> Result<Flushed<B, D>, FlushPart<B, D>>
     ensures called_off { IfErr result (λ part. part ≡ flush) }
-    ensures goes_on { IfOk result (λ f. GoesOn D.past_of D.failures B.site.opened flush f.flush) }
-    ensures through { IfOk result (λ f. RunsThrough D.past_of D.marks D.failures B.site.opened flush f.flush) }
-    ensures sound { IfOk result (λ f. OnOk f.ended (has_failed f.flush.writer ≡ false)) }
-    ensures failed { IfOk result (λ f. IfErr f.ended (λ e.
-        (e ≡ DeviceFailed) × (has_failed f.flush.writer ≡ true))) }
+    ensures ran { IfOk result (λ f. HasFlushed D.past_of D.marks D.failures B.site.opened flush f.flush f.ended) }
 {
     if !run.begins(rt) {
         return Err(flush);

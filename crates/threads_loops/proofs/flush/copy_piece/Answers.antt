@@ -1,24 +1,37 @@
+use Rattle.std.proofs.Common.{◌∙◌, sym}
 use Rattle.std.proofs.lemmas.Result.{err_from_is_err_and, on_ok_weaker}
-use Rattle.threads_flusher.proofs.Going.{goes_then}
-use Rattle.threads_loops.proofs.Rounds.{copied_by_taking, due_by_taking, stands_due}
-use Rattle.threads_loops.proofs.Through.{through_then}
+use Rattle.threads_loops.proofs.Rounds.{copied_by_taking, due_by_taking, piece_due, stands_due}
+use Rattle.threads_loops.proofs.Through.{through_none, through_taking, through_then}
 use Rattle.threads_loops.proofs.flush.copy_piece.Goals as goal
 
-pub take_chunk-requires : goal.take_chunk-requires
-take_chunk-requires g c = record {
-  chunk = c.in_ok-chunk.ensures.chunk;
-  late = due_by_taking _ _ c.copied_piece.ensures.takes c.requires.late;
+pub copy_step-copied-requires-clause-sound : goal.copy_step-copied-requires-clause-sound
+copy_step-copied-requires-clause-sound g c = sym c.has_failed.ensures ∙ c.if-has_failed.false
+
+pub copy_step-copied-requires-clause-due : goal.copy_step-copied-requires-clause-due
+copy_step-copied-requires-clause-due g c = piece_due c.args.place c.args.part.now.writer c.requires.due
+
+pub take_chunk-requires-clause-chunk : goal.take_chunk-requires-clause-chunk
+take_chunk-requires-clause-chunk g c = c.in_ok-chunk.ensures.chunk
+
+pub take_chunk-requires-clause-late : goal.take_chunk-requires-clause-late
+take_chunk-requires-clause-late g c = due_by_taking _ _ c.copy_step-copied.ensures.takes c.requires.late
+
+pub returns-then-has_failed : goal.returns-then-has_failed
+returns-then-has_failed g c = record {
+  through = through_none g.D.Device.past_of g.D.Device.failures g.B.Group.site.opened c.args.part.now;
+  copying = stands_due c.args.part.now c.requires.late;
+  image = tt;
 }
 
 pub returns-in_err-chunk : goal.returns-in_err-chunk
 returns-in_err-chunk g c =
-    let new = c.copied_piece.new.part in
-    let is = c.copied_piece.ensures in
+    let old = c.args.part.now in
+    let new = c.copy_step-copied.new.self in
+    let takes = c.copy_step-copied.ensures.takes in
     let p = err_from_is_err_and c.from_residual.result c.from_residual.ensures.1 in
     rw p.1 (record {
-      goes_on = is.goes_on;
-      through = is.through;
-      copying = stands_due new (due_by_taking c.args.part.now new is.takes c.requires.late);
+      through = through_taking g.D.Device.past_of g.D.Device.failures g.B.Group.site.opened old new takes;
+      copying = stands_due new (due_by_taking old new takes c.requires.late);
       image = tt;
     })
 
@@ -28,13 +41,12 @@ returns g c =
     let failures = g.D.Device.failures in
     let o = g.B.Group.site.opened in
     let old = c.args.part.now in
-    let mid = c.copied_piece.new.part in
+    let mid = c.copy_step-copied.new.self in
     let new = c.take_chunk.new.part in
-    let first = c.copied_piece.ensures in
+    let takes = c.copy_step-copied.ensures.takes in
     let is = c.take_chunk.ensures in
     record {
-      goes_on = goes_then past_of failures o old mid new first.goes_on is.goes_on;
-      through = through_then past_of failures o old mid new first.through is.through;
+      through = through_then past_of failures o old mid new (through_taking past_of failures o old mid takes) is.through;
       copying = is.copying;
-      image = on_ok_weaker c.take_chunk.result (copied_by_taking old mid first.takes new) is.image;
+      image = on_ok_weaker c.take_chunk.result (copied_by_taking old mid takes new) is.image;
     }

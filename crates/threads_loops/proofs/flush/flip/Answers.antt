@@ -1,12 +1,10 @@
 use Rattle.std.proofs.Common.{subst}
 use Rattle.std.proofs.lemmas.Result.{err_from_is_err_and}
 use Rattle.threads_flusher.specs.Part.{last_handed}
-use Rattle.threads_flusher.proofs.Going.{goes_by_leaving, goes_then}
 use Rattle.threads_loops.specs.Through.{Calls}
 use Rattle.threads_loops.proofs.Rounds.{image_behind, image_flipped, image_given, stands_behind, stands_failed, stands_flipped, stands_given}
-use Rattle.threads_loops.proofs.Through.{by_flip, goes_by, through_call, through_giving, through_then}
+use Rattle.threads_loops.proofs.Through.{by_flip, through_call, through_giving, through_then}
 use Rattle.store_writer.specs.Writer.{IsFlipReply}
-use Rattle.store_writer.specs.declared.copying.Copying.TheVariants.{GivenUp}
 use Rattle.store_writer.specs.declared.writer.FlipReply.{FlipReply}
 use Rattle.store_writer.specs.declared.writer.FlipReply.TheVariants.{Behind, Flipped}
 use Rattle.threads_loops.proofs.flush.flip.Goals as goal
@@ -23,7 +21,6 @@ returns-in_err-flip g c =
     is.sound is.err is.kept is.left in
     let p = err_from_is_err_and c.from_residual.result c.from_residual.ensures.1 in
     rw p.1 (record {
-      goes_on = goes_by past_of failures o old new c.stands.ensures.horizon call;
       through = through_call past_of failures o old new call;
       copying = stands_failed old new c.in_err-flip.ensures.err.1;
       image = tt;
@@ -42,7 +39,6 @@ returns-in-Flipped g c =
     let flipped : IsFlipReply (last_handed o old) (Flipped c.in-Flipped.field-0) old.writer new.writer =
     subst (λ (r : FlipReply). IsFlipReply (last_handed o old) r old.writer new.writer) c.in-Flipped.is c.in_ok-flip.ensures.flipped in
     record {
-      goes_on = goes_by past_of failures o old new c.stands.ensures.horizon call;
       through = through_call past_of failures o old new call;
       copying = stands_flipped old new (last_handed o old) c.in-Flipped.field-0 flipped;
       image = λ copied. image_flipped old new (last_handed o old) c.in-Flipped.field-0 flipped;
@@ -61,7 +57,6 @@ returns-then-may_wait g c =
     let behind : IsFlipReply (last_handed o old) Behind old.writer new.writer =
     subst (λ (r : FlipReply). IsFlipReply (last_handed o old) r old.writer new.writer) c.in-Behind.is c.in_ok-flip.ensures.flipped in
     record {
-      goes_on = goes_by past_of failures o old new c.stands.ensures.horizon call;
       through = through_call past_of failures o old new call;
       copying = stands_behind old new (last_handed o old) behind c.requires.late;
       image = image_behind old new (last_handed o old) behind;
@@ -81,8 +76,6 @@ returns-else-may_wait g c =
     let behind : IsFlipReply (last_handed o old) Behind old.writer new.writer =
     subst (λ (r : FlipReply). IsFlipReply (last_handed o old) r old.writer new.writer) c.in-Behind.is c.in_ok-flip.ensures.flipped in
     record {
-      goes_on = goes_then past_of failures o old new last (goes_by past_of failures o old new c.stands.ensures.horizon call)
-          (goes_by_leaving past_of failures o GivenUp new last c.stands-in-Behind.ensures c.give_up.ensures);
       through = through_then past_of failures o old new last (through_call past_of failures o old new call)
           (through_giving past_of failures o old new last c.requires.whole is.publishes behind c.give_up.ensures);
       copying = stands_given old new (last_handed o old) last behind c.give_up.ensures c.requires.late;

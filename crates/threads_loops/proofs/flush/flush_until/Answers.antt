@@ -1,21 +1,23 @@
 use Rattle.std.proofs.Common.{◌∙◌, ap, refl, sym}
 use Rattle.std.proofs.lemmas.Bool.{false≢true}
-use Rattle.store_writer.specs.Parts.{copying_of, has_failed}
-use Rattle.store_writer.specs.declared.copying.Copying.TheVariants.{Idle}
-use Rattle.threads_flusher.specs.Going.{GoesOn}
+use Rattle.store_writer.specs.Parts.{copying_of}
+use Rattle.threads_flusher.specs.Going.{TakesIn}
 use Rattle.threads_flusher.specs.Part.{FlushValue}
-use Rattle.threads_flusher.proofs.Going.{goes_by_leaving, goes_then}
+use Rattle.threads_flusher.proofs.Taking.{took_look}
 use Rattle.threads_loops.specs.Through.{RunsThrough}
-use Rattle.threads_loops.proofs.Through.{through_forgetting, through_then}
+use Rattle.threads_loops.proofs.Rounds.{stands_by_taking}
+use Rattle.threads_loops.proofs.Running.{goes_by_running}
+use Rattle.threads_loops.proofs.Through.{through_forgetting, through_taking, through_then}
 use Rattle.threads_loops.proofs.flush.flush_until.Goals as goal
 
 pub round-requires : goal.round-requires
-round-requires g c = record { copying = c.is_stopped.ensures.copying c.loop.invariant.copying }
+round-requires g c =
+    let was = c.loop.part in
+    let mid = c.stopped.new.self in
+    record { copying = stands_by_taking was mid (took_look was mid c.stopped.ensures.looks) c.loop.invariant.copying }
 
 pub loop-init : goal.loop-init
 loop-init g c = record {
-  goes_on = goes_by_leaving g.D.Device.past_of g.D.Device.failures g.B.Group.site.opened Idle c.args.part.now c.forget_image.new.self c.stands.ensures
-      c.forget_image.ensures;
   through = through_forgetting g.D.Device.past_of g.D.Device.failures g.B.Group.site.opened c.args.part.now c.forget_image.new.self
       c.forget_image.ensures;
   copying = λ _ copied. absurd (copied (ap (λ (f : FlushValue _ _). copying_of f.writer) c.forget_image.ensures));
@@ -26,22 +28,20 @@ loop-preserved g c =
     let past_of = g.D.Device.past_of in
     let failures = g.D.Device.failures in
     let o = g.B.Group.site.opened in
-    let old = c.args.part.now in
     let was = c.loop.part in
-    let mid = c.is_stopped.new.part in
-    let new = c.round.new.part in
-    let goes : GoesOn past_of failures o old mid = goes_then past_of failures o old was mid c.loop.invariant.goes_on c.is_stopped.ensures.goes_on in
-    let through : RunsThrough past_of g.D.Device.marks failures o old mid = through_then past_of failures o _ was mid c.loop.invariant.through
-    c.is_stopped.ensures.through in
+    let mid = c.stopped.new.self in
+    let takes : TakesIn was mid = took_look was mid c.stopped.ensures.looks in
+    let through : RunsThrough past_of g.D.Device.marks failures o c.args.part.now mid = through_then past_of failures o _ was mid c.loop.invariant.through
+    (through_taking past_of failures o was mid takes) in
     record {
-      goes_on = goes_then past_of failures o old mid new goes c.round.ensures.goes_on;
-      through = through_then past_of failures o _ mid new through c.round.ensures.through;
+      through = through_then past_of failures o _ mid c.round.new.part through c.round.ensures.through;
       copying = c.round.ensures.copying;
     }
 
 pub returns-then-has_failed : goal.returns-then-has_failed
 returns-then-has_failed g c = record {
-  goes_on = c.loop.invariant.goes_on;
+  goes_on = goes_by_running g.D.Device.past_of g.D.Device.failures g.B.Group.site.opened c.args.part.now c.loop.part c.stands.ensures
+      c.loop.invariant.through;
   through = c.loop.invariant.through;
   stopped = tt;
   failed = (refl, sym c.has_failed.ensures ∙ c.if-has_failed.true);
@@ -49,7 +49,8 @@ returns-then-has_failed g c = record {
 
 pub returns-then-has_ended : goal.returns-then-has_ended
 returns-then-has_ended g c = record {
-  goes_on = c.loop.invariant.goes_on;
+  goes_on = goes_by_running g.D.Device.past_of g.D.Device.failures g.B.Group.site.opened c.args.part.now c.loop.part c.stands.ensures
+      c.loop.invariant.through;
   through = c.loop.invariant.through;
   stopped = (
     (λ alone. absurd (false≢true (sym (c.has_ended.ensures alone) ∙ c.if-has_ended.true))),
@@ -58,17 +59,21 @@ returns-then-has_ended g c = record {
   failed = tt;
 }
 
-pub returns-then-is_stopped : goal.returns-then-is_stopped
-returns-then-is_stopped g c =
+pub returns-then-stopped : goal.returns-then-stopped
+returns-then-stopped g c =
     let past_of = g.D.Device.past_of in
     let failures = g.D.Device.failures in
     let o = g.B.Group.site.opened in
+    let old = c.args.part.now in
     let was = c.loop.part in
-    let new = c.is_stopped.new.part in
-    let is = c.is_stopped.ensures in
+    let new = c.stopped.new.self in
+    let is = c.stopped.ensures in
+    let takes : TakesIn was new = took_look was new is.looks in
+    let through : RunsThrough past_of g.D.Device.marks failures o old new = through_then past_of failures o _ was new c.loop.invariant.through
+    (through_taking past_of failures o was new takes) in
     record {
-      goes_on = goes_then past_of failures o c.args.part.now was new c.loop.invariant.goes_on is.goes_on;
-      through = through_then past_of failures o _ was new c.loop.invariant.through is.through;
-      stopped = ((λ alone. is.seen ∙ c.if-is_stopped.true), ap (λ w. has_failed w) is.writer ∙ (sym c.has_failed.ensures ∙ c.if-has_failed.false));
+      goes_on = goes_by_running past_of failures o old new c.stands.ensures through;
+      through = through;
+      stopped = ((λ alone. is.seen ∙ c.if-stopped.true), takes.got.failed ∙ (sym c.has_failed.ensures ∙ c.if-has_failed.false));
       failed = tt;
     }

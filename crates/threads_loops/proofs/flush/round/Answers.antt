@@ -1,7 +1,5 @@
 use Rattle.std.proofs.Common.{◌∙◌}
 use Rattle.std.proofs.lemmas.Result.{err_from_is_err_and, on_ok_weaker}
-use Rattle.threads_flusher.specs.Going.{GoesOn}
-use Rattle.threads_flusher.proofs.Going.{goes_by_taking, goes_then}
 use Rattle.threads_loops.specs.Through.{PassesThrough}
 use Rattle.threads_loops.proofs.Rounds.{image_from, stands_by_taking, wanted_by_taking}
 use Rattle.threads_loops.proofs.Through.{through_taking, through_then}
@@ -24,7 +22,6 @@ returns-in_err-is_full g c =
     let is = c.write.ensures in
     let p = err_from_is_err_and c.from_residual.result c.from_residual.ensures.1 in
     rw p.1 (record {
-      goes_on = goes_then past_of failures o old got new (goes_by_taking past_of failures o old got c.stands.ensures takes) is.goes_on;
       through = through_then past_of failures o old got new (through_taking past_of failures o old got takes) is.through;
       copying = is.copying (stands_by_taking old got takes c.requires.copying);
       image = tt;
@@ -40,12 +37,9 @@ returns g c =
     let mid = c.write.new.part in
     let new = c.copy_some.new.part in
     let takes = c.take_records-looked.ensures.takes in
-    let goes : GoesOn past_of failures o old mid = goes_then past_of failures o old got mid
-    (goes_by_taking past_of failures o old got c.stands.ensures takes) c.write.ensures.goes_on in
     let through : PassesThrough past_of g.D.Device.marks failures o old mid = through_then past_of failures o old got mid
     (through_taking past_of failures o old got takes) c.write.ensures.through in
     record {
-      goes_on = goes_then past_of failures o old mid new goes c.copy_some.ensures.goes_on;
       through = through_then past_of failures o old mid new through c.copy_some.ensures.through;
       copying = c.copy_some.ensures.copying;
       image = on_ok_weaker c.copy_some.result (λ image wanted. image_from old mid new (c.write.ensures.half ∙ takes.got.halves)

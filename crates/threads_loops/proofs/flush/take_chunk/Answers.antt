@@ -2,7 +2,7 @@ use Rattle.std.proofs.lemmas.Result.{err_from_is_err_and}
 use Rattle.threads_loops.specs.Copying.{IsDue}
 use Rattle.threads_loops.specs.Through.{Calls}
 use Rattle.threads_loops.proofs.Rounds.{copied_behind, copying_behind, due_behind, stands_due}
-use Rattle.threads_loops.proofs.Through.{by_step, goes_by, through_call}
+use Rattle.threads_loops.proofs.Through.{by_step, through_call}
 use Rattle.threads_loops.proofs.flush.take_chunk.Goals as goal
 
 pub returns-in_err-take_piece : goal.returns-in_err-take_piece
@@ -18,7 +18,6 @@ returns-in_err-take_piece g c =
     let due : IsDue new = due_behind old new failures c.args.chunk.number c.args.chunk.piece c.take_piece.result is.stepped is.err c.requires.late in
     let p = err_from_is_err_and c.from_residual.result c.from_residual.ensures.1 in
     rw p.1 (record {
-      goes_on = goes_by past_of failures o old new c.stands.ensures.horizon call;
       through = through_call past_of failures o old new call;
       copying = stands_due new due;
       image = tt;
@@ -38,7 +37,6 @@ returns g c =
     c.args.chunk.piece c.take_piece.result c.requires.chunk c.requires.late is.stepped is.sound is.err is.kept is.left in
     let due : IsDue new = due_behind old new failures c.args.chunk.number c.args.chunk.piece c.take_piece.result is.stepped is.err c.requires.late in
     record {
-      goes_on = goes_by past_of failures o old new c.stands.ensures.horizon call;
       through = through_call past_of failures o old new call;
       copying = stands_due new due;
       image = copied_behind old new failures c.args.chunk.number c.args.chunk.piece c.in_ok-take_piece.field-0 c.in_ok-take_piece.ensures.stepped;

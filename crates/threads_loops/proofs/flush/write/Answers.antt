@@ -1,14 +1,12 @@
 use Rattle.std.proofs.Common.{refl}
 use Rattle.std.proofs.lemmas.Result.{err_from_is_err_and}
-use Rattle.threads_flusher.proofs.Going.{goes_nowhere}
 use Rattle.threads_loops.specs.Through.{Calls}
 use Rattle.threads_loops.proofs.Rounds.{stands_by_flush, wanted_by_flush}
-use Rattle.threads_loops.proofs.Through.{by_flush, goes_by, through_call, through_none}
+use Rattle.threads_loops.proofs.Through.{by_flush, through_call, through_none}
 use Rattle.threads_loops.proofs.flush.write.Goals as goal
 
 pub returns-then-synced-last_handed : goal.returns-then-synced-last_handed
 returns-then-synced-last_handed g c = record {
-  goes_on = goes_nowhere g.D.Device.past_of g.D.Device.failures g.B.Group.site.opened c.args.part.now c.stands.ensures;
   through = through_none g.D.Device.past_of g.D.Device.failures g.B.Group.site.opened c.args.part.now;
   copying = λ stood. stood;
   half = refl;
@@ -27,7 +25,6 @@ returns-in_err-reply g c =
     is.around.halves-are is.flushed is.sound is.err is.kept is.left in
     let p = err_from_is_err_and c.from_residual.result c.from_residual.ensures.1 in
     rw p.1 (record {
-      goes_on = goes_by past_of failures o old new c.stands.ensures.horizon call;
       through = through_call past_of failures o old new call;
       copying = stands_by_flush old new failures is.around.halves-are is.copying c.flush-flushed.result is.flushed is.sound is.err;
       half = is.around.halves-are;
@@ -45,7 +42,6 @@ returns g c =
     let call : Calls past_of g.D.Device.marks failures o old new = by_flush past_of failures o old new is.publishes is.images is.later c.flush-flushed.result
     is.around.halves-are is.flushed is.sound is.err is.kept is.left in
     record {
-      goes_on = goes_by past_of failures o old new c.stands.ensures.horizon call;
       through = through_call past_of failures o old new call;
       copying = stands_by_flush old new failures is.around.halves-are is.copying c.flush-flushed.result is.flushed is.sound is.err;
       half = is.around.halves-are;

@@ -8,10 +8,7 @@ returns-in-Ok-clean_beside g c =
     rw c.all_ran.ensures (record {
       not_run = tt;
       clients = is.clients;
-      goes_on = kept.1;
-      through = kept.2;
-      sound = kept.3;
-      failed = kept.4;
+      flusher = kept.1;
       builder = is.builder;
       cleaner = is.cleaner;
     })
@@ -23,10 +20,7 @@ returns-in-Err-clean_beside g c =
     record {
       not_run = (kept.0, is.not_run.0, is.not_run.1, is.not_run.2);
       clients = tt;
-      goes_on = tt;
-      through = tt;
-      sound = tt;
-      failed = tt;
+      flusher = tt;
       builder = tt;
       cleaner = tt;
     }
@@ -35,10 +29,7 @@ pub returns-in-Err : goal.returns-in-Err
 returns-in-Err g c = record {
   not_run = (c.in-Err.ensures.back, refl, refl, refl);
   clients = tt;
-  goes_on = tt;
-  through = tt;
-  sound = tt;
-  failed = tt;
+  flusher = tt;
   builder = tt;
   cleaner = tt;
 }

@@ -14,10 +14,10 @@ returns-in-Ok g c =
     rw ended.same (record {
       not_run = tt;
       clients = is.clients;
-      goes_on = is.goes_on;
-      through = is.through;
-      sound = is.sound;
-      failed = is.failed;
+      goes_on = is.flusher.goes_on;
+      through = is.flusher.through;
+      sound = is.flusher.sound;
+      failed = is.flusher.failed;
       builder = built_on o c.args.build last.build last.completed c.tell-told.result.error all.built is.builder c.tell-told.ensures.ends ended.ok ended.err;
       cleaner = is.cleaner;
       told = c.tell-told.ensures.here;
