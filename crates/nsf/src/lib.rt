@@ -97,7 +97,8 @@
 //!
 //! A client may say by a ghost member `works` what its work makes of it, where it finds its seat so and leaves it so;
 //! this one says nothing. One that keeps a number as `safe` says `after.safe ≤ last.sight.horizon`: then that record
-//! isn't lost.
+//! isn't lost. One that says `after.safe ≤ last.sight.safe` keeps it at any moment since the mark that its seat has
+//! read last.
 //!
 //! A client's crate needs no proof of its own for the types that threads share: `serve` picks the group, and starts the
 //! threads. Where a client calls in a loop, the loop's invariant says that the seat is the same one, in a file
@@ -135,9 +136,10 @@
 //! Of many: all clients of `serve` have worked, each with a new seat of its own. Then a crash leaves what was opened
 //! with the commits of these seats set over it, up to some record. That isn't before any horizon that one of the seats
 //! has read; and where nothing was refused, it has all (`leaves`). Nor is it before one at any moment since `see` was
-//! called, once clients and loops had ended (`leaves` of `serve_and_see`). What was left may be opened again (the law
-//! `left_by_threads`). Why not all was written is told (`why`), and how the builder ended. Above it stands
-//! `live_beside` of `headline`. Only tested (`test_nsf`): both examples.
+//! called, once clients and loops had ended (`leaves` of `serve_and_see`). At any moment since the one that a mark is
+//! of which a seat has read, it isn't before the horizon that this seat had seen then (`marked`). What was left may be
+//! opened again (the law `left_by_threads`). Why not all was written is told (`why`), and how the builder ended. Above
+//! it stands `live_beside` of `headline`. Only tested (`test_nsf`): both examples.
 #![tactic(auto)]
 
 mod clients;

@@ -67,7 +67,7 @@ impl Put {
         Ok(())
     }
 
-    // Puts the row, reads a mark, and puts one that is still under way as the client ends.
+    // Puts the row, reads a mark, which a disk in memory has, and puts one that is still under way as the client ends.
     fn put_both<B: Group, R: Wait>(
         &self,
         rt: &R,
@@ -77,7 +77,7 @@ impl Put {
         ensures { seat.new.number ≡ seat.old.number }
     {
         self.put(rt, shared, seat)?;
-        shared.mark(seat);
+        shared.mark(seat).ok_or(Error::NoSuchTxn)?;
         Put::put_one(rt, shared, seat, Key::new(b"dog")?)?;
         Ok(())
     }
