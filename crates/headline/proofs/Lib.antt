@@ -9,4 +9,5 @@ mod Holding
 mod Torn
 mod Moving
 mod Opened
+mod Commits
 mod Shared

@@ -1,12 +1,12 @@
 -- What a store is found with that clients used, until it stopped.
 use Rattle.std.proofs.Common.{zero, suc, ◌∷◌}
 use Rattle.std.proofs.Common.{◌≡◌, ◌≢◌, ⊎_elim, inl, inr, ℕ, ◌+◌, ◌≤◌, ◌<◌, ◌++◌, Bool, true, false, List, [], length, take, refl, sym, ap, subst, ◌∙◌}
-use Rattle.std.proofs.Common.{arith, map, Result, Ok, Err, IfErr, OnOk, Option, None, Some, IfSome, length-take}
-use Rattle.std.specs.Prelude.{slice_get, slice_index_or}
+use Rattle.std.proofs.Common.{arith, cond, map, Result, Ok, Err, IfErr, OnOk, Option, None, Some, IfSome, length-take}
+use Rattle.std.specs.Prelude.{nat_lt, option_and_then, slice_get, slice_index_or}
 use mathlib.Core.Logic.{dite}
 use native.Mathlib.Decide.{ℕ_discrete}
 use Rattle.std.proofs.Math.Logic.{∥∥₁_elim, ∥∥₁_map, ∥∥₁_prop}
-use Rattle.std.proofs.lemmas.Bool.{cases_lt}
+use Rattle.std.proofs.lemmas.Bool.{cases_lt, ltb-true}
 use Rattle.std.specs.Coded.{le_prop}
 use Rattle.record_values.specs.GeometryValue.{GeometryValue}
 use Rattle.records.specs.RecordValue.{RecordValue}
@@ -43,11 +43,12 @@ use Rattle.headline.specs.declared.shared_day.End.TheVariants.{Behind, Closing, 
 use Rattle.headline.specs.declared.shared_day.SharedAnswer.{SharedAnswer}
 use Rattle.headline.specs.declared.shared_day.SharedDay.{SharedDay}
 use Rattle.headline.specs.AtRest.{AtRest, resting}
-use Rattle.headline.specs.Beside.{HasLivedBeside, IsNotLivedBeside, KeepsSafe, MayStopEarly}
+use Rattle.headline.specs.Beside.{HasLivedBeside, IsNotLivedBeside, known_safe}
 use Rattle.headline.specs.Days.{Answer, IsUnopened}
 use Rattle.headline.specs.Held.{HasLived, IsNotBuilt, IsNotReopened, IsUnbuilt}
 use Rattle.headline.specs.Kept.{EndsBuild, FindsShared, GivesDays, IsBegun, KeepsDays}
 use Rattle.headline.specs.Stops.{StopsAt, mark_read}
+use Rattle.headline.proofs.Commits.{one_commits}
 use Rattle.headline.proofs.Holding.{behind, not_reopened, unbuilt}
 use Rattle.headline.proofs.Stopped.{GivesBack, Images, between, now_gives, why_unopened}
 
@@ -81,13 +82,25 @@ mark_at f (y ∷ xs) (suc k) x at = mark_at f xs k x at
 some_is : {X : Type 0} (a b : X) → Some a ≡ Some b → a ≡ b
 some_is a b e = cc
 
--- neither behind all that was done, nor as the clients had ended, nor since one had read a mark
-within_opening : (end : End) (seats : List SeatValue) → (end ≡ Behind → ⊥) → (end ≡ Closing → ⊥)
-    → ((k : ℕ) (s : SeatValue) → end ≡ Since k → slice_get seats k ≡ Some s → s.sight.mark ≡ 0) → MayStopEarly end seats
-within_opening Behind seats behind closing none = behind refl
-within_opening Closing seats behind closing none = closing refl
-within_opening (Since k) seats behind closing none = λ s at. none k s refl at
-within_opening Opening seats behind closing none = tt
+-- what is known to be safe since a client had read a mark
+since_read : (P : ℕ → Type 0) (seats : List SeatValue) (k horizon : ℕ)
+    → ((s : SeatValue) → slice_get seats k ≡ Some s → s.sight.mark ≢ 0 → P s.sight.safe) → IfSome (known_safe (Since k) seats horizon) P
+since_read P seats k horizon = by (slice_get seats k)
+  where
+    by_mark : (s : SeatValue) (b : Bool) → (b ≡ true → 0 < s.sight.mark) → (s.sight.mark ≢ 0 → P s.sight.safe)
+        → IfSome (cond b (Some s.sight.safe) None) P
+    by_mark s true less safe = let some = less refl in safe (λ none. omega (arith, none, some))
+    by_mark s false less safe = tt
+
+    by : (o : Option SeatValue) → ((s : SeatValue) → o ≡ Some s → s.sight.mark ≢ 0 → P s.sight.safe)
+        → IfSome (option_and_then (λ (s : SeatValue). cond (nat_lt 0 s.sight.mark) (Some s.sight.safe) None) o) P
+    by None read = tt
+    by (Some s) read = by_mark s (nat_lt 0 s.sight.mark) (ltb-true 0 s.sight.mark) (read s refl)
+
+-- nothing is
+none_known : (o : Option ℕ) → IfSome o (λ number. ⊥) → o ≡ None
+none_known None nothing = refl
+none_known (Some number) nothing = absurd nothing
 
 on_ok : {T E : Type 0} (P Q : Type 0) (r : Result T E) → (P → Q) → OnOk r P → OnOk r Q
 on_ok P Q (Ok x) more is = more is
@@ -216,32 +229,36 @@ module _ {D M C : Type 0} (past_of : D → DevicePast) (failures : D → ℕ) (w
     -- ---- it stopped within the opening
 
     early : t < (past_of opened).moment → FindsShared works failures g began days answers day answer (failures found) image
-    early less =
-        let gave : GivesDays failures g began days answers (failures before) image =
-        opening.each t image stops.stop.from (omega (arith, less))
-        (subst (λ (d : Disk). IsCrashState d image) (work.since.kept t (omega (arith, less))) crash) in
-        let behind : day.end ≡ Behind → ⊥ = λ is. omega (arith, less, stops.at-end is, work.since.later) in
-        let closing : day.end ≡ Closing → ⊥ = λ is. omega (arith, less, stops.closing is, ended.before.later) in
-        let none : (k : ℕ) (s : SeatValue) → day.end ≡ Since k → slice_get work.seats k ≡ Some s → s.sight.mark ≡ 0 = λ k s is at.
-        dite (ℕ_discrete s.sight.mark 0) (λ no. no) (λ not.
-        let read = reads k s is at not in absurd (omega (arith, less, stops.since k is, read.is, read.behind))) in
-        record {
-          store = resting gave.given (failures found);
-          lived = record {
-            before = resting gave.given (failures before);
-            days-are = gave.days-are;
-            seats = work.seats;
-            horizon = work.floor;
-            worked = work.worked;
-            served = inr (within_opening day.end work.seats behind closing none, refl);
-            later = later_now;
-            why = why_now;
-          };
-          given = gave.given;
-          gives = gave.gives;
-          rests = refl;
-          opens = gave.opens;
-        }
+    early less = record {
+      store = resting gave.given (failures found);
+      lived = record {
+        before = resting gave.given (failures before);
+        days-are = gave.days-are;
+        seats = work.seats;
+        horizon = work.floor;
+        worked = work.worked;
+        served = inr (none_known (known_safe day.end work.seats work.floor) (none day.end refl), refl);
+        later = later_now;
+        why = why_now;
+      };
+      given = gave.given;
+      gives = gave.gives;
+      rests = refl;
+      opens = gave.opens;
+    }
+      where
+        gave : GivesDays failures g began days answers (failures before) image
+        gave =
+            opening.each t image stops.stop.from (omega (arith, less))
+            (subst (λ (d : Disk). IsCrashState d image) (work.since.kept t (omega (arith, less))) crash)
+
+        none : (end : End) → day.end ≡ end → IfSome (known_safe end work.seats work.floor) (λ number. ⊥)
+        none Behind is = omega (arith, less, stops.at-end is, work.since.later)
+        none Closing is = omega (arith, less, stops.closing is, ended.before.later)
+        none (Since k) is = since_read (λ number. ⊥) work.seats k work.floor (λ s at not.
+            let read = reads k s is at not in
+            omega (arith, less, stops.since k is, read.is, read.behind))
+        none Opening is = tt
 
     -- ---- it stopped since
 
@@ -333,17 +350,19 @@ module _ {D M C : Type 0} (past_of : D → DevicePast) (failures : D → ℕ) (w
           omega (arith, so, same, length-take other.count all, other.most, other.least))
 
       -- so is all that is safe of a day that ends so
-      safe : (end : End) → day.end ≡ end → KeepsSafe end work.seats work.floor last-given.last
+      safe : (end : End) → day.end ≡ end → IfSome (known_safe end work.seats work.floor) (λ number. number ≤ last-given.last)
       safe Behind is = reached (past_of ended.was).moment work.floor ended.since.each (omega (arith, stops.at-end is, ended.since.later))
       safe Closing is = reached (past_of ended.was).moment work.floor ended.since.each (stops.closing is)
-      safe (Since k) is = λ s at not.
+      safe (Since k) is = since_read (λ number. number ≤ last-given.last) work.seats k work.floor (λ s at not.
           let read = reads k s is at not in
           let low = reached read.published.moment read.published.horizon read.kept.each (omega (arith, read.is, stops.since k is)) in
-          omega (arith, low, read.reaches)
+          omega (arith, low, read.reaches))
       safe Opening is = tt
 
-      all_of : AllKept → (all : List CommitValue) × AreCommitsOf work.seats all × (last-given.table ≡ table_with first.table all)
-      all_of is = (is.commits, is.of-seats, ap (λ (x : Given). x.table) (images.given image g h last-given is.given some.gives is.gives) ∙ is.table)
+      all_of : AllKept → last-given.table ≡ table_with first.table some.commits
+      all_of is =
+          ap (λ (x : Given). x.table) (images.given image g h last-given is.given some.gives is.gives)
+          ∙ (is.table ∙ ap (table_with first.table) (one_commits work.seats is.commits some.commits is.of-seats some.all))
 
       all_left : AllKept → (left : CoreValue) × (popped : List RecordValue) × (commits : List CommitValue)
           × ∥ IsCoreOf o work.seats popped left commits ∥₁ × (last-given.life ≡ left.life) × (last-given.last ≡ left.last)

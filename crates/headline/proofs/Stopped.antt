@@ -1,6 +1,7 @@
 -- What a device keeps of a store's days, as one day more goes by.
-use Rattle.std.proofs.Common.{◌≡◌, ⊎_elim, inl, inr, ℕ, ◌+◌, ◌<◌, ◌≤◌, List, [], ◌∷◌, ◌++◌}
+use Rattle.std.proofs.Common.{◌≡◌, ⊎_elim, inl, inr, ℕ, ◌+◌, ◌<◌, ◌≤◌, Bool, cond, List, [], ◌∷◌, ◌++◌, None, Option, Some}
 use Rattle.std.proofs.Common.{Ok, Err, length, get_or, take, sym, refl, ap, subst, ◌∙◌, arith, length-append}
+use Rattle.std.proofs.lemmas.Bool.{lt-ltb}
 use Rattle.std.proofs.lemmas.List.{take_more}
 use Rattle.std.specs.declared.vec.Vec.{Vec}
 use Rattle.record_values.specs.GeometryValue.{GeometryValue}
@@ -9,6 +10,7 @@ use Rattle.gate_log.specs.Area.{Refuses}
 use Rattle.model.specs.Given.{Given}
 use Rattle.core_model.specs.Histories.{CanOpen}
 use Rattle.core_loader.specs.Loaded.{holding}
+use Rattle.core_parts.specs.View.{CoreValue}
 use Rattle.sector_device.specs.Disk.{CrashState, IsCrashState}
 use Rattle.sector_device.specs.DevicePast.{DevicePast, LeavesOnly}
 use Rattle.sector_device.proofs.Moments.{weaker}
@@ -35,6 +37,10 @@ pub record Images : Type 0 where
   pub geometry : (image : CrashState) (g h : GeometryValue) (x y : Given) → Gives image g x → Gives image h y → g ≡ h
   pub given : (image : CrashState) (g h : GeometryValue) (x y : Given) → Gives image g x → Gives image h y → x ≡ y
   pub readable : (image : CrashState) (g : GeometryValue) (given : Given) (e : Error) → Gives image g given → ¬ IsUnreadable image e
+
+-- the core with this page to be taken next
+abbrev with_wanted : CoreValue → Option ℕ → CoreValue
+with_wanted v page = record v { scan = record v.scan { wanted = page } }
 
 abbrev pub GivesBack : Type 0
 GivesBack = (old image : CrashState) → IsWrittenBack old image → (g : GeometryValue) (given : Given) → Gives old g given → Gives image g given
@@ -68,13 +74,19 @@ module _ {D M : Type 0} (past_of : D → DevicePast) (failures : D → ℕ) (g :
     begins = subst (λ (x : Given). IsAt past_of (opening g x) engine) same
         (subst (λ (x : GeometryValue). IsAt past_of (opening x is.opened.given) engine) size (is.opened.begins can))
 
+    -- a store has a page at least, so the first one is wanted
+    first_wanted : holding g gives.given ≡ with_wanted (holding g gives.given) (Some 0)
+    first_wanted =
+        ap (λ (some : Bool). with_wanted (holding g gives.given) (cond some (Some 0) None))
+        (lt-ltb 0 g.pages (omega (arith, gives.gives.holds.store.limits.some_page)))
+
     pub opened_over : IsOpenedOver failures g (resting gives.given (failures before)) engine
     opened_over = record {
       given = gives.given;
       rests = refl;
       opens = gives.opens;
       core =
-          is.opened.core ∙ ap (λ (x : GeometryValue). holding x is.opened.given) size ∙ ap (λ (x : Given). holding g x) same;
+          is.opened.core ∙ ap (λ (x : GeometryValue). holding x is.opened.given) size ∙ ap (λ (x : Given). holding g x) same ∙ first_wanted;
       horizon = is.opened.horizon ∙ ap (λ (x : Given). x.last) same;
       waiting = none_waits past_of g gives.given engine begins (is.opened.horizon ∙ ap (λ (x : Given). x.last) same);
       size = begins.stands.geometry;

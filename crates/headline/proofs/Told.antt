@@ -1,5 +1,5 @@
 -- What requests and their replies tell is the history that the core's calls tell.
-use Rattle.std.proofs.Common.{◌≡◌, ◌≢◌, ℕ, ◌≤◌, List, [], ◌∷◌, ◌++◌, None, Option, Some, max, refl, sym, ap, ◌∙◌, arith}
+use Rattle.std.proofs.Common.{◌≡◌, ◌≢◌, ℕ, ◌≤◌, List, [], ◌∷◌, ◌++◌, None, Option, Some, map, max, refl, sym, ap, ◌∙◌, arith}
 use Rattle.record_values.specs.Values.{Place}
 use Rattle.model.specs.History.{Checkpointed, Completed, Deed, Item}
 use Rattle.core_model.specs.Events as core
@@ -14,13 +14,17 @@ use Rattle.restart.specs.declared.event.Reply.{Reply}
 use Rattle.restart.specs.declared.event.Reply.TheVariants as reply
 use Rattle.restart.specs.History as restart
 use Rattle.restart.specs.History.{AreOfKind, IsOfKind, answered, asked, both, core_calls}
-use Rattle.headline.specs.Told.{Writes, acknowledged, deeds_told, numbered, told_by, told_over, turn_of, written, written_by}
+use Rattle.headline.specs.Told.{Writes, acknowledged, deeds_told, told_by, told_over, turn_of, written, written_by}
 
 -- a request and the core's event for it write, commit and turn the same
 record Same (e : Event) (x : core.Event) : Type 0 where
   pub writes : (w : Writes) (place : Option Place) → written_by w e place ≡ asked_by w place x
   pub commits : (w : Writes) (deeds : List Deed) (c : ℕ) → deeds_told w e deeds (Some c) ≡ commit_of w x
   pub turns : turn_of e ≡ served.turn_of x
+
+-- these deeds as items of one log record
+abbrev numbered : ℕ → List Deed → List Item
+numbered number deeds = map (λ (deed : Deed). record { number = number; deed = deed }) deeds
 
 -- a reply with a ticket
 ticket : (w : Writes) (e : Event) (x : core.Event) (same : Same e x) (rest : List (core.Event × core.Reply)) (deeds : List Deed) (other : ℕ

@@ -1,5 +1,5 @@
 -- A store at rest, and an engine that is opened over it.
-use Rattle.std.specs.Prelude.{◌≡◌, false, ℕ, nat_lt, if◌then◌else◌, [], None, Some}
+use Rattle.std.specs.Prelude.{◌≡◌, false, ℕ, [], None, Some}
 use Rattle.record_values.specs.GeometryValue.{GeometryValue}
 use Rattle.model.specs.Given.{Given}
 use Rattle.model.specs.Table.{Table}
@@ -36,12 +36,7 @@ pub record IsOpenedOver {D M : Type 0} (failures : D → ℕ) (geometry : Geomet
     txns = record { active = []; begun = 0 };
     index = record { entries = given.entries; pledged = 0; capacity = geometry.entries };
     life = given.life;
-    scan = record {
-      pages = geometry.pages;
-      last = highest_of given.life;
-      wanted = if nat_lt 0 geometry.pages then Some 0 else None;
-      waiting = [];
-    };
+    scan = record { pages = geometry.pages; last = highest_of given.life; wanted = Some 0; waiting = [] };
     cleaned = None;
     last = given.last;
     tried = 0;

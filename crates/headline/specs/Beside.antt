@@ -1,6 +1,6 @@
 -- A day on which clients use a store beside one another, each in a thread of its own.
-use Rattle.std.specs.Prelude.{◌≡◌, ◌≢◌, ◌⊎◌, ◌≤◌, ◌++◌, ℕ, List, length, take, Option, None, Some}
-use Rattle.std.specs.Prelude.{IfErr, OnOk, slice_get}
+use Rattle.std.specs.Prelude.{◌≡◌, ◌⊎◌, ◌≤◌, ◌++◌, ℕ, nat_lt, if◌then◌else◌, List, length, take, Option, None, Some}
+use Rattle.std.specs.Prelude.{IfErr, IfSome, OnOk, option_and_then, slice_get}
 use Rattle.record_values.specs.GeometryValue.{GeometryValue}
 use Rattle.record_values.specs.declared.error.Error.{Error}
 use Rattle.record_values.specs.declared.error.Error.TheVariants.{DeviceFailed, NoMemory}
@@ -19,29 +19,20 @@ use Rattle.nsf.specs.Serving.{HaveWorked, TellsBuild}
 use Rattle.restart.specs.Store.{over}
 use Rattle.headline.specs.declared.day.Day.{Day}
 use Rattle.headline.specs.declared.shared_day.End.{End}
-use Rattle.headline.specs.declared.shared_day.End.TheVariants.{Behind, Closing, Opening, Since}
+use Rattle.headline.specs.declared.shared_day.End.TheVariants.{Behind, Opening, Since}
 use Rattle.headline.specs.declared.shared_day.SharedAnswer.{SharedAnswer}
 use Rattle.headline.specs.declared.shared_day.SharedDay.{SharedDay}
 use Rattle.headline.specs.AtRest.{AtRest, resting}
 use Rattle.headline.specs.Days.{Answer, AreDays, IsUnopened}
 use Rattle.headline.specs.Held.{IsNotReopened}
 
--- What is safe of a day that ends so, where records were kept up to this one. Where clients and loops had ended, it is
--- all up to the horizon. Where it stopped since a client had read a mark, it is all up to the horizon that this
--- client's seat had seen then.
-abbrev pub KeepsSafe : End → List SeatValue → (horizon last : ℕ) → Type 0
-KeepsSafe Behind seats horizon last = horizon ≤ last
-KeepsSafe Closing seats horizon last = horizon ≤ last
-KeepsSafe (Since k) seats horizon last = (s : SeatValue) → slice_get seats k ≡ Some s → s.sight.mark ≢ 0
-    → s.sight.safe ≤ last
-KeepsSafe Opening seats horizon last = Unit {0}
-
--- a day that ends so may stop within its opening: where it stops since a client had read a mark, that has read none
-abbrev pub MayStopEarly : End → List SeatValue → Type 0
-MayStopEarly Behind seats = ⊥
-MayStopEarly Closing seats = ⊥
-MayStopEarly (Since k) seats = (s : SeatValue) → slice_get seats k ≡ Some s → s.sight.mark ≡ 0
-MayStopEarly Opening seats = Unit {0}
+-- The last record that is known to be safe of a day that ends so, if one is. Where clients and loops had ended, it is
+-- the horizon. Where it stopped since a client had read a mark, it is the horizon that its seat had seen then.
+abbrev pub known_safe : End → List SeatValue → (horizon : ℕ) → Option ℕ
+known_safe Opening seats horizon = None
+known_safe (Since k) seats horizon = option_and_then
+    (λ (s : SeatValue). if nat_lt 0 s.sight.mark then Some s.sight.safe else None) (slice_get seats k)
+known_safe end seats horizon = Some horizon
 
 -- What a store is found with that clients used: the first of the records that were made over what was given, by seats,
 -- builder and cleaner. These tell how far its index is. Where it stopped behind all that was done and all was written,
@@ -67,21 +58,23 @@ pub record IsFoundBeside {C : Type 0} (geometry : GeometryValue) (old : AtRest) 
 -- Records were kept up to a last one. The rows are those that there were. Over them are set the commits of all seats up
 -- to that record, in the order of their numbers.
 --
--- It keeps what is safe of a day that ends so. Where it stopped behind all that was done and all was written, each
--- commit of the seats was kept.
+-- It keeps what is known to be safe of a day that ends so. Where it stopped behind all that was done and all was
+-- written, each commit of the seats was kept.
 pub record IsServedBeside {C : Type 0} (geometry : GeometryValue) (old : AtRest) (seats : List SeatValue)
     (horizon : ℕ) (end : End) (answer : SharedAnswer C) (new : AtRest) : Type 0 where
   pub commits : List CommitValue
   pub of-seats : AreCommitsOf seats commits
   pub rows : new.rows ≡ table_with old.rows (up_to new.last commits)
-  pub safe : KeepsSafe end seats horizon new.last
-  pub whole : end ≡ Behind → OnOk answer.written
-      ((all : List CommitValue) × AreCommitsOf seats all × (new.rows ≡ table_with old.rows all))
+  pub safe : IfSome (known_safe end seats horizon) (λ number. number ≤ new.last)
+  pub whole : end ≡ Behind → OnOk answer.written (new.rows ≡ table_with old.rows commits)
   pub found : IsFoundBeside geometry old seats end answer new
 
 -- The days have made a store of what it began with. Each client has worked with a new seat of its own, which
--- has read no horizon above this one. What the seats did has made this store of that. Or it stopped within its opening,
--- and rests as it did: what the clients did came later, and never came to the device.
+-- has read no horizon above this one. What the seats did has made this store of that.
+--
+-- Or nothing is known to be safe of a day that ends so. It stopped within its opening, and rests as it did: what the
+-- clients did came later, and never came to the device. (The stop may have undone what the opening had read unsynced.
+-- So the store that was opened may be another that the days could leave.)
 --
 -- The device's count of failures hasn't fallen. Where not all was written, there was no memory, or the device failed.
 pub record HasLivedBeside {D M C : Type 0} (works : C → C → SeatValue → SeatValue → Type 0) (failures : D → ℕ)
@@ -93,7 +86,7 @@ pub record HasLivedBeside {D M C : Type 0} (works : C → C → SeatValue → Se
   pub horizon : ℕ
   pub worked : HaveWorked works horizon day.clients.items answer.clients.items seats
   pub served : IsServedBeside geometry before seats horizon day.end answer new
-      ⊎ (MayStopEarly day.end seats × (new ≡ record before { failed = new.failed }))
+      ⊎ ((known_safe day.end seats horizon ≡ None) × (new ≡ record before { failed = new.failed }))
   pub later : before.failed ≤ new.failed
   pub why : IfErr answer.written (λ e. (e ≡ NoMemory) ⊎ ((e ≡ DeviceFailed) × Rises before.failed new.failed))
 
@@ -102,8 +95,7 @@ pub record HasLivedBeside {D M C : Type 0} (works : C → C → SeatValue → Se
 abbrev pub IsNotLivedBeside : {D M C : Type 0} → (C → C → SeatValue → SeatValue → Type 0) → (D → ℕ) → GeometryValue
     → AtRest → List (Day M) → List (Answer M) → SharedDay C → Option (SharedAnswer C) → OpenError → (now : ℕ) → Type 0
 IsNotLivedBeside works failures geometry began days answers day None e now =
-    (error : Error) × (e ≡ Refused error) × IsNotReopened failures geometry began days answers error now
-IsNotLivedBeside works failures geometry began days answers day (Some answer) e now = (error : Error)
-    × (e ≡ Refused error)
+    (why : Error) × (e ≡ Refused why) × IsNotReopened failures geometry began days answers why now
+IsNotLivedBeside works failures geometry began days answers day (Some answer) e now = (why : Error) × (e ≡ Refused why)
     × ∥ ((store : AtRest) × HasLivedBeside works failures geometry began days answers day answer store
-    × (store.failed ≤ now) × IsUnopened error store.failed now) ∥₁
+    × (store.failed ≤ now) × IsUnopened why store.failed now) ∥₁

@@ -47,12 +47,13 @@ abbrev pub IsUnopened : Error → (before now : ℕ) → Type 0
 IsUnopened e before now = ((e ≡ NoMemory) × (now ≡ before)) ⊎ ((e ≡ DeviceFailed) × Rises before now)
 
 -- What a day with this answer made of the store. It was served. Or the store stopped within its opening: nothing was
--- asked, and it rests as it did. Or nothing was served, and it rests so, but for its device's count of failures.
+-- asked, and it rests as it did. (The stop may have undone what the opening had read unsynced. So the store that was
+-- opened may be another that the days before could leave.) Or nothing was served, and it rests so, but for its device's
+-- count of failures.
 abbrev pub IsDay : {D M : Type 0} → (D → ℕ) → GeometryValue → AtRest → Day M → Answer M → AtRest → Type 0
 IsDay failures geometry old day (Ok replies) new = IsServed failures geometry old day replies.items new
     ⊎ ((day.within ≡ true) × (day.requests.items ≡ []) × (replies.items ≡ []) × (new ≡ old))
-IsDay failures geometry old day (Err e) new = (new ≡ record old { failed = new.failed })
-    × IsUnopened e old.failed new.failed
+IsDay _ _ old _ (Err e) new = (new ≡ record old { failed = new.failed }) × IsUnopened e old.failed new.failed
 
 -- what these days, one after another, made of it
 abbrev pub AreDays : {D M : Type 0} → (D → ℕ) → GeometryValue → AtRest → List (Day M) → List (Answer M) → AtRest

@@ -12,7 +12,6 @@ use Rattle.core_model.specs.Histories.{IsCovered, highest_of}
 -- pair that was checkpointed last, or everywhere once it is complete. Where there is no index, also since it was
 -- dropped, no entry is left, visible or marked.
 pub record IsIndexOf (rows : Table) (life : Life) (entries : Index) : Type 0 where
-  pub sound : (pair : Pair) → map.get entries pair ≡ Some Live → IsPairOf rows pair
-  pub whole : (pair : Pair) → IsCovered life (highest_of life) pair → IsPairOf rows pair
-      → map.get entries pair ≡ Some Live
-  pub gone : life ≡ Absent → (pair : Pair) → map.get entries pair ≡ None
+  pub sound : (p : Pair) → map.get entries p ≡ Some Live → IsPairOf rows p
+  pub whole : (p : Pair) → IsCovered life (highest_of life) p → IsPairOf rows p → map.get entries p ≡ Some Live
+  pub gone : life ≡ Absent → (p : Pair) → map.get entries p ≡ None

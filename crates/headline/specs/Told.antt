@@ -6,6 +6,7 @@ use Rattle.record_values.specs.declared.row.Row.{Row}
 use Rattle.model.specs.History.{Checkpointed, Committed, Completed, Created, Deed, Dropped, Item}
 use Rattle.model.specs.declared.write.Write.{Write}
 use Rattle.core_model.specs.Steps.{update}
+use Rattle.core_parts.specs.declared.parts.Ticket.{Ticket}
 use Rattle.core_parts.specs.declared.reply.BuildReply.TheVariants as build
 use Rattle.restart.specs.declared.event.Event.{Event}
 use Rattle.restart.specs.declared.event.Event.TheVariants as event
@@ -51,19 +52,17 @@ deeds_told writes request deeds None = deeds
 deeds_told writes (event.Commit txn) deeds (Some commit) = Committed (writes txn) ∷ []
 deeds_told writes request deeds (Some commit) = []
 
--- these deeds as items of one log record
-abbrev pub numbered : ℕ → List Deed → List Item
-numbered number deeds = map (λ deed. record { number = number; deed = deed }) deeds
+-- the same as items of the ticket's log record
+abbrev pub told_in : Writes → Event → Ticket → List Deed → List Item
+told_in writes request ticket deeds =
+    map (λ deed. record { number = ticket.record; deed = deed }) (deeds_told writes request deeds ticket.commit)
 
 -- what a reply tells: a commit, the index's creation, a checkpoint of its builder, the end of its build, or its
 -- dropping
 abbrev pub told_by : {M : Type 0} → Writes → Event → Reply M → List Item
-told_by writes request (reply.Ticket ticket) = numbered ticket.record
-    (deeds_told writes request (turn_of request) ticket.commit)
-told_by writes request (reply.Built (build.Marked pair ticket)) =
-    numbered ticket.record (deeds_told writes request (Checkpointed pair ∷ []) ticket.commit)
-told_by writes request (reply.Built (build.Done ticket)) =
-    numbered ticket.record (deeds_told writes request (Completed ∷ []) ticket.commit)
+told_by writes request (reply.Ticket ticket) = told_in writes request ticket (turn_of request)
+told_by writes request (reply.Built (build.Marked pair ticket)) = told_in writes request ticket (Checkpointed pair ∷ [])
+told_by writes request (reply.Built (build.Done ticket)) = told_in writes request ticket (Completed ∷ [])
 told_by writes request answer = []
 
 -- what the replies to these requests tell, in order

@@ -12,9 +12,10 @@
 //! The same of a store that clients use at last beside one another, until it stops at any moment.
 //!
 //! Proved: `live_beside` (`holds`, `unbuilt`, `refused`, `many`, `too_small`, `unchanged`, `room`). Behind a whole day,
-//! and on one that stops while the rest is written out, nothing is lost that a seat has read to be safe. Only tested
-//! (`test_nsf`): two clients over a disk in memory. Neither: how many commits are kept of a day that ends
-//! `Opening`; that one that ends `Closing` stops before all is written.
+//! and on one that stops while the rest is written out, nothing is lost that a seat has read to be safe. On one that
+//! stops at any moment since a client had read a mark, nothing that its seat had seen to be safe as it read the mark.
+//! Only tested (`test_nsf`): two clients over a disk in memory, and that they read marks. Neither: how many commits are
+//! kept of a day that ends `Opening`; that one that ends `Closing`, `Since` or `Opening` stops before all is written.
 //!
 //! What many threads leave, as the contract of one call: every seat is taken back, the power fails behind that, and the
 //! store is opened again.
