@@ -1,0 +1,48 @@
+//! Laws of pages.
+ghost use Rattle.std.specs.Prelude.{◌≡◌, ◌<◌, ◌++◌, ◌↔◌, ℕ, List, Option, None, Some, All, Contains, take, true};
+ghost use Rattle.std.specs.FinMap as map;
+ghost use Rattle.std.specs.List.Sorted.{IsStrictlySortedBy};
+ghost use Rattle.record_values.specs.Orders.{pair_cmp};
+ghost use Rattle.record_values.specs.declared.pair.Mark.TheVariants.{Live};
+ghost use Rattle.record_values.specs.declared.pair.Pair.{Pair};
+ghost use Rattle.model.specs.Table.{Index};
+ghost use Rattle.core_model.specs.Steps.{above};
+ghost use Rattle.core_scan.specs.Ranges.{is_within};
+ghost use Rattle.core_scan.specs.Readings.{Reading};
+ghost use Rattle.core_scan.specs.Visible.{left_of, next_after, visible};
+ghost use Rattle.core_scan.specs.declared.range.KeyRange.{KeyRange};
+
+/// A law: the visible pairs of a range are those of its live entries, in the order of pairs, each once.
+pub fn each_visible()
+    ensures ascending { (entries : Index) (range : KeyRange) → IsStrictlySortedBy pair_cmp (visible entries range) }
+    ensures each { (entries : Index) (range : KeyRange) (p : Pair) → Contains (visible entries range) p
+        ↔ ((map.get entries p ≡ Some Live) × (is_within range p.key ≡ true)) }
+{}
+
+/// A law: as long as a page leaves any, its pairs and what is left behind the last of them are what was left before it;
+/// and a page that leaves none has all that was left.
+pub fn each_page()
+    ensures more { (entries : Index) (range : KeyRange) (after : Option Pair) (limit : ℕ) (next : Pair)
+        → next_after after limit (left_of entries range after) ≡ Some next
+        → left_of entries range after ≡ take limit (left_of entries range after) ++ left_of entries range (Some next) }
+    ensures last { (entries : Index) (range : KeyRange) (after : Option Pair) (limit : ℕ) → 0 < limit
+        → next_after after limit (left_of entries range after) ≡ None
+        → left_of entries range after ≡ take limit (left_of entries range after) }
+{}
+
+/// A law: pages are read one behind another until nothing is left, and the index may change from page to page. The
+/// pairs ascend, so that none comes twice, and each was visible at one of the pages. Each pair behind the start that
+/// was visible at every page has come. Where the index did not change, the pairs are all that was left at the start.
+pub fn each_reading()
+    ensures ascending { (range : KeyRange) (after : Option Pair) (seen : List Index) (pairs : List Pair)
+        → Reading range after seen pairs → IsStrictlySortedBy pair_cmp pairs }
+    ensures shown { (range : KeyRange) (after : Option Pair) (seen : List Index) (pairs : List Pair) (p : Pair)
+        → Reading range after seen pairs → Contains pairs p
+        → (entries : Index) × Contains seen entries × Contains (visible entries range) p }
+    ensures steady { (range : KeyRange) (after : Option Pair) (seen : List Index) (pairs : List Pair) (p : Pair)
+        → Reading range after seen pairs → above after p ≡ true
+        → ((entries : Index) → Contains seen entries → Contains (visible entries range) p) → Contains pairs p }
+    ensures unchanged { (range : KeyRange) (after : Option Pair) (seen : List Index) (pairs : List Pair)
+        (entries : Index) → Reading range after seen pairs → All (λ other. other ≡ entries) seen
+        → pairs ≡ left_of entries range after }
+{}

@@ -1,0 +1,152 @@
+//! Ranges of keys.
+ghost use Rattle.std.specs.Prelude.{◌≡◌, ◌<◌, ◌≤◌, ◌-◌, [], ◌∷◌, ◌++◌, ℕ, List, IfSome, length, nat_eq, replicate};
+ghost use Rattle.std.specs.Prelude.{true};
+ghost use Rattle.std.specs.BTreeMap.Range.{is_from_start, is_past_end};
+ghost use Rattle.std.specs.Cmp.Lexicographic.{slice_cmp};
+ghost use Rattle.std.specs.List.{starts_with};
+ghost use Rattle.std.specs.Ordering.{nat_cmp};
+ghost use Rattle.std.specs.declared.cmp.Ordering.TheVariants.{Less};
+ghost use Rattle.record_values.specs.declared.pair.Pair.{Pair};
+ghost use Rattle.core_model.specs.Steps.{above};
+ghost use Rattle.core_scan.specs.Ranges.{IsKey, is_within};
+ghost use Rattle.core_scan.specs.Visible.{is_shown};
+
+use btree_node::Entry;
+use records::{KEY_MAX, Key, Mark, Pair, Rid, SLOTS_PER_PAGE};
+use std::ops::Bound;
+
+// The place behind all others.
+const LAST: Rid = Rid {
+    page: u32::MAX,
+    slot: SLOTS_PER_PAGE - 1,
+};
+
+/// The keys from one bound to another, in the order of their bytes.
+#[derive(Clone, Copy, PartialEq, Eq)]
+pub struct KeyRange {
+    pub from: Bound<Key>,
+    pub to: Bound<Key>,
+}
+
+// The key of bytes that fit.
+fn key_of(bytes: &[u8]) -> Key
+    requires { length bytes.now ≤ KEY_MAX }
+    ensures { result ≡ bytes.now }
+{
+    match Key::new(bytes) {
+        Ok(key) => key,
+        Err(_) => unreachable!(),
+    }
+}
+
+// The last of the keys that begin with these bytes.
+fn last_beginning_with(front: &[u8]) -> Key
+    requires { length front.now ≤ KEY_MAX }
+    ensures { result ≡ front.now ++ replicate (KEY_MAX - length front.now) 255 }
+{
+    let mut bytes = [u8::MAX; KEY_MAX];
+    bytes[..front.len()].copy_from_slice(front);
+    key_of(&bytes)
+}
+
+// The last of the keys before the one with these bytes and this last one.
+fn last_before(front: &[u8], last: u8) -> Key
+    requires { length front.now < KEY_MAX }
+    ensures { slice_cmp nat_cmp result (front.now ++ last ∷ []) ≡ Less }
+{
+    if last == 0 {
+        return key_of(front);
+    }
+    let mut bytes = [u8::MAX; KEY_MAX];
+    bytes[..front.len()].copy_from_slice(front);
+    bytes[front.len()] = last - 1;
+    key_of(&bytes)
+}
+
+// A pair before those of the key, and next to them; none where no key is before it.
+fn before_key(key: &Key) -> Option<Pair>
+    ensures { IfSome result (λ p. slice_cmp nat_cmp p.key key.now ≡ Less) }
+{
+    let Some((last, front)) = key.as_slice().split_last() else {
+        return None;
+    };
+    Some(Pair {
+        key: last_before(front, *last),
+        rid: LAST,
+    })
+}
+
+impl KeyRange {
+    /// All keys.
+    pub fn all() -> KeyRange
+        ensures { (key : List ℕ) → is_within result key ≡ true }
+    {
+        KeyRange {
+            from: Bound::Unbounded,
+            to: Bound::Unbounded,
+        }
+    }
+
+    /// The keys that begin with these bytes, which stand together in the order of keys.
+    pub fn prefix(prefix: Key) -> KeyRange
+        ensures { (key : List ℕ) → IsKey key → is_within result key ≡ starts_with nat_eq key prefix }
+    {
+        KeyRange {
+            from: Bound::Included(prefix),
+            to: Bound::Included(last_beginning_with(prefix.as_slice())),
+        }
+    }
+
+    // Whether the range has begun at the key.
+    fn has_begun(&self, key: &Key) -> bool
+        ensures { result ≡ is_from_start (slice_cmp nat_cmp) self.now.from key.now }
+    {
+        match &self.from {
+            Bound::Included(from) => from.cmp(key).is_le(),
+            Bound::Excluded(from) => from.cmp(key).is_lt(),
+            Bound::Unbounded => true,
+        }
+    }
+
+    /// Whether the key comes after all of the range.
+    pub(crate) fn is_past(&self, key: &Key) -> bool
+        ensures { result ≡ is_past_end (slice_cmp nat_cmp) self.now.to key.now }
+    {
+        match &self.to {
+            Bound::Included(to) => to.cmp(key).is_lt(),
+            Bound::Excluded(to) => to.cmp(key).is_le(),
+            Bound::Unbounded => false,
+        }
+    }
+
+    /// Whether the range has the key.
+    pub fn contains(&self, key: &Key) -> bool
+        ensures { result ≡ is_within self.now key.now }
+    {
+        self.has_begun(key) && !self.is_past(key)
+    }
+
+    /// Whether the entry is live, and its key in the range.
+    pub(crate) fn shows(&self, entry: &Entry) -> bool
+        ensures { result ≡ is_shown self.now (entry.now.pair, entry.now.mark) }
+    {
+        match entry.mark {
+            Mark::Live => self.contains(&entry.pair.key),
+            Mark::Marked => false,
+        }
+    }
+
+    /// A pair before all of the range, and next to its beginning; none where no pair can be before it.
+    pub(crate) fn pair_before(&self) -> Option<Pair>
+        ensures { (p : Pair) → is_within self.now p.key ≡ true → above result p ≡ true }
+    {
+        match self.from {
+            Bound::Included(from) => before_key(&from),
+            Bound::Excluded(from) => Some(Pair {
+                key: from,
+                rid: LAST,
+            }),
+            Bound::Unbounded => None,
+        }
+    }
+}

@@ -1,0 +1,121 @@
+//! Pages of a range, and its count.
+ghost use Rattle.std.specs.Prelude.{◌≡◌, ◌↔◌, ◌-◌, ◌^◌, Err, IfOk, IfErr, IsOk, length, min, take};
+ghost use Rattle.std.specs.Option.{option_copied};
+ghost use Rattle.model.specs.Following.{IsBuilding};
+ghost use Rattle.nsf_core.specs.Value.{value_of};
+ghost use Rattle.core_scan.specs.Visible.{left_of, next_after, visible};
+
+use crate::range::KeyRange;
+use crate::walk::{next_visible, start_of};
+use btree_node::Entry;
+use model::Life;
+use nsf_core::Core;
+use records::{Error, Pair};
+use std::alloc::Allocator;
+
+/// Some visible pairs of a range, one behind another.
+#[derive(Drop)]
+pub struct Page<A: Allocator> {
+    /// The pairs, ascending.
+    pub pairs: Vec<Pair, A>,
+    /// The pair behind which to go on; none where nothing is left of the range.
+    pub next: Option<Pair>,
+}
+
+// The first pairs, so many at most, of what is left of the range behind the pair.
+fn page_of<A: Allocator + Copy, B: Allocator>(
+    alloc: B,
+    core: &Core<A>,
+    range: &KeyRange,
+    after: Option<&Pair>,
+    limit: usize,
+) -> Result<Page<B>, Error>
+    ensures pairs { IfOk result (λ page. page.pairs.items
+        ≡ take limit (left_of (value_of core.now).index.entries range.now (option_copied after.entry))) }
+    ensures next { IfOk result (λ page. page.next ≡ next_after (option_copied after.entry) limit
+        (left_of (value_of core.now).index.entries range.now (option_copied after.entry))) }
+    ensures no_memory { IfErr result (λ e. e ≡ Error.NoMemory) }
+{
+    let mut pairs = Vec::new(alloc);
+    let mut next = after.copied();
+    let mut last = start_of(range, after);
+    let mut run: &[Entry] = &[];
+    while let Some((entry, rest)) = next_visible(core, range, run, last) {
+        if pairs.len() == limit {
+            return Ok(Page { pairs, next });
+        }
+        pairs.push(entry.pair)?;
+        next = Some(entry.pair);
+        last = Some(entry.pair);
+        run = rest;
+    }
+    Ok(Page { pairs, next: None })
+}
+
+/// A page of the range: the first of its visible pairs behind this one, in their order. There are `limit` at most, and
+/// fewer only where no more are left. Without a pair the page begins with the range.
+///
+/// `next` is the last pair of the page, as long as the page leaves any of the range: the next page is the one behind
+/// it. It is none where nothing is left. A limit of 0 gives no pair, and `next` is then the one of the call.
+///
+/// A visible pair is that of a live entry: of a row with this key, committed or not.
+///
+/// Let the index have live entries of the keys a, ab and c, and a marked one of b. A page of all keys with a limit of 2
+/// has a and ab, and goes on behind ab. The page there has c, and nothing is left.
+///
+/// `NoIndex`, then `NotBuilt` while the index is built, and `NoMemory`.
+pub fn scan<A: Allocator + Copy, B: Allocator>(
+    alloc: B,
+    core: &Core<A>,
+    range: &KeyRange,
+    after: Option<&Pair>,
+    limit: usize,
+) -> Result<Page<B>, Error>
+    ensures pairs { IfOk result (λ page. page.pairs.items
+        ≡ take limit (left_of (value_of core.now).index.entries range.now (option_copied after.entry))) }
+    ensures next { IfOk result (λ page. page.next ≡ next_after (option_copied after.entry) limit
+        (left_of (value_of core.now).index.entries range.now (option_copied after.entry))) }
+    ensures no_index { (result ≡ Err Error.NoIndex) ↔ ((value_of core.now).life ≡ Life.Absent) }
+    ensures not_built { (result ≡ Err Error.NotBuilt) ↔ IsBuilding (value_of core.now).life }
+    ensures no_memory { (value_of core.now).life ≡ Life.Complete → IfErr result (λ e. e ≡ Error.NoMemory) }
+{
+    match core.life() {
+        Life::Absent => Err(Error::NoIndex),
+        Life::Building { .. } => Err(Error::NotBuilt),
+        Life::Complete => page_of(alloc, core, range, after, limit),
+    }
+}
+
+// How many visible pairs there are in the range, as far as 64 bits count.
+fn counted<A: Allocator + Copy>(core: &Core<A>, range: &KeyRange) -> u64
+    ensures { result ≡ min (length (visible (value_of core.now).index.entries range.now)) (2 ^ 64 - 1) }
+{
+    let mut count: u64 = 0;
+    let mut last = start_of(range, None);
+    let mut run: &[Entry] = &[];
+    while let Some((entry, rest)) = next_visible(core, range, run, last) {
+        count = count.saturating_add(1);
+        last = Some(entry.pair);
+        run = rest;
+    }
+    count
+}
+
+/// How many visible pairs there are in the range. It stays at 2^64 - 1, which is more than an index has places.
+///
+/// It takes no memory, and looks at every entry of the range (no clause says so).
+///
+/// `NoIndex`, then `NotBuilt` while the index is built.
+pub fn count<A: Allocator + Copy>(core: &Core<A>, range: &KeyRange) -> Result<u64, Error>
+    ensures count { IfOk result (λ n. n
+        ≡ min (length (visible (value_of core.now).index.entries range.now)) (2 ^ 64 - 1)) }
+    ensures no_index { (result ≡ Err Error.NoIndex) ↔ ((value_of core.now).life ≡ Life.Absent) }
+    ensures not_built { (result ≡ Err Error.NotBuilt) ↔ IsBuilding (value_of core.now).life }
+    ensures complete { (value_of core.now).life ≡ Life.Complete → IsOk result }
+{
+    match core.life() {
+        Life::Absent => Err(Error::NoIndex),
+        Life::Building { .. } => Err(Error::NotBuilt),
+        Life::Complete => Ok(counted(core, range)),
+    }
+}
