@@ -1,5 +1,5 @@
 -- Seats in their order.
-use Rattle.std.proofs.Common.{◌≡◌, ◌∙◌, ◌+◌, ◌<◌, ◌≤◌, ◌∷◌, ℕ, zero, suc, List, [], Some, subst, length, map, inl, inr, refl, sym, ap, arith}
+use Rattle.std.proofs.Common.{◌≡◌, ◌∙◌, ◌+◌, ◌<◌, ◌≤◌, ◌∷◌, ℕ, zero, suc, List, [], false, Some, subst, length, map, inl, inr, refl, sym, ap, arith}
 use Rattle.std.proofs.lemmas.Bool.{cases_eq}
 use Rattle.std.proofs.lemmas.List.{length-map}
 use Rattle.std.proofs.lemmas.List.Elements.{All-cons, All-nil}
@@ -61,9 +61,9 @@ all_left seat count before after all same numbers =
     kept_in_order seat count before.items after.items (sym after.ok.0
     ∙ (same ∙ before.ok.0)) (λ k w within. numbers k w (subst (λ (m : ℕ). k < m) (sym before.ok.0) within)) all
 
--- a seat that has read neither a horizon nor a mark
-abbrev pub IsUnread : SeatValue → Type 0
-IsUnread s = (s.sight.horizon ≡ 0) × (s.sight.mark ≡ 0)
+-- a seat that has read neither a horizon nor a mark, and has not asked all to stop
+abbrev pub IsUnused : SeatValue → Type 0
+IsUnused s = (s.sight.horizon ≡ 0) × (s.sight.mark ≡ 0) × (s.sight.stops ≡ false)
 
 -- each has worked, by its place
 cons_first : {X : Type 0} (a b : X) (xs ys : List X) → a ∷ xs ≡ b ∷ ys → a ≡ b
@@ -76,28 +76,28 @@ in_order : {W C : Type 0} (client : W → C) (seat : W → SeatValue) (works : C
     (seats : List SeatValue) → length ys ≡ length xs
     → map unnamed seats ≡ map (λ w. unnamed (seat w)) ys
     → ((k : ℕ) (w : W) → slice_get xs k ≡ Some w → (seat w).session ≡ empty_session)
-    → ((k : ℕ) (w : W) → slice_get xs k ≡ Some w → IsUnread (seat w))
+    → ((k : ℕ) (w : W) → slice_get xs k ≡ Some w → IsUnused (seat w))
     → ((k : ℕ) (w : W) → k < length xs
     → works (client (slice_index_or xs k w)) (client (slice_index_or ys k w)) (seat (slice_index_or xs k w)) (seat (slice_index_or ys k w)))
     → ((k : ℕ) (w : W) → slice_get ys k ≡ Some w → (seat w).sight.horizon ≤ floor)
     → HaveWorked works floor (map client xs) (map client ys) seats
-in_order client seat works floor [] [] [] same left new unread each low = tt
-in_order client seat works floor [] [] (s ∷ seats) same left new unread each low = absurd cc
-in_order client seat works floor [] (y ∷ ys) seats same left new unread each low = absurd cc
-in_order client seat works floor (x ∷ xs) [] seats same left new unread each low = absurd cc
-in_order client seat works floor (x ∷ xs) (y ∷ ys) [] same left new unread each low = absurd cc
-in_order client seat works floor (x ∷ xs) (y ∷ ys) (s ∷ seats) same left new unread each low = (
+in_order client seat works floor [] [] [] same left new unused each low = tt
+in_order client seat works floor [] [] (s ∷ seats) same left new unused each low = absurd cc
+in_order client seat works floor [] (y ∷ ys) seats same left new unused each low = absurd cc
+in_order client seat works floor (x ∷ xs) [] seats same left new unused each low = absurd cc
+in_order client seat works floor (x ∷ xs) (y ∷ ys) [] same left new unused each low = absurd cc
+in_order client seat works floor (x ∷ xs) (y ∷ ys) (s ∷ seats) same left new unused each low = (
   record {
     first = seat x;
     new = new 0 x refl;
-    unread = unread 0 x refl;
+    unused = unused 0 x refl;
     last = seat y;
     has = sym (cons_first _ _ _ _ left);
     known = subst (λ (h : ℕ). h ≤ floor) (sym (ap (λ (z : SeatValue). z.sight.horizon) (cons_first _ _ _ _ left))) (low 0 y refl);
     worked = each 0 x (omega arith);
   },
   in_order client seat works floor xs ys seats (omega (arith, same)) (cons_rest _ _ _ _ left) (λ k w at. new (suc k) w at)
-      (λ k w at. unread (suc k) w at)
+      (λ k w at. unused (suc k) w at)
       (λ k w within. each (suc k) w (omega (arith, within)))
       (λ k w at. low (suc k) w at),
 )
@@ -106,15 +106,15 @@ pub all_worked : {W C X Y : Type 0} (client : W → C) (seat : W → SeatValue) 
     (before : Vec W X) (after : Vec W Y) (seats : List SeatValue) → after.len ≡ before.len
     → map unnamed seats ≡ map (λ w. unnamed (seat w)) after.items
     → ((k : ℕ) (w : W) → slice_get before.items k ≡ Some w → (seat w).session ≡ empty_session)
-    → ((k : ℕ) (w : W) → slice_get before.items k ≡ Some w → IsUnread (seat w))
+    → ((k : ℕ) (w : W) → slice_get before.items k ≡ Some w → IsUnused (seat w))
     → ((k : ℕ) (w : W) → k < before.len
     → works (client (slice_index_or before.items k w)) (client (slice_index_or after.items k w)) (seat (slice_index_or before.items k w))
     (seat (slice_index_or after.items k w)))
     → ((k : ℕ) (w : W) → slice_get after.items k ≡ Some w → (seat w).sight.horizon ≤ floor)
     → HaveWorked works floor (map client before.items) (map client after.items) seats
-all_worked client seat works floor before after seats same left new unread each low =
+all_worked client seat works floor before after seats same left new unused each low =
     in_order client seat works floor before.items after.items seats (sym after.ok.0
-    ∙ (same ∙ before.ok.0)) left new unread (λ k w within. each k w (subst (λ (m : ℕ). k < m) (sym before.ok.0) within)) low
+    ∙ (same ∙ before.ok.0)) left new unused (λ k w within. each k w (subst (λ (m : ℕ). k < m) (sym before.ok.0) within)) low
 
 -- a new seat has nothing in its session
 pub new_session : {W : Type 0} (seat : W → SeatValue) (board : TableId) (count : ℕ) (seats : List SeatValue) (xs : List W) → map seat xs ≡ seats
@@ -122,13 +122,13 @@ pub new_session : {W : Type 0} (seat : W → SeatValue) (board : TableId) (count
 new_session seat board count seats xs are new k w at =
     (new.each k (seat w) (ap (λ (l : List SeatValue). slice_get l k) (sym are) ∙ in_mapped seat xs k w at)).1
 
--- and has read nothing
-pub new_unread : {W : Type 0} (seat : W → SeatValue) (board : TableId) (count : ℕ) (seats : List SeatValue) (xs : List W) → map seat xs ≡ seats
-    → AreNewSeats board count seats → (k : ℕ) (w : W) → slice_get xs k ≡ Some w → IsUnread (seat w)
-new_unread seat board count seats xs are new k w at =
+-- and has done nothing
+pub new_unused : {W : Type 0} (seat : W → SeatValue) (board : TableId) (count : ℕ) (seats : List SeatValue) (xs : List W) → map seat xs ≡ seats
+    → AreNewSeats board count seats → (k : ℕ) (w : W) → slice_get xs k ≡ Some w → IsUnused (seat w)
+new_unused seat board count seats xs are new k w at =
     let is-new = new.each k (seat w) (ap (λ (l : List SeatValue). slice_get l k) (sym are) ∙ in_mapped seat xs k w at) in
     let blind = ap (λ v. record (seat w) { sight = v }) is-new.2 in
-    (ap (λ (s : SeatValue). s.sight.horizon) blind, ap (λ (s : SeatValue). s.sight.mark) blind)
+    (ap (λ (s : SeatValue). s.sight.horizon) blind, ap (λ (s : SeatValue). s.sight.mark) blind, ap (λ (s : SeatValue). s.sight.stops) blind)
 
 -- seats, whatever their views' names are
 unnamed_map : {W : Type 0} (seat : W → SeatValue) (xs : List W) → map unnamed (map seat xs) ≡ map (λ w. unnamed (seat w)) xs

@@ -1,5 +1,5 @@
 -- What clients leave of a store.
-use Rattle.std.specs.Prelude.{[], List, IfErr, IfOk, OnOk, Result, vec_capacity, ℕ, ◌≡◌, ◌≤◌, ◌⊎◌, ◌∷◌}
+use Rattle.std.specs.Prelude.{[], false, List, IfErr, IfOk, OnOk, Result, vec_capacity, ℕ, ◌≡◌, ◌≤◌, ◌⊎◌, ◌∷◌}
 use Rattle.std.specs.List.{All}
 use Rattle.std.specs.declared.alloc.Global.{Global}
 use Rattle.std.specs.declared.vec.Vec.{Vec}
@@ -64,13 +64,14 @@ TellsBuild o told = IfOk told (λ ticket. ∥ WasServed o Event.Build (builds.bu
 abbrev pub unnamed : SeatValue → SeatValue
 unnamed s = record s { sight = record s.sight { name = [] } }
 
--- A client has worked with a seat that had an empty session and had read neither a horizon nor a mark, and left it as
--- this one, but for its view's name. The horizon that the seat has read last isn't above the floor.
+-- A client has worked with a seat that had an empty session, had read neither a horizon nor a mark, and had not asked
+-- all to stop. It left it as this one, but for its view's name. The horizon that the seat has read last isn't above the
+-- floor.
 pub record HasWorked {C : Type 0} (works : C → C → SeatValue → SeatValue → Type 0) (floor : ℕ) (client after : C)
     (seat : SeatValue) : Type 0 where
   pub first : SeatValue
   pub new : first.session ≡ record { commits = []; turns = []; active = [] }
-  pub unread : (first.sight.horizon ≡ 0) × (first.sight.mark ≡ 0)
+  pub unused : (first.sight.horizon ≡ 0) × (first.sight.mark ≡ 0) × (first.sight.stops ≡ false)
   pub last : SeatValue
   pub has : unnamed last ≡ unnamed seat
   pub known : seat.sight.horizon ≤ floor

@@ -8,7 +8,7 @@ use Rattle.store_writer.specs.Parts.{device_of, has_failed, synced_of}
 use Rattle.threads_flusher.specs.Part.{IsKept, IsSafeSince, Publication}
 use Rattle.threads_lifetime.specs.Closing.{GivesSome}
 use Rattle.nsf.specs.Serving.{HaveWorked, IsLaterPast, TellsBuild}
-use Rattle.nsf.proofs.Orders.{all_left, all_new, all_worked, each_left, new_session, new_unread}
+use Rattle.nsf.proofs.Orders.{all_left, all_new, all_worked, each_left, new_session, new_unused}
 use Rattle.nsf.proofs.Published.{behind_first, since_first, since_newest}
 use Rattle.nsf.proofs.Refusals.{unwritten_since}
 use Rattle.nsf.proofs.clients.seat_all.Goals as goal
@@ -65,7 +65,7 @@ returns-in-Ok-run_all-clause-leaves g c =
             (subst (λ (after : List _). HaveWorked works floor (map (λ d. d.client) c.in-Ok.desks.items) after left.0) (sym c.end.ensures.order)
             (all_worked (λ d. d.client) (λ d. d.seat) works floor c.in-Ok.desks c.in-Ok-run_all.ended.clients left.0 c.in-Ok-run_all.ensures.len
             left.1 (new_session (λ d. d.seat) z.board z.seats c.args.parts.seats.items c.in-Ok.desks.items c.in-Ok.ensures.seats c.requires.seats)
-            (new_unread (λ d. d.seat) z.board z.seats c.args.parts.seats.items c.in-Ok.desks.items c.in-Ok.ensures.seats c.requires.seats)
+            (new_unused (λ d. d.seat) z.board z.seats c.args.parts.seats.items c.in-Ok.desks.items c.in-Ok.ensures.seats c.requires.seats)
             c.in-Ok-run_all.ensures.worked c.end.ensures.seen));
         behind = behind_first (synced_of w) (past_of (device_of w)).moment mid.publications going.since publications going.behind;
         marked = each_left (λ d. d.seat) (IsSafeSince g.D.Device.marks mid.publications) c.in-Ok-run_all.ended.clients.items left.0 left.1 c.end.ensures.marked;
