@@ -1,0 +1,5 @@
+pub mod Images
+pub mod Moments
+mod Past
+mod Tear
+pub mod Within

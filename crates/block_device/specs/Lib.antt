@@ -1,0 +1,4 @@
+pub mod Blocks
+pub mod BlocksPast
+pub mod Crash
+pub mod MemBlocks

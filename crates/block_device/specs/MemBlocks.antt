@@ -1,0 +1,32 @@
+-- What a file in memory holds.
+use Rattle.std.specs.Prelude.{ℕ, false, slice_index_or}
+use Rattle.block_device.specs.declared.held.Held.{Held}
+use Rattle.block_device.specs.declared.memory.MemBlocks.{MemBlocks}
+use Rattle.block_device.specs.Blocks.{BlockFile}
+use Rattle.block_device.specs.BlocksPast.{BlocksPast, past_with}
+use Rattle.block_device.specs.Crash.{Torn}
+
+module _ {A : Type 0} where
+  -- the content, and which blocks are loose
+  abbrev pub file_of : Held A → BlockFile
+  file_of h = record { content = h.content.items; loose = λ n. slice_index_or h.loose.items n false }
+
+  -- the same, with the content at the last sync
+  abbrev pub torn_of : Held A → Torn
+  torn_of h = record { content = h.content.items; synced = h.synced.items; loose = h.loose.items }
+
+  -- the file as it is, and as it was before each write and sync since it began
+  abbrev pub past_of : MemBlocks A → BlocksPast
+  past_of m = past_with file_of m.past.items m.held m.held.whole
+
+  -- what a crash gives fates to
+  abbrev pub state_of : MemBlocks A → Torn
+  state_of m = torn_of m.held
+
+  -- how many calls have failed
+  abbrev pub failures_of : MemBlocks A → ℕ
+  failures_of m = m.failures
+
+  -- how many writes and syncs succeed yet
+  abbrev pub calls_left : MemBlocks A → ℕ
+  calls_left m = m.calls_left

@@ -1,0 +1,54 @@
+// A file of blocks as its users see it: what its calls do, and what a crash may leave.
+ghost use Rattle.std.specs.Prelude.{◌≡◌, ◌+◌, ◌≤◌, ℕ, length, OnOk, OnErr};
+ghost use Rattle.sector_device.specs.DevicePast.{CountsFailure};
+ghost use Rattle.block_device.specs.Blocks.{run_of, after_write, after_sync, IsFailedWrite};
+ghost use Rattle.block_device.specs.BlocksPast.{BlocksPast, Elapses};
+
+use sector_device::Failed;
+
+/// The bytes of a block.
+pub const BLOCK_SIZE: usize = 4096;
+
+/// A file of blocks, numbered from 0.
+///
+/// A block that was written since the last sync that succeeded is loose. A crash leaves any 4,096 bytes in it, and the
+/// content of every other block. It may come before, within or after any call. After a sync that failed, what was loose
+/// stays so.
+pub trait Blocks {
+    /// The file as it is, and as it was at each moment until now.
+    ghost past_of: { Self → BlocksPast };
+
+    /// A count of failures, which each call that fails raises. At 2^64 - 1 it may stay.
+    ghost failures: { Self → ℕ };
+
+    /// How many blocks there are.
+    fn blocks(&self) -> u64
+        ensures { result ≡ length (past_of self.now).file.content };
+
+    /// Reads as many blocks as there is room for, from the first one's number on. Where it fails, the room holds any
+    /// bytes.
+    fn read(&mut self, first: u64, run: &mut [[u8; BLOCK_SIZE]]) -> Result<(), Failed>
+        requires { first + length run.old ≤ length (past_of self.old).file.content }
+        ensures ok { OnOk result (run.new ≡ run_of (past_of self.old).file.content first (length run.old)) }
+        ensures size { length run.new ≡ length run.old }
+        ensures file { (past_of self.new).file ≡ (past_of self.old).file }
+        ensures time { Elapses (past_of self.old) (past_of self.new) }
+        ensures counts { CountsFailure (failures self.old) (failures self.new) result };
+
+    /// Writes these blocks, from the first one's number on, which are then loose. A write that fails leaves any bytes
+    /// in them, loose too.
+    fn write(&mut self, first: u64, run: &[[u8; BLOCK_SIZE]]) -> Result<(), Failed>
+        requires { first + length run.now ≤ length (past_of self.old).file.content }
+        ensures ok { OnOk result ((past_of self.new).file ≡ after_write (past_of self.old).file first run.now) }
+        ensures err { OnErr result (IsFailedWrite (past_of self.old).file first (length run.now)
+            (past_of self.new).file) }
+        ensures time { Elapses (past_of self.old) (past_of self.new) }
+        ensures counts { CountsFailure (failures self.old) (failures self.new) result };
+
+    /// Syncs all blocks. A sync that fails changes nothing.
+    fn sync(&mut self) -> Result<(), Failed>
+        ensures ok { OnOk result ((past_of self.new).file ≡ after_sync (past_of self.old).file) }
+        ensures err { OnErr result ((past_of self.new).file ≡ (past_of self.old).file) }
+        ensures time { Elapses (past_of self.old) (past_of self.new) }
+        ensures counts { CountsFailure (failures self.old) (failures self.new) result };
+}

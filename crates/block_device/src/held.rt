@@ -1,0 +1,76 @@
+// What a file in memory holds.
+ghost use Rattle.std.specs.Prelude.{◌≡◌, ◌+◌, ◌≤◌, length, replicate, IfOk};
+ghost use Rattle.block_device.specs.Blocks.{IsWhole, IsSynced, IsCrashImage, after_write, after_sync, zero_block};
+
+use crate::crash::tear;
+use crate::runs::{mark_run, put_run, zero_block};
+use crate::{BLOCK_SIZE, Fate};
+use std::alloc::{AllocError, Allocator};
+
+/// What a file holds, what it held at the last sync, and which blocks are loose.
+#[derive(Drop)]
+pub(crate) struct Held<A: Allocator> {
+    pub(crate) content: Vec<[u8; BLOCK_SIZE], A>,
+    synced: Vec<[u8; BLOCK_SIZE], A>,
+    loose: Vec<bool, A>,
+    ghost whole: { IsWhole content.items },
+    ghost synced_whole: { IsWhole synced.items },
+    ghost synced_size: { length synced.items ≡ length content.items },
+    ghost loose_size: { length loose.items ≡ length content.items },
+}
+
+// Blocks of zeros.
+fn zeros<A: Allocator>(alloc: A, blocks: usize) -> Result<Vec<[u8; BLOCK_SIZE], A>, AllocError>
+    ensures { IfOk result (λ image. image.items ≡ replicate blocks zero_block) }
+{
+    let mut image = Vec::with_capacity(alloc, blocks)?;
+    for _ in 0..blocks {
+        image.push(zero_block())?;
+    }
+    Ok(image)
+}
+
+impl<A: Allocator + Copy> Held<A> {
+    ghost use Rattle.block_device.specs.Crash.{IsCrashed};
+    ghost use Rattle.block_device.specs.MemBlocks.{file_of, torn_of};
+
+    /// So many blocks of zeros, none of them loose.
+    pub(crate) fn new(alloc: A, blocks: usize) -> Result<Self, AllocError>
+        ensures zeros { IfOk result (λ h. (file_of h).content ≡ replicate blocks zero_block) }
+        ensures synced { IfOk result (λ h. IsSynced (file_of h)) }
+    {
+        Ok(Held {
+            content: zeros(alloc, blocks)?,
+            synced: zeros(alloc, blocks)?,
+            loose: vec![in alloc; false; blocks]?,
+        })
+    }
+
+    /// Writes a run.
+    pub(crate) fn put(&mut self, first: usize, run: &[[u8; BLOCK_SIZE]])
+        requires { first + length run.now ≤ length (file_of self.old).content }
+        ensures written { file_of self.new ≡ after_write (file_of self.old) first run.now }
+        ensures run { IsWhole run.now }
+    {
+        put_run(&mut self.content, first, run);
+        mark_run(&mut self.loose, first, run.len());
+    }
+
+    /// Makes all that it holds synced.
+    pub(crate) fn settle(&mut self)
+        ensures { file_of self.new ≡ after_sync (file_of self.old) }
+    {
+        self.synced.copy_from_slice(&self.content);
+        self.loose.fill(false);
+    }
+
+    /// Gives the loose blocks the fates in turn. Then none is loose.
+    pub(crate) fn crash(&mut self, fates: &[Fate])
+        ensures crash { IsCrashImage (file_of self.old) (file_of self.new).content }
+        ensures fates { IsCrashed fates.now (torn_of self.old) (file_of self.new).content }
+        ensures synced { IsSynced (file_of self.new) }
+    {
+        tear(&mut self.content, &self.synced, &self.loose, fates);
+        self.settle();
+    }
+}

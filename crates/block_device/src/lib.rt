@@ -1,0 +1,22 @@
+//! A file of blocks of 4,096 bytes, as a journal sees it: reads, writes and syncs of runs of blocks, and what a crash
+//! may leave. Where a sector is harmed alone (`sector_device`), a block is harmed as a whole.
+//!
+//! Proved of `MemBlocks`: the clauses of `Blocks`: what each call does, and what it leaves where it fails (`ok`,
+//! `err`); what a crash leaves around it (`time`); that failures are counted (`counts`). `crash` leaves the crash image
+//! that the fates name (`crash`, `fates`). Neither: that a real file behaves so. That is the premise of all above it.
+//!
+//! Lemmas about its public words that crates above may cite, in `proofs`: `Images`, `Moments` and `Within`.
+#![tactic(auto)]
+
+mod blocks;
+mod crash;
+mod fate;
+mod held;
+mod memory;
+mod runs;
+#[cfg(test)]
+mod tests;
+
+pub use blocks::{BLOCK_SIZE, Blocks};
+pub use fate::Fate;
+pub use memory::MemBlocks;
