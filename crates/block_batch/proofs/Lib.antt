@@ -1,0 +1,5 @@
+mod Heads
+pub mod Larger
+pub mod Replay
+mod Sealing
+pub mod Torn

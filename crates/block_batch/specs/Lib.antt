@@ -1,0 +1,3 @@
+pub mod Batch
+pub mod Head
+pub mod Replay
