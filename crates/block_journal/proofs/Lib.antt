@@ -1,0 +1,13 @@
+mod Buffers
+mod Closing
+mod Committing
+pub mod Crash
+mod Entries
+mod Loading
+mod Next
+pub mod OnlyReading
+mod Opening
+pub mod Parting
+pub mod Placing
+mod Recovering
+pub mod Results

@@ -1,0 +1,38 @@
+use Rattle.std.proofs.Common.{rules, ◌≡◌, ℕ, ◌+◌, ◌++◌, length, take, drop, slice_set, refl, ◌∙◌, ap, arith, length-set}
+use Rattle.block_device.specs.Blocks.{Image}
+use Rattle.block_device.proofs.Images.{written_back}
+use Rattle.block_batch.specs.Batch.{replayed}
+use Rattle.block_journal.specs.Entries.{entries_in}
+use Rattle.block_journal.proofs.Buffers.{put_buffer}
+use Rattle.block_journal.proofs.Entries.{put_is}
+use Rattle.block_journal.proofs.gathered.Gathered.put.Goals as goal
+
+pub put_block-requires : goal.put_block-requires
+put_block-requires g c = omega (arith, c.slot-i.ensures.low, c.requires.room, ap length c.deref_mut.ensures.value)
+
+pub returns : goal.returns
+returns g c =
+    let b = c.args.self.now in
+    let bytes = c.args.bytes.now in
+    let place = c.args.place in
+    let i = c.slot-i.result in
+    let digest = c.block_digest-digest.result in
+    let image : Image = c.put_block.new.area in
+    let stored : image ≡ slice_set b.area.items (i + 1) bytes = search rules in
+    let size : length image ≡ length b.area.items = ap length stored ∙ length-set b.area.items (i + 1) bytes in
+    let back : take b.area.len (image ++ drop (length image) b.area.items) ≡ slice_set b.area.items (i + 1) bytes =
+    written_back image b.area.items b.area.len size b.area.ok.0 ∙ stored in
+    let low = c.slot-i.ensures.low in
+    let slot = c.slot-i.ensures.slot in
+    let fits = c.block_digest-digest.ensures in
+    record {
+      put = λ l.
+          ap (λ (a : Image). replayed (entries_in a (slice_set b.places i place) c.max-self.result) l) back
+          ∙ ap (λ (m : ℕ). replayed (entries_in (slice_set b.area.items (i + 1) bytes) (slice_set b.places i place) m) l) c.max-self.ensures
+          ∙ put_is b.area.items b.places i place bytes (omega (arith, low, c.requires.room))
+          (omega (arith, low, c.requires.room, c.requires.buffer.few, c.requires.buffer.places)) l b.count slot;
+      digest = fits;
+      count = omega (arith, low, c.max-self.ensures);
+      buffer = put_buffer b _ c.requires.buffer i place digest bytes c.requires.room low slot fits back refl refl c.max-self.ensures;
+      size = ap length back ∙ length-set b.area.items (i + 1) bytes;
+    }

@@ -1,0 +1,72 @@
+use Rattle.std.proofs.Common.{refl, ap, arith}
+use Rattle.block_journal.specs.Entries.{entries_in}
+use Rattle.block_journal.proofs.Recovering.{stays_recovered, within_pending}
+use Rattle.block_journal.proofs.journal.Journal.open.Goals as goal
+
+pub returns-in_default : goal.returns-in_default
+returns-in_default g c =
+    let h = g.B.Blocks.past_of c.args.below in
+    let shape = c.args.shape in
+    record {
+      settled = tt;
+      none = tt;
+      shape = tt;
+      sound = tt;
+      honest = tt;
+      any_moment = tt;
+      quiet = tt;
+      unrefused = tt;
+      refused = stays_recovered shape h h c.requires.inside (within_pending shape h c.requires.synced);
+      no_batch = λ never. absurd (cc);
+      failed = λ never. absurd (cc);
+      no_memory = λ _. refl;
+    }
+
+pub recover-requires : goal.recover-requires
+recover-requires g c = record {
+  inside = c.requires.inside;
+  small = omega (arith, c.requires.inside.room);
+  synced = c.requires.synced;
+  last = c.in-Ok.ensures.first;
+  next = c.in-Ok.ensures.second;
+}
+
+pub invariant_of-result : goal.invariant_of-result
+invariant_of-result g c = c.in-Ok-recover.ensures.sound
+
+pub returns-in-Ok-recover : goal.returns-in-Ok-recover
+returns-in-Ok-recover g c =
+    let done = c.in-Ok-recover.ensures in
+    let p = c.recover.new.self in
+    record {
+      settled = done.settled;
+      none = ap (entries_in p.next.area.items p.next.places) done.none;
+      shape = c.recover.ensures.shape;
+      sound = done.good;
+      honest = done.honest;
+      any_moment = c.recover.ensures.stays;
+      quiet = done.quiet;
+      unrefused = c.recover.ensures.refused;
+      refused = tt;
+      no_batch = tt;
+      failed = tt;
+      no_memory = tt;
+    }
+
+pub returns-in-Err : goal.returns-in-Err
+returns-in-Err g c =
+    let done = c.in-Err.ensures in
+    record {
+      settled = tt;
+      none = tt;
+      shape = tt;
+      sound = tt;
+      honest = tt;
+      any_moment = tt;
+      quiet = tt;
+      unrefused = tt;
+      refused = c.recover.ensures.stays;
+      no_batch = done.no_batch;
+      failed = done.failed;
+      no_memory = λ is. absurd (done.no_memory is);
+    }

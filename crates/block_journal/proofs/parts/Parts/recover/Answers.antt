@@ -1,0 +1,119 @@
+use Rattle.std.proofs.Common.{◌≡◌, refl, sym, ◌∙◌, ap, subst}
+use Rattle.std.proofs.lemmas.Result.{IfErr-weaker}
+use Rattle.block_device.specs.Blocks.{BlockFile}
+use Rattle.block_device.specs.BlocksPast.{RunsWithin}
+use Rattle.block_device.proofs.Within.{within_same}
+use Rattle.block_journal.specs.Layout.{IsHonest, IsInside, recovered}
+use Rattle.block_journal.specs.Journal.{InRunOrKept, pending_in}
+use Rattle.block_journal.specs.declared.refusal.OpenError.{OpenError}
+use Rattle.block_journal.specs.declared.refusal.OpenError.TheVariants.{FileFailed}
+use Rattle.block_journal.specs.Opening.{HasTakenBoth}
+use Rattle.block_journal.specs.Parts.{value_of}
+use Rattle.block_journal.proofs.Recovering.{stays_recovered, within_pending}
+use Rattle.block_journal.proofs.Results.{err_rises, on_ok}
+use Rattle.block_journal.proofs.parts.Parts.recover.Goals as goal
+
+pub read_areas-requires : goal.read_areas-requires
+read_areas-requires g c = record {
+  inside = c.requires.inside;
+  small = c.requires.small;
+  last = c.requires.last.buffer;
+  last_size = c.requires.last.long;
+  last_none = c.requires.last.none;
+  other = c.requires.next.buffer;
+  other_size = c.requires.next.long;
+  other_none = c.requires.next.none;
+}
+
+pub returns-in-Err : goal.returns-in-Err
+returns-in-Err g c =
+    let h = g.B.Blocks.past_of in
+    let p = c.args.self.now in
+    let reads = c.read_areas.ensures.reads in
+    record {
+      sound = tt;
+      good = tt;
+      none = tt;
+      settled = tt;
+      honest = tt;
+      shape = refl;
+      refused = refl;
+      stays = stays_recovered p.shape (h p.below) (h c.read_areas.new.below) c.requires.inside
+          (within_same (InRunOrKept p.shape 0 0 (pending_in p.shape (h p.below).file.content)) (h p.below).file.content (h p.below) (h p.below)
+          (h c.read_areas.new.below) (within_pending p.shape (h p.below) c.requires.synced) reads.time reads.file);
+      quiet = tt;
+      no_memory = λ never. absurd (cc);
+      no_batch = λ never. absurd (cc);
+      failed = λ _. c.in-Err.ensures.counts.failed;
+    }
+
+pub returns-in-Ok-None : goal.returns-in-Ok-None
+returns-in-Ok-None g c =
+    let h = g.B.Blocks.past_of in
+    let p = c.args.self.now in
+    let reads = c.read_areas.ensures.reads in
+    record {
+      sound = tt;
+      good = tt;
+      none = tt;
+      settled = tt;
+      honest = tt;
+      shape = refl;
+      refused = refl;
+      stays = stays_recovered p.shape (h p.below) (h c.read_areas.new.below) c.requires.inside
+          (within_same (InRunOrKept p.shape 0 0 (pending_in p.shape (h p.below).file.content)) (h p.below).file.content (h p.below) (h p.below)
+          (h c.read_areas.new.below) (within_pending p.shape (h p.below) c.requires.synced) reads.time reads.file);
+      quiet = tt;
+      no_memory = λ never. absurd (cc);
+      no_batch = λ _. c.in-Ok-None.ensures.none c.in-Ok-None.field-0-is;
+      failed = λ never. absurd (cc);
+    }
+
+pub settle-requires : goal.settle-requires
+settle-requires g c =
+    let h = g.B.Blocks.past_of in
+    let p = c.args.self.now in
+    let read = c.read_areas.ensures in
+    record {
+      inside = subst (λ (f : BlockFile). IsInside p.shape f.content) (sym read.reads.file) c.requires.inside;
+      small = c.requires.small;
+      last = read.last;
+      last_size = read.last_size;
+      next = read.other;
+      next_size = read.other_size;
+      taken = subst (λ (f : BlockFile). HasTakenBoth p.shape f.content c.in-Ok-Some.number c.in-Ok-Some.before c.read_areas.new.last c.read_areas.new.other)
+          (sym read.reads.file) (rw c.in-Ok-Some.field-0-is at c.in-Ok-Some.ensures.taken);
+    }
+
+pub returns-in-Ok-Some : goal.returns-in-Ok-Some
+returns-in-Ok-Some g c =
+    let h = g.B.Blocks.past_of in
+    let p = c.args.self.now in
+    let reads = c.read_areas.ensures.reads in
+    let same = reads.file in
+    let r = c.settle.result in
+    let done = c.settle.ensures in
+    let counted = c.in-Ok-Some.ensures.counts.none in
+    let S = λ (f : BlockFile). InRunOrKept p.shape 0 0 (pending_in p.shape f.content) in
+    let old = (h p.below).file in
+    let mid = (h c.read_areas.new.below).file in
+    let read : RunsWithin (S old) old.content (h p.below) (h c.read_areas.new.below) =
+    within_same (S old) old.content (h p.below) (h p.below) (h c.read_areas.new.below) (within_pending p.shape (h p.below) c.requires.synced) reads.time same in
+    let within : RunsWithin (S old) old.content (h p.below) (h c.settle.new.self.below) =
+    subst (λ (f : BlockFile). RunsWithin (S f) old.content (h p.below) (h c.settle.new.self.below)) same
+    (done.within old.content (h p.below)
+    (subst (λ (f : BlockFile). RunsWithin (S f) old.content (h p.below) (h c.read_areas.new.below)) (sym same) read)) in
+    record {
+      sound = done.sound;
+      good = done.good;
+      none = done.none;
+      settled = on_ok _ _ r (λ ok. ok ∙ ap (λ (f : BlockFile). recovered p.shape f.content) same) done.settled;
+      honest = on_ok _ _ r (λ ok. subst (λ (f : BlockFile). IsHonest (value_of c.settle.new.self).offered p.shape f.content) same ok) done.honest;
+      shape = done.shape;
+      refused = done.refused;
+      stays = stays_recovered p.shape (h p.below) (h c.settle.new.self.below) c.requires.inside within;
+      quiet = on_ok _ _ r (λ ok. ok ∙ counted) done.counts.none;
+      no_memory = IfErr-weaker r _ _ (λ e is never. absurd (cc)) done.err;
+      no_batch = IfErr-weaker r _ _ (λ e is never. absurd (cc)) done.err;
+      failed = err_rises r (λ (e : OpenError). e ≡ FileFailed) _ _ _ counted done.counts.failed;
+    }

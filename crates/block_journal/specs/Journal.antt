@@ -1,0 +1,64 @@
+-- What a journal keeps.
+use Rattle.std.specs.Prelude.{◌≡◌, ◌⊎◌, ℕ, ◌+◌, ◌%◌, ◌≤◌, ◌<◌, List, Some, None, Contains}
+use Rattle.block_device.specs.Blocks.{Image, InRun, SameOutside}
+use Rattle.block_device.specs.BlocksPast.{BlocksPast, Elapses, LeavesOnly}
+use Rattle.block_batch.specs.Batch.{Entry, Batch, replayed, IsPlace}
+use Rattle.block_batch.specs.Replay.{IsCommitted, pending}
+use Rattle.block_journal.specs.declared.shape.Shape.{Shape}
+use Rattle.block_journal.specs.Layout.{area_start, kept_start, kept_of, found, recovered, IsInside}
+
+-- the block in which the journal keeps one of these
+abbrev pub KeepsOne : Shape → List Entry → ℕ → Type 0
+KeepsOne g entries n = (place : ℕ) × IsPlace entries place × (n ≡ kept_start g + place)
+
+-- a block of a run, or one in which the journal keeps one of these
+abbrev pub InRunOrKept : Shape → (first count : ℕ) → List Entry → ℕ → Type 0
+InRunOrKept g first count entries n = InRun first count n ⊎ KeepsOne g entries n
+
+-- the blocks that a commit may write: those of an area, and the places of these blocks
+abbrev pub MayWrite : Shape → ℕ → List Entry → ℕ → Type 0
+MayWrite g a entries = InRunOrKept g (area_start g a) g.area entries
+
+-- The batches that were handed to be written, or found: the last one, and older ones.
+pub record AreKnown (offered : List Batch) (last : Batch) (settled : Image) : Type 0 where
+  pub has_last : Contains offered last
+  pub none_later : (x : Batch) → Contains offered x → x.number ≤ last.number
+  pub is_last : (x : Batch) → Contains offered x → x.number ≡ last.number → x ≡ last
+  pub before : (x : Batch) → Contains offered x → x.number + 1 ≡ last.number
+      → replayed last.entries (replayed x.entries settled) ≡ settled
+
+-- The image stands for these blocks: the area of the last batch has it, and the kept blocks are there outside its
+-- places.
+pub record StandsFor (g : Shape) (image : Image) (last : Batch) (settled : Image) : Type 0 where
+  pub inside : IsInside g image
+  pub here : found g image (last.number % 2) ≡ Some last
+  pub committed : IsCommitted last settled (kept_of g image)
+
+-- The image has this batch in its area, and the blocks that were settled before it, outside its places.
+pub record IsWritten (g : Shape) (image : Image) (next : Batch) (settled : Image) : Type 0 where
+  pub inside : IsInside g image
+  pub here : found g image (next.number % 2) ≡ Some next
+  pub placed : SameOutside (IsPlace next.entries) settled (kept_of g image)
+
+-- The areas are of no use: an image with the same kept blocks, each of whose areas has the same batch or none, stands
+-- for these blocks.
+abbrev pub NeedsNoArea : Shape → Image → Image → Type 0
+NeedsNoArea g image settled = (c : Image) → kept_of g c ≡ kept_of g image
+    → ((a : ℕ) → a < 2 → (found g c a ≡ None) ⊎ (found g c a ≡ found g image a)) → recovered g c ≡ settled
+
+-- whatever a crash leaves from the one moment to the other stands for what the file stood for
+abbrev pub StaysRecovered : Shape → BlocksPast → BlocksPast → Type 0
+StaysRecovered g old new = LeavesOnly old new (λ c. recovered g c ≡ recovered g old.file.content)
+
+-- the blocks that a replay sets
+abbrev pub pending_in : Shape → Image → List Entry
+pending_in g image = pending (found g image 0) (found g image 1)
+
+-- one of them
+abbrev pub IsPending : Shape → Image → ℕ → Type 0
+IsPending g image n = KeepsOne g (pending_in g image) n
+
+-- calls were made that change nothing
+pub record OnlyReads (old new : BlocksPast) : Type 0 where
+  pub file : new.file ≡ old.file
+  pub time : Elapses old new

@@ -1,0 +1,7 @@
+pub mod Entries
+pub mod Gathered
+pub mod Journal
+pub mod Layout
+pub mod Opening
+pub mod Parts
+pub mod Value

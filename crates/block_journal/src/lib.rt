@@ -1,0 +1,35 @@
+//! A journal: blocks that are committed many at once or not at all, over a file of blocks.
+//!
+//! The file has two areas for batches, and the kept blocks. A batch is written to the area that the last one doesn't
+//! have, and synced; then it is committed. Its blocks come to their places with the next batch, before its area is used
+//! again.
+//!
+//! Proved of a `Journal`, over any `Blocks`: what it reads is what was settled, with what is gathered (`read`, `put`).
+//! A commit that succeeds settles what is gathered, and at any moment of one a crash leaves, under the premise
+//! `IsHonest`, the blocks as before it or as after it (`commit`). An opening settles what the file stands for, and a
+//! crash within it changes nothing of that (`open`). After an empty batch no area is needed (`close`). Once a call has
+//! failed in a commit, no call is made of the file. Neither: the premise, which no hash is known to keep.
+//!
+//! Laws: what a crash leaves while a batch is committed is recovered as before it, or as after it (`crash_of_commit`,
+//! `at_any_moment`). Once it is committed, it is the last one (`next_is_last`).
+//!
+//! Lemmas about its public words that crates above may cite, in `proofs`: `Crash`, `OnlyReading`, `Parting`, `Placing`
+//! and `Results`.
+#![tactic(auto)]
+
+mod clearing;
+mod gathered;
+mod journal;
+mod laws;
+mod lookup;
+mod parts;
+mod reading;
+mod refusal;
+mod shape;
+mod writing;
+
+pub use clearing::clear;
+pub use journal::{Journal, Unopened};
+pub use laws::{at_any_moment, crash_of_commit, next_is_last};
+pub use refusal::OpenError;
+pub use shape::Shape;
