@@ -1,0 +1,100 @@
+use Rattle.std.proofs.Common.{◌≡◌, ℕ, Err, ⊎_elim, refl, sym, ◌∙◌, ap, subst, arith}
+use Rattle.std.proofs.lemmas.Bool.{cases_eq}
+use Rattle.sector_device.specs.DevicePast.{Rises}
+use Rattle.block_device.specs.Blocks.{Image}
+use Rattle.block_journal.specs.Value.{failures_of}
+use Rattle.block_journal.proofs.OnlyReading.{reads_none, reads_then}
+use Rattle.block_table.specs.Checked.{CheckedValue, kept_table}
+use Rattle.block_table.specs.Table.{IsFit}
+use Rattle.block_table.proofs.Contents.{read_then, table_read}
+use Rattle.block_table.proofs.checked.CheckedBlocks.check.Goals as goal
+
+pub loop-n-init : goal.loop-n-init
+loop-n-init g c = record {
+  fits = λ m behind below. absurd (omega (arith, behind, below));
+  rest = refl;
+  reads = reads_none (g.B.Blocks.past_of c.args.self.now.journal.below);
+  quiet = refl;
+}
+
+pub read-requires : goal.read-requires
+read-requires g c =
+    let opened = ap (λ (x : CheckedValue g.row.B.Denot). x.blocks) c.self.view_is in
+    omega (arith, c.loop-n-test.true, opened, ap (λ (x : CheckedValue g.row.B.Denot). x.blocks) c.loop-n.invariant.rest)
+
+pub loop-n-preserved : goal.loop-n-preserved
+loop-n-preserved g c =
+    let h = g.B.Blocks.past_of in
+    let so_far = c.loop-n.invariant in
+    let start = c.args.self.now in
+    let mid = c.loop-n.self in
+    let n = c.loop-n.n in
+    let blocks = ap (λ (x : CheckedValue g.row.B.Denot). x.blocks) so_far.rest in
+    let table = table_read h start mid so_far.rest so_far.reads in
+    let here : IsFit start.blocks (kept_table h start) n =
+    subst (λ (k : ℕ). IsFit k (kept_table h start) n) blocks (subst (λ (l : Image). IsFit mid.blocks l n) table c.in-Ok.ensures.fits) in
+    record {
+      fits = λ m behind below. ⊎_elim
+          (λ same. subst (IsFit start.blocks (kept_table h start)) (sym same) here)
+          (λ other. so_far.fits m behind (omega (arith, below, other)))
+          (cases_eq m n);
+      rest = read_then start mid c.read.new.self so_far.rest c.read.ensures.rest;
+      reads = reads_then _ _ _ so_far.reads c.read.ensures.reads;
+      quiet = c.read.ensures.counts.quiet (λ never. absurd (cc)) ∙ so_far.quiet;
+    }
+
+pub returns-in-Err-Damaged : goal.returns-in-Err-Damaged
+returns-in-Err-Damaged g c =
+    let h = g.B.Blocks.past_of in
+    let so_far = c.loop-n.invariant in
+    let start = c.args.self.now in
+    let mid = c.loop-n.self in
+    let n = c.loop-n.n in
+    let read = c.read.ensures in
+    let blocks : mid.blocks ≡ start.blocks = ap (λ (x : CheckedValue g.row.B.Denot). x.blocks) so_far.rest in
+    let table = table_read h start mid so_far.rest so_far.reads in
+    let none = read.counts.quiet (λ is. absurd (cc)) ∙ so_far.quiet in
+    record {
+      unfit = record {
+        behind = c.loop-n.auto.n;
+        low = omega (arith, c.loop-n-test.true, ap (λ (x : CheckedValue g.row.B.Denot). x.blocks) c.self.view_is);
+        unfit = subst (λ (k : ℕ). ¬ IsFit k (kept_table h start) n) blocks
+            (subst (λ (l : Image). ¬ IsFit mid.blocks l n) table (c.in-Err-Damaged.ensures.damaged (ap Err c.in-Err-Damaged.field-0-is)));
+        before = so_far.fits;
+      };
+      sound = tt;
+      rest = read_then start mid c.read.new.self so_far.rest read.rest;
+      reads = reads_then _ _ _ so_far.reads read.reads;
+      counts = record { later = omega (arith, none); none = none; failed = tt };
+    }
+
+pub returns-in-Err-FileFailed : goal.returns-in-Err-FileFailed
+returns-in-Err-FileFailed g c =
+    let so_far = c.loop-n.invariant in
+    let start = c.args.self.now in
+    let mid = c.loop-n.self in
+    let read = c.read.ensures in
+    record {
+      unfit = tt;
+      sound = tt;
+      rest = read_then start mid c.read.new.self so_far.rest read.rest;
+      reads = reads_then _ _ _ so_far.reads read.reads;
+      counts = record {
+        later = omega (arith, read.counts.later, so_far.quiet);
+        none = tt;
+        failed = subst (λ (a : ℕ). Rises a (failures_of g.B.Blocks.failures c.read.new.self.journal)) so_far.quiet
+            (c.in-Err-FileFailed.ensures.counts.rises (ap Err c.in-Err-FileFailed.field-0-is));
+      };
+    }
+
+pub returns : goal.returns
+returns g c =
+    let so_far = c.loop-n.invariant in
+    record {
+      unfit = tt;
+      sound = λ n behind below. so_far.fits n behind
+          (omega (arith, below, c.loop-n-test.false, ap (λ (x : CheckedValue g.row.B.Denot). x.blocks) c.self.view_is));
+      rest = so_far.rest;
+      reads = so_far.reads;
+      counts = record { later = omega (arith, so_far.quiet); none = so_far.quiet; failed = tt };
+    }

@@ -1,0 +1,104 @@
+use Rattle.std.proofs.Common.{◌≡◌, ℕ, ◌+◌, ◌/◌, ◌%◌, ◌<◌, List, [], refl, sym, ◌∙◌, ap, arith, slice_index, slice_index_or}
+use Rattle.std.proofs.lemmas.List.{get_or-drop}
+use Rattle.block_device.specs.Blocks.{block}
+use Rattle.block_batch.specs.Batch.{block_digest}
+use Rattle.block_journal.specs.Value.{JournalValue, content_of}
+use Rattle.block_journal.proofs.Results.{from_err, from_ok}
+use Rattle.block_table.specs.Table.{digest_of, place_of, table_count}
+use Rattle.block_table.proofs.Contents.{content_read, step_same}
+use Rattle.block_table.proofs.Table.{in_table}
+use Rattle.block_table.proofs.checked.CheckedBlocks.read.Goals as goal
+
+pub returns-then-is_err : goal.returns-then-is_err
+returns-then-is_err g c =
+    rw (← c.self.view_is) (
+    let failed = sym c.is_err.ensures.value ∙ c.if-is_err.true in
+    let done = c.read.ensures in
+    record {
+      ok = tt;
+      fits = tt;
+      damaged = λ is. absurd (cc);
+      err = refl;
+      failed = λ _. from_err _ _ failed done.fails;
+      rest = ap (λ (v : JournalValue g.row.B.Denot). record { journal = v; blocks = c.self.inside.blocks }) done.rest;
+      reads = done.reads;
+      counts = record {
+        later = done.counts.later;
+        quiet = λ other. absurd (other refl);
+        rises = λ _. from_err _ _ failed done.counts.failed;
+      };
+    })
+
+pub returns-then-told-found : goal.returns-then-told-found
+returns-then-told-found g c =
+    rw (← c.self.view_is) (
+    let h = g.B.Blocks.past_of in
+    let good = sym c.is_err.ensures.value ∙ c.if-is_err.false in
+    let done = c.read.ensures in
+    let v : JournalValue g.row.B.Denot = c.self.inside.journal in
+    let blocks = c.self.inside.blocks in
+    let n = c.args.n in
+    let low : n < blocks = rw (← c.self.view_is) at c.requires in
+    let step = c.self.invariant in
+    let place : c.len.result + n ≡ place_of blocks n = ap (λ (k : ℕ). k + n) (c.len.ensures ∙ c.self.inside.rows.ok.0 ∙ step.count) in
+    let told : c.digest_at-told.result ≡ digest_of (content_of h v) n =
+    c.digest_at-told.ensures ∙ ap (λ (l : List (List ℕ)). slice_index (slice_index_or l (n / 512) []) (n % 512)) c.deref.ensures.value
+    ∙ step.numbers (n / 512) (n % 512) (in_table blocks n low) (omega arith) in
+    let found : c.block_digest-found.result ≡ block_digest (place_of blocks n) (block (content_of h v) (place_of blocks n)) =
+    c.block_digest-found.ensures ∙ ap (block_digest (c.len.result + n)) (from_ok _ _ good done.ok)
+    ∙ ap (λ (k : ℕ). block_digest k (block (content_of h v) k)) place in
+    record {
+      ok = tt;
+      fits = tt;
+      damaged = λ _ fits. c.if-told-found.true (told ∙ fits ∙ sym found);
+      err = refl;
+      failed = λ is. absurd (cc);
+      rest = ap (λ (w : JournalValue g.row.B.Denot). record { journal = w; blocks = blocks }) done.rest;
+      reads = done.reads;
+      counts = record {
+        later = done.counts.later;
+        quiet = λ _. from_ok _ _ good done.counts.none;
+        rises = λ is. absurd (cc);
+      };
+    })
+
+pub returns : goal.returns
+returns g c =
+    rw (← c.self.view_is) (
+    let h = g.B.Blocks.past_of in
+    let good = sym c.is_err.ensures.value ∙ c.if-is_err.false in
+    let done = c.read.ensures in
+    let v : JournalValue g.row.B.Denot = c.self.inside.journal in
+    let blocks = c.self.inside.blocks in
+    let n = c.args.n in
+    let low : n < blocks = rw (← c.self.view_is) at c.requires in
+    let step = c.self.invariant in
+    let place : c.len.result + n ≡ place_of blocks n = ap (λ (k : ℕ). k + n) (c.len.ensures ∙ c.self.inside.rows.ok.0 ∙ step.count) in
+    let told : c.digest_at-told.result ≡ digest_of (content_of h v) n =
+    c.digest_at-told.ensures ∙ ap (λ (l : List (List ℕ)). slice_index (slice_index_or l (n / 512) []) (n % 512)) c.deref.ensures.value
+    ∙ step.numbers (n / 512) (n % 512) (in_table blocks n low) (omega arith) in
+    let found : c.block_digest-found.result ≡ block_digest (place_of blocks n) (block (content_of h v) (place_of blocks n)) =
+    c.block_digest-found.ensures ∙ ap (block_digest (c.len.result + n)) (from_ok _ _ good done.ok)
+    ∙ ap (λ (k : ℕ). block_digest k (block (content_of h v) k)) place in
+    record {
+      ok = from_ok _ _ good done.ok ∙ ap (block (content_of h v)) place ∙ sym (get_or-drop (table_count blocks) (content_of h v) n []);
+      fits = sym told ∙ c.if-told-found.false ∙ found;
+      damaged = λ is. absurd (cc);
+      err = tt;
+      failed = λ is. absurd (cc);
+      rest = ap (λ (w : JournalValue g.row.B.Denot). record { journal = w; blocks = blocks }) done.rest;
+      reads = done.reads;
+      counts = record {
+        later = done.counts.later;
+        quiet = λ _. from_ok _ _ good done.counts.none;
+        rises = λ is. absurd (cc);
+      };
+    })
+
+pub invariant_of-self : goal.invariant_of-self
+invariant_of-self g c =
+    let h = g.B.Blocks.past_of in
+    let v : JournalValue g.row.B.Denot = c.self.inside.journal in
+    let m : JournalValue g.row.B.Denot = c.read.new.self in
+    step_same h v m c.self.inside.rows.items c.self.inside.blocks c.self.invariant (ap (λ (w : JournalValue g.row.B.Denot). w.shape) c.read.ensures.rest)
+    (content_read h v m c.read.ensures.rest c.read.ensures.reads)

@@ -1,0 +1,9 @@
+use Rattle.block_table.proofs.checked.CheckedBlocks.stands.Goals as goal
+
+pub returns : goal.returns
+returns g c =
+    rw (← c.self.view_is) (record {
+      inside = c.stands.ensures.inside;
+      kept = c.self.invariant.kept;
+      survives = c.stands.ensures.survives;
+    })

@@ -1,0 +1,256 @@
+//! Blocks of data, each with a digest.
+ghost use Rattle.std.specs.Prelude.{◌≡◌, ◌≢◌, ◌⊎◌, ◌↔◌, ◌/◌, ◌+◌, ◌≤◌, ◌<◌, ℕ, [], true, false, None, Err, slice_set};
+ghost use Rattle.std.specs.Prelude.{IfErr, IfNone, IfOk, IfSome, OnErr, OnOk};
+ghost use Rattle.sector_device.specs.DevicePast.{CountsFailure, Rises};
+ghost use Rattle.block_device.specs.Blocks.{Image, IsCrashImage, IsSynced, block};
+ghost use Rattle.block_journal.specs.Layout.{IsHonest, IsInside, found, kept_of, recovered};
+ghost use Rattle.block_journal.specs.Journal.{IsPending, NeedsNoArea, OnlyReads, StaysRecovered};
+ghost use Rattle.block_journal.specs.Value.{LeavesEither, failures_of, room_of};
+ghost use Rattle.block_table.specs.Table.{IsFirstUnfit, IsFit, kept_count};
+
+use crate::rows::{digest_at, read_rows, set_digest};
+use block_batch::block_digest;
+use block_device::{BLOCK_SIZE, Blocks};
+use block_journal::{Journal, OpenError, Shape, Unopened};
+use block_words::WORDS;
+use sector_device::Failed;
+use std::alloc::Allocator;
+use std::marker::Model;
+
+/// Why a block of data can't be read.
+#[derive(Clone, Copy, Debug, PartialEq, Eq, thiserror::Error)]
+pub enum ReadError {
+    /// The file failed, or a commit has failed before.
+    #[error("the file failed")]
+    FileFailed,
+    /// The block doesn't fit its digest.
+    #[error("the block is damaged")]
+    Damaged,
+}
+
+/// Blocks of data, kept by a journal with a table of their digests. Each block that is read is compared with its
+/// digest, and one that doesn't fit is told.
+#[derive(Drop)]
+pub struct CheckedBlocks<B: Blocks, A: Allocator> {
+    journal: Journal<B, A>,
+    // the numbers of each block of the table
+    rows: Vec<[u64; WORDS], A>,
+    blocks: u64,
+}
+
+impl<B: Blocks, A: Allocator> Model for CheckedBlocks<B, A> {
+    ghost use Rattle.std.specs.Coded.{codes};
+    ghost use Rattle.block_table.specs.Checked.{CheckedValue};
+    ghost use Rattle.block_table.specs.Rows.{IsInStep};
+
+    ghost Value = { CheckedValue B };
+
+    ghost coded = { Prim.hlevel codes };
+
+    ghost view = { λ c. record { journal = c.journal; blocks = c.blocks } };
+
+    ghost invariant = { λ c. IsInStep B.past_of c.journal c.rows.items c.blocks };
+}
+
+impl<B: Blocks, A: Allocator + Copy> CheckedBlocks<B, A> {
+    ghost use Rattle.block_table.specs.Checked.{CountsRead, data_now, kept_table, settled_table};
+
+    /// Opens the journal of a file that keeps so many blocks of data behind their table, and reads the table. `check`
+    /// compares the blocks.
+    pub fn open(alloc: A, below: B, shape: Shape, blocks: u64) -> Result<Self, Unopened<B>>
+        requires inside { IsInside shape (B.past_of below).file.content }
+        requires kept { shape.kept ≡ kept_count blocks }
+        requires synced { (n : ℕ) → ¬ IsPending shape (B.past_of below).file.content n
+            → (B.past_of below).file.loose n ≡ false }
+        ensures settled { IfOk result (λ c. settled_table B.past_of c
+            ≡ recovered shape (B.past_of below).file.content) }
+        ensures none { IfOk result (λ c. c.journal.next ≡ []) }
+        ensures shape { IfOk result (λ c. c.journal.shape ≡ shape) }
+        ensures blocks { IfOk result (λ c. c.blocks ≡ blocks) }
+        ensures sound { IfOk result (λ c. c.journal.has_failed ≡ false) }
+        ensures honest { IfOk result (λ c. IsHonest c.journal.offered shape (B.past_of below).file.content) }
+        ensures any_moment { IfOk result (λ c. StaysRecovered shape (B.past_of below) (B.past_of c.journal.below)) }
+        ensures quiet { IfOk result (λ c. B.failures c.journal.below ≡ B.failures below) }
+        ensures unrefused { IfOk result (λ c. c.journal.refused ≡ 0) }
+        ensures refused { IfErr result (λ e. StaysRecovered shape (B.past_of below) (B.past_of e.file)) }
+        ensures no_batch { IfErr result (λ e. e.error ≡ OpenError.NoBatch
+            → (found shape (B.past_of below).file.content 0 ≡ None)
+            × (found shape (B.past_of below).file.content 1 ≡ None)) }
+        ensures failed { IfErr result (λ e. e.error ≡ OpenError.FileFailed
+            → Rises (B.failures below) (B.failures e.file)) }
+    {
+        let _ = below.blocks();
+        let mut journal = Journal::open(alloc, below, shape)?;
+        match read_rows(alloc, &mut journal, shape.kept - blocks) {
+            Ok(rows) => Ok(CheckedBlocks {
+                journal,
+                rows,
+                blocks,
+            }),
+            Err(error) => Err(Unopened {
+                file: journal.into_file(),
+                error,
+            }),
+        }
+    }
+
+    /// For how many blocks of data more there is room before a commit.
+    pub fn room(&self) -> usize
+        ensures { result ≡ room_of self.now.journal / 2 }
+    {
+        self.journal.room() / 2
+    }
+
+    /// Reads a block of data: as it was put, or else as it was committed. `Damaged` where it doesn't fit its digest.
+    pub fn read(&mut self, n: u64, bytes: &mut [u8; BLOCK_SIZE]) -> Result<(), ReadError>
+        requires { n < self.old.blocks }
+        ensures ok { OnOk result (bytes.new ≡ block (data_now B.past_of self.old) n) }
+        ensures fits { OnOk result (IsFit self.old.blocks (kept_table B.past_of self.old) n) }
+        ensures damaged { result ≡ Err ReadError.Damaged → ¬ IsFit self.old.blocks (kept_table B.past_of self.old) n }
+        ensures err { OnErr result (bytes.new ≡ bytes.old) }
+        ensures failed { result ≡ Err ReadError.FileFailed → (self.old.journal.has_failed ≡ true)
+            ⊎ Rises (B.failures self.old.journal.below) (B.failures self.new.journal.below) }
+        ensures rest { self.new ≡ record self.old {
+          journal = record self.old.journal {
+            below = self.new.journal.below;
+            refused = self.new.journal.refused;
+          };
+        } }
+        ensures reads { OnlyReads (B.past_of self.old.journal.below) (B.past_of self.new.journal.below) }
+        ensures counts { CountsRead (failures_of B.failures self.old.journal)
+            (failures_of B.failures self.new.journal) result }
+    {
+        let place = self.rows.len() as u64 + n;
+        let mut block = [0; BLOCK_SIZE];
+        if self.journal.read(place, &mut block).is_err() {
+            return Err(ReadError::FileFailed);
+        }
+        let told = digest_at(&self.rows, n);
+        let found = block_digest(place, &block);
+        if told != found {
+            return Err(ReadError::Damaged);
+        }
+        *bytes = block;
+        Ok(())
+    }
+
+    /// The first block of data, from a number on, that doesn't fit its digest.
+    pub fn check(&mut self, from: u64) -> Result<Option<u64>, Failed>
+        ensures unfit { IfOk result (λ found. IfSome found (IsFirstUnfit self.old.blocks
+            (kept_table B.past_of self.old) from)) }
+        ensures sound { IfOk result (λ found. IfNone found ((n : ℕ) → from ≤ n → n < self.old.blocks
+            → IsFit self.old.blocks (kept_table B.past_of self.old) n)) }
+        ensures rest { self.new ≡ record self.old {
+          journal = record self.old.journal {
+            below = self.new.journal.below;
+            refused = self.new.journal.refused;
+          };
+        } }
+        ensures reads { OnlyReads (B.past_of self.old.journal.below) (B.past_of self.new.journal.below) }
+        ensures counts { CountsFailure (failures_of B.failures self.old.journal)
+            (failures_of B.failures self.new.journal) result }
+    {
+        let mut block = [0; BLOCK_SIZE];
+        for n in from..self.blocks {
+            match self.read(n, &mut block) {
+                Ok(()) => {}
+                Err(ReadError::Damaged) => return Ok(Some(n)),
+                Err(ReadError::FileFailed) => return Err(Failed),
+            }
+        }
+        Ok(None)
+    }
+
+    /// Puts a block of data, with its digest, for the next commit.
+    pub fn put(&mut self, n: u64, bytes: &[u8; BLOCK_SIZE])
+        requires inside { n < self.old.blocks }
+        requires room { 1 < room_of self.old.journal }
+        ensures put { data_now B.past_of self.new ≡ slice_set (data_now B.past_of self.old) n bytes.now }
+        ensures fits { IsFit self.old.blocks (kept_table B.past_of self.new) n }
+        ensures others { (m : ℕ) → m < self.old.blocks → m ≢ n
+            → (IsFit self.old.blocks (kept_table B.past_of self.new) m
+            ↔ IsFit self.old.blocks (kept_table B.past_of self.old) m) }
+        ensures rest { self.new ≡ record self.old {
+          journal = record self.old.journal { next = self.new.journal.next };
+        } }
+        ensures room { room_of self.old.journal ≤ room_of self.new.journal + 2 }
+    {
+        self.journal.stands();
+        let digest = self.journal.put(self.rows.len() as u64 + n, bytes);
+        let row = set_digest(&mut self.rows, n, digest);
+        self.journal.put(n / 512, &row);
+    }
+
+    /// Commits what was put: all of it or, where it fails, all or nothing of it, as a journal does.
+    pub fn commit(&mut self) -> Result<(), Failed>
+        ensures ok { OnOk result (settled_table B.past_of self.new ≡ kept_table B.past_of self.old) }
+        ensures none { OnOk result (self.new.journal.next ≡ []) }
+        ensures sound { OnOk result ((self.old.journal.has_failed ≡ false) × (self.new.journal.has_failed ≡ false)) }
+        ensures err { OnErr result (settled_table B.past_of self.new ≡ settled_table B.past_of self.old) }
+        ensures kept { OnErr result (self.new.journal.next ≡ self.old.journal.next) }
+        ensures failed { OnErr result (self.new.journal.has_failed ≡ true) }
+        ensures any_moment { self.old.journal.has_failed ≡ false
+            → LeavesEither B.past_of self.old.journal self.new.journal }
+        ensures refused { self.old.journal.has_failed ≡ true → self.new.journal ≡ record self.old.journal {
+          refused = self.new.journal.refused;
+        } }
+        ensures shape { self.new.journal.shape ≡ self.old.journal.shape }
+        ensures blocks { self.new.blocks ≡ self.old.blocks }
+        ensures counts { CountsFailure (failures_of B.failures self.old.journal)
+            (failures_of B.failures self.new.journal) result }
+    {
+        self.journal.commit()
+    }
+
+    /// Ends the use of the file, as a journal does: all blocks are in their places, and need no area. Nothing was put
+    /// since the last commit.
+    pub fn close(&mut self) -> Result<(), Failed>
+        requires { self.old.journal.next ≡ [] }
+        ensures places { OnOk result (kept_of self.old.journal.shape (B.past_of self.new.journal.below).file.content
+            ≡ settled_table B.past_of self.old) }
+        ensures areas { OnOk result (NeedsNoArea self.old.journal.shape
+            (B.past_of self.new.journal.below).file.content (settled_table B.past_of self.old)) }
+        ensures settled { settled_table B.past_of self.new ≡ settled_table B.past_of self.old }
+        ensures none { self.new.journal.next ≡ [] }
+        ensures synced { OnOk result (IsSynced (B.past_of self.new.journal.below).file) }
+        ensures failed { OnErr result (self.new.journal.has_failed ≡ true) }
+        ensures any_moment { self.old.journal.has_failed ≡ false
+            → LeavesEither B.past_of self.old.journal self.new.journal }
+        ensures refused { self.old.journal.has_failed ≡ true → self.new.journal ≡ record self.old.journal {
+          refused = self.new.journal.refused;
+        } }
+        ensures shape { self.new.journal.shape ≡ self.old.journal.shape }
+        ensures blocks { self.new.blocks ≡ self.old.blocks }
+        ensures counts { CountsFailure (failures_of B.failures self.old.journal)
+            (failures_of B.failures self.new.journal) result }
+    {
+        self.journal.close()
+    }
+
+    /// A law: the journal lies within its file, and keeps the table and the blocks of data. Unless it has failed, what
+    /// a crash leaves of the file now stands, under the premise, for what was committed.
+    pub fn stands(&self)
+        ensures inside { IsInside self.now.journal.shape (B.past_of self.now.journal.below).file.content }
+        ensures kept { self.now.journal.shape.kept ≡ kept_count self.now.blocks }
+        ensures survives { self.now.journal.has_failed ≡ false → (c : Image)
+            → IsCrashImage (B.past_of self.now.journal.below).file c
+            → IsHonest self.now.journal.offered self.now.journal.shape c
+            → recovered self.now.journal.shape c ≡ settled_table B.past_of self.now }
+    {
+        self.journal.stands();
+    }
+
+    /// How many blocks of data there are.
+    pub fn blocks(&self) -> u64
+        ensures { result ≡ self.now.blocks }
+    {
+        self.blocks
+    }
+
+    /// The file as it is now. What was put since the last commit is lost.
+    pub fn into_file(self) -> B
+        ensures { result ≡ self.journal.below }
+    {
+        self.journal.into_file()
+    }
+}
