@@ -1,0 +1,83 @@
+-- What calls of checked blocks leave, one after the other.
+use Rattle.std.proofs.Common.{Result, Ok, Err, OnOk, OnErr, ◌≡◌, ◌⊎◌, inl, inr, ⊎_elim, ℕ, true, false, List, [], refl, sym, ◌∙◌, ap, subst}
+use Rattle.block_device.specs.Blocks.{Image, BlockFile, IsCrashImage}
+use Rattle.block_device.specs.BlocksPast.{BlocksPast, LeavesOnly}
+use Rattle.block_device.proofs.Moments.{at_end, goes_on, started}
+use Rattle.block_batch.specs.Batch.{Batch, Entry, replayed}
+use Rattle.block_journal.specs.Layout.{IsHonest, recovered}
+use Rattle.block_journal.specs.Journal.{OnlyReads}
+use Rattle.block_journal.specs.Value.{JournalValue, LeavesEither}
+use Rattle.block_journal.proofs.OnlyReading.{reads_none, reads_then}
+use Rattle.block_table.specs.Checked.{CheckedValue, CountsRead, kept_table, settled_table}
+use Rattle.block_table.specs.declared.checked.ReadError.{ReadError}
+use Rattle.block_file.specs.Moves.{Moves}
+
+module _ {B : Type 0} (past_of : B → BlocksPast) where
+  abbrev file_of : CheckedValue B → BlocksPast
+  file_of c = past_of c.journal.below
+
+  -- a commit
+  pub moves_commit : {E : Type 0} (old new : CheckedValue B) (r : Result Unit E) → new.journal.shape ≡ old.journal.shape → new.blocks ≡ old.blocks
+      → OnOk r (settled_table past_of new ≡ kept_table past_of old) → OnErr r (settled_table past_of new ≡ settled_table past_of old)
+      → (old.journal.has_failed ≡ false → LeavesEither past_of old.journal new.journal)
+      → (old.journal.has_failed ≡ true → new.journal ≡ record old.journal { refused = new.journal.refused }) → Moves past_of old new
+  moves_commit old new r shape blocks ok err any_moment refused = record {
+    shape = shape;
+    blocks = blocks;
+    settled = either r ok err;
+    any_moment = any_moment;
+    refused = λ failed. (
+      subst (OnlyReads (file_of old)) (sym (ap (λ (v : JournalValue B). past_of v.below) (refused failed))) (reads_none (file_of old)),
+      ap (λ (v : JournalValue B). v.offered) (refused failed),
+    );
+  }
+    where
+      either : {E : Type 0} (r : Result Unit E) → OnOk r (settled_table past_of new ≡ kept_table past_of old)
+          → OnErr r (settled_table past_of new ≡ settled_table past_of old)
+          → (settled_table past_of new ≡ settled_table past_of old) ⊎ (settled_table past_of new ≡ kept_table past_of old)
+      either (Ok x) ok err = inr ok
+      either (Err e) ok err = inl err
+
+  -- a commit, done or failed, leaves what is kept
+  pub kept_commit : {E : Type 0} (old new : CheckedValue B) (r : Result Unit E) → OnOk r (settled_table past_of new ≡ kept_table past_of old)
+      → OnOk r (new.journal.next ≡ []) → OnErr r (settled_table past_of new ≡ settled_table past_of old) → OnErr r (new.journal.next ≡ old.journal.next)
+      → kept_table past_of new ≡ kept_table past_of old
+  kept_commit old new (Ok x) ok none err kept = ap (λ (l : List Entry). replayed l (settled_table past_of new)) none ∙ ok
+  kept_commit old new (Err e) ok none err kept =
+      ap (λ (l : List Entry). replayed l (settled_table past_of new)) kept ∙ ap (replayed old.journal.next) err
+
+  -- no call
+  pub moves_none : (c : CheckedValue B) → (c.journal.has_failed ≡ false → (image : Image) → IsCrashImage (file_of c).file image
+      → IsHonest c.journal.offered c.journal.shape image → recovered c.journal.shape image ≡ settled_table past_of c) → Moves past_of c c
+  moves_none c survives = record {
+    shape = refl;
+    blocks = refl;
+    settled = inl refl;
+    any_moment = λ good. started (file_of c) (λ image. IsHonest c.journal.offered c.journal.shape image
+        → (recovered c.journal.shape image ≡ settled_table past_of c) ⊎ (recovered c.journal.shape image ≡ kept_table past_of c))
+        (λ image crash honest. inl (survives good image crash honest));
+    refused = λ failed. (reads_none (file_of c), refl);
+  }
+
+  -- calls that only read, and a put, behind it
+  pub moves_then : (old mid new : CheckedValue B) → Moves past_of old mid → new.journal.shape ≡ mid.journal.shape → new.blocks ≡ mid.blocks
+      → new.journal.offered ≡ mid.journal.offered → settled_table past_of new ≡ settled_table past_of mid → OnlyReads (file_of mid) (file_of new)
+      → Moves past_of old new
+  moves_then old mid new first shape blocks offered settled reads = record {
+    shape = shape ∙ first.shape;
+    blocks = blocks ∙ first.blocks;
+    settled = ⊎_elim (λ is. inl (settled ∙ is)) (λ is. inr (settled ∙ is)) first.settled;
+    any_moment = λ good. subst (λ (o : List Batch). LeavesOnly (file_of old) (file_of new) (either o)) (sym offered)
+        (goes_on (file_of old) (file_of mid) (file_of new) (either mid.journal.offered) (first.any_moment good) reads.time
+        (λ c crash. at_end (file_of old) (file_of mid) (either mid.journal.offered) (first.any_moment good) c
+        (subst (λ (f : BlockFile). IsCrashImage f c) reads.file crash)));
+    refused = λ failed. (reads_then (file_of old) (file_of mid) (file_of new) (first.refused failed).0 reads, offered ∙ (first.refused failed).1);
+  }
+    where
+      either : List Batch → Image → Type 0
+      either offered c = IsHonest offered old.journal.shape c
+          → (recovered old.journal.shape c ≡ settled_table past_of old) ⊎ (recovered old.journal.shape c ≡ kept_table past_of old)
+
+-- the count of failures, behind calls that succeeded
+pub read_later : {T : Type 0} (a b c : ℕ) (r : Result T ReadError) → b ≡ a → CountsRead b c r → CountsRead a c r
+read_later a b c r same counts = subst (λ (k : ℕ). CountsRead k c r) same counts

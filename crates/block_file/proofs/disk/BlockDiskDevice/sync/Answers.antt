@@ -1,0 +1,13 @@
+use Rattle.block_file.proofs.disk.BlockDiskDevice.sync.Goals as goal
+
+pub sync-requires : goal.sync-requires
+sync-requires g c = record { sound = c.self.invariant }
+
+pub returns : goal.returns
+returns g c =
+    rw (← c.self.view_is) (
+    let done = c.sync.ensures in
+    record { ok = done.ok; err = done.err; time = done.time; counts = done.counts })
+
+pub invariant_of-self : goal.invariant_of-self
+invariant_of-self g c = c.sync.ensures.sound

@@ -1,0 +1,84 @@
+use Rattle.std.proofs.Common.{◌≡◌, ℕ, List, sym, ◌∙◌, ap, subst, arith}
+use Rattle.block_device.specs.Blocks.{Image}
+use Rattle.block_batch.specs.Batch.{Entry, replayed}
+use Rattle.block_journal.specs.Journal.{OnlyReads}
+use Rattle.block_journal.specs.Value.{JournalValue}
+use Rattle.block_table.specs.Checked.{CheckedValue, kept_table, settled_table}
+use Rattle.block_table.specs.Table.{IsFirstUnfit, IsFit, data_of}
+use Rattle.block_table.proofs.Contents.{settled_read}
+use Rattle.block_file.specs.Sectors.{sectors_of}
+use Rattle.block_file.proofs.opening.compared.Goals as goal
+
+pub over-requires : goal.over-requires
+over-requires g c =
+    let rest = c.check.ensures.rest in
+    let journal = ap (λ (x : CheckedValue g.row.B.Denot). x.journal) rest in
+    record {
+      plan = c.requires.plan;
+      shape = ap (λ (v : JournalValue g.row.B.Denot). v.shape) journal ∙ c.requires.shape;
+      blocks = ap (λ (x : CheckedValue g.row.B.Denot). x.blocks) rest ∙ c.requires.blocks;
+      none = ap (λ (v : JournalValue g.row.B.Denot). v.next) journal ∙ c.requires.none;
+      good = ap (λ (v : JournalValue g.row.B.Denot). v.has_failed) journal ∙ c.requires.good;
+    }
+
+pub returns-in-Ok-None : goal.returns-in-Ok-None
+returns-in-Ok-None g c =
+    let h = g.B.Blocks.past_of in
+    let plan = c.args.plan in
+    let old : CheckedValue g.row.B.Denot = c.args.checked in
+    let new : CheckedValue g.row.B.Denot = c.check.new.self in
+    let done = c.check.ensures in
+    let journal = ap (λ (x : CheckedValue g.row.B.Denot). x.journal) done.rest in
+    let blocks : new.blocks ≡ old.blocks = ap (λ (x : CheckedValue g.row.B.Denot). x.blocks) done.rest in
+    let table : kept_table h old ≡ settled_table h old = ap (λ (l : List Entry). replayed l (settled_table h old)) c.requires.none in
+    let settled : settled_table h new ≡ settled_table h old = settled_read h old.journal new.journal journal done.reads in
+    let sound = rw c.in-Ok-None.field-0-is at c.in-Ok-None.ensures.sound in
+    record {
+      plan = c.over.ensures.plan;
+      content = c.over.ensures.content ∙ (λ i. sectors_of plan.lead plan.sectors (data_of (blocks i) (settled i)));
+      synced = c.over.ensures.synced;
+      fits = λ n below. subst (λ (l : Image). IsFit plan.blocks l n) table
+          (subst (λ (b : ℕ). IsFit b (kept_table h old) n) c.requires.blocks (sound n (omega arith) (omega (arith, below, c.requires.blocks))));
+      read = subst (λ (v : JournalValue g.row.B.Denot). OnlyReads (h old.journal.below) (h v.below)) (sym c.over.ensures.journal) done.reads;
+      refused = tt;
+      damaged = tt;
+      header = tt;
+    }
+
+pub returns-in-Ok-Some : goal.returns-in-Ok-Some
+returns-in-Ok-Some g c =
+    let h = g.B.Blocks.past_of in
+    let plan = c.args.plan in
+    let old : CheckedValue g.row.B.Denot = c.args.checked in
+    let done = c.check.ensures in
+    let table : kept_table h old ≡ settled_table h old = ap (λ (l : List Entry). replayed l (settled_table h old)) c.requires.none in
+    let unfit = rw c.in-Ok-Some.field-0-is at c.in-Ok-Some.ensures.unfit in
+    record {
+      plan = tt;
+      content = tt;
+      synced = tt;
+      fits = tt;
+      read = tt;
+      refused = subst (λ (b : g.row.B.Denot). OnlyReads (h old.journal.below) (h b)) (sym c.into_file.ensures) done.reads;
+      damaged = λ n is.
+          let same : c.in-Ok-Some.n ≡ n = cc in
+          subst (IsFirstUnfit plan.blocks (settled_table h old) 0) same
+          (subst (λ (l : Image). IsFirstUnfit plan.blocks l 0 c.in-Ok-Some.n) table
+          (subst (λ (b : ℕ). IsFirstUnfit b (kept_table h old) 0 c.in-Ok-Some.n) c.requires.blocks unfit));
+      header = λ is. absurd (cc);
+    }
+
+pub returns-in-Err : goal.returns-in-Err
+returns-in-Err g c =
+    let h = g.B.Blocks.past_of in
+    record {
+      plan = tt;
+      content = tt;
+      synced = tt;
+      fits = tt;
+      read = tt;
+      refused = subst (λ (b : g.row.B.Denot). OnlyReads (h c.args.checked.journal.below) (h b)) (sym c.into_file-in-Err.ensures)
+          c.check.ensures.reads;
+      damaged = λ n is. absurd (cc);
+      header = λ is. absurd (cc);
+    }

@@ -1,0 +1,119 @@
+use Rattle.std.proofs.Common.{◌≡◌, sym, ◌∙◌, ap, subst}
+use Rattle.std.proofs.lemmas.Result.{IfErr-weaker}
+use Rattle.block_device.specs.Blocks.{Image, BlockFile}
+use Rattle.block_device.specs.BlocksPast.{BlocksPast}
+use Rattle.block_journal.specs.Layout.{recovered}
+use Rattle.block_journal.specs.Journal.{StaysRecovered}
+use Rattle.block_table.specs.Checked.{CheckedValue, settled_table}
+use Rattle.block_table.specs.Table.{EachFits, IsFirstUnfit, data_of}
+use Rattle.block_table.proofs.Contents.{stays_read}
+use Rattle.block_file.specs.declared.plan.Plan.{Plan}
+use Rattle.block_file.specs.Plans.{disk_image}
+use Rattle.block_file.specs.Disks.{disk_past, journal_in}
+use Rattle.block_file.specs.Sectors.{sectors_of}
+use Rattle.block_file.proofs.Openings.{if_ok, reads_recovered, same_plan, stays_then}
+use Rattle.block_file.proofs.opening.open.Goals as goal
+
+pub returns-then-not-has_room-clause-refused : goal.returns-then-not-has_room-clause-refused
+returns-then-not-has_room-clause-refused g c = λ p told inside.
+    let h = g.B.Blocks.past_of in
+    reads_recovered p.shape (h c.args.below) (h c.read_plan.new.below) c.requires c.in-Ok.ensures.reads
+
+pub returns-in-Ok-open-clause-content : goal.returns-in-Ok-open-clause-content
+returns-in-Ok-open-clause-content g c =
+    let h = g.B.Blocks.past_of in
+    let plan : Plan = c.in-Ok.plan in
+    let checked : CheckedValue g.row.B.Denot = c.in-Ok-open.checked in
+    let old : BlockFile = (h c.args.below).file in
+    let opened = c.in-Ok-open.ensures in
+    let table : settled_table h checked ≡ recovered plan.shape old.content =
+    opened.settled ∙ ap (λ (f : BlockFile). recovered plan.shape f.content) c.in-Ok.ensures.reads.file in
+    if_ok c.compared.result _ _ _
+    (λ d is content. subst (λ (p : Plan). (disk_past h d).disk.content ≡ disk_image p old.content) (sym is)
+    (content ∙ (λ i. sectors_of plan.lead plan.sectors (data_of (opened.blocks i) (table i)))))
+    c.compared.ensures.plan c.compared.ensures.content
+
+pub returns-in-Ok-open-clause-fits : goal.returns-in-Ok-open-clause-fits
+returns-in-Ok-open-clause-fits g c =
+    let h = g.B.Blocks.past_of in
+    let plan : Plan = c.in-Ok.plan in
+    let checked : CheckedValue g.row.B.Denot = c.in-Ok-open.checked in
+    let old : BlockFile = (h c.args.below).file in
+    let table : settled_table h checked ≡ recovered plan.shape old.content =
+    c.in-Ok-open.ensures.settled ∙ ap (λ (f : BlockFile). recovered plan.shape f.content) c.in-Ok.ensures.reads.file in
+    if_ok c.compared.result _ _ _
+    (λ d is fits. subst (λ (p : Plan). EachFits p.blocks (recovered p.shape old.content)) (sym is)
+    (subst (λ (l : Image). EachFits plan.blocks l) table fits))
+    c.compared.ensures.plan c.compared.ensures.fits
+
+pub returns-in-Ok-open-clause-any_moment : goal.returns-in-Ok-open-clause-any_moment
+returns-in-Ok-open-clause-any_moment g c =
+    let h = g.B.Blocks.past_of in
+    let plan : Plan = c.in-Ok.plan in
+    let checked : CheckedValue g.row.B.Denot = c.in-Ok-open.checked in
+    let old : BlocksPast = h c.args.below in
+    let mid : BlocksPast = h c.read_plan.new.below in
+    let reads = c.in-Ok.ensures.reads in
+    let first = reads_recovered plan.shape old mid c.requires reads in
+    if_ok c.compared.result _ _ _
+    (λ d is read. subst (λ (p : Plan). StaysRecovered p.shape old (h (journal_in d.now).below)) (sym is)
+    (stays_then plan.shape old mid (h (journal_in d.now).below) reads.file first
+    (stays_read plan.shape mid (h checked.journal.below) (h (journal_in d.now).below) c.in-Ok-open.ensures.any_moment read)))
+    c.compared.ensures.plan c.compared.ensures.read
+
+pub returns-in-Ok-open-clause-refused : goal.returns-in-Ok-open-clause-refused
+returns-in-Ok-open-clause-refused g c =
+    let h = g.B.Blocks.past_of in
+    let plan : Plan = c.in-Ok.plan in
+    let checked : CheckedValue g.row.B.Denot = c.in-Ok-open.checked in
+    let old : BlocksPast = h c.args.below in
+    let mid : BlocksPast = h c.read_plan.new.below in
+    let reads = c.in-Ok.ensures.reads in
+    let first = reads_recovered plan.shape old mid c.requires reads in
+    IfErr-weaker c.compared.result _ _
+    (λ e read p told inside. subst (λ (q : Plan). StaysRecovered q.shape old (h e.file)) (same_plan _ plan p c.in-Ok.ensures.told told)
+    (stays_then plan.shape old mid (h e.file) reads.file first
+    (stays_read plan.shape mid (h checked.journal.below) (h e.file) c.in-Ok-open.ensures.any_moment read)))
+    c.compared.ensures.refused
+
+pub returns-in-Ok-open-clause-damaged : goal.returns-in-Ok-open-clause-damaged
+returns-in-Ok-open-clause-damaged g c =
+    let h = g.B.Blocks.past_of in
+    let plan : Plan = c.in-Ok.plan in
+    let checked : CheckedValue g.row.B.Denot = c.in-Ok-open.checked in
+    let old : BlockFile = (h c.args.below).file in
+    let table : settled_table h checked ≡ recovered plan.shape old.content =
+    c.in-Ok-open.ensures.settled ∙ ap (λ (f : BlockFile). recovered plan.shape f.content) c.in-Ok.ensures.reads.file in
+    IfErr-weaker c.compared.result _ _
+    (λ e damaged n is p told. subst (λ (q : Plan). IsFirstUnfit q.blocks (recovered q.shape old.content) 0 n)
+    (same_plan _ plan p c.in-Ok.ensures.told told)
+    (subst (λ (l : Image). IsFirstUnfit plan.blocks l 0 n) table (damaged n is)))
+    c.compared.ensures.damaged
+
+pub returns-in-Err-open-clause-refused : goal.returns-in-Err-open-clause-refused
+returns-in-Err-open-clause-refused g c = λ p told inside.
+    let h = g.B.Blocks.past_of in
+    let plan : Plan = c.in-Ok.plan in
+    let old : BlocksPast = h c.args.below in
+    let mid : BlocksPast = h c.read_plan.new.below in
+    let reads = c.in-Ok.ensures.reads in
+    let new : BlocksPast = h c.in-Err-open.refused.file in
+    subst (λ (q : Plan). StaysRecovered q.shape old new) (same_plan _ plan p c.in-Ok.ensures.told told)
+    (stays_then plan.shape old mid new reads.file (reads_recovered plan.shape old mid c.requires reads) c.in-Err-open.ensures.refused)
+
+pub returns-in-Err-open-clause-damaged : goal.returns-in-Err-open-clause-damaged
+returns-in-Err-open-clause-damaged g c = λ n is. absurd (c.error_of.ensures.undamaged n is)
+
+pub returns-in-Err : goal.returns-in-Err
+returns-in-Err g c =
+    let h = g.B.Blocks.past_of in
+    record {
+      told = tt;
+      content = tt;
+      synced = tt;
+      fits = tt;
+      any_moment = tt;
+      refused = λ p told inside. reads_recovered p.shape (h c.args.below) (h c.read_plan.new.below) c.requires c.in-Err.ensures.reads;
+      damaged = λ n is. absurd (c.in-Err.ensures.undamaged n is);
+      no_header = c.in-Err.ensures.none;
+    }

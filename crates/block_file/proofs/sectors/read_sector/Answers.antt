@@ -1,0 +1,37 @@
+use Rattle.std.proofs.Common.{ℕ, ◌+◌, ◌%◌, Err, List, refl, sym, ◌∙◌, ap, arith}
+use Rattle.std.proofs.lemmas.Result.{err_from_is_err_and}
+use Rattle.block_table.specs.Checked.{data_now}
+use Rattle.block_file.specs.Sectors.{part}
+use Rattle.block_file.proofs.Patching.{sector_at}
+use Rattle.block_file.proofs.sectors.read_sector.Goals as goal
+
+pub read-requires : goal.read-requires
+read-requires g c = omega (arith, c.requires.plan.room, c.requires.inside, c.requires.blocks)
+
+pub returns-in_err-read : goal.returns-in_err-read
+returns-in_err-read g c =
+    let p = err_from_is_err_and c.from_residual.result c.from_residual.ensures.1 in
+    let done = c.in_err-read.ensures in
+    rw (p.1 ∙ ap Err p.2) (record {
+      ok = tt;
+      err = refl;
+      rest = done.rest;
+      reads = done.reads;
+      counts = done.counts;
+    })
+
+pub returns : goal.returns
+returns g c =
+    let h = g.B.Blocks.past_of in
+    let plan = c.args.plan in
+    let n = c.args.n in
+    let done = c.in_ok-read.ensures in
+    record {
+      ok = c.sector_of.ensures
+          ∙ ap (λ (b : List ℕ). part b ((n + plan.lead) % 8)) done.ok
+          ∙ sym (sector_at plan.lead plan.sectors (data_now h c.args.checked.now) n c.requires.inside);
+      err = tt;
+      rest = done.rest;
+      reads = done.reads;
+      counts = done.counts;
+    }

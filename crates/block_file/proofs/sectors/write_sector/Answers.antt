@@ -1,0 +1,103 @@
+use Rattle.std.proofs.Common.{◌≡◌, ℕ, ◌+◌, ◌/◌, ◌<◌, Err, List, length, slice_set, sym, ◌∙◌, ap, subst, arith}
+use Rattle.std.proofs.lemmas.Result.{err_from_is_err_and}
+use Rattle.block_device.specs.Blocks.{Image, block}
+use Rattle.block_device.specs.BlocksPast.{BlocksPast}
+use Rattle.block_journal.specs.declared.shape.Shape.{Shape}
+use Rattle.block_journal.specs.Journal.{OnlyReads}
+use Rattle.block_journal.specs.Value.{JournalValue, failures_of, room_of, settled_of}
+use Rattle.block_table.specs.Checked.{CheckedValue, data_now, kept_table}
+use Rattle.block_table.specs.Table.{data_of}
+use Rattle.block_table.proofs.Contents.{length-data, settled_read, table_read}
+use Rattle.block_file.specs.Sectors.{part, sectors_of}
+use Rattle.block_file.proofs.Moving.{moves_then, read_later}
+use Rattle.block_file.proofs.Patching.{sector_put}
+use Rattle.block_file.proofs.sectors.write_sector.Goals as goal
+
+pub make_room-requires : goal.make_room-requires
+make_room-requires g c = omega (arith, ap (λ (s : Shape). s.area) c.requires.shape, c.requires.plan.batch)
+
+pub returns-in_err-make_room : goal.returns-in_err-make_room
+returns-in_err-make_room g c =
+    let p = err_from_is_err_and c.from_residual.result c.from_residual.ensures.1 in
+    let done = c.in_err-make_room.ensures in
+    rw (p.1 ∙ ap Err p.2) (record {
+      ok = tt;
+      err = λ i. data_of (done.moves.blocks i) (done.same i);
+      moves = done.moves;
+      counts = done.counts;
+    })
+
+pub read-requires : goal.read-requires
+read-requires g c = omega (arith, c.requires.plan.room, c.requires.inside, c.requires.blocks, c.make_room.ensures.moves.blocks)
+
+pub returns-in_err-read : goal.returns-in_err-read
+returns-in_err-read g c =
+    let p = err_from_is_err_and c.from_residual-in_err-read.result c.from_residual-in_err-read.ensures.1 in
+    let h = g.B.Blocks.past_of in
+    let old : CheckedValue g.row.B.Denot = c.args.checked.now in
+    let mid : CheckedValue g.row.B.Denot = c.make_room.new.checked in
+    let new : CheckedValue g.row.B.Denot = c.read.new.self in
+    let room = c.in_ok-make_room.ensures in
+    let done = c.in_err-read.ensures in
+    let journal = ap (λ (x : CheckedValue g.row.B.Denot). x.journal) done.rest in
+    let blocks = ap (λ (x : CheckedValue g.row.B.Denot). x.blocks) done.rest in
+    let all : new.blocks ≡ old.blocks = blocks ∙ room.moves.blocks in
+    let table : kept_table h new ≡ kept_table h old = table_read h mid new done.rest done.reads ∙ room.same in
+    rw (p.1 ∙ ap Err p.2) (record {
+      ok = tt;
+      err = λ i. data_of (all i) (table i);
+      moves = moves_then h old mid new room.moves (ap (λ (v : JournalValue g.row.B.Denot). v.shape) journal) blocks
+          (ap (λ (v : JournalValue g.row.B.Denot). v.offered) journal) (settled_read h mid.journal new.journal journal done.reads) done.reads;
+      counts = read_later _ _ _ _ (room.counts.quiet (λ is. absurd (cc))) done.counts;
+    })
+
+pub put-requires : goal.put-requires
+put-requires g c =
+    let rest = c.in_ok-read.ensures.rest in
+    let journal = ap (λ (x : CheckedValue g.row.B.Denot). x.journal) rest in
+    let blocks = ap (λ (x : CheckedValue g.row.B.Denot). x.blocks) rest in
+    record {
+      inside = omega (arith, c.requires.plan.room, c.requires.inside, c.requires.blocks, c.in_ok-make_room.ensures.moves.blocks, blocks);
+      room = subst (λ (k : ℕ). 1 < k) (sym (ap (λ (v : JournalValue g.row.B.Denot). room_of v) journal)) c.in_ok-make_room.ensures.room;
+    }
+
+pub returns : goal.returns
+returns g c =
+    let h = g.B.Blocks.past_of in
+    let F = g.B.Blocks.failures in
+    let plan = c.args.plan in
+    let n = c.args.n in
+    let old : CheckedValue g.row.B.Denot = c.args.checked.now in
+    let mid : CheckedValue g.row.B.Denot = c.make_room.new.checked in
+    let read : CheckedValue g.row.B.Denot = c.read.new.self in
+    let new : CheckedValue g.row.B.Denot = c.put.new.self in
+    let room = c.in_ok-make_room.ensures in
+    let done = c.in_ok-read.ensures in
+    let put = c.put.ensures in
+    let blk : List ℕ = c.put_sector.new.block in
+    let journal = ap (λ (x : CheckedValue g.row.B.Denot). x.journal) done.rest in
+    let behind = ap (λ (x : CheckedValue g.row.B.Denot). x.journal) put.rest in
+    let blocks = ap (λ (x : CheckedValue g.row.B.Denot). x.blocks) done.rest in
+    let to_read : read.blocks ≡ old.blocks = blocks ∙ room.moves.blocks in
+    let mid_data : data_now h mid ≡ data_now h old = λ i. data_of (room.moves.blocks i) (room.same i) in
+    let table : kept_table h read ≡ kept_table h old = table_read h mid read done.rest done.reads ∙ room.same in
+    let same_data : data_now h read ≡ data_now h old = λ i. data_of (to_read i) (table i) in
+    let size : (n + plan.lead) / 8 < length (data_now h old) =
+    omega (arith, length-data h old c.stands.ensures.inside c.stands.ensures.kept, c.requires.plan.room, c.requires.inside, c.requires.blocks) in
+    let below : OnlyReads (h mid.journal.below) (h new.journal.below) =
+    subst (λ (x : BlocksPast). OnlyReads (h mid.journal.below) x) (sym (ap (λ (v : JournalValue g.row.B.Denot). h v.below) behind)) done.reads in
+    let counted : failures_of F new.journal ≡ failures_of F old.journal =
+    ap (λ (v : JournalValue g.row.B.Denot). failures_of F v) behind ∙ done.counts.quiet (λ is. absurd (cc)) ∙ room.counts.quiet (λ is. absurd (cc)) in
+    record {
+      ok = ap (sectors_of plan.lead plan.sectors) (put.put ∙ ap (λ (l : Image). slice_set l ((n + plan.lead) / 8) blk) same_data)
+          ∙ sector_put plan.lead plan.sectors (data_now h old) n c.args.bytes.now blk c.requires.inside size c.put_sector.ensures.here
+          (λ j apart. c.put_sector.ensures.others j apart
+          ∙ ap (λ (b : List ℕ). part b j) (done.ok ∙ ap (λ (l : Image). block l ((n + plan.lead) / 8)) mid_data));
+      err = tt;
+      moves = moves_then h old mid new room.moves
+          (ap (λ (v : JournalValue g.row.B.Denot). v.shape) behind ∙ ap (λ (v : JournalValue g.row.B.Denot). v.shape) journal)
+          (ap (λ (x : CheckedValue g.row.B.Denot). x.blocks) put.rest ∙ blocks)
+          (ap (λ (v : JournalValue g.row.B.Denot). v.offered) behind ∙ ap (λ (v : JournalValue g.row.B.Denot). v.offered) journal)
+          (ap (λ (v : JournalValue g.row.B.Denot). settled_of h v) behind ∙ settled_read h mid.journal read.journal journal done.reads) below;
+      counts = record { later = omega (arith, counted); quiet = λ _. counted; rises = λ is. absurd (cc) };
+    }

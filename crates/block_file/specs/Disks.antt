@@ -1,0 +1,73 @@
+-- What a device over a file of blocks holds, and what a crash leaves of the file.
+use Rattle.std.specs.Prelude.{ℕ, ◌+◌, ◌<◌, Bool, false, ◌||◌, ◌==◌, List, [], ◌∷◌, length, slice_index_or}
+use Rattle.std.proofs.Common.{ap, le_refl}
+use Rattle.std.proofs.lemmas.List.{get_or_past}
+use Rattle.sector_device.specs.Disk.{Disk, IsCrashState}
+use Rattle.sector_device.specs.DevicePast.{DevicePast}
+use Rattle.block_device.specs.Blocks.{Image, IsCrashImage}
+use Rattle.block_device.specs.BlocksPast.{BlocksPast, Between}
+use Rattle.block_batch.specs.Batch.{Batch}
+use Rattle.block_journal.specs.Layout.{IsHonest}
+use Rattle.block_journal.specs.Value.{JournalValue, failures_of}
+use Rattle.block_table.specs.Checked.{data_now}
+use Rattle.block_file.specs.declared.plan.Plan.{Plan}
+use Rattle.block_file.specs.declared.parts.Held.{Held}
+use Rattle.block_file.specs.declared.parts.DiskParts.{DiskParts}
+use Rattle.block_file.specs.Plans.{disk_image}
+use Rattle.block_file.specs.Sectors.{sectors_of, sectors_are_whole}
+
+-- whether sector k is one of these
+abbrev pub is_one_of : List ℕ → ℕ → Bool
+is_one_of [] k = false
+is_one_of (n ∷ sectors) k = (k == n) || is_one_of sectors k
+
+-- Under the premise, the image of the file stands for a crash state of this disk.
+abbrev pub StandsForCrash : Plan → List Batch → Disk → Image → Type 0
+StandsForCrash p offered disk image = IsHonest offered p.shape image → IsCrashState disk (disk_image p image)
+
+module _ {B A : Type 0} where
+  -- the journal in a state
+  abbrev pub journal_in : Held B A → JournalValue B
+  journal_in s = s.checked.journal
+
+  -- the t-th state: one of those that were, or the last one
+  abbrev pub state_at : DiskParts B A → ℕ → Held B A
+  state_at d t = slice_index_or d.past.items t d.now
+
+  -- how many calls have failed: of the file, and reads of a block that was damaged
+  abbrev pub disk_failures : (B → ℕ) → DiskParts B A → ℕ
+  disk_failures failures d = failures_of failures (journal_in d.now) + d.damaged
+
+  module _ (past_of : B → BlocksPast) where
+    -- the disk in a state
+    abbrev pub disk_of : Plan → Held B A → Disk
+    disk_of p s = record {
+      content = sectors_of p.lead p.sectors (data_now past_of s.checked);
+      unsynced = is_one_of s.written.items;
+    }
+
+    -- the disk as it is, and as it was before each of its calls
+    abbrev pub disk_past : DiskParts B A → DevicePast
+    disk_past d = record {
+      disk = disk_of d.plan d.now;
+      moment = length d.past.items;
+      disk_at = λ t. disk_of d.plan (state_at d t);
+      now = ap (disk_of d.plan) (get_or_past d.past.items (length d.past.items) d.now (le_refl (length d.past.items)));
+      whole = sectors_are_whole d.plan.lead d.plan.sectors (data_now past_of d.now.checked);
+    }
+
+    -- which moment of the file it was in a state
+    abbrev pub moment_in : Held B A → ℕ
+    moment_in s = (past_of (journal_in s).below).moment
+
+    -- THE LAW: From the j-th moment of the disk to the next one, whatever a crash leaves of the file stands, under the
+    -- premise, for a crash state of the disk at that moment.
+    abbrev pub EachCrashStands : DiskParts B A → Type 0
+    EachCrashStands d = (j : ℕ) → j < length d.past.items → Between (past_of (journal_in d.now).below).file_at
+        (moment_in (state_at d j)) (moment_in (state_at d (j + 1)))
+        (StandsForCrash d.plan (journal_in (state_at d (j + 1))).offered (disk_of d.plan (state_at d j)))
+
+    -- and so for what a crash leaves now
+    abbrev pub CrashStandsNow : Plan → Held B A → Type 0
+    CrashStandsNow p s = (image : Image) → IsCrashImage (past_of (journal_in s).below).file image
+        → StandsForCrash p (journal_in s).offered (disk_of p s) image

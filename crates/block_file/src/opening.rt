@@ -1,0 +1,192 @@
+//! A file of blocks is opened.
+ghost use Rattle.std.specs.Prelude.{◌≡◌, ◌≢◌, ℕ, [], false, true, None, Some, IfErr, IfOk, IfSome};
+ghost use Rattle.sector_device.specs.Disk.{IsSynced};
+ghost use Rattle.block_journal.specs.Layout.{IsInside, recovered};
+ghost use Rattle.block_journal.specs.Journal.{OnlyReads, StaysRecovered};
+ghost use Rattle.block_table.specs.Checked.{settled_data, settled_table};
+ghost use Rattle.block_table.specs.Table.{EachFits, IsFirstUnfit};
+ghost use Rattle.block_file.specs.Disks.{disk_past, journal_in};
+ghost use Rattle.block_file.specs.Header.{first_of, plan_told};
+ghost use Rattle.block_file.specs.Plans.{IsPlan, disk_image};
+ghost use Rattle.block_file.specs.Sectors.{sectors_of};
+
+use crate::header::{AREA_MAX, read_header};
+use crate::{BlockDisk, Plan};
+use block_device::{BLOCK_SIZE, Blocks};
+use block_journal::OpenError;
+use block_table::CheckedBlocks;
+use std::alloc::Allocator;
+
+/// Why a file of blocks can't be opened.
+#[derive(Clone, Copy, Debug, PartialEq, Eq, thiserror::Error)]
+pub enum FileError {
+    /// There isn't enough memory.
+    #[error("not enough memory")]
+    NoMemory,
+    /// The file failed.
+    #[error("the file failed")]
+    FileFailed,
+    /// Neither of the first two blocks is a header.
+    #[error("no header")]
+    NoHeader,
+    /// The file ends before what its header tells.
+    #[error("the file is too short")]
+    TooShort,
+    /// Neither area of the journal has a batch.
+    #[error("no batch in the journal")]
+    NoBatch,
+    /// This block of data, the first of such, doesn't fit its digest.
+    #[error("block {0} is damaged")]
+    Damaged(u64),
+}
+
+/// A file that couldn't be opened, and why.
+#[derive(Drop)]
+pub struct Refused<B> {
+    /// The file.
+    pub file: B,
+    /// Why.
+    pub error: FileError,
+}
+
+// Why a journal can't be opened, as of its file.
+fn error_of(error: OpenError) -> FileError
+    ensures undamaged { (n : ℕ) → result ≢ FileError.Damaged n }
+    ensures header { result ≢ FileError.NoHeader }
+{
+    match error {
+        OpenError::NoMemory => FileError::NoMemory,
+        OpenError::FileFailed => FileError::FileFailed,
+        OpenError::NoBatch => FileError::NoBatch,
+    }
+}
+
+// What the first header tells, or else the second one.
+fn first_told(first: Option<Plan>, second: Option<Plan>) -> Option<Plan>
+    ensures told { result ≡ first_of first second }
+    ensures plan { IfSome first IsPlan → IfSome second IsPlan → IfSome result IsPlan }
+{
+    match first {
+        Some(plan) => Some(plan),
+        None => second,
+    }
+}
+
+// The plan that a file tells.
+fn read_plan<B: Blocks>(below: &mut B) -> Result<Plan, FileError>
+    ensures told { IfOk result (λ p. plan_told (B.past_of below.old).file.content ≡ Some p) }
+    ensures plan { IfOk result IsPlan }
+    ensures none { IfErr result (λ e. e ≡ FileError.NoHeader
+        → plan_told (B.past_of below.old).file.content ≡ None) }
+    ensures undamaged { IfErr result (λ e. (n : ℕ) → e ≢ FileError.Damaged n) }
+    ensures reads { OnlyReads (B.past_of below.old) (B.past_of below.new) }
+{
+    if below.blocks() < 2 {
+        return Err(FileError::TooShort);
+    }
+    let mut headers = [[0; BLOCK_SIZE]; 2];
+    if below.read(0, &mut headers).is_err() {
+        return Err(FileError::FileFailed);
+    }
+    let first = read_header(&headers[0]);
+    let second = read_header(&headers[1]);
+    match first_told(first, second) {
+        Some(plan) => Ok(plan),
+        None => Err(FileError::NoHeader),
+    }
+}
+
+// Whether a file has room for a plan.
+fn has_room<B: Blocks>(below: &B, plan: Plan) -> bool
+    requires { IsPlan plan }
+    ensures { result ≡ true → IsInside plan.shape (B.past_of below.now).file.content }
+{
+    let shape = plan.shape;
+    let blocks = below.blocks();
+    if shape.area > AREA_MAX || shape.first > blocks || shape.kept > blocks {
+        return false;
+    }
+    2 * shape.area <= blocks - shape.first && shape.kept <= blocks - shape.first - 2 * shape.area
+}
+
+// The device of checked blocks that were just opened, if each of them fits its digest.
+fn compared<B: Blocks, A: Allocator + Copy>(
+    checked: CheckedBlocks<B, A>,
+    plan: Plan,
+) -> Result<BlockDisk<B, A>, Refused<B>>
+    requires plan { IsPlan plan }
+    requires shape { checked.journal.shape ≡ plan.shape }
+    requires blocks { checked.blocks ≡ plan.blocks }
+    requires none { checked.journal.next ≡ [] }
+    requires good { checked.journal.has_failed ≡ false }
+    ensures plan { IfOk result (λ d. d.plan ≡ plan) }
+    ensures content { IfOk result (λ d. (disk_past B.past_of d).disk.content
+        ≡ sectors_of plan.lead plan.sectors (settled_data B.past_of checked)) }
+    ensures synced { IfOk result (λ d. IsSynced (disk_past B.past_of d).disk) }
+    ensures fits { IfOk result (λ d. EachFits plan.blocks (settled_table B.past_of checked)) }
+    ensures read { IfOk result (λ d. OnlyReads (B.past_of checked.journal.below)
+        (B.past_of (journal_in d.now).below)) }
+    ensures refused { IfErr result (λ e. OnlyReads (B.past_of checked.journal.below) (B.past_of e.file)) }
+    ensures damaged { IfErr result (λ e. (n : ℕ) → e.error ≡ FileError.Damaged n
+        → IsFirstUnfit plan.blocks (settled_table B.past_of checked) 0 n) }
+    ensures header { IfErr result (λ e. e.error ≢ FileError.NoHeader) }
+{
+    let mut checked = checked;
+    match checked.check(0) {
+        Ok(None) => Ok(BlockDisk::over(checked, plan)),
+        Ok(Some(n)) => Err(Refused {
+            file: checked.into_file(),
+            error: FileError::Damaged(n),
+        }),
+        Err(_) => Err(Refused {
+            file: checked.into_file(),
+            error: FileError::FileFailed,
+        }),
+    }
+}
+
+/// Opens a file of blocks: its header, or where the first one is damaged, the second; its journal; and each block of
+/// data is compared with its digest. No block of the file is loose.
+///
+/// Whatever it answers, a crash at any moment of it leaves what stands for the same blocks (`any_moment`, `refused`).
+pub fn open<B: Blocks, A: Allocator + Copy>(
+    alloc: A,
+    below: B,
+) -> Result<BlockDisk<B, A>, Refused<B>>
+    requires { (n : ℕ) → (B.past_of below).file.loose n ≡ false }
+    ensures told { IfOk result (λ d. plan_told (B.past_of below).file.content ≡ Some d.plan) }
+    ensures content { IfOk result (λ d. (disk_past B.past_of d).disk.content
+        ≡ disk_image d.plan (B.past_of below).file.content) }
+    ensures synced { IfOk result (λ d. IsSynced (disk_past B.past_of d).disk) }
+    ensures fits { IfOk result (λ d. EachFits d.plan.blocks
+        (recovered d.plan.shape (B.past_of below).file.content)) }
+    ensures any_moment { IfOk result (λ d. StaysRecovered d.plan.shape (B.past_of below)
+        (B.past_of (journal_in d.now).below)) }
+    ensures refused { IfErr result (λ e. (p : Plan) → plan_told (B.past_of below).file.content ≡ Some p
+        → IsInside p.shape (B.past_of below).file.content
+        → StaysRecovered p.shape (B.past_of below) (B.past_of e.file)) }
+    ensures damaged { IfErr result (λ e. (n : ℕ) → e.error ≡ FileError.Damaged n → (p : Plan)
+        → plan_told (B.past_of below).file.content ≡ Some p
+        → IsFirstUnfit p.blocks (recovered p.shape (B.past_of below).file.content) 0 n) }
+    ensures no_header { IfErr result (λ e. e.error ≡ FileError.NoHeader
+        → plan_told (B.past_of below).file.content ≡ None) }
+{
+    let mut below = below;
+    let plan = match read_plan(&mut below) {
+        Ok(plan) => plan,
+        Err(error) => return Err(Refused { file: below, error }),
+    };
+    if !has_room(&below, plan) {
+        return Err(Refused {
+            file: below,
+            error: FileError::TooShort,
+        });
+    }
+    match CheckedBlocks::open(alloc, below, plan.shape, plan.blocks) {
+        Ok(checked) => compared(checked, plan),
+        Err(refused) => Err(Refused {
+            file: refused.file,
+            error: error_of(refused.error),
+        }),
+    }
+}

@@ -1,0 +1,104 @@
+// The parts of a device over a file of blocks, and what it does with them.
+ghost use Rattle.std.specs.Prelude.{◌≡◌, ◌+◌, ◌<◌, ℕ, is_ok, false, true, OnErr, OnOk};
+ghost use Rattle.sector_device.specs.Disk.{IsFailedWrite, after_sync, after_write, sector};
+ghost use Rattle.sector_device.specs.DevicePast.{CountsFailure, Elapses};
+ghost use Rattle.block_table.specs.Checked.{CountsRead};
+
+use crate::Plan;
+use crate::sectors::{read_sector, write_sector};
+use block_device::Blocks;
+use block_table::{CheckedBlocks, ReadError};
+use ghost_list::GhostList;
+use sector_device::{Failed, SECTOR_SIZE};
+use std::alloc::Allocator;
+
+/// What a device holds: its blocks, and, for clauses alone, which sectors were written since the last sync.
+#[derive(Drop)]
+pub struct Held<B: Blocks, A: Allocator> {
+    pub(crate) checked: CheckedBlocks<B, A>,
+    pub(crate) written: GhostList<u64>,
+}
+
+/// The parts of a device over a file of blocks.
+#[derive(Drop)]
+pub struct DiskParts<B: Blocks, A: Allocator> {
+    pub(crate) plan: Plan,
+    pub(crate) now: Held<B, A>,
+    // what it held before each call, which takes no memory
+    pub(crate) past: GhostList<Held<B, A>>,
+    // how many reads have found a block damaged
+    pub(crate) damaged: u64,
+}
+
+// Counts a block that was found damaged, as a failure.
+fn count(damaged: &mut u64, done: Result<(), ReadError>) -> Result<(), Failed>
+    ensures ok { OnOk result (is_ok done ≡ true) }
+    ensures err { OnErr result (is_ok done ≡ false) }
+    ensures counts { (before now : ℕ) → CountsRead before now done
+        → CountsFailure (before + damaged.old) (now + damaged.new) result }
+{
+    match done {
+        Ok(()) => Ok(()),
+        Err(ReadError::FileFailed) => Err(Failed),
+        Err(ReadError::Damaged) => {
+            *damaged = damaged.saturating_add(1);
+            Err(Failed)
+        }
+    }
+}
+
+impl<B: Blocks, A: Allocator + Copy> DiskParts<B, A> {
+    ghost use Rattle.block_file.specs.Disks.{disk_failures, disk_past};
+    ghost use Rattle.block_file.specs.Moves.{IsSound};
+
+    /// Reads a sector.
+    pub(crate) fn read(&mut self, n: u64, buffer: &mut [u8; SECTOR_SIZE]) -> Result<(), Failed>
+        requires sound { IsSound B.past_of self.old }
+        requires inside { n < self.old.plan.sectors }
+        ensures ok { OnOk result (buffer.new ≡ sector (disk_past B.past_of self.old).disk.content n) }
+        ensures err { OnErr result (buffer.new ≡ buffer.old) }
+        ensures disk { (disk_past B.past_of self.new).disk ≡ (disk_past B.past_of self.old).disk }
+        ensures time { Elapses (disk_past B.past_of self.old) (disk_past B.past_of self.new) }
+        ensures counts { CountsFailure (disk_failures B.failures self.old) (disk_failures B.failures self.new) result }
+        ensures sound { IsSound B.past_of self.new }
+    {
+        self.past = self.past.and(&self.now);
+        let done = read_sector(&mut self.now.checked, self.plan, n, buffer);
+        count(&mut self.damaged, done)
+    }
+
+    /// Writes a sector. Where it fails, the sector holds what it held, unsynced.
+    pub(crate) fn write(&mut self, n: u64, bytes: &[u8; SECTOR_SIZE]) -> Result<(), Failed>
+        requires sound { IsSound B.past_of self.old }
+        requires inside { n < self.old.plan.sectors }
+        ensures ok { OnOk result ((disk_past B.past_of self.new).disk
+            ≡ after_write (disk_past B.past_of self.old).disk n bytes.now) }
+        ensures err { OnErr result (IsFailedWrite (disk_past B.past_of self.old).disk n
+            (disk_past B.past_of self.new).disk) }
+        ensures time { Elapses (disk_past B.past_of self.old) (disk_past B.past_of self.new) }
+        ensures counts { CountsFailure (disk_failures B.failures self.old) (disk_failures B.failures self.new) result }
+        ensures sound { IsSound B.past_of self.new }
+    {
+        self.past = self.past.and(&self.now);
+        let done = write_sector(&mut self.now.checked, self.plan, n, bytes);
+        self.now.written = self.now.written.and(&n);
+        count(&mut self.damaged, done)
+    }
+
+    /// Syncs all sectors.
+    pub(crate) fn sync(&mut self) -> Result<(), Failed>
+        requires sound { IsSound B.past_of self.old }
+        ensures ok { OnOk result ((disk_past B.past_of self.new).disk
+            ≡ after_sync (disk_past B.past_of self.old).disk) }
+        ensures err { OnErr result ((disk_past B.past_of self.new).disk ≡ (disk_past B.past_of self.old).disk) }
+        ensures time { Elapses (disk_past B.past_of self.old) (disk_past B.past_of self.new) }
+        ensures counts { CountsFailure (disk_failures B.failures self.old) (disk_failures B.failures self.new) result }
+        ensures sound { IsSound B.past_of self.new }
+    {
+        self.past = self.past.and(&self.now);
+        self.now.checked.commit()?;
+        self.now.checked.stands();
+        self.now.written = GhostList::new();
+        Ok(())
+    }
+}

@@ -1,0 +1,96 @@
+// Sectors are read and written, in blocks of data.
+ghost use Rattle.std.specs.Prelude.{◌≡◌, ◌≢◌, ◌<◌, Err, OnErr, OnOk, slice_set};
+ghost use Rattle.sector_device.specs.Disk.{sector};
+ghost use Rattle.sector_device.specs.DevicePast.{CountsFailure};
+ghost use Rattle.block_journal.specs.Journal.{OnlyReads};
+ghost use Rattle.block_journal.specs.Value.{failures_of, room_of};
+ghost use Rattle.block_table.specs.Checked.{CountsRead, data_now, kept_table};
+ghost use Rattle.block_file.specs.Moves.{Moves};
+ghost use Rattle.block_file.specs.Plans.{IsPlan};
+ghost use Rattle.block_file.specs.Sectors.{sectors_of};
+
+use crate::Plan;
+use crate::eighths::{put_sector, sector_of};
+use block_device::{BLOCK_SIZE, Blocks};
+use block_table::{CheckedBlocks, ReadError};
+use sector_device::SECTOR_SIZE;
+use std::alloc::Allocator;
+
+/// Reads a sector.
+pub(crate) fn read_sector<B: Blocks, A: Allocator + Copy>(
+    checked: &mut CheckedBlocks<B, A>,
+    plan: Plan,
+    n: u64,
+    buffer: &mut [u8; SECTOR_SIZE],
+) -> Result<(), ReadError>
+    requires plan { IsPlan plan }
+    requires blocks { checked.old.blocks ≡ plan.blocks }
+    requires inside { n < plan.sectors }
+    ensures ok { OnOk result (buffer.new
+        ≡ sector (sectors_of plan.lead plan.sectors (data_now B.past_of checked.old)) n) }
+    ensures err { OnErr result (buffer.new ≡ buffer.old) }
+    ensures rest { checked.new ≡ record checked.old {
+      journal = record checked.old.journal {
+        below = checked.new.journal.below;
+        refused = checked.new.journal.refused;
+      };
+    } }
+    ensures reads { OnlyReads (B.past_of checked.old.journal.below) (B.past_of checked.new.journal.below) }
+    ensures counts { CountsRead (failures_of B.failures checked.old.journal)
+        (failures_of B.failures checked.new.journal) result }
+{
+    let at = n + plan.lead;
+    let mut block = [0; BLOCK_SIZE];
+    checked.read(at / 8, &mut block)?;
+    *buffer = sector_of(&block, (at % 8) as usize);
+    Ok(())
+}
+
+// Makes room for a block more: where there is none, what was put is committed.
+fn make_room<B: Blocks, A: Allocator + Copy>(
+    checked: &mut CheckedBlocks<B, A>,
+) -> Result<(), ReadError>
+    requires { 2 < checked.old.journal.shape.area }
+    ensures room { OnOk result (1 < room_of checked.new.journal) }
+    ensures same { kept_table B.past_of checked.new ≡ kept_table B.past_of checked.old }
+    ensures moves { Moves B.past_of checked.old checked.new }
+    ensures counts { CountsRead (failures_of B.failures checked.old.journal)
+        (failures_of B.failures checked.new.journal) result }
+{
+    checked.stands();
+    if checked.room() > 0 {
+        return Ok(());
+    }
+    match checked.commit() {
+        Ok(()) => Ok(()),
+        Err(_) => Err(ReadError::FileFailed),
+    }
+}
+
+/// Writes a sector: its block is put for the next commit.
+pub(crate) fn write_sector<B: Blocks, A: Allocator + Copy>(
+    checked: &mut CheckedBlocks<B, A>,
+    plan: Plan,
+    n: u64,
+    bytes: &[u8; SECTOR_SIZE],
+) -> Result<(), ReadError>
+    requires plan { IsPlan plan }
+    requires shape { checked.old.journal.shape ≡ plan.shape }
+    requires blocks { checked.old.blocks ≡ plan.blocks }
+    requires inside { n < plan.sectors }
+    ensures ok { OnOk result (sectors_of plan.lead plan.sectors (data_now B.past_of checked.new)
+        ≡ slice_set (sectors_of plan.lead plan.sectors (data_now B.past_of checked.old)) n bytes.now) }
+    ensures err { OnErr result (data_now B.past_of checked.new ≡ data_now B.past_of checked.old) }
+    ensures moves { Moves B.past_of checked.old checked.new }
+    ensures counts { CountsRead (failures_of B.failures checked.old.journal)
+        (failures_of B.failures checked.new.journal) result }
+{
+    checked.stands();
+    make_room(checked)?;
+    let at = n + plan.lead;
+    let mut block = [0; BLOCK_SIZE];
+    checked.read(at / 8, &mut block)?;
+    put_sector(&mut block, (at % 8) as usize, bytes);
+    checked.put(at / 8, &block);
+    Ok(())
+}
