@@ -1,5 +1,5 @@
 //! Bytes that lie in the value itself.
-ghost use Rattle.std.specs.Prelude.{◌≡◌, ◌≤◌, ◌↔◌, Some, IsSome, IfSome, length, nat_eq, refl};
+ghost use Rattle.std.specs.Prelude.{◌≡◌, ◌<◌, ◌≤◌, ◌↔◌, Some, IsSome, IfSome, length, nat_eq, refl};
 ghost use Rattle.std.specs.Ordering.{nat_cmp};
 ghost use Rattle.std.specs.Cmp.{on_equiv, on_total, on_po, on_per, partial_equiv_from_equiv};
 ghost use Rattle.std.specs.Cmp.Lexicographic.{pointwise, slice_cmp, nat_list_eq_equiv, nat_list_cmp_total, texts_po};
@@ -9,11 +9,11 @@ use std::cmp::Ordering;
 use std::fmt;
 use std::marker::Model;
 
-/// At most `MAX` bytes. The unused ones are zero.
+/// At most `MAX` bytes, fewer than 256. The unused ones are zero.
 #[derive(Clone, Copy)]
 pub struct ShortBytes<const MAX: usize> {
     bytes: [u8; MAX],
-    len: usize,
+    len: u8,
 }
 
 impl<const MAX: usize> Model for ShortBytes<MAX> {
@@ -38,6 +38,7 @@ impl<const MAX: usize> Model for ShortBytes<MAX> {
 impl<const MAX: usize> ShortBytes<MAX> {
     /// These bytes, where they fit.
     pub fn new(bytes: &[u8]) -> Option<Self>
+        requires few { MAX < 256 }
         ensures fits { IsSome result ↔ (length bytes.now ≤ MAX) }
         ensures value { IfSome result (λ s. s ≡ bytes.now) }
     {
@@ -48,7 +49,7 @@ impl<const MAX: usize> ShortBytes<MAX> {
         held[..bytes.len()].copy_from_slice(bytes);
         Some(ShortBytes {
             bytes: held,
-            len: bytes.len(),
+            len: bytes.len() as u8,
         })
     }
 
@@ -57,7 +58,7 @@ impl<const MAX: usize> ShortBytes<MAX> {
         ensures value { result.now ≡ self.now }
         ensures fits { length result.now ≤ MAX }
     {
-        &self.bytes[..self.len]
+        &self.bytes[..self.len as usize]
     }
 }
 
