@@ -1,5 +1,5 @@
 //! Writing records.
-ghost use Rattle.std.specs.Prelude.{◌≡◌, ◌<◌, ◌++◌, ◌∷◌, [], ℕ, List, length, take, OnOk, OnErr, IfErr};
+ghost use Rattle.std.specs.Prelude.{◌≡◌, ◌<◌, ◌++◌, ◌∷◌, [], ℕ, List, Some, None, length, take, OnOk, OnErr, IfErr};
 ghost use Rattle.records.specs.Spelling as as_bytes;
 ghost use Rattle.records.specs.Spelling.{spelling, Fits};
 
@@ -63,18 +63,20 @@ fn put_rid<A: Allocator>(out: &mut Vec<u8, A>, rid: &Rid) -> Result<(), AllocErr
     put_u16(out, rid.slot)
 }
 
-fn put_row<A: Allocator>(out: &mut Vec<u8, A>, row: &Option<Row>) -> Result<(), AllocError>
-    ensures ok { OnOk result (out.new.items ≡ out.old.items ++ as_bytes.row row.now) }
+fn put_row<A: Allocator>(out: &mut Vec<u8, A>, row: &Row) -> Result<(), AllocError>
+    ensures ok { OnOk result (out.new.items ≡ out.old.items ++ as_bytes.row (Some row.now)) }
     ensures kept { take (length out.old.items) out.new.items ≡ out.old.items }
 {
-    match row {
-        None => put_byte(out, 0),
-        Some(row) => {
-            put_byte(out, 1)?;
-            put_short(out, row.key.as_slice())?;
-            put_short(out, row.body.as_slice())
-        }
-    }
+    put_byte(out, 1)?;
+    put_short(out, row.key.as_slice())?;
+    put_short(out, row.body.as_slice())
+}
+
+fn put_no_row<A: Allocator>(out: &mut Vec<u8, A>) -> Result<(), AllocError>
+    ensures ok { OnOk result (out.new.items ≡ out.old.items ++ as_bytes.row None) }
+    ensures kept { take (length out.old.items) out.new.items ≡ out.old.items }
+{
+    put_byte(out, 0)
 }
 
 fn put_rows<A: Allocator>(out: &mut Vec<u8, A>, rows: &Rows) -> Result<(), AllocError>
@@ -82,8 +84,20 @@ fn put_rows<A: Allocator>(out: &mut Vec<u8, A>, rows: &Rows) -> Result<(), Alloc
         ++ (as_bytes.row (as_bytes.old_row rows.now) ++ as_bytes.row (as_bytes.new_row rows.now))) }
     ensures kept { take (length out.old.items) out.new.items ≡ out.old.items }
 {
-    put_row(out, &rows.old())?;
-    put_row(out, &rows.new())
+    match rows {
+        Rows::Inserted { new } => {
+            put_no_row(out)?;
+            put_row(out, new)
+        }
+        Rows::Deleted { old } => {
+            put_row(out, old)?;
+            put_no_row(out)
+        }
+        Rows::Updated { old, new } => {
+            put_row(out, old)?;
+            put_row(out, new)
+        }
+    }
 }
 
 fn put_change<A: Allocator>(out: &mut Vec<u8, A>, change: &Change) -> Result<(), AllocError>
