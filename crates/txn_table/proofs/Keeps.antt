@@ -304,6 +304,15 @@ IsTableKept-without t held txn s here kept = record {
   held_rows = AreHeldRows-without txn held t.active s kept.sound.one_holder here kept.held_rows;
 }
 
+pub IsTableKept-ended : (t : TableValue) (held : List Place) (txn : ℕ) (s : TxnState) (last : Bool) → lookup (nat_eq txn) t.active ≡ Some s
+    → (last ≡ true → without txn t.active ≡ []) → IsTableKept t held
+    → IsTableKept (table (without txn t.active) t.begun) (cond last [] (filter (λ r. not (is_among r s.rows)) held))
+IsTableKept-ended t held txn s false here none kept = IsTableKept-without t held txn s here kept
+IsTableKept-ended t held txn s true here none kept = record {
+  sound = (IsTableKept-without t held txn s here kept).sound;
+  held_rows = λ q. sym (ap (λ es. is_some (holder_of q es)) (none refl));
+}
+
 pub IsTableKept-noted : (t : TableValue) (held : List Place) (txn : ℕ) (c : ChangeValue) (s : TxnState) → lookup (nat_eq txn) t.active ≡ Some s
     → length s.changes < CHANGES_MAX → ((k : ℕ) → holder_of c.rid t.active ≡ Some k → k ≡ txn)
     → IsTableKept t held → IsTableKept (table (set_value (nat_eq txn) t.active (change_noted c s)) t.begun) (with_rid c.rid held)

@@ -1,12 +1,14 @@
 -- Lookups by number and by row.
 use Rattle.std.proofs.Common.{◌≡◌, ℕ, ◌<◌, Bool, true, false, cond, List, [], ◌∷◌, ◌++◌, Some, None, nat_eq, ◌==◌, ◌&&◌, ◌||◌, ◌⊎◌, inl, inr, refl, sym, ap}
-use Rattle.std.proofs.Common.{◌∙◌, arith, eqb, eq-eqb, zero, suc, drop, slice_get}
+use Rattle.std.proofs.Common.{◌∙◌, Option, arith, eqb, eq-eqb, zero, suc, drop, slice_get}
 use Rattle.std.proofs.Math.Bool.{or-false}
 use Rattle.std.proofs.lemmas.Bool.{eqb-true}
 use Rattle.std.proofs.lemmas.List.Folds.{list_any-append}
-use Rattle.std.specs.Map.{lookup, set_value}
+use Rattle.std.specs.Map.{lookup, set_value, values_of}
+use Rattle.indexmap.specs.IndexMap.{set_value_at}
 use Rattle.record_values.specs.Values.{Place}
 use Rattle.txn_table.specs.Table.{TxnState, is_among, with_rid, holder_of, with_state}
+use Rattle.txn_table.specs.Places.{place_of}
 use Rattle.txn_table.specs.Sound.{Rises, OneHolder}
 
 and_first : (a b : Bool) → (a && b) ≡ true → a ≡ true
@@ -163,7 +165,46 @@ among_new r rs = by (is_among r rs) refl
     by true e = e
     by false e = is_among-append r r rs ∙ or_right (is_among r rs) ((r.page == r.page) && (r.slot == r.slot)) itself
 
+-- the place of a transaction
+value_at_place : (txn : ℕ) (es : List (ℕ × TxnState)) → slice_get (values_of es) (place_of txn es) ≡ lookup (nat_eq txn) es
+value_at_place txn [] = refl
+value_at_place txn (e ∷ es) = by (eqb txn e.0) (value_at_place txn es)
+  where
+    by : (b : Bool) → slice_get (values_of es) (place_of txn es) ≡ lookup (nat_eq txn) es
+        → slice_get (e.1 ∷ values_of es) (cond b 0 (suc (place_of txn es))) ≡ cond b (Some e.1) (lookup (nat_eq txn) es)
+    by true rest = refl
+    by false rest = rest
+
+set_at_place : (txn : ℕ) (es : List (ℕ × TxnState)) (w : TxnState) → set_value_at es (place_of txn es) w ≡ set_value (nat_eq txn) es w
+set_at_place txn [] w = refl
+set_at_place txn (e ∷ es) w = by (eqb txn e.0) (set_at_place txn es w)
+  where
+    by : (b : Bool) → set_value_at es (place_of txn es) w ≡ set_value (nat_eq txn) es w
+        → set_value_at (e ∷ es) (cond b 0 (suc (place_of txn es))) w ≡ cond b ((e.0, w) ∷ es) (e ∷ set_value (nat_eq txn) es w)
+    by true rest = refl
+    by false rest = ap (λ xs. e ∷ xs) rest
+
+-- what is read, and what is written, at this place
+pub found_at : (txn k : ℕ) (es : List (ℕ × TxnState)) (o : Option TxnState) → k ≡ place_of txn es → o ≡ slice_get (values_of es) k
+    → lookup (nat_eq txn) es ≡ o
+found_at txn k es o is value = sym (value ∙ (ap (slice_get (values_of es)) is ∙ value_at_place txn es))
+
+pub written_at : (txn k : ℕ) (es : List (ℕ × TxnState)) (w : TxnState) → k ≡ place_of txn es → set_value_at es k w ≡ set_value (nat_eq txn) es w
+written_at txn k es w is = ap (λ j. set_value_at es j w) is ∙ set_at_place txn es w
+
 -- a search from i on looks at that entry first
+pub place_of-drop : (txn : ℕ) (es : List (ℕ × TxnState)) (i : ℕ) (e : ℕ × TxnState) → slice_get es i ≡ Some e
+    → place_of txn (drop i es) ≡ cond (eqb txn e.0) 0 (suc (place_of txn (drop (suc i) es)))
+place_of-drop txn [] i e h = absurd cc
+place_of-drop txn (d ∷ es) zero e h = let same : d ≡ e = cc in ap (λ (x : ℕ × TxnState). cond (eqb txn x.0) 0 (suc (place_of txn es))) same
+place_of-drop txn (d ∷ es) (suc i) e h = place_of-drop txn es i e h
+
+pub state_of-drop : (txn : ℕ) (es : List (ℕ × TxnState)) (i : ℕ) (e : ℕ × TxnState) → slice_get es i ≡ Some e
+    → lookup (nat_eq txn) (drop i es) ≡ cond (eqb txn e.0) (Some e.1) (lookup (nat_eq txn) (drop (suc i) es))
+state_of-drop txn [] i e h = absurd cc
+state_of-drop txn (d ∷ es) zero e h = let same : d ≡ e = cc in ap (λ (x : ℕ × TxnState). cond (eqb txn x.0) (Some x.1) (lookup (nat_eq txn) es)) same
+state_of-drop txn (d ∷ es) (suc i) e h = state_of-drop txn es i e h
+
 pub holder_of-drop : (r : Place) (es : List (ℕ × TxnState)) (i : ℕ) (e : ℕ × TxnState) → slice_get es i ≡ Some e
     → holder_of r (drop i es) ≡ cond (is_among r e.1.rows) (Some e.0) (holder_of r (drop (suc i) es))
 holder_of-drop r [] i e h = absurd cc

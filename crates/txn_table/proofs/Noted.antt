@@ -8,7 +8,7 @@ use Rattle.std.specs.Map.{lookup, set_value}
 use Rattle.record_values.specs.Values.{Place}
 use Rattle.records.specs.ChangeValue.{ChangeValue}
 use Rattle.records.specs.declared.change.TheConstants.{CHANGES_MAX}
-use Rattle.record_values.specs.declared.error.Error.TheVariants.{TooManyChanges, RowBusy}
+use Rattle.record_values.specs.declared.error.Error.TheVariants.{NoSuchTxn, TooManyChanges, RowBusy}
 use Rattle.txn_table.specs.Table.{TxnState, TableValue, is_among, with_rid, holder_of, with_state, change_noted, without_last, put_at, is_other, full_refusal}
 use Rattle.txn_table.specs.Table.{busy_refusal, touch_refusal}
 use Rattle.txn_table.specs.declared.progress.Progress.{Progress}
@@ -43,6 +43,14 @@ not_refused txn holder s none = by (nat_le CHANGES_MAX (length s.changes)) refl 
         → (length s.changes < CHANGES_MAX) × ((k : ℕ) → holder ≡ Some k → k ≡ txn)
     by true full none = absurd cc
     by false room none = (has_room (length s.changes) room, not_busy txn holder none)
+
+-- a change of a transaction that isn't active is refused
+pub unknown_refused : (txn : ℕ) (r : Place) (es : List (ℕ × TxnState)) → lookup (nat_eq txn) es ≡ None → touch_refusal txn r es ≡ None → ⊥
+unknown_refused txn r es none accepted =
+    never (sym (ap (λ (o : Option TxnState). option_or (full_refusal o) (busy_refusal txn (holder_of r es))) none) ∙ accepted)
+  where
+    never : Some NoSuchTxn ≡ None → ⊥
+    never e = cc
 
 -- a row that is held is the transaction's own then
 pub held_is_own : (low high txn : ℕ) (r : Place) (es : List (ℕ × TxnState)) (s : TxnState) (b : Bool) → Rises low es high → lookup (nat_eq txn) es ≡ Some s

@@ -44,6 +44,17 @@ impl<A: Allocator + Copy> ActiveTxn<A> {
         }
     }
 
+    /// No change and no row, in the memory of this one.
+    pub(crate) fn emptied(mut self) -> Self
+        ensures { result ≡ fresh_txn }
+    {
+        self.changes.clear();
+        self.rows.clear();
+        self.progress = Progress::Ready;
+        self.reserved = 0;
+        self
+    }
+
     /// The changes, oldest first.
     pub(crate) fn changes(&self) -> &[Change]
         ensures { result.now ≡ self.now.changes }

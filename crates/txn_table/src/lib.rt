@@ -9,6 +9,7 @@
 #![tactic(auto)]
 
 mod active;
+mod held;
 mod progress;
 mod table;
 

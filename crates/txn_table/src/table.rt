@@ -1,15 +1,18 @@
 //! The table of the active transactions.
-ghost use Rattle.std.specs.Prelude.{◌≡◌, ◌≢◌, ◌+◌, ◌<◌, ◌≤◌, ◌↔◌, ◌⊎◌, ℕ, [], length, not, filter, Contains, Some};
+ghost use Rattle.std.specs.Prelude.{◌≡◌, ◌≢◌, ◌+◌, ◌<◌, ◌≤◌, ◌↔◌, ◌⊎◌, ℕ, [], length, Contains, Some};
 ghost use Rattle.std.specs.Prelude.{None, is_some, slice_get, option_map, option_and_then, IsTrue, IsErr, IsSome, IfOk};
 ghost use Rattle.std.specs.Prelude.{IfErr, OnOk, OnErr, IsOkUnless};
+ghost use Rattle.std.specs.Option.{option_copied};
 ghost use Rattle.std.specs.Result.{result_err};
 ghost use Rattle.record_values.specs.Values.{Place};
-ghost use Rattle.txn_table.specs.Table.{TxnState, holds_rows, is_among, with_rid, holder_of, state_of, with_state};
-ghost use Rattle.txn_table.specs.Table.{with_next, without, change_noted, without_last, put_at, last_change};
+ghost use Rattle.txn_table.specs.Table.{TxnState, holds_rows, holder_of, state_of, with_state, with_next, without};
+ghost use Rattle.txn_table.specs.Table.{fresh_txn, change_noted, without_last, put_at, last_change};
+ghost use Rattle.txn_table.specs.Places.{place_of};
 ghost use Rattle.txn_table.specs.Table.{change_refusal, touch_refusal};
 ghost use Rattle.txn_table.specs.Sound.{IsSoundTable};
 
 use crate::active::ActiveTxn;
+use crate::held::HeldRows;
 use crate::progress::Progress;
 use indexmap::IndexMap;
 use records::{Change, Error, Rid, TXNS_MAX, Txn};
@@ -27,7 +30,9 @@ use std::marker::Model;
 pub struct TxnTable<A: Allocator> {
     alloc: A,
     active: IndexMap<Txn, ActiveTxn<A>, BuildHasherDefault<FoldHasher>, A>,
-    held: Vec<Rid, A>,
+    held: HeldRows<A>,
+    // the one that ended last, whose memory is used again
+    spare: Option<ActiveTxn<A>>,
     begun: u64,
 }
 
@@ -39,27 +44,35 @@ impl<A: Allocator> Model for TxnTable<A> {
 
     ghost view = { λ t. record { active = t.active.entries; begun = t.begun } };
 
-    ghost invariant = { λ t. IsTableKept (record { active = t.active.entries; begun = t.begun }) t.held.items };
+    ghost invariant = { λ t. IsTableKept (record { active = t.active.entries; begun = t.begun }) t.held };
 }
 
-/// Adds the row to the held ones, unless it is there. `NoMemory` leaves them as before.
-fn hold<A: Allocator>(held: &mut Vec<Rid, A>, rid: Rid, is_held: bool) -> Result<(), Error>
-    requires { is_held ≡ is_among rid held.old.items }
-    ensures ok { OnOk result (held.new.items ≡ with_rid rid held.old.items) }
-    ensures err { OnErr result (held.new.items ≡ held.old.items) }
-    ensures no_memory { IfErr result (λ e. e ≡ Error.NoMemory) }
+// The place of a transaction; where it isn't active, the one behind all. They are so few that each is looked at.
+fn place_of<A: Allocator>(
+    active: &IndexMap<Txn, ActiveTxn<A>, BuildHasherDefault<FoldHasher>, A>,
+    txn: Txn,
+) -> usize
+    ensures { result ≡ place_of txn active.now.entries }
 {
-    if !is_held {
-        held.push(rid)?;
+    for i in 0..active.len() {
+        let Some((number, _)) = active.get_index(i) else {
+            unreachable!()
+        };
+        if txn == *number {
+            return i;
+        }
     }
-    Ok(())
+    active.len()
 }
 
-/// Takes the rows that the transaction holds off the held ones.
-fn release<A: Allocator + Copy>(held: &mut Vec<Rid, A>, ended: &ActiveTxn<A>)
-    ensures { held.new.items ≡ filter (λ r. not (is_among r ended.now.rows)) held.old.items }
+// A transaction that has done nothing, in the memory of the one that ended last, if it is still there.
+fn fresh<A: Allocator + Copy>(alloc: A, spare: &mut Option<ActiveTxn<A>>) -> ActiveTxn<A>
+    ensures { result ≡ fresh_txn }
 {
-    held.retain(|rid| !ended.holds(*rid));
+    match spare.take() {
+        Some(ended) => ended.emptied(),
+        None => ActiveTxn::new(alloc),
+    }
 }
 
 impl<A: Allocator + Copy> TxnTable<A> {
@@ -70,7 +83,8 @@ impl<A: Allocator + Copy> TxnTable<A> {
         TxnTable {
             alloc,
             active: IndexMap::new(alloc),
-            held: Vec::new(alloc),
+            held: HeldRows::new(alloc),
+            spare: None,
             begun: 0,
         }
     }
@@ -98,11 +112,26 @@ impl<A: Allocator + Copy> TxnTable<A> {
         self.active.is_empty()
     }
 
+    // The active transaction with this number. They are so few that it is found by looking at each.
+    fn state(&self, txn: Txn) -> Option<&ActiveTxn<A>>
+        ensures { option_copied result ≡ state_of txn self.now.active }
+    {
+        for i in 0..self.len() {
+            let Some((number, active)) = self.active.get_index(i) else {
+                unreachable!()
+            };
+            if txn == *number {
+                return Some(active);
+            }
+        }
+        None
+    }
+
     /// Whether the transaction is active.
     pub fn is_active(&self, txn: Txn) -> bool
         ensures { result ≡ is_some (state_of txn self.now.active) }
     {
-        self.active.contains_key(&txn)
+        self.state(txn).is_some()
     }
 
     /// The active transaction at this place in the order of beginning, from 0.
@@ -119,7 +148,7 @@ impl<A: Allocator + Copy> TxnTable<A> {
     pub fn holds_rows(&self, txn: Txn) -> bool
         ensures { result ≡ holds_rows (state_of txn self.now.active) }
     {
-        match self.active.get(&txn) {
+        match self.state(txn) {
             Some(active) => active.holds_rows(),
             None => false,
         }
@@ -130,7 +159,7 @@ impl<A: Allocator + Copy> TxnTable<A> {
         ensures { option_map (λ cs. cs.now) result ≡
             option_map (λ s. s.changes) (state_of txn self.now.active) }
     {
-        match self.active.get(&txn) {
+        match self.state(txn) {
             Some(active) => Some(active.changes()),
             None => None,
         }
@@ -140,14 +169,14 @@ impl<A: Allocator + Copy> TxnTable<A> {
     pub fn newest(&self, txn: Txn) -> Option<Change>
         ensures { result ≡ option_and_then last_change (state_of txn self.now.active) }
     {
-        self.active.get(&txn)?.newest()
+        self.state(txn)?.newest()
     }
 
     /// How far an active transaction is.
     pub fn progress(&self, txn: Txn) -> Option<Progress>
         ensures { result ≡ option_map (λ s. s.progress) (state_of txn self.now.active) }
     {
-        match self.active.get(&txn) {
+        match self.state(txn) {
             Some(active) => Some(active.progress()),
             None => None,
         }
@@ -157,7 +186,7 @@ impl<A: Allocator + Copy> TxnTable<A> {
     pub fn reserved(&self, txn: Txn) -> Option<usize>
         ensures { result ≡ option_map (λ s. s.reserved) (state_of txn self.now.active) }
     {
-        match self.active.get(&txn) {
+        match self.state(txn) {
             Some(active) => Some(active.reserved()),
             None => None,
         }
@@ -171,7 +200,8 @@ impl<A: Allocator + Copy> TxnTable<A> {
         } }
         ensures holders { (r : Place) → holder_of r self.new.active ≡ holder_of r self.old.active }
     {
-        let Some(active) = self.active.get_mut(&txn) else {
+        let i = place_of(&self.active, txn);
+        let Some(active) = self.active.get_index_mut(i) else {
             return;
         };
         active.put(progress, reserved);
@@ -239,7 +269,8 @@ impl<A: Allocator + Copy> TxnTable<A> {
         ensures holders { (r : Place) → holder_of r self.new.active ≡ holder_of r self.old.active }
     {
         let txn = self.may_begin()?;
-        self.active.insert(txn, ActiveTxn::new(self.alloc))?;
+        let fresh = fresh(self.alloc, &mut self.spare);
+        self.active.insert(txn, fresh)?;
         self.begun = txn.number();
         Ok(txn)
     }
@@ -250,7 +281,7 @@ impl<A: Allocator + Copy> TxnTable<A> {
     pub fn check_change(&self, txn: Txn) -> Result<(), Error>
         ensures { result_err result ≡ change_refusal txn self.now.active }
     {
-        let Some(active) = self.active.get(&txn) else {
+        let Some(active) = self.state(txn) else {
             return Err(Error::NoSuchTxn);
         };
         if active.is_full() {
@@ -275,6 +306,9 @@ impl<A: Allocator + Copy> TxnTable<A> {
         ensures held { IfOk result (λ held. held ≡ is_some (holder_of rid self.now.active)) }
     {
         self.check_change(txn)?;
+        if self.held.are_before(rid) {
+            return Ok(false);
+        }
         match self.holder(rid) {
             Some(holder) if holder != txn => Err(Error::RowBusy),
             holder => Ok(holder.is_some()),
@@ -302,12 +336,13 @@ impl<A: Allocator + Copy> TxnTable<A> {
     {
         let is_held = self.touch(txn, change.rid)?;
         let rows = self.held.len();
-        hold(&mut self.held, change.rid, is_held)?;
-        let Some(active) = self.active.get_mut(&txn) else {
+        self.held.hold(change.rid, is_held)?;
+        let i = place_of(&self.active, txn);
+        let Some(active) = self.active.get_index_mut(i) else {
             unreachable!()
         };
         if let Err(error) = active.note(change, is_held) {
-            self.held.truncate(rows);
+            self.held.cut(rows);
             return Err(error);
         }
         Ok(())
@@ -322,7 +357,8 @@ impl<A: Allocator + Copy> TxnTable<A> {
         ensures rest { self.new ≡ record self.old { active = with_state without_last txn self.old.active } }
         ensures holders { (r : Place) → holder_of r self.new.active ≡ holder_of r self.old.active }
     {
-        let active = self.active.get_mut(&txn)?;
+        let i = place_of(&self.active, txn);
+        let active = self.active.get_index_mut(i)?;
         active.pop()
     }
 
@@ -344,7 +380,8 @@ impl<A: Allocator + Copy> TxnTable<A> {
         let Some(ended) = self.active.shift_remove(&txn) else {
             return Err(Error::NoSuchTxn);
         };
-        release(&mut self.held, &ended);
+        self.held.release(&ended, self.active.is_empty());
+        self.spare = Some(ended);
         Ok(())
     }
 }

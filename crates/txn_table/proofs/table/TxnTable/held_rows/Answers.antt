@@ -5,6 +5,6 @@ use Rattle.txn_table.proofs.table.TxnTable.held_rows.Goals as goal
 
 pub returns : goal.returns
 returns g c = λ r.
-    let listed = ap (is_among r) c.as_slice.ensures.value ∙ c.self.invariant.held_rows r
+    let listed = ap (is_among r) c.as_slice.ensures ∙ c.self.invariant.held_rows r
     ∙ ap (λ (v : TableValue). is_some (holder_of r v.active)) c.self.view_is in
     (λ at. sym listed ∙ among_from-Contains r c.as_slice.result.now at, λ held. Contains-from_among r c.as_slice.result.now (listed ∙ held))
