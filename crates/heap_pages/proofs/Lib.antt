@@ -1,4 +1,5 @@
 mod SlotLists
+mod SlotBits
 mod RidOrder
 mod Cells
 mod Writes
@@ -6,5 +7,6 @@ mod Empty
 mod Free
 mod Full
 mod Held
+mod Open
 mod Pairs
 mod PairLaws

@@ -1,8 +1,7 @@
 -- A page as a map from slots to rows, and as the list of its slots.
-use Rattle.std.proofs.Common.{◌≡◌, ◌≢◌, ℕ, zero, suc, ◌+◌, ◌<◌, ◌≤◌, true, false, cond, T, List, [], ◌∷◌, map, length, replicate, Option, Some, None, is_some}
-use Rattle.std.proofs.Common.{IsSome, count_by, slice_get, slice_set, set, option_and_then, option_map, ◌&&◌, refl, sym, ap, subst, ◌∙◌, arith, eqb, ◌⊎◌, inl}
+use Rattle.std.proofs.Common.{◌≡◌, ◌≢◌, ℕ, zero, suc, ◌+◌, ◌<◌, ◌≤◌, true, false, cond, T, List, [], ◌∷◌, map, length, replicate, Option, Some, None}
+use Rattle.std.proofs.Common.{slice_get, slice_set, set, option_and_then, option_map, ◌&&◌, refl, sym, ap, subst, ◌∙◌, arith, eqb, ◌⊎◌, inl}
 use Rattle.std.proofs.Common.{inr}
-use Rattle.std.proofs.lemmas.List.Sums.{sum_by-cons, count_by-le-length}
 use Rattle.std.proofs.lemmas.Bool.Decides.{eqb_tells}
 use Rattle.std.proofs.lemmas.Option.{slice_get-map, slice_get_past}
 use Rattle.std.specs.declared.cmp.Ordering.TheVariants.{Less}
@@ -84,51 +83,6 @@ page_of-set slots page s o is within =
     get-page_of (set slots s o) q
     ∙ cell-set slots s o q within
     ∙ sym (get-set_at nat_exact page s o q ∙ ap (cond (eq_by_cmp nat_cmp q s) o) (ap (λ (p : Slots). map_of.get p q) (sym is) ∙ get-page_of slots q)))
-
--- ---- a page with a row in each slot
-
-with_row : (row : Row) (slots : List (Option Row)) → count_by is_some (Some row ∷ slots) ≡ 1 + count_by is_some slots
-with_row row slots = sum_by-cons (λ x. cond (is_some x) 1 0) (Some row) slots
-
-with_none : (slots : List (Option Row)) → count_by is_some (None ∷ slots) ≡ 0 + count_by is_some slots
-with_none slots = sum_by-cons (λ (x : Option Row). cond (is_some x) 1 0) None slots
-
-all_there : (slots : List (Option Row)) (s : ℕ) → count_by is_some slots ≡ length slots → s < length slots → IsSome (cell slots s)
-all_there [] s all within = absurd (omega arith)
-all_there (None ∷ slots) s all within = let count = with_none slots in let few = count_by-le-length is_some slots in absurd (omega arith)
-all_there (Some row ∷ slots) zero all within = refl
-all_there (Some row ∷ slots) (suc s) all within = let count = with_row row slots in all_there slots s (omega arith) (omega arith)
-
-there_all : (slots : List (Option Row)) → ((s : ℕ) → s < length slots → IsSome (cell slots s)) → count_by is_some slots ≡ length slots
-there_all [] each = refl
-there_all (None ∷ slots) each = let first : IsSome {T = Row} None = each 0 (omega arith) in absurd cc
-there_all (Some row ∷ slots) each =
-    let count = with_row row slots in
-    let rest = there_all slots (λ s within. each (suc s) (omega arith)) in
-    omega arith
-
-pub is_full : (slots : List (Option Row)) (page : Slots) (taken : ℕ) → page_of slots ≡ page → length slots ≡ SLOTS_PER_PAGE → taken ≡ count_by is_some slots
-    → taken ≡ SLOTS_PER_PAGE → (s : ℕ) → s < SLOTS_PER_PAGE → IsSome (map_of.get page s)
-is_full slots page taken is long counted all s within =
-    subst IsSome (sym (get-page_of slots s) ∙ ap (λ (p : Slots). map_of.get p s) is) (all_there slots s (omega arith) (omega arith))
-
-pub from_full : (slots : List (Option Row)) (page : Slots) (taken : ℕ) → page_of slots ≡ page → length slots ≡ SLOTS_PER_PAGE → taken ≡ count_by is_some slots
-    → ((s : ℕ) → s < SLOTS_PER_PAGE → IsSome (map_of.get page s)) → taken ≡ SLOTS_PER_PAGE
-from_full slots page taken is long counted each =
-    let all = there_all slots (λ s within. subst IsSome (ap (λ (p : Slots). map_of.get p s) (sym is) ∙ get-page_of slots s) (each s (omega arith))) in
-    omega arith
-
--- ---- a page without a row in any slot
-
-none_taken : (slots : List (Option Row)) (s : ℕ) → count_by is_some slots ≡ 0 → cell slots s ≡ None
-none_taken [] s none = refl
-none_taken (None ∷ slots) zero none = refl
-none_taken (None ∷ slots) (suc s) none = let count = with_none slots in none_taken slots s (omega arith)
-none_taken (Some row ∷ slots) s none = let count = with_row row slots in absurd (omega arith)
-
-pub is_empty : (slots : List (Option Row)) (page : Slots) (taken : ℕ) → page_of slots ≡ page → taken ≡ count_by is_some slots → taken ≡ 0 → (s : ℕ)
-    → map_of.get page s ≡ None
-is_empty slots page taken is counted none s = ap (λ (p : Slots). map_of.get p s) (sym is) ∙ get-page_of slots s ∙ none_taken slots s (omega arith)
 
 -- ---- the slots of a page
 

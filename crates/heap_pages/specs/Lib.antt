@@ -1,2 +1,3 @@
 pub mod Slots
+pub mod SlotSets
 pub mod Pages

@@ -8,6 +8,7 @@
 
 mod heap;
 mod page;
+mod slot_set;
 
 pub use heap::Heap;
 pub use page::HeapPage;

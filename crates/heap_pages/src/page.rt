@@ -1,10 +1,10 @@
 //! A page of the heap.
-ghost use Rattle.std.specs.Prelude.{◌≡◌, ◌<◌, ◌↔◌, ℕ, Some, None, IsTrue, IsSome, IfSome, MatchOption, slice_get, ◌+◌};
-ghost use Rattle.std.specs.Prelude.{if◌then◌else◌};
+ghost use Rattle.std.specs.Prelude.{◌≡◌, ◌<◌, ◌↔◌, ℕ, Some, None, IsTrue, IsSome, IfSome, MatchOption, slice_get};
 ghost use Rattle.std.specs.FinMap.{get, empty};
 ghost use Rattle.record_values.specs.Maps.{set_at};
 ghost use Rattle.heap_pages.specs.Slots.{is_among, IsFirstFree, NoneFree};
 
+use crate::slot_set::SlotSet;
 use records::{Rid, Row, SLOTS_PER_PAGE};
 use std::marker::Model;
 
@@ -15,12 +15,12 @@ pub(crate) const SLOTS: usize = SLOTS_PER_PAGE as usize;
 #[derive(Drop)]
 pub struct HeapPage {
     slots: [Option<Row>; SLOTS],
-    // how many slots have a row
-    taken: u16,
+    // the slots without a row
+    open: SlotSet,
 }
 
 impl Model for HeapPage {
-    ghost use Rattle.std.specs.Prelude.{◌≡◌, length, count_by, is_some};
+    ghost use Rattle.std.specs.Prelude.{◌≡◌, length, map, is_none};
     ghost use Rattle.record_values.specs.declared.rid.TheConstants.{SLOTS_PER_PAGE};
     ghost use Rattle.heap_pages.specs.Slots.{Slots, coded_slots, page_of};
 
@@ -30,31 +30,18 @@ impl Model for HeapPage {
 
     ghost view = { λ p. page_of p.slots };
 
-    ghost invariant = { λ p. (length p.slots ≡ SLOTS_PER_PAGE) × (p.taken ≡ count_by is_some p.slots) };
-}
-
-/// How many slots are taken after one of them changed.
-fn taken_after(taken: u16, was_taken: bool, is_taken: bool) -> u16
-    requires some { IsTrue was_taken → 0 < taken }
-    requires room { taken < u16.MAX }
-    ensures { result + (if was_taken then 1 else 0) ≡ taken + (if is_taken then 1 else 0) }
-{
-    match (was_taken, is_taken) {
-        (true, false) => taken - 1,
-        (false, true) => taken + 1,
-        _ => taken,
-    }
+    ghost invariant = { λ p. (length p.slots ≡ SLOTS_PER_PAGE) × (p.open ≡ map is_none p.slots) };
 }
 
 /// Which slots of the page are among the held places.
-pub(crate) fn held_slots(page: u32, held: &[Rid]) -> [bool; SLOTS]
+pub(crate) fn held_slots(page: u32, held: &[Rid]) -> SlotSet
     ensures { (s : ℕ) → s < SLOTS_PER_PAGE →
         slice_get result s ≡ Some (is_among (record { page = page; slot = s }) held.now) }
 {
-    let mut slots = [false; SLOTS];
+    let mut slots = SlotSet::none();
     for rid in held {
         if rid.page == page {
-            slots[rid.slot as usize] = true;
+            slots.put(rid.slot, true);
         }
     }
     slots
@@ -67,7 +54,7 @@ impl HeapPage {
     {
         HeapPage {
             slots: [None; SLOTS],
-            taken: 0,
+            open: SlotSet::all(),
         }
     }
 
@@ -87,7 +74,7 @@ impl HeapPage {
             → slice_get rows.now s ≡ Some (get self.now s)) }
         ensures none { result ≡ None → (s : ℕ) → get self.now s ≡ None }
     {
-        if self.taken == 0 {
+        if self.open.is_all() {
             return None;
         }
         Some(&self.slots)
@@ -98,8 +85,7 @@ impl HeapPage {
         requires { slot < SLOTS_PER_PAGE }
         ensures { self.new ≡ set_at self.old slot row }
     {
-        let was_taken = self.slots[slot as usize].is_some();
-        self.taken = taken_after(self.taken, was_taken, row.is_some());
+        self.open.put(slot, row.is_none());
         self.slots[slot as usize] = row;
     }
 
@@ -107,18 +93,13 @@ impl HeapPage {
     pub(crate) fn is_full(&self) -> bool
         ensures { IsTrue result ↔ ((s : ℕ) → s < SLOTS_PER_PAGE → IsSome (get self.now s)) }
     {
-        self.taken == SLOTS_PER_PAGE
+        self.open.is_empty()
     }
 
     /// The first slot that is empty and not held.
-    pub(crate) fn first_free(&self, held: &[bool; SLOTS]) -> Option<u16>
+    pub(crate) fn first_free(&self, held: &SlotSet) -> Option<u16>
         ensures { MatchOption result (NoneFree SLOTS_PER_PAGE self.now held.now) (IsFirstFree self.now held.now) }
     {
-        for slot in 0..SLOTS_PER_PAGE {
-            if self.get(slot).is_none() && !held[slot as usize] {
-                return Some(slot);
-            }
-        }
-        None
+        self.open.first_beside(held)
     }
 }

@@ -7,7 +7,7 @@ use Rattle.heap_pages.proofs.page.held_slots.Goals as goal
 use Rattle.heap_pages.proofs.page.held_slots.Goals.{then-rid-page, else-rid-page}
 
 pub loop-rid-init : goal.loop-rid-init
-loop-rid-init c = λ s h. get-replicate SLOTS_PER_PAGE s false h
+loop-rid-init c = λ s h. ap (λ xs. slice_get xs s) c.none-slots.ensures ∙ get-replicate SLOTS_PER_PAGE s false h
 
 pub loop-rid-preserved : goal.loop-rid-preserved
 loop-rid-preserved c =
@@ -19,7 +19,7 @@ loop-rid-preserved c =
     let slot = ap (λ (q : Place). q.slot) c.rid.view_is in
     elim c.if-rid-page.branch [
       | then-rid-page w ↦
-          λ s h. ap (λ xs. slice_get xs s) (w.slots-is ∙ ap (λ k. slice_set c.loop-rid.slots k true) slot)
+          λ s h. ap (λ xs. slice_get xs s) (w.slots-is ∙ w.put.ensures ∙ ap (λ k. slice_set c.loop-rid.slots k true) slot)
           ∙ held_here c.args.page c.loop-rid.slots held i r c.loop-rid.invariant here (ap (λ k. k == c.args.page) (sym page)
           ∙ eq-eqb _ _ w.if-rid-page.true) (slice_get_within c.loop-rid.slots r.slot _ (c.loop-rid.invariant r.slot (omega (arith, c.rid.invariant)))) s h
       | else-rid-page w ↦
