@@ -10,7 +10,6 @@ use Rattle.sector_device.specs.Values.{IsMarked}
 use Rattle.sector_device.proofs.KnownSectors.{zero_not_marked}
 use Rattle.records.specs.RecordValue.{RecordValue}
 use Rattle.record_values.specs.declared.version.Version.{Version}
-use Rattle.record_values.specs.declared.version.Version.TheVariants.{Two}
 use Rattle.gate_log.specs.Group.{IsGroup, IsGroupIn}
 use Rattle.gate_log.proofs.Groups.{one_group}
 use Rattle.gate_log.specs.Area.{Area, gate, body, InArea, IsOpen, AreGatesZero, HoldsGroups, HoldsGroupsIn, records_of, IsDamagedIn, IsFirstDamagedSlotIn}

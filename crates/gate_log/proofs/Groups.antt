@@ -9,7 +9,6 @@ use Rattle.std.proofs.lemmas.List.Elements.{All-head, All-tail, All-same, All-re
 use Rattle.byteorder.specs.Endian.{big_number}
 use Rattle.records.specs.RecordValue.{RecordValue}
 use Rattle.record_values.specs.declared.version.Version.{Version}
-use Rattle.record_values.specs.declared.version.Version.TheVariants.{Two}
 use Rattle.records.specs.Spelling.{spelling, u16, Fits, FitsIn, IsBytes}
 use Rattle.records.proofs.Wide.{wide}
 use Rattle.records.proofs.Spellings.{one_spelling, spelling_least}
@@ -63,33 +62,32 @@ pub length-header : (count len : ℕ) → length (header count len) ≡ 4
 unfolding header
 length-header count len = omega (arith, length-append {A = ℕ} (u16 count) (u16 len), length-u16 count, length-u16 len)
 
+-- a header and what it tells of fit into a body
+pub fits_body : (records : List RecordValue) (all : List ℕ) → all ≡ header (length records) (length (spellings records)) ++ spellings records
+    → length all ≡ 4 + length (spellings records)
+fits_body records all is =
+    let front : List ℕ = header (length records) (length (spellings records)) in
+    ap length is ∙ omega (arith, length-append {A = ℕ} front (spellings records), length-header (length records) (length (spellings records)))
+
 -- what is filled up with zeros is a group
-pub group_filled : (records : List RecordValue) (bytes all body : List ℕ) (n : ℕ) → FitsGroup records → All Fits records → bytes ≡ spellings records
-    → all ≡ header (length records) (length bytes) ++ bytes → n ≡ length all → body ≡ all ++ drop n (replicate 3584 0) → IsGroup records body
-group_filled records bytes all body n room fits is all-is n-is filled =
-    let front : List ℕ = header (length records) (length bytes) in
-    let size : length all ≡ 4 + length bytes = ap length all-is
-    ∙ omega (arith, length-append {A = ℕ} front bytes, length-header (length records) (length bytes)) in
+pub group_filled : (records : List RecordValue) (all body : List ℕ) (n : ℕ) → FitsGroup records → All Fits records
+    → all ≡ header (length records) (length (spellings records)) ++ spellings records → n ≡ length all → body ≡ all ++ drop n (replicate 3584 0)
+    → IsGroup records body
+group_filled records all body n room fits is n-is filled =
+    let spelled : List ℕ = spellings records in
+    let front : List ℕ = header (length records) (length spelled) in
+    let size = fits_body records all is in
     let short = room.short in
-    let same : length bytes ≡ length (spellings records) = ap length is in
-    let zeros : 3584 - n ≡ 3580 - length (spellings records) = omega arith in
+    let zeros : 3584 - n ≡ 3580 - length spelled = omega (arith, size, short, n-is) in
     record {
       fits = room;
       each = fits;
       spelled = filled
           ∙ ap (λ (t : List ℕ). all ++ t) (drop-replicate n 3584 0)
-          ∙ ap (λ (t : List ℕ). t ++ replicate (3584 - n) 0) all-is
-          ∙ ap (λ (m : ℕ). (front ++ bytes) ++ replicate m 0) zeros
-          ∙ append_assoc front bytes (replicate (3580 - length (spellings records)) 0)
-          ∙ ap (λ (t : List ℕ). header (length records) (length t) ++ (t ++ replicate (3580 - length (spellings records)) 0)) is;
+          ∙ ap (λ (t : List ℕ). t ++ replicate (3584 - n) 0) is
+          ∙ ap (λ (m : ℕ). (front ++ spelled) ++ replicate m 0) zeros
+          ∙ append_assoc front spelled (replicate (3580 - length spelled) 0);
     }
-
-pub extended : (none front one now two bytes : List ℕ) (count n : ℕ) → none ≡ [] → front ≡ header count n → n ≡ length bytes → one ≡ none ++ front → now ≡ bytes
-    → two ≡ one ++ now → two ≡ header count (length bytes) ++ bytes
-extended none front one now two bytes count n is_none is_front is_n is_one is_now is_two =
-    is_two
-    ∙ ap (λ (t : List ℕ). t ++ now) (is_one ∙ ap (λ (t : List ℕ). t ++ front) is_none ∙ is_front ∙ ap (header count) is_n)
-    ∙ ap (λ (t : List ℕ). header count (length bytes) ++ t) is_now
 
 -- ---- reading
 

@@ -48,17 +48,28 @@ pub fn fits(records: &[Record]) -> bool
     !records.is_empty() && group_len(records) == records.len()
 }
 
-// The records, spelled one after the other.
-fn spelled<A: Allocator>(alloc: A, records: &[Record]) -> Result<Vec<u8, A>, Error>
-    ensures ok { IfOk result (λ bytes. bytes.items ≡ spellings records.now) }
+// How many bytes the spellings of these records take together.
+fn spelled_len(records: &[Record]) -> usize
+    requires { FitsGroup records.now }
+    ensures { result ≡ length (spellings records.now) }
+{
+    let mut len = 0;
+    for record in records {
+        len += record.size();
+    }
+    len
+}
+
+// Appends the spellings of the records.
+fn put_all<A: Allocator>(out: &mut Vec<u8, A>, records: &[Record]) -> Result<(), Error>
+    ensures ok { OnOk result (out.new.items ≡ out.old.items ++ spellings records.now) }
     ensures fits { OnOk result (All Fits records.now) }
     ensures no_memory { IfErr result (λ e. e ≡ Error.NoMemory) }
 {
-    let mut bytes = Vec::new(alloc);
     for record in records {
-        record.encode_into(&mut bytes)?;
+        record.encode_into(out)?;
     }
-    Ok(bytes)
+    Ok(())
 }
 
 // The number of records, and the length of their spellings.
@@ -79,12 +90,11 @@ pub fn spell<A: Allocator + Copy>(alloc: A, records: &[Record]) -> Result<Vec<u8
     ensures ok { IfOk result (λ body. IsGroup records.now body.items) }
     ensures no_memory { IfErr result (λ e. e ≡ Error.NoMemory) }
 {
-    let spelled = spelled(alloc, records)?;
-    let header = header(records.len() as u16, spelled.len() as u16);
+    let header = header(records.len() as u16, spelled_len(records) as u16);
     let zeros = [0; BODY_SIZE];
     let mut body = Vec::with_capacity(alloc, BODY_SIZE)?;
     body.extend_from_slice(&header)?;
-    body.extend_from_slice(&spelled)?;
+    put_all(&mut body, records)?;
     let (_, rest) = zeros.split_at(body.len());
     body.extend_from_slice(rest)?;
     Ok(body)
