@@ -1,6 +1,6 @@
 //! The active transactions of a session.
 ghost use Rattle.std.specs.Prelude.{◌≡◌, ◌<◌, ◌≤◌, None, Some, IfSome, IfErr, MatchOption, OnOk, vec_len, vec_capacity};
-ghost use Rattle.std.specs.Prelude.{length, map};
+ghost use Rattle.std.specs.Prelude.{[], length, map};
 ghost use Rattle.record_values.specs.declared.error.Error.TheVariants.{NoMemory};
 ghost use Rattle.nsf_core.specs.Value.{value_of};
 ghost use Rattle.threads_sessions.specs.Values.{with_write, active_of, rows_of, without};
@@ -53,6 +53,29 @@ fn set_write<A: Allocator>(rows: &mut Vec<Write, A>, write: Write)
 {
     rows.retain(|held| held.rid != write.rid);
     rows.push_reserved(write);
+}
+
+// A list without rows, in memory that is used again, if there is any.
+pub(crate) fn no_rows<A: Allocator>(alloc: A, spare: &mut Option<Vec<Write, A>>) -> Vec<Write, A>
+    ensures { result.items ≡ [] }
+{
+    match spare.take() {
+        Some(mut rows) => {
+            rows.clear();
+            rows
+        }
+        None => Vec::new(alloc),
+    }
+}
+
+// Makes room for one transaction more.
+pub(crate) fn reserve_txn<A: Allocator>(active: &mut Vec<ActiveTxn<A>, A>) -> Result<(), Error>
+    ensures same { active.new.items ≡ active.old.items }
+    ensures room { OnOk result (vec_len active.new < vec_capacity active.new) }
+    ensures no_memory { IfErr result (λ e. e ≡ NoMemory) }
+{
+    active.reserve(1)?;
+    Ok(())
 }
 
 // Makes room for one row more.

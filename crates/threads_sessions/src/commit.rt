@@ -44,4 +44,14 @@ impl<A: Allocator> Commit<A> {
     {
         &self.writes
     }
+
+    // The list of these rows.
+    pub(crate) fn into_writes(self) -> Vec<Write, A> {
+        let Commit {
+            record: _,
+            number: _,
+            writes,
+        } = self;
+        writes
+    }
 }

@@ -7,6 +7,7 @@ use crate::commit::Commit;
 use crate::keeping::Keeping;
 use crate::turn::Turn;
 use ghost_list::GhostList;
+use model::Write;
 use records::Error;
 use std::alloc::Allocator;
 use std::marker::PhantomData;
@@ -20,11 +21,12 @@ pub(crate) struct History<A: Allocator, K: Keeping> {
     pub(crate) keeping: PhantomData<K>,
 }
 
-// Tells of one commit more, which is let go.
-fn tell<A: Allocator>(told: &mut GhostList<Commit<A>>, commit: Commit<A>)
+// Tells of one commit more, and answers the list in which it had its rows.
+fn tell<A: Allocator>(told: &mut GhostList<Commit<A>>, commit: Commit<A>) -> Vec<Write, A>
     ensures { told.new.items ≡ told.old.items ++ commit ∷ [] }
 {
     *told = told.and(&commit);
+    commit.into_writes()
 }
 
 impl<A: Allocator, K: Keeping> History<A, K> {
@@ -55,16 +57,17 @@ impl<A: Allocator, K: Keeping> History<A, K> {
         Ok(())
     }
 
-    // Adds a commit.
-    pub(crate) fn push(&mut self, commit: Commit<A>)
+    // Adds a commit. Where it isn't kept, the list in which it had its rows may be used again.
+    pub(crate) fn push(&mut self, commit: Commit<A>) -> Option<Vec<Write, A>>
         requires { HasRoomIf K.kept self.old }
         ensures commits { commits_of K.kept self.new ≡ commits_of K.kept self.old ++ commit ∷ [] }
         ensures turns { self.new.turns.items ≡ self.old.turns.items }
     {
         if K::keeps() {
             self.list.push_reserved(commit);
+            None
         } else {
-            tell(&mut self.told, commit);
+            Some(tell(&mut self.told, commit))
         }
     }
 

@@ -6,6 +6,7 @@ use crate::active::{ActiveTxn, place_of};
 use crate::commit::Commit;
 use crate::history::History;
 use crate::keeping::{Keeping, Told};
+use model::Write;
 use records::Txn;
 use std::alloc::{Allocator, Global};
 use std::marker::Model;
@@ -16,6 +17,8 @@ pub struct Session<A: Allocator = Global, K: Keeping = Told> {
     pub(crate) alloc: A,
     pub(crate) history: History<A, K>,
     pub(crate) active: Vec<ActiveTxn<A>, A>,
+    // a list of rows that a transaction had, whose memory is used again
+    pub(crate) spare: Option<Vec<Write, A>>,
 }
 
 impl<A: Allocator, K: Keeping> Model for Session<A, K> {
@@ -42,6 +45,7 @@ impl<A: Allocator + Copy, K: Keeping> Session<A, K> {
             alloc,
             history: History::new(alloc),
             active: Vec::new(alloc),
+            spare: None,
         }
     }
 
@@ -54,6 +58,7 @@ impl<A: Allocator + Copy, K: Keeping> Session<A, K> {
             alloc: _,
             history,
             active: _,
+            spare: _,
         } = self;
         history.into_list()
     }

@@ -13,7 +13,8 @@ ghost use Rattle.threads_sessions.specs.Steps.{begun, changed, committed, with_t
 ghost use Rattle.threads_sessions.specs.declared.turn.Turn.TheVariants.{Created, Dropped};
 
 use crate::active::{
-    ActiveTxn, note_change, note_step, note_undo, place_of, reserve_row, take_out,
+    ActiveTxn, no_rows, note_change, note_step, note_undo, place_of, reserve_row, reserve_txn,
+    take_out,
 };
 use crate::commit::Commit;
 use crate::keeping::Keeping;
@@ -34,12 +35,15 @@ impl<A: Allocator + Copy, K: Keeping> Session<A, K> {
         ensures ok { IfOk result (λ txn. self.new ≡ begun self.old txn) }
         ensures unchanged { OnErr result (self.new ≡ self.old) }
     {
-        core.check_begin()?;
-        self.active.reserve(1)?;
+        // Room is made first, so that the core is asked once. Where there is none, the core's refusal comes before.
+        if let Err(no_memory) = reserve_txn(&mut self.active) {
+            core.check_begin()?;
+            return Err(no_memory);
+        }
         let txn = core.begin()?;
         self.active.push_reserved(ActiveTxn {
             txn,
-            rows: Vec::new(self.alloc),
+            rows: no_rows(self.alloc, &mut self.spare),
             unfinished: None,
             rolling: false,
         });
@@ -203,7 +207,7 @@ impl<A: Allocator + Copy, K: Keeping> Session<A, K> {
             return Err(Error::NoSuchTxn);
         };
         core.end(txn)?;
-        take_out(&mut self.active, i, txn);
+        self.spare = Some(take_out(&mut self.active, i, txn));
         Ok(())
     }
 
@@ -225,11 +229,13 @@ impl<A: Allocator + Copy, K: Keeping> Session<A, K> {
         let Some(i) = place_of(&self.active, txn) else {
             return Err(Error::NoSuchTxn);
         };
-        core.check_commit(txn)?;
-        self.history.reserve()?;
+        if let Err(no_memory) = self.history.reserve() {
+            core.check_commit(txn)?;
+            return Err(no_memory);
+        }
         let ticket = core.commit(txn)?;
         let writes = take_out(&mut self.active, i, txn);
-        self.history.push(Commit {
+        self.spare = self.history.push(Commit {
             record: ticket.record,
             number: ticket.commit,
             writes,

@@ -1,5 +1,9 @@
-use Rattle.std.proofs.Common.{refl, sym, true≢false, ◌∙◌, arith}
+use Rattle.std.proofs.Common.{refl, sym, subst, true≢false, ◌∙◌, arith}
 use Rattle.std.proofs.lemmas.Result.{err_from_is_err_and}
+use Rattle.record_values.specs.declared.error.Error.{Error}
+use Rattle.core_model.specs.Events.{Commit, Refused}
+use Rattle.core_parts.specs.View.{Serves}
+use Rattle.nsf_core.specs.Value.{value_of}
 use Rattle.threads_sessions.proofs.Shown.{at_place, committed_shown, is_there, not_there, same_history}
 use Rattle.threads_sessions.proofs.session.Session.commit.Goals as goal
 
@@ -23,20 +27,21 @@ returns-in_err-check_commit g c =
       foreign = λ none. absurd (true≢false (sym there ∙ none));
       served = λ mine. c.in_err-check_commit.ensures.refused.1;
       ok = tt;
-      unchanged = refl;
-    })
-
-pub returns-in_err-reserve : goal.returns-in_err-reserve
-returns-in_err-reserve g c =
-    let p = err_from_is_err_and c.from_residual-in_err-reserve.result c.from_residual-in_err-reserve.ensures.1 in
-    let there = is_there c.args.self.now c.args.txn _ _ c.self.inside.active.items c.self.view_is
-    c.deref.result.now c.deref.ensures.value c.in-Some.i c.in-Some.ensures.found in
-    rw (p.1, p.2, c.in_err-reserve.ensures.no_memory) (record {
-      foreign = λ none. absurd (true≢false (sym there ∙ none));
-      served = λ mine. c.in_ok-check_commit.ensures.fine;
-      ok = tt;
       unchanged = same_history c.args.self.now _ _ _ _ _ c.self.view_is c.reserve.ensures.commits c.reserve.ensures.turns;
     })
+
+pub returns-in-Err : goal.returns-in-Err
+returns-in-Err g c =
+    let there = is_there c.args.self.now c.args.txn _ _ c.self.inside.active.items c.self.view_is
+    c.deref.result.now c.deref.ensures.value c.in-Some.i c.in-Some.ensures.found in
+    let v = value_of c.args.core.now in
+    record {
+      foreign = λ none. absurd (true≢false (sym there ∙ none));
+      served = λ mine. subst (λ (e : Error). Serves v (Commit c.args.txn) (Refused e) v)
+          (sym c.in-Err.ensures.no_memory) c.in_ok-check_commit.ensures.fine;
+      ok = tt;
+      unchanged = same_history c.args.self.now _ _ _ _ _ c.self.view_is c.reserve.ensures.commits c.reserve.ensures.turns;
+    }
 
 pub commit-requires : goal.commit-requires
 commit-requires g c =
@@ -63,7 +68,7 @@ take_out-writes-requires g c = record {
 }
 
 pub push-requires : goal.push-requires
-push-requires g c = c.in_ok-reserve.ensures.room
+push-requires g c = c.in_default-reserve.ensures.room
 
 pub returns : goal.returns
 returns g c =
