@@ -11,7 +11,7 @@ use crate::seat::Seat;
 use crate::shared::Shared;
 use locked_core::{Group, Memory};
 use records::{Error, Txn};
-use std::sync::Wait;
+use std::sync::{MutexGuard, Wait};
 use threads_sessions::Keeping;
 
 impl<B: Group, A: Memory> Shared<B, A> {
@@ -78,11 +78,13 @@ impl<B: Group, A: Memory> Shared<B, A> {
         if locked.may_end(txn) {
             let ended = locked.end(&self.registry, &mut seat.part, txn);
             locked.push_outbox(rt, &self.queue);
+            MutexGuard::unlock(guard);
             ended?;
             Ok(true)
         } else {
             let undone = locked.undo_step(&self.registry, &mut seat.part, txn);
             locked.push_outbox(rt, &self.queue);
+            MutexGuard::unlock(guard);
             undone?;
             Ok(false)
         }

@@ -17,7 +17,7 @@ use locked_core::{Group, Memory};
 use model::Life;
 use nsf_core::Ticket;
 use records::{Error, Key, Rid, Row, Txn};
-use std::sync::Wait;
+use std::sync::{MutexGuard, Wait};
 use threads_sessions::Keeping;
 
 impl<B: Group, A: Memory> Shared<B, A> {
@@ -32,7 +32,9 @@ impl<B: Group, A: Memory> Shared<B, A> {
     {
         let mut locked = self.hold(rt);
         locked.push_outbox(rt, &self.queue);
-        locked.begin(&self.registry, &mut seat.part)
+        let begun = locked.begin(&self.registry, &mut seat.part);
+        MutexGuard::unlock(locked);
+        begun
     }
 
     /// Commits a transaction of the seat: it is none of the seat's active ones from then on, and the commit is the last
@@ -58,7 +60,7 @@ impl<B: Group, A: Memory> Shared<B, A> {
         let mut locked = self.hold(rt);
         let committed = locked.commit(&self.registry, &mut seat.part, txn);
         locked.push_outbox(rt, &self.queue);
-        drop(locked);
+        MutexGuard::unlock(locked);
         self.wake_flusher();
         committed
     }
@@ -80,7 +82,7 @@ impl<B: Group, A: Memory> Shared<B, A> {
         let mut locked = self.hold(rt);
         let created = locked.create_index(&self.registry, &mut seat.part);
         locked.push_outbox(rt, &self.queue);
-        drop(locked);
+        MutexGuard::unlock(locked);
         self.wake_flusher();
         self.board.waits().resting.ring();
         created
@@ -104,7 +106,7 @@ impl<B: Group, A: Memory> Shared<B, A> {
         let mut locked = self.hold(rt);
         let dropped = locked.drop_index(&self.registry, &mut seat.part);
         locked.push_outbox(rt, &self.queue);
-        drop(locked);
+        MutexGuard::unlock(locked);
         self.wake_flusher();
         self.board.waits().resting.ring();
         Ok(dropped?.ticket)
@@ -129,7 +131,9 @@ impl<B: Group, A: Memory> Shared<B, A> {
         let locked = &mut *guard;
         locked.push_outbox(rt, &self.queue);
         locked.compare_seat(&self.registry, &mut seat.part);
-        locked.get(rid)
+        let row = locked.get(rid);
+        MutexGuard::unlock(guard);
+        row
     }
 
     /// The places of the rows with this key, by the index, as a core has it that may lie under the lock. That core has
@@ -150,7 +154,9 @@ impl<B: Group, A: Memory> Shared<B, A> {
         let locked = &mut *guard;
         locked.push_outbox(rt, &self.queue);
         locked.compare_seat(&self.registry, &mut seat.part);
-        locked.find(key)
+        let found = locked.find(key);
+        MutexGuard::unlock(guard);
+        found
     }
 
     /// How far the index is, in a core that may lie under the lock. That core has all that the seat's session tells.
@@ -165,7 +171,9 @@ impl<B: Group, A: Memory> Shared<B, A> {
         let locked = &mut *guard;
         locked.push_outbox(rt, &self.queue);
         locked.compare_seat(&self.registry, &mut seat.part);
-        locked.life()
+        let life = locked.life();
+        MutexGuard::unlock(guard);
+        life
     }
 
     /// How far the index is, for a thread that has no seat, in a core that may lie under the lock.
@@ -176,6 +184,8 @@ impl<B: Group, A: Memory> Shared<B, A> {
     {
         let mut locked = self.hold(rt);
         locked.push_outbox(rt, &self.queue);
-        locked.life()
+        let life = locked.life();
+        MutexGuard::unlock(locked);
+        life
     }
 }

@@ -12,7 +12,7 @@ use crate::seat::Seat;
 use crate::shared::Shared;
 use locked_core::{Group, Memory};
 use records::{Body, Error, Key, Rid, Txn};
-use std::sync::Wait;
+use std::sync::{MutexGuard, Wait};
 use threads_sessions::Keeping;
 
 /// A change of a row that was begun: the place of the row, and where a later step was refused, why. The change is then
@@ -178,6 +178,7 @@ impl<B: Group, A: Memory> Shared<B, A> {
         let mut locked = self.hold(rt);
         let started = locked.insert(&self.registry, &mut seat.part, txn, key, body);
         locked.push_outbox(rt, &self.queue);
+        MutexGuard::unlock(locked);
         started
     }
 
@@ -203,6 +204,7 @@ impl<B: Group, A: Memory> Shared<B, A> {
         let mut locked = self.hold(rt);
         let started = locked.delete(&self.registry, &mut seat.part, txn, rid);
         locked.push_outbox(rt, &self.queue);
+        MutexGuard::unlock(locked);
         started
     }
 
@@ -232,6 +234,7 @@ impl<B: Group, A: Memory> Shared<B, A> {
         let mut locked = self.hold(rt);
         let started = locked.update(&self.registry, &mut seat.part, txn, rid, key, body);
         locked.push_outbox(rt, &self.queue);
+        MutexGuard::unlock(locked);
         started
     }
 
@@ -253,6 +256,7 @@ impl<B: Group, A: Memory> Shared<B, A> {
         let mut locked = self.hold(rt);
         let stepped = locked.next_step(&self.registry, &mut seat.part, txn);
         locked.push_outbox(rt, &self.queue);
+        MutexGuard::unlock(locked);
         stepped
     }
 

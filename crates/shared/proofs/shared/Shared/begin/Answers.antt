@@ -14,15 +14,15 @@ pub returns-clause-served : goal.returns-clause-served
 returns-clause-served g c =
     let o = g.B.Group.site.opened in
     let was = c.deref_mut-2.result.now in
-    let reply = reply_by Reply.Txn c.begin.result in
+    let reply = reply_by Reply.Txn c.begin-begun.result in
     subst (λ (s : SeatValue). ∥ WasServedTo o s.number s.session Event.Begin reply ∥₁) c.seat.view_is
-    (served_to o (value_of was.core) (value_of c.begin.new.self.core) was.pusher.records
-    (map shown was.book.items) was.shared Event.Begin reply c.begin.ensures.served _ _ c.begin.ensures.before)
+    (served_to o (value_of was.core) (value_of c.begin-begun.new.self.core) was.pusher.records
+    (map shown was.book.items) was.shared Event.Begin reply c.begin-begun.ensures.served _ _ c.begin-begun.ensures.before)
 
 pub returns-clause-ok : goal.returns-clause-ok
-returns-clause-ok g c = let new = c.begin in
+returns-clause-ok g c = let new = c.begin-begun in
     session_on_ok c.seat.inside.part new.new.seat c.seat.inside.view _ c.seat.view_is new.ensures.number new.result begun new.ensures.ok
 
 pub returns-clause-refused : goal.returns-clause-refused
-returns-clause-refused g c = let new = c.begin in
+returns-clause-refused g c = let new = c.begin-begun in
     same_on_err c.seat.inside.part new.new.seat c.seat.inside.view _ c.seat.view_is new.ensures.number new.result new.ensures.refused

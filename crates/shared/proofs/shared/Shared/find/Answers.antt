@@ -17,7 +17,7 @@ returns-clause-served g c =
     let part = c.seat.inside.part in
     let here : slice_get (map shown is.book.items) part.number ≡ Some part.session =
     ap (λ (l : LockedValue). slice_get l.book part.number) c.compare_seat.ensures.same ∙ c.compare_seat.ensures.before in
-    subst (λ (s : SeatValue). ∥ WasServedTo o s.number s.session (Event.Find c.args.key) (reply_by (λ rids. Reply.Found rids.items) c.find.result) ∥₁)
+    subst (λ (s : SeatValue). ∥ WasServedTo o s.number s.session (Event.Find c.args.key) (reply_by (λ rids. Reply.Found rids.items) c.find-found.result) ∥₁)
     c.seat.view_is
     (served_to o (value_of is.core) (value_of is.core) is.pusher.records (map shown is.book.items) is.shared (Event.Find c.args.key)
-    (reply_by (λ rids. Reply.Found rids.items) c.find.result) c.find.ensures part.number part.session here)
+    (reply_by (λ rids. Reply.Found rids.items) c.find-found.result) c.find-found.ensures part.number part.session here)

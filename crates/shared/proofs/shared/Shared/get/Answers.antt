@@ -17,12 +17,12 @@ returns-clause-served g c =
     let part = c.seat.inside.part in
     let here : slice_get (map shown is.book.items) part.number ≡ Some part.session =
     ap (λ (l : LockedValue). slice_get l.book part.number) c.compare_seat.ensures.same ∙ c.compare_seat.ensures.before in
-    subst (λ (s : SeatValue). ∥ WasServedTo o s.number s.session (Event.Get c.args.rid) (Reply.RowIs c.get.result) ∥₁) c.seat.view_is
+    subst (λ (s : SeatValue). ∥ WasServedTo o s.number s.session (Event.Get c.args.rid) (Reply.RowIs c.get-row.result) ∥₁) c.seat.view_is
     (served_to o (value_of is.core) (value_of is.core) is.pusher.records (map shown is.book.items) is.shared (Event.Get c.args.rid)
-    (Reply.RowIs c.get.result) c.get.ensures.served part.number part.session here)
+    (Reply.RowIs c.get-row.result) c.get-row.ensures.served part.number part.session here)
 
 pub returns-clause-own : goal.returns-clause-own
 returns-clause-own g c = λ txn row shows.
     let part = c.seat.inside.part in
     let here = ap (λ (l : LockedValue). slice_get l.book part.number) c.compare_seat.ensures.same ∙ c.compare_seat.ensures.before in
-    c.get.ensures.held part.number part.session here txn row (ap (λ (s : SeatValue). row_of s.session txn c.args.rid) c.seat.view_is ∙ shows)
+    c.get-row.ensures.held part.number part.session here txn row (ap (λ (s : SeatValue). row_of s.session txn c.args.rid) c.seat.view_is ∙ shows)

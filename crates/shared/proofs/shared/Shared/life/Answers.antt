@@ -16,6 +16,6 @@ returns-clause-served g c =
     let part = c.seat.inside.part in
     let here : slice_get (map shown is.book.items) part.number ≡ Some part.session =
     ap (λ (l : LockedValue). slice_get l.book part.number) c.compare_seat.ensures.same ∙ c.compare_seat.ensures.before in
-    subst (λ (s : SeatValue). ∥ WasServedTo o s.number s.session Event.Life (Reply.LifeIs c.life.result) ∥₁) c.seat.view_is
+    subst (λ (s : SeatValue). ∥ WasServedTo o s.number s.session Event.Life (Reply.LifeIs c.life-life.result) ∥₁) c.seat.view_is
     (served_to o (value_of is.core) (value_of is.core) is.pusher.records (map shown is.book.items) is.shared Event.Life
-    (Reply.LifeIs c.life.result) c.life.ensures.served part.number part.session here)
+    (Reply.LifeIs c.life-life.result) c.life-life.ensures.served part.number part.session here)

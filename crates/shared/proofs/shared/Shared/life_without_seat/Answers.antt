@@ -9,4 +9,4 @@ pub returns : goal.returns
 returns g c =
     let is = c.deref.result.now in
     served g.B.Group.site.opened (value_of is.core) (value_of is.core) is.pusher.records (map shown is.book.items) is.shared Event.Life
-    (Reply.LifeIs c.life.result) c.life.ensures.served
+    (Reply.LifeIs c.life-life.result) c.life-life.ensures.served

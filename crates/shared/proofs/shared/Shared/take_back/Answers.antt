@@ -18,8 +18,8 @@ use Rattle.shared.proofs.shared.Shared.take_back.Goals as goal
 pub end-ended-requires-clause-none_left : goal.end-ended-requires-clause-none_left
 end-ended-requires-clause-none_left g c = λ _. c.if-may_end.ensures.0 refl
 
-pub returns-then-may_end : goal.returns-then-may_end
-returns-then-may_end g c =
+pub returns-in_ok-ended : goal.returns-in_ok-ended
+returns-in_ok-ended g c =
     let o = g.B.Group.site.opened in
     let was = c.deref_mut-locked.result.now in
     let t = c.args.txn in
@@ -57,8 +57,8 @@ returns-in_err-ended g c =
       seat = any_session part step.new.seat c.seat.inside.view _ refl step.ensures.number;
     }))
 
-pub returns : goal.returns
-returns g c =
+pub returns-in_ok-undone : goal.returns-in_ok-undone
+returns-in_ok-undone g c =
     let o = g.B.Group.site.opened in
     let was = c.deref_mut-locked.result.now in
     let t = c.args.txn in
