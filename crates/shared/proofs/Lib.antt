@@ -12,3 +12,4 @@ mod Backward
 mod Ends
 mod Undone
 mod Again
+mod AtOnce

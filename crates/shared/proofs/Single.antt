@@ -4,7 +4,7 @@ use Rattle.std.proofs.Props.{props}
 use Rattle.std.specs.Coded.{Coded, Coded-set, codes}
 use Rattle.model.specs.declared.write.Write.{Write}
 use Rattle.record_values.specs.declared.row.Row.{Row}
-use Rattle.threads_sessions.specs.Values.{SessionValue}
+use Rattle.threads_sessions.specs.Values.{ActiveValue, SessionValue}
 use Rattle.shared.specs.Changed.{IsUnderWay}
 
 sessions_coded : Coded SessionValue
@@ -15,6 +15,12 @@ writes_coded = hlevel codes
 
 rows_coded : Coded (Option (Option Row))
 rows_coded = hlevel codes
+
+actives_coded : Coded (Option ActiveValue)
+actives_coded = hlevel codes
+
+pub active_single : (a b : Option ActiveValue) → IsProp (a ≡ b)
+active_single = Coded-set actives_coded
 
 pub rows_single : (a b : Option (Option Row)) → IsProp (a ≡ b)
 rows_single = Coded-set rows_coded

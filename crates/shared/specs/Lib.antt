@@ -1,5 +1,6 @@
 pub mod Seats
 pub mod Changed
 pub mod Served
+pub mod AtOnce
 pub mod Openings
 pub mod Waits

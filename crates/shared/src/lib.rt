@@ -1,12 +1,15 @@
 //! A core that many threads share, one seat each.
 //!
 //! Each call of a seat makes its steps of the core one at a time, each under the lock anew, and pushes the records that
-//! wait to the queue of the flusher, once a hold. What a seat knows of its own transactions is in its session, which
-//! the calls keep in step with the core. A seat learns from the board, without the lock, which records are safe on the
-//! device. It holds the lock only within a call. Flusher, builder and cleaner are lent the guard by `hold_to_..`.
+//! wait to the queue of the flusher, once a hold. `put`, `remove` and `replace` make a whole transaction of one change
+//! in one hold. What a seat knows of its own transactions is in its session, which the calls keep in step with the
+//! core. A seat learns from the board, without the lock, which records are safe on the device. It holds the lock only
+//! within a call. Flusher, builder and cleaner are lent the guard by `hold_to_..`.
 //!
 //! Proved: what an `Ok` makes of the seat's session (`ok`, `changed`). Each reply is one that some core which may lie
-//! under the lock gives (`served`). `get` of a place that the seat holds answers its own row (`own`). An
+//! under the lock gives (`served`). What is made in one hold is served with nothing between (`made`), and adds one
+//! commit to the seat's session (`committed`). Where it is refused, the session stays (`nothing_stays`), unless to take
+//! it back was refused too (`left`). `get` of a place that the seat holds answers its own row (`own`). An
 //! acknowledgement is of a ticket that a horizon reached (`acked`), no horizon falls (`rises`), what the seat has seen
 //! leaves a wait one answer (the law `one_wait`), and the horizon that it had seen with its mark was published by the
 //! moment that this marks, if it isn't 0 (`noted`). Neither: that a call which takes the lock or waits returns;
@@ -16,11 +19,13 @@
 
 mod abort;
 mod acks;
+mod at_once;
 mod builder;
 mod calls;
 mod changes;
 mod cleaner;
 mod laws;
+mod one_change;
 mod opening;
 mod parts;
 mod seat;
@@ -34,6 +39,7 @@ pub use changes::Change;
 pub use cleaner::CleanPart;
 pub use laws::{each_refusal, one_wait};
 pub use locked_core::{Group, Memory};
+pub use one_change::{Placed, Refusal};
 pub use opening::{FirstParts, Opening, open};
 pub use parts::{LoopParts, Parts};
 pub use seat::{Ack, Seat};

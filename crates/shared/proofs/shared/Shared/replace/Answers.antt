@@ -1,0 +1,25 @@
+use Rattle.std.proofs.lemmas.Result.{err_from_is_err_and}
+use Rattle.shared.proofs.shared.Shared.replace.Goals as goal
+
+pub returns-in_err-replaced : goal.returns-in_err-replaced
+returns-in_err-replaced g c =
+    let p = err_from_is_err_and c.from_residual.result c.from_residual.ensures.1 in
+    let is = c.in_err-replaced.ensures in
+    rw (p.1, p.2) (record {
+      committed = tt;
+      made = tt;
+      refused = is.refused;
+      nothing_stays = is.nothing_stays;
+      left = is.left;
+      seat = c.make.ensures.seat;
+    })
+
+pub returns : goal.returns
+returns g c = record {
+  committed = c.in_ok-replaced.ensures.committed;
+  made = c.in_ok-replaced.ensures.made;
+  refused = tt;
+  nothing_stays = tt;
+  left = tt;
+  seat = c.make.ensures.seat;
+}
