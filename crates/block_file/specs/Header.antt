@@ -1,8 +1,10 @@
 -- The header of a file of blocks.
-use Rattle.std.specs.Prelude.{ℕ, ◌+◌, ◌/◌, ◌^◌, nat_lt, Bool, ◌&&◌, ◌==◌, if◌then◌else◌, List, take, Option, Some, None}
+use Rattle.std.specs.Prelude.{◌≡◌, ℕ, ◌+◌, ◌/◌, ◌^◌, nat_lt, Bool, true, ◌&&◌, ◌==◌, if◌then◌else◌, List, take}
+use Rattle.std.specs.Prelude.{Option, Some, None}
 use Rattle.block_digest.specs.Digest.{digest}
 use Rattle.block_device.specs.Blocks.{Image, block}
 use Rattle.block_words.specs.Words.{word}
+use Rattle.block_journal.specs.Layout.{IsInside}
 use Rattle.block_table.specs.Table.{kept_count}
 use Rattle.block_file.specs.declared.plan.Plan.{Plan}
 use Rattle.block_file.specs.declared.header.TheConstants.{TEXT, VERSION}
@@ -19,6 +21,11 @@ plan_for sectors lead area = record {
 -- whether there can be such a device
 abbrev pub can_be : (sectors lead area : ℕ) → Bool
 can_be sectors lead area = nat_lt sectors (2 ^ 60) && (nat_lt lead 8 && (nat_lt 2 area && nat_lt area 256))
+
+-- a plan that a header can tell
+pub record CanBeTold (p : Plan) : Type 0 where
+  pub can : can_be p.sectors p.lead p.shape.area ≡ true
+  pub same : p ≡ plan_for p.sectors p.lead p.shape.area
 
 -- The first numbers of a header are the text `NSFBLOCK`, the version, how many sectors the device has, how many others
 -- are before the first one in its block, and how many blocks an area has. The last one is the digest of the bytes
@@ -40,3 +47,7 @@ first_of None second = second
 -- the plan that a file tells: in its first block, or else in the second one
 abbrev pub plan_told : Image → Option Plan
 plan_told image = first_of (told_by (block image 0)) (told_by (block image 1))
+
+-- The image ends before what its header tells.
+abbrev pub IsCut : Image → Type 0
+IsCut image = (p : Plan) × (plan_told image ≡ Some p) × (¬ IsInside p.shape image)

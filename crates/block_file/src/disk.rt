@@ -1,9 +1,10 @@
 //! A device of sectors over a file of blocks.
-ghost use Rattle.std.specs.Prelude.{◌≡◌, ◌+◌, ◌<◌, ◌≤◌, [], false, length};
+ghost use Rattle.std.specs.Prelude.{◌≡◌, ◌+◌, ◌<◌, ◌≤◌, ℕ, [], false, length, IfNone, IfOk, IfSome, OnOk};
 ghost use Rattle.sector_device.specs.Disk.{IsSynced};
+ghost use Rattle.sector_device.specs.DevicePast.{CountsFailure, Elapses};
 ghost use Rattle.block_file.specs.Plans.{IsPlan};
 ghost use Rattle.block_file.specs.Sectors.{sectors_of};
-ghost use Rattle.block_table.specs.Checked.{settled_data};
+ghost use Rattle.block_table.specs.Checked.{kept_table, settled_data};
 ghost use Rattle.block_journal.specs.Value.{failures_of};
 
 use crate::Plan;
@@ -39,6 +40,8 @@ impl<B: Blocks, A: Allocator> Model for BlockDisk<B, A> {
 }
 
 impl<B: Blocks, A: Allocator + Copy> BlockDisk<B, A> {
+    ghost use Rattle.block_file.specs.Closing.{StandsAlone};
+    ghost use Rattle.block_file.specs.Damage.{IsFirstDamaged, IsSectorFit};
     ghost use Rattle.block_file.specs.Disks.{CrashStandsNow, EachCrashStands, disk_failures, disk_past, journal_in};
 
     /// The device whose sectors these blocks hold, which were just opened: all of them synced.
@@ -77,6 +80,36 @@ impl<B: Blocks, A: Allocator + Copy> BlockDisk<B, A> {
         ensures now { CrashStandsNow B.past_of self.now.plan self.now.now }
     {
         let _ = &self.parts.plan;
+    }
+
+    /// Ends the use of the file: syncs all sectors, and puts all blocks in their places. Then the file stands for the
+    /// device, whatever becomes of the areas of its journal (`alone`). It fails as a sync does.
+    pub fn close(&mut self) -> Result<(), Failed>
+        ensures content { (disk_past B.past_of self.new).disk.content ≡ (disk_past B.past_of self.old).disk.content }
+        ensures synced { OnOk result (IsSynced (disk_past B.past_of self.new).disk) }
+        ensures alone { OnOk result (StandsAlone self.old.plan
+            (B.past_of (journal_in self.new.now).below).file.content (disk_past B.past_of self.old).disk.content) }
+        ensures safe { OnOk result ((n : ℕ) → (B.past_of (journal_in self.new.now).below).file.loose n ≡ false) }
+        ensures plan { self.new.plan ≡ self.old.plan }
+        ensures time { Elapses (disk_past B.past_of self.old) (disk_past B.past_of self.new) }
+        ensures counts { CountsFailure (disk_failures B.failures self.old) (disk_failures B.failures self.new) result }
+    {
+        self.parts.close()
+    }
+
+    /// The first sector, from a number on, of whose block bytes have changed: it doesn't fit its digest. The other
+    /// sectors of the block are told likewise, so a search for more goes on behind its last one.
+    pub fn check(&mut self, from: u64) -> Result<Option<u64>, Failed>
+        ensures damaged { IfOk result (λ found. IfSome found (IsFirstDamaged self.old.plan
+            (kept_table B.past_of self.old.now.checked) from)) }
+        ensures fit { IfOk result (λ found. IfNone found ((n : ℕ) → from ≤ n → n < self.old.plan.sectors
+            → IsSectorFit self.old.plan (kept_table B.past_of self.old.now.checked) n)) }
+        ensures disk { (disk_past B.past_of self.new).disk ≡ (disk_past B.past_of self.old).disk }
+        ensures plan { self.new.plan ≡ self.old.plan }
+        ensures time { Elapses (disk_past B.past_of self.old) (disk_past B.past_of self.new) }
+        ensures counts { CountsFailure (disk_failures B.failures self.old) (disk_failures B.failures self.new) result }
+    {
+        self.parts.check(from)
     }
 
     /// The blocks, with what was gathered since the last sync.

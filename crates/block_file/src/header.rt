@@ -1,6 +1,7 @@
 // The header of a file of blocks.
-ghost use Rattle.std.specs.Prelude.{◌≡◌, true, Some, None, if◌then◌else◌, slice_index, IfSome};
-ghost use Rattle.block_file.specs.Header.{can_be, plan_for, told_by};
+ghost use Rattle.std.specs.Prelude.{◌≡◌, ◌+◌, ◌-◌, ◌*◌, ◌^◌, ◌<◌, true, Some, None, if◌then◌else◌, slice_index, IfSome};
+ghost use Rattle.block_journal.specs.Layout.{kept_start};
+ghost use Rattle.block_file.specs.Header.{CanBeTold, can_be, plan_for, told_by};
 ghost use Rattle.block_file.specs.Plans.{IsPlan};
 
 use crate::Plan;
@@ -34,6 +35,7 @@ impl Plan {
     pub fn new(sectors: u64, lead: u64, area: u64) -> Option<Plan>
         ensures plan { result ≡ (if can_be sectors lead area then Some (plan_for sectors lead area) else None) }
         ensures is { IfSome result IsPlan }
+        ensures told { IfSome result CanBeTold }
     {
         if sectors > SECTORS_MAX || lead > LEAD_MAX || area < AREA_MIN || area > AREA_MAX {
             return None;
@@ -49,6 +51,22 @@ impl Plan {
             lead,
             sectors,
         })
+    }
+
+    /// The first sector of the device in a block of data.
+    pub fn first_sector(self, n: u64) -> u64
+        requires { n < 2 ^ 61 }
+        ensures { result ≡ 8 * n - self.lead }
+    {
+        (8 * n).saturating_sub(self.lead)
+    }
+
+    /// How many blocks a file has for it.
+    pub fn file_blocks(self) -> u64
+        requires { CanBeTold self }
+        ensures { result ≡ kept_start self.shape + self.shape.kept }
+    {
+        self.shape.first + 2 * self.shape.area + self.shape.kept
     }
 }
 

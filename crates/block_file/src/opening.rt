@@ -1,12 +1,12 @@
 //! A file of blocks is opened.
-ghost use Rattle.std.specs.Prelude.{◌≡◌, ◌≢◌, ℕ, [], false, true, None, Some, IfErr, IfOk, IfSome};
+ghost use Rattle.std.specs.Prelude.{◌≡◌, ◌≢◌, ◌⊎◌, ◌<◌, ℕ, [], false, true, length, None, Some, IfErr, IfOk, IfSome};
 ghost use Rattle.sector_device.specs.Disk.{IsSynced};
-ghost use Rattle.block_journal.specs.Layout.{IsInside, recovered};
+ghost use Rattle.block_journal.specs.Layout.{IsInside, found, recovered};
 ghost use Rattle.block_journal.specs.Journal.{OnlyReads, StaysRecovered};
 ghost use Rattle.block_table.specs.Checked.{settled_data, settled_table};
 ghost use Rattle.block_table.specs.Table.{EachFits, IsFirstUnfit};
 ghost use Rattle.block_file.specs.Disks.{disk_past, journal_in};
-ghost use Rattle.block_file.specs.Header.{first_of, plan_told};
+ghost use Rattle.block_file.specs.Header.{IsCut, first_of, plan_told};
 ghost use Rattle.block_file.specs.Plans.{IsPlan, disk_image};
 ghost use Rattle.block_file.specs.Sectors.{sectors_of};
 
@@ -50,9 +50,12 @@ pub struct Refused<B> {
 }
 
 // Why a journal can't be opened, as of its file.
-fn error_of(error: OpenError) -> FileError
+pub(crate) fn error_of(error: OpenError) -> FileError
     ensures undamaged { (n : ℕ) → result ≢ FileError.Damaged n }
     ensures header { result ≢ FileError.NoHeader }
+    ensures short { result ≢ FileError.TooShort }
+    ensures batch { result ≡ FileError.NoBatch → error ≡ OpenError.NoBatch }
+    ensures failed { result ≡ FileError.FileFailed → error ≡ OpenError.FileFailed }
 {
     match error {
         OpenError::NoMemory => FileError::NoMemory,
@@ -79,6 +82,8 @@ fn read_plan<B: Blocks>(below: &mut B) -> Result<Plan, FileError>
     ensures none { IfErr result (λ e. e ≡ FileError.NoHeader
         → plan_told (B.past_of below.old).file.content ≡ None) }
     ensures undamaged { IfErr result (λ e. (n : ℕ) → e ≢ FileError.Damaged n) }
+    ensures short { IfErr result (λ e. e ≡ FileError.TooShort → length (B.past_of below.old).file.content < 2) }
+    ensures batch { IfErr result (λ e. e ≢ FileError.NoBatch) }
     ensures reads { OnlyReads (B.past_of below.old) (B.past_of below.new) }
 {
     if below.blocks() < 2 {
@@ -96,10 +101,11 @@ fn read_plan<B: Blocks>(below: &mut B) -> Result<Plan, FileError>
     }
 }
 
-// Whether a file has room for a plan.
-fn has_room<B: Blocks>(below: &B, plan: Plan) -> bool
+/// Whether a file has room for a plan.
+pub fn has_room<B: Blocks>(below: &B, plan: Plan) -> bool
     requires { IsPlan plan }
-    ensures { result ≡ true → IsInside plan.shape (B.past_of below.now).file.content }
+    ensures room { result ≡ true → IsInside plan.shape (B.past_of below.now).file.content }
+    ensures short { result ≡ false → ¬ IsInside plan.shape (B.past_of below.now).file.content }
 {
     let shape = plan.shape;
     let blocks = below.blocks();
@@ -130,6 +136,8 @@ fn compared<B: Blocks, A: Allocator + Copy>(
     ensures damaged { IfErr result (λ e. (n : ℕ) → e.error ≡ FileError.Damaged n
         → IsFirstUnfit plan.blocks (settled_table B.past_of checked) 0 n) }
     ensures header { IfErr result (λ e. e.error ≢ FileError.NoHeader) }
+    ensures short { IfErr result (λ e. e.error ≢ FileError.TooShort) }
+    ensures batch { IfErr result (λ e. e.error ≢ FileError.NoBatch) }
 {
     let mut checked = checked;
     match checked.check(0) {
@@ -170,6 +178,12 @@ pub fn open<B: Blocks, A: Allocator + Copy>(
         → IsFirstUnfit p.blocks (recovered p.shape (B.past_of below).file.content) 0 n) }
     ensures no_header { IfErr result (λ e. e.error ≡ FileError.NoHeader
         → plan_told (B.past_of below).file.content ≡ None) }
+    ensures too_short { IfErr result (λ e. e.error ≡ FileError.TooShort
+        → (length (B.past_of below).file.content < 2) ⊎ IsCut (B.past_of below).file.content) }
+    ensures no_batch { IfErr result (λ e. e.error ≡ FileError.NoBatch → (p : Plan)
+        → plan_told (B.past_of below).file.content ≡ Some p
+        → (found p.shape (B.past_of below).file.content 0 ≡ None)
+        × (found p.shape (B.past_of below).file.content 1 ≡ None)) }
 {
     let mut below = below;
     let plan = match read_plan(&mut below) {

@@ -1,11 +1,11 @@
 // The parts of a device over a file of blocks, and what it does with them.
-ghost use Rattle.std.specs.Prelude.{◌≡◌, ◌+◌, ◌<◌, ℕ, is_ok, false, true, OnErr, OnOk};
-ghost use Rattle.sector_device.specs.Disk.{IsFailedWrite, after_sync, after_write, sector};
+ghost use Rattle.std.specs.Prelude.{◌≡◌, ◌+◌, ◌<◌, ◌≤◌, ℕ, [], is_ok, false, true, IfNone, IfOk, IfSome, OnErr, OnOk};
+ghost use Rattle.sector_device.specs.Disk.{IsFailedWrite, IsSynced, after_sync, after_write, sector};
 ghost use Rattle.sector_device.specs.DevicePast.{CountsFailure, Elapses};
-ghost use Rattle.block_table.specs.Checked.{CountsRead};
+ghost use Rattle.block_table.specs.Checked.{CountsRead, kept_table};
 
 use crate::Plan;
-use crate::sectors::{read_sector, write_sector};
+use crate::sectors::{first_damaged, read_sector, write_sector};
 use block_device::Blocks;
 use block_table::{CheckedBlocks, ReadError};
 use ghost_list::GhostList;
@@ -48,7 +48,9 @@ fn count(damaged: &mut u64, done: Result<(), ReadError>) -> Result<(), Failed>
 }
 
 impl<B: Blocks, A: Allocator + Copy> DiskParts<B, A> {
-    ghost use Rattle.block_file.specs.Disks.{disk_failures, disk_past};
+    ghost use Rattle.block_file.specs.Closing.{StandsAlone};
+    ghost use Rattle.block_file.specs.Damage.{IsFirstDamaged, IsSectorFit};
+    ghost use Rattle.block_file.specs.Disks.{disk_failures, disk_past, journal_in};
     ghost use Rattle.block_file.specs.Moves.{IsSound};
 
     /// Reads a sector.
@@ -91,6 +93,8 @@ impl<B: Blocks, A: Allocator + Copy> DiskParts<B, A> {
         ensures ok { OnOk result ((disk_past B.past_of self.new).disk
             ≡ after_sync (disk_past B.past_of self.old).disk) }
         ensures err { OnErr result ((disk_past B.past_of self.new).disk ≡ (disk_past B.past_of self.old).disk) }
+        ensures none { OnOk result ((journal_in self.new.now).next ≡ []) }
+        ensures plan { self.new.plan ≡ self.old.plan }
         ensures time { Elapses (disk_past B.past_of self.old) (disk_past B.past_of self.new) }
         ensures counts { CountsFailure (disk_failures B.failures self.old) (disk_failures B.failures self.new) result }
         ensures sound { IsSound B.past_of self.new }
@@ -100,5 +104,56 @@ impl<B: Blocks, A: Allocator + Copy> DiskParts<B, A> {
         self.now.checked.stands();
         self.now.written = GhostList::new();
         Ok(())
+    }
+
+    // Puts all blocks in their places, behind a sync, so that no area of the journal is needed.
+    fn settle(&mut self) -> Result<(), Failed>
+        requires sound { IsSound B.past_of self.old }
+        requires none { (journal_in self.old.now).next ≡ [] }
+        ensures disk { (disk_past B.past_of self.new).disk ≡ (disk_past B.past_of self.old).disk }
+        ensures alone { OnOk result (StandsAlone self.old.plan
+            (B.past_of (journal_in self.new.now).below).file.content (disk_past B.past_of self.old).disk.content) }
+        ensures safe { OnOk result ((n : ℕ) → (B.past_of (journal_in self.new.now).below).file.loose n ≡ false) }
+        ensures plan { self.new.plan ≡ self.old.plan }
+        ensures time { Elapses (disk_past B.past_of self.old) (disk_past B.past_of self.new) }
+        ensures counts { CountsFailure (disk_failures B.failures self.old) (disk_failures B.failures self.new) result }
+        ensures sound { IsSound B.past_of self.new }
+    {
+        self.past = self.past.and(&self.now);
+        self.now.checked.close()
+    }
+
+    /// Syncs all sectors, and puts all blocks in their places.
+    pub(crate) fn close(&mut self) -> Result<(), Failed>
+        requires sound { IsSound B.past_of self.old }
+        ensures content { (disk_past B.past_of self.new).disk.content ≡ (disk_past B.past_of self.old).disk.content }
+        ensures synced { OnOk result (IsSynced (disk_past B.past_of self.new).disk) }
+        ensures alone { OnOk result (StandsAlone self.old.plan
+            (B.past_of (journal_in self.new.now).below).file.content (disk_past B.past_of self.old).disk.content) }
+        ensures safe { OnOk result ((n : ℕ) → (B.past_of (journal_in self.new.now).below).file.loose n ≡ false) }
+        ensures plan { self.new.plan ≡ self.old.plan }
+        ensures time { Elapses (disk_past B.past_of self.old) (disk_past B.past_of self.new) }
+        ensures counts { CountsFailure (disk_failures B.failures self.old) (disk_failures B.failures self.new) result }
+        ensures sound { IsSound B.past_of self.new }
+    {
+        self.sync()?;
+        self.settle()
+    }
+
+    /// The first sector, from a number on, whose block doesn't fit its digest.
+    pub(crate) fn check(&mut self, from: u64) -> Result<Option<u64>, Failed>
+        requires sound { IsSound B.past_of self.old }
+        ensures damaged { IfOk result (λ found. IfSome found (IsFirstDamaged self.old.plan
+            (kept_table B.past_of self.old.now.checked) from)) }
+        ensures fit { IfOk result (λ found. IfNone found ((n : ℕ) → from ≤ n → n < self.old.plan.sectors
+            → IsSectorFit self.old.plan (kept_table B.past_of self.old.now.checked) n)) }
+        ensures disk { (disk_past B.past_of self.new).disk ≡ (disk_past B.past_of self.old).disk }
+        ensures plan { self.new.plan ≡ self.old.plan }
+        ensures time { Elapses (disk_past B.past_of self.old) (disk_past B.past_of self.new) }
+        ensures counts { CountsFailure (disk_failures B.failures self.old) (disk_failures B.failures self.new) result }
+        ensures sound { IsSound B.past_of self.new }
+    {
+        self.past = self.past.and(&self.now);
+        first_damaged(&mut self.now.checked, self.plan, from)
     }
 }

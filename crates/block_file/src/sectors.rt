@@ -1,10 +1,12 @@
 // Sectors are read and written, in blocks of data.
-ghost use Rattle.std.specs.Prelude.{◌≡◌, ◌≢◌, ◌<◌, Err, OnErr, OnOk, slice_set};
+ghost use Rattle.std.specs.Prelude.{◌≡◌, ◌≢◌, ◌+◌, ◌/◌, ◌^◌, ◌<◌, ◌≤◌, ℕ, Err, IfNone, IfOk, IfSome, OnErr, OnOk};
+ghost use Rattle.std.specs.Prelude.{slice_set};
 ghost use Rattle.sector_device.specs.Disk.{sector};
 ghost use Rattle.sector_device.specs.DevicePast.{CountsFailure};
 ghost use Rattle.block_journal.specs.Journal.{OnlyReads};
 ghost use Rattle.block_journal.specs.Value.{failures_of, room_of};
 ghost use Rattle.block_table.specs.Checked.{CountsRead, data_now, kept_table};
+ghost use Rattle.block_file.specs.Damage.{IsFirstDamaged, IsSectorFit};
 ghost use Rattle.block_file.specs.Moves.{Moves};
 ghost use Rattle.block_file.specs.Plans.{IsPlan};
 ghost use Rattle.block_file.specs.Sectors.{sectors_of};
@@ -13,7 +15,7 @@ use crate::Plan;
 use crate::eighths::{put_sector, sector_of};
 use block_device::{BLOCK_SIZE, Blocks};
 use block_table::{CheckedBlocks, ReadError};
-use sector_device::SECTOR_SIZE;
+use sector_device::{Failed, SECTOR_SIZE};
 use std::alloc::Allocator;
 
 /// Reads a sector.
@@ -93,4 +95,56 @@ pub(crate) fn write_sector<B: Blocks, A: Allocator + Copy>(
     put_sector(&mut block, (at % 8) as usize, bytes);
     checked.put(at / 8, &block);
     Ok(())
+}
+
+// The first sector, from a number on, that is in a block of data, which isn't before that of this number.
+fn first_in(plan: Plan, from: u64, n: u64) -> Option<u64>
+    requires small { plan.lead + plan.sectors < 2 ^ 64 }
+    requires low { from < plan.sectors }
+    requires behind { (from + plan.lead) / 8 ≤ n }
+    ensures from { IfSome result (λ s. from ≤ s) }
+    ensures low { IfSome result (λ s. s < plan.sectors) }
+    ensures here { IfSome result (λ s. (s + plan.lead) / 8 ≡ n) }
+    ensures before { IfSome result (λ s. (m : ℕ) → m < s → from ≤ m → (m + plan.lead) / 8 < n) }
+    ensures none { IfNone result ((m : ℕ) → m < plan.sectors → (m + plan.lead) / 8 < n) }
+{
+    let first = n.saturating_mul(8).saturating_sub(plan.lead);
+    if first >= plan.sectors {
+        return None;
+    }
+    if first < from {
+        return Some(from);
+    }
+    Some(first)
+}
+
+/// The first sector, from a number on, whose block doesn't fit its digest.
+pub(crate) fn first_damaged<B: Blocks, A: Allocator + Copy>(
+    checked: &mut CheckedBlocks<B, A>,
+    plan: Plan,
+    from: u64,
+) -> Result<Option<u64>, Failed>
+    requires plan { IsPlan plan }
+    requires blocks { checked.old.blocks ≡ plan.blocks }
+    ensures damaged { IfOk result (λ found. IfSome found (IsFirstDamaged plan
+        (kept_table B.past_of checked.old) from)) }
+    ensures fit { IfOk result (λ found. IfNone found ((n : ℕ) → from ≤ n → n < plan.sectors
+        → IsSectorFit plan (kept_table B.past_of checked.old) n)) }
+    ensures rest { checked.new ≡ record checked.old {
+      journal = record checked.old.journal {
+        below = checked.new.journal.below;
+        refused = checked.new.journal.refused;
+      };
+    } }
+    ensures reads { OnlyReads (B.past_of checked.old.journal.below) (B.past_of checked.new.journal.below) }
+    ensures counts { CountsFailure (failures_of B.failures checked.old.journal)
+        (failures_of B.failures checked.new.journal) result }
+{
+    if from >= plan.sectors {
+        return Ok(None);
+    }
+    match checked.check((from + plan.lead) / 8)? {
+        Some(n) => Ok(first_in(plan, from, n)),
+        None => Ok(None),
+    }
 }

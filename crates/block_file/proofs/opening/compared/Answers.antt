@@ -43,6 +43,8 @@ returns-in-Ok-None g c =
       refused = tt;
       damaged = tt;
       header = tt;
+      short = tt;
+      batch = tt;
     }
 
 pub returns-in-Ok-Some : goal.returns-in-Ok-Some
@@ -66,6 +68,8 @@ returns-in-Ok-Some g c =
           (subst (λ (l : Image). IsFirstUnfit plan.blocks l 0 c.in-Ok-Some.n) table
           (subst (λ (b : ℕ). IsFirstUnfit b (kept_table h old) 0 c.in-Ok-Some.n) c.requires.blocks unfit));
       header = λ is. absurd (cc);
+      short = λ is. absurd (cc);
+      batch = λ is. absurd (cc);
     }
 
 pub returns-in-Err : goal.returns-in-Err
@@ -81,4 +85,6 @@ returns-in-Err g c =
           c.check.ensures.reads;
       damaged = λ n is. absurd (cc);
       header = λ is. absurd (cc);
+      short = λ is. absurd (cc);
+      batch = λ is. absurd (cc);
     }

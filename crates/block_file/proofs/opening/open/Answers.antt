@@ -1,8 +1,8 @@
-use Rattle.std.proofs.Common.{◌≡◌, sym, ◌∙◌, ap, subst}
+use Rattle.std.proofs.Common.{◌≡◌, inl, inr, None, sym, ◌∙◌, ap, subst}
 use Rattle.std.proofs.lemmas.Result.{IfErr-weaker}
 use Rattle.block_device.specs.Blocks.{Image, BlockFile}
 use Rattle.block_device.specs.BlocksPast.{BlocksPast}
-use Rattle.block_journal.specs.Layout.{recovered}
+use Rattle.block_journal.specs.Layout.{IsInside, found, recovered}
 use Rattle.block_journal.specs.Journal.{StaysRecovered}
 use Rattle.block_table.specs.Checked.{CheckedValue, settled_table}
 use Rattle.block_table.specs.Table.{EachFits, IsFirstUnfit, data_of}
@@ -116,4 +116,36 @@ returns-in-Err g c =
       refused = λ p told inside. reads_recovered p.shape (h c.args.below) (h c.read_plan.new.below) c.requires c.in-Err.ensures.reads;
       damaged = λ n is. absurd (c.in-Err.ensures.undamaged n is);
       no_header = c.in-Err.ensures.none;
+      too_short = λ is. inl (c.in-Err.ensures.short is);
+      no_batch = λ is. absurd (c.in-Err.ensures.batch is);
     }
+
+pub returns-then-not-has_room-clause-too_short : goal.returns-then-not-has_room-clause-too_short
+returns-then-not-has_room-clause-too_short g c = λ _.
+    let plan : Plan = c.in-Ok.plan in
+    let same = c.in-Ok.ensures.reads.file in
+    inr (
+      plan,
+      c.in-Ok.ensures.told,
+      λ inside. c.has_room.ensures.short c.if-not-has_room.true
+          (subst (λ (f : BlockFile). IsInside plan.shape f.content) (sym same) inside),
+    )
+
+pub returns-in-Ok-open-clause-too_short : goal.returns-in-Ok-open-clause-too_short
+returns-in-Ok-open-clause-too_short g c = IfErr-weaker c.compared.result _ _ (λ e other is. absurd (other is)) c.compared.ensures.short
+
+pub returns-in-Ok-open-clause-no_batch : goal.returns-in-Ok-open-clause-no_batch
+returns-in-Ok-open-clause-no_batch g c = IfErr-weaker c.compared.result _ _ (λ e other is. absurd (other is)) c.compared.ensures.batch
+
+pub returns-in-Err-open-clause-too_short : goal.returns-in-Err-open-clause-too_short
+returns-in-Err-open-clause-too_short g c = λ is. absurd (c.error_of.ensures.short is)
+
+pub returns-in-Err-open-clause-no_batch : goal.returns-in-Err-open-clause-no_batch
+returns-in-Err-open-clause-no_batch g c = λ is p told.
+    let plan : Plan = c.in-Ok.plan in
+    let same = c.in-Ok.ensures.reads.file in
+    let none = c.in-Err-open.ensures.no_batch (c.error_of.ensures.batch is) in
+    subst (λ (q : Plan). (found q.shape (g.B.Blocks.past_of c.args.below).file.content 0 ≡ None)
+    × (found q.shape (g.B.Blocks.past_of c.args.below).file.content 1 ≡ None))
+    (same_plan _ plan p c.in-Ok.ensures.told told)
+    (subst (λ (f : BlockFile). (found plan.shape f.content 0 ≡ None) × (found plan.shape f.content 1 ≡ None)) same none)

@@ -38,6 +38,8 @@ returns-in_err-commit g c =
     rw (p.1 ∙ ap Err p.2) (record {
       ok = tt;
       err = disk;
+      none = tt;
+      plan = refl;
       time = disk_elapses h d n refl c.and-self.ensures;
       counts = record {
         later = omega (arith, counts.later);
@@ -69,6 +71,8 @@ returns g c =
     record {
       ok = synced_disk h d.plan d.now n.now same_data c.new-self.ensures;
       err = tt;
+      none = done.none;
+      plan = refl;
       time = disk_elapses h d n refl c.and-self.ensures;
       counts = record { later = omega (arith, done.counts.later); none = omega (arith, done.counts.none); failed = tt };
       sound = sound_pushed h d n refl c.and-self.ensures c.requires.sound comes.leaves

@@ -1,0 +1,128 @@
+use Rattle.std.proofs.Common.{◌≡◌, ◌⊎◌, inl, inr, ℕ, [], Some, None, sym, ◌∙◌, ap, subst}
+use Rattle.sector_device.specs.DevicePast.{Rises}
+use Rattle.block_device.specs.Blocks.{Image}
+use Rattle.block_device.specs.BlocksPast.{BlocksPast}
+use Rattle.block_device.proofs.Images.{crash_synced}
+use Rattle.block_device.proofs.Moments.{joined, started}
+use Rattle.block_journal.specs.Layout.{found, recovered}
+use Rattle.block_journal.specs.Journal.{StaysRecovered}
+use Rattle.block_journal.specs.Value.{JournalValue, settled_of}
+use Rattle.block_journal.proofs.Placing.{inside_same}
+use Rattle.block_journal.proofs.Results.{from_err, from_ok}
+use Rattle.block_table.specs.Checked.{CheckedValue}
+use Rattle.block_table.specs.Table.{EachFits, data_of}
+use Rattle.block_file.specs.declared.plan.Plan.{Plan}
+use Rattle.block_file.specs.Header.{plan_told}
+use Rattle.block_file.specs.Making.{BecomesZeros, HoldsZeros}
+use Rattle.block_file.specs.Sectors.{sectors_of}
+use Rattle.block_file.proofs.NewFile.{leaves_weaker, same_zeros, told_is_plan, told_small}
+use Rattle.block_file.proofs.creating.create.Goals as goal
+
+-- what stays recovered goes on holding zeros
+goes_on : (p : Plan) (old mid new : BlocksPast) → BecomesZeros p old mid → HoldsZeros p mid.file.content → StaysRecovered p.shape mid new
+    → BecomesZeros p old new
+goes_on p old mid new first held stays = joined old mid new (λ c. (plan_told c ≡ plan_told old.file.content) ⊎ HoldsZeros p c) first
+    (leaves_weaker mid new (λ c. recovered p.shape c ≡ recovered p.shape mid.file.content)
+    (λ c. (plan_told c ≡ plan_told old.file.content) ⊎ HoldsZeros p c) (λ c same. inr (same_zeros p mid.file.content c same held)) stays)
+
+pub has_room-requires : goal.has_room-requires
+has_room-requires g c = told_is_plan c.args.plan c.requires.told
+
+pub open-requires : goal.open-requires
+open-requires g c =
+    let h = g.B.Blocks.past_of in
+    let good = sym c.is_err.ensures.value ∙ c.if-is_err.false in
+    let laid = c.lay_out.ensures in
+    record {
+      inside = inside_same c.args.plan.shape _ _ (c.has_room.ensures.room c.if-not-has_room.false) laid.size;
+      kept = (told_small c.args.plan c.requires.told).kept;
+      synced = λ n out. from_ok _ _ good laid.synced n;
+    }
+
+pub over-requires : goal.over-requires
+over-requires g c =
+    let opened = c.in-Ok.ensures in
+    record {
+      plan = told_is_plan c.args.plan c.requires.told;
+      shape = opened.shape;
+      blocks = opened.blocks;
+      none = opened.none;
+      good = opened.sound;
+    }
+
+pub returns-then-not-has_room-clause-refused : goal.returns-then-not-has_room-clause-refused
+returns-then-not-has_room-clause-refused g c =
+    let old : BlocksPast = g.B.Blocks.past_of c.args.below in
+    started old (λ image. (plan_told image ≡ plan_told old.file.content) ⊎ HoldsZeros c.args.plan image)
+    (λ image crash. inl (ap plan_told (crash_synced old.file image c.requires.synced crash)))
+
+pub returns-then-is_err : goal.returns-then-is_err
+returns-then-is_err g c =
+    let failed = sym c.is_err.ensures.value ∙ c.if-is_err.true in
+    record {
+      plan = tt;
+      content = tt;
+      synced = tt;
+      fits = tt;
+      any_moment = tt;
+      refused = c.lay_out.ensures.any_moment;
+      too_short = λ is. absurd (cc);
+      failed = λ is. from_err _ _ failed c.lay_out.ensures.counts.failed;
+      header = λ is. absurd (cc);
+      batch = λ is. absurd (cc);
+      undamaged = λ n is. absurd (cc);
+    }
+
+pub returns-in-Ok : goal.returns-in-Ok
+returns-in-Ok g c =
+    let h = g.B.Blocks.past_of in
+    let plan : Plan = c.args.plan in
+    let good = sym c.is_err.ensures.value ∙ c.if-is_err.false in
+    let old : BlocksPast = h c.args.below in
+    let mid : BlocksPast = h c.lay_out.new.below in
+    let checked : CheckedValue g.row.B.Denot = c.in-Ok.checked in
+    let opened = c.in-Ok.ensures in
+    let over = c.over.ensures in
+    let held : HoldsZeros plan mid.file.content = from_ok _ _ good c.lay_out.ensures.zeros in
+    let table : settled_of h checked.journal ≡ recovered plan.shape mid.file.content = opened.settled in
+    record {
+      plan = over.plan;
+      content = over.content ∙ (λ i. sectors_of plan.lead plan.sectors (data_of (opened.blocks i) (table i))) ∙ held.zeros;
+      synced = over.synced;
+      fits = subst (λ (l : Image). EachFits plan.blocks l)
+          (sym (ap (λ (v : JournalValue g.row.B.Denot). settled_of h v) over.journal ∙ table)) held.fits;
+      any_moment = subst (λ (v : JournalValue g.row.B.Denot). BecomesZeros plan old (h v.below)) (sym over.journal)
+          (goes_on plan old mid (h checked.journal.below) c.lay_out.ensures.any_moment held opened.any_moment);
+      refused = tt;
+      too_short = tt;
+      failed = tt;
+      header = tt;
+      batch = tt;
+      undamaged = tt;
+    }
+
+pub returns-in-Err : goal.returns-in-Err
+returns-in-Err g c =
+    let h = g.B.Blocks.past_of in
+    let F = g.B.Blocks.failures in
+    let plan : Plan = c.args.plan in
+    let good = sym c.is_err.ensures.value ∙ c.if-is_err.false in
+    let old : BlocksPast = h c.args.below in
+    let mid : BlocksPast = h c.lay_out.new.below in
+    let refused = c.in-Err.ensures in
+    let kind = c.error_of.ensures in
+    let held : HoldsZeros plan mid.file.content = from_ok _ _ good c.lay_out.ensures.zeros in
+    let begun : found plan.shape mid.file.content 0 ≡ Some (record { number = 0; entries = [] }) = from_ok _ _ good c.lay_out.ensures.begun in
+    record {
+      plan = tt;
+      content = tt;
+      synced = tt;
+      fits = tt;
+      any_moment = tt;
+      refused = goes_on plan old mid (h c.in-Err.refused.file) c.lay_out.ensures.any_moment held refused.refused;
+      too_short = λ is. absurd (kind.short is);
+      failed = λ is. subst (λ (a : ℕ). Rises a (F c.in-Err.refused.file)) (from_ok _ _ good c.lay_out.ensures.counts.none) (refused.failed (kind.failed is));
+      header = kind.header;
+      batch = λ is. let none : found plan.shape mid.file.content 0 ≡ None = (refused.no_batch (kind.batch is)).0 in absurd (cc);
+      undamaged = kind.undamaged;
+    }

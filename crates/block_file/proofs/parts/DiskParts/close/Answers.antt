@@ -1,0 +1,57 @@
+use Rattle.std.proofs.Common.{◌≡◌, Err, ◌∙◌, ap, subst}
+use Rattle.std.proofs.lemmas.Result.{err_from_is_err_and}
+use Rattle.sector_device.specs.Disk.{CrashState, Disk, IsSynced, after_sync}
+use Rattle.sector_device.proofs.Counts.{counts_later}
+use Rattle.block_device.specs.Blocks.{Image}
+use Rattle.block_journal.proofs.Results.{on_ok, on_ok_always}
+use Rattle.block_file.specs.declared.parts.DiskParts.{DiskParts}
+use Rattle.block_file.specs.declared.plan.Plan.{Plan}
+use Rattle.block_file.specs.Closing.{StandsAlone}
+use Rattle.block_file.specs.Disks.{disk_past, journal_in}
+use Rattle.block_file.proofs.Ending.{elapses_then}
+use Rattle.block_file.proofs.parts.DiskParts.close.Goals as goal
+
+pub sync-requires : goal.sync-requires
+sync-requires g c = record { sound = c.requires.sound }
+
+pub settle-requires : goal.settle-requires
+settle-requires g c = record { sound = c.sync.ensures.sound; none = c.in_ok-sync.ensures.none }
+
+pub returns-in_err-sync : goal.returns-in_err-sync
+returns-in_err-sync g c =
+    let p = err_from_is_err_and c.from_residual.result c.from_residual.ensures.1 in
+    let done = c.in_err-sync.ensures in
+    rw (p.1 ∙ ap Err p.2) (record {
+      content = ap (λ (x : Disk). x.content) done.err;
+      synced = tt;
+      alone = tt;
+      safe = tt;
+      plan = c.sync.ensures.plan;
+      time = c.sync.ensures.time;
+      counts = done.counts;
+      sound = c.sync.ensures.sound;
+    })
+
+pub returns : goal.returns
+returns g c =
+    let h = g.B.Blocks.past_of in
+    let old : DiskParts g.row.B.Denot g.row.A.Denot = c.args.self.now in
+    let mid : DiskParts g.row.B.Denot g.row.A.Denot = c.sync.new.self in
+    let new : DiskParts g.row.B.Denot g.row.A.Denot = c.settle.new.self in
+    let first = c.in_ok-sync.ensures in
+    let second = c.settle.ensures in
+    let r = c.settle.result in
+    let disk : (disk_past h new).disk ≡ after_sync (disk_past h old).disk = second.disk ∙ first.ok in
+    let image : Image = (h (journal_in new.now).below).file.content in
+    record {
+      content = ap (λ (x : Disk). x.content) disk;
+      synced = on_ok_always (IsSynced (disk_past h new).disk) r (λ k. ap (λ (x : Disk). x.unsynced k) disk);
+      alone = on_ok (StandsAlone mid.plan image (disk_past h mid).disk.content) (StandsAlone old.plan image (disk_past h old).disk.content) r
+          (λ alone. subst (λ (p : Plan). StandsAlone p image (disk_past h old).disk.content) c.sync.ensures.plan
+          (subst (λ (s : CrashState). StandsAlone mid.plan image s) (ap (λ (x : Disk). x.content) first.ok) alone)) second.alone;
+      safe = second.safe;
+      plan = second.plan ∙ c.sync.ensures.plan;
+      time = elapses_then (disk_past h old) (disk_past h mid) (disk_past h new) c.sync.ensures.time second.time second.disk;
+      counts = counts_later _ _ _ r first.counts.none second.counts;
+      sound = second.sound;
+    }

@@ -1,0 +1,35 @@
+-- A file of a new device.
+use Rattle.std.specs.Prelude.{◌≡◌, ◌⊎◌, ℕ, ◌+◌, ◌*◌, ◌<◌, ◌≤◌, List, replicate}
+use Rattle.sector_device.specs.Values.{zero_sector}
+use Rattle.block_device.specs.Blocks.{Image, zero_block}
+use Rattle.block_device.specs.BlocksPast.{BlocksPast, LeavesOnly}
+use Rattle.block_batch.specs.Batch.{block_digest}
+use Rattle.block_journal.specs.Layout.{recovered}
+use Rattle.block_table.specs.Table.{EachFits}
+use Rattle.block_words.specs.Words.{word}
+use Rattle.block_file.specs.declared.plan.Plan.{Plan}
+use Rattle.block_file.specs.Header.{plan_told}
+use Rattle.block_file.specs.Plans.{disk_image}
+
+-- Where a plan says so, the image has a device of zeros, and each block of data fits its digest. (Its headers may tell
+-- something else.)
+pub record HoldsZeros (p : Plan) (image : Image) : Type 0 where
+  pub zeros : disk_image p image ≡ replicate p.sectors zero_sector
+  pub fits : EachFits p.blocks (recovered p.shape image)
+
+-- Whatever a crash leaves from the one moment to the other has the headers that tell what the file told before, or
+-- holds zeros.
+abbrev pub BecomesZeros : Plan → BlocksPast → BlocksPast → Type 0
+BecomesZeros p old new = LeavesOnly old new
+    (λ image. (plan_told image ≡ plan_told old.file.content) ⊎ HoldsZeros p image)
+
+-- ---- (No public clause cites these.)
+
+-- a block that the journal of a new device keeps: in its table the digests of zeros, and behind that zeros
+pub record IsNewBlock (table k : ℕ) (bytes : List ℕ) : Type 0 where
+  pub row : k < table → (i : ℕ) → i < 512 → word bytes i ≡ block_digest (table + (512 * k + i)) zero_block
+  pub zeros : table ≤ k → bytes ≡ zero_block
+
+-- behind the two headers
+abbrev pub IsBehind : ℕ → Type 0
+IsBehind n = 2 ≤ n

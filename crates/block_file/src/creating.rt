@@ -1,0 +1,69 @@
+//! A file of blocks is made, for a new device.
+ghost use Rattle.std.specs.Prelude.{◌≡◌, ◌≢◌, ℕ, false, replicate, IfErr, IfOk};
+ghost use Rattle.sector_device.specs.Disk.{IsSynced};
+ghost use Rattle.sector_device.specs.DevicePast.{Rises};
+ghost use Rattle.sector_device.specs.Values.{zero_sector};
+ghost use Rattle.block_journal.specs.Layout.{IsInside};
+ghost use Rattle.block_table.specs.Checked.{settled_table};
+ghost use Rattle.block_table.specs.Table.{EachFits};
+ghost use Rattle.block_file.specs.Disks.{disk_past, journal_in};
+ghost use Rattle.block_file.specs.Header.{CanBeTold};
+ghost use Rattle.block_file.specs.Making.{BecomesZeros};
+
+use crate::making::lay_out;
+use crate::opening::{error_of, has_room};
+use crate::{BlockDisk, FileError, Plan, Refused};
+use block_device::Blocks;
+use block_table::CheckedBlocks;
+use std::alloc::Allocator;
+
+/// Makes a file of blocks for a new device, whose sectors are of zeros, as [`lay_out`] does, and opens it. No block of
+/// the file is loose.
+///
+/// It is refused where the file has fewer blocks than the plan asks for, where the file fails, and where memory is
+/// refused. Whatever it answers, a crash at any moment of it leaves headers that tell what they told before, or zeros
+/// behind them (`any_moment`, `refused`).
+pub fn create<B: Blocks, A: Allocator + Copy>(
+    alloc: A,
+    below: B,
+    plan: Plan,
+) -> Result<BlockDisk<B, A>, Refused<B>>
+    requires told { CanBeTold plan }
+    requires synced { (n : ℕ) → (B.past_of below).file.loose n ≡ false }
+    ensures plan { IfOk result (λ d. d.plan ≡ plan) }
+    ensures content { IfOk result (λ d. (disk_past B.past_of d).disk.content
+        ≡ replicate plan.sectors zero_sector) }
+    ensures synced { IfOk result (λ d. IsSynced (disk_past B.past_of d).disk) }
+    ensures fits { IfOk result (λ d. EachFits plan.blocks (settled_table B.past_of d.now.checked)) }
+    ensures any_moment { IfOk result (λ d. BecomesZeros plan (B.past_of below)
+        (B.past_of (journal_in d.now).below)) }
+    ensures refused { IfErr result (λ e. BecomesZeros plan (B.past_of below) (B.past_of e.file)) }
+    ensures too_short { IfErr result (λ e. e.error ≡ FileError.TooShort
+        → ¬ IsInside plan.shape (B.past_of below).file.content) }
+    ensures failed { IfErr result (λ e. e.error ≡ FileError.FileFailed
+        → Rises (B.failures below) (B.failures e.file)) }
+    ensures header { IfErr result (λ e. e.error ≢ FileError.NoHeader) }
+    ensures batch { IfErr result (λ e. e.error ≢ FileError.NoBatch) }
+    ensures undamaged { IfErr result (λ e. (n : ℕ) → e.error ≢ FileError.Damaged n) }
+{
+    let mut below = below;
+    if !has_room(&below, plan) {
+        return Err(Refused {
+            file: below,
+            error: FileError::TooShort,
+        });
+    }
+    if lay_out(&mut below, plan).is_err() {
+        return Err(Refused {
+            file: below,
+            error: FileError::FileFailed,
+        });
+    }
+    match CheckedBlocks::open(alloc, below, plan.shape, plan.blocks) {
+        Ok(checked) => Ok(BlockDisk::over(checked, plan)),
+        Err(refused) => Err(Refused {
+            file: refused.file,
+            error: error_of(refused.error),
+        }),
+    }
+}
