@@ -1,0 +1,100 @@
+//! A file of the system is opened as one of blocks.
+ghost use Rattle.std.specs.Prelude.{◌≡◌, ◌≢◌, false, replicate, IfOk};
+ghost use Rattle.sector_device.specs.Disk.{IsSynced};
+ghost use Rattle.sector_device.specs.Values.{zero_sector};
+ghost use Rattle.block_device.specs.Blocks.{zero_block};
+ghost use Rattle.block_file.specs.Disks.{disk_failures, disk_past};
+ghost use Rattle.block_file.specs.Header.{CanBeTold};
+ghost use Rattle.block_host.specs.FileBlocks.{past_of, failures_of, has_failed_of, IsFileSynced};
+
+use crate::error::DiskError;
+use crate::mirror::FileBlocks;
+use crate::passing::SECTORS;
+use block_file::{BlockDisk, Plan};
+use sector_device::Device;
+use std::alloc::Allocator;
+use std::rt::Files;
+use store_file::{HostFile, OpenError, StoreFile};
+
+/// A device in a file of the system.
+pub type HostDisk<H, A> = BlockDisk<FileBlocks<HostFile<H>, A>, A>;
+
+/// Opens the file at the path as one of blocks, which are to be safe: what was read is written back, and synced. The
+/// refusals are those of [`store_file::open`], and so is the lock. Sectors behind the last whole block are left alone.
+pub fn open<R: Files, A: Allocator + Copy>(
+    rt: &R,
+    alloc: A,
+    path: &str,
+) -> Result<FileBlocks<HostFile<R::File>, A>, OpenError>
+where
+    R::File: StoreFile,
+    ensures synced { IfOk result (λ b. IsFileSynced b) }
+    ensures failures { IfOk result (λ b. failures_of b ≡ 0) }
+    ensures sound { IfOk result (λ b. has_failed_of b ≡ false) }
+{
+    let disk = store_file::open(rt, alloc, path)?;
+    let blocks = disk.sectors() / SECTORS;
+    FileBlocks::over(alloc, disk.into_below(), blocks as usize)
+}
+
+/// Makes a file of so many blocks of zeros, all of them safe, under the name `PATH.new`: [`store_file::publish`] gives
+/// it its own, and [`store_file::discard`] removes it. The refusals are those of [`store_file::create`].
+pub fn create<R: Files + AllocGlobal, A: Allocator + Copy>(
+    rt: &R,
+    alloc: A,
+    path: &str,
+    blocks: u64,
+) -> Result<FileBlocks<HostFile<R::File>, A>, OpenError>
+where
+    R::File: StoreFile,
+    ensures zeros { IfOk result (λ b. (past_of b).file.content ≡ replicate blocks zero_block) }
+    ensures synced { IfOk result (λ b. IsFileSynced b) }
+    ensures failures { IfOk result (λ b. failures_of b ≡ 0) }
+    ensures sound { IfOk result (λ b. has_failed_of b ≡ false) }
+{
+    let disk = store_file::create(rt, alloc, path, blocks.saturating_mul(SECTORS))?;
+    Ok(FileBlocks::new(alloc, disk.into_below(), blocks as usize)?)
+}
+
+/// Opens the device in the file at the path.
+pub fn open_disk<R: Files, A: Allocator + Copy>(
+    rt: &R,
+    alloc: A,
+    path: &str,
+) -> Result<HostDisk<R::File, A>, DiskError>
+where
+    R::File: StoreFile,
+    ensures synced { IfOk result (λ d. IsSynced (disk_past past_of d).disk) }
+{
+    let below = open(rt, alloc, path)?;
+    match block_file::open(alloc, below) {
+        Ok(disk) => Ok(disk),
+        Err(refused) => Err(DiskError::File(refused.error)),
+    }
+}
+
+/// Makes a file, as [`create`] does, and in it a device of zeros. Where it is refused, no file is left, if that can be
+/// removed.
+pub fn create_disk<R: Files + AllocGlobal, A: Allocator + Copy>(
+    rt: &R,
+    alloc: A,
+    path: &str,
+    plan: Plan,
+) -> Result<HostDisk<R::File, A>, DiskError>
+where
+    R::File: StoreFile,
+    requires { CanBeTold plan }
+    ensures plan { IfOk result (λ d. d.plan ≡ plan) }
+    ensures zeros { IfOk result (λ d. (disk_past past_of d).disk.content ≡ replicate plan.sectors zero_sector) }
+    ensures synced { IfOk result (λ d. IsSynced (disk_past past_of d).disk) }
+{
+    let below = create(rt, alloc, path, plan.file_blocks())?;
+    match block_file::create(alloc, below, plan) {
+        Ok(disk) => Ok(disk),
+        Err(refused) => {
+            let error = refused.error;
+            let _ = store_file::discard(rt, path);
+            Err(DiskError::File(error))
+        }
+    }
+}

@@ -1,0 +1,35 @@
+// Runs of blocks.
+ghost use Rattle.std.specs.Prelude.{◌≡◌, ◌+◌, ◌≤◌, length};
+ghost use Rattle.block_device.specs.Blocks.{IsBlock, IsWhole, with_run, zero_block};
+
+use block_device::BLOCK_SIZE;
+
+/// A block of zeros.
+pub(crate) fn zero_block() -> [u8; BLOCK_SIZE]
+    ensures { result ≡ zero_block }
+{
+    [0; BLOCK_SIZE]
+}
+
+// A block of these bytes.
+fn block_of(bytes: &[u8; BLOCK_SIZE]) -> [u8; BLOCK_SIZE]
+    ensures value { result ≡ bytes.now }
+    ensures whole { IsBlock result }
+{
+    let mut block = [0; BLOCK_SIZE];
+    block.copy_from_slice(bytes);
+    block
+}
+
+/// Puts blocks over those from the first on.
+pub(crate) fn put_run(content: &mut [[u8; BLOCK_SIZE]], first: usize, run: &[[u8; BLOCK_SIZE]])
+    requires { first + length run.now ≤ length content.old }
+    ensures content { content.new ≡ with_run content.old first run.now }
+    ensures whole { IsWhole content.old → IsWhole content.new }
+    ensures run { IsWhole run.now }
+    ensures size { length content.new ≡ length content.old }
+{
+    for i in 0..run.len() {
+        content[first + i] = block_of(&run[i]);
+    }
+}
