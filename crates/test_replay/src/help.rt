@@ -1,10 +1,11 @@
 // What help prints. The launcher reads it here, and a test compares it with the program. And what is told of words that
 // can't be read.
+use crate::program::run;
 use program_crash_map::refuse_words;
-use program_player::run;
+use std::alloc::{AllocError, Global};
 use std::io;
 use std::io::ErrorKind;
-use std::test::Fail;
+use std::process::Abort;
 
 const HELP: &str =
     "Runs a script of commands on a store of a simulated disk, and prints each answer; with --crash-map [--svg FILE], what a stop at each write and sync leaves
@@ -22,31 +23,38 @@ Options:
   -V, --version      Print version
 ";
 
+static WORDS: [&str; 2] = ["nsf-replay", "--help"];
+
 #[test]
-fn help_is_what_the_launcher_prints(rt: HostRuntime) -> Result<(), Fail> {
-    let mut input: &[u8] = b"";
-    let mut output = Vec::new(rt.alloc());
-    let mut errors = Vec::new(rt.alloc());
-    let words = &["nsf-replay", "--help"];
-    let status = run(rt.alloc(), words, &mut input, &mut output, &mut errors);
-    assert_eq!(rt; output.as_slice(), HELP.as_bytes());
-    assert_eq!(rt; status, 0);
+fn help_is_what_the_launcher_prints(rt: HostRuntime) -> Result<(), AllocError> {
+    let printed = run(&rt, &WORDS, b"".as_slice())?;
+    let is_help = printed.text() == HELP && printed.status == 0;
+    drop(printed);
+    assert!(rt; is_help);
     Ok(())
 }
 
+// Where the words can't be read for this, the program ends with this status, and prints and says this.
+fn check_refusal(
+    rt: &impl Abort,
+    alloc: Global,
+    kind: ErrorKind,
+    (wanted, told, complained): (u8, &str, &str),
+) {
+    let mut output = Vec::new(alloc);
+    let mut errors = Vec::new(alloc);
+    let status = refuse_words(io::Error::from(kind), &mut output, &mut errors);
+    let is_told = output.as_slice() == told.as_bytes();
+    let is_complained = errors.as_slice() == complained.as_bytes();
+    drop(output);
+    drop(errors);
+    assert!(rt; status == wanted && is_told && is_complained);
+}
+
 #[test]
-fn words_that_cannot_be_read(rt: HostRuntime) -> Result<(), Fail> {
-    let cases: [(ErrorKind, u8, &str, &str); 2] = [
-        (ErrorKind::InvalidData, 2, "", "error: a word isn't text\n"),
-        (ErrorKind::OutOfMemory, 1, "refused 1 NoMemory\n", ""),
-    ];
-    for (kind, wanted, told, complained) in cases {
-        let mut output = Vec::new(rt.alloc());
-        let mut errors = Vec::new(rt.alloc());
-        let status = refuse_words(io::Error::from(kind), &mut output, &mut errors);
-        assert_eq!(rt; status, wanted);
-        assert_eq!(rt; output.as_slice(), told.as_bytes());
-        assert_eq!(rt; errors.as_slice(), complained.as_bytes());
-    }
-    Ok(())
+fn words_that_cannot_be_read(rt: HostRuntime) {
+    let bad = (2, "", "error: a word isn't text\n");
+    check_refusal(&rt, rt.alloc(), ErrorKind::InvalidData, bad);
+    let short = (1, "refused 1 NoMemory\n", "");
+    check_refusal(&rt, rt.alloc(), ErrorKind::OutOfMemory, short);
 }

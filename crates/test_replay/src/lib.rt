@@ -6,4 +6,6 @@
 #[cfg(test)]
 mod help;
 #[cfg(test)]
+mod program;
+#[cfg(test)]
 mod tests;

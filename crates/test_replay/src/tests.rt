@@ -1,79 +1,67 @@
-//! Allocations that are refused: the tests of this file hold whichever one is, and none passes without its comparison.
-use program_crash_map::{CrashMap, write_table};
-use program_player::run;
-use program_values::Arguments;
-use sector_device::Fate;
+// Allocations that are refused: the tests of this file hold whichever one is, and none passes without its comparison.
+use crate::program::{Printed, run};
 use std::alloc::{AllocError, Global};
 use std::fs::Files;
-use std::io;
 use std::process::Abort;
-use std::str::from_utf8;
-use std::test::Fail;
-
-// Room for what a test expects: the output takes no memory while the program runs.
-const OUTPUT_MAX: usize = 4096;
 
 // Each command stands twice, so that the second does what the first could not.
-const COMMIT: [&str; 10] = [
-    "begin",
-    "begin",
-    "insert 1 =ant =x",
-    "insert 1 =ant =x",
-    "commit 1",
-    "commit 1",
-    "flush",
-    "flush",
-    "crash junk",
-    "get 0.0",
-];
+const COMMIT: &str = "begin
+begin
+insert 1 =ant =x
+insert 1 =ant =x
+commit 1
+commit 1
+flush
+flush
+crash junk
+get 0.0
+";
 
-const ROLLBACK: [&str; 18] = [
-    "begin",
-    "insert 1 =p =1",
-    "commit 1",
-    "begin",
-    "update 2 0.0 =q =2",
-    "update 2 0.0 =q =2",
-    "begin",
-    "delete 3 0.0",
-    "step 2",
-    "undo 2",
-    "undo 2",
-    "undo 2",
-    "end 2",
-    "end 2",
-    "delete 3 0.0",
-    "delete 3 0.0",
-    "flush",
-    "get 0.0",
-];
+const ROLLBACK: &str = "begin
+insert 1 =p =1
+commit 1
+begin
+update 2 0.0 =q =2
+update 2 0.0 =q =2
+begin
+delete 3 0.0
+step 2
+undo 2
+undo 2
+undo 2
+end 2
+end 2
+delete 3 0.0
+delete 3 0.0
+flush
+get 0.0
+";
 
-const INDEX: [&str; 24] = [
-    "begin",
-    "insert 1 =k =",
-    "commit 1",
-    "commit 1",
-    "create",
-    "create",
-    "build",
-    "build",
-    "build",
-    "build",
-    "find =k",
-    "find =k",
-    "begin",
-    "begin",
-    "update 2 0.0 =m =",
-    "update 2 0.0 =m =",
-    "step 2",
-    "step 2",
-    "step 2",
-    "commit 2",
-    "commit 2",
-    "clean",
-    "clean",
-    "clean",
-];
+const INDEX: &str = "begin
+insert 1 =k =
+commit 1
+commit 1
+create
+create
+build
+build
+build
+build
+find =k
+find =k
+begin
+begin
+update 2 0.0 =m =
+update 2 0.0 =m =
+step 2
+step 2
+step 2
+commit 2
+commit 2
+clean
+clean
+clean
+";
 
 // A commit that is flushed. A flush makes seven writes, a sync, the write of the gate, and a sync.
 const FLUSHED: &[u8] = b"begin\ninsert 1 =ant =x\ncommit 1\nflush\n";
@@ -90,126 +78,127 @@ prefix 1
   life none
 ";
 
-// The least store.
-const LEAST: Arguments = Arguments {
-    pages: 1,
-    entries: 64,
-    slots: 4,
-    sectors: None,
-    stop: None,
-    fate: Fate::Old,
-};
+const NO_MEMORY: &str = "refused 1 NoMemory\n";
 
-// The lines that the program prints for the commands but for one, and its status.
-fn lines_without(
-    alloc: Global,
-    commands: &[&str],
-    skipped: Option<usize>,
-) -> Result<(Vec<String>, u8), AllocError> {
-    let mut script = Vec::new(alloc);
-    for (i, command) in commands.iter().enumerate() {
-        if Some(i) != skipped {
-            script.extend_from_slice(command.as_bytes())?;
-            script.push(b'\n')?;
+static NAME: [&str; 1] = ["nsf-replay"];
+
+static MAP: [&str; 2] = ["nsf-replay", "--crash-map"];
+
+// The script without the line of this number, from 0.
+fn script_without(alloc: Global, script: &str, skipped: usize) -> Result<Vec<u8>, AllocError> {
+    let mut others = Vec::new(alloc);
+    for (n, line) in script.lines().enumerate() {
+        if n != skipped {
+            others.extend_from_slice(line.as_bytes())?;
+            others.push(b'\n')?;
         }
     }
-    let mut input = script.as_slice();
-    let mut output = Vec::with_capacity(alloc, OUTPUT_MAX)?;
-    let mut errors = Vec::new(alloc);
-    let status = run(alloc, &["nsf-replay"], &mut input, &mut output, &mut errors);
-    let mut lines = Vec::new(alloc);
-    for line in from_utf8(&output).unwrap_or("no text").lines() {
-        lines.push(String::from_str(alloc, line)?)?;
-    }
-    Ok((lines, status))
+    Ok(others)
 }
 
-// Expects that a refused command changed nothing: the other answers are those of the script
-// without it. An allocation of its own that is refused is its error.
-fn compare(rt: &(impl Abort + AllocGlobal), commands: &[&str]) -> Result<(), AllocError> {
-    let (lines, status) = lines_without(rt.alloc(), commands, None)?;
-    let refused = lines
-        .iter()
-        .position(|line| line.as_str() == "refused 1 NoMemory");
-    match refused {
-        None => {
-            assert_eq!(rt; status, 0);
-            assert_eq!(rt; lines.len(), commands.len());
-        }
-        Some(at) if status == 1 => assert_eq!(rt; lines.len(), at + 1),
-        Some(at) => {
-            let (others, status) = lines_without(rt.alloc(), commands, Some(at))?;
-            assert_eq!(rt; status, 0);
-            assert_eq!(rt; lines.len(), commands.len());
-            assert_eq!(rt; others.len() + 1, commands.len());
-            for (i, line) in others.iter().enumerate() {
-                let j = if i < at { i } else { i + 1 };
-                assert!(rt; Some(line) == lines.get(j));
-            }
-        }
+// What the program prints for the script without the line of this number.
+fn printed_without<R: Files + AllocGlobal>(
+    rt: &R,
+    script: &str,
+    skipped: usize,
+) -> Result<Printed, AllocError> {
+    let others = script_without(rt.alloc(), script, skipped)?;
+    let printed = run(rt, &NAME, &others);
+    drop(others);
+    printed
+}
+
+// Whether both parts were printed, and no more.
+fn is_both(printed: &Printed, before: &str, behind: &str) -> bool {
+    match printed.text().strip_prefix(before) {
+        Some(rest) => rest == behind && printed.status == 0,
+        None => false,
     }
+}
+
+// The other answers are those of the script without the command that was refused.
+fn compare_others<R: Abort + Files + AllocGlobal>(
+    rt: &R,
+    script: &str,
+    (before, behind): (&str, &str),
+) -> Result<(), AllocError> {
+    let others = printed_without(rt, script, before.lines().count())?;
+    let is_same = is_both(&others, before, behind);
+    drop(others);
+    assert!(rt; is_same);
     Ok(())
+}
+
+// What stands before a refusal for want of memory, and behind it, if there is one.
+fn parts_of(printed: &Printed) -> Option<(&str, &str)> {
+    printed.text().split_once(NO_MEMORY)
+}
+
+// Whether the program was refused memory for its own, and ended with that.
+fn ends_refused(printed: &Printed) -> bool {
+    printed.status == 1 && printed.text().ends_with(NO_MEMORY)
+}
+
+// Whether each line of the script has its answer.
+fn answers_each(printed: &Printed, script: &str) -> bool {
+    printed.status == 0 && printed.text().lines().count() == script.lines().count()
+}
+
+// Expects that a refused command changed nothing. An allocation of its own that is refused is its error.
+fn compare_printed<R: Abort + Files + AllocGlobal>(
+    rt: &R,
+    script: &str,
+    printed: &Printed,
+) -> Result<(), AllocError> {
+    if ends_refused(printed) {
+        return Ok(());
+    }
+    assert!(rt; answers_each(printed, script));
+    match parts_of(printed) {
+        Some(parts) => compare_others(rt, script, parts),
+        None => Ok(()),
+    }
+}
+
+fn compare<R: Abort + Files + AllocGlobal>(rt: &R, script: &str) -> Result<(), AllocError> {
+    let printed = run(rt, &NAME, script.as_bytes())?;
+    let compared = compare_printed(rt, script, &printed);
+    drop(printed);
+    compared
 }
 
 // The same, once more where an allocation of the test's own was refused: at most one is.
-fn compare_twice(rt: &(impl Abort + AllocGlobal), commands: &[&str]) -> Result<(), AllocError> {
-    match compare(rt, commands) {
+fn compare_twice<R: Abort + Files + AllocGlobal>(rt: &R, script: &str) -> Result<(), AllocError> {
+    match compare(rt, script) {
         Ok(()) => Ok(()),
-        Err(_) => compare(rt, commands),
+        Err(_) => compare(rt, script),
     }
 }
 
 #[test]
-fn a_refused_command_changes_nothing(rt: HostRuntime) -> Result<(), Fail> {
-    for commands in [&COMMIT[..], &ROLLBACK[..], &INDEX[..]] {
-        compare_twice(&rt, commands)?;
+fn a_refused_command_changes_nothing(rt: HostRuntime) -> Result<(), AllocError> {
+    compare_twice(&rt, COMMIT)?;
+    compare_twice(&rt, ROLLBACK)?;
+    compare_twice(&rt, INDEX)
+}
+
+// Whether the program printed the map; else there was no memory for it, and it said so.
+fn prints_map<R: Abort + Files + AllocGlobal>(rt: &R) -> Result<bool, AllocError> {
+    let printed = run(rt, &MAP, FLUSHED)?;
+    let is_map = printed.status == 0;
+    let wanted = if is_map { FLUSHED_MAP } else { NO_MEMORY };
+    let is_wanted = printed.text() == wanted && printed.status <= 1;
+    drop(printed);
+    assert!(rt; is_wanted);
+    Ok(is_map)
+}
+
+// What a stop leaves of a commit is it or nothing. Where memory was refused, the program prints the map the next time:
+// at most one allocation is.
+#[test]
+fn a_map_or_no_memory(rt: HostRuntime) -> Result<(), AllocError> {
+    if !prints_map(&rt).unwrap_or(false) {
+        assert!(rt; prints_map(&rt)?);
     }
-    Ok(())
-}
-
-// The map of the script, as it is printed.
-fn map_of(alloc: Global, script: &[u8]) -> io::Result<String> {
-    let map = CrashMap::new(alloc, &LEAST, script)?;
-    let mut output = Vec::new(alloc);
-    write_table(&mut output, &map)?;
-    let text = from_utf8(&output).unwrap_or("no text");
-    Ok(String::from_str(alloc, text)?)
-}
-
-#[test]
-fn a_stop_leaves_a_commit_or_nothing(rt: HostRuntime) -> Result<(), Fail> {
-    let map = match map_of(rt.alloc(), FLUSHED) {
-        Ok(map) => map,
-        Err(_) => map_of(rt.alloc(), FLUSHED)?,
-    };
-    assert_eq!(rt; map.as_str(), FLUSHED_MAP);
-    Ok(())
-}
-
-// What the program prints where a map is asked for, and its status. The output takes no memory while it runs.
-fn mapped<R: Files + AllocGlobal>(rt: &R) -> Result<(Vec<u8>, u8), AllocError> {
-    let alloc = rt.alloc();
-    let mut input = FLUSHED;
-    let mut output = Vec::with_capacity(alloc, OUTPUT_MAX)?;
-    let mut errors = Vec::new(alloc);
-    let words = ["nsf-replay", "--crash-map"];
-    let status = program_crash_map::run(rt, alloc, &words, &mut input, &mut output, &mut errors);
-    Ok((output, status))
-}
-
-// The map, or that there was no memory for it.
-#[test]
-fn a_map_or_no_memory(rt: HostRuntime) -> Result<(), Fail> {
-    let (output, status) = match mapped(&rt) {
-        Ok(made) => made,
-        Err(_) => mapped(&rt)?,
-    };
-    let text = from_utf8(&output)?;
-    let wanted = if status == 0 {
-        FLUSHED_MAP
-    } else {
-        "refused 1 NoMemory\n"
-    };
-    assert!(rt; status <= 1 && text == wanted, "{status}: {text}");
     Ok(())
 }
