@@ -522,6 +522,13 @@ impl<B: Group, A: Memory> Locked<B, A> {
         self.core.find(key)
     }
 
+    /// The core, to be read.
+    pub fn core(&self) -> &Core<A>
+        ensures { value_of result.now ≡ (locked_of self.now).core }
+    {
+        &self.core
+    }
+
     /// How far the index is.
     pub fn life(&self) -> Life
         ensures life { result ≡ (locked_of self.now).core.life }
