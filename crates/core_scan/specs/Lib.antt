@@ -1,3 +1,4 @@
 pub mod Ranges
 pub mod Visible
 pub mod Readings
+pub mod Answered

@@ -11,6 +11,8 @@
 //! what was left before it (`each_page`). Pages are read one behind another, and the index may change between them: no
 //! pair comes twice, and each that was visible throughout has come (`each_reading`).
 //!
+//! `IsPageOf` and `IsCountOf` say of an answer what the two calls do, for whoever hands it on.
+//!
 //! Neither: that a page is answered where there is memory, how many entries are looked at, and time.
 #![tactic(auto)]
 
