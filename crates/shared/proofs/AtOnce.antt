@@ -1,7 +1,7 @@
 -- A transaction of one change in one hold of the lock.
 use Rattle.std.proofs.Common.{◌≡◌, ◌++◌, ◌∷◌, ◌&&◌, ◌==◌, [], List, ℕ, zero, suc, ◌+◌, Bool, true, false, cond, not, eqb, eq-eqb, replicate, Option, Some, None}
-use Rattle.std.proofs.Common.{is_some, Result, Ok, Err, IfOk, IfErr, OnOk, OnErr, refl, sym, ap, subst, ◌∙◌}
-use Rattle.std.proofs.Math.Logic.{∥∥₁_elim, ∥∥₁_map}
+use Rattle.std.proofs.Common.{inr, is_some, Result, Ok, Err, IfOk, IfErr, OnOk, OnErr, refl, sym, ap, subst, ◌∙◌}
+use Rattle.std.proofs.Math.Logic.{∥∥₁_elim, ∥∥₁_map, ∥∥₁_map₂}
 use Rattle.std.specs.FinMap.{get}
 use Rattle.std.specs.Option.{option_map}
 use Rattle.std.specs.Prelude.{slice_get, unwrap_or}
@@ -26,8 +26,11 @@ use Rattle.threads_register.specs.Agreement.{active_in, Agree, IsRegister, row_a
 use Rattle.threads_sessions.specs.Steps.{begun, change_seen, changed, committed, ended, rolling_back, row_now, rows_now, step_seen, stepped, taken_back}
 use Rattle.threads_sessions.specs.Values.{active_of, ActiveValue, can_go_on, is_active, is_ready, is_unfinished, new_active, rows_of, SessionValue, with_active}
 use Rattle.threads_sessions.specs.Values.{with_write, without}
-use Rattle.shared.specs.AtOnce.{AreRefused, AreServed, at_commit, IsChanging, IsLeft, last_calls, with_commit}
+use Rattle.shared.specs.AtOnce.{answer_of, AreRefused, AreServed, at_commit, event_of, HasStarted, IsChanging, IsLeft, last_calls, TakesBack, undo_calls}
+use Rattle.shared.specs.AtOnce.{WasLeft, with_commit}
 use Rattle.shared.specs.Changed.{IsUnderWay, row_of}
+use Rattle.shared.specs.declared.one_change.OneChange.{OneChange}
+use Rattle.shared.specs.declared.one_change.OneChange.TheVariants.{Put, Remove, Replace}
 use Rattle.shared.proofs.Advances.{deleted, due, followed, inserted, updated}
 use Rattle.shared.proofs.Lookups.{others_stay, still_active}
 use Rattle.shared.proofs.Made.{not_none}
@@ -53,15 +56,29 @@ on_err_then X Y (Err e) f x = f x
 
 -- ---- calls, one after another
 
+-- one more of some calls that are alike, or another call behind them
+module _ (e : Event) (reply : Reply) where
+  pub calls_more : (n : ℕ) (a b c : CoreValue) → AreServed a (replicate n (e, reply)) b → Serves b e reply c → AreServed a (replicate (suc n) (e, reply)) c
+  calls_more zero a b c same sv = (c, subst (λ (x : CoreValue). Serves x e reply c) same sv, refl)
+  calls_more (suc n) a b c some sv = (some.0, some.1, calls_more n some.0 b c some.2 sv)
+
+  pub then_call : (n : ℕ) (last : Event) (answer : Reply) (a b c : CoreValue) → AreServed a (replicate n (e, reply)) b → Serves b last answer c
+      → AreServed a (replicate n (e, reply) ++ (last, answer) ∷ []) c
+  then_call zero last answer a b c same sv = (c, subst (λ (x : CoreValue). Serves x last answer c) same sv, refl)
+  then_call (suc n) last answer a b c some sv = (some.0, some.1, then_call n last answer some.0 b c some.2 sv)
+
+-- calls behind calls
+pub joined_calls : (first next : List (Event × Reply)) (a b c : CoreValue) → AreServed a first b → AreServed b next c → AreServed a (first ++ next) c
+joined_calls [] next a b c same more = subst (λ (x : CoreValue). AreServed x next c) same more
+joined_calls (call ∷ first) next a b c some more = (some.0, some.1, joined_calls first next some.0 b c some.2 more)
+
 pub steps_more : (t n : ℕ) (a b c : CoreValue) → AreServed a (replicate n (Event.Step t, Stepped)) b → Serves b (Event.Step t) Stepped c
     → AreServed a (replicate (suc n) (Event.Step t, Stepped)) c
-steps_more t zero a b c same sv = (c, subst (λ (x : CoreValue). Serves x (Event.Step t) Stepped c) same sv, refl)
-steps_more t (suc n) a b c some sv = (some.0, some.1, steps_more t n some.0 b c some.2 sv)
+steps_more t = calls_more (Event.Step t) Stepped
 
 pub then_last : (t n : ℕ) (e : Event) (reply : Reply) (a b c : CoreValue) → AreServed a (replicate n (Event.Step t, Stepped)) b → Serves b e reply c
     → AreServed a (last_calls t n e reply) c
-then_last t zero e reply a b c same sv = (c, subst (λ (x : CoreValue). Serves x e reply c) same sv, refl)
-then_last t (suc n) e reply a b c some sv = (some.0, some.1, then_last t n e reply some.0 b c some.2 sv)
+then_last t = then_call (Event.Step t) Stepped
 
 module _ (t : ℕ) (a b c : CoreValue) (steps : ∥ ((n : ℕ) × AreServed a (replicate n (Event.Step t, Stepped)) b) ∥₁) where
   pub commit_served : (r : Result Ticket Error) → Serves b (Event.Commit t) (reply_by reply_of_ticket r) c
@@ -70,11 +87,57 @@ module _ (t : ℕ) (a b c : CoreValue) (steps : ∥ ((n : ℕ) × AreServed a (r
   commit_served (Err e) sv = tt
 
   pub commit_refused : (r : Result Ticket Error) → Serves b (Event.Commit t) (reply_by reply_of_ticket r) c
-      → IfErr r (λ e. (first : Event) (reply : Reply) → ∥ ((calls : List (Event × Reply)) × AreRefused t first e ((first, reply) ∷ calls)
-      × AreServed a calls c) ∥₁)
+      → IfErr r (λ e. (first : Event) (reply : Reply) → HasStarted first reply
+      → ∥ ((calls : List (Event × Reply)) × AreRefused t first e ((first, reply) ∷ calls) × AreServed a calls c) ∥₁)
   commit_refused (Ok ticket) sv = tt
-  commit_refused (Err e) sv = λ first reply. ∥∥₁_map steps (λ s.
-      (last_calls t s.0 (Event.Commit t) (Refused e), at_commit t first e reply s.0, then_last t s.0 (Event.Commit t) (Refused e) a b c s.1 sv))
+  commit_refused (Err e) sv = λ first reply started. ∥∥₁_map steps (λ s.
+      (last_calls t s.0 (Event.Commit t) (Refused e), at_commit t first e reply s.0 started, then_last t s.0 (Event.Commit t) (Refused e) a b c s.1 sv))
+
+-- the first step of a change that was made had its answer
+pub change_started : (asked : OneChange) (t : ℕ) (rid : Place) → HasStarted (event_of asked t) (answer_of asked rid)
+change_started (Put key body) t rid = (rid, refl)
+change_started (Remove place) t rid = refl
+change_started (Replace place key body) t rid = refl
+
+-- a transaction whose end was refused, behind the steps that took it back
+pub end_refused : {T : Type 0} (t : ℕ) (a b c : CoreValue) → ∥ ((n : ℕ) × AreServed a (replicate n (Event.Undo t, Reply.Undone)) b) ∥₁ → (r : Result T Error)
+    → Serves b (Event.End t) (reply_by (λ (x : T). Reply.Ended) r) c
+    → IfErr r (λ e. ∥ ((n : ℕ) × (last : Event) × TakesBack t last × AreServed a (undo_calls t n last (Refused e)) c) ∥₁)
+end_refused t a b c undone (Ok x) sv = tt
+end_refused t a b c undone (Err e) sv = ∥∥₁_map undone (λ u.
+    (u.0, Event.End t, inr refl, then_call (Event.Undo t) Reply.Undone u.0 (Event.End t) (Refused e) a b c u.1 sv))
+
+-- a transaction of which a call was refused, and that could not be taken back
+module _ (o : Opened) (seat : ℕ) (p : SessionValue) (change : ℕ → Event) (t : ℕ) (e why : Error) (was begun after new : CoreValue)
+    (pushed : List RecordValue) (book : List SessionValue) where
+  abbrev WasMadeSoFar : Type 0
+  WasMadeSoFar = (calls : List (Event × Reply)) × AreRefused t (change t) e calls × AreServed begun calls after
+
+  abbrev WasTakenSoFar : Type 0
+  WasTakenSoFar = (n : ℕ) × (last : Event) × TakesBack t last × AreServed after (undo_calls t n last (Refused why)) new
+
+  pub was_left : ∥ IsShared o was pushed book ∥₁ → slice_get book seat ≡ Some p → Serves was Event.Begin (Reply.Txn t) begun
+      → ∥ ((calls : List (Event × Reply)) × AreRefused t (change t) e calls × AreServed begun calls after) ∥₁
+      → ∥ ((n : ℕ) × (last : Event) × TakesBack t last × AreServed after (undo_calls t n last (Refused why)) new) ∥₁ → ∥ WasLeft o seat p change e t ∥₁
+  was_left shared here begins made taken =
+      let both : ∥ (WasMadeSoFar × WasTakenSoFar) ∥₁ = ∥∥₁_map₂ made taken (λ (m : WasMadeSoFar) (b : WasTakenSoFar). (m, b)) in
+      ∥∥₁_map₂ shared both (λ all (x : WasMadeSoFar × WasTakenSoFar). record {
+        calls = x.0.0;
+        refused = x.0.1;
+        undone = x.1.0;
+        last = x.1.1;
+        takes_back = x.1.2;
+        why = why;
+        served = record {
+          core = was;
+          new = new;
+          pushed = pushed;
+          book = book;
+          shared = all;
+          here = here;
+          served = (begun, begins, joined_calls x.0.0 (undo_calls t x.1.0 x.1.1 (Refused why)) begun after new x.0.2 x.1.3);
+        };
+      })
 
 -- ---- a transaction that has just begun
 

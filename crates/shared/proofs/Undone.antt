@@ -61,6 +61,11 @@ module _ (o : Opened) (core new : CoreValue) (pushed : List RecordValue) (book :
   is_step all left Step serves = refl
   is_step all left Empty serves = absurd (left (nothing_left all serves))
 
+  -- and so it is served
+  pub undo_served : IsShared o core pushed book → (HasNoChange (txn_shown core t) → ⊥) → (u : Undone) → Serves core (Event.Undo t) (undone_reply u) new
+      → Serves core (Event.Undo t) Reply.Undone new
+  undo_served all left u serves = subst (λ reply. Serves core (Event.Undo t) reply new) (is_step all left u serves) serves
+
   pub was_undone : ∥ IsShared o core pushed book ∥₁ → (seat : ℕ) (p q : SessionValue) → slice_get book seat ≡ Some p → (HasNoChange (txn_shown core t) → ⊥)
       → (u : Undone) → Serves core (Event.Undo t) (undone_reply u) new
       → q ≡ rolling_back p new t → ∥ WasUndone o seat p t q ∥₁
@@ -72,7 +77,7 @@ module _ (o : Opened) (core new : CoreValue) (pushed : List RecordValue) (book :
       book = book;
       shared = all;
       here = there;
-      serves = subst (λ reply. Serves core (Event.Undo t) reply new) (is_step all left u serves) serves;
+      serves = undo_served all left u serves;
     };
     session = is;
   })

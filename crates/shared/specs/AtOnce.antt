@@ -5,7 +5,7 @@ use Rattle.record_values.specs.Values.{Place}
 use Rattle.record_values.specs.declared.error.Error.{Error}
 use Rattle.record_values.specs.declared.row.Row.{Row}
 use Rattle.model.specs.declared.write.Write.{Write}
-use Rattle.core_model.specs.Events.{Event, Refused, Reply, Stepped}
+use Rattle.core_model.specs.Events.{Event, Refused, Reply, Stepped, Undone}
 use Rattle.core_model.specs.Histories.{Opened}
 use Rattle.core_parts.specs.Replies.{reply_of_ticket}
 use Rattle.core_parts.specs.View.{CoreValue, Serves}
@@ -52,12 +52,17 @@ pub record WasMade (o : Opened) (seat : ℕ) (session : SessionValue) (change : 
   pub calls : WereServedTo o seat session ((Event.Begin, Reply.Txn txn) ∷ (change txn, reply)
       ∷ last_calls txn steps (Event.Commit txn) (reply_of_ticket ticket))
 
+-- the reply to the first step of a change that is made: the place of an insertion, or that it is made
+abbrev pub HasStarted : Event → Reply → Type 0
+HasStarted (Event.Insert txn row) reply = (rid : Place) × (reply ≡ Reply.Rid rid)
+HasStarted _ reply = reply ≡ Stepped
+
 -- the calls of a transaction that began, the last of which was refused: its change, a further step or its commit
 pub data AreRefused : (txn : ℕ) → Event → Error → List (Event × Reply) → Type 0 where
   at_change : (txn : ℕ) (e : Event) (error : Error) → AreRefused txn e error ((e, Refused error) ∷ [])
-  at_step : (txn : ℕ) (e : Event) (error : Error) (reply : Reply) (steps : ℕ)
+  at_step : (txn : ℕ) (e : Event) (error : Error) (reply : Reply) (steps : ℕ) → HasStarted e reply
       → AreRefused txn e error ((e, reply) ∷ last_calls txn steps (Event.Step txn) (Refused error))
-  at_commit : (txn : ℕ) (e : Event) (error : Error) (reply : Reply) (steps : ℕ)
+  at_commit : (txn : ℕ) (e : Event) (error : Error) (reply : Reply) (steps : ℕ) → HasStarted e reply
       → AreRefused txn e error ((e, reply) ∷ last_calls txn steps (Event.Commit txn) (Refused error))
 
 -- To begin was refused, or one of those calls.
@@ -65,6 +70,27 @@ abbrev pub WasRefused : Opened → (seat : ℕ) → SessionValue → (change : �
 WasRefused o seat session change error = WereServedTo o seat session ((Event.Begin, Refused error) ∷ [])
     ⊎ ((txn : ℕ) × (calls : List (Event × Reply)) × AreRefused txn (change txn) error calls
     × WereServedTo o seat session ((Event.Begin, Reply.Txn txn) ∷ calls))
+
+-- so many steps by which a transaction is taken back, and then this call
+abbrev pub undo_calls : (txn undone : ℕ) → Event → Reply → List (Event × Reply)
+undo_calls txn undone e reply = replicate undone (Event.Undo txn, Undone) ++ (e, reply) ∷ []
+
+-- a call by which a transaction is taken back
+abbrev pub TakesBack : (txn : ℕ) → Event → Type 0
+TakesBack txn e = (e ≡ Event.Undo txn) ⊎ (e ≡ Event.End txn)
+
+-- A transaction began, a call of it was refused, and so it was to be taken back. So many steps of that were made, and
+-- then a further one, or the end, was refused too.
+pub record WasLeft (o : Opened) (seat : ℕ) (session : SessionValue) (change : ℕ → Event) (error : Error)
+    (txn : ℕ) : Type 0 where
+  pub calls : List (Event × Reply)
+  pub refused : AreRefused txn (change txn) error calls
+  pub undone : ℕ
+  pub last : Event
+  pub takes_back : TakesBack txn last
+  pub why : Error
+  pub served : WereServedTo o seat session
+      ((Event.Begin, Reply.Txn txn) ∷ (calls ++ undo_calls txn undone last (Refused why)))
 
 -- ---- the session
 

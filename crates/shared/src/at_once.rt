@@ -1,15 +1,16 @@
 //! The calls of a seat that make a transaction of one change in one hold of the lock.
 ghost use Rattle.std.specs.Prelude.{◌≡◌, ◌∷◌, [], IfErr, IfNone, IfOk, IfSome, List, None, OnErr, OnOk, Some, true, ℕ};
 ghost use Rattle.model.specs.declared.write.Write.{Write};
-ghost use Rattle.core_model.specs.Events.{Event, Reply};
+ghost use Rattle.core_model.specs.Events.{Event, Refused, Reply};
 ghost use Rattle.core_parts.specs.Replies.{reply_by, reply_of_ticket};
 ghost use Rattle.core_parts.specs.View.{Serves};
 ghost use Rattle.locked_core.specs.Locked.{locked_of};
 ghost use Rattle.threads_sessions.specs.Steps.{ended};
 ghost use Rattle.threads_sessions.specs.Values.{is_active, is_ready, rows_of};
 ghost use Rattle.shared.specs.Changed.{unfinished_of};
-ghost use Rattle.shared.specs.AtOnce.{AreRefused, AreServed, IsChanging, IsLeft, WasMade, WasRefused, answer_of};
-ghost use Rattle.shared.specs.AtOnce.{change_of, event_of, last_calls, step_calls, with_commit};
+ghost use Rattle.shared.specs.AtOnce.{AreRefused, AreServed, HasStarted, IsChanging, IsLeft, TakesBack, WasLeft};
+ghost use Rattle.shared.specs.AtOnce.{WasMade, WasRefused, answer_of, change_of, event_of, last_calls, step_calls};
+ghost use Rattle.shared.specs.AtOnce.{undo_calls, with_commit};
 
 use crate::one_change::{OneChange, Placed, Refusal};
 use crate::seat::Seat;
@@ -17,7 +18,7 @@ use crate::shared::Shared;
 use locked_core::{Group, Locked, Memory, SeatPart};
 use nsf_core::Ticket;
 use records::{Body, Error, Key, Rid, Txn};
-use std::sync::Wait;
+use std::sync::{MutexGuard, Wait};
 use threads_sessions::Keeping;
 
 impl<B: Group, A: Memory> Shared<B, A> {
@@ -44,6 +45,8 @@ impl<B: Group, A: Memory> Shared<B, A> {
         ensures nothing_stays { IfErr result (λ r. r.left ≡ None → seat.new ≡ seat.old) }
         ensures left { IfErr result (λ r. IfSome r.left (λ txn.
             IsLeft seat.old.session txn seat.new.session)) }
+        ensures why_left { IfErr result (λ r. IfSome r.left (λ txn. ∥ WasLeft B.site.opened seat.old.number
+            seat.old.session (λ txn. Event.Insert txn (record { key = key; body = body })) r.error txn ∥₁)) }
         ensures seat { seat.new ≡ record seat.old { session = seat.new.session } }
     {
         self.make(rt, seat, OneChange::Put { key, body })
@@ -69,6 +72,8 @@ impl<B: Group, A: Memory> Shared<B, A> {
         ensures nothing_stays { IfErr result (λ r. r.left ≡ None → seat.new ≡ seat.old) }
         ensures left { IfErr result (λ r. IfSome r.left (λ txn.
             IsLeft seat.old.session txn seat.new.session)) }
+        ensures why_left { IfErr result (λ r. IfSome r.left (λ txn. ∥ WasLeft B.site.opened seat.old.number
+            seat.old.session (λ txn. Event.Delete txn rid) r.error txn ∥₁)) }
         ensures seat { seat.new ≡ record seat.old { session = seat.new.session } }
     {
         let removed = self.make(rt, seat, OneChange::Remove { rid })?;
@@ -97,6 +102,8 @@ impl<B: Group, A: Memory> Shared<B, A> {
         ensures nothing_stays { IfErr result (λ r. r.left ≡ None → seat.new ≡ seat.old) }
         ensures left { IfErr result (λ r. IfSome r.left (λ txn.
             IsLeft seat.old.session txn seat.new.session)) }
+        ensures why_left { IfErr result (λ r. IfSome r.left (λ txn. ∥ WasLeft B.site.opened seat.old.number
+            seat.old.session (λ txn. Event.Update txn rid (record { key = key; body = body })) r.error txn ∥₁)) }
         ensures seat { seat.new ≡ record seat.old { session = seat.new.session } }
     {
         let replaced = self.make(rt, seat, OneChange::Replace { rid, key, body })?;
@@ -121,12 +128,14 @@ impl<B: Group, A: Memory> Shared<B, A> {
         ensures nothing_stays { IfErr result (λ r. r.left ≡ None → seat.new ≡ seat.old) }
         ensures left { IfErr result (λ r. IfSome r.left (λ txn.
             IsLeft seat.old.session txn seat.new.session)) }
+        ensures why_left { IfErr result (λ r. IfSome r.left (λ txn. ∥ WasLeft B.site.opened seat.old.number
+            seat.old.session (event_of asked) r.error txn ∥₁)) }
         ensures seat { seat.new ≡ record seat.old { session = seat.new.session } }
     {
         let mut locked = self.hold(rt);
         let made = self.make_held(rt, &mut *locked, &mut seat.part, asked);
         locked.push_outbox(rt, &self.queue);
-        drop(locked);
+        MutexGuard::unlock(locked);
         self.wake_flusher();
         made
     }
@@ -148,6 +157,8 @@ impl<B: Group, A: Memory> Shared<B, A> {
         ensures nothing_stays { IfErr result (λ r. r.left ≡ None → part.new.session ≡ part.old.session) }
         ensures left { IfErr result (λ r. IfSome r.left (λ txn.
             IsLeft part.old.session txn part.new.session)) }
+        ensures why_left { IfErr result (λ r. IfSome r.left (λ txn. ∥ WasLeft B.site.opened part.old.number
+            part.old.session (event_of asked) r.error txn ∥₁)) }
         ensures number { part.new.number ≡ part.old.number }
     {
         let txn = match locked.begin(&self.registry, part) {
@@ -236,8 +247,8 @@ impl<B: Group, A: Memory> Shared<B, A> {
             → part.new.session ≡ with_commit (ended part.old.session txn) ticket change) }
         ensures served { IfOk result (λ ticket. ∥ ((steps : ℕ) × AreServed (locked_of locked.old).core
             (last_calls txn steps (Event.Commit txn) (reply_of_ticket ticket)) (locked_of locked.new).core) ∥₁) }
-        ensures refused { IfErr result (λ e. (first : Event) (reply : Reply) → ∥ ((calls : List (Event × Reply))
-            × AreRefused txn first e ((first, reply) ∷ calls)
+        ensures refused { IfErr result (λ e. (first : Event) (reply : Reply) → HasStarted first reply
+            → ∥ ((calls : List (Event × Reply)) × AreRefused txn first e ((first, reply) ∷ calls)
             × AreServed (locked_of locked.old).core calls (locked_of locked.new).core) ∥₁) }
         ensures left { OnErr result (IsLeft (ended part.old.session txn) txn part.new.session) }
         ensures number { part.new.number ≡ part.old.number }
@@ -285,6 +296,9 @@ impl<B: Group, A: Memory> Shared<B, A> {
     ) -> Result<(), Error>
         requires { is_active part.old.session txn ≡ true }
         ensures cleared { OnOk result (part.new.session ≡ ended part.old.session txn) }
+        ensures served { IfErr result (λ e. ∥ ((undone : ℕ) × (last : Event) × TakesBack txn last
+            × AreServed (locked_of locked.old).core (undo_calls txn undone last (Refused e))
+            (locked_of locked.new).core) ∥₁) }
         ensures left { OnErr result (IsLeft (ended part.old.session txn) txn part.new.session) }
         ensures number { part.new.number ≡ part.old.number }
     {

@@ -5,6 +5,7 @@ use Rattle.core_model.specs.Events.{Refused}
 use Rattle.locked_core.specs.Locked.{locked_of}
 use Rattle.threads_sessions.specs.Values.{SessionValue}
 use Rattle.shared.specs.AtOnce.{answer_of, at_change, change_of, event_of, IsLeft, with_commit}
+use Rattle.shared.proofs.AtOnce.{change_started}
 use Rattle.shared.proofs.shared.Shared.change_held.Goals as goal
 
 pub returns-in_err-rid : goal.returns-in_err-rid
@@ -34,7 +35,7 @@ returns-in_err-ticket g c =
     rw (p.1, p.2) (record {
       committed = tt;
       served = tt;
-      refused = ∥∥₁_map (c.in_err-ticket.ensures.refused first reply) (λ r.
+      refused = ∥∥₁_map (c.in_err-ticket.ensures.refused first reply (change_started c.args.asked t c.in_ok-rid.rid)) (λ r.
           ((first, reply) ∷ r.0, r.1, ((locked_of begun.new.locked).core, c.in_ok-rid.ensures.served, r.2)));
       left = subst (λ (s : SessionValue). IsLeft s t c.commit_held.new.part.session) begun.ensures.left.others c.in_err-ticket.ensures.left;
       number = c.commit_held.ensures.number ∙ begun.ensures.number;

@@ -16,7 +16,8 @@ returns-in-Some g c =
     record {
       committed = tt;
       served = tt;
-      refused = λ first reply. ∥∥₁_map c.in-Some.ensures.served (λ s. (last_calls t s.0 (Event.Step t) (Refused e), at_step t first e reply s.0, s.1));
+      refused = λ first reply started.
+          ∥∥₁_map c.in-Some.ensures.served (λ s. (last_calls t s.0 (Event.Step t) (Refused e), at_step t first e reply s.0 started, s.1));
       left = record {
         others = c.finish_held.ensures.others;
         active = (c.finish_held.ensures.changing c.requires.0 c.requires.1).active;

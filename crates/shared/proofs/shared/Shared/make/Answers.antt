@@ -22,5 +22,6 @@ returns g c =
       nothing_stays = if_err_then _ _ step.result (λ (r : Refusal) (is : r.left ≡ None → now.session ≡ part.session) none.
           same_session part now view _ refl step.ensures.number (is none)) step.ensures.nothing_stays;
       left = step.ensures.left;
+      why_left = step.ensures.why_left;
       seat = any_session part now view _ refl step.ensures.number;
     })

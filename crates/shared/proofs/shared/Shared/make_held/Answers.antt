@@ -1,11 +1,12 @@
 use Rattle.std.proofs.Common.{◌≡◌, ◌∙◌, [], ℕ, None, Some, ap, inl, inr, map, refl, subst, sym, true}
 use Rattle.std.proofs.Math.Logic.{∥∥₁_map, ∥∥₁_map₂}
+use Rattle.locked_core.specs.Locked.{locked_of}
 use Rattle.nsf_core.specs.Value.{value_of}
 use Rattle.threads_sessions.specs.Halves.{shown}
 use Rattle.threads_sessions.specs.Steps.{ended}
 use Rattle.threads_sessions.specs.Values.{active_of, is_ready, rows_of, SessionValue}
-use Rattle.shared.specs.AtOnce.{change_of, IsLeft, with_commit}
-use Rattle.shared.proofs.AtOnce.{begun_alone, begun_empty, begun_ready, fresh}
+use Rattle.shared.specs.AtOnce.{change_of, event_of, IsLeft, with_commit}
+use Rattle.shared.proofs.AtOnce.{begun_alone, begun_empty, begun_ready, fresh, was_left}
 use Rattle.shared.proofs.shared.Shared.make_held.Goals as goal
 
 some_left : (t : ℕ) → Some t ≡ None → ⊥
@@ -30,6 +31,7 @@ returns-in-Err g c =
       }));
       nothing_stays = λ none. c.in-Err.ensures.refused;
       left = tt;
+      why_left = tt;
       number = c.begin.ensures.number;
     }
 
@@ -73,6 +75,7 @@ returns-in-Ok-change_held g c =
       refused = tt;
       nothing_stays = tt;
       left = tt;
+      why_left = tt;
       number = c.change_held.ensures.number ∙ c.begin.ensures.number;
     }
 
@@ -106,6 +109,7 @@ returns-in-Ok-clear_held g c =
       ));
       nothing_stays = λ _. c.in-Ok-clear_held.ensures.cleared ∙ (c.in-Err-change_held.ensures.left.others ∙ alone);
       left = tt;
+      why_left = tt;
       number = c.clear_held.ensures.number ∙ (c.change_held.ensures.number ∙ c.begin.ensures.number);
     }
 
@@ -137,5 +141,9 @@ returns-in-Err-clear_held g c =
       nothing_stays = λ none. absurd (some_left t none);
       left = subst (λ (s : SessionValue). IsLeft s t c.clear_held.new.part.session) (c.in-Err-change_held.ensures.left.others ∙ alone)
           c.in-Err-clear_held.ensures.left;
+      why_left = was_left g.B.Group.site.opened part.number part.session (event_of c.args.asked) t c.in-Err-change_held.error c.in-Err-clear_held.field-0
+          (value_of was.core) (value_of c.begin.new.self.core) (locked_of c.change_held.new.locked).core (value_of c.clear_held.new.locked.core)
+          was.pusher.records (map shown was.book.items) was.shared c.begin.ensures.before c.in-Ok.ensures.served c.in-Err-change_held.ensures.refused
+          c.in-Err-clear_held.ensures.served;
       number = c.clear_held.ensures.number ∙ (c.change_held.ensures.number ∙ c.begin.ensures.number);
     }

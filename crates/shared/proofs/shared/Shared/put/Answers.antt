@@ -7,5 +7,6 @@ returns g c = record {
   refused = c.make.ensures.refused;
   nothing_stays = c.make.ensures.nothing_stays;
   left = c.make.ensures.left;
+  why_left = c.make.ensures.why_left;
   seat = c.make.ensures.seat;
 }

@@ -11,6 +11,7 @@ returns-in_err-removed g c =
       refused = is.refused;
       nothing_stays = is.nothing_stays;
       left = is.left;
+      why_left = is.why_left;
       seat = c.make.ensures.seat;
     })
 
@@ -21,5 +22,6 @@ returns g c = record {
   refused = tt;
   nothing_stays = tt;
   left = tt;
+  why_left = tt;
   seat = c.make.ensures.seat;
 }
