@@ -13,3 +13,4 @@ mod Ends
 mod Undone
 mod Again
 mod AtOnce
+mod Scanned

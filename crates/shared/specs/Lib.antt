@@ -4,3 +4,4 @@ pub mod Served
 pub mod AtOnce
 pub mod Openings
 pub mod Waits
+pub mod Scans

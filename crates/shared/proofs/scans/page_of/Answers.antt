@@ -1,0 +1,17 @@
+use Rattle.std.proofs.Common.{subst}
+use Rattle.std.specs.Option.{option_copied}
+use Rattle.core_parts.specs.View.{CoreValue}
+use Rattle.core_scan.specs.Answered.{IsPageOf}
+use Rattle.shared.proofs.scans.page_of.Goals as goal
+
+pub returns : goal.returns
+returns g c =
+    subst (λ (core : CoreValue). IsPageOf core.index.entries core.life c.args.range.now (option_copied c.args.after) c.args.limit c.scan.result)
+    c.core.ensures
+    (record {
+      pairs = c.scan.ensures.pairs;
+      next = c.scan.ensures.next;
+      no_index = c.scan.ensures.no_index;
+      not_built = c.scan.ensures.not_built;
+      no_memory = c.scan.ensures.no_memory;
+    })
