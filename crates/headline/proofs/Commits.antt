@@ -1,10 +1,16 @@
--- The commits of seats, by number, are one list.
-use Rattle.std.proofs.Common.{◌≡◌, ℕ, ◌+◌, ◌≤◌, ◌<◌, Bool, true, false, cond, eqb, eq-eqb, List, [], ◌∷◌, length, map, Some, refl, sym, ap, ◌∙◌, arith}
-use Rattle.std.proofs.lemmas.Bool.{eqb-true}
+-- The commits of seats, by number, are one list; a core has them all.
+use Rattle.std.proofs.Common.{◌≡◌, ℕ, ◌+◌, ◌≤◌, ◌<◌, Bool, true, false, cond, eqb, eq-eqb, List, [], ◌∷◌, length, map, Some, refl, subst, sym, ap, ◌∙◌, arith}
+use Rattle.std.proofs.lemmas.Bool.{eqb-true, le-leb}
+use Rattle.std.proofs.lemmas.List.{length-map}
 use Rattle.std.specs.Prelude.{slice_get}
+use Rattle.core_model.specs.Histories.{Opened}
+use Rattle.core_parts.specs.View.{CoreValue}
+use Rattle.records.specs.RecordValue.{RecordValue}
 use Rattle.shared.specs.Seats.{SeatValue}
+use Rattle.threads_register.specs.History.{AreRisingTo}
 use Rattle.threads_register.specs.Register.{AreBySeats, AreNumbered, Commits, made_by}
 use Rattle.threads_sessions.specs.Values.{CommitValue}
+use Rattle.threads_lifetime.specs.Closing.{IsCoreOf, up_to}
 use Rattle.threads_lifetime.specs.Gathered.{AreCommitsOf, sessions_of}
 use Rattle.threads_lifetime.proofs.Orders.{some_at}
 
@@ -67,3 +73,35 @@ one_commits seats commits others are too =
         (λ k within.
         let there = some_at (sessions_of seats) k within in
         sym (are.all.in_sessions k there.0 there.1) ∙ too.all.in_sessions k there.0 there.1)
+
+-- the commits, without the seats that made them
+abbrev commits_in : Commits → List CommitValue
+commits_in commits = map (λ (c : ℕ × CommitValue). c.1) commits
+
+rising_within : (from to : ℕ) (commits : Commits) → AreRisingTo from to commits → from ≤ to
+rising_within from to [] h = h
+rising_within from to (c ∷ cs) h = let r = rising_within c.1.ticket.«record» to cs h.1 in omega (arith, r, h.0)
+
+rising_up_to : (from to : ℕ) (commits : Commits) → AreRisingTo from to commits → up_to to (commits_in commits) ≡ commits_in commits
+rising_up_to from to [] h = refl
+rising_up_to from to (c ∷ cs) h =
+    ap (λ b. cond b (c.1 ∷ up_to to (commits_in cs)) (up_to to (commits_in cs))) (le-leb c.1.ticket.«record» to (rising_within c.1.ticket.«record» to cs h.1))
+    ∙ ap (λ (l : List CommitValue). c.1 ∷ l) (rising_up_to c.1.ticket.«record» to cs h.1)
+
+-- the records of all commits are among those of the core
+pub core_has_all : (o : Opened) (seats : List SeatValue) (popped : List RecordValue) (core : CoreValue) (commits : List CommitValue) → AreCommitsOf seats commits
+    → IsCoreOf o seats popped core commits → up_to core.last commits ≡ commits
+core_has_all o seats popped core commits are is =
+    let all = is.shared.register.commits in
+    let its : AreCommitsOf seats (commits_in all.commits) = record {
+      all = record {
+        commits = all.commits;
+        numbered = all.numbered;
+        counted = length-map all.commits (λ (c : ℕ × CommitValue). c.1);
+        by_seats = all.by_seats;
+        in_sessions = all.in_sessions;
+      };
+      by_number = refl;
+    } in
+    subst (λ (cs : List CommitValue). up_to core.last cs ≡ cs) (one_commits seats (commits_in all.commits) commits its are)
+    (rising_up_to o.given.last core.last all.commits is.shared.register.history.rising)

@@ -48,7 +48,7 @@ use Rattle.headline.specs.Days.{Answer, IsUnopened}
 use Rattle.headline.specs.Held.{HasLived, IsNotBuilt, IsNotReopened, IsUnbuilt}
 use Rattle.headline.specs.Kept.{EndsBuild, FindsShared, GivesDays, IsBegun, KeepsDays}
 use Rattle.headline.specs.Stops.{StopsAt, mark_read}
-use Rattle.headline.proofs.Commits.{one_commits}
+use Rattle.headline.proofs.Commits.{core_has_all, one_commits}
 use Rattle.headline.proofs.Holding.{behind, not_reopened, unbuilt}
 use Rattle.headline.proofs.Stopped.{GivesBack, Images, between, now_gives, why_unopened}
 
@@ -288,6 +288,7 @@ module _ {D M C : Type 0} (past_of : D → DevicePast) (failures : D → ℕ) (w
       table : given.table ≡ table_with first.table commits
       core : CoreValue
       left : ∥ IsCoreOf o work.seats work.leaves.popped core commits ∥₁
+      has-all : up_to core.last commits ≡ commits
       life : given.life ≡ core.life
       last : given.last ≡ core.last
 
@@ -314,6 +315,7 @@ module _ {D M C : Type 0} (past_of : D → DevicePast) (failures : D → ℕ) (w
           table = left.table;
           core = is.core;
           left = ∣ is.left ∣₁;
+          has-all = core_has_all o work.seats work.leaves.popped is.core is.commits is.of_seats is.left;
           life = left.life;
           last = left.last;
         }))
@@ -359,10 +361,11 @@ module _ {D M C : Type 0} (past_of : D → DevicePast) (failures : D → ℕ) (w
           omega (arith, low, read.reaches))
       safe Opening is = tt
 
-      all_of : AllKept → last-given.table ≡ table_with first.table some.commits
+      all_of : AllKept → up_to last-given.last some.commits ≡ some.commits
       all_of is =
-          ap (λ (x : Given). x.table) (images.given image g h last-given is.given some.gives is.gives)
-          ∙ (is.table ∙ ap (table_with first.table) (one_commits work.seats is.commits some.commits is.of-seats some.all))
+          let same : last-given.last ≡ is.core.last = ap (λ (x : Given). x.last) (images.given image g h last-given is.given some.gives is.gives) ∙ is.last in
+          subst (λ (cs : List CommitValue). up_to last-given.last cs ≡ cs) (one_commits work.seats is.commits some.commits is.of-seats some.all)
+          (ap (λ (n : ℕ). up_to n is.commits) same ∙ is.has-all)
 
       all_left : AllKept → (left : CoreValue) × (popped : List RecordValue) × (commits : List CommitValue)
           × ∥ IsCoreOf o work.seats popped left commits ∥₁ × (last-given.life ≡ left.life) × (last-given.last ≡ left.last)

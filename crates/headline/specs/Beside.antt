@@ -66,7 +66,7 @@ pub record IsServedBeside {C : Type 0} (geometry : GeometryValue) (old : AtRest)
   pub of-seats : AreCommitsOf seats commits
   pub rows : new.rows ≡ table_with old.rows (up_to new.last commits)
   pub safe : IfSome (known_safe end seats horizon) (λ number. number ≤ new.last)
-  pub whole : end ≡ Behind → OnOk answer.written (new.rows ≡ table_with old.rows commits)
+  pub whole : end ≡ Behind → OnOk answer.written (up_to new.last commits ≡ commits)
   pub found : IsFoundBeside geometry old seats end answer new
 
 -- The days have made a store of what it began with. Each client has worked with a new seat of its own, which
