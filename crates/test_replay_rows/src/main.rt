@@ -26,10 +26,10 @@ use std::io::Read;
 fn main(rt: HostRuntime) -> io::Result<()> {
     let mut table = Vec::new(rt.alloc());
     rt.reader().read_to_end(&mut table)?;
-    let mut report = io::writer(&rt);
     let mut case = Case::new(rt.alloc());
-    for line in table.split(|byte| *byte == b'\n') {
-        case.follow(&rt, line, &mut report)?;
-    }
-    Ok(())
+    let mut report = io::writer(&rt);
+    let followed = case.follow_all(&rt, &table, &mut report);
+    drop(case);
+    drop(table);
+    followed
 }
