@@ -1,3 +1,4 @@
+pub mod Before
 mod Buffers
 mod Closing
 mod Committing

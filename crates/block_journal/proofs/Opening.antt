@@ -10,7 +10,7 @@ use Rattle.block_batch.specs.Replay.{in_order, pending}
 use Rattle.block_batch.proofs.Replay.{again, both, cut_off, agree, outside}
 use Rattle.block_journal.specs.declared.shape.Shape.{Shape}
 use Rattle.block_journal.specs.Layout.{area_of, found, found_in, kept_of, recovered, IsHonest, IsInside}
-use Rattle.block_journal.specs.Journal.{AreKnown, IsPending, MayWrite, StandsFor}
+use Rattle.block_journal.specs.Journal.{AreInAreas, AreKnown, IsPending, MayWrite, StandsFor}
 use Rattle.block_journal.specs.Opening.{AreFound, IsBefore, first_entries, found_batches}
 use Rattle.block_journal.proofs.Crash.{kept_agrees, same_area}
 use Rattle.block_journal.proofs.Next.{now_committed}
@@ -145,6 +145,27 @@ found_honest g image last before entries finds a low = elim (cases_eq a (last.nu
     other_one None none = subst (λ (o : Option Batch). IfSome o (λ x. Contains (found_batches last None entries) x)) (sym none) tt
     other_one (Some n) (under, there) =
         subst (λ (o : Option Batch). IfSome o (λ x. Contains (found_batches last (Some n) entries) x)) (sym there) (has_other last n entries)
+
+-- and each of them is in an area
+pub found_in_areas : (g : Shape) (image : Image) (last : Batch) (before : Option ℕ) (entries : List Entry) → AreFound g image last before entries
+    → AreInAreas g image (found_batches last before entries)
+found_in_areas g image last before entries finds x has = from before finds.other has
+  where
+    at : (a : ℕ) → a < 2 → found g image a ≡ Some x → (found g image 0 ≡ Some x) ⊎ (found g image 1 ≡ Some x)
+    at a low there = elim (cases_eq a 0) [
+      | inl is ↦ inl (subst (λ (k : ℕ). found g image k ≡ Some x) is there)
+      | inr other ↦ let is : a ≡ 1 = omega (arith, other, low) in inr (subst (λ (k : ℕ). found g image k ≡ Some x) is there)
+    ]
+
+    as_last : x ≡ last → (found g image 0 ≡ Some x) ⊎ (found g image 1 ≡ Some x)
+    as_last is = at (last.number % 2) (omega arith) (finds.here ∙ ap (λ (b : Batch). Some b) (sym is))
+
+    from : (b : Option ℕ) → IsBefore last.number b entries (found g image ((last.number + 1) % 2)) → Contains (found_batches last b entries) x
+        → (found g image 0 ≡ Some x) ⊎ (found g image 1 ≡ Some x)
+    from None none has = as_last (contains_one last x has)
+    from (Some n) (low, there) has = ⊎_elim as_last
+        (λ is. at ((last.number + 1) % 2) (omega arith) (there ∙ ap (λ (b : Batch). Some b) (sym is)))
+        (contains_two last (record { number = n; entries = entries }) x has)
 
 -- ---- the file after it was opened
 

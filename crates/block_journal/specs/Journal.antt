@@ -1,6 +1,6 @@
 -- What a journal keeps.
 use Rattle.std.specs.Prelude.{◌≡◌, ◌⊎◌, ℕ, ◌+◌, ◌%◌, ◌≤◌, ◌<◌, List, Some, None, Contains}
-use Rattle.block_device.specs.Blocks.{Image, InRun, SameOutside}
+use Rattle.block_device.specs.Blocks.{Image, InRun, SameOutside, block}
 use Rattle.block_device.specs.BlocksPast.{BlocksPast, Elapses, LeavesOnly}
 use Rattle.block_batch.specs.Batch.{Entry, Batch, replayed, IsPlace}
 use Rattle.block_batch.specs.Replay.{IsCommitted, pending}
@@ -49,6 +49,14 @@ NeedsNoArea g image settled = (c : Image) → kept_of g c ≡ kept_of g image
 -- whatever a crash leaves from the one moment to the other stands for what the file stood for
 abbrev pub StaysRecovered : Shape → BlocksPast → BlocksPast → Type 0
 StaysRecovered g old new = LeavesOnly old new (λ c. recovered g c ≡ recovered g old.file.content)
+
+-- whatever a crash leaves from the one moment to the other has the blocks before the journal as they were
+abbrev pub LeavesBefore : Shape → BlocksPast → BlocksPast → Type 0
+LeavesBefore g old new = LeavesOnly old new (λ c. (n : ℕ) → n < g.first → block c n ≡ block old.file.content n)
+
+-- each of these batches is in one of the areas
+abbrev pub AreInAreas : Shape → Image → List Batch → Type 0
+AreInAreas g image batches = (x : Batch) → Contains batches x → (found g image 0 ≡ Some x) ⊎ (found g image 1 ≡ Some x)
 
 -- the blocks that a replay sets
 abbrev pub pending_in : Shape → Image → List Entry

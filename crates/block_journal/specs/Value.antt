@@ -1,5 +1,5 @@
 -- What a journal shows.
-use Rattle.std.specs.Prelude.{◌≡◌, ◌⊎◌, ℕ, ◌+◌, ◌-◌, Bool, List, length}
+use Rattle.std.specs.Prelude.{◌≡◌, ◌⊎◌, ℕ, ◌+◌, ◌-◌, ◌^◌, ◌<◌, Bool, false, List, [], ◌∷◌, ◌++◌, length}
 use Rattle.block_device.specs.Blocks.{Image, IsSynced}
 use Rattle.block_device.specs.BlocksPast.{BlocksPast, LeavesOnly}
 use Rattle.block_batch.specs.Batch.{Entry, Batch, replayed}
@@ -31,6 +31,15 @@ module _ {B : Type 0} where
   -- the batch that a commit makes
   abbrev pub next_batch : JournalValue B → Batch
   next_batch j = record { number = j.last.number + 1; entries = j.next }
+
+  -- a commit can be made: none has failed, and there is a number more
+  abbrev pub CanCommit : JournalValue B → Type 0
+  CanCommit j = (j.has_failed ≡ false) × (j.last.number < 2 ^ 64 - 1)
+
+  -- the batch of a commit was handed to be written, if it could be made
+  pub record Offers (old new : JournalValue B) : Type 0 where
+    pub next : CanCommit old → new.offered ≡ old.offered ++ next_batch old ∷ []
+    pub none : ¬ CanCommit old → new.offered ≡ old.offered
 
   module _ (past_of : B → BlocksPast) where
     -- the kept blocks as the last batch left them

@@ -1,7 +1,8 @@
 // A journal is begun.
-ghost use Rattle.std.specs.Prelude.{◌≡◌, ◌≢◌, ◌<◌, ℕ, [], Some, length, OnOk};
+ghost use Rattle.std.specs.Prelude.{◌≡◌, ◌≢◌, ◌*◌, ◌<◌, ℕ, [], Some, length, OnOk};
 ghost use Rattle.sector_device.specs.DevicePast.{CountsFailure};
-ghost use Rattle.block_device.specs.Blocks.{IsSynced};
+ghost use Rattle.block_device.specs.Blocks.{Image, InRun, IsSynced};
+ghost use Rattle.block_device.specs.BlocksPast.{BlocksPast, RunsWithin};
 ghost use Rattle.block_journal.specs.Layout.{IsInside, area_of, found, kept_of, recovered};
 
 use crate::Shape;
@@ -18,6 +19,9 @@ pub fn clear<B: Blocks>(below: &mut B, shape: Shape) -> Result<(), Failed>
     ensures kept { kept_of shape (B.past_of below.new).file.content
         ≡ kept_of shape (B.past_of below.old).file.content }
     ensures size { length (B.past_of below.new).file.content ≡ length (B.past_of below.old).file.content }
+    ensures within { (image : Image) (start : BlocksPast)
+        → RunsWithin (InRun shape.first (2 * shape.area)) image start (B.past_of below.old)
+        → RunsWithin (InRun shape.first (2 * shape.area)) image start (B.past_of below.new) }
     ensures counts { CountsFailure (B.failures below.old) (B.failures below.new) result }
 {
     clear_area(below, shape, 0)?;
@@ -36,6 +40,9 @@ fn clear_area<B: Blocks>(below: &mut B, shape: Shape, a: u64) -> Result<(), Fail
     ensures kept { kept_of shape (B.past_of below.new).file.content
         ≡ kept_of shape (B.past_of below.old).file.content }
     ensures size { length (B.past_of below.new).file.content ≡ length (B.past_of below.old).file.content }
+    ensures within { (image : Image) (start : BlocksPast)
+        → RunsWithin (InRun shape.first (2 * shape.area)) image start (B.past_of below.old)
+        → RunsWithin (InRun shape.first (2 * shape.area)) image start (B.past_of below.new) }
     ensures counts { CountsFailure (B.failures below.old) (B.failures below.new) result }
 {
     let _ = below.blocks();

@@ -5,8 +5,9 @@ ghost use Rattle.sector_device.specs.DevicePast.{CountsFailure, Rises};
 ghost use Rattle.block_device.specs.Blocks.{Image, IsCrashImage, IsSynced, block};
 ghost use Rattle.block_batch.specs.Batch.{block_digest, replayed};
 ghost use Rattle.block_journal.specs.Layout.{IsHonest, IsInside, found, kept_of, recovered};
-ghost use Rattle.block_journal.specs.Journal.{IsPending, NeedsNoArea, OnlyReads, StaysRecovered};
-ghost use Rattle.block_journal.specs.Value.{LeavesEither, content_of, failures_of, room_of, settled_of};
+ghost use Rattle.block_journal.specs.Journal.{AreInAreas, IsPending, LeavesBefore, NeedsNoArea, OnlyReads};
+ghost use Rattle.block_journal.specs.Journal.{StaysRecovered};
+ghost use Rattle.block_journal.specs.Value.{LeavesEither, Offers, content_of, failures_of, room_of, settled_of};
 
 use crate::gathered::buffers;
 use crate::parts::Parts;
@@ -63,10 +64,13 @@ impl<B: Blocks, A: Allocator + Copy> Journal<B, A> {
         ensures shape { IfOk result (λ j. j.shape ≡ shape) }
         ensures sound { IfOk result (λ j. j.has_failed ≡ false) }
         ensures honest { IfOk result (λ j. IsHonest j.offered shape (B.past_of below).file.content) }
+        ensures found { IfOk result (λ j. AreInAreas shape (B.past_of below).file.content j.offered) }
         ensures any_moment { IfOk result (λ j. StaysRecovered shape (B.past_of below) (B.past_of j.below)) }
+        ensures before { IfOk result (λ j. LeavesBefore shape (B.past_of below) (B.past_of j.below)) }
         ensures quiet { IfOk result (λ j. B.failures j.below ≡ B.failures below) }
         ensures unrefused { IfOk result (λ j. j.refused ≡ 0) }
         ensures refused { IfErr result (λ e. StaysRecovered shape (B.past_of below) (B.past_of e.file)) }
+        ensures before_refused { IfErr result (λ e. LeavesBefore shape (B.past_of below) (B.past_of e.file)) }
         ensures no_batch { IfErr result (λ e. e.error ≡ OpenError.NoBatch
             → (found shape (B.past_of below).file.content 0 ≡ None)
             × (found shape (B.past_of below).file.content 1 ≡ None)) }
@@ -160,6 +164,9 @@ impl<B: Blocks, A: Allocator + Copy> Journal<B, A> {
         ensures kept { OnErr result (self.new.next ≡ self.old.next) }
         ensures failed { OnErr result (self.new.has_failed ≡ true) }
         ensures any_moment { self.old.has_failed ≡ false → LeavesEither B.past_of self.old self.new }
+        ensures offered { Offers self.old self.new }
+        ensures before { self.old.has_failed ≡ false
+            → LeavesBefore self.old.shape (B.past_of self.old.below) (B.past_of self.new.below) }
         ensures refused { self.old.has_failed ≡ true → self.new ≡ record self.old { refused = self.new.refused } }
         ensures shape { self.new.shape ≡ self.old.shape }
         ensures fails { OnErr result ((self.old.has_failed ≡ true) ⊎ (self.old.last.number ≡ 2 ^ 64 - 1)
@@ -191,6 +198,9 @@ impl<B: Blocks, A: Allocator + Copy> Journal<B, A> {
         ensures sound { OnOk result ((self.old.has_failed ≡ false) × (self.new.has_failed ≡ false)) }
         ensures failed { OnErr result (self.new.has_failed ≡ true) }
         ensures any_moment { self.old.has_failed ≡ false → LeavesEither B.past_of self.old self.new }
+        ensures offered { Offers self.old self.new }
+        ensures before { self.old.has_failed ≡ false
+            → LeavesBefore self.old.shape (B.past_of self.old.below) (B.past_of self.new.below) }
         ensures refused { self.old.has_failed ≡ true → self.new ≡ record self.old { refused = self.new.refused } }
         ensures shape { self.new.shape ≡ self.old.shape }
         ensures fails { OnErr result ((self.old.has_failed ≡ true) ⊎ (self.old.last.number ≡ 2 ^ 64 - 1)
@@ -226,7 +236,7 @@ impl<B: Blocks, A: Allocator + Copy> Journal<B, A> {
         self.parts.has_failed
     }
 
-    /// How many calls have failed: those of the file, and those that were refused.
+    /// How many calls were refused without a call of the file, since a commit has failed.
     pub fn refused(&self) -> u64
         ensures { result ≡ self.now.refused }
     {

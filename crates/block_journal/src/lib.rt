@@ -13,8 +13,8 @@
 //! Laws: what a crash leaves while a batch is committed is recovered as before it, or as after it (`crash_of_commit`,
 //! `at_any_moment`). Once it is committed, it is the last one (`next_is_last`).
 //!
-//! Lemmas about its public words that crates above may cite, in `proofs`: `Crash`, `OnlyReading`, `Parting`, `Placing`
-//! and `Results`.
+//! Lemmas about its public words that crates above may cite, in `proofs`: `Before`, `Crash`, `OnlyReading`, `Parting`,
+//! `Placing` and `Results`.
 #![tactic(auto)]
 
 mod clearing;

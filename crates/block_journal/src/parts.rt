@@ -5,7 +5,8 @@ ghost use Rattle.sector_device.specs.DevicePast.{CountsFailure, Rises};
 ghost use Rattle.block_device.specs.Blocks.{Image, block};
 ghost use Rattle.block_device.specs.BlocksPast.{BlocksPast, RunsWithin};
 ghost use Rattle.block_journal.specs.Layout.{IsHonest, IsInside, found, kept_start, recovered};
-ghost use Rattle.block_journal.specs.Journal.{InRunOrKept, IsPending, MayWrite, OnlyReads, StaysRecovered, pending_in};
+ghost use Rattle.block_journal.specs.Journal.{AreInAreas, InRunOrKept, IsPending, LeavesBefore, MayWrite, OnlyReads};
+ghost use Rattle.block_journal.specs.Journal.{StaysRecovered, pending_in};
 ghost use Rattle.block_journal.specs.Value.{content_of, next_batch, settled_of};
 
 use crate::gathered::Gathered;
@@ -130,7 +131,10 @@ impl<B: Blocks, A: Allocator + Copy> Parts<B, A> {
             (B.past_of self.old.below).file.content) }
         ensures shape { self.new.shape ≡ self.old.shape }
         ensures refused { self.new.refused ≡ self.old.refused }
+        ensures found { OnOk result (AreInAreas self.old.shape (B.past_of self.old.below).file.content
+            (value_of self.new).offered) }
         ensures stays { StaysRecovered self.old.shape (B.past_of self.old.below) (B.past_of self.new.below) }
+        ensures before { LeavesBefore self.old.shape (B.past_of self.old.below) (B.past_of self.new.below) }
         ensures quiet { OnOk result (B.failures self.new.below ≡ B.failures self.old.below) }
         ensures no_memory { IfErr result (λ e. e ≢ OpenError.NoMemory) }
         ensures no_batch { IfErr result (λ e. e ≡ OpenError.NoBatch
@@ -168,6 +172,8 @@ impl<B: Blocks, A: Allocator + Copy> Parts<B, A> {
             ≡ recovered self.old.shape (B.past_of self.old.below).file.content) }
         ensures honest { OnOk result (IsHonest (value_of self.new).offered self.old.shape
             (B.past_of self.old.below).file.content) }
+        ensures found { OnOk result (AreInAreas self.old.shape (B.past_of self.old.below).file.content
+            (value_of self.new).offered) }
         ensures shape { self.new.shape ≡ self.old.shape }
         ensures refused { self.new.refused ≡ self.old.refused }
         ensures err { IfErr result (λ e. e ≡ OpenError.FileFailed) }

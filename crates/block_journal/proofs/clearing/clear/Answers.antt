@@ -1,8 +1,8 @@
-use Rattle.std.proofs.Common.{◌≡◌, [], Err, Some, length, refl, sym, ◌∙◌, ap, subst, arith}
+use Rattle.std.proofs.Common.{◌≡◌, ◌*◌, [], Err, Some, length, refl, sym, ◌∙◌, ap, subst, arith}
 use Rattle.std.proofs.lemmas.Result.{err_from_is_err_and}
 use Rattle.sector_device.proofs.Counts.{counts_later}
-use Rattle.block_device.specs.Blocks.{Image, BlockFile, IsSynced, after_sync}
-use Rattle.block_device.proofs.Within.{holds_after_sync}
+use Rattle.block_device.specs.Blocks.{Image, BlockFile, InRun, IsSynced, after_sync}
+use Rattle.block_device.proofs.Within.{holds_after_sync, within_sync}
 use Rattle.block_batch.specs.Batch.{replayed}
 use Rattle.block_batch.specs.Replay.{pending}
 use Rattle.block_journal.specs.Layout.{found, found_in, kept_of, recovered}
@@ -24,6 +24,7 @@ returns-in_err-clear_area g c =
       synced = tt;
       kept = c.clear_area.ensures.kept;
       size = c.clear_area.ensures.size;
+      within = c.clear_area.ensures.within;
       counts = c.in_err-clear_area.ensures.counts;
     })
 
@@ -35,6 +36,7 @@ returns-in_err-clear_area-2 g c =
       synced = tt;
       kept = c.clear_area-2.ensures.kept ∙ c.clear_area.ensures.kept;
       size = c.clear_area-2.ensures.size ∙ c.clear_area.ensures.size;
+      within = λ image start from. c.clear_area-2.ensures.within image start (c.clear_area.ensures.within image start from);
       counts = counts_later _ _ _ _ c.in_ok-clear_area.ensures.counts.none c.in_err-clear_area-2.ensures.counts;
     })
 
@@ -57,5 +59,8 @@ returns g c =
       synced = on_ok (new ≡ after_sync mid) (IsSynced new) c.sync.result (λ ok. subst IsSynced (sym ok) (λ n. refl)) c.sync.ensures.ok;
       kept = holds_after_sync (λ f. kept_of shape f.content ≡ kept_of shape start) mid new c.sync.result c.sync.ensures.ok c.sync.ensures.err kept kept;
       size = holds_after_sync (λ f. length f.content ≡ length start) mid new c.sync.result c.sync.ensures.ok c.sync.ensures.err size size;
+      within = λ image start from. within_sync (InRun shape.first (2 * shape.area)) image start (h c.clear_area-2.new.below) (h c.sync.new.self)
+          (c.clear_area-2.ensures.within image start (c.clear_area.ensures.within image start from)) c.sync.ensures.time c.sync.result c.sync.ensures.ok
+          c.sync.ensures.err;
       counts = counts_later _ _ _ c.sync.result (c.in_ok-clear_area-2.ensures.counts.none ∙ c.in_ok-clear_area.ensures.counts.none) c.sync.ensures.counts;
     }

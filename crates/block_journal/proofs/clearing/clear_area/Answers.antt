@@ -1,7 +1,7 @@
-use Rattle.std.proofs.Common.{◌≡◌, ◌≤◌, [], Some, length, ◌∙◌, ap, arith}
-use Rattle.block_device.specs.Blocks.{Image, BlockFile, after_write, block}
+use Rattle.std.proofs.Common.{◌≡◌, ◌≤◌, ◌*◌, [], Some, length, ◌∙◌, ap, arith}
+use Rattle.block_device.specs.Blocks.{Image, BlockFile, InRun, after_write, block}
 use Rattle.block_device.proofs.Images.{length-with_run}
-use Rattle.block_device.proofs.Within.{holds_after_write}
+use Rattle.block_device.proofs.Within.{holds_after_write, within_write}
 use Rattle.block_batch.specs.Batch.{Batch, count_in}
 use Rattle.block_journal.specs.Layout.{area_of, area_start, found, kept_of}
 use Rattle.block_journal.proofs.Crash.{area_before_kept}
@@ -51,5 +51,8 @@ returns g c =
           c.write.ensures.ok c.write.ensures.err
           (λ some same. area_kept shape old.content c.requires.inside a some low (omega (arith, short, same)));
       size = size;
+      within = λ image start so_far. within_write (InRun shape.first (2 * shape.area)) image start (h c.args.below.now) (h c.write.new.self) so_far
+          c.write.ensures.time (area_start shape a) sealed c.write.result
+          (λ n inside. (omega (arith, inside.0), omega (arith, inside.1, short, area_before_kept shape a low))) c.write.ensures.ok c.write.ensures.err;
       counts = c.write.ensures.counts;
     }

@@ -1,6 +1,8 @@
-use Rattle.std.proofs.Common.{◌≡◌, inl, inr, ⊎_elim, Bool, true, false, [], ◌∷◌, ◌++◌, refl, sym, ◌∙◌, ap, arith}
+use Rattle.std.proofs.Common.{◌≡◌, inl, inr, ⊎_elim, ◌+◌, ◌%◌, Bool, true, false, [], ◌∷◌, ◌++◌, refl, sym, ◌∙◌, ap, arith}
 use Rattle.std.proofs.lemmas.Bool.{false≢true}
 use Rattle.block_journal.specs.Value.{JournalValue, content_of, next_batch, settled_of}
+use Rattle.block_journal.specs.Journal.{MayWrite}
+use Rattle.block_journal.proofs.Before.{leaves_before, none_before, not_by_commit}
 use Rattle.block_journal.specs.Parts.{value_of}
 use Rattle.block_journal.proofs.Closing.{empty_commit}
 use Rattle.block_journal.proofs.Committing.{either_left, nothing_left}
@@ -52,6 +54,9 @@ returns-then-can_commit g c =
       kept = on_err _ _ r (λ is. ap (λ (v : JournalValue g.row.B.Denot). v.next) is) done.err;
       failed = on_err _ _ r (λ is. ap (λ (v : JournalValue g.row.B.Denot). v.has_failed) is) done.err;
       any_moment = λ _. either_left past_of old ready new offered done.within;
+      offered = record { next = λ _. offered; none = λ not. absurd (not (c.if-can_commit.ensures.can refl)) };
+      before = λ _. leaves_before p.shape (MayWrite p.shape ((p.number + 1) % 2) old.last.entries) (past_of p.below) (past_of new.below)
+          (not_by_commit p.shape ((p.number + 1) % 2) old.last.entries) done.within;
       refused = λ was. absurd (false≢true (sym good ∙ was));
       shape = shape;
       fails = on_err _ _ r (λ rises. inr (inr rises)) done.counts.failed;
@@ -75,6 +80,12 @@ returns-else-can_commit g c =
       failed = refl;
       any_moment = λ good. nothing_left past_of (value_of p) (c.self.invariant.ready good)
           (record (value_of p) { has_failed = true; refused = c.saturating_add-self-inside.result }) refl refl;
+      offered = record {
+        next = λ can. ⊎_elim (λ was. absurd (false≢true (sym can.0 ∙ was))) (λ most. absurd (omega (arith, can.1, most)))
+            (c.if-can_commit.ensures.cannot refl);
+        none = λ _. refl;
+      };
+      before = λ good. none_before p.shape (past_of p.below) (c.self.invariant.ready good).synced;
       refused = λ was. ap (λ (b : Bool). record (value_of p) { has_failed = b; refused = c.saturating_add-self-inside.result }) (sym was);
       shape = refl;
       fails = ⊎_elim (λ was. inl was) (λ most. inr (inl most)) (c.if-can_commit.ensures.cannot refl);

@@ -4,7 +4,8 @@ use Rattle.block_device.specs.Blocks.{BlockFile}
 use Rattle.block_device.specs.BlocksPast.{RunsWithin}
 use Rattle.block_device.proofs.Within.{within_same}
 use Rattle.block_journal.specs.Layout.{IsHonest, IsInside, recovered}
-use Rattle.block_journal.specs.Journal.{InRunOrKept, pending_in}
+use Rattle.block_journal.specs.Journal.{AreInAreas, InRunOrKept, pending_in}
+use Rattle.block_journal.proofs.Before.{leaves_before, not_by_replay}
 use Rattle.block_journal.specs.declared.refusal.OpenError.{OpenError}
 use Rattle.block_journal.specs.declared.refusal.OpenError.TheVariants.{FileFailed}
 use Rattle.block_journal.specs.Opening.{HasTakenBoth}
@@ -36,9 +37,14 @@ returns-in-Err g c =
       none = tt;
       settled = tt;
       honest = tt;
+      found = tt;
       shape = refl;
       refused = refl;
       stays = stays_recovered p.shape (h p.below) (h c.read_areas.new.below) c.requires.inside
+          (within_same (InRunOrKept p.shape 0 0 (pending_in p.shape (h p.below).file.content)) (h p.below).file.content (h p.below) (h p.below)
+          (h c.read_areas.new.below) (within_pending p.shape (h p.below) c.requires.synced) reads.time reads.file);
+      before = leaves_before p.shape (InRunOrKept p.shape 0 0 (pending_in p.shape (h p.below).file.content)) (h p.below) (h c.read_areas.new.below)
+          (not_by_replay p.shape (pending_in p.shape (h p.below).file.content))
           (within_same (InRunOrKept p.shape 0 0 (pending_in p.shape (h p.below).file.content)) (h p.below).file.content (h p.below) (h p.below)
           (h c.read_areas.new.below) (within_pending p.shape (h p.below) c.requires.synced) reads.time reads.file);
       quiet = tt;
@@ -58,9 +64,14 @@ returns-in-Ok-None g c =
       none = tt;
       settled = tt;
       honest = tt;
+      found = tt;
       shape = refl;
       refused = refl;
       stays = stays_recovered p.shape (h p.below) (h c.read_areas.new.below) c.requires.inside
+          (within_same (InRunOrKept p.shape 0 0 (pending_in p.shape (h p.below).file.content)) (h p.below).file.content (h p.below) (h p.below)
+          (h c.read_areas.new.below) (within_pending p.shape (h p.below) c.requires.synced) reads.time reads.file);
+      before = leaves_before p.shape (InRunOrKept p.shape 0 0 (pending_in p.shape (h p.below).file.content)) (h p.below) (h c.read_areas.new.below)
+          (not_by_replay p.shape (pending_in p.shape (h p.below).file.content))
           (within_same (InRunOrKept p.shape 0 0 (pending_in p.shape (h p.below).file.content)) (h p.below).file.content (h p.below) (h p.below)
           (h c.read_areas.new.below) (within_pending p.shape (h p.below) c.requires.synced) reads.time reads.file);
       quiet = tt;
@@ -109,8 +120,10 @@ returns-in-Ok-Some g c =
       none = done.none;
       settled = on_ok _ _ r (λ ok. ok ∙ ap (λ (f : BlockFile). recovered p.shape f.content) same) done.settled;
       honest = on_ok _ _ r (λ ok. subst (λ (f : BlockFile). IsHonest (value_of c.settle.new.self).offered p.shape f.content) same ok) done.honest;
+      found = on_ok _ _ r (λ ok. subst (λ (f : BlockFile). AreInAreas p.shape f.content (value_of c.settle.new.self).offered) same ok) done.found;
       shape = done.shape;
       refused = done.refused;
+      before = leaves_before p.shape (S old) (h p.below) (h c.settle.new.self.below) (not_by_replay p.shape (pending_in p.shape old.content)) within;
       stays = stays_recovered p.shape (h p.below) (h c.settle.new.self.below) c.requires.inside within;
       quiet = on_ok _ _ r (λ ok. ok ∙ counted) done.counts.none;
       no_memory = IfErr-weaker r _ _ (λ e is never. absurd (cc)) done.err;

@@ -1,8 +1,9 @@
 use Rattle.std.proofs.Common.{◌+◌, ◌%◌, false, refl, sym, ◌∙◌, subst}
 use Rattle.block_journal.specs.declared.parts.Parts.{Parts}
 use Rattle.block_journal.specs.Layout.{IsHonest, found}
+use Rattle.block_journal.specs.Journal.{AreInAreas}
 use Rattle.block_journal.specs.Gathered.{entries_of}
-use Rattle.block_journal.proofs.Opening.{found_honest}
+use Rattle.block_journal.proofs.Opening.{found_honest, found_in_areas}
 use Rattle.block_journal.proofs.Parting.{settled_opened, sound_opened}
 use Rattle.block_journal.proofs.Recovering.{are_found, first_places, its_batch}
 use Rattle.block_journal.proofs.Results.{from_ok, from_err}
@@ -32,6 +33,7 @@ returns-then-is_err g c =
       none = tt;
       settled = tt;
       honest = tt;
+      found = tt;
       shape = refl;
       refused = refl;
       err = refl;
@@ -72,6 +74,8 @@ returns g c =
           c.requires.next c.requires.next_size finds replayed.size replayed.areas placed synced offers refl;
       honest = subst (λ o. IsHonest o p.shape content) (sym offers)
           (found_honest p.shape content (record { number = c.args.number; entries = entries_of p.last }) c.args.before (entries_of p.next) finds);
+      found = subst (λ o. AreInAreas p.shape content o) (sym offers)
+          (found_in_areas p.shape content (record { number = c.args.number; entries = entries_of p.last }) c.args.before (entries_of p.next) finds);
       shape = refl;
       refused = refl;
       err = tt;
