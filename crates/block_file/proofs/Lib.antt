@@ -3,7 +3,7 @@ mod Damage
 mod Ending
 mod Keeping
 mod Moving
-pub mod NewFile
+mod NewFile
 mod Openings
 mod Patching
 mod Pushing
