@@ -4,8 +4,9 @@ ghost use Rattle.std.specs.Prelude.{IfErr, IfNone, IfOk, IfSome, OnErr, OnOk};
 ghost use Rattle.sector_device.specs.DevicePast.{CountsFailure, Rises};
 ghost use Rattle.block_device.specs.Blocks.{Image, IsCrashImage, IsSynced, block};
 ghost use Rattle.block_journal.specs.Layout.{IsHonest, IsInside, found, kept_of, recovered};
-ghost use Rattle.block_journal.specs.Journal.{IsPending, NeedsNoArea, OnlyReads, StaysRecovered};
-ghost use Rattle.block_journal.specs.Value.{LeavesEither, failures_of, room_of};
+ghost use Rattle.block_journal.specs.Journal.{AreInAreas, IsPending, LeavesBefore, NeedsNoArea, OnlyReads};
+ghost use Rattle.block_journal.specs.Journal.{StaysRecovered};
+ghost use Rattle.block_journal.specs.Value.{LeavesEither, Offers, failures_of, room_of};
 ghost use Rattle.block_table.specs.Table.{IsFirstUnfit, IsFit, kept_count};
 
 use crate::rows::{digest_at, read_rows, set_digest};
@@ -69,10 +70,13 @@ impl<B: Blocks, A: Allocator + Copy> CheckedBlocks<B, A> {
         ensures blocks { IfOk result (λ c. c.blocks ≡ blocks) }
         ensures sound { IfOk result (λ c. c.journal.has_failed ≡ false) }
         ensures honest { IfOk result (λ c. IsHonest c.journal.offered shape (B.past_of below).file.content) }
+        ensures found { IfOk result (λ c. AreInAreas shape (B.past_of below).file.content c.journal.offered) }
         ensures any_moment { IfOk result (λ c. StaysRecovered shape (B.past_of below) (B.past_of c.journal.below)) }
+        ensures before { IfOk result (λ c. LeavesBefore shape (B.past_of below) (B.past_of c.journal.below)) }
         ensures quiet { IfOk result (λ c. B.failures c.journal.below ≡ B.failures below) }
         ensures unrefused { IfOk result (λ c. c.journal.refused ≡ 0) }
         ensures refused { IfErr result (λ e. StaysRecovered shape (B.past_of below) (B.past_of e.file)) }
+        ensures before_refused { IfErr result (λ e. LeavesBefore shape (B.past_of below) (B.past_of e.file)) }
         ensures no_batch { IfErr result (λ e. e.error ≡ OpenError.NoBatch
             → (found shape (B.past_of below).file.content 0 ≡ None)
             × (found shape (B.past_of below).file.content 1 ≡ None)) }
@@ -116,6 +120,9 @@ impl<B: Blocks, A: Allocator + Copy> CheckedBlocks<B, A> {
             refused = self.new.journal.refused;
           };
         } }
+        ensures good { self.old.journal.has_failed ≡ false → self.new ≡ record self.old {
+          journal = record self.old.journal { below = self.new.journal.below };
+        } }
         ensures reads { OnlyReads (B.past_of self.old.journal.below) (B.past_of self.new.journal.below) }
         ensures counts { CountsRead (failures_of B.failures self.old.journal)
             (failures_of B.failures self.new.journal) result }
@@ -146,6 +153,8 @@ impl<B: Blocks, A: Allocator + Copy> CheckedBlocks<B, A> {
             refused = self.new.journal.refused;
           };
         } }
+        ensures failed { OnErr result ((self.old.journal.has_failed ≡ true)
+            ⊎ Rises (B.failures self.old.journal.below) (B.failures self.new.journal.below)) }
         ensures reads { OnlyReads (B.past_of self.old.journal.below) (B.past_of self.new.journal.below) }
         ensures counts { CountsFailure (failures_of B.failures self.old.journal)
             (failures_of B.failures self.new.journal) result }
@@ -191,6 +200,9 @@ impl<B: Blocks, A: Allocator + Copy> CheckedBlocks<B, A> {
         ensures failed { OnErr result (self.new.journal.has_failed ≡ true) }
         ensures any_moment { self.old.journal.has_failed ≡ false
             → LeavesEither B.past_of self.old.journal self.new.journal }
+        ensures offered { Offers self.old.journal self.new.journal }
+        ensures before { self.old.journal.has_failed ≡ false → LeavesBefore self.old.journal.shape
+            (B.past_of self.old.journal.below) (B.past_of self.new.journal.below) }
         ensures refused { self.old.journal.has_failed ≡ true → self.new.journal ≡ record self.old.journal {
           refused = self.new.journal.refused;
         } }
@@ -216,6 +228,9 @@ impl<B: Blocks, A: Allocator + Copy> CheckedBlocks<B, A> {
         ensures failed { OnErr result (self.new.journal.has_failed ≡ true) }
         ensures any_moment { self.old.journal.has_failed ≡ false
             → LeavesEither B.past_of self.old.journal self.new.journal }
+        ensures offered { Offers self.old.journal self.new.journal }
+        ensures before { self.old.journal.has_failed ≡ false → LeavesBefore self.old.journal.shape
+            (B.past_of self.old.journal.below) (B.past_of self.new.journal.below) }
         ensures refused { self.old.journal.has_failed ≡ true → self.new.journal ≡ record self.old.journal {
           refused = self.new.journal.refused;
         } }
@@ -227,11 +242,12 @@ impl<B: Blocks, A: Allocator + Copy> CheckedBlocks<B, A> {
         self.journal.close()
     }
 
-    /// A law: the journal lies within its file, and keeps the table and the blocks of data. Unless it has failed, what
-    /// a crash leaves of the file now stands, under the premise, for what was committed.
+    /// A law: the journal lies within its file, and keeps the table and the blocks of data. Unless it has failed, no
+    /// block is loose, and what a crash leaves of the file now stands, under the premise, for what was committed.
     pub fn stands(&self)
         ensures inside { IsInside self.now.journal.shape (B.past_of self.now.journal.below).file.content }
         ensures kept { self.now.journal.shape.kept ≡ kept_count self.now.blocks }
+        ensures synced { self.now.journal.has_failed ≡ false → IsSynced (B.past_of self.now.journal.below).file }
         ensures survives { self.now.journal.has_failed ≡ false → (c : Image)
             → IsCrashImage (B.past_of self.now.journal.below).file c
             → IsHonest self.now.journal.offered self.now.journal.shape c

@@ -1,5 +1,5 @@
-use Rattle.std.proofs.Common.{◌≡◌, ℕ, Err, ⊎_elim, refl, sym, ◌∙◌, ap, subst, arith}
-use Rattle.std.proofs.lemmas.Bool.{cases_eq}
+use Rattle.std.proofs.Common.{◌≡◌, inl, inr, ℕ, Err, ⊎_elim, refl, sym, ◌∙◌, ap, subst, arith}
+use Rattle.std.proofs.lemmas.Bool.{cases_Bool, cases_eq}
 use Rattle.sector_device.specs.DevicePast.{Rises}
 use Rattle.block_device.specs.Blocks.{Image}
 use Rattle.block_journal.specs.Value.{failures_of}
@@ -14,6 +14,7 @@ loop-n-init g c = record {
   fits = λ m behind below. absurd (omega (arith, behind, below));
   rest = refl;
   reads = reads_none (g.B.Blocks.past_of c.args.self.now.journal.below);
+  good = λ _. refl;
   quiet = refl;
 }
 
@@ -33,6 +34,8 @@ loop-n-preserved g c =
     let table = table_read h start mid so_far.rest so_far.reads in
     let here : IsFit start.blocks (kept_table h start) n =
     subst (λ (k : ℕ). IsFit k (kept_table h start) n) blocks (subst (λ (l : Image). IsFit mid.blocks l n) table c.in-Ok.ensures.fits) in
+    let F = g.B.Blocks.failures in
+    let same : failures_of F c.read.new.self.journal ≡ failures_of F mid.journal = c.read.ensures.counts.quiet (λ never. absurd (cc)) in
     record {
       fits = λ m behind below. ⊎_elim
           (λ same. subst (IsFit start.blocks (kept_table h start)) (sym same) here)
@@ -40,7 +43,11 @@ loop-n-preserved g c =
           (cases_eq m n);
       rest = read_then start mid c.read.new.self so_far.rest c.read.ensures.rest;
       reads = reads_then _ _ _ so_far.reads c.read.ensures.reads;
-      quiet = c.read.ensures.counts.quiet (λ never. absurd (cc)) ∙ so_far.quiet;
+      good = λ sound.
+          let refused = ap (λ (x : CheckedValue g.row.B.Denot). x.journal.refused)
+          (c.read.ensures.good (ap (λ (x : CheckedValue g.row.B.Denot). x.journal.has_failed) so_far.rest ∙ sound)) in
+          omega (arith, same, refused, so_far.good sound);
+      quiet = same ∙ so_far.quiet;
     }
 
 pub returns-in-Err-Damaged : goal.returns-in-Err-Damaged
@@ -64,6 +71,7 @@ returns-in-Err-Damaged g c =
       };
       sound = tt;
       rest = read_then start mid c.read.new.self so_far.rest read.rest;
+      failed = tt;
       reads = reads_then _ _ _ so_far.reads read.reads;
       counts = record { later = omega (arith, none); none = none; failed = tt };
     }
@@ -78,6 +86,12 @@ returns-in-Err-FileFailed g c =
       unfit = tt;
       sound = tt;
       rest = read_then start mid c.read.new.self so_far.rest read.rest;
+      failed = ⊎_elim (λ was. inl was)
+          (λ sound. ⊎_elim
+          (λ was. inl (sym (ap (λ (x : CheckedValue g.row.B.Denot). x.journal.has_failed) so_far.rest) ∙ was))
+          (λ up. inr (subst (λ (a : ℕ). Rises a (g.B.Blocks.failures c.read.new.self.journal.below)) (so_far.good sound) up))
+          (c.in-Err-FileFailed.ensures.failed (ap Err c.in-Err-FileFailed.field-0-is)))
+          (cases_Bool start.journal.has_failed);
       reads = reads_then _ _ _ so_far.reads read.reads;
       counts = record {
         later = omega (arith, read.counts.later, so_far.quiet);
@@ -95,6 +109,7 @@ returns g c =
       sound = λ n behind below. so_far.fits n behind
           (omega (arith, below, c.loop-n-test.false, ap (λ (x : CheckedValue g.row.B.Denot). x.blocks) c.self.view_is));
       rest = so_far.rest;
+      failed = tt;
       reads = so_far.reads;
       counts = record { later = omega (arith, so_far.quiet); none = so_far.quiet; failed = tt };
     }

@@ -21,6 +21,7 @@ returns-then-is_err g c =
       err = refl;
       failed = λ _. from_err _ _ failed done.fails;
       rest = ap (λ (v : JournalValue g.row.B.Denot). record { journal = v; blocks = c.self.inside.blocks }) done.rest;
+      good = λ sound. ap (λ (w : JournalValue g.row.B.Denot). record { journal = w; blocks = c.self.inside.blocks }) (done.good sound);
       reads = done.reads;
       counts = record {
         later = done.counts.later;
@@ -54,6 +55,7 @@ returns-then-told-found g c =
       err = refl;
       failed = λ is. absurd (cc);
       rest = ap (λ (w : JournalValue g.row.B.Denot). record { journal = w; blocks = blocks }) done.rest;
+      good = λ sound. ap (λ (w : JournalValue g.row.B.Denot). record { journal = w; blocks = c.self.inside.blocks }) (done.good sound);
       reads = done.reads;
       counts = record {
         later = done.counts.later;
@@ -87,6 +89,7 @@ returns g c =
       err = tt;
       failed = λ is. absurd (cc);
       rest = ap (λ (w : JournalValue g.row.B.Denot). record { journal = w; blocks = blocks }) done.rest;
+      good = λ sound. ap (λ (w : JournalValue g.row.B.Denot). record { journal = w; blocks = c.self.inside.blocks }) (done.good sound);
       reads = done.reads;
       counts = record {
         later = done.counts.later;

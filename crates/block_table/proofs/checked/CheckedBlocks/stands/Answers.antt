@@ -5,5 +5,6 @@ returns g c =
     rw (← c.self.view_is) (record {
       inside = c.stands.ensures.inside;
       kept = c.self.invariant.kept;
+      synced = c.stands.ensures.synced;
       survives = c.stands.ensures.survives;
     })
