@@ -1,6 +1,7 @@
 mod Counting
 mod Damage
 mod Ending
+mod Heading
 mod Keeping
 mod Moving
 mod NewFile

@@ -1,14 +1,14 @@
 -- A state is noted, and then it changed.
 use Rattle.std.proofs.Common.{◌≡◌, inl, inr, ⊎_elim, ℕ, ◌+◌, ◌<◌, ◌≤◌, List, [], ◌∷◌, ◌++◌, length, slice_index_or, sym, ◌∙◌, ap, subst, arith}
-use Rattle.std.proofs.lemmas.Bool.{cases_eq}
+use Rattle.std.proofs.lemmas.Bool.{cases_eq, cases_lt}
 use Rattle.std.proofs.lemmas.List.{get_or_past, get_or_push, get_or_append_left, get_or_default, length_push}
 use Rattle.sector_device.specs.DevicePast.{Elapses}
-use Rattle.block_device.specs.Blocks.{Image, BlockFile, IsCrashImage}
+use Rattle.block_device.specs.Blocks.{Image, BlockFile, IsCrashImage, block}
 use Rattle.block_device.specs.BlocksPast.{BlocksPast, LeavesOnly}
 use Rattle.block_file.specs.declared.plan.Plan.{Plan}
 use Rattle.block_file.specs.declared.parts.Held.{Held}
 use Rattle.block_file.specs.declared.parts.DiskParts.{DiskParts}
-use Rattle.block_file.specs.Disks.{StandsForCrash, disk_of, disk_past, journal_in, moment_in, state_at}
+use Rattle.block_file.specs.Disks.{BeforeStays, EachOffers, OffersOne, StandsForCrash, disk_of, disk_past, first_content, journal_in, moment_in, state_at}
 use Rattle.block_file.specs.Plans.{IsPlan}
 use Rattle.block_file.specs.Moves.{IsKept, IsSound}
 
@@ -96,8 +96,40 @@ module _ {B A : Type 0} (past_of : B → BlocksPast) (d n : DiskParts B A) (plan
         (subst (λ (s : Held B A). StandsForCrash d.plan (journal_in n.now).offered (disk_of past_of d.plan s) image) (sym here)
         (leaves.each t image low high crash)))
 
-    pub sound_pushed : IsKept past_of n.plan n.now → IsSound past_of n
-    sound_pushed kept = record {
+    -- what is handed to be written
+    offers_pushed : OffersOne (journal_in d.now) (journal_in n.now) → EachOffers n
+    offers_pushed more j below = elim (cases_eq j (length d.past.items)) [
+      | inl last ↦
+          let here : state_at n j ≡ d.now = stays j (omega (arith, last)) ∙ get_or_past d.past.items j d.now (omega (arith, last)) in
+          let next : state_at n (j + 1) ≡ n.now = get_or_past n.past.items (j + 1) n.now (omega (arith, last, long)) in
+          subst (λ (s : Held B A). OffersOne (journal_in s) (journal_in (state_at n (j + 1)))) (sym here)
+          (subst (λ (s : Held B A). OffersOne (journal_in d.now) (journal_in s)) (sym next) more)
+      | inr other ↦
+          let under : j < length d.past.items = omega (arith, below, other, long) in
+          subst (λ (s : Held B A). OffersOne (journal_in s) (journal_in (state_at n (j + 1)))) (sym (stays j (omega (arith, under))))
+          (subst (λ (s : Held B A). OffersOne (journal_in (state_at d j)) (journal_in s)) (sym (stays (j + 1) (omega (arith, under)))) (sound.offers j under))
+    ]
+
+    -- the blocks before the journal
+    before_pushed : LeavesOnly (past_of (journal_in d.now).below) (past_of (journal_in n.now).below)
+        (λ c. (k : ℕ) → k < d.plan.shape.first → block c k ≡ block (first_content past_of d) k) → BeforeStays past_of n
+    before_pushed run t image from to crash k below =
+        let start : state_at n 0 ≡ state_at d 0 = stays 0 (omega arith) in
+        let low : moment_in past_of (state_at d 0) ≤ t = subst (λ (s : Held B A). moment_in past_of s ≤ t) start from in
+        let under : k < d.plan.shape.first = subst (λ (p : Plan). k < p.shape.first) plan below in
+        let same : block (first_content past_of d) k ≡ block (first_content past_of n) k =
+        ap (λ (s : Held B A). block (past_of (journal_in s).below).file.content k) (sym start) in
+        ⊎_elim
+        (λ early. sound.before t image low (omega (arith, early)) (subst (λ (f : BlockFile). IsCrashImage f image) (leaves.kept t (omega (arith, early))) crash)
+        k under ∙ same)
+        (λ late. run.each t image late to crash k under ∙ same)
+        (cases_lt t (moment_in past_of d.now))
+
+    pub sound_pushed : OffersOne (journal_in d.now) (journal_in n.now) → LeavesOnly (past_of (journal_in d.now).below) (past_of (journal_in n.now).below)
+        (λ c. (k : ℕ) → k < d.plan.shape.first → block c k ≡ block (first_content past_of d) k) → IsKept past_of n.plan n.now → IsSound past_of n
+    sound_pushed more run kept = record {
+      offers = offers_pushed more;
+      before = before_pushed run;
       plan = subst IsPlan (sym plan) sound.plan;
       kept = kept;
       rising = rising_now;

@@ -1,18 +1,20 @@
 -- What a device over a file of blocks holds, and what a crash leaves of the file.
-use Rattle.std.specs.Prelude.{ℕ, ◌+◌, ◌<◌, Bool, false, ◌||◌, ◌==◌, List, [], ◌∷◌, length, slice_index_or}
+use Rattle.std.specs.Prelude.{◌≡◌, ◌⊎◌, ℕ, ◌+◌, ◌<◌, Bool, false, ◌||◌, ◌==◌, List, [], ◌∷◌, ◌++◌, length}
+use Rattle.std.specs.Prelude.{slice_index_or, Some}
 use Rattle.std.proofs.Common.{ap, le_refl}
 use Rattle.std.proofs.lemmas.List.{get_or_past}
 use Rattle.sector_device.specs.Disk.{Disk, IsCrashState}
 use Rattle.sector_device.specs.DevicePast.{DevicePast}
-use Rattle.block_device.specs.Blocks.{Image, IsCrashImage}
+use Rattle.block_device.specs.Blocks.{Image, IsCrashImage, block}
 use Rattle.block_device.specs.BlocksPast.{BlocksPast, Between}
 use Rattle.block_batch.specs.Batch.{Batch}
 use Rattle.block_journal.specs.Layout.{IsHonest}
-use Rattle.block_journal.specs.Value.{JournalValue, failures_of}
+use Rattle.block_journal.specs.Value.{JournalValue, failures_of, next_batch}
 use Rattle.block_table.specs.Checked.{data_now}
 use Rattle.block_file.specs.declared.plan.Plan.{Plan}
 use Rattle.block_file.specs.declared.parts.Held.{Held}
 use Rattle.block_file.specs.declared.parts.DiskParts.{DiskParts}
+use Rattle.block_file.specs.Header.{plan_told}
 use Rattle.block_file.specs.Plans.{disk_image}
 use Rattle.block_file.specs.Sectors.{sectors_of, sectors_are_whole}
 
@@ -25,6 +27,10 @@ is_one_of (n ∷ sectors) k = (k == n) || is_one_of sectors k
 abbrev pub StandsForCrash : Plan → List Batch → Disk → Image → Type 0
 StandsForCrash p offered disk image = IsHonest offered p.shape image → IsCrashState disk (disk_image p image)
 
+-- of these batches one more was handed to be written, which a commit makes, or none
+abbrev pub OffersOne : {B : Type 0} → JournalValue B → JournalValue B → Type 0
+OffersOne old new = (new.offered ≡ old.offered) ⊎ (new.offered ≡ old.offered ++ next_batch old ∷ [])
+
 module _ {B A : Type 0} where
   -- the journal in a state
   abbrev pub journal_in : Held B A → JournalValue B
@@ -33,6 +39,12 @@ module _ {B A : Type 0} where
   -- the t-th state: one of those that were, or the last one
   abbrev pub state_at : DiskParts B A → ℕ → Held B A
   state_at d t = slice_index_or d.past.items t d.now
+
+  -- THE LAW: From one moment of the disk to the next one at most one batch is handed to be written: the one that was
+  -- gathered.
+  abbrev pub EachOffers : DiskParts B A → Type 0
+  EachOffers d = (j : ℕ) → j < length d.past.items
+      → OffersOne (journal_in (state_at d j)) (journal_in (state_at d (j + 1)))
 
   -- how many calls have failed: of the file, and reads of a block that was damaged
   abbrev pub disk_failures : (B → ℕ) → DiskParts B A → ℕ
@@ -71,3 +83,20 @@ module _ {B A : Type 0} where
     abbrev pub CrashStandsNow : Plan → Held B A → Type 0
     CrashStandsNow p s = (image : Image) → IsCrashImage (past_of (journal_in s).below).file image
         → StandsForCrash p (journal_in s).offered (disk_of p s) image
+
+    -- what the file held as the disk was opened
+    abbrev pub first_content : DiskParts B A → Image
+    first_content d = (past_of (journal_in (state_at d 0)).below).file.content
+
+    -- whatever a crash leaves since the disk was opened has P
+    abbrev pub SinceOpened : DiskParts B A → (Image → Type 0) → Type 0
+    SinceOpened d P = Between (past_of (journal_in d.now).below).file_at (moment_in (state_at d 0)) (moment_in d.now) P
+
+    -- THE LAW: Whatever a crash leaves since the disk was opened has the blocks before the journal as they were then;
+    abbrev pub BeforeStays : DiskParts B A → Type 0
+    BeforeStays d = SinceOpened d
+        (λ image. (n : ℕ) → n < d.plan.shape.first → block image n ≡ block (first_content d) n)
+
+    -- and so it tells where the disk is, if the file did then.
+    abbrev pub TellsStill : DiskParts B A → Type 0
+    TellsStill d = plan_told (first_content d) ≡ Some d.plan → SinceOpened d (λ image. plan_told image ≡ Some d.plan)

@@ -2,7 +2,7 @@
 use Rattle.std.specs.Prelude.{◌≡◌, ◌⊎◌, ℕ, ◌≤◌, true, false, length}
 use Rattle.sector_device.specs.Disk.{IsCrashState}
 use Rattle.block_device.specs.BlocksPast.{BlocksPast}
-use Rattle.block_journal.specs.Journal.{OnlyReads}
+use Rattle.block_journal.specs.Journal.{LeavesBefore, OnlyReads}
 use Rattle.block_journal.specs.Value.{LeavesEither}
 use Rattle.block_table.specs.Checked.{CheckedValue, kept_table, settled_data, settled_table}
 use Rattle.block_file.specs.declared.plan.Plan.{Plan}
@@ -10,7 +10,8 @@ use Rattle.block_file.specs.declared.parts.Held.{Held}
 use Rattle.block_file.specs.declared.parts.DiskParts.{DiskParts}
 use Rattle.block_file.specs.Plans.{IsPlan}
 use Rattle.block_file.specs.Sectors.{sectors_of}
-use Rattle.block_file.specs.Disks.{CrashStandsNow, EachCrashStands, disk_of, journal_in, moment_in, state_at}
+use Rattle.block_file.specs.Disks.{BeforeStays, CrashStandsNow, EachCrashStands, EachOffers, OffersOne, disk_of}
+use Rattle.block_file.specs.Disks.{journal_in, moment_in, state_at}
 
 -- What was put may have been committed: as the file stood before, or with all that was put.
 pub record Moves {B : Type 0} (past_of : B → BlocksPast) (old new : CheckedValue B) : Type 0 where
@@ -19,6 +20,9 @@ pub record Moves {B : Type 0} (past_of : B → BlocksPast) (old new : CheckedVal
   pub settled : (settled_table past_of new ≡ settled_table past_of old)
       ⊎ (settled_table past_of new ≡ kept_table past_of old)
   pub any_moment : old.journal.has_failed ≡ false → LeavesEither past_of old.journal new.journal
+  pub offers : OffersOne old.journal new.journal
+  pub before : old.journal.has_failed ≡ false
+      → LeavesBefore old.journal.shape (past_of old.journal.below) (past_of new.journal.below)
   pub refused : old.journal.has_failed ≡ true
       → OnlyReads (past_of old.journal.below) (past_of new.journal.below) × (new.journal.offered ≡ old.journal.offered)
 
@@ -35,3 +39,5 @@ module _ {B A : Type 0} (past_of : B → BlocksPast) where
     pub kept : IsKept d.plan d.now
     pub rising : (j : ℕ) → j ≤ length d.past.items → moment_in past_of (state_at d j) ≤ moment_in past_of d.now
     pub each : EachCrashStands past_of d
+    pub offers : EachOffers d
+    pub before : BeforeStays past_of d

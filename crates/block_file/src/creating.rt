@@ -1,13 +1,13 @@
 //! A file of blocks is made, for a new device.
-ghost use Rattle.std.specs.Prelude.{◌≡◌, ◌≢◌, ℕ, false, replicate, IfErr, IfOk};
+ghost use Rattle.std.specs.Prelude.{◌≡◌, ◌≢◌, ℕ, false, replicate, Some, IfErr, IfOk};
 ghost use Rattle.sector_device.specs.Disk.{IsSynced};
 ghost use Rattle.sector_device.specs.DevicePast.{Rises};
 ghost use Rattle.sector_device.specs.Values.{zero_sector};
 ghost use Rattle.block_journal.specs.Layout.{IsInside};
 ghost use Rattle.block_table.specs.Checked.{settled_table};
 ghost use Rattle.block_table.specs.Table.{EachFits};
-ghost use Rattle.block_file.specs.Disks.{disk_past, journal_in};
-ghost use Rattle.block_file.specs.Header.{CanBeTold};
+ghost use Rattle.block_file.specs.Disks.{disk_past, first_content, journal_in};
+ghost use Rattle.block_file.specs.Header.{CanBeTold, plan_told};
 ghost use Rattle.block_file.specs.Making.{BecomesZeros};
 
 use crate::making::lay_out;
@@ -31,6 +31,7 @@ pub fn create<B: Blocks, A: Allocator + Copy>(
     requires told { CanBeTold plan }
     requires synced { (n : ℕ) → (B.past_of below).file.loose n ≡ false }
     ensures plan { IfOk result (λ d. d.plan ≡ plan) }
+    ensures still { IfOk result (λ d. plan_told (first_content B.past_of d) ≡ Some plan) }
     ensures content { IfOk result (λ d. (disk_past B.past_of d).disk.content
         ≡ replicate plan.sectors zero_sector) }
     ensures synced { IfOk result (λ d. IsSynced (disk_past B.past_of d).disk) }

@@ -42,7 +42,8 @@ impl<B: Blocks, A: Allocator> Model for BlockDisk<B, A> {
 impl<B: Blocks, A: Allocator + Copy> BlockDisk<B, A> {
     ghost use Rattle.block_file.specs.Closing.{StandsAlone};
     ghost use Rattle.block_file.specs.Damage.{IsFirstDamaged, IsSectorFit};
-    ghost use Rattle.block_file.specs.Disks.{CrashStandsNow, EachCrashStands, disk_failures, disk_past, journal_in};
+    ghost use Rattle.block_file.specs.Disks.{CrashStandsNow, EachCrashStands, EachOffers, TellsStill, disk_failures};
+    ghost use Rattle.block_file.specs.Disks.{disk_past, first_content, journal_in};
 
     /// The device whose sectors these blocks hold, which were just opened: all of them synced.
     pub fn over(checked: CheckedBlocks<B, A>, plan: Plan) -> Self
@@ -58,6 +59,7 @@ impl<B: Blocks, A: Allocator + Copy> BlockDisk<B, A> {
         ensures plan { result.plan ≡ plan }
         ensures journal { journal_in result.now ≡ checked.journal }
         ensures failures { disk_failures B.failures result ≡ failures_of B.failures checked.journal }
+        ensures first { first_content B.past_of result ≡ (B.past_of checked.journal.below).file.content }
     {
         checked.stands();
         BlockDisk {
@@ -74,10 +76,13 @@ impl<B: Blocks, A: Allocator + Copy> BlockDisk<B, A> {
     }
 
     /// A law: from each moment of the device to the next one, and now, whatever a crash leaves of the file stands,
-    /// under the premise, for a crash state of the device at that moment.
+    /// under the premise, for a crash state of the device at that moment (`each`, `now`). Meanwhile at most the batch
+    /// that was gathered is handed to be written (`offers`), and the file tells where the device is (`told`).
     pub fn stands(&self)
         ensures each { EachCrashStands B.past_of self.now }
         ensures now { CrashStandsNow B.past_of self.now.plan self.now.now }
+        ensures offers { EachOffers self.now }
+        ensures told { TellsStill B.past_of self.now }
     {
         let _ = &self.parts.plan;
     }

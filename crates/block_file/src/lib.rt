@@ -3,11 +3,11 @@
 //!
 //! Proved of a `BlockDisk`, over any `Blocks`: it is a `Device`, with each of its clauses. From each of its moments to
 //! the next, whatever a crash leaves of the file stands, under the premise `IsHonest`, for a crash state of the device
-//! at that moment (`stands`). An opening finds the header, and compares each block with its digest (`open`); a header
-//! is read as it was spelled (`read_header`, `spell_header`). The file of a new device has zeros, whose digests fit,
-//! and a header that tells where (`lay_out`, `create`). Sectors whose bytes changed are told, and only such (`check`).
-//! Behind an end the file stands for the device whatever becomes of its journal (`close`). Neither: the premise; nor
-//! that a header stays while the device is used.
+//! at that moment, and tells where the device is, as it did at the opening (`stands`). An opening finds the header, and
+//! compares each block with its digest (`open`); a header is read as it was spelled (`read_header`, `spell_header`).
+//! The file of a new device has zeros, whose digests fit, and a header that tells where (`lay_out`, `create`). Sectors
+//! whose bytes changed are told, and only such (`check`). Behind an end the file stands for the device whatever becomes
+//! of its journal (`close`). Neither: the premise.
 #![tactic(auto)]
 
 mod creating;

@@ -1,11 +1,12 @@
 //! A file of blocks is opened.
 ghost use Rattle.std.specs.Prelude.{◌≡◌, ◌≢◌, ◌⊎◌, ◌<◌, ℕ, [], false, true, length, None, Some, IfErr, IfOk, IfSome};
 ghost use Rattle.sector_device.specs.Disk.{IsSynced};
+ghost use Rattle.sector_device.specs.DevicePast.{Rises};
 ghost use Rattle.block_journal.specs.Layout.{IsInside, found, recovered};
 ghost use Rattle.block_journal.specs.Journal.{OnlyReads, StaysRecovered};
 ghost use Rattle.block_table.specs.Checked.{settled_data, settled_table};
 ghost use Rattle.block_table.specs.Table.{EachFits, IsFirstUnfit};
-ghost use Rattle.block_file.specs.Disks.{disk_past, journal_in};
+ghost use Rattle.block_file.specs.Disks.{disk_past, first_content, journal_in};
 ghost use Rattle.block_file.specs.Header.{IsCut, first_of, plan_told};
 ghost use Rattle.block_file.specs.Plans.{IsPlan, disk_image};
 ghost use Rattle.block_file.specs.Sectors.{sectors_of};
@@ -84,6 +85,9 @@ fn read_plan<B: Blocks>(below: &mut B) -> Result<Plan, FileError>
     ensures undamaged { IfErr result (λ e. (n : ℕ) → e ≢ FileError.Damaged n) }
     ensures short { IfErr result (λ e. e ≡ FileError.TooShort → length (B.past_of below.old).file.content < 2) }
     ensures batch { IfErr result (λ e. e ≢ FileError.NoBatch) }
+    ensures quiet { IfOk result (λ _. B.failures below.new ≡ B.failures below.old) }
+    ensures failed { IfErr result (λ e. e ≡ FileError.FileFailed
+        → Rises (B.failures below.old) (B.failures below.new)) }
     ensures reads { OnlyReads (B.past_of below.old) (B.past_of below.new) }
 {
     if below.blocks() < 2 {
@@ -130,6 +134,7 @@ fn compared<B: Blocks, A: Allocator + Copy>(
         ≡ sectors_of plan.lead plan.sectors (settled_data B.past_of checked)) }
     ensures synced { IfOk result (λ d. IsSynced (disk_past B.past_of d).disk) }
     ensures fits { IfOk result (λ d. EachFits plan.blocks (settled_table B.past_of checked)) }
+    ensures first { IfOk result (λ d. first_content B.past_of d ≡ (B.past_of checked.journal.below).file.content) }
     ensures read { IfOk result (λ d. OnlyReads (B.past_of checked.journal.below)
         (B.past_of (journal_in d.now).below)) }
     ensures refused { IfErr result (λ e. OnlyReads (B.past_of checked.journal.below) (B.past_of e.file)) }
@@ -138,6 +143,8 @@ fn compared<B: Blocks, A: Allocator + Copy>(
     ensures header { IfErr result (λ e. e.error ≢ FileError.NoHeader) }
     ensures short { IfErr result (λ e. e.error ≢ FileError.TooShort) }
     ensures batch { IfErr result (λ e. e.error ≢ FileError.NoBatch) }
+    ensures failed { IfErr result (λ e. e.error ≡ FileError.FileFailed
+        → Rises (B.failures checked.journal.below) (B.failures e.file)) }
 {
     let mut checked = checked;
     match checked.check(0) {
@@ -163,6 +170,7 @@ pub fn open<B: Blocks, A: Allocator + Copy>(
 ) -> Result<BlockDisk<B, A>, Refused<B>>
     requires { (n : ℕ) → (B.past_of below).file.loose n ≡ false }
     ensures told { IfOk result (λ d. plan_told (B.past_of below).file.content ≡ Some d.plan) }
+    ensures still { IfOk result (λ d. plan_told (first_content B.past_of d) ≡ Some d.plan) }
     ensures content { IfOk result (λ d. (disk_past B.past_of d).disk.content
         ≡ disk_image d.plan (B.past_of below).file.content) }
     ensures synced { IfOk result (λ d. IsSynced (disk_past B.past_of d).disk) }
@@ -180,6 +188,8 @@ pub fn open<B: Blocks, A: Allocator + Copy>(
         → plan_told (B.past_of below).file.content ≡ None) }
     ensures too_short { IfErr result (λ e. e.error ≡ FileError.TooShort
         → (length (B.past_of below).file.content < 2) ⊎ IsCut (B.past_of below).file.content) }
+    ensures failed { IfErr result (λ e. e.error ≡ FileError.FileFailed
+        → Rises (B.failures below) (B.failures e.file)) }
     ensures no_batch { IfErr result (λ e. e.error ≡ FileError.NoBatch → (p : Plan)
         → plan_told (B.past_of below).file.content ≡ Some p
         → (found p.shape (B.past_of below).file.content 0 ≡ None)

@@ -1,9 +1,9 @@
-use Rattle.std.proofs.Common.{◌≡◌, ◌⊎◌, inl, inr, ℕ, [], Some, None, sym, ◌∙◌, ap, subst}
+use Rattle.std.proofs.Common.{◌≡◌, ◌⊎◌, inl, inr, ℕ, ◌<◌, [], Some, None, sym, ◌∙◌, ap, subst}
 use Rattle.sector_device.specs.DevicePast.{Rises}
-use Rattle.block_device.specs.Blocks.{Image}
+use Rattle.block_device.specs.Blocks.{Image, block}
 use Rattle.block_device.specs.BlocksPast.{BlocksPast}
-use Rattle.block_device.proofs.Images.{crash_synced}
-use Rattle.block_device.proofs.Moments.{joined, started}
+use Rattle.block_device.proofs.Images.{content_is_image, crash_synced}
+use Rattle.block_device.proofs.Moments.{at_end, joined, started}
 use Rattle.block_journal.specs.Layout.{found, recovered}
 use Rattle.block_journal.specs.Journal.{StaysRecovered}
 use Rattle.block_journal.specs.Value.{JournalValue, settled_of}
@@ -15,6 +15,7 @@ use Rattle.block_file.specs.declared.plan.Plan.{Plan}
 use Rattle.block_file.specs.Header.{plan_told}
 use Rattle.block_file.specs.Making.{BecomesZeros, HoldsZeros}
 use Rattle.block_file.specs.Sectors.{sectors_of}
+use Rattle.block_file.proofs.Heading.{still_told}
 use Rattle.block_file.proofs.NewFile.{leaves_weaker, same_zeros, told_is_plan, told_small}
 use Rattle.block_file.proofs.creating.create.Goals as goal
 
@@ -61,6 +62,7 @@ returns-then-is_err g c =
     let failed = sym c.is_err.ensures.value ∙ c.if-is_err.true in
     record {
       plan = tt;
+      still = tt;
       content = tt;
       synced = tt;
       fits = tt;
@@ -83,10 +85,14 @@ returns-in-Ok g c =
     let checked : CheckedValue g.row.B.Denot = c.in-Ok.checked in
     let opened = c.in-Ok.ensures in
     let over = c.over.ensures in
+    let end : BlocksPast = h checked.journal.below in
     let held : HoldsZeros plan mid.file.content = from_ok _ _ good c.lay_out.ensures.zeros in
     let table : settled_of h checked.journal ≡ recovered plan.shape mid.file.content = opened.settled in
     record {
       plan = over.plan;
+      still = ap plan_told over.first ∙ still_told end.file.content mid.file.content plan (from_ok _ _ good c.lay_out.ensures.told)
+          (at_end mid end (λ image. (n : ℕ) → n < plan.shape.first → block image n ≡ block mid.file.content n) opened.before
+          end.file.content (content_is_image end.file end.whole));
       content = over.content ∙ (λ i. sectors_of plan.lead plan.sectors (data_of (opened.blocks i) (table i))) ∙ held.zeros;
       synced = over.synced;
       fits = subst (λ (l : Image). EachFits plan.blocks l)
@@ -115,6 +121,7 @@ returns-in-Err g c =
     let begun : found plan.shape mid.file.content 0 ≡ Some (record { number = 0; entries = [] }) = from_ok _ _ good c.lay_out.ensures.begun in
     record {
       plan = tt;
+      still = tt;
       content = tt;
       synced = tt;
       fits = tt;

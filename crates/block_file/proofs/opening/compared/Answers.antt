@@ -1,5 +1,7 @@
-use Rattle.std.proofs.Common.{◌≡◌, ℕ, List, sym, ◌∙◌, ap, subst, arith}
-use Rattle.block_device.specs.Blocks.{Image}
+use Rattle.std.proofs.Common.{◌≡◌, ⊎_elim, ℕ, List, sym, ◌∙◌, ap, subst, arith}
+use Rattle.std.proofs.lemmas.Bool.{false≢true}
+use Rattle.sector_device.specs.DevicePast.{Rises}
+use Rattle.block_device.specs.Blocks.{BlockFile, Image}
 use Rattle.block_batch.specs.Batch.{Entry, replayed}
 use Rattle.block_journal.specs.Journal.{OnlyReads}
 use Rattle.block_journal.specs.Value.{JournalValue}
@@ -37,6 +39,7 @@ returns-in-Ok-None g c =
       plan = c.over.ensures.plan;
       content = c.over.ensures.content ∙ (λ i. sectors_of plan.lead plan.sectors (data_of (blocks i) (settled i)));
       synced = c.over.ensures.synced;
+      first = c.over.ensures.first ∙ ap (λ (f : BlockFile). f.content) done.reads.file;
       fits = λ n below. subst (λ (l : Image). IsFit plan.blocks l n) table
           (subst (λ (b : ℕ). IsFit b (kept_table h old) n) c.requires.blocks (sound n (omega arith) (omega (arith, below, c.requires.blocks))));
       read = subst (λ (v : JournalValue g.row.B.Denot). OnlyReads (h old.journal.below) (h v.below)) (sym c.over.ensures.journal) done.reads;
@@ -45,6 +48,7 @@ returns-in-Ok-None g c =
       header = tt;
       short = tt;
       batch = tt;
+      failed = tt;
     }
 
 pub returns-in-Ok-Some : goal.returns-in-Ok-Some
@@ -60,6 +64,7 @@ returns-in-Ok-Some g c =
       content = tt;
       synced = tt;
       fits = tt;
+      first = tt;
       read = tt;
       refused = subst (λ (b : g.row.B.Denot). OnlyReads (h old.journal.below) (h b)) (sym c.into_file.ensures) done.reads;
       damaged = λ n is.
@@ -70,6 +75,7 @@ returns-in-Ok-Some g c =
       header = λ is. absurd (cc);
       short = λ is. absurd (cc);
       batch = λ is. absurd (cc);
+      failed = λ is. absurd (cc);
     }
 
 pub returns-in-Err : goal.returns-in-Err
@@ -80,6 +86,7 @@ returns-in-Err g c =
       content = tt;
       synced = tt;
       fits = tt;
+      first = tt;
       read = tt;
       refused = subst (λ (b : g.row.B.Denot). OnlyReads (h c.args.checked.journal.below) (h b)) (sym c.into_file-in-Err.ensures)
           c.check.ensures.reads;
@@ -87,4 +94,7 @@ returns-in-Err g c =
       header = λ is. absurd (cc);
       short = λ is. absurd (cc);
       batch = λ is. absurd (cc);
+      failed = λ _. subst (λ (b : g.row.B.Denot). Rises (g.B.Blocks.failures c.args.checked.journal.below) (g.B.Blocks.failures b))
+          (sym c.into_file-in-Err.ensures)
+          (⊎_elim (λ was. absurd (false≢true (sym c.requires.good ∙ was))) (λ up. up) c.in-Err.ensures.failed);
     }

@@ -1,6 +1,9 @@
-use Rattle.std.proofs.Common.{◌≡◌, inl, inr, None, sym, ◌∙◌, ap, subst}
+use Rattle.std.proofs.Common.{◌≡◌, inl, inr, ℕ, ◌<◌, None, Some, sym, ◌∙◌, ap, subst}
 use Rattle.std.proofs.lemmas.Result.{IfErr-weaker}
-use Rattle.block_device.specs.Blocks.{Image, BlockFile}
+use Rattle.sector_device.specs.DevicePast.{Rises}
+use Rattle.block_device.specs.Blocks.{Image, BlockFile, block}
+use Rattle.block_device.proofs.Images.{content_is_image}
+use Rattle.block_device.proofs.Moments.{at_end}
 use Rattle.block_device.specs.BlocksPast.{BlocksPast}
 use Rattle.block_journal.specs.Layout.{IsInside, found, recovered}
 use Rattle.block_journal.specs.Journal.{StaysRecovered}
@@ -9,7 +12,9 @@ use Rattle.block_table.specs.Table.{EachFits, IsFirstUnfit, data_of}
 use Rattle.block_table.proofs.Contents.{stays_read}
 use Rattle.block_file.specs.declared.plan.Plan.{Plan}
 use Rattle.block_file.specs.Plans.{disk_image}
-use Rattle.block_file.specs.Disks.{disk_past, journal_in}
+use Rattle.block_file.specs.Disks.{disk_past, first_content, journal_in}
+use Rattle.block_file.specs.Header.{plan_told}
+use Rattle.block_file.proofs.Heading.{still_told}
 use Rattle.block_file.specs.Sectors.{sectors_of}
 use Rattle.block_file.proofs.Openings.{if_ok, reads_recovered, same_plan, stays_then}
 use Rattle.block_file.proofs.opening.open.Goals as goal
@@ -109,6 +114,7 @@ returns-in-Err g c =
     let h = g.B.Blocks.past_of in
     record {
       told = tt;
+      still = tt;
       content = tt;
       synced = tt;
       fits = tt;
@@ -117,6 +123,7 @@ returns-in-Err g c =
       damaged = λ n is. absurd (c.in-Err.ensures.undamaged n is);
       no_header = c.in-Err.ensures.none;
       too_short = λ is. inl (c.in-Err.ensures.short is);
+      failed = c.in-Err.ensures.failed;
       no_batch = λ is. absurd (c.in-Err.ensures.batch is);
     }
 
@@ -149,3 +156,30 @@ returns-in-Err-open-clause-no_batch g c = λ is p told.
     × (found q.shape (g.B.Blocks.past_of c.args.below).file.content 1 ≡ None))
     (same_plan _ plan p c.in-Ok.ensures.told told)
     (subst (λ (f : BlockFile). (found plan.shape f.content 0 ≡ None) × (found plan.shape f.content 1 ≡ None)) same none)
+
+pub returns-in-Ok-open-clause-still : goal.returns-in-Ok-open-clause-still
+returns-in-Ok-open-clause-still g c =
+    let h = g.B.Blocks.past_of in
+    let plan : Plan = c.in-Ok.plan in
+    let checked : CheckedValue g.row.B.Denot = c.in-Ok-open.checked in
+    let mid : BlocksPast = h c.read_plan.new.below in
+    let end : BlocksPast = h checked.journal.below in
+    let told : plan_told mid.file.content ≡ Some plan = ap (λ (f : BlockFile). plan_told f.content) c.in-Ok.ensures.reads.file ∙ c.in-Ok.ensures.told in
+    let stays = at_end mid end (λ image. (n : ℕ) → n < plan.shape.first → block image n ≡ block mid.file.content n) c.in-Ok-open.ensures.before
+    end.file.content (content_is_image end.file end.whole) in
+    let now : plan_told end.file.content ≡ Some plan = still_told end.file.content mid.file.content plan told stays in
+    if_ok c.compared.result _ _ _
+    (λ d is first. subst (λ (p : Plan). plan_told (first_content h d) ≡ Some p) (sym is) (ap plan_told first ∙ now))
+    c.compared.ensures.plan c.compared.ensures.first
+
+pub returns-in-Ok-open-clause-failed : goal.returns-in-Ok-open-clause-failed
+returns-in-Ok-open-clause-failed g c =
+    let F = g.B.Blocks.failures in
+    let checked : CheckedValue g.row.B.Denot = c.in-Ok-open.checked in
+    let quiet : F checked.journal.below ≡ F c.args.below = c.in-Ok-open.ensures.quiet ∙ c.in-Ok.ensures.quiet in
+    IfErr-weaker c.compared.result _ _ (λ e rises is. subst (λ (a : ℕ). Rises a (F e.file)) quiet (rises is)) c.compared.ensures.failed
+
+pub returns-in-Err-open-clause-failed : goal.returns-in-Err-open-clause-failed
+returns-in-Err-open-clause-failed g c = λ is.
+    subst (λ (a : ℕ). Rises a (g.B.Blocks.failures c.in-Err-open.refused.file)) c.in-Ok.ensures.quiet
+    (c.in-Err-open.ensures.failed (c.error_of.ensures.failed is))

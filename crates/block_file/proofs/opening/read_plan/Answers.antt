@@ -1,7 +1,7 @@
 use Rattle.std.proofs.Common.{◌≡◌, sym, ◌∙◌, ap, arith}
 use Rattle.block_device.specs.Blocks.{Image, block, run_of}
 use Rattle.block_journal.proofs.Crash.{block_of_run}
-use Rattle.block_journal.proofs.Results.{from_ok}
+use Rattle.block_journal.proofs.Results.{from_err, from_ok}
 use Rattle.block_file.specs.Header.{first_of, told_by}
 use Rattle.block_file.proofs.opening.read_plan.Goals as goal
 
@@ -26,3 +26,9 @@ returns-in-None-clause-none g c = λ _.
     let second : told_by (block content 1) ≡ c.read_header-second.result =
     sym (c.read_header-second.ensures.told ∙ ap told_by (ap (λ (l : Image). block l 1) read ∙ block_of_run content 0 2 1 (omega arith))) in
     (λ i. first_of (first i) (second i)) ∙ sym c.first_told.ensures.told ∙ c.in-None.is
+
+pub returns-then-is_err-clause-failed : goal.returns-then-is_err-clause-failed
+returns-then-is_err-clause-failed g c = λ _. from_err _ _ (sym c.is_err.ensures.value ∙ c.if-is_err.true) c.read.ensures.counts.failed
+
+pub returns-in-Some-clause-quiet : goal.returns-in-Some-clause-quiet
+returns-in-Some-clause-quiet g c = from_ok _ _ (sym c.is_err.ensures.value ∙ c.if-is_err.false) c.read.ensures.counts.none

@@ -8,7 +8,7 @@ pub returns-then-room-gt0 : goal.returns-then-room-gt0
 returns-then-room-gt0 g c = record {
   room = omega (arith, c.room.ensures, c.if-room-gt0.true);
   same = refl;
-  moves = moves_none g.B.Blocks.past_of c.args.checked.now c.stands.ensures.survives;
+  moves = moves_none g.B.Blocks.past_of c.args.checked.now c.stands.ensures.survives c.stands.ensures.synced;
   counts = record { later = omega arith; quiet = λ _. refl; rises = λ is. absurd (cc) };
 }
 
@@ -21,7 +21,8 @@ returns-in-Ok g c =
     record {
       room = omega (arith, ap (λ (l : List Entry). length l) c.in-Ok.ensures.none, ap (λ (s : Shape). s.area) done.shape, c.requires);
       same = kept_commit h old new c.commit.result done.ok done.none done.err done.kept;
-      moves = moves_commit h old new c.commit.result done.shape done.blocks done.ok done.err done.any_moment done.refused;
+      moves = moves_commit h old new c.commit.result done.shape done.blocks done.ok done.err done.any_moment done.offered done.before
+          done.refused;
       counts = record { later = done.counts.later; quiet = λ _. c.in-Ok.ensures.counts.none; rises = λ is. absurd (cc) };
     }
 
@@ -34,6 +35,7 @@ returns-in-Err g c =
     record {
       room = tt;
       same = kept_commit h old new c.commit.result done.ok done.none done.err done.kept;
-      moves = moves_commit h old new c.commit.result done.shape done.blocks done.ok done.err done.any_moment done.refused;
+      moves = moves_commit h old new c.commit.result done.shape done.blocks done.ok done.err done.any_moment done.offered done.before
+          done.refused;
       counts = record { later = done.counts.later; quiet = λ other. absurd (other refl); rises = λ _. c.in-Err.ensures.counts.failed };
     }

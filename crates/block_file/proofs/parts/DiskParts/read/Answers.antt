@@ -1,4 +1,4 @@
-use Rattle.std.proofs.Common.{◌≡◌, refl, sym, ap, subst}
+use Rattle.std.proofs.Common.{◌≡◌, inl, refl, sym, ap, subst}
 use Rattle.sector_device.specs.Disk.{Disk, IsCrashState}
 use Rattle.block_journal.specs.Value.{JournalValue}
 use Rattle.block_table.specs.Checked.{CheckedValue, data_now}
@@ -7,6 +7,7 @@ use Rattle.block_table.proofs.Contents.{settled_read, table_read}
 use Rattle.block_file.specs.declared.parts.DiskParts.{DiskParts}
 use Rattle.block_file.specs.Disks.{disk_of}
 use Rattle.block_file.specs.Sectors.{sectors_of}
+use Rattle.block_file.proofs.Heading.{first_read}
 use Rattle.block_file.proofs.Keeping.{comes_kept, comes_read, through_err, through_ok}
 use Rattle.block_file.proofs.Pushing.{disk_elapses, sound_pushed}
 use Rattle.block_file.proofs.parts.DiskParts.read.Goals as goal
@@ -47,5 +48,6 @@ returns g c =
       time = disk_elapses h d n refl c.and-self.ensures;
       counts = c.count.ensures.counts _ _ done.counts;
       sound = sound_pushed h d n refl c.and-self.ensures sound comes.leaves
+          (inl (ap (λ (v : JournalValue g.row.B.Denot). v.offered) journal)) (first_read h d sound new done.reads)
           (comes_kept h d.plan d.now new n.now refl comes (λ image crash. subst (λ (x : Disk). IsCrashState x image) (sym disk) crash));
     }

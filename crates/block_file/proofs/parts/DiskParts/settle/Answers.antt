@@ -10,6 +10,7 @@ use Rattle.block_file.specs.Closing.{StandsAlone}
 use Rattle.block_file.specs.Disks.{disk_of}
 use Rattle.block_file.specs.Sectors.{sectors_of}
 use Rattle.block_file.proofs.Ending.{on_err_always, stands_alone}
+use Rattle.block_file.proofs.Heading.{first_moved}
 use Rattle.block_file.proofs.Keeping.{comes_kept, comes_moved}
 use Rattle.block_file.proofs.Moving.{moves_commit}
 use Rattle.block_file.proofs.Pushing.{disk_elapses, sound_pushed}
@@ -36,7 +37,7 @@ returns g c =
     let was : kept_table h old ≡ settled_table h old = ap (λ (l : List Entry). replayed l (settled_table h old)) c.requires.none in
     let committed : settled_table h new ≡ kept_table h old = all.settled ∙ sym was in
     let moves = moves_commit h old new r all.shape all.blocks (on_ok_always (settled_table h new ≡ kept_table h old) r committed)
-    (on_err_always (settled_table h new ≡ settled_table h old) r all.settled) all.any_moment all.refused in
+    (on_err_always (settled_table h new ≡ settled_table h old) r all.settled) all.any_moment all.offered all.before all.refused in
     let table : kept_table h new ≡ kept_table h old = ap (λ (l : List Entry). replayed l (settled_table h new)) all.none ∙ committed in
     let same_data : data_now h new ≡ data_now h old = λ i. data_of (all.blocks i) (table i) in
     let disk : disk_of h d.plan n.now ≡ disk_of h d.plan d.now =
@@ -52,6 +53,7 @@ returns g c =
       plan = refl;
       time = disk_elapses h d n refl c.and-self.ensures;
       counts = counts_with _ _ d.damaged d.damaged r all.counts refl;
-      sound = sound_pushed h d n refl c.and-self.ensures sound comes.leaves
+      sound = sound_pushed h d n refl c.and-self.ensures sound comes.leaves moves.offers
+          (first_moved h d sound new moves.before (λ failed. (moves.refused failed).0))
           (comes_kept h d.plan d.now new n.now refl comes (λ image crash. subst (λ (x : Disk). IsCrashState x image) (sym disk) crash));
     }

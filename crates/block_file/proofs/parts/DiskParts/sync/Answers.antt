@@ -7,6 +7,7 @@ use Rattle.block_table.specs.Table.{data_of}
 use Rattle.block_file.specs.declared.parts.DiskParts.{DiskParts}
 use Rattle.block_file.specs.Disks.{disk_of}
 use Rattle.block_file.specs.Sectors.{sectors_of}
+use Rattle.block_file.proofs.Heading.{first_moved}
 use Rattle.block_file.proofs.Keeping.{comes_kept, comes_moved, settled_kept, synced_disk}
 use Rattle.block_file.proofs.Moving.{kept_commit, moves_commit}
 use Rattle.block_file.proofs.Pushing.{disk_elapses, sound_pushed}
@@ -29,7 +30,7 @@ returns-in_err-commit g c =
       past = c.and-self.result;
       damaged = d.damaged;
     } in
-    let moves = moves_commit h old new r all.shape all.blocks all.ok all.err all.any_moment all.refused in
+    let moves = moves_commit h old new r all.shape all.blocks all.ok all.err all.any_moment all.offered all.before all.refused in
     let table = kept_commit h old new r all.ok all.none all.err all.kept in
     let same_data : data_now h new ≡ data_now h old = λ i. data_of (all.blocks i) (table i) in
     let disk : disk_of h d.plan n.now ≡ disk_of h d.plan d.now =
@@ -46,7 +47,8 @@ returns-in_err-commit g c =
         none = tt;
         failed = λ below. let up : failures_of F old.journal < failures_of F new.journal = counts.failed (omega (arith, below)) in omega (arith, up);
       };
-      sound = sound_pushed h d n refl c.and-self.ensures c.requires.sound comes.leaves
+      sound = sound_pushed h d n refl c.and-self.ensures c.requires.sound comes.leaves moves.offers
+          (first_moved h d c.requires.sound new moves.before (λ failed. (moves.refused failed).0))
           (comes_kept h d.plan d.now new n.now refl comes (λ image crash. subst (λ (x : Disk). IsCrashState x image) (sym disk) crash));
     })
 
@@ -65,7 +67,7 @@ returns g c =
       past = c.and-self.result;
       damaged = d.damaged;
     } in
-    let moves = moves_commit h old new r all.shape all.blocks all.ok all.err all.any_moment all.refused in
+    let moves = moves_commit h old new r all.shape all.blocks all.ok all.err all.any_moment all.offered all.before all.refused in
     let comes = comes_moved h d.plan d.now c.requires.sound.kept new moves in
     let same_data : data_now h new ≡ data_now h old = λ i. data_of (all.blocks i) (kept_commit h old new r all.ok all.none all.err all.kept i) in
     record {
@@ -75,7 +77,8 @@ returns g c =
       plan = refl;
       time = disk_elapses h d n refl c.and-self.ensures;
       counts = record { later = omega (arith, done.counts.later); none = omega (arith, done.counts.none); failed = tt };
-      sound = sound_pushed h d n refl c.and-self.ensures c.requires.sound comes.leaves
+      sound = sound_pushed h d n refl c.and-self.ensures c.requires.sound comes.leaves moves.offers
+          (first_moved h d c.requires.sound new moves.before (λ failed. (moves.refused failed).0))
           (settled_kept h d.plan n.now (all.shape ∙ c.requires.sound.kept.shape) (all.blocks ∙ c.requires.sound.kept.blocks) done.none done.sound.1
           c.stands.ensures.survives);
     }

@@ -2,6 +2,7 @@ use Rattle.std.proofs.Common.{refl}
 use Rattle.block_table.specs.Checked.{CheckedValue}
 use Rattle.block_file.specs.declared.parts.DiskParts.{DiskParts}
 use Rattle.block_journal.proofs.Results.{on_err, on_ok}
+use Rattle.block_file.proofs.Heading.{first_moved}
 use Rattle.block_file.proofs.Keeping.{comes_kept, comes_moved, crash_after, through_err, through_ok, write_failed, written_disk}
 use Rattle.block_file.proofs.Pushing.{disk_elapses, sound_pushed}
 use Rattle.block_file.proofs.parts.DiskParts.write.Goals as goal
@@ -37,6 +38,7 @@ returns g c =
           (on_err _ _ r (λ is. write_failed h d.plan d.now n.now at more c.args.bytes.now c.requires.inside r done.ok done.err is) done.err);
       time = disk_elapses h d n refl c.and-self.ensures;
       counts = c.count.ensures.counts _ _ done.counts;
-      sound = sound_pushed h d n refl c.and-self.ensures sound comes.leaves (comes_kept h d.plan d.now new n.now refl comes
+      sound = sound_pushed h d n refl c.and-self.ensures sound comes.leaves done.moves.offers
+          (first_moved h d sound new done.moves.before (λ failed. (done.moves.refused failed).0)) (comes_kept h d.plan d.now new n.now refl comes
           (crash_after h d.plan d.now n.now at more c.args.bytes.now c.requires.inside r done.ok done.err));
     }
