@@ -37,6 +37,21 @@
 //! What `restart`, `run`, `serve`, `build_to_end` and `flush_all` promise is in their contracts. `granted` is the
 //! program's own: it makes an error of a reply that tells that nothing was done (`Refused`, `Skipped`, `LogFull`).
 //!
+//! The index is read in order by `scan`, a page of a range at a time, and `count` counts. They ask for a core: that of
+//! an engine is `engine.core()`. Here the range is the keys that begin with a prefix.
+//!
+//! ```
+//! fn first_two(alloc: Global, core: &Core<Global>, prefix: Key) -> Result<(Page<Global>, Page<Global>), Error> {
+//!     let range = KeyRange::prefix(prefix);
+//!     let first = scan(alloc, core, &range, None, 100)?;
+//!     let second = scan(alloc, core, &range, first.next.as_ref(), 100)?;
+//!     Ok((first, second))
+//! }
+//! ```
+//!
+//! A page's `next` is the pair behind which the next page begins, and none where nothing is left of the range. The laws
+//! `each_page` and `each_reading` say what pages have together.
+//!
 //! # Many threads
 //!
 //! Each client has a thread of its own and a seat of its own; other threads build the index, clean it and write to the
@@ -95,6 +110,24 @@
 //! }
 //! ```
 //!
+//! A seat reads the index in order by `scan` of what is shared, a page in one hold of the lock, and `count` counts. The
+//! page is that of a core that may lie under the lock, and has all that the seat did.
+//!
+//! ```
+//! fn first_with<B: Group, R: Wait>(
+//!     &self,
+//!     rt: &R,
+//!     shared: &Shared<B>,
+//!     seat: &mut Seat<B>,
+//! ) -> Result<Option<Pair>, Error>
+//!     ensures { seat.new.number ≡ seat.old.number }
+//! {
+//!     let range = KeyRange::prefix(self.prefix);
+//!     let page = shared.scan(rt, self.alloc, seat, &range, None, 1)?;
+//!     Ok(page.pairs.first().copied())
+//! }
+//! ```
+//!
 //! A client may say by a ghost member `works` what its work makes of it, where it finds its seat so and leaves it so;
 //! this one says nothing. One that keeps a number as `safe` says `after.safe ≤ last.sight.horizon`: then that record
 //! isn't lost. One that says `after.safe ≤ last.sight.safe` keeps it at any moment since the mark that its seat has
@@ -139,12 +172,13 @@
 //! called, once clients and loops had ended (`leaves` of `serve_and_see`). At any moment since the one that a mark is
 //! of which a seat has read, it isn't before the horizon that this seat had seen then (`marked`). What was left may be
 //! opened again (the law `left_by_threads`). Why not all was written is told (`why`), and how the builder ended. Above
-//! it stands `live_beside` of `headline`. Only tested (`test_nsf`): both examples.
+//! it stands `live_beside` of `headline`. Only tested (`test_nsf`): `fill`, and `Put`.
 #![tactic(auto)]
 
 mod clients;
 
 pub use clients::{Client, Served, serve, serve_and_see};
+pub use core_scan::{KeyRange, Page, count, each_page, each_reading, each_visible, scan};
 pub use model::Life;
 pub use nsf_core::{BuildReply, CleanReply, Core, Ticket};
 pub use records::{
@@ -154,7 +188,7 @@ pub use restart::{Engine, Event, MigrateError, Reply, every_story, migrate, rest
 pub use sector_device::{Device, Failed, Fate, FaultDisk, MemDisk, Which};
 pub use shared::{
     Ack, BuildPart, Change, CleanPart, Group, GroupView, Keeping, Kept as KeptCommits, LoopParts,
-    Seat, Shared, Told as ToldCommits, each_refusal,
+    Placed, Refusal, Seat, Shared, Told as ToldCommits, each_refusal,
 };
 pub use store_file as file;
 pub use store_moving::{NotVersionOne, old_geometry};
