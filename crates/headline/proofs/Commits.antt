@@ -89,7 +89,8 @@ rising_up_to from to (c ∷ cs) h =
     ∙ ap (λ (l : List CommitValue). c.1 ∷ l) (rising_up_to c.1.ticket.«record» to cs h.1)
 
 -- the records of all commits are among those of the core
-pub core_has_all : (o : Opened) (seats : List SeatValue) (popped : List RecordValue) (core : CoreValue) (commits : List CommitValue) → AreCommitsOf seats commits
+pub core_has_all : (o : Opened) (seats : List SeatValue) (popped : List RecordValue) (core : CoreValue) (commits : List CommitValue)
+    → AreCommitsOf seats commits
     → IsCoreOf o seats popped core commits → up_to core.last commits ≡ commits
 core_has_all o seats popped core commits are is =
     let all = is.shared.register.commits in
