@@ -121,7 +121,7 @@ abbrev pub HearsStop : Tells
 HearsStop st m n m' = (m.0.stopped ≡ true → (n == 1) ≡ true) × (m' ≡ (record m.0 { stopped = n == 1 }, m.1))
 
 -- Nothing that the view knows to be seen is beyond what its holder has published. What it knows to be
--- seen with a mark was noted with that mark.
+-- seen with a mark is reached by a horizon that was noted with that mark.
 abbrev pub Compares : Tells
 Compares st m n m' =
     (m' ≡ m)

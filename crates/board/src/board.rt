@@ -114,8 +114,9 @@ impl<A: Allocator> Board<A> {
         shared.load::<ReadHorizon>(&mut view.seat, HORIZON)
     }
 
-    /// Reads the mark of what the flusher has noted last, or 0 where it has noted nothing. The view keeps beside it the
-    /// horizon that it has seen by now: that one was noted with this mark, or is below one that was (`settle`).
+    /// Reads a mark that the flusher has noted, or 0 where it has noted none. It is the last one as it is read, but no
+    /// clause says so. The view keeps beside it the horizon that it has seen by now. That one was noted with this mark,
+    /// or is below one that was (`settle`).
     pub fn mark(&self, view: &mut View) -> u64
         requires { view.old.board ≡ self.now }
         ensures seen { view.new ≡ record view.old { mark = result; safe = view.old.horizon } }

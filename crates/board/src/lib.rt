@@ -15,10 +15,10 @@
 //!
 //! Proved: what each call does to the view that it steps with, and nothing else (`seen`, `stays`, `leaves`). No horizon
 //! or progress is read below one that the view saw (`rises`). `settle` tells that no horizon which another view saw is
-//! above the flusher's count (`horizon`), and that the horizon which it had seen as it read a mark was noted with that
-//! mark (`noted`). The flusher's own count is what is published: that it is at most what is synced, and what a mark
-//! marks, is kept by the type above. Neither: that a read is of now, that a ring wakes anyone, that a thread gets on,
-//! or fairness.
+//! above the flusher's count (`horizon`), and that some horizon was noted with its mark that reaches the one which it
+//! had seen as it read that mark (`noted`). The flusher's own count is what is published: that it is at most what is
+//! synced, and what a mark marks, is kept by the type above. Neither: that a read is of now, that the mark read is the
+//! last one, that a ring wakes anyone, that a thread gets on, or fairness.
 #![tactic(auto)]
 
 mod board;

@@ -20,7 +20,7 @@ pub fn each_visible()
 {}
 
 /// A law: as long as a page leaves any, its pairs and what is left behind the last of them are what was left before it;
-/// and a page that leaves none has all that was left.
+/// and a page with a limit above 0 that leaves none has all that was left.
 pub fn each_page()
     ensures more { (entries : Index) (range : KeyRange) (after : Option Pair) (limit : ℕ) (next : Pair)
         → next_after after limit (left_of entries range after) ≡ Some next

@@ -3,9 +3,9 @@
 //! It stands on the public calls of `nsf_core` alone, and changes nothing.
 //!
 //! Proved: `scan` answers exactly the first pairs of what is left of a range, in order (`pairs`). It also answers the
-//! pair behind which the next page begins, as long as any is left (`next`). `count` answers how many visible pairs a
-//! range has (`count`). Without a complete index both are refused, and else `scan` alone, for want of memory
-//! (`no_index`, `not_built`, `no_memory`, `complete`). The keys with a prefix are a range (`prefix`).
+//! pair behind which the next page begins, as long as the limit is above 0 and any is left (`next`). `count` answers
+//! how many visible pairs a range has (`count`). Without a complete index both are refused, and else `scan` alone, for
+//! want of memory (`no_index`, `not_built`, `no_memory`, `complete`). The keys with a prefix are a range (`prefix`).
 //!
 //! Laws: the visible pairs of a range come in order, each once (`each_visible`). A page and what is left behind it are
 //! what was left before it (`each_page`). Pages are read one behind another, and the index may change between them: no

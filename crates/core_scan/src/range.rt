@@ -63,7 +63,7 @@ fn last_before(front: &[u8], last: u8) -> Key
     key_of(&bytes)
 }
 
-// A pair before those of the key, and next to them; none where no key is before it.
+// A pair before those of the key; none where no key is before it. (That it is next to them, no clause says.)
 fn before_key(key: &Key) -> Option<Pair>
     ensures { IfSome result (λ p. slice_cmp nat_cmp p.key key.now ≡ Less) }
 {
@@ -136,7 +136,8 @@ impl KeyRange {
         }
     }
 
-    /// A pair before all of the range, and next to its beginning; none where no pair can be before it.
+    /// A pair before all of the range; none where no pair can be before it. (That it is next to the beginning, no
+    /// clause says.)
     pub(crate) fn pair_before(&self) -> Option<Pair>
         ensures { (p : Pair) → is_within self.now p.key ≡ true → above result p ≡ true }
     {

@@ -56,9 +56,11 @@ fn page_of<A: Allocator + Copy, B: Allocator>(
 /// fewer only where no more are left. Without a pair the page begins with the range.
 ///
 /// `next` is the last pair of the page, as long as the page leaves any of the range: the next page is the one behind
-/// it. It is none where nothing is left. A limit of 0 gives no pair, and `next` is then the one of the call.
+/// it. It is none where nothing is left. A limit of 0 gives no pair; `next` is then the one of the call, and none where
+/// nothing is left. So who goes on until `next` is none asks for one pair at least.
 ///
-/// A visible pair is that of a live entry: of a row with this key, committed or not.
+/// A visible pair is that of a live entry. It is the pair of a row, committed or not, in a core that began soundly
+/// (`IsCoherent`).
 ///
 /// Let the index have live entries of the keys a, ab and c, and a marked one of b. A page of all keys with a limit of 2
 /// has a and ab, and goes on behind ab. The page there has c, and nothing is left.

@@ -37,7 +37,7 @@ pub trait Client {
 
     /// What it does, once. It has the seat that it was given until it returns: so it is behind each call that takes the
     /// seat. Where it waits for an index, it asks why the builder has ended, if it has (`BuilderEnd::reason`): then the
-    /// index is not completed meanwhile.
+    /// index is not completed meanwhile (no clause says so).
     fn work<B: Group, R: Wait>(
         &mut self,
         rt: &R,
@@ -57,8 +57,8 @@ pub struct Served<C, D> {
     /// Of each client's seat, the mark that it has read last (`Shared::mark`), or 0 where it has read none.
     pub marks: Vec<u64>,
     pub device: D,
-    /// What `run_beside` told of the builder: the ticket of an index, where one was completed meanwhile; else why none
-    /// was.
+    /// What `run_beside` told of the builder: the ticket of an index that was completed meanwhile, or why none is told.
+    /// (That one which was completed is told, no clause says.)
     pub built: Result<Ticket, Error>,
     /// Why not all was written to the device, if so: what `finish` tells.
     pub written: Result<(), Error>,

@@ -36,21 +36,18 @@ impl<const MAX: usize> Model for ShortBytes<MAX> {
 }
 
 impl<const MAX: usize> ShortBytes<MAX> {
-    /// These bytes, where they fit.
+    /// These bytes, where they fit: no more than `MAX`, and fewer than 256.
     pub fn new(bytes: &[u8]) -> Option<Self>
-        requires few { MAX < 256 }
-        ensures fits { IsSome result ↔ (length bytes.now ≤ MAX) }
+        ensures fits { IsSome result ↔ ((length bytes.now ≤ MAX) × (length bytes.now < 256)) }
         ensures value { IfSome result (λ s. s ≡ bytes.now) }
     {
+        let len = u8::try_from(bytes.len()).ok()?;
         if bytes.len() > MAX {
             return None;
         }
         let mut held = [0; MAX];
         held[..bytes.len()].copy_from_slice(bytes);
-        Some(ShortBytes {
-            bytes: held,
-            len: bytes.len() as u8,
-        })
+        Some(ShortBytes { bytes: held, len })
     }
 
     /// The bytes.

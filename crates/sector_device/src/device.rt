@@ -55,7 +55,7 @@ pub trait Device {
         ensures time { Elapses (past_of self.old) (past_of self.new) }
         ensures counts { CountsFailure (failures self.old) (failures self.new) result };
 
-    /// A number that marks the moment that it is, where the device has a clock.
+    /// A number that marks the moment that it is, where the device has a clock. (That it has one, no clause says.)
     fn clock(&self) -> Option<u64>
         ensures { IfSome result (λ mark. marks mark (past_of self.now).moment) }
     {

@@ -38,9 +38,9 @@ impl<B: Group, A: Memory> Shared<B, A> {
         self.board.horizon(&mut seat.view) >= ticket.record.get()
     }
 
-    /// The mark that the flusher has noted last: a number of the device's clock. `None` where it noted none, as of a
-    /// device without a clock. (That one is noted where there is a clock, no clause says.) It takes no memory and waits
-    /// for nothing.
+    /// A mark that the flusher has noted, a number of the device's clock: the last one as it is read. `None` where it
+    /// noted none, as of a device without a clock. (That it is the last, or that one is noted where there is a clock,
+    /// no clause says.) It takes no memory and waits for nothing.
     ///
     /// The seat keeps beside it the horizon that it has seen by now. A crash at any moment since the marked one keeps
     /// that horizon (`settle` of `FlushPart`).

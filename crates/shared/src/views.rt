@@ -83,8 +83,8 @@ impl<B: Group> GroupView<B> {
 
     /// Compares what this view has seen with what the flusher has published: no horizon that it has seen is above the
     /// last synced record, and a failed flag that it has seen is true. The horizon that it had seen with its mark was
-    /// published at the moment that this marks, or before. Nothing changes but the view, which has now seen the horizon
-    /// and the failed flag that were published.
+    /// published at the moment that this marks, or before, unless the mark is 0. Nothing changes but the view, which
+    /// has now seen the horizon and the failed flag that were published.
     pub fn settle<D: Device, A: Memory>(
         &mut self,
         shared: &Shared<B, A>,

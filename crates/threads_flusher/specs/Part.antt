@@ -163,7 +163,7 @@ pub record HasGot {D A : Type 0} (more : List RecordValue) (old new : Writer D A
   pub image : image_of new ≡ image_of old
 
 -- No record was popped or handed in, and what is published is now what the writer has synced, and whether its device
--- failed. This was published once, with a mark of the moment that it is.
+-- failed. This was published once, with a mark of the moment that it is, or with 0.
 pub record Publishes {D A : Type 0} (past_of : D → DevicePast) (marks : ℕ → ℕ
     → Type 0) (old new : FlushValue D A) : Type 0 where
   pub handed : new.handed ≡ old.handed

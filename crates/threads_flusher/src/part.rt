@@ -78,7 +78,7 @@ impl<B: Group, D: Device, A: Memory> Model for FlushPart<B, D, A> {
         × (p.view.board ≡ B.site.board) };
 }
 
-// A number that marks the moment that it is, or 0 where the device has no clock.
+// A number that marks the moment that it is, or 0, as where the device has no clock.
 fn mark_of<D: Device, A: Memory>(writer: &StoreWriter<D, A>) -> u64
     ensures { IsMarkOf D.marks result (D.past_of (device_of writer.now)).moment }
 {
@@ -103,7 +103,7 @@ fn tell<D: Device, A: Memory>(
     }
 }
 
-// Publishes it with a mark of the moment that it is, and notes that it did.
+// Publishes it with a mark of the moment that it is, or with 0, and notes that it did.
 fn publish<D: Device, A: Memory>(
     board: &Board<A>,
     view: &mut FlushView,
@@ -128,8 +128,8 @@ impl<B: Group, D: Device, A: Memory> FlushPart<B, D, A> {
     ghost use Rattle.threads_flusher.specs.Part.{popped_by, publication_of, run_of};
 
     /// The part of a flusher that has popped nothing, with a writer over what was opened. How far that is synced is
-    /// published, with a mark of the moment that it is, so that a ticket from before is known to be safe from the
-    /// beginning.
+    /// published, with a mark of the moment that it is or with 0, so that a ticket from before is known to be safe from
+    /// the beginning.
     pub fn new(
         alloc: A,
         board: &Board<A>,

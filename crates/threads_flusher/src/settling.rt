@@ -14,8 +14,9 @@ impl<B: Group, D: Device, A: Memory> FlushPart<B, D, A> {
     /// the last synced record, and a failed flag that it has seen is true. Nothing changes but the view, which has now
     /// seen the horizon and the failed flag that were published.
     ///
-    /// The mark that it has read last is of a publication, which reaches the horizon that it had seen then. So that
-    /// horizon is kept by a crash at any moment since the one that the mark marks (`kept` of `IsFlusher`).
+    /// The mark that it has read last, if it isn't 0, is of a publication, which reaches the horizon that it had seen
+    /// then. So that horizon is kept by a crash at any moment since the one that the mark marks (`kept` of
+    /// `IsFlusher`).
     pub fn settle(&mut self, board: &Board<A>, view: &mut View)
         requires board { board.now ≡ B.site.board }
         requires view { view.old.board ≡ board.now }

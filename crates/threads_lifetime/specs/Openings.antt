@@ -49,7 +49,7 @@ StaysOpenable disk = (image : CrashState) → IsCrashState disk image → IsOpen
 
 -- A flusher's part that has popped nothing: all that was opened is synced, and is published so, and the device has not
 -- failed. No slot of the log is open, and no image is under way, nor is a whole one to be taken. It was published once,
--- as it is, with a mark of the moment that it is.
+-- as it is, with a mark of the moment that it is, or with 0.
 pub record IsNewFlusher {D A : Type 0} (past_of : D → DevicePast) (marks : ℕ → ℕ → Type 0) (board : TableId)
     (o : Opened) (f : FlushValue D A) : Type 0 where
   pub handed : f.handed ≡ []

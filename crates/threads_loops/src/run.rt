@@ -31,9 +31,9 @@ pub struct Ended<B: Group, D: Device, X> {
     /// How the flusher ended.
     pub flushed: Result<(), Error>,
     /// The ticket of an index that a core which may lie under the lock completed meanwhile, of several that of the last
-    /// one; else why none was, which is `Stopped` where the clients ended first or there was nothing to build. A later
-    /// build that was refused is told in its place. (No clause says that the ticket is the last one, or that no later
-    /// build was refused.)
+    /// one; or why none is told, which is `Stopped` where the clients ended first or there was nothing to build. A
+    /// later build that was refused is told in its place. (No clause says that the ticket is the last one, that no later
+    /// build was refused, or that an index which was completed is told.)
     pub built: Result<Ticket, Error>,
 }
 
@@ -59,7 +59,7 @@ pub struct NotRun<B: Group, D: Device, F> {
 /// Flusher and builder end as `flush_loop` and `build_loop` do, or with the clients. That there is no index is no
 /// reason to end for the builder, nor that it is full while a transaction is active, whose end may give places back
 /// (`builder`). What ends the builder is told to the clients (`BuilderEnd::reason`), and it is what the call answers
-/// (`told`, `reason`). Nobody but this call, or a seat's `stop`, ends the run.
+/// (`told`, `reason`). Nobody but this call, or who sets the stop flag, ends the run (no clause says so).
 ///
 /// Not proved: that a loop makes a step and that the call returns; that a build under way is carried on, and each that
 /// a client begins, also where it dropped an index that was complete; that the builder waits where the index is
