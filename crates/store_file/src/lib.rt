@@ -3,7 +3,7 @@
 //! Proved: the clauses of `Device` over the mirror, for whatever is below; and that a disk of which a write or a sync
 //! has failed fails from then on (`sound`, `failed`). Trusted: that a file holds what was written and synced, and that
 //! writing one sector of 512 bytes harms no other, nor itself where it had these bytes. No clause says that a write or
-//! a sync is passed on to what is below, nor that an opening writes back what it read. Only tested (`test_stores`):
+//! a sync is passed on to what is below, nor that an opening writes back what it read. Only tested (`test_files`):
 //! that, on a cache of pages, after syncs that failed; the order of writes, syncs and names; locks; refusals of the
 //! system. By hand: `Past::new`, `Past::note`, and that a disk may go to another thread.
 #![tactic(auto)]

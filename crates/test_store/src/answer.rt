@@ -6,7 +6,7 @@ use restart::Reply;
 use std::alloc::Allocator;
 
 /// An answer. Of the places that were found, how many there are, and the first of them.
-#[derive(Clone, Copy, Debug, PartialEq)]
+#[derive(Clone, Copy, PartialEq)]
 pub enum Answer {
     Txn(Txn),
     Rid(Rid),

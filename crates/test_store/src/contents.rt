@@ -7,14 +7,15 @@ use std::alloc::Allocator;
 /// An entry, or none.
 pub type Entry = Option<(Pair, Mark)>;
 
-/// What a store holds: the number of its last record, the rows of the first two places, how far the index is, and its
-/// first three entries.
-#[derive(Clone, Copy, Debug, PartialEq, Eq)]
+/// What a store holds: the number of its last record, the rows of the first two places, how far the index is, its first
+/// three entries, and how many there are, marked ones too; 1,000 where there are more.
+#[derive(Clone, Copy, PartialEq)]
 pub struct Contents {
     pub last: u64,
     pub rows: (Option<Row>, Option<Row>),
     pub life: Life,
     pub entries: (Entry, Entry, Entry),
+    pub count: usize,
 }
 
 fn row<A: Allocator + Copy>(core: &Core<A>, rid: Rid) -> Option<Row> {
@@ -42,6 +43,18 @@ fn third<A: Allocator + Copy>(core: &Core<A>) -> Entry {
     next(core, second(core))
 }
 
+// How many entries there are, up to 1,000.
+fn count_of<A: Allocator + Copy>(core: &Core<A>) -> usize {
+    let mut entry = first(core);
+    for count in 0..1_000 {
+        if entry.is_none() {
+            return count;
+        }
+        entry = next(core, entry);
+    }
+    1_000
+}
+
 /// What a core holds.
 pub(crate) fn contents_of<A: Allocator + Copy>(core: &Core<A>) -> Contents {
     Contents {
@@ -52,17 +65,6 @@ pub(crate) fn contents_of<A: Allocator + Copy>(core: &Core<A>) -> Contents {
         ),
         life: core.life(),
         entries: (first(core), second(core), third(core)),
+        count: count_of(core),
     }
-}
-
-/// How many entries a core has, marked ones too; 1,000 where there are more.
-pub(crate) fn entries_of<A: Allocator + Copy>(core: &Core<A>) -> usize {
-    let mut entry = first(core);
-    for count in 0..1_000 {
-        if entry.is_none() {
-            return count;
-        }
-        entry = next(core, entry);
-    }
-    1_000
 }

@@ -1,7 +1,8 @@
 //! A disk in memory, of which one call may fail.
+use crate::bytes::{Edit, edit, holds};
 use flip_image::Halves;
 use records::{Error, Geometry};
-use sector_device::{Device, Fate, FaultDisk, MemDisk, SECTOR_SIZE, Which};
+use sector_device::{Fate, FaultDisk, MemDisk, Which};
 use std::alloc::Global;
 use std::marker::Model;
 
@@ -12,6 +13,8 @@ const CALLS: usize = 4_096;
 #[derive(Drop)]
 pub struct Disk {
     pub(crate) device: FaultDisk<MemDisk<Global>>,
+    // the memory of what is answered of a store on it
+    pub(crate) alloc: Global,
 }
 
 impl Model for Disk {
@@ -28,6 +31,7 @@ impl Disk {
         let disk = MemDisk::new(alloc, sectors, CALLS)?;
         Ok(Disk {
             device: FaultDisk::new(disk, Which::All, 0),
+            alloc,
         })
     }
 
@@ -44,10 +48,23 @@ impl Disk {
         }
     }
 
+    /// The disk with these bytes in its sectors.
+    pub fn edited(mut self, edits: &[Edit<'_>]) -> Result<Disk, Error> {
+        match edit(&mut self.device, edits) {
+            Ok(()) => Ok(self),
+            Err(error) => {
+                drop(self);
+                Err(error)
+            }
+        }
+    }
+
     /// The disk, where from now on the call of this number fails, of those that are counted; or none at 0.
     pub fn failing(self, which: Which, call: u64) -> Disk {
+        let Disk { device, alloc } = self;
         Disk {
-            device: FaultDisk::new(self.device.into_inner(), which, call),
+            device: FaultDisk::new(device.into_inner(), which, call),
+            alloc,
         }
     }
 
@@ -58,33 +75,18 @@ impl Disk {
 
     /// What a crash leaves, where each sector that is not synced has this fate. No call of it fails.
     pub fn crash(self, fate: Fate) -> Disk {
-        let mut disk = self.device.into_inner();
+        let Disk { device, alloc } = self;
+        let mut disk = device.into_inner();
         disk.crash(&[fate]);
         Disk {
             device: FaultDisk::new(disk, Which::All, 0),
+            alloc,
         }
     }
 
-    /// A sector.
-    pub fn sector(&mut self, n: u64) -> Result<[u8; SECTOR_SIZE], Error> {
-        if self.device.sectors() <= n {
-            return Err(Error::DeviceTooSmall);
-        }
-        let mut sector = [0; SECTOR_SIZE];
-        match self.device.read(n, &mut sector) {
-            Ok(()) => Ok(sector),
-            Err(_) => Err(Error::DeviceFailed),
-        }
-    }
-
-    /// Writes a sector.
-    pub fn write(&mut self, n: u64, sector: &[u8; SECTOR_SIZE]) -> Result<(), Error> {
-        if self.device.sectors() <= n {
-            return Err(Error::DeviceTooSmall);
-        }
-        match self.device.write(n, sector) {
-            Ok(()) => Ok(()),
-            Err(_) => Err(Error::DeviceFailed),
-        }
+    /// Whether the sectors from the first number up to the end, which is left out, hold these bytes, and zeros
+    /// elsewhere.
+    pub fn holds(&mut self, edits: &[Edit<'_>], first: u64, end: u64) -> Result<bool, Error> {
+        holds(&mut self.device, edits, first, end)
     }
 }

@@ -11,9 +11,9 @@ mod scripts;
 mod store;
 
 pub use answer::Answer;
-pub use bytes::{BUILDING_1, Edit, GROUP, SUPERBLOCK_1, edit, write_at};
-pub use contents::{Contents, Entry};
+pub use bytes::{BUILDING_1, Edit, GROUP, SUPERBLOCK_1, sector_with};
+pub use contents::Contents;
 pub use disk::Disk;
 pub use opened::{ample, open};
-pub use scripts::requests;
+pub use scripts::{Script, requests, requests_of};
 pub use store::{OpenStore, Store, StoreMemory};

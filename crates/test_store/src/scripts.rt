@@ -21,18 +21,57 @@ fn asked_by(command: &Command) -> Result<(Event, u32), Error> {
     Ok(event_of(Request::of(command)?))
 }
 
-fn commands_of(alloc: Global, script: &str) -> Result<Vec<Command>, Error> {
-    read(alloc, script.as_bytes())
+fn add_times(events: &mut Vec<Event>, event: &Event, times: u32) -> Result<(), Error> {
+    for _ in 0..times {
+        events.push(*event)?;
+    }
+    Ok(())
+}
+
+fn add_commands(events: &mut Vec<Event>, commands: &[Command]) -> Result<(), Error> {
+    for command in commands {
+        let (event, times) = asked_by(command)?;
+        add_times(events, &event, times)?;
+    }
+    Ok(())
+}
+
+fn add_script(events: &mut Vec<Event>, alloc: Global, script: &str) -> Result<(), Error> {
+    let commands = read(alloc, script.as_bytes())?;
+    let added = add_commands(events, &commands);
+    drop(commands);
+    added
+}
+
+fn add_scripts(
+    events: &mut Vec<Event>,
+    alloc: Global,
+    scripts: &[Script<'_>],
+) -> Result<(), Error> {
+    for (times, script) in scripts {
+        for _ in 0..*times {
+            add_script(events, alloc, script)?;
+        }
+    }
+    Ok(())
+}
+
+/// How often a script stands there, and its text.
+pub type Script<'a> = (u32, &'a str);
+
+/// The requests of scripts, one behind the other: `image` is one copy, and `dump` asks how far the index is.
+pub fn requests_of(alloc: Global, scripts: &[Script<'_>]) -> Result<Vec<Event>, Error> {
+    let mut events = Vec::new(alloc);
+    match add_scripts(&mut events, alloc, scripts) {
+        Ok(()) => Ok(events),
+        Err(error) => {
+            drop(events);
+            Err(error)
+        }
+    }
 }
 
 /// The requests of a script: `image` is one copy, and `dump` asks how far the index is.
 pub fn requests(alloc: Global, script: &str) -> Result<Vec<Event>, Error> {
-    let mut events = Vec::new(alloc);
-    for command in &commands_of(alloc, script)? {
-        let (event, count) = asked_by(command)?;
-        for _ in 0..count {
-            events.push(event)?;
-        }
-    }
-    Ok(events)
+    requests_of(alloc, &[(1, script)])
 }

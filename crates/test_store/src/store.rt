@@ -1,6 +1,6 @@
 //! A store, and its calls.
 use crate::answer::{Answer, answer_of};
-use crate::contents::{Contents, contents_of, entries_of};
+use crate::contents::{Contents, contents_of};
 use crate::disk::Disk;
 use nsf_core::Core;
 use records::Error;
@@ -69,16 +69,22 @@ fn answers_of<A: Allocator>(alloc: Global, replies: &[Reply<A>]) -> Result<Vec<A
 /// Tests are generic over it, so that their proofs read nothing of what a store is made of.
 pub trait OpenStore {
     /// Runs the requests, and tells the answers.
-    fn run(&mut self, alloc: Global, events: &[Event]) -> Result<Vec<Answer>, Error>;
+    fn run(&mut self, events: &[Event]) -> Result<Vec<Answer>, Error>;
 
     /// Runs one request.
-    fn ask(&mut self, event: &Event) -> Answer;
+    fn ask(&mut self, event: &Event) -> Answer {
+        match self.run(&[*event]) {
+            Ok(answers) => {
+                let answer = answers.first().copied().unwrap_or(Answer::Skipped);
+                drop(answers);
+                answer
+            }
+            Err(error) => Answer::Refused(error),
+        }
+    }
 
     /// What it holds now.
     fn contents(&self) -> Contents;
-
-    /// How many entries it has, marked ones too; 1,000 where there are more.
-    fn entries(&self) -> usize;
 
     /// Builds its index to the end, and tells the number of the record that ended it.
     fn build_to_end(&mut self) -> Result<u64, Error>;
@@ -100,6 +106,9 @@ pub trait StoreMemory: Copy {
     /// Moves the store of version 1 on the old disk to the new one, and opens it there; or gives the new one back.
     fn moved(self, old: &mut Disk, new: Disk) -> Result<Self::Store, (MigrateError, Disk)>;
 
+    /// From now on refuses the allocation that so many come before.
+    fn refuse_after(self, before: u64);
+
     /// How many allocations were refused.
     fn refused(self) -> u64;
 }
@@ -107,6 +116,7 @@ pub trait StoreMemory: Copy {
 /// A store that is open, over memory of this kind.
 pub struct Store<A: Allocator> {
     engine: Engine<FaultDisk<MemDisk<Global>>, A>,
+    alloc: Global,
 }
 
 impl<A: Allocator> Model for Store<A> {
@@ -118,33 +128,15 @@ impl<A: Allocator> Model for Store<A> {
 }
 
 impl<A: Allocator + Copy> OpenStore for Store<A> {
-    fn run(&mut self, alloc: Global, events: &[Event]) -> Result<Vec<Answer>, Error> {
+    fn run(&mut self, events: &[Event]) -> Result<Vec<Answer>, Error> {
         let replies = replies_to(&mut self.engine, events)?;
-        let answers = answers_of(alloc, &replies);
+        let answers = answers_of(self.alloc, &replies);
         drop(replies);
         answers
     }
 
-    fn ask(&mut self, event: &Event) -> Answer {
-        match replies_to(&mut self.engine, &[*event]) {
-            Ok(replies) => {
-                let answer = match replies.first() {
-                    Some(reply) => answer_of(reply),
-                    None => Answer::Skipped,
-                };
-                drop(replies);
-                answer
-            }
-            Err(error) => Answer::Refused(error),
-        }
-    }
-
     fn contents(&self) -> Contents {
         contents_of(core_of(&self.engine))
-    }
-
-    fn entries(&self) -> usize {
-        entries_of(core_of(&self.engine))
     }
 
     fn build_to_end(&mut self) -> Result<u64, Error> {
@@ -152,18 +144,41 @@ impl<A: Allocator + Copy> OpenStore for Store<A> {
     }
 
     fn into_parts(self) -> Result<(u64, u64, Disk), (Error, Disk)> {
-        let Store { engine } = self;
+        let Store { engine, alloc } = self;
         match parted(engine) {
-            Ok((last, synced, device)) => Ok((last, synced, Disk { device })),
-            Err((error, device)) => Err((error, Disk { device })),
+            Ok((last, synced, device)) => Ok((last, synced, Disk { device, alloc })),
+            Err((error, device)) => Err((error, Disk { device, alloc })),
         }
     }
 
     fn close(self) -> Disk {
-        let Store { engine } = self;
+        let Store { engine, alloc } = self;
         Disk {
             device: device_of(engine),
+            alloc,
         }
+    }
+}
+
+// A store is opened on the disk, or moved to it, in any memory.
+
+fn open_in<A: Allocator + Copy>(memory: A, disk: Disk) -> Result<Store<A>, (Error, Disk)> {
+    let Disk { device, alloc } = disk;
+    match opened(memory, device) {
+        Ok(engine) => Ok(Store { engine, alloc }),
+        Err((error, device)) => Err((error, Disk { device, alloc })),
+    }
+}
+
+fn move_in<A: Allocator + Copy>(
+    memory: A,
+    old: &mut Disk,
+    new: Disk,
+) -> Result<Store<A>, (MigrateError, Disk)> {
+    let Disk { device, alloc } = new;
+    match moved(memory, &mut old.device, device) {
+        Ok(engine) => Ok(Store { engine, alloc }),
+        Err((error, device)) => Err((error, Disk { device, alloc })),
     }
 }
 
@@ -171,10 +186,7 @@ impl<'a> StoreMemory for &'a Refusing<Global> {
     type Store = Store<&'a Refusing<Global>>;
 
     fn open(self, disk: Disk) -> Result<Store<&'a Refusing<Global>>, (Error, Disk)> {
-        match opened(self, disk.device) {
-            Ok(engine) => Ok(Store { engine }),
-            Err((error, device)) => Err((error, Disk { device })),
-        }
+        open_in(self, disk)
     }
 
     fn moved(
@@ -182,10 +194,11 @@ impl<'a> StoreMemory for &'a Refusing<Global> {
         old: &mut Disk,
         new: Disk,
     ) -> Result<Store<&'a Refusing<Global>>, (MigrateError, Disk)> {
-        match moved(self, &mut old.device, new.device) {
-            Ok(engine) => Ok(Store { engine }),
-            Err((error, device)) => Err((error, Disk { device })),
-        }
+        move_in(self, old, new)
+    }
+
+    fn refuse_after(self, before: u64) {
+        Refusing::refuse_after(self, before);
     }
 
     fn refused(self) -> u64 {

@@ -1,81 +1,78 @@
 // A store byte by byte, as the format document has it.
+use crate::claims::claim_at;
 use crate::image_tests::run_over;
-use sector_device::SECTOR_SIZE;
+use crate::jobs::{Play, do_play};
+use records::Error;
+use restart::Event;
+use std::alloc::Global;
 use std::process::Abort;
-use std::test::Fail;
-use test_store::{Disk, GROUP, ample, requests, write_at};
+use test_store::{Disk, Edit, GROUP, Script, StoreMemory};
 
-// A sector, and what stands in it at these places: the rest is zeros.
-type Sector<'a> = (u64, &'a [(usize, &'a [u8])]);
+// A commit, and then a build, a change behind it that owes nothing, and an image.
+static SCRIPT: [Script<'static>; 1] = [(
+    1,
+    "begin\ninsert 1 =ant =x\ncommit 1\nflush\n\
+    create\nbuild 2\nbegin\ninsert 2 =a =\nstep 2\nimage\nimage\nimage\nimage\n",
+)];
 
-fn check(rt: &impl Abort, disk: &mut Disk, (n, pieces): Sector<'_>) -> Result<(), Fail> {
-    let mut wanted = [0; SECTOR_SIZE];
-    for (at, bytes) in pieces {
-        write_at(&mut wanted, *at, bytes);
+// What stands in the sectors that are compared: the rest is zeros. The first restart makes half B current: half A is in
+// sectors 2 to 1083, half B begins at 1084, and its first gate is in 2134.
+static BYTES: [Edit<'static>; 15] = [
+    (0, 0, b"NSFINDEX\0\0\0\x02\0\0\0\x01\0\0\0\x40\0\0\0\x04"),
+    // half A is current again: sector 1 is zeros, and then comes its header; the index is being built, the image is of
+    // record 6, and there are two entries
+    (2, 0, b"\x01"),
+    (2, 72, b"\x06\0\0\0\x02"),
+    // one list, of transaction 2, and its one change
+    (3, 7, b"\x02\0\x01"),
+    (4, 0, b"\x01\0\0\0\0\0\x01"),
+    (4, 135, b"\x01\x01a"),
+    // the rows
+    (1028, 64, b"\x01\x03ant"),
+    (1028, 122, b"\x01x"),
+    (1028, 192, b"\x01\x01a"),
+    // the entries
+    (1044, 0, b"\x01a"),
+    (1044, 62, b"\x01\x01"),
+    (1044, 64, b"\x03ant"),
+    (1044, 127, b"\x01"),
+    // the group in the log of half B; the rest of its slot, and the next gate, are zeros
+    (2134, 0, b"\xa5"),
+    (2135, 0, GROUP),
+];
+
+// The first of sectors that are compared, and the one behind the last.
+static COMPARED: [(u64, u64); 5] = [
+    (0, 5),
+    (1028, 1030),
+    (1044, 1045),
+    (1052, 1053),
+    (2134, 2143),
+];
+
+fn compare(rt: &impl Abort, disk: &mut Disk) -> Result<(), Error> {
+    for (first, end) in &COMPARED {
+        let holds = disk.holds(BYTES.as_slice(), *first, *end)?;
+        claim_at(rt, holds, "the sectors from this one on:", *first);
     }
-    assert!(rt; disk.sector(n)? == wanted, "sector {n}");
     Ok(())
 }
 
-// A commit, and then a build, a change behind it that owes nothing, and an image.
-const SCRIPT: &str = "begin\ninsert 1 =ant =x\ncommit 1\nflush\n\
-    create\nbuild 2\nbegin\ninsert 2 =a =\nstep 2\nimage\nimage\nimage\nimage\n";
-
-// The first restart makes half B current: half A is in sectors 2 to 1083, half B begins at 1084, and its first gate is
-// in 2134.
-const SECTORS: [Sector<'static>; 11] = [
-    (
-        0,
-        &[(0, b"NSFINDEX\0\0\0\x02\0\0\0\x01\0\0\0\x40\0\0\0\x04")],
-    ),
-    // half A is current again
-    (1, &[]),
-    // its header: the index is being built, the image is of record 6, and there are two entries
-    (2, &[(0, b"\x01"), (72, b"\x06\0\0\0\x02")]),
-    // one list, of transaction 2, and its one change
-    (3, &[(7, b"\x02\0\x01")]),
-    (4, &[(0, b"\x01\0\0\0\0\0\x01"), (135, b"\x01\x01a")]),
-    // the rows
-    (
-        1028,
-        &[(64, b"\x01\x03ant"), (122, b"\x01x"), (192, b"\x01\x01a")],
-    ),
-    (1029, &[]),
-    // the entries
-    (
-        1044,
-        &[
-            (0, b"\x01a"),
-            (62, b"\x01\x01"),
-            (64, b"\x03ant"),
-            (127, b"\x01"),
-        ],
-    ),
-    (1052, &[]),
-    // the group in the log of half B
-    (2134, &[(0, b"\xa5")]),
-    (2135, &[(0, GROUP)]),
-];
-
-fn check_store(rt: &impl Abort, disk: &mut Disk) -> Result<(), Fail> {
-    for sector in SECTORS {
-        check(rt, disk, sector)?;
-    }
-    // the rest of its slot, and the next gate
-    for n in 2136..2143 {
-        check(rt, disk, (n, &[]))?;
-    }
-    Ok(())
+pub(crate) fn run_and_compare<M: StoreMemory>(
+    rt: &impl Abort,
+    memory: M,
+    alloc: Global,
+    events: &[Event],
+) -> Result<(), Error> {
+    let disk = Disk::formatted(alloc, 1, 4)?;
+    let (answers, mut disk) = run_over(memory, disk, events)?;
+    drop(answers);
+    let compared = compare(rt, &mut disk);
+    drop(disk);
+    compared
 }
 
 #[test]
-fn a_store_byte_by_byte(rt: HostRuntime) -> Result<(), Fail> {
-    let memory = ample(rt.alloc());
-    let events = requests(rt.alloc(), SCRIPT)?;
-    let disk = Disk::formatted(rt.alloc(), 1, 4)?;
-    let (answers, mut disk) = run_over(&memory, rt.alloc(), disk, &events)?;
-    drop(answers);
-    let checked = check_store(&rt, &mut disk);
-    drop(disk);
-    checked
+fn a_store_byte_by_byte(rt: HostRuntime) -> Result<(), Error> {
+    do_play(&rt, rt.alloc(), &SCRIPT, Play::CompareBytes)
 }

@@ -1,21 +1,31 @@
 // A store is stopped at each call of its device in turn, and crashes; and so are the restarts behind it.
+use crate::claims::{claim, claim_at};
+use crate::jobs::{Play, do_play};
 use records::Error;
 use restart::Event;
 use sector_device::{Fate, Which};
 use std::alloc::Global;
 use std::process::Abort;
-use std::test::Fail;
-use test_store::{Answer, Contents, Disk, OpenStore, StoreMemory, ample, open, requests};
+use test_store::{Answer, Contents, Disk, OpenStore, Script, StoreMemory, open};
 
 // More than the calls that a run makes.
 const CALLS: u64 = 1_000;
 
 // A row is deleted behind the scan of a build, and an image is taken before the build ends.
-const SCRIPT: &str = "begin\ninsert 1 =a =\ninsert 1 =b =\ncommit 1\ncreate\nflush\nbuild\nbegin\n\
-    delete 2 0.1\nstep 2\ncommit 2\nflush\nbuild 2\nimage\nimage\nimage\nimage\nbuild\nflush\n";
+static SCRIPT: [Script<'static>; 1] = [(
+    1,
+    "begin\ninsert 1 =a =\ninsert 1 =b =\ncommit 1\ncreate\nflush\nbuild\nbegin\n\
+    delete 2 0.1\nstep 2\ncommit 2\nflush\nbuild 2\nimage\nimage\nimage\nimage\nbuild\nflush\n",
+)];
 
-// The calls of a device that may fail, and what becomes then of the sectors that are not synced.
-type Case = (Which, Fate);
+/// The calls of a device that may fail, what becomes then of the sectors that are not synced, and of how many calls of
+/// a restart one fails.
+#[derive(Clone, Copy)]
+pub(crate) struct Case {
+    which: Which,
+    fate: Fate,
+    every: u64,
+}
 
 // The requests of a script, what they are answered while nothing fails, and what the store holds at first and whenever
 // all is told to be safe.
@@ -34,14 +44,14 @@ fn told_safe(answer: &Answer) -> Option<u64> {
     }
 }
 
-// Runs the requests while nothing fails.
-fn whole_by<'a>(
-    alloc: Global,
+// Runs the requests while nothing fails, and keeps what is answered and given.
+fn run_whole(
     store: &mut impl OpenStore,
-    events: &'a [Event],
-) -> Result<Whole<'a>, Fail> {
-    let mut answers = Vec::new(alloc);
-    let mut given = vec![in alloc; store.contents()]?;
+    events: &[Event],
+    answers: &mut Vec<Answer>,
+    given: &mut Vec<Contents>,
+) -> Result<(), Error> {
+    given.push(store.contents())?;
     for event in events {
         let answer = store.ask(event);
         if told_safe(&answer).is_some() {
@@ -49,23 +59,32 @@ fn whole_by<'a>(
         }
         answers.push(answer)?;
     }
-    Ok(Whole {
-        events,
-        answers,
-        given,
-    })
+    Ok(())
 }
 
-// The same of a new store.
+// Runs the requests on a new store while nothing fails.
 fn whole_by_new<'a, M: StoreMemory>(
     memory: M,
     alloc: Global,
     events: &'a [Event],
-) -> Result<Whole<'a>, Fail> {
+) -> Result<Whole<'a>, Error> {
     let mut store = open(memory, Disk::formatted(alloc, 1, 4)?)?;
-    let whole = whole_by(alloc, &mut store, events);
+    let mut answers = Vec::new(alloc);
+    let mut given = Vec::new(alloc);
+    let run = run_whole(&mut store, events, &mut answers, &mut given);
     drop(store.close());
-    whole
+    let whole = Whole {
+        events,
+        answers,
+        given,
+    };
+    match run {
+        Ok(()) => Ok(whole),
+        Err(fail) => {
+            drop(whole);
+            Err(fail)
+        }
+    }
 }
 
 const FAILED: Answer = Answer::Refused(Error::DeviceFailed);
@@ -77,15 +96,15 @@ struct Told {
     failed: bool,
 }
 
-// Whether the request is for the device.
-fn is_for_device(event: &Event) -> bool {
-    matches!(event, Event::Flush | Event::Copy)
+// Whether the request is for the device, which is answered so while nothing fails.
+fn is_for_device(wanted: &Answer) -> bool {
+    *wanted == Answer::Copied || told_safe(wanted).is_some()
 }
 
 // Takes the answer to a request: whether it may be this, where that is answered while nothing fails. A failure of the
 // device is told, and from then on whenever the device is asked; all other answers stay.
-fn take_answer(told: &mut Told, event: &Event, answer: &Answer, wanted: &Answer) -> bool {
-    if is_for_device(event) && (told.failed || *answer == FAILED) {
+fn take_answer(told: &mut Told, answer: &Answer, wanted: &Answer) -> bool {
+    if is_for_device(wanted) && (told.failed || *answer == FAILED) {
         told.failed = true;
         return *answer == FAILED;
     }
@@ -101,10 +120,8 @@ fn run_all(rt: &impl Abort, store: &mut impl OpenStore, whole: &Whole<'_>) -> To
     };
     for (event, wanted) in whole.events.iter().zip(&whole.answers) {
         let answer = store.ask(event);
-        assert!(rt;
-            take_answer(&mut told, event, &answer, wanted),
-            "{event:?}: {answer:?}"
-        );
+        let is_wanted = take_answer(&mut told, &answer, wanted);
+        claim(rt, is_wanted, "an answer that is wanted");
     }
     told
 }
@@ -122,7 +139,7 @@ fn run_over<M: StoreMemory>(
             (told, store.close())
         }
         Err((error, disk)) => {
-            assert!(rt; error == Error::DeviceFailed, "{error:?}");
+            claim(rt, error == Error::DeviceFailed, "a device that fails");
             let told = Told {
                 safe: 0,
                 failed: true,
@@ -148,26 +165,25 @@ fn held_at_last<M: StoreMemory>(
     rt: &impl Abort,
     memory: M,
     mut disk: Disk,
-    (which, fate): Case,
+    case: Case,
     call: u64,
-) -> Result<(Contents, bool), Fail> {
-    let mut again = false;
-    for call in [call, call, 0] {
-        match memory.open(disk.crash(fate).failing(which, call)) {
+) -> Result<(Contents, bool), Error> {
+    for stops in 0..3u8 {
+        let fails_at = if stops < 2 { call } else { 0 };
+        match memory.open(disk.crash(case.fate).failing(case.which, fails_at)) {
             Ok(store) => {
                 let held = store.contents();
                 drop(store.close());
-                return Ok((held, again));
+                return Ok((held, stops > 0));
             }
             Err((error, stopped)) => {
-                assert!(rt; error == Error::DeviceFailed, "{error:?}");
+                claim(rt, error == Error::DeviceFailed, "a device that fails");
                 disk = stopped;
             }
         }
-        again = true;
     }
     drop(disk);
-    Err("a restart that is not stopped")?
+    rt.panic("each restart is stopped")
 }
 
 // The device fails at this of those calls, and then the restarts behind it at that of theirs. Just where it fails, that
@@ -179,11 +195,16 @@ fn stop_at<M: StoreMemory>(
     whole: &Whole<'_>,
     case: Case,
     (call, restart_call): (u64, u64),
-) -> Result<Stopped, Fail> {
-    let disk = Disk::formatted(alloc, 1, 4)?.failing(case.0, call);
+) -> Result<Stopped, Error> {
+    let disk = Disk::formatted(alloc, 1, 4)?.failing(case.which, call);
     let (told, disk) = run_over(rt, memory, disk, whole);
     let failed = call <= disk.made();
-    assert!(rt; told.failed == failed, "call {call}, {case:?}");
+    claim_at(
+        rt,
+        told.failed == failed,
+        "that a failure is told at call",
+        call,
+    );
     let (left, again) = held_at_last(rt, memory, disk, case, restart_call)?;
     Ok(Stopped {
         safe: told.safe,
@@ -199,44 +220,30 @@ fn stop_restarts<M: StoreMemory>(
     memory: M,
     alloc: Global,
     whole: &Whole<'_>,
-    (case, every): (Case, u64),
+    case: Case,
     call: u64,
-) -> Result<Stopped, Fail> {
+) -> Result<Stopped, Error> {
     let once = stop_at(rt, memory, alloc, whole, case, (call, 0))?;
-    let first = call.checked_rem(every).unwrap_or(0).saturating_add(1);
-    for more in 0..CALLS {
-        let restart_call = first.saturating_add(more.saturating_mul(every));
+    let mut restart_call = call.checked_rem(case.every).unwrap_or(0).saturating_add(1);
+    for _ in 0..CALLS {
         let stopped = stop_at(rt, memory, alloc, whole, case, (call, restart_call))?;
-        assert!(rt;
-            stopped.left == once.left,
-            "calls {call} and {restart_call}, {case:?}"
-        );
+        claim_at(rt, stopped.left == once.left, "the same behind call", call);
         if !stopped.again {
             return Ok(once);
         }
+        restart_call = restart_call.saturating_add(case.every);
     }
-    Err("fewer calls of a restart")?
+    rt.panic("more calls of a restart")
 }
 
 // What is left is what the store held as all was told to be safe, with all that was told to be so, and not less than a
 // stop before left. Where nothing failed it is all.
-fn check_left(
-    rt: &impl Abort,
-    given: &[Contents],
-    stopped: &Stopped,
-    last: u64,
-    (case, call): ((Case, u64), u64),
-) {
+fn may_be_left(given: &[Contents], stopped: &Stopped, last: u64) -> bool {
     let left = &stopped.left;
-    assert!(rt; given.contains(left), "call {call}, {case:?}: {left:?}");
-    assert!(rt;
-        stopped.safe <= left.last && last <= left.last,
-        "call {call}, {case:?}"
-    );
-    assert!(rt;
-        stopped.failed || given.last() == Some(left),
-        "{case:?}: {left:?}"
-    );
+    given.contains(left)
+        && stopped.safe <= left.last
+        && last <= left.last
+        && (stopped.failed || given.last() == Some(left))
 }
 
 // Stops a run at each of those calls in turn, and looks at what is left.
@@ -245,82 +252,116 @@ fn stop_at_each<M: StoreMemory>(
     memory: M,
     alloc: Global,
     whole: &Whole<'_>,
-    case: (Case, u64),
-) -> Result<(), Fail> {
+    case: Case,
+) -> Result<(), Error> {
     let mut last: u64 = 0;
     for call in 1..CALLS {
         let stopped = stop_restarts(rt, memory, alloc, whole, case, call)?;
-        check_left(rt, &whole.given, &stopped, last, (case, call));
+        claim_at(
+            rt,
+            may_be_left(&whole.given, &stopped, last),
+            "what is left at call",
+            call,
+        );
         if !stopped.failed {
             return Ok(());
         }
         last = stopped.left.last;
     }
-    Err("fewer calls")?
+    rt.panic("more calls")
 }
 
 // The same of each case.
-fn stop_in_each<M: StoreMemory>(
+fn stop_whole<M: StoreMemory>(
     rt: &impl Abort,
     memory: M,
     alloc: Global,
     whole: &Whole<'_>,
-    cases: &[(Case, u64)],
-) -> Result<(), Fail> {
-    assert!(rt; whole.given.len() == 5);
+    cases: &[Case],
+) -> Result<(), Error> {
+    claim(
+        rt,
+        whole.given.len() == 5,
+        "five moments at which all is safe",
+    );
     for case in cases {
         stop_at_each(rt, memory, alloc, whole, *case)?;
     }
     Ok(())
 }
 
-// Stops a run of these requests so.
-fn stop_over<M: StoreMemory>(
+/// Stops a run of these requests so.
+pub(crate) fn stop_in_each<M: StoreMemory>(
     rt: &impl Abort,
     memory: M,
     alloc: Global,
     events: &[Event],
-    cases: &[(Case, u64)],
-) -> Result<(), Fail> {
+    cases: &[Case],
+) -> Result<(), Error> {
     let whole = whole_by_new(memory, alloc, events)?;
-    let stopped = stop_in_each(rt, memory, alloc, &whole, cases);
+    let stopped = stop_whole(rt, memory, alloc, &whole, cases);
     drop(whole);
-    stopped
-}
-
-// Stops a run of the script so.
-fn stop(rt: &impl Abort, alloc: Global, cases: &[(Case, u64)]) -> Result<(), Fail> {
-    let events = requests(alloc, SCRIPT)?;
-    let memory = ample(alloc);
-    let stopped = stop_over(rt, &memory, alloc, &events, cases);
-    drop(events);
     stopped
 }
 
 // The calls that change what is kept fail in turn, with each fate of what is not synced, and behind each of them each
 // such call of a restart.
 
-const WRITES: Which = Which::WritesAndSyncs;
+static LOSING: [Case; 2] = [
+    Case {
+        which: Which::WritesAndSyncs,
+        fate: Fate::Old,
+        every: 1,
+    },
+    Case {
+        which: Which::WritesAndSyncs,
+        fate: Fate::Zero,
+        every: 1,
+    },
+];
 
-#[test]
-fn each_stop_that_loses_all(rt: HostRuntime) -> Result<(), Fail> {
-    let cases = [((WRITES, Fate::Old), 1), ((WRITES, Fate::Zero), 1)];
-    stop(&rt, rt.alloc(), &cases)
-}
+static KEEPING: [Case; 1] = [Case {
+    which: Which::WritesAndSyncs,
+    fate: Fate::New,
+    every: 1,
+}];
 
-#[test]
-fn each_stop_that_keeps_all(rt: HostRuntime) -> Result<(), Fail> {
-    stop(&rt, rt.alloc(), &[((WRITES, Fate::New), 1)])
-}
-
-#[test]
-fn each_stop_that_spoils(rt: HostRuntime) -> Result<(), Fail> {
-    let cases = [((WRITES, Fate::Gate), 1), ((WRITES, Fate::Junk), 1)];
-    stop(&rt, rt.alloc(), &cases)
-}
+static SPOILING: [Case; 2] = [
+    Case {
+        which: Which::WritesAndSyncs,
+        fate: Fate::Gate,
+        every: 1,
+    },
+    Case {
+        which: Which::WritesAndSyncs,
+        fate: Fate::Junk,
+        every: 1,
+    },
+];
 
 // Each call fails in turn, and behind it one in 16 of a restart.
+static FAILING: [Case; 1] = [Case {
+    which: Which::All,
+    fate: Fate::Old,
+    every: 16,
+}];
+
 #[test]
-fn each_failure(rt: HostRuntime) -> Result<(), Fail> {
-    stop(&rt, rt.alloc(), &[((Which::All, Fate::Old), 16)])
+fn each_stop_that_loses_all(rt: HostRuntime) -> Result<(), Error> {
+    do_play(&rt, rt.alloc(), &SCRIPT, Play::Stop(&LOSING))
+}
+
+#[test]
+fn each_stop_that_keeps_all(rt: HostRuntime) -> Result<(), Error> {
+    do_play(&rt, rt.alloc(), &SCRIPT, Play::Stop(&KEEPING))
+}
+
+#[test]
+fn each_stop_that_spoils(rt: HostRuntime) -> Result<(), Error> {
+    do_play(&rt, rt.alloc(), &SCRIPT, Play::Stop(&SPOILING))
+}
+
+#[test]
+fn each_failure(rt: HostRuntime) -> Result<(), Error> {
+    do_play(&rt, rt.alloc(), &SCRIPT, Play::Stop(&FAILING))
 }

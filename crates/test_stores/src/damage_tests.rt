@@ -1,10 +1,13 @@
 // Stores that were harmed.
+use crate::claims::claim;
+use crate::jobs::{Work, do_work};
 use records::Error;
 use std::alloc::Global;
-use std::test::Fail;
-use test_store::{Disk, Edit, GROUP, OpenStore, StoreMemory, ample, edit, open};
+use std::process::Abort;
+use test_store::{Disk, Edit, GROUP, OpenStore, StoreMemory, open};
 
-fn refusal_in<M: StoreMemory>(memory: M, disk: Disk) -> Option<Error> {
+/// Why the store on the disk isn't opened.
+pub(crate) fn why_not_open<M: StoreMemory>(memory: M, disk: Disk) -> Option<Error> {
     match memory.open(disk) {
         Ok(store) => {
             drop(store.close());
@@ -17,30 +20,13 @@ fn refusal_in<M: StoreMemory>(memory: M, disk: Disk) -> Option<Error> {
     }
 }
 
-/// Why the store on the disk isn't opened.
-pub(crate) fn why_not_open(alloc: Global, disk: Disk) -> Option<Error> {
-    refusal_in(&ample(alloc), disk)
-}
-
 // The least store, just formatted and then changed so.
 fn edited(alloc: Global, edits: &[Edit<'_>]) -> Result<Disk, Error> {
-    let mut disk = Disk::formatted(alloc, 1, 4)?;
-    match edit(&mut disk, edits) {
-        Ok(()) => Ok(disk),
-        Err(error) => {
-            drop(disk);
-            Err(error)
-        }
-    }
-}
-
-// Why it isn't opened.
-fn refusal(alloc: Global, edits: &[Edit<'_>]) -> Result<Option<Error>, Error> {
-    Ok(why_not_open(alloc, edited(alloc, edits)?))
+    Disk::formatted(alloc, 1, 4)?.edited(edits)
 }
 
 // Harms by their names, the sectors that are changed, and the one at which the store is damaged.
-const DAMAGED: [(&str, &[Edit<'_>], u64); 17] = [
+static DAMAGED: [(&str, &[Edit<'_>], u64); 17] = [
     ("version 3", &[(0, 11, b"\x03")], 0),
     ("a byte behind the superblock", &[(0, 24, b"\x01")], 0),
     ("no pages", &[(0, 15, b"\0")], 0),
@@ -73,7 +59,7 @@ const DAMAGED: [(&str, &[Edit<'_>], u64); 17] = [
 ];
 
 // Others, and why the store isn't opened.
-const OTHERS: [(&str, &[Edit<'_>], Option<Error>); 5] = [
+static OTHERS: [(&str, &[Edit<'_>], Option<Error>); 5] = [
     ("version 1", &[(0, 11, b"\x01")], Some(Error::OldVersion)),
     (
         "version 1, and more pages than any store",
@@ -93,16 +79,37 @@ const OTHERS: [(&str, &[Edit<'_>], Option<Error>); 5] = [
     ),
 ];
 
-#[test]
-fn stores_that_were_harmed(rt: HostRuntime) -> Result<(), Fail> {
-    for (name, edits, sector) in DAMAGED {
-        let wanted = Some(Error::Damaged { sector });
-        assert_eq!(rt; refusal(rt.alloc(), edits)?, wanted, "{name}");
+fn check_harmed<M: StoreMemory>(
+    rt: &impl Abort,
+    memory: M,
+    alloc: Global,
+    (name, edits, wanted): (&str, &[Edit<'_>], Option<Error>),
+) -> Result<(), Error> {
+    let disk = edited(alloc, edits)?;
+    let refused = why_not_open(memory, disk);
+    claim(rt, refused == wanted, name);
+    Ok(())
+}
+
+/// Opens each of them.
+pub(crate) fn open_harmed<M: StoreMemory>(
+    rt: &impl Abort,
+    memory: M,
+    alloc: Global,
+) -> Result<(), Error> {
+    for (name, edits, sector) in &DAMAGED {
+        let wanted = Some(Error::Damaged { sector: *sector });
+        check_harmed(rt, memory, alloc, (*name, *edits, wanted))?;
     }
-    for (name, edits, wanted) in OTHERS {
-        assert_eq!(rt; refusal(rt.alloc(), edits)?, wanted, "{name}");
+    for (name, edits, wanted) in &OTHERS {
+        check_harmed(rt, memory, alloc, (*name, *edits, *wanted))?;
     }
     Ok(())
+}
+
+#[test]
+fn stores_that_were_harmed(rt: HostRuntime) -> Result<(), Error> {
+    do_work(&rt, rt.alloc(), Work::OpenHarmed)
 }
 
 // The number of the record that ended the build of the index on the disk.
@@ -113,10 +120,18 @@ fn completed_by<M: StoreMemory>(memory: M, disk: Disk) -> Result<u64, Error> {
     completed
 }
 
-// A store may begin with an index that is complete and has no record.
-#[test]
-fn an_index_that_no_record_completed(rt: HostRuntime) -> Result<(), Fail> {
-    let disk = edited(rt.alloc(), &[(2, 0, b"\x02")])?;
-    assert_eq!(rt; completed_by(&ample(rt.alloc()), disk), Ok(0));
+/// A store may begin with an index that is complete and has no record.
+pub(crate) fn complete_index<M: StoreMemory>(
+    rt: &impl Abort,
+    memory: M,
+    alloc: Global,
+) -> Result<(), Error> {
+    let disk = edited(alloc, &[(2, 0, b"\x02")])?;
+    claim(rt, completed_by(memory, disk) == Ok(0), "no record");
     Ok(())
+}
+
+#[test]
+fn an_index_that_no_record_completed(rt: HostRuntime) -> Result<(), Error> {
+    do_work(&rt, rt.alloc(), Work::CompleteIndex)
 }

@@ -1,26 +1,40 @@
 // Memory is refused to a store, each allocation in turn. What was refused for want of memory is asked again, and every
 // other reply is that of a store to which nothing was refused.
+use crate::claims::{claim, claim_at};
+use crate::jobs::{Play, do_play};
 use nsf_core::BuildReply;
 use records::Error;
 use restart::Event;
 use sector_device::Fate;
-use std::alloc::{AllocError, Global};
+use std::alloc::Global;
 use std::process::Abort;
-use std::test::Fail;
-use test_memory::Refusing;
-use test_store::{Answer, Contents, Disk, OpenStore, StoreMemory, open, requests};
+use test_store::{Answer, Contents, Disk, OpenStore, Script, StoreMemory, open};
 
 // How often a run is played at most.
 const PLAYS: u64 = 2_000;
 
+/// Over so many pages at least so many requests are made again, and so many at the end of a build or of a complete
+/// index.
+#[derive(Clone, Copy)]
+pub(crate) struct Wanted {
+    pages: u32,
+    least: u32,
+    complete: u32,
+}
+
 // Opens the store, if need be a second time. Without a refusal of memory there is no want of it.
-fn open_again<M: StoreMemory>(rt: &impl Abort, memory: M, disk: Disk) -> Result<M::Store, Fail> {
+fn open_again<M: StoreMemory>(rt: &impl Abort, memory: M, disk: Disk) -> Result<M::Store, Error> {
     let before = memory.refused();
     match memory.open(disk) {
         Ok(store) => Ok(store),
         Err((error, disk)) => {
-            assert!(rt; error == Error::NoMemory && before < memory.refused());
-            Ok(open(memory, disk)?)
+            let is_refused = before < memory.refused();
+            claim(
+                rt,
+                error == Error::NoMemory && is_refused,
+                "a want of memory",
+            );
+            open(memory, disk)
         }
     }
 }
@@ -33,13 +47,12 @@ fn ask_again<M: StoreMemory>(
     event: &Event,
 ) -> (Answer, bool) {
     let before = memory.refused();
-    match store.ask(event) {
-        Answer::Refused(Error::NoMemory) => {
-            assert!(rt; before < memory.refused(), "{event:?}");
-            (store.ask(event), true)
-        }
-        answer => (answer, false),
+    let answer = store.ask(event);
+    if answer != Answer::Refused(Error::NoMemory) {
+        return (answer, false);
     }
+    claim(rt, before < memory.refused(), "that memory was refused");
+    (store.ask(event), true)
 }
 
 // What a play of requests gave: the answers, the place of the request that was made again, what a crash leaves then,
@@ -52,15 +65,14 @@ struct Played {
     refused: u64,
 }
 
-// The answers to the requests, and the place of the one that was made again.
-fn answers_of<M: StoreMemory>(
+// Keeps the answers to the requests. The place of the one that was made again.
+fn answer_all<M: StoreMemory>(
     rt: &impl Abort,
     memory: M,
-    alloc: Global,
     store: &mut M::Store,
     events: &[Event],
-) -> Result<(Vec<Answer>, Option<usize>), Fail> {
-    let mut answers = Vec::new(alloc);
+    answers: &mut Vec<Answer>,
+) -> Result<Option<usize>, Error> {
     let mut again = None;
     for (place, event) in events.iter().enumerate() {
         let (answer, is_again) = ask_again(rt, memory, store, event);
@@ -69,129 +81,152 @@ fn answers_of<M: StoreMemory>(
             again = Some(place);
         }
     }
-    Ok((answers, again))
+    Ok(again)
 }
 
 // What the store on the disk holds.
-fn held_on<M: StoreMemory>(rt: &impl Abort, memory: M, disk: Disk) -> Result<Contents, Fail> {
+fn held_on<M: StoreMemory>(rt: &impl Abort, memory: M, disk: Disk) -> Result<Contents, Error> {
     let store = open_again(rt, memory, disk)?;
     let held = store.contents();
     drop(store.close());
     Ok(held)
 }
 
-// Plays the requests over a new store of so many pages.
-fn play_in<M: StoreMemory>(
+// Plays the requests on the disk: the place of the one that was made again, and what a crash leaves then.
+fn play_on<M: StoreMemory>(
+    rt: &impl Abort,
+    memory: M,
+    disk: Disk,
+    events: &[Event],
+    answers: &mut Vec<Answer>,
+) -> Result<(Option<usize>, Contents), Error> {
+    let mut store = open_again(rt, memory, disk)?;
+    let again = answer_all(rt, memory, &mut store, events, answers);
+    let left = held_on(rt, memory, store.close().crash(Fate::Junk));
+    Ok((again?, left?))
+}
+
+// Plays the requests over a new store of so many pages, where the allocation is refused that so many come before.
+fn play<M: StoreMemory>(
     rt: &impl Abort,
     memory: M,
     alloc: Global,
-    (events, pages): (&[Event], u32),
-) -> Result<Played, Fail> {
-    let mut store = open_again(rt, memory, Disk::formatted(alloc, pages, 12)?)?;
-    let answers = answers_of(rt, memory, alloc, &mut store, events);
-    let disk = store.close().crash(Fate::Junk);
-    let (answers, again) = match answers {
-        Ok(answers) => answers,
-        Err(fail) => {
-            drop(disk);
-            return Err(fail);
+    events: &[Event],
+    (pages, before): (u32, u64),
+) -> Result<Played, Error> {
+    let disk = Disk::formatted(alloc, pages, 12)?;
+    let was = memory.refused();
+    memory.refuse_after(before);
+    let mut answers = Vec::new(alloc);
+    let played = play_on(rt, memory, disk, events, &mut answers);
+    match played {
+        Ok((again, left)) => Ok(Played {
+            answers,
+            again,
+            left,
+            refused: memory.refused().saturating_sub(was),
+        }),
+        Err(error) => {
+            drop(answers);
+            Err(error)
         }
-    };
-    let left = held_on(rt, memory, disk)?;
-    Ok(Played {
-        answers,
-        again,
-        left,
-        refused: memory.refused(),
-    })
-}
-
-// The same, where the allocation is refused that so many come before.
-fn play(
-    rt: &impl Abort,
-    alloc: Global,
-    requests: (&[Event], u32),
-    before: u64,
-) -> Result<Played, Fail> {
-    play_in(rt, &Refusing::new(alloc, before), alloc, requests)
+    }
 }
 
 // Plays the requests where this allocation is refused: the place of the request that was made again, and how many
 // allocations were refused. All else is as it was played with none.
-fn play_short(
+fn play_short<M: StoreMemory>(
     rt: &impl Abort,
+    memory: M,
     alloc: Global,
-    requests: (&[Event], u32),
-    before: u64,
-    wanted: &Played,
-) -> Result<(Option<usize>, u64), Fail> {
-    let played = play(rt, alloc, requests, before)?;
-    assert!(rt;
-        played.answers == wanted.answers && played.left == wanted.left,
-        "allocation {before}"
-    );
+    events: &[Event],
+    (pages, before): (u32, u64),
+    whole: &Played,
+) -> Result<(Option<usize>, u64), Error> {
+    let played = play(rt, memory, alloc, events, (pages, before))?;
+    let is_same = played.answers == whole.answers && played.left == whole.left;
     let told = (played.again, played.refused);
     drop(played);
+    claim_at(rt, is_same, "the same without allocation", before);
     Ok(told)
 }
 
-// Keeps the answer at this place, if there is one.
-fn keep(again: &mut Vec<Answer>, wanted: &Played, place: Option<usize>) -> Result<(), AllocError> {
-    if let Some(place) = place {
-        if let Some(answer) = wanted.answers.get(place) {
-            again.push(*answer)?;
-        }
-    }
-    Ok(())
+// How many requests were made again, and how many of them at the end of a build or of a complete index.
+#[derive(Clone, Copy)]
+struct Again {
+    requests: u32,
+    complete: u32,
 }
 
-// Refuses each allocation in turn, and at last none. Keeps the answers that were to a second request.
-fn refuse_until_none(
+// Whether it is answered at the end of a build, or of a complete index.
+fn is_of_complete(answer: &Answer) -> bool {
+    matches!(
+        answer,
+        Answer::Built(BuildReply::Done(_)) | Answer::Found(..)
+    )
+}
+
+// Counts the request at this place, if there is one.
+fn count(again: &mut Again, answers: &[Answer], place: Option<usize>) {
+    let Some(place) = place else {
+        return;
+    };
+    again.requests = again.requests.saturating_add(1);
+    if let Some(answer) = answers.get(place) {
+        if is_of_complete(answer) {
+            again.complete = again.complete.saturating_add(1);
+        }
+    }
+}
+
+// Refuses each allocation in turn, and at last none. Counts the requests that were made again.
+fn refuse_until_none<M: StoreMemory>(
     rt: &impl Abort,
+    memory: M,
     alloc: Global,
-    requests: (&[Event], u32),
-    wanted: &Played,
-    again: &mut Vec<Answer>,
-) -> Result<(), Fail> {
+    events: &[Event],
+    pages: u32,
+    whole: &Played,
+) -> Result<Again, Error> {
+    let mut again = Again {
+        requests: 0,
+        complete: 0,
+    };
     for before in 0..PLAYS {
-        let (place, refused) = play_short(rt, alloc, requests, before, wanted)?;
+        let (place, refused) = play_short(rt, memory, alloc, events, (pages, before), whole)?;
         if refused == 0 {
-            return Ok(());
+            return Ok(again);
         }
-        keep(again, wanted, place)?;
+        count(&mut again, &whole.answers, place);
     }
-    Err("fewer allocations")?
+    rt.panic("more allocations")
 }
 
-// The answers that were to a second request, as each allocation was refused in turn.
-fn answers_again(
+/// Refuses each allocation of a play of these requests in turn.
+pub(crate) fn refuse_each<M: StoreMemory>(
     rt: &impl Abort,
+    memory: M,
     alloc: Global,
-    requests: (&[Event], u32),
-) -> Result<Vec<Answer>, Fail> {
-    let wanted = play(rt, alloc, requests, u64::MAX)?;
-    let mut again = Vec::new(alloc);
-    let refused = refuse_until_none(rt, alloc, requests, &wanted, &mut again);
-    drop(wanted);
-    match refused {
-        Ok(()) => Ok(again),
-        Err(fail) => {
-            drop(again);
-            Err(fail)
-        }
-    }
-}
-
-// The same of a script.
-fn refuse_each(
-    rt: &impl Abort,
-    alloc: Global,
-    (script, pages): (&str, u32),
-) -> Result<Vec<Answer>, Fail> {
-    let events = requests(alloc, script)?;
-    let again = answers_again(rt, alloc, (&events, pages));
-    drop(events);
-    again
+    events: &[Event],
+    wanted: Wanted,
+) -> Result<(), Error> {
+    let whole = play(rt, memory, alloc, events, (wanted.pages, u64::MAX))?;
+    let again = refuse_until_none(rt, memory, alloc, events, wanted.pages, &whole);
+    drop(whole);
+    let Again { requests, complete } = again?;
+    claim_at(
+        rt,
+        complete == wanted.complete,
+        "of a complete index:",
+        u64::from(complete),
+    );
+    claim_at(
+        rt,
+        wanted.least <= requests,
+        "made again:",
+        u64::from(requests),
+    );
+    Ok(())
 }
 
 // A row is deleted behind the scan of a build.
@@ -212,41 +247,61 @@ const UPDATED: &str = "begin\ninsert 1 =p =1\ncommit 1\ncreate\nbegin\nupdate 2 
 const OVER_TWO_PAGES: &str = "commit 1\ncreate\nbuild 2\nbegin\ndelete 2 1.0\nstep 2\ncommit 2\n\
     clean 2\nflush\nbuild 65\nclean 64\nbegin\ndelete 3 0.0\nclean 2\nflush\n";
 
-// A script that inserts so many rows, with this behind it.
-fn behind_rows(alloc: Global, rows: u8, script: &str) -> Result<String, Fail> {
-    let mut text = String::new(alloc);
-    text.push_str("begin\n")?;
-    for key in 0..rows {
-        text.push_str(&format!(in alloc; "insert 1 :{key:02x} =\n")?)?;
-    }
-    text.push_str(script)?;
-    Ok(text)
-}
+// Transaction 1 inserts 64 rows.
+const ROWS_64: &str = "begin\n\
+    insert 1 :00 =\ninsert 1 :01 =\ninsert 1 :02 =\ninsert 1 :03 =\ninsert 1 :04 =\ninsert 1 :05 =\n\
+    insert 1 :06 =\ninsert 1 :07 =\ninsert 1 :08 =\ninsert 1 :09 =\ninsert 1 :0a =\ninsert 1 :0b =\n\
+    insert 1 :0c =\ninsert 1 :0d =\ninsert 1 :0e =\ninsert 1 :0f =\ninsert 1 :10 =\ninsert 1 :11 =\n\
+    insert 1 :12 =\ninsert 1 :13 =\ninsert 1 :14 =\ninsert 1 :15 =\ninsert 1 :16 =\ninsert 1 :17 =\n\
+    insert 1 :18 =\ninsert 1 :19 =\ninsert 1 :1a =\ninsert 1 :1b =\ninsert 1 :1c =\ninsert 1 :1d =\n\
+    insert 1 :1e =\ninsert 1 :1f =\ninsert 1 :20 =\ninsert 1 :21 =\ninsert 1 :22 =\ninsert 1 :23 =\n\
+    insert 1 :24 =\ninsert 1 :25 =\ninsert 1 :26 =\ninsert 1 :27 =\ninsert 1 :28 =\ninsert 1 :29 =\n\
+    insert 1 :2a =\ninsert 1 :2b =\ninsert 1 :2c =\ninsert 1 :2d =\ninsert 1 :2e =\ninsert 1 :2f =\n\
+    insert 1 :30 =\ninsert 1 :31 =\ninsert 1 :32 =\ninsert 1 :33 =\ninsert 1 :34 =\ninsert 1 :35 =\n\
+    insert 1 :36 =\ninsert 1 :37 =\ninsert 1 :38 =\ninsert 1 :39 =\ninsert 1 :3a =\ninsert 1 :3b =\n\
+    insert 1 :3c =\ninsert 1 :3d =\ninsert 1 :3e =\ninsert 1 :3f =\n";
 
-// Whether it is answered at the end of a build, or of a complete index.
-fn is_of_complete(answer: &Answer) -> bool {
-    matches!(
-        answer,
-        Answer::Built(BuildReply::Done(_)) | Answer::Found(..)
-    )
-}
-
-// Each case is a script, over so many pages, of which at least so many requests are made again, and so many at the end
+// Each case is a script over so many pages, of which at least so many requests are made again, and so many at the end
 // of a build or of a complete index.
+static CASES: [(&[Script<'_>], Wanted); 4] = [
+    (
+        &[(1, DELETED)],
+        Wanted {
+            pages: 1,
+            least: 40,
+            complete: 3,
+        },
+    ),
+    (
+        &[(1, TAKEN_BACK)],
+        Wanted {
+            pages: 1,
+            least: 25,
+            complete: 1,
+        },
+    ),
+    (
+        &[(1, UPDATED)],
+        Wanted {
+            pages: 1,
+            least: 30,
+            complete: 0,
+        },
+    ),
+    (
+        &[(1, ROWS_64), (1, OVER_TWO_PAGES)],
+        Wanted {
+            pages: 2,
+            least: 30,
+            complete: 0,
+        },
+    ),
+];
+
 #[test]
-fn each_allocation_is_refused(rt: HostRuntime) -> Result<(), Fail> {
-    let large = behind_rows(rt.alloc(), 64, OVER_TWO_PAGES)?;
-    let cases = [
-        ((DELETED, 1), 40, 3),
-        ((TAKEN_BACK, 1), 25, 1),
-        ((UPDATED, 1), 30, 0),
-        ((large.as_str(), 2), 30, 0),
-    ];
-    for (case, least, complete) in cases {
-        let again = refuse_each(&rt, rt.alloc(), case)?;
-        let of_complete = again.iter().filter(|answer| is_of_complete(answer));
-        assert_eq!(rt; of_complete.count(), complete);
-        assert!(rt; least <= again.len(), "{again:?}");
+fn each_allocation_is_refused(rt: HostRuntime) -> Result<(), Error> {
+    for (scripts, wanted) in &CASES {
+        do_play(&rt, rt.alloc(), *scripts, Play::Refuse(*wanted))?;
     }
     Ok(())
 }

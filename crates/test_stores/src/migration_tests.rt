@@ -1,17 +1,16 @@
 // A store of version 1 is moved to another disk.
+use crate::claims::{claim, claim_at};
 use crate::damage_tests::why_not_open;
 use crate::image_tests::held_on;
+use crate::jobs::{Play, Work, do_play, do_work};
 use model::Life;
 use records::{Body, Error, Key, Mark, Pair, Rid, Row};
 use restart::{Event, MigrateError};
-use sector_device::{Fate, SECTOR_SIZE, Which};
+use sector_device::{Fate, Which};
 use std::alloc::Global;
 use std::process::Abort;
-use std::test::Fail;
-use test_memory::Refusing;
 use test_store::{
-    Answer, BUILDING_1, Contents, Disk, Edit, GROUP, OpenStore, SUPERBLOCK_1, StoreMemory, ample,
-    edit, requests,
+    Answer, BUILDING_1, Contents, Disk, Edit, GROUP, OpenStore, SUPERBLOCK_1, Script, StoreMemory,
 };
 
 // The sectors of the least store, in version 1 and in version 2.
@@ -55,14 +54,8 @@ const DROP: &[u8] = b"\0\x02\0\x22\
 
 // A disk with a store of version 1, synced.
 fn old_disk(alloc: Global, edits: &[Edit<'_>]) -> Result<Disk, Error> {
-    let mut disk = Disk::bare(alloc, OLD_SECTORS)?;
-    match edit(&mut disk, edits) {
-        Ok(()) => Ok(disk.crash(Fate::New)),
-        Err(error) => {
-            drop(disk);
-            Err(error)
-        }
-    }
+    let disk = Disk::bare(alloc, OLD_SECTORS)?.edited(edits)?;
+    Ok(disk.crash(Fate::New))
 }
 
 // An old disk with these sectors, and a new one of so many.
@@ -77,75 +70,56 @@ fn disks(alloc: Global, edits: &[Edit<'_>], sectors: u64) -> Result<(Disk, Disk)
     }
 }
 
-fn sectors_of(alloc: Global, disk: &mut Disk) -> Result<Vec<[u8; SECTOR_SIZE]>, Error> {
-    let mut sectors = Vec::new(alloc);
-    for n in 0..OLD_SECTORS {
-        sectors.push(disk.sector(n)?)?;
-    }
-    Ok(sectors)
-}
+// What a moved store held, or why it wasn't moved.
+type Held = Result<Contents, MigrateError>;
 
-// What a moved store held at first, what it answered then, and what it left.
-#[derive(Drop)]
-struct MovedStore {
-    held: Contents,
-    answers: Result<Vec<Answer>, Error>,
-    disk: Disk,
-}
-
-// Moves the store to the new disk, and runs these requests there.
-fn move_and_run<M: StoreMemory>(
-    memory: M,
-    alloc: Global,
-    old: &mut Disk,
-    new: Disk,
-    events: &[Event],
-) -> Result<MovedStore, MigrateError> {
+// Moves the store on the old disk to the new one, which comes back.
+fn moved_to<M: StoreMemory>(memory: M, old: &mut Disk, new: Disk) -> (Held, Disk) {
     match memory.moved(old, new) {
-        Ok(mut store) => Ok(MovedStore {
-            held: store.contents(),
-            answers: store.run(alloc, events),
-            disk: store.close(),
-        }),
-        Err((error, disk)) => {
-            drop(disk);
-            Err(error)
+        Ok(store) => {
+            let held = store.contents();
+            (Ok(held), store.close())
         }
+        Err((error, disk)) => (Err(error), disk),
     }
 }
 
-// Whether both readings of a disk gave the same.
-fn is_same(
-    before: Result<Vec<[u8; SECTOR_SIZE]>, Error>,
-    after: Result<Vec<[u8; SECTOR_SIZE]>, Error>,
-) -> Result<bool, Error> {
-    Ok(before? == after?)
+// Whether the old disk has just these sectors, and none that a crash may change.
+fn is_kept(old: Disk, edits: &[Edit<'_>]) -> Result<bool, Error> {
+    let mut left = old.crash(Fate::Junk);
+    let kept = left.holds(edits, 0, OLD_SECTORS);
+    drop(left);
+    kept
 }
 
-// The same, of an old disk with these sectors. It is as before, and has no sector that a crash may change.
-fn moved(
+// Moves the store with these sectors to a disk of so many. The old disk is as before.
+fn moved<M: StoreMemory>(
+    rt: &impl Abort,
+    memory: M,
     alloc: Global,
     edits: &[Edit<'_>],
     sectors: u64,
-    events: &[Event],
-) -> Result<Result<MovedStore, MigrateError>, Fail> {
+) -> Result<(Held, Disk), Error> {
     let (mut old, new) = disks(alloc, edits, sectors)?;
-    let before = sectors_of(alloc, &mut old);
-    let moved = move_and_run(&ample(alloc), alloc, &mut old, new, events);
-    let mut left = old.crash(Fate::Junk);
-    let after = sectors_of(alloc, &mut left);
-    drop(left);
-    match is_same(before, after) {
-        Ok(true) => Ok(moved),
-        Ok(false) => {
-            drop(moved);
-            Err("an old disk that was written")?
-        }
-        Err(error) => {
-            drop(moved);
-            Err(error)?
-        }
-    }
+    let (held, disk) = moved_to(memory, &mut old, new);
+    let kept = is_kept(old, edits);
+    claim(rt, kept == Ok(true), "an old disk that is not written");
+    Ok((held, disk))
+}
+
+// Moves a store with these sectors, and opens it again behind a crash. What it holds both times is this.
+fn check_moved<M: StoreMemory>(
+    rt: &impl Abort,
+    memory: M,
+    alloc: Global,
+    edits: &[Edit<'_>],
+    wanted: &Contents,
+) -> Result<(), Error> {
+    let (held, disk) = moved(rt, memory, alloc, edits, SECTORS)?;
+    let again = held_on(memory, disk.crash(Fate::Junk));
+    claim(rt, held == Ok(*wanted), "what a moved store holds");
+    claim(rt, again? == *wanted, "what it holds again");
+    Ok(())
 }
 
 fn pair(key: &[u8], rid: Rid) -> Result<Pair, Error> {
@@ -162,114 +136,110 @@ fn ant() -> Result<Row, Error> {
     })
 }
 
-// What a store holds is this.
-fn check_held(rt: &impl Abort, held: &Contents, wanted: &Contents) {
-    assert_eq!(rt; *held, *wanted);
+// What a store without an index holds.
+fn unindexed(last: u64, row: Option<Row>) -> Contents {
+    Contents {
+        last,
+        rows: (row, None),
+        life: Life::Absent,
+        entries: (None, None, None),
+        count: 0,
+    }
 }
 
-// Moves a store with these sectors, and opens it again behind a crash. What it holds both times is this.
-fn check_moved(
-    rt: &impl Abort,
-    alloc: Global,
-    edits: &[Edit<'_>],
-    wanted: Contents,
-) -> Result<(), Fail> {
-    let Ok(
-        MovedStore {
-            held,
-            answers,
-            disk,
-        },
-    ) = moved(alloc, edits, SECTORS, &[])?
-    else {
-        return Err("a store that is moved")?;
-    };
-    drop(answers);
-    let again = held_on(&ample(alloc), disk.crash(Fate::Junk));
-    check_held(rt, &held, &wanted);
-    let (again, _) = again?;
-    check_held(rt, &again, &wanted);
-    Ok(())
-}
-
-#[test]
-fn stores_of_version_1_are_moved(rt: HostRuntime) -> Result<(), Fail> {
-    let rows = (Some(ant()?), None);
+// What a store holds whose index is built up to its pair.
+fn building() -> Result<Contents, Error> {
     let marked = pair(b"a", Rid { page: 0, slot: 1 })?;
     let live = pair(b"ant", Rid { page: 0, slot: 0 })?;
-    let none = Contents {
-        last: 1,
-        rows: (None, None),
-        life: Life::Absent,
-        entries: (None, None, None),
-    };
-    let logged = Contents {
-        last: 2,
-        rows,
-        life: Life::Absent,
-        entries: (None, None, None),
-    };
-    let imaged = Contents {
+    Ok(Contents {
         last: 6,
-        rows,
+        rows: (Some(ant()?), None),
         life: Life::Building {
             highest: Some(live),
         },
         entries: (Some((marked, Mark::Marked)), Some((live, Mark::Live)), None),
-    };
-    let cases: [(&[Edit<'_>], Contents); 4] = [
-        (UNFINISHED, none),
-        (LOGGED, logged),
-        (BUILDING_1, imaged),
-        (IMAGED_UNFINISHED, imaged),
-    ];
-    for (edits, wanted) in cases {
-        check_moved(&rt, rt.alloc(), edits, wanted)?;
-    }
-    Ok(())
+        count: 2,
+    })
 }
 
-// What a moved store answers to a script.
-fn answers_of(alloc: Global, script: &str) -> Result<Vec<Answer>, Fail> {
-    let events = requests(alloc, script)?;
-    match moved(alloc, LOGGED, SECTORS, &events)? {
-        Ok(MovedStore { answers, disk, .. }) => {
-            drop(disk);
-            Ok(answers?)
-        }
-        Err(_) => Err("a store that is moved")?,
-    }
+/// Stores of version 1 are moved.
+pub(crate) fn move_each<M: StoreMemory>(
+    rt: &impl Abort,
+    memory: M,
+    alloc: Global,
+) -> Result<(), Error> {
+    let (row, building) = (ant()?, building()?);
+    check_moved(rt, memory, alloc, UNFINISHED, &unindexed(1, None))?;
+    check_moved(rt, memory, alloc, LOGGED, &unindexed(2, Some(row)))?;
+    check_moved(rt, memory, alloc, BUILDING_1, &building)?;
+    check_moved(rt, memory, alloc, IMAGED_UNFINISHED, &building)?;
+    Ok(())
 }
 
 #[test]
-fn a_moved_store_goes_on(rt: HostRuntime) -> Result<(), Fail> {
-    let answers = answers_of(rt.alloc(), "begin\ninsert 1 =b =\ncommit 1\n")?;
-    let [Answer::Txn(_), Answer::Rid(rid), Answer::Ticket(ticket)] = *answers else {
-        return Err("a row of a transaction that commits")?;
-    };
-    assert_eq!(rt; (rid, ticket.record.get()), (Rid { page: 0, slot: 1 }, 4));
+fn stores_of_version_1_are_moved(rt: HostRuntime) -> Result<(), Error> {
+    do_work(&rt, rt.alloc(), Work::Move)
+}
+
+// What a moved store answers to requests.
+fn answers_of_moved<M: StoreMemory>(
+    rt: &impl Abort,
+    memory: M,
+    old: &mut Disk,
+    new: Disk,
+    events: &[Event],
+) -> Result<Vec<Answer>, Error> {
+    match memory.moved(old, new) {
+        Ok(mut store) => {
+            let answers = store.run(events);
+            drop(store.close());
+            answers
+        }
+        Err((_, disk)) => {
+            drop(disk);
+            rt.panic("a store that isn't moved")
+        }
+    }
+}
+
+// Whether a row is put behind the one that was moved, and committed.
+fn are_of_commit(answers: &[Answer]) -> bool {
+    match answers {
+        [Answer::Txn(_), Answer::Rid(rid), Answer::Ticket(ticket)] => {
+            *rid == Rid { page: 0, slot: 1 } && ticket.record.get() == 4
+        }
+        _ => false,
+    }
+}
+
+/// A moved store serves these requests.
+pub(crate) fn go_on<M: StoreMemory>(
+    rt: &impl Abort,
+    memory: M,
+    alloc: Global,
+    events: &[Event],
+) -> Result<(), Error> {
+    let (mut old, new) = disks(alloc, LOGGED, SECTORS)?;
+    let answers = answers_of_moved(rt, memory, &mut old, new, events);
+    drop(old);
+    let answers = answers?;
+    let is_wanted = are_of_commit(&answers);
+    drop(answers);
+    claim(rt, is_wanted, "the answers of a moved store");
     Ok(())
 }
 
-// Why a store with these sectors isn't moved to a disk of so many.
-fn why_not_moved(
-    alloc: Global,
-    edits: &[Edit<'_>],
-    sectors: u64,
-) -> Result<Option<MigrateError>, Fail> {
-    match moved(alloc, edits, sectors, &[])? {
-        Ok(moved) => {
-            drop(moved);
-            Ok(None)
-        }
-        Err(error) => Ok(Some(error)),
-    }
+static COMMIT: [Script<'static>; 1] = [(1, "begin\ninsert 1 =b =\ncommit 1\n")];
+
+#[test]
+fn a_moved_store_goes_on(rt: HostRuntime) -> Result<(), Error> {
+    do_play(&rt, rt.alloc(), &COMMIT, Play::GoOn)
 }
 
 const DAMAGED: MigrateError = MigrateError::Old(Error::Damaged { sector: 0 });
 
 // Stores by what is wrong with them, their sectors, those of the new disk, and why they aren't moved.
-const NOT_MOVED: [(&str, &[Edit<'_>], u64, MigrateError); 5] = [
+static NOT_MOVED: [(&str, &[Edit<'_>], u64, MigrateError); 5] = [
     (
         "a new disk too small",
         LOGGED,
@@ -302,19 +272,8 @@ const NOT_MOVED: [(&str, &[Edit<'_>], u64, MigrateError); 5] = [
     ),
 ];
 
-#[test]
-fn stores_that_are_not_moved(rt: HostRuntime) -> Result<(), Fail> {
-    for (name, edits, sectors, wanted) in NOT_MOVED {
-        let refused = why_not_moved(rt.alloc(), edits, sectors)?;
-        assert_eq!(rt; refused, Some(wanted), "{name}");
-    }
-    let refused = why_not_open(rt.alloc(), old_disk(rt.alloc(), LOGGED)?);
-    assert_eq!(rt; refused, Some(Error::OldVersion));
-    Ok(())
-}
-
 // The sectors of a store, and the one at which it is damaged.
-const HARMED: [(&[Edit<'_>], u64); 18] = [
+static HARMED: [(&[Edit<'_>], u64); 18] = [
     (&[SUPERBLOCK_1, (0, 24, b"\x01")], 0),
     (&[SUPERBLOCK_1, (0, 15, b"\0")], 0),
     (&[SUPERBLOCK_1, (2, 0, b"\x03")], 2),
@@ -343,57 +302,81 @@ const HARMED: [(&[Edit<'_>], u64); 18] = [
     (&[SUPERBLOCK_1, (536, 0, b"\xa5")], 536),
 ];
 
-#[test]
-fn harmed_stores_of_version_1(rt: HostRuntime) -> Result<(), Fail> {
-    for (edits, sector) in HARMED {
-        assert_eq!(rt;
-            why_not_moved(rt.alloc(), edits, 0)?,
-            Some(MigrateError::Old(Error::Damaged { sector })),
-            "{edits:?}"
-        );
+// Whether a store with these sectors isn't moved to a disk of so many, for this.
+fn is_kept_for<M: StoreMemory>(
+    rt: &impl Abort,
+    memory: M,
+    alloc: Global,
+    edits: &[Edit<'_>],
+    (sectors, wanted): (u64, MigrateError),
+) -> Result<bool, Error> {
+    let (held, disk) = moved(rt, memory, alloc, edits, sectors)?;
+    drop(disk);
+    Ok(held == Err(wanted))
+}
+
+/// Stores aren't moved; and one of version 1 isn't opened.
+pub(crate) fn keep_each<M: StoreMemory>(
+    rt: &impl Abort,
+    memory: M,
+    alloc: Global,
+) -> Result<(), Error> {
+    for (name, edits, sectors, wanted) in &NOT_MOVED {
+        let is_kept = is_kept_for(rt, memory, alloc, *edits, (*sectors, *wanted))?;
+        claim(rt, is_kept, *name);
     }
+    for (edits, sector) in &HARMED {
+        let wanted = MigrateError::Old(Error::Damaged { sector: *sector });
+        let is_kept = is_kept_for(rt, memory, alloc, *edits, (0, wanted))?;
+        claim_at(rt, is_kept, "damage at sector", *sector);
+    }
+    let refused = why_not_open(memory, old_disk(alloc, LOGGED)?);
+    claim(rt, refused == Some(Error::OldVersion), "an old version");
     Ok(())
+}
+
+#[test]
+fn stores_that_are_not_moved(rt: HostRuntime) -> Result<(), Error> {
+    do_work(&rt, rt.alloc(), Work::KeepOld)
 }
 
 // More than the calls of a disk in a migration, and than its allocations.
 const CALLS: u64 = 1_000;
 
-// Why a store isn't moved, if it isn't, and whether the new disk was written; and whether memory was refused.
-type Hindered = (Option<(MigrateError, bool)>, bool);
-
-fn hindrance<M: StoreMemory>(memory: M, old: &mut Disk, new: Disk) -> Result<Hindered, Error> {
-    match memory.moved(old, new) {
-        Ok(store) => {
-            drop(store.close());
-            Ok((None, memory.refused() > 0))
-        }
-        Err((error, disk)) => {
-            let mut disk = disk.crash(Fate::New);
-            let sector = disk.sector(0);
-            drop(disk);
-            let written = sector? != [0; SECTOR_SIZE];
-            Ok((Some((error, written)), memory.refused() > 0))
-        }
-    }
-}
-
-// What fails in a migration: these calls of the old disk and of the new one, of which 0 is none, and the allocations
+// What fails in a migration: these calls of the old disk and of the new one, of which 0 is none, and the allocation
 // behind so many.
 type Hindrance = (u64, u64, u64);
 
-// The same, where this fails, and the new disk has so many sectors.
-fn hindered(
+// Why a store isn't moved, if it isn't; whether the new disk was written; and whether memory was refused.
+type Hindered = (Option<MigrateError>, bool, bool);
+
+// Whether the first sector of the disk was written.
+fn is_written(disk: Disk) -> Result<bool, Error> {
+    let mut left = disk.crash(Fate::New);
+    let is_empty = left.holds(&[], 0, 1);
+    drop(left);
+    Ok(!is_empty?)
+}
+
+// Moves a store to a disk of so many sectors, where this fails.
+fn hindered<M: StoreMemory>(
+    memory: M,
     alloc: Global,
     (old_call, new_call, before): Hindrance,
     sectors: u64,
-) -> Result<Hindered, Fail> {
-    let memory = Refusing::new(alloc, before);
+) -> Result<Hindered, Error> {
     let (old, new) = disks(alloc, LOGGED, sectors)?;
     let mut old = old.failing(Which::All, old_call);
-    let new = new.failing(Which::All, new_call);
-    let hindered = hindrance(&memory, &mut old, new);
+    let was = memory.refused();
+    memory.refuse_after(before);
+    let (held, disk) = moved_to(memory, &mut old, new.failing(Which::All, new_call));
     drop(old);
-    Ok(hindered?)
+    let written = is_written(disk)?;
+    let error = match held {
+        Ok(_) => None,
+        Err(error) => Some(error),
+    };
+    Ok((error, written, was < memory.refused()))
 }
 
 // What fails in turn.
@@ -414,44 +397,64 @@ fn at_count(place: Place, count: u64) -> Hindrance {
 }
 
 // Moves a store to a disk of so many sectors, where each place fails in turn, until none does. The answer is this one
-// while one does, and else this.
-fn hinder_each(
+// while one does, and else that behind it.
+fn hinder_each<M: StoreMemory>(
     rt: &impl Abort,
+    memory: M,
     alloc: Global,
-    place: Place,
-    sectors: u64,
-    (wanted, whole): (MigrateError, Option<MigrateError>),
-) -> Result<(), Fail> {
+    (place, sectors, wanted, whole): (Place, u64, MigrateError, Option<MigrateError>),
+) -> Result<(), Error> {
     for count in 0..CALLS {
-        let (found, refused) = hindered(alloc, at_count(place, count), sectors)?;
-        let error = found.map(|(error, _)| error);
-        if error == whole && !refused {
+        let failing = at_count(place, count);
+        let (error, is_written, is_refused) = hindered(memory, alloc, failing, sectors)?;
+        if error == whole && !is_refused {
             return Ok(());
         }
-        assert_eq!(rt; error, Some(wanted));
-        let written = found.is_some_and(|(_, written)| written);
-        assert!(rt; !written || wanted == MigrateError::New(Error::DeviceFailed));
+        claim_at(rt, error == Some(wanted), "the refusal at count", count);
+        claim_at(
+            rt,
+            !is_written || wanted == NEW_FAILED,
+            "a new disk unwritten at count",
+            count,
+        );
     }
-    Err("fewer calls")?
+    rt.panic("more calls")
 }
+
+const OLD_FAILED: MigrateError = MigrateError::Old(Error::DeviceFailed);
+
+const NEW_FAILED: MigrateError = MigrateError::New(Error::DeviceFailed);
+
+const TOO_SMALL: Option<MigrateError> = Some(MigrateError::New(Error::DeviceTooSmall));
 
 // Each call of the old disk fails in turn, and each of the new one, and each allocation is refused in turn. That the
 // old disk failed, or that memory was wanting, is told before a new disk that is too small.
-#[test]
-fn migrations_that_are_hindered(rt: HostRuntime) -> Result<(), Fail> {
-    let old = MigrateError::Old(Error::DeviceFailed);
-    let new = MigrateError::New(Error::DeviceFailed);
-    let small = MigrateError::New(Error::DeviceTooSmall);
-    let none = MigrateError::NoMemory;
-    let cases: [(Place, u64, (MigrateError, Option<MigrateError>)); 5] = [
-        (Place::OldCall, SECTORS, (old, None)),
-        (Place::NewCall, SECTORS, (new, None)),
-        (Place::Allocation, SECTORS, (none, None)),
-        (Place::OldCall, SECTORS - 1, (old, Some(small))),
-        (Place::Allocation, SECTORS - 1, (none, Some(small))),
-    ];
-    for (place, sectors, wanted) in cases {
-        hinder_each(&rt, rt.alloc(), place, sectors, wanted)?;
+static HINDRANCES: [(Place, u64, MigrateError, Option<MigrateError>); 5] = [
+    (Place::OldCall, SECTORS, OLD_FAILED, None),
+    (Place::NewCall, SECTORS, NEW_FAILED, None),
+    (Place::Allocation, SECTORS, MigrateError::NoMemory, None),
+    (Place::OldCall, SECTORS - 1, OLD_FAILED, TOO_SMALL),
+    (
+        Place::Allocation,
+        SECTORS - 1,
+        MigrateError::NoMemory,
+        TOO_SMALL,
+    ),
+];
+
+/// Each of them.
+pub(crate) fn hinder_all<M: StoreMemory>(
+    rt: &impl Abort,
+    memory: M,
+    alloc: Global,
+) -> Result<(), Error> {
+    for case in &HINDRANCES {
+        hinder_each(rt, memory, alloc, *case)?;
     }
     Ok(())
+}
+
+#[test]
+fn migrations_that_are_hindered(rt: HostRuntime) -> Result<(), Error> {
+    do_work(&rt, rt.alloc(), Work::Hinder)
 }

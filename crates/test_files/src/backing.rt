@@ -26,6 +26,40 @@ struct Page {
     is_dirty: bool,
 }
 
+fn torn(old: &Sector, new: &Sector) -> Sector {
+    let mut sector = *old;
+    for n in 0..SECTOR_SIZE / 2 {
+        sector[n] = new[n];
+    }
+    sector
+}
+
+impl Page {
+    // What is there of the sector once the power was lost.
+    fn left(&self, loss: Loss) -> Sector {
+        match loss {
+            Loss::Dropped => self.safe,
+            Loss::Kept => self.shown,
+            Loss::Torn => torn(&self.safe, &self.shown),
+        }
+    }
+
+    fn lose_power(&mut self, loss: Loss) {
+        let sector = self.left(loss);
+        self.safe = sector;
+        self.shown = sector;
+        self.is_dirty = false;
+    }
+
+    // A sync has come to its end, and was well, or failed.
+    fn end_sync(&mut self, is_well: bool) {
+        if self.is_dirty && is_well {
+            self.safe = self.shown;
+        }
+        self.is_dirty = false;
+    }
+}
+
 /// What is below a disk: a device, and a cache of it. As with Linux, a sync that fails leaves what it didn't write in
 /// the cache, and no later sync writes it.
 #[derive(Drop)]
@@ -38,40 +72,25 @@ pub struct Host {
     counts_writes: bool,
 }
 
-fn torn(old: &Sector, new: &Sector) -> Sector {
-    let mut sector = *old;
-    for n in 0..SECTOR_SIZE / 2 {
-        sector[n] = new[n];
-    }
-    sector
-}
-
-// What is there of the sector once the power was lost.
-fn left(page: &Page, loss: Loss) -> Sector {
-    match loss {
-        Loss::Dropped => page.safe,
-        Loss::Kept => page.shown,
-        Loss::Torn => torn(&page.safe, &page.shown),
-    }
-}
-
 impl Host {
     /// A device of zeros.
     pub fn new(alloc: Global, sectors: usize) -> Result<Host, AllocError> {
-        let mut pages = Vec::with_capacity(alloc, sectors)?;
-        for _ in 0..sectors {
-            pages.push(Page {
-                safe: [0; SECTOR_SIZE],
-                shown: [0; SECTOR_SIZE],
-                is_dirty: false,
-            })?;
-        }
-        Ok(Host {
+        let page = Page {
+            safe: [0; SECTOR_SIZE],
+            shown: [0; SECTOR_SIZE],
+            is_dirty: false,
+        };
+        Ok(Host::over(vec![in alloc; page; sectors]?))
+    }
+
+    // No call of it fails.
+    fn over(pages: Vec<Page>) -> Host {
+        Host {
             pages,
             calls: 0,
             fails_at: 0,
             counts_writes: true,
-        })
+        }
     }
 
     /// How many calls were counted since it was said which fails.
@@ -96,21 +115,13 @@ impl Host {
     pub fn lose_power(&mut self, loss: Loss) {
         self.fails_at = 0;
         for page in &mut self.pages {
-            let sector = left(page, loss);
-            page.safe = sector;
-            page.shown = sector;
-            page.is_dirty = false;
+            page.lose_power(loss);
         }
     }
 
     /// The same device and cache.
     pub fn copied(&self) -> Result<Host, AllocError> {
-        Ok(Host {
-            pages: self.pages.clone()?,
-            calls: 0,
-            fails_at: 0,
-            counts_writes: true,
-        })
+        Ok(Host::over(self.pages.clone()?))
     }
 
     // Counts a call, and answers it.
@@ -131,11 +142,9 @@ impl Host {
 
     fn sync(&mut self) -> io::Result<()> {
         let answer = self.answer();
+        let is_well = answer.is_ok();
         for page in &mut self.pages {
-            if page.is_dirty && answer.is_ok() {
-                page.safe = page.shown;
-            }
-            page.is_dirty = false;
+            page.end_sync(is_well);
         }
         answer
     }
@@ -144,6 +153,13 @@ impl Host {
         if let Some(page) = self.pages.get_mut(n as usize) {
             page.shown = *bytes;
             page.is_dirty = true;
+        }
+    }
+
+    fn shown(&self, n: u64) -> Option<&Sector> {
+        match self.pages.get(n as usize) {
+            Some(page) => Some(&page.shown),
+            None => None,
         }
     }
 }
@@ -167,18 +183,21 @@ impl Backing for Used<'_> {
 
 impl Stored for Used<'_> {
     fn get_run(&mut self, first: u64, run: &mut [Sector]) -> io::Result<()> {
-        for (n, sector) in run.iter_mut().enumerate() {
-            let number = first.saturating_add(n as u64);
-            if let Some(page) = self.host.pages.get(number as usize) {
-                *sector = page.shown;
+        let mut number = first;
+        for sector in run.iter_mut() {
+            if let Some(shown) = self.host.shown(number) {
+                *sector = *shown;
             }
+            number = number.saturating_add(1);
         }
         Ok(())
     }
 
     fn put_run(&mut self, first: u64, run: &[Sector]) -> io::Result<()> {
-        for (n, sector) in run.iter().enumerate() {
-            self.host.show(first.saturating_add(n as u64), sector);
+        let mut number = first;
+        for sector in run {
+            self.host.show(number, sector);
+            number = number.saturating_add(1);
         }
         self.host.answer_write()
     }

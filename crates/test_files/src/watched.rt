@@ -12,46 +12,14 @@ use store_file::StoreFile;
 // How many bytes a write takes at most.
 const PART: usize = 300;
 
-// How many calls are kept.
-const CALLS: usize = 32;
-
-/// Calls, each by a letter: `k` locks a file, `h` locks it against those that would lock it alone, `w` writes, `s`
-/// syncs it, `f` syncs the folder of the process, `d` another one, `l` gives a second name, `r` removes one.
-#[derive(Clone, Copy)]
-pub struct Calls {
-    letters: [u8; CALLS],
-    count: usize,
-}
-
-impl Calls {
-    // None yet.
-    const fn none() -> Calls {
-        Calls {
-            letters: [0; CALLS],
-            count: 0,
-        }
-    }
-
-    fn add(&mut self, call: u8) {
-        if self.count < CALLS {
-            self.letters[self.count] = call;
-        }
-        self.count = self.count.saturating_add(1);
-    }
-
-    /// Whether they are these.
-    pub fn are(&self, wanted: &[u8]) -> bool {
-        match self.letters.get(..self.count) {
-            Some(letters) => letters == wanted,
-            None => false,
-        }
-    }
-}
-
-/// What was called, and which call fails.
+/// What is to be called, and which call fails. Calls are letters: `k` locks a file, `h` locks it against those that
+/// would lock it alone, `w` writes, `s` syncs it, `f` syncs the folder of the process, `d` another one, `l` gives a
+/// second name, `r` removes one.
 #[derive(Drop)]
 pub struct Log {
-    calls: Cell<Calls>,
+    expected: &'static [u8],
+    // How many of them came so far, or more than there are where another one came.
+    met: Cell<usize>,
     // How many calls come before the one that fails.
     before: Cell<u64>,
     // The system's number of that failure.
@@ -62,9 +30,10 @@ pub struct Log {
 }
 
 impl Log {
-    pub fn new(before: u64, code: i32) -> Log {
+    pub fn new(expected: &'static [u8], before: u64, code: i32) -> Log {
         Log {
-            calls: Cell::new(Calls::none()),
+            expected,
+            met: Cell::new(0),
             before: Cell::new(before),
             code,
             is_interrupted: Cell::new(false),
@@ -77,9 +46,14 @@ impl Log {
         self.busy.set(locks);
     }
 
-    /// What was called since the last time.
-    pub fn take(&self) -> Calls {
-        self.calls.replace(Calls::none())
+    /// Whether just the calls came that are expected.
+    pub fn is_met(&self) -> bool {
+        self.met.get() == self.expected.len()
+    }
+
+    /// Whether the call that failed is the last that came.
+    pub fn ends_with_failure(&self) -> bool {
+        self.before.get() == u64::MAX
     }
 
     fn note_lock(&self, call: u8) -> Result<(), TryLockError> {
@@ -95,9 +69,16 @@ impl Log {
     }
 
     fn note(&self, call: u8) -> io::Result<()> {
-        let mut calls = self.calls.get();
-        calls.add(call);
-        self.calls.set(calls);
+        let met = self.met.get();
+        let is_expected = match self.expected.get(met) {
+            Some(expected) => *expected == call,
+            None => false,
+        };
+        self.met.set(if is_expected {
+            met.saturating_add(1)
+        } else {
+            usize::MAX
+        });
         let before = self.before.get();
         self.before.set(before.wrapping_sub(1));
         if before == 0 {

@@ -1,4 +1,5 @@
 // The calls of `store_file`, each made here once. What is opened is let go.
+use crate::claims::claim;
 use sector_device::{Device, Failed, SECTOR_SIZE};
 use std::alloc::Allocator;
 use std::process::Abort;
@@ -14,7 +15,6 @@ pub(crate) enum Call {
     Discard,
     Open,
     Read,
-    Hold,
 }
 
 /// A call for the file of this name, and what it comes to.
@@ -70,14 +70,6 @@ where
     Ok(())
 }
 
-fn holds<R: Files + AllocGlobal>(rt: &R, path: &str) -> Result<(), OpenError>
-where
-    R::File: StoreFile,
-{
-    drop(hold(rt, rt.alloc(), path)?);
-    Ok(())
-}
-
 // Makes a call.
 fn make<R: Files + AllocGlobal>(rt: &R, path: &str, call: Call) -> Result<(), OpenError>
 where
@@ -89,7 +81,6 @@ where
         Call::Discard => discard(rt, path),
         Call::Open => opens(rt, path),
         Call::Read => reads(rt, path),
-        Call::Hold => holds(rt, path),
     }
 }
 
@@ -119,38 +110,53 @@ where
     R::File: StoreFile,
 {
     for (path, call, wanted) in rows {
-        assert_eq!(rt; told(rt, path, *call), *wanted, "{path}");
+        let told = told(rt, *path, *call);
+        claim(rt, told == *wanted, *path);
     }
 }
 
-/// The same, while what this call opens is open.
-pub(crate) fn check_while<R: Files + AllocGlobal + Abort>(
+/// The same, while the file of this name is open.
+pub(crate) fn check_while_open<R: Files + AllocGlobal + Abort>(
     rt: &R,
     path: &str,
-    opening: Call,
     rows: &[Row],
 ) -> Result<(), OpenError>
 where
     R::File: StoreFile,
 {
-    let alloc = rt.alloc();
-    match opening {
-        Call::Open => {
-            let disk = open(rt, alloc, path)?;
-            check(rt, rows);
-            drop(disk);
-        }
-        Call::Hold => {
-            let held = hold(rt, alloc, path)?;
-            check(rt, rows);
-            drop(held);
-        }
-        _ => {
-            let copy = read(rt, alloc, path)?;
-            check(rt, rows);
-            drop(copy);
-        }
-    }
+    let disk = open(rt, rt.alloc(), path)?;
+    check(rt, rows);
+    drop(disk);
+    Ok(())
+}
+
+/// The same, while it is held.
+pub(crate) fn check_while_held<R: Files + AllocGlobal + Abort>(
+    rt: &R,
+    path: &str,
+    rows: &[Row],
+) -> Result<(), OpenError>
+where
+    R::File: StoreFile,
+{
+    let held = hold(rt, rt.alloc(), path)?;
+    check(rt, rows);
+    drop(held);
+    Ok(())
+}
+
+/// The same, while a copy of what it holds is there.
+pub(crate) fn check_while_read<R: Files + AllocGlobal + Abort>(
+    rt: &R,
+    path: &str,
+    rows: &[Row],
+) -> Result<(), OpenError>
+where
+    R::File: StoreFile,
+{
+    let copy = read(rt, rt.alloc(), path)?;
+    check(rt, rows);
+    drop(copy);
     Ok(())
 }
 

@@ -1,0 +1,31 @@
+//! Tests of files, of the stores in them, and of the program `nsf-store`.
+//!
+//! Of files: names, locks and refusals; what is written, synced and named, and in which order; and calls that fail. Of
+//! stores in them: what a backing that fails, drops or tears leaves. Then the verbs of `nsf-store`, one behind the
+//! other on a real file, also of version 1.
+//!
+//! Proved of them is safety. Outside the gate, `tools/kill_store.py` kills the program at random moments.
+#![tactic(auto)]
+
+#[cfg(test)]
+mod answers;
+#[cfg(test)]
+mod backing;
+#[cfg(test)]
+mod calls;
+#[cfg(test)]
+mod claims;
+#[cfg(test)]
+mod fault_tests;
+#[cfg(test)]
+mod file_tests;
+#[cfg(test)]
+mod help;
+#[cfg(test)]
+mod program;
+#[cfg(test)]
+mod program_tests;
+#[cfg(test)]
+mod scripts;
+#[cfg(test)]
+mod watched;
