@@ -32,8 +32,8 @@ pub struct Ended<B: Group, D: Device, X> {
     pub flushed: Result<(), Error>,
     /// The ticket of an index that a core which may lie under the lock completed meanwhile, of several that of the last
     /// one; or why none is told, which is `Stopped` where the clients ended first or there was nothing to build. A
-    /// later build that was refused is told in its place. (No clause says that the ticket is the last one, that no later
-    /// build was refused, or that an index which was completed is told.)
+    /// later build that was refused is told in its place. (No clause says that the ticket is the last one, that no
+    /// later build was refused, or that an index which was completed is told.)
     pub built: Result<Ticket, Error>,
 }
 
