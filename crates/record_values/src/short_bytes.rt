@@ -1,5 +1,5 @@
 //! Bytes that lie in the value itself.
-ghost use Rattle.std.specs.Prelude.{◌≡◌, ◌<◌, ◌≤◌, ◌↔◌, Some, IsSome, IfSome, length, nat_eq, refl};
+ghost use Rattle.std.specs.Prelude.{◌≡◌, ◌≤◌, ◌↔◌, Some, IsSome, IfSome, length, nat_eq, refl};
 ghost use Rattle.std.specs.Ordering.{nat_cmp};
 ghost use Rattle.std.specs.Cmp.{on_equiv, on_total, on_po, on_per, partial_equiv_from_equiv};
 ghost use Rattle.std.specs.Cmp.Lexicographic.{pointwise, slice_cmp, nat_list_eq_equiv, nat_list_cmp_total, texts_po};
@@ -9,7 +9,10 @@ use std::cmp::Ordering;
 use std::fmt;
 use std::marker::Model;
 
-/// At most `MAX` bytes, fewer than 256. The unused ones are zero.
+// The most bytes that a length of one byte can tell.
+const LEN_MAX: usize = 255;
+
+/// At most `MAX` bytes, and at most 255. The unused ones are zero.
 #[derive(Clone, Copy)]
 pub struct ShortBytes<const MAX: usize> {
     bytes: [u8; MAX],
@@ -36,18 +39,20 @@ impl<const MAX: usize> Model for ShortBytes<MAX> {
 }
 
 impl<const MAX: usize> ShortBytes<MAX> {
-    /// These bytes, where they fit: no more than `MAX`, and fewer than 256.
+    /// These bytes, where they fit: no more than `MAX`, and no more than 255.
     pub fn new(bytes: &[u8]) -> Option<Self>
-        ensures fits { IsSome result ↔ ((length bytes.now ≤ MAX) × (length bytes.now < 256)) }
+        ensures fits { IsSome result ↔ ((length bytes.now ≤ MAX) × (length bytes.now ≤ LEN_MAX)) }
         ensures value { IfSome result (λ s. s ≡ bytes.now) }
     {
-        let len = u8::try_from(bytes.len()).ok()?;
-        if bytes.len() > MAX {
+        if bytes.len() > MAX || bytes.len() > LEN_MAX {
             return None;
         }
         let mut held = [0; MAX];
         held[..bytes.len()].copy_from_slice(bytes);
-        Some(ShortBytes { bytes: held, len })
+        Some(ShortBytes {
+            bytes: held,
+            len: bytes.len() as u8,
+        })
     }
 
     /// The bytes.
