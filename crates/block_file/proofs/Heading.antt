@@ -13,7 +13,7 @@ use Rattle.block_journal.specs.Value.{JournalValue, Offers}
 use Rattle.block_table.specs.Checked.{CheckedValue}
 use Rattle.block_file.specs.declared.plan.Plan.{Plan}
 use Rattle.block_file.specs.declared.parts.DiskParts.{DiskParts}
-use Rattle.block_file.specs.Header.{can_be, first_of, is_header, plan_for, plan_told, told_by}
+use Rattle.block_file.specs.Header.{TellTwice, can_be, first_of, is_header, plan_for, plan_told, told_by}
 use Rattle.block_file.specs.Disks.{BeforeStays, OffersOne, TellsStill, first_content, journal_in}
 use Rattle.block_file.specs.Moves.{IsSound}
 
@@ -43,6 +43,16 @@ still_told image first p told same =
     let zero : block image 0 ≡ block first 0 = same 0 (omega (arith, two)) in
     let one : block image 1 ≡ block first 1 = same 1 (omega (arith, two)) in
     (λ i. first_of (told_by (zero i)) (told_by (one i))) ∙ told
+
+-- and both of its blocks tell it, if they did
+pub twice_still : (image first : Image) (p : Plan) → TellTwice p first → ((n : ℕ) → n < p.shape.first → block image n ≡ block first n)
+    → TellTwice p image
+twice_still image first p told same =
+    let two = behind_both (block first 0) p told.first in
+    record {
+      first = ap told_by (same 0 (omega (arith, two))) ∙ told.first;
+      second = ap told_by (same 1 (omega (arith, two))) ∙ told.second;
+    }
 
 -- ---- what is handed to be written
 

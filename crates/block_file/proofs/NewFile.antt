@@ -1,5 +1,5 @@
 -- The file of a new device, as it is laid out.
-use Rattle.std.proofs.Common.{◌≡◌, inl, inr, ℕ, ◌+◌, ◌*◌, ◌/◌, ◌%◌, ◌^◌, ◌<◌, Bool, true, false, if◌then◌else◌, List, []}
+use Rattle.std.proofs.Common.{◌≡◌, inl, inr, ℕ, zero, suc, ◌+◌, ◌*◌, ◌/◌, ◌%◌, ◌^◌, ◌<◌, Bool, true, false, if◌then◌else◌, List, []}
 use Rattle.std.proofs.Common.{Option, Some, None, length, map, slice_index, slice_set, refl, sym, ◌∙◌, ap, subst, arith, nat_lt, ◌&&◌}
 use Rattle.std.specs.Prelude.{IfSome}
 use Rattle.std.specs.List.{range_with_len}
@@ -16,7 +16,7 @@ use Rattle.block_journal.proofs.Crash.{area_before_kept, block_of_run, run_same}
 use Rattle.block_table.specs.Table.{EachFits, data_of, digest_of, kept_count, place_of, table_count}
 use Rattle.block_file.specs.declared.plan.Plan.{Plan}
 use Rattle.block_file.specs.Header.{CanBeTold, can_be, first_of, plan_for, plan_told, told_by}
-use Rattle.block_file.specs.Making.{HoldsZeros, IsBehind, IsNewBlock}
+use Rattle.block_file.specs.Making.{AreBegun, HoldsZeros, IsBehind, IsNewBlock}
 use Rattle.block_file.specs.Plans.{IsPlan}
 use Rattle.block_file.specs.Sectors.{sectors_of}
 use Rattle.block_file.proofs.Zeros.{data_block, zero_sectors}
@@ -178,3 +178,14 @@ found_same g image c a same = ap (λ (l : Image). found_in l a) same
 pub first_tells : (image : Image) (bytes : List ℕ) (p : Plan) → block image 0 ≡ bytes → told_by bytes ≡ Some p → plan_told image ≡ Some p
 first_tells image bytes p here told =
     ap (λ (o : Option Plan). first_of o (told_by (block image 1))) (ap told_by here ∙ told)
+
+-- both areas are begun
+pub both_begun : (g : Shape) (image : Image) → found g image 0 ≡ Some (record { number = 0; entries = [] })
+    → found g image 1 ≡ Some (record { number = 1; entries = [] }) → AreBegun g image
+both_begun g image first second zero low = first
+both_begun g image first second (suc zero) low = second
+both_begun g image first second (suc (suc a)) low = absurd (omega (arith, low))
+
+-- and stay so where only headers are written
+pub begun_same : (g : Shape) (image c : Image) → g.first ≡ 2 → IsInside g image → SameOutside (InRun 0 2) image c → AreBegun g image → AreBegun g c
+begun_same g image c two inside agrees begun a low = found_same g image c a (area_same g image c two inside agrees a low) ∙ begun a low

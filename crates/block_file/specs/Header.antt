@@ -48,6 +48,15 @@ first_of None second = second
 abbrev pub plan_told : Image → Option Plan
 plan_told image = first_of (told_by (block image 0)) (told_by (block image 1))
 
+-- both of its first blocks tell this plan
+pub record TellTwice (p : Plan) (image : Image) : Type 0 where
+  pub first : told_by (block image 0) ≡ Some p
+  pub second : told_by (block image 1) ≡ Some p
+
+-- The image tells no plan that it has room for.
+abbrev pub HasNoPlan : Image → Type 0
+HasNoPlan image = (p : Plan) → plan_told image ≡ Some p → ¬ IsInside p.shape image
+
 -- The image ends before what its header tells.
 abbrev pub IsCut : Image → Type 0
 IsCut image = (p : Plan) × (plan_told image ≡ Some p) × (¬ IsInside p.shape image)

@@ -1,10 +1,11 @@
 -- A file of a new device.
-use Rattle.std.specs.Prelude.{◌≡◌, ◌⊎◌, ℕ, ◌+◌, ◌*◌, ◌<◌, ◌≤◌, List, replicate}
+use Rattle.std.specs.Prelude.{◌≡◌, ◌⊎◌, ℕ, ◌+◌, ◌*◌, ◌<◌, ◌≤◌, List, [], Some, replicate}
 use Rattle.sector_device.specs.Values.{zero_sector}
 use Rattle.block_device.specs.Blocks.{Image, zero_block}
 use Rattle.block_device.specs.BlocksPast.{BlocksPast, LeavesOnly}
 use Rattle.block_batch.specs.Batch.{block_digest}
-use Rattle.block_journal.specs.Layout.{recovered}
+use Rattle.block_journal.specs.declared.shape.Shape.{Shape}
+use Rattle.block_journal.specs.Layout.{found, recovered}
 use Rattle.block_table.specs.Table.{EachFits}
 use Rattle.block_words.specs.Words.{word}
 use Rattle.block_file.specs.declared.plan.Plan.{Plan}
@@ -16,6 +17,10 @@ use Rattle.block_file.specs.Plans.{disk_image}
 pub record HoldsZeros (p : Plan) (image : Image) : Type 0 where
   pub zeros : disk_image p image ≡ replicate p.sectors zero_sector
   pub fits : EachFits p.blocks (recovered p.shape image)
+
+-- each area of the journal has an empty batch, of the number of that area
+abbrev pub AreBegun : Shape → Image → Type 0
+AreBegun g image = (a : ℕ) → a < 2 → found g image a ≡ Some (record { number = a; entries = [] })
 
 -- Whatever a crash leaves from the one moment to the other has the headers that tell what the file told before, or
 -- holds zeros.

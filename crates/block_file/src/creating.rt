@@ -6,8 +6,8 @@ ghost use Rattle.sector_device.specs.Values.{zero_sector};
 ghost use Rattle.block_journal.specs.Layout.{IsInside};
 ghost use Rattle.block_table.specs.Checked.{settled_table};
 ghost use Rattle.block_table.specs.Table.{EachFits};
-ghost use Rattle.block_file.specs.Disks.{disk_past, first_content, journal_in};
-ghost use Rattle.block_file.specs.Header.{CanBeTold, plan_told};
+ghost use Rattle.block_file.specs.Disks.{disk_failures, disk_past, first_content, journal_in};
+ghost use Rattle.block_file.specs.Header.{CanBeTold, TellTwice, plan_told};
 ghost use Rattle.block_file.specs.Making.{BecomesZeros};
 
 use crate::making::lay_out;
@@ -20,9 +20,11 @@ use std::alloc::Allocator;
 /// Makes a file of blocks for a new device, whose sectors are of zeros, as [`lay_out`] does, and opens it. No block of
 /// the file is loose.
 ///
-/// It is refused where the file has fewer blocks than the plan asks for, where the file fails, and where memory is
-/// refused. Whatever it answers, a crash at any moment of it leaves headers that tell what they told before, or zeros
-/// behind them (`any_moment`, `refused`).
+/// It is refused where the file has fewer blocks than the plan asks for, and is then left alone (`left_alone`); where
+/// the file fails; and where memory is refused.
+///
+/// Whatever it answers, a crash at any moment of it leaves headers that tell what they told before, or zeros
+/// (`any_moment`, `refused`).
 pub fn create<B: Blocks, A: Allocator + Copy>(
     alloc: A,
     below: B,
@@ -32,13 +34,16 @@ pub fn create<B: Blocks, A: Allocator + Copy>(
     requires synced { (n : ℕ) → (B.past_of below).file.loose n ≡ false }
     ensures plan { IfOk result (λ d. d.plan ≡ plan) }
     ensures still { IfOk result (λ d. plan_told (first_content B.past_of d) ≡ Some plan) }
+    ensures headers { IfOk result (λ d. TellTwice plan (first_content B.past_of d)) }
     ensures content { IfOk result (λ d. (disk_past B.past_of d).disk.content
         ≡ replicate plan.sectors zero_sector) }
     ensures synced { IfOk result (λ d. IsSynced (disk_past B.past_of d).disk) }
     ensures fits { IfOk result (λ d. EachFits plan.blocks (settled_table B.past_of d.now.checked)) }
+    ensures failures { IfOk result (λ d. disk_failures B.failures d ≡ B.failures below) }
     ensures any_moment { IfOk result (λ d. BecomesZeros plan (B.past_of below)
         (B.past_of (journal_in d.now).below)) }
     ensures refused { IfErr result (λ e. BecomesZeros plan (B.past_of below) (B.past_of e.file)) }
+    ensures left_alone { IfErr result (λ e. e.error ≡ FileError.TooShort → e.file ≡ below) }
     ensures too_short { IfErr result (λ e. e.error ≡ FileError.TooShort
         → ¬ IsInside plan.shape (B.past_of below).file.content) }
     ensures failed { IfErr result (λ e. e.error ≡ FileError.FileFailed

@@ -1,7 +1,8 @@
 //! A device of sectors over a file of blocks.
-ghost use Rattle.std.specs.Prelude.{◌≡◌, ◌+◌, ◌<◌, ◌≤◌, ℕ, [], false, length, IfNone, IfOk, IfSome, OnOk};
+ghost use Rattle.std.specs.Prelude.{◌≡◌, ◌⊎◌, ◌+◌, ◌<◌, ◌≤◌, ℕ, [], false, true, length, IfNone, IfOk, IfSome, OnErr};
+ghost use Rattle.std.specs.Prelude.{OnOk};
 ghost use Rattle.sector_device.specs.Disk.{IsSynced};
-ghost use Rattle.sector_device.specs.DevicePast.{CountsFailure, Elapses};
+ghost use Rattle.sector_device.specs.DevicePast.{CountsFailure, Elapses, Rises};
 ghost use Rattle.block_file.specs.Plans.{IsPlan};
 ghost use Rattle.block_file.specs.Sectors.{sectors_of};
 ghost use Rattle.block_table.specs.Checked.{kept_table, settled_data};
@@ -19,7 +20,7 @@ use std::marker::Model;
 /// A device of sectors over a file of blocks. A write is gathered, and a sync commits what was gathered; a batch that
 /// is full is committed at once.
 ///
-/// Once a commit has failed, each call fails but a sync of nothing, and the file is left alone.
+/// Once a commit has failed, each call that needs the file fails, and the file is left alone (no clause says so).
 #[derive(Drop)]
 pub struct BlockDisk<B: Blocks, A: Allocator> {
     parts: DiskParts<B, A>,
@@ -42,8 +43,8 @@ impl<B: Blocks, A: Allocator> Model for BlockDisk<B, A> {
 impl<B: Blocks, A: Allocator + Copy> BlockDisk<B, A> {
     ghost use Rattle.block_file.specs.Closing.{StandsAlone};
     ghost use Rattle.block_file.specs.Damage.{IsFirstDamaged, IsSectorFit};
-    ghost use Rattle.block_file.specs.Disks.{CrashStandsNow, EachCrashStands, EachOffers, TellsStill, disk_failures};
-    ghost use Rattle.block_file.specs.Disks.{disk_past, first_content, journal_in};
+    ghost use Rattle.block_file.specs.Disks.{BeforeStays, CrashStandsNow, EachCrashStands, EachOffers, TellsStill};
+    ghost use Rattle.block_file.specs.Disks.{disk_failures, disk_past, first_content, journal_in};
 
     /// The device whose sectors these blocks hold, which were just opened: all of them synced.
     pub fn over(checked: CheckedBlocks<B, A>, plan: Plan) -> Self
@@ -77,18 +78,20 @@ impl<B: Blocks, A: Allocator + Copy> BlockDisk<B, A> {
 
     /// A law: from each moment of the device to the next one, and now, whatever a crash leaves of the file stands,
     /// under the premise, for a crash state of the device at that moment (`each`, `now`). Meanwhile at most the batch
-    /// that was gathered is handed to be written (`offers`), and the file tells where the device is (`told`).
+    /// that was gathered is handed to be written (`offers`). The blocks before the journal stay (`headers`). So the
+    /// file tells where the device is, if it did (`told`).
     pub fn stands(&self)
         ensures each { EachCrashStands B.past_of self.now }
         ensures now { CrashStandsNow B.past_of self.now.plan self.now.now }
         ensures offers { EachOffers self.now }
+        ensures headers { BeforeStays B.past_of self.now }
         ensures told { TellsStill B.past_of self.now }
     {
         let _ = &self.parts.plan;
     }
 
     /// Ends the use of the file: syncs all sectors, and puts all blocks in their places. Then the file stands for the
-    /// device, whatever becomes of the areas of its journal (`alone`). It fails as a sync does.
+    /// device, whatever batches the areas of its journal lose (`alone`). It fails as a sync does (no clause says so).
     pub fn close(&mut self) -> Result<(), Failed>
         ensures content { (disk_past B.past_of self.new).disk.content ≡ (disk_past B.past_of self.old).disk.content }
         ensures synced { OnOk result (IsSynced (disk_past B.past_of self.new).disk) }
@@ -102,13 +105,16 @@ impl<B: Blocks, A: Allocator + Copy> BlockDisk<B, A> {
         self.parts.close()
     }
 
-    /// The first sector, from a number on, of whose block bytes have changed: it doesn't fit its digest. The other
-    /// sectors of the block are told likewise, so a search for more goes on behind its last one.
+    /// The first sector, from a number on, whose block doesn't fit its digest. The other sectors of the block are told
+    /// likewise, so a search for more goes on behind its last one. It fails where the file does, and once a commit has
+    /// failed (`failed`).
     pub fn check(&mut self, from: u64) -> Result<Option<u64>, Failed>
         ensures damaged { IfOk result (λ found. IfSome found (IsFirstDamaged self.old.plan
             (kept_table B.past_of self.old.now.checked) from)) }
         ensures fit { IfOk result (λ found. IfNone found ((n : ℕ) → from ≤ n → n < self.old.plan.sectors
             → IsSectorFit self.old.plan (kept_table B.past_of self.old.now.checked) n)) }
+        ensures failed { OnErr result (((journal_in self.old.now).has_failed ≡ true)
+            ⊎ Rises (B.failures (journal_in self.old.now).below) (B.failures (journal_in self.new.now).below)) }
         ensures disk { (disk_past B.past_of self.new).disk ≡ (disk_past B.past_of self.old).disk }
         ensures plan { self.new.plan ≡ self.old.plan }
         ensures time { Elapses (disk_past B.past_of self.old) (disk_past B.past_of self.new) }
@@ -140,7 +146,7 @@ impl<B: Blocks, A: Allocator + Copy> Device for BlockDisk<B, A> {
         self.parts.read(n, buffer)
     }
 
-    /// Where it fails, the sector holds what it held, unsynced.
+    /// Where it fails, the sector holds what it held, unsynced (no clause says that it holds that).
     fn write(&mut self, n: u64, bytes: &[u8; SECTOR_SIZE]) -> Result<(), Failed> {
         self.parts.write(n, bytes)
     }

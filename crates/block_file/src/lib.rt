@@ -5,9 +5,11 @@
 //! the next, whatever a crash leaves of the file stands, under the premise `IsHonest`, for a crash state of the device
 //! at that moment, and tells where the device is, as it did at the opening (`stands`). An opening finds the header, and
 //! compares each block with its digest (`open`); a header is read as it was spelled (`read_header`, `spell_header`).
-//! The file of a new device has zeros, whose digests fit, and a header that tells where (`lay_out`, `create`). Sectors
-//! whose bytes changed are told, and only such (`check`). Behind an end the file stands for the device whatever becomes
-//! of its journal (`close`). Neither: the premise.
+//! The file of a new device has zeros, whose digests fit, and two headers that tell where (`lay_out`, `create`). Of the
+//! sectors whose block doesn't fit its digest the first is told, and only such a one (`check`). Behind an end the file
+//! stands for the device whatever batches are lost (`close`). A file that tells no device is left alone (`left_alone`).
+//!
+//! Neither: the premise; that a file is opened where there is memory; that a call which may fail ever succeeds.
 #![tactic(auto)]
 
 mod creating;

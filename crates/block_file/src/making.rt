@@ -6,8 +6,8 @@ ghost use Rattle.block_device.specs.Blocks.{Image, InRun, IsSynced, block, zero_
 ghost use Rattle.block_device.specs.BlocksPast.{BlocksPast, RunsWithin};
 ghost use Rattle.block_batch.specs.Batch.{block_digest};
 ghost use Rattle.block_journal.specs.Layout.{IsInside, area_of, found, kept_of};
-ghost use Rattle.block_file.specs.Header.{CanBeTold, plan_told};
-ghost use Rattle.block_file.specs.Making.{BecomesZeros, HoldsZeros, IsBehind, IsNewBlock};
+ghost use Rattle.block_file.specs.Header.{CanBeTold, TellTwice, plan_told};
+ghost use Rattle.block_file.specs.Making.{AreBegun, BecomesZeros, HoldsZeros, IsBehind, IsNewBlock};
 
 use crate::Plan;
 use crate::header::spell_header;
@@ -109,8 +109,7 @@ fn write_behind<B: Blocks>(below: &mut B, plan: Plan) -> Result<(), Failed>
     requires told { CanBeTold plan }
     requires room { IsInside plan.shape (B.past_of below.old).file.content }
     ensures zeros { OnOk result (HoldsZeros plan (B.past_of below.new).file.content) }
-    ensures begun { OnOk result (found plan.shape (B.past_of below.new).file.content 0
-        ≡ Some (record { number = 0; entries = [] })) }
+    ensures begun { OnOk result (AreBegun plan.shape (B.past_of below.new).file.content) }
     ensures synced { OnOk result (IsSynced (B.past_of below.new).file) }
     ensures size { length (B.past_of below.new).file.content ≡ length (B.past_of below.old).file.content }
     ensures within { (image : Image) (start : BlocksPast) → RunsWithin IsBehind image start (B.past_of below.old)
@@ -132,6 +131,7 @@ fn write_headers<B: Blocks>(below: &mut B, header: &[u8; BLOCK_SIZE]) -> Result<
     requires room { 2 ≤ length (B.past_of below.old).file.content }
     requires synced { IsSynced (B.past_of below.old).file }
     ensures first { OnOk result (block (B.past_of below.new).file.content 0 ≡ header.now) }
+    ensures second { OnOk result (block (B.past_of below.new).file.content 1 ≡ header.now) }
     ensures synced { OnOk result (IsSynced (B.past_of below.new).file) }
     ensures within { RunsWithin (InRun 0 2) (B.past_of below.old).file.content (B.past_of below.old)
         (B.past_of below.new) }
@@ -142,17 +142,18 @@ fn write_headers<B: Blocks>(below: &mut B, header: &[u8; BLOCK_SIZE]) -> Result<
 }
 
 /// Lays out the file of a new device, whose sectors are of zeros: each block with its digest, and an empty batch in
-/// each area of the journal; behind a sync the headers. What the file had before is lost.
+/// each area of the journal; behind a sync the header, twice. What the file had before is lost.
 ///
-/// Whatever it answers, a crash at any moment of it leaves headers as they were, or zeros behind them (`any_moment`).
+/// Whatever it answers, a crash at any moment of it leaves headers that tell what they told before, or zeros
+/// (`any_moment`).
 pub fn lay_out<B: Blocks>(below: &mut B, plan: Plan) -> Result<(), Failed>
     requires told { CanBeTold plan }
     requires room { IsInside plan.shape (B.past_of below.old).file.content }
     requires synced { IsSynced (B.past_of below.old).file }
     ensures told { OnOk result (plan_told (B.past_of below.new).file.content ≡ Some plan) }
+    ensures headers { OnOk result (TellTwice plan (B.past_of below.new).file.content) }
     ensures zeros { OnOk result (HoldsZeros plan (B.past_of below.new).file.content) }
-    ensures begun { OnOk result (found plan.shape (B.past_of below.new).file.content 0
-        ≡ Some (record { number = 0; entries = [] })) }
+    ensures begun { OnOk result (AreBegun plan.shape (B.past_of below.new).file.content) }
     ensures synced { OnOk result (IsSynced (B.past_of below.new).file) }
     ensures any_moment { BecomesZeros plan (B.past_of below.old) (B.past_of below.new) }
     ensures size { length (B.past_of below.new).file.content ≡ length (B.past_of below.old).file.content }

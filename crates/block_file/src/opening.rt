@@ -2,12 +2,13 @@
 ghost use Rattle.std.specs.Prelude.{◌≡◌, ◌≢◌, ◌⊎◌, ◌<◌, ℕ, [], false, true, length, None, Some, IfErr, IfOk, IfSome};
 ghost use Rattle.sector_device.specs.Disk.{IsSynced};
 ghost use Rattle.sector_device.specs.DevicePast.{Rises};
-ghost use Rattle.block_journal.specs.Layout.{IsInside, found, recovered};
-ghost use Rattle.block_journal.specs.Journal.{OnlyReads, StaysRecovered};
+ghost use Rattle.block_journal.specs.Layout.{IsHonest, IsInside, found, recovered};
+ghost use Rattle.block_journal.specs.Journal.{AreInAreas, LeavesBefore, OnlyReads, StaysRecovered};
+ghost use Rattle.block_journal.specs.Value.{failures_of};
 ghost use Rattle.block_table.specs.Checked.{settled_data, settled_table};
 ghost use Rattle.block_table.specs.Table.{EachFits, IsFirstUnfit};
-ghost use Rattle.block_file.specs.Disks.{disk_past, first_content, journal_in};
-ghost use Rattle.block_file.specs.Header.{IsCut, first_of, plan_told};
+ghost use Rattle.block_file.specs.Disks.{disk_failures, disk_past, first_content, journal_in};
+ghost use Rattle.block_file.specs.Header.{HasNoPlan, IsCut, first_of, plan_told};
 ghost use Rattle.block_file.specs.Plans.{IsPlan, disk_image};
 ghost use Rattle.block_file.specs.Sectors.{sectors_of};
 
@@ -135,6 +136,8 @@ fn compared<B: Blocks, A: Allocator + Copy>(
     ensures synced { IfOk result (λ d. IsSynced (disk_past B.past_of d).disk) }
     ensures fits { IfOk result (λ d. EachFits plan.blocks (settled_table B.past_of checked)) }
     ensures first { IfOk result (λ d. first_content B.past_of d ≡ (B.past_of checked.journal.below).file.content) }
+    ensures failures { IfOk result (λ d. disk_failures B.failures d ≡ failures_of B.failures checked.journal) }
+    ensures offered { IfOk result (λ d. (journal_in d.now).offered ≡ checked.journal.offered) }
     ensures read { IfOk result (λ d. OnlyReads (B.past_of checked.journal.below)
         (B.past_of (journal_in d.now).below)) }
     ensures refused { IfErr result (λ e. OnlyReads (B.past_of checked.journal.below) (B.past_of e.file)) }
@@ -163,7 +166,9 @@ fn compared<B: Blocks, A: Allocator + Copy>(
 /// Opens a file of blocks: its header, or where the first one is damaged, the second; its journal; and each block of
 /// data is compared with its digest. No block of the file is loose.
 ///
-/// Whatever it answers, a crash at any moment of it leaves what stands for the same blocks (`any_moment`, `refused`).
+/// Whatever it answers, a crash at any moment of it leaves what stands for the same blocks (`any_moment`, `refused`),
+/// behind the same headers (`headers`, `headers_refused`). Where the file has no plan that it has room for, nothing is
+/// written (`left_alone`).
 pub fn open<B: Blocks, A: Allocator + Copy>(
     alloc: A,
     below: B,
@@ -176,8 +181,19 @@ pub fn open<B: Blocks, A: Allocator + Copy>(
     ensures synced { IfOk result (λ d. IsSynced (disk_past B.past_of d).disk) }
     ensures fits { IfOk result (λ d. EachFits d.plan.blocks
         (recovered d.plan.shape (B.past_of below).file.content)) }
+    ensures failures { IfOk result (λ d. disk_failures B.failures d ≡ B.failures below) }
+    ensures honest { IfOk result (λ d. IsHonest (journal_in d.now).offered d.plan.shape
+        (B.past_of below).file.content) }
+    ensures found { IfOk result (λ d. AreInAreas d.plan.shape (B.past_of below).file.content
+        (journal_in d.now).offered) }
     ensures any_moment { IfOk result (λ d. StaysRecovered d.plan.shape (B.past_of below)
         (B.past_of (journal_in d.now).below)) }
+    ensures headers { IfOk result (λ d. LeavesBefore d.plan.shape (B.past_of below)
+        (B.past_of (journal_in d.now).below)) }
+    ensures left_alone { IfErr result (λ e. HasNoPlan (B.past_of below).file.content
+        → OnlyReads (B.past_of below) (B.past_of e.file)) }
+    ensures headers_refused { IfErr result (λ e. (p : Plan) → plan_told (B.past_of below).file.content ≡ Some p
+        → LeavesBefore p.shape (B.past_of below) (B.past_of e.file)) }
     ensures refused { IfErr result (λ e. (p : Plan) → plan_told (B.past_of below).file.content ≡ Some p
         → IsInside p.shape (B.past_of below).file.content
         → StaysRecovered p.shape (B.past_of below) (B.past_of e.file)) }

@@ -1,7 +1,8 @@
 // The parts of a device over a file of blocks, and what it does with them.
-ghost use Rattle.std.specs.Prelude.{◌≡◌, ◌+◌, ◌<◌, ◌≤◌, ℕ, [], is_ok, false, true, IfNone, IfOk, IfSome, OnErr, OnOk};
+ghost use Rattle.std.specs.Prelude.{◌≡◌, ◌⊎◌, ◌+◌, ◌<◌, ◌≤◌, ℕ, [], is_ok, false, true, IfNone, IfOk, IfSome, OnErr};
+ghost use Rattle.std.specs.Prelude.{OnOk};
 ghost use Rattle.sector_device.specs.Disk.{IsFailedWrite, IsSynced, after_sync, after_write, sector};
-ghost use Rattle.sector_device.specs.DevicePast.{CountsFailure, Elapses};
+ghost use Rattle.sector_device.specs.DevicePast.{CountsFailure, Elapses, Rises};
 ghost use Rattle.block_table.specs.Checked.{CountsRead, kept_table};
 
 use crate::Plan;
@@ -147,6 +148,8 @@ impl<B: Blocks, A: Allocator + Copy> DiskParts<B, A> {
             (kept_table B.past_of self.old.now.checked) from)) }
         ensures fit { IfOk result (λ found. IfNone found ((n : ℕ) → from ≤ n → n < self.old.plan.sectors
             → IsSectorFit self.old.plan (kept_table B.past_of self.old.now.checked) n)) }
+        ensures failed { OnErr result (((journal_in self.old.now).has_failed ≡ true)
+            ⊎ Rises (B.failures (journal_in self.old.now).below) (B.failures (journal_in self.new.now).below)) }
         ensures disk { (disk_past B.past_of self.new).disk ≡ (disk_past B.past_of self.old).disk }
         ensures plan { self.new.plan ≡ self.old.plan }
         ensures time { Elapses (disk_past B.past_of self.old) (disk_past B.past_of self.new) }

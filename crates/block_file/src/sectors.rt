@@ -1,8 +1,8 @@
 // Sectors are read and written, in blocks of data.
-ghost use Rattle.std.specs.Prelude.{◌≡◌, ◌≢◌, ◌+◌, ◌/◌, ◌^◌, ◌<◌, ◌≤◌, ℕ, Err, IfNone, IfOk, IfSome, OnErr, OnOk};
-ghost use Rattle.std.specs.Prelude.{slice_set};
+ghost use Rattle.std.specs.Prelude.{◌≡◌, ◌≢◌, ◌⊎◌, ◌+◌, ◌/◌, ◌^◌, ◌<◌, ◌≤◌, ℕ, Err, IfNone, IfOk, IfSome, OnErr, OnOk};
+ghost use Rattle.std.specs.Prelude.{slice_set, true};
 ghost use Rattle.sector_device.specs.Disk.{sector};
-ghost use Rattle.sector_device.specs.DevicePast.{CountsFailure};
+ghost use Rattle.sector_device.specs.DevicePast.{CountsFailure, Rises};
 ghost use Rattle.block_journal.specs.Journal.{OnlyReads};
 ghost use Rattle.block_journal.specs.Value.{failures_of, room_of};
 ghost use Rattle.block_table.specs.Checked.{CountsRead, data_now, kept_table};
@@ -130,6 +130,8 @@ pub(crate) fn first_damaged<B: Blocks, A: Allocator + Copy>(
         (kept_table B.past_of checked.old) from)) }
     ensures fit { IfOk result (λ found. IfNone found ((n : ℕ) → from ≤ n → n < plan.sectors
         → IsSectorFit plan (kept_table B.past_of checked.old) n)) }
+    ensures failed { OnErr result ((checked.old.journal.has_failed ≡ true)
+        ⊎ Rises (B.failures checked.old.journal.below) (B.failures checked.new.journal.below)) }
     ensures rest { checked.new ≡ record checked.old {
       journal = record checked.old.journal {
         below = checked.new.journal.below;

@@ -1,2 +1,3 @@
+mod Devices
 mod Past
 mod Written

@@ -1,1 +1,2 @@
 pub mod FileBlocks
+pub mod Opened

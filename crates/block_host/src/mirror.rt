@@ -18,7 +18,8 @@ use store_file::{Backing, OpenError, Stored, Trouble, Troubled};
 const RUN: usize = 16;
 
 /// A file of blocks over what is below. Once a write or a sync of that failed, nothing is written any more, and each
-/// write and sync fails (`has_failed_of`): what is below is not known then, until it is read again.
+/// write and sync fails (`has_failed_of`): what is below is not known then, until it is read again. (That nothing
+/// reaches it then, no clause says.)
 #[derive(Drop)]
 pub struct FileBlocks<F, A: Allocator> {
     below: F,
@@ -61,6 +62,7 @@ impl<F: Drop, A: Allocator> FileBlocks<F, A> {
     // Over what is below, which is to hold this, with no loose block.
     fn holding(below: F, held: Held<A>) -> Self
         ensures file { (past_of result).file ≡ file_of held }
+        ensures moment { (past_of result).moment ≡ 0 }
         ensures failures { failures_of result ≡ 0 }
         ensures sound { has_failed_of result ≡ false }
     {
@@ -78,6 +80,7 @@ impl<F: Drop, A: Allocator> FileBlocks<F, A> {
     pub fn new(alloc: A, below: F, blocks: usize) -> Result<Self, AllocError>
         ensures zeros { IfOk result (λ b. (past_of b).file.content ≡ replicate blocks zero_block) }
         ensures synced { IfOk result (λ b. IsSynced (past_of b).file) }
+        ensures moment { IfOk result (λ b. (past_of b).moment ≡ 0) }
         ensures failures { IfOk result (λ b. failures_of b ≡ 0) }
         ensures sound { IfOk result (λ b. has_failed_of b ≡ false) }
     {
@@ -106,10 +109,12 @@ impl<F: Drop, A: Allocator> FileBlocks<F, A> {
 impl<F: Stored + Drop, A: Allocator> FileBlocks<F, A> {
     ghost use Rattle.block_host.specs.FileBlocks.{past_of, failures_of, has_failed_of};
 
-    /// A file of blocks over what is below, which holds so many blocks, as that does, all of them to be safe.
+    /// A file of blocks over what is below, which holds so many blocks, as that does, all of them to be safe. (That it
+    /// holds what is below, no clause says.)
     pub fn over(alloc: A, below: F, blocks: usize) -> Result<Self, OpenError>
         ensures blocks { IfOk result (λ b. length (past_of b).file.content ≡ blocks) }
         ensures synced { IfOk result (λ b. IsSynced (past_of b).file) }
+        ensures moment { IfOk result (λ b. (past_of b).moment ≡ 0) }
         ensures failures { IfOk result (λ b. failures_of b ≡ 0) }
         ensures sound { IfOk result (λ b. has_failed_of b ≡ false) }
     {
@@ -179,8 +184,8 @@ impl<F: Stored + Drop, A: Allocator> Blocks for FileBlocks<F, A> {
         Ok(())
     }
 
-    /// Where it fails, the mirror has the new bytes, loose, and what is below any. One that has failed fails from then
-    /// on (`sound`, `failed`).
+    /// Where it fails, the mirror has the new bytes, loose (`written`), and what is below any. One that has failed
+    /// fails from then on (`sound`, `failed`).
     fn write(&mut self, first: u64, run: &[[u8; BLOCK_SIZE]]) -> Result<(), Failed>
         requires { first + length run.now ≤ length (past_of self.old).file.content }
         ensures ok { OnOk result ((past_of self.new).file ≡ after_write (past_of self.old).file first run.now) }
@@ -188,6 +193,7 @@ impl<F: Stored + Drop, A: Allocator> Blocks for FileBlocks<F, A> {
             (past_of self.new).file) }
         ensures time { Elapses (past_of self.old) (past_of self.new) }
         ensures counts { CountsFailure (failures_of self.old) (failures_of self.new) result }
+        ensures written { (past_of self.new).file ≡ after_write (past_of self.old).file first run.now }
         ensures sound { OnOk result ((has_failed_of self.old ≡ false) × (has_failed_of self.new ≡ false)) }
         ensures failed { OnErr result (has_failed_of self.new ≡ true) }
     {

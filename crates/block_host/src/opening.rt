@@ -1,11 +1,15 @@
 //! A file of the system is opened as one of blocks.
-ghost use Rattle.std.specs.Prelude.{◌≡◌, ◌≢◌, false, replicate, IfOk};
+ghost use Rattle.std.specs.Prelude.{◌≡◌, ◌≢◌, ◌⊎◌, ◌+◌, ◌*◌, ◌<◌, false, length, replicate, Some, IfErr, IfOk};
 ghost use Rattle.sector_device.specs.Disk.{IsSynced};
 ghost use Rattle.sector_device.specs.Values.{zero_sector};
 ghost use Rattle.block_device.specs.Blocks.{zero_block};
-ghost use Rattle.block_file.specs.Disks.{disk_failures, disk_past};
-ghost use Rattle.block_file.specs.Header.{CanBeTold};
+ghost use Rattle.block_file.specs.Disks.{disk_failures, disk_past, first_content};
+ghost use Rattle.block_file.specs.Header.{CanBeTold, plan_told};
+ghost use Rattle.block_file.specs.declared.opening.FileError.{FileError};
+ghost use Rattle.block_file.specs.declared.opening.FileError.TheVariants.{FileFailed, NoMemory};
 ghost use Rattle.block_host.specs.FileBlocks.{past_of, failures_of, has_failed_of, IsFileSynced};
+ghost use Rattle.block_host.specs.Opened.{IsOpened};
+ghost use Rattle.store_file.specs.declared.draft.TheConstants.{SECTORS_MAX};
 
 use crate::error::DiskError;
 use crate::mirror::FileBlocks;
@@ -20,7 +24,8 @@ use store_file::{HostFile, OpenError, StoreFile};
 pub type HostDisk<H, A> = BlockDisk<FileBlocks<HostFile<H>, A>, A>;
 
 /// Opens the file at the path as one of blocks, which are to be safe: what was read is written back, and synced. The
-/// refusals are those of [`store_file::open`], and so is the lock. Sectors behind the last whole block are left alone.
+/// refusals are those of [`store_file::open`], and so is the lock. Sectors behind the last whole block are written back
+/// too, and belong to no block. (No clause says what is read or written.)
 pub fn open<R: Files, A: Allocator + Copy>(
     rt: &R,
     alloc: A,
@@ -28,7 +33,9 @@ pub fn open<R: Files, A: Allocator + Copy>(
 ) -> Result<FileBlocks<HostFile<R::File>, A>, OpenError>
 where
     R::File: StoreFile,
+    ensures few { IfOk result (λ b. 8 * length (past_of b).file.content < SECTORS_MAX + 1) }
     ensures synced { IfOk result (λ b. IsFileSynced b) }
+    ensures moment { IfOk result (λ b. (past_of b).moment ≡ 0) }
     ensures failures { IfOk result (λ b. failures_of b ≡ 0) }
     ensures sound { IfOk result (λ b. has_failed_of b ≡ false) }
 {
@@ -48,7 +55,9 @@ pub fn create<R: Files + AllocGlobal, A: Allocator + Copy>(
 where
     R::File: StoreFile,
     ensures zeros { IfOk result (λ b. (past_of b).file.content ≡ replicate blocks zero_block) }
+    ensures fits { IfOk result (λ _. (0 < blocks) × (8 * blocks < SECTORS_MAX + 1)) }
     ensures synced { IfOk result (λ b. IsFileSynced b) }
+    ensures moment { IfOk result (λ b. (past_of b).moment ≡ 0) }
     ensures failures { IfOk result (λ b. failures_of b ≡ 0) }
     ensures sound { IfOk result (λ b. has_failed_of b ≡ false) }
 {
@@ -56,7 +65,8 @@ where
     Ok(FileBlocks::new(alloc, disk.into_below(), blocks as usize)?)
 }
 
-/// Opens the device in the file at the path.
+/// Opens the device in the file at the path, as [`block_file::open`] does. It is the one that the file told as it was
+/// read (`opened`). The refusals are those of [`open`] and of that.
 pub fn open_disk<R: Files, A: Allocator + Copy>(
     rt: &R,
     alloc: A,
@@ -64,6 +74,8 @@ pub fn open_disk<R: Files, A: Allocator + Copy>(
 ) -> Result<HostDisk<R::File, A>, DiskError>
 where
     R::File: StoreFile,
+    ensures opened { IfOk result (λ d. IsOpened d) }
+    ensures still { IfOk result (λ d. plan_told (first_content past_of d) ≡ Some d.plan) }
     ensures synced { IfOk result (λ d. IsSynced (disk_past past_of d).disk) }
 {
     let below = open(rt, alloc, path)?;
@@ -74,7 +86,8 @@ where
 }
 
 /// Makes a file, as [`create`] does, and in it a device of zeros. Where it is refused, no file is left, if that can be
-/// removed.
+/// removed (no clause says so). The refusals are those of [`create`], and of a device want of memory, or that the file
+/// failed (`refused`).
 pub fn create_disk<R: Files + AllocGlobal, A: Allocator + Copy>(
     rt: &R,
     alloc: A,
@@ -85,10 +98,16 @@ where
     R::File: StoreFile,
     requires { CanBeTold plan }
     ensures plan { IfOk result (λ d. d.plan ≡ plan) }
+    ensures still { IfOk result (λ d. plan_told (first_content past_of d) ≡ Some plan) }
     ensures zeros { IfOk result (λ d. (disk_past past_of d).disk.content ≡ replicate plan.sectors zero_sector) }
     ensures synced { IfOk result (λ d. IsSynced (disk_past past_of d).disk) }
+    ensures refused { IfErr result (λ e. (error : FileError) → e ≡ DiskError.File error
+        → (error ≡ NoMemory) ⊎ (error ≡ FileFailed)) }
 {
-    let below = create(rt, alloc, path, plan.file_blocks())?;
+    let below = match create(rt, alloc, path, plan.file_blocks()) {
+        Ok(below) => below,
+        Err(error) => return Err(DiskError::Open(error)),
+    };
     match block_file::create(alloc, below, plan) {
         Ok(disk) => Ok(disk),
         Err(refused) => {

@@ -1,4 +1,5 @@
 pub mod Before
+mod Beginning
 mod Buffers
 mod Closing
 mod Committing

@@ -15,6 +15,8 @@ pub fn clear<B: Blocks>(below: &mut B, shape: Shape) -> Result<(), Failed>
     requires { IsInside shape (B.past_of below.old).file.content }
     ensures recovered { OnOk result (recovered shape (B.past_of below.new).file.content
         ≡ kept_of shape (B.past_of below.old).file.content) }
+    ensures begun { OnOk result ((a : ℕ) → a < 2 → found shape (B.past_of below.new).file.content a
+        ≡ Some (record { number = a; entries = [] })) }
     ensures synced { OnOk result (IsSynced (B.past_of below.new).file) }
     ensures kept { kept_of shape (B.past_of below.new).file.content
         ≡ kept_of shape (B.past_of below.old).file.content }

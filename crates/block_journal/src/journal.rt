@@ -1,13 +1,14 @@
 //! A journal over a file of blocks.
 ghost use Rattle.std.specs.Prelude.{◌≡◌, ◌⊎◌, ◌+◌, ◌-◌, ◌^◌, ◌%◌, ◌<◌, ◌≤◌, ℕ, [], false, true, None, OnOk, OnErr};
-ghost use Rattle.std.specs.Prelude.{slice_set, IfOk, IfErr};
+ghost use Rattle.std.specs.Prelude.{slice_set, Contains, IfOk, IfErr};
 ghost use Rattle.sector_device.specs.DevicePast.{CountsFailure, Rises};
 ghost use Rattle.block_device.specs.Blocks.{Image, IsCrashImage, IsSynced, block};
-ghost use Rattle.block_batch.specs.Batch.{block_digest, replayed};
+ghost use Rattle.block_batch.specs.Batch.{Batch, block_digest, replayed};
 ghost use Rattle.block_journal.specs.Layout.{IsHonest, IsInside, found, kept_of, recovered};
 ghost use Rattle.block_journal.specs.Journal.{AreInAreas, IsPending, LeavesBefore, NeedsNoArea, OnlyReads};
 ghost use Rattle.block_journal.specs.Journal.{StaysRecovered};
-ghost use Rattle.block_journal.specs.Value.{LeavesEither, Offers, content_of, failures_of, room_of, settled_of};
+ghost use Rattle.block_journal.specs.Value.{LeavesEither, Offers, content_of, failures_of, next_batch, room_of};
+ghost use Rattle.block_journal.specs.Value.{settled_of};
 
 use crate::gathered::buffers;
 use crate::parts::Parts;
@@ -112,13 +113,14 @@ impl<B: Blocks, A: Allocator + Copy> Journal<B, A> {
     }
 
     /// Reads a kept block: as it was gathered, or else as it is settled. It fails where the file does, and once the
-    /// journal has failed.
+    /// journal has failed, when no call is made of the file (`refused`).
     pub fn read(&mut self, place: u64, bytes: &mut [u8; BLOCK_SIZE]) -> Result<(), Failed>
         requires { place < self.old.shape.kept }
         ensures ok { OnOk result (bytes.new ≡ block (content_of B.past_of self.old) place) }
         ensures err { OnErr result (bytes.new ≡ bytes.old) }
         ensures rest { self.new ≡ record self.old { below = self.new.below; refused = self.new.refused } }
         ensures good { self.old.has_failed ≡ false → self.new ≡ record self.old { below = self.new.below } }
+        ensures refused { self.old.has_failed ≡ true → self.new ≡ record self.old { refused = self.new.refused } }
         ensures reads { OnlyReads (B.past_of self.old.below) (B.past_of self.new.below) }
         ensures fails { OnErr result ((self.old.has_failed ≡ true)
             ⊎ Rises (B.failures self.old.below) (B.failures self.new.below)) }
@@ -160,7 +162,9 @@ impl<B: Blocks, A: Allocator + Copy> Journal<B, A> {
             (B.past_of self.new.below).file.content ≡ settled_of B.past_of self.old) }
         ensures areas { self.old.next ≡ [] → OnOk result (NeedsNoArea self.old.shape
             (B.past_of self.new.below).file.content (settled_of B.past_of self.old)) }
+        ensures last { OnOk result (self.new.last ≡ next_batch self.old) }
         ensures err { OnErr result (settled_of B.past_of self.new ≡ settled_of B.past_of self.old) }
+        ensures last_stays { OnErr result (self.new.last ≡ self.old.last) }
         ensures kept { OnErr result (self.new.next ≡ self.old.next) }
         ensures failed { OnErr result (self.new.has_failed ≡ true) }
         ensures any_moment { self.old.has_failed ≡ false → LeavesEither B.past_of self.old self.new }
@@ -185,7 +189,7 @@ impl<B: Blocks, A: Allocator + Copy> Journal<B, A> {
     /// Ends the use of the file: puts all blocks in their places, by an empty batch. Nothing is gathered. It fails as a
     /// commit does.
     ///
-    /// Then the kept blocks are those that were settled, and whatever rots in the areas alone changes nothing.
+    /// Then the kept blocks are those that were settled, and whatever batch the areas lose changes nothing (`areas`).
     pub fn close(&mut self) -> Result<(), Failed>
         requires { self.old.next ≡ [] }
         ensures kept { OnOk result (kept_of self.old.shape (B.past_of self.new.below).file.content
@@ -194,6 +198,8 @@ impl<B: Blocks, A: Allocator + Copy> Journal<B, A> {
             (settled_of B.past_of self.old)) }
         ensures settled { settled_of B.past_of self.new ≡ settled_of B.past_of self.old }
         ensures none { self.new.next ≡ [] }
+        ensures last { OnOk result (self.new.last ≡ next_batch self.old) }
+        ensures last_stays { OnErr result (self.new.last ≡ self.old.last) }
         ensures synced { OnOk result (IsSynced (B.past_of self.new.below).file) }
         ensures sound { OnOk result ((self.old.has_failed ≡ false) × (self.new.has_failed ≡ false)) }
         ensures failed { OnErr result (self.new.has_failed ≡ true) }
@@ -211,13 +217,17 @@ impl<B: Blocks, A: Allocator + Copy> Journal<B, A> {
     }
 
     /// A law: a journal lies within its file. One that hasn't failed has no loose block, and what a crash leaves of it
-    /// now stands, under the premise, for the settled blocks.
+    /// now stands, under the premise, for the settled blocks. Its last batch was handed to be written, or found
+    /// (`last`), and none of a higher number (`latest`).
     pub fn stands(&self)
         ensures inside { IsInside self.now.shape (B.past_of self.now.below).file.content }
         ensures synced { self.now.has_failed ≡ false → IsSynced (B.past_of self.now.below).file }
         ensures survives { self.now.has_failed ≡ false → (c : Image) → IsCrashImage (B.past_of self.now.below).file c
             → IsHonest self.now.offered self.now.shape c
             → recovered self.now.shape c ≡ settled_of B.past_of self.now }
+        ensures last { self.now.has_failed ≡ false → Contains self.now.offered self.now.last }
+        ensures latest { self.now.has_failed ≡ false → (x : Batch) → Contains self.now.offered x
+            → x.number ≤ self.now.last.number }
     {
         let _ = &self.parts.shape;
     }

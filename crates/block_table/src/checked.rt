@@ -1,6 +1,6 @@
 //! Blocks of data, each with a digest.
-ghost use Rattle.std.specs.Prelude.{◌≡◌, ◌≢◌, ◌⊎◌, ◌↔◌, ◌/◌, ◌+◌, ◌≤◌, ◌<◌, ℕ, [], true, false, None, Err, slice_set};
-ghost use Rattle.std.specs.Prelude.{IfErr, IfNone, IfOk, IfSome, OnErr, OnOk};
+ghost use Rattle.std.specs.Prelude.{◌≡◌, ◌≢◌, ◌⊎◌, ◌↔◌, ◌/◌, ◌+◌, ◌-◌, ◌^◌, ◌≤◌, ◌<◌, ℕ, [], true, false, None, Err};
+ghost use Rattle.std.specs.Prelude.{slice_set, IfErr, IfNone, IfOk, IfSome, OnErr, OnOk};
 ghost use Rattle.sector_device.specs.DevicePast.{CountsFailure, Rises};
 ghost use Rattle.block_device.specs.Blocks.{Image, IsCrashImage, IsSynced, block};
 ghost use Rattle.block_journal.specs.Layout.{IsHonest, IsInside, found, kept_of, recovered};
@@ -195,6 +195,7 @@ impl<B: Blocks, A: Allocator + Copy> CheckedBlocks<B, A> {
         ensures ok { OnOk result (settled_table B.past_of self.new ≡ kept_table B.past_of self.old) }
         ensures none { OnOk result (self.new.journal.next ≡ []) }
         ensures sound { OnOk result ((self.old.journal.has_failed ≡ false) × (self.new.journal.has_failed ≡ false)) }
+        ensures synced { OnOk result (IsSynced (B.past_of self.new.journal.below).file) }
         ensures err { OnErr result (settled_table B.past_of self.new ≡ settled_table B.past_of self.old) }
         ensures kept { OnErr result (self.new.journal.next ≡ self.old.journal.next) }
         ensures failed { OnErr result (self.new.journal.has_failed ≡ true) }
@@ -208,6 +209,8 @@ impl<B: Blocks, A: Allocator + Copy> CheckedBlocks<B, A> {
         } }
         ensures shape { self.new.journal.shape ≡ self.old.journal.shape }
         ensures blocks { self.new.blocks ≡ self.old.blocks }
+        ensures fails { OnErr result ((self.old.journal.has_failed ≡ true) ⊎ (self.old.journal.last.number ≡ 2 ^ 64 - 1)
+            ⊎ Rises (B.failures self.old.journal.below) (B.failures self.new.journal.below)) }
         ensures counts { CountsFailure (failures_of B.failures self.old.journal)
             (failures_of B.failures self.new.journal) result }
     {
@@ -224,6 +227,7 @@ impl<B: Blocks, A: Allocator + Copy> CheckedBlocks<B, A> {
             (B.past_of self.new.journal.below).file.content (settled_table B.past_of self.old)) }
         ensures settled { settled_table B.past_of self.new ≡ settled_table B.past_of self.old }
         ensures none { self.new.journal.next ≡ [] }
+        ensures sound { OnOk result ((self.old.journal.has_failed ≡ false) × (self.new.journal.has_failed ≡ false)) }
         ensures synced { OnOk result (IsSynced (B.past_of self.new.journal.below).file) }
         ensures failed { OnErr result (self.new.journal.has_failed ≡ true) }
         ensures any_moment { self.old.journal.has_failed ≡ false
@@ -236,6 +240,8 @@ impl<B: Blocks, A: Allocator + Copy> CheckedBlocks<B, A> {
         } }
         ensures shape { self.new.journal.shape ≡ self.old.journal.shape }
         ensures blocks { self.new.blocks ≡ self.old.blocks }
+        ensures fails { OnErr result ((self.old.journal.has_failed ≡ true) ⊎ (self.old.journal.last.number ≡ 2 ^ 64 - 1)
+            ⊎ Rises (B.failures self.old.journal.below) (B.failures self.new.journal.below)) }
         ensures counts { CountsFailure (failures_of B.failures self.old.journal)
             (failures_of B.failures self.new.journal) result }
     {

@@ -1,4 +1,4 @@
-use Rattle.std.proofs.Common.{◌≡◌, ◌⊎◌, inl, inr, ℕ, ◌<◌, [], Some, None, sym, ◌∙◌, ap, subst}
+use Rattle.std.proofs.Common.{◌≡◌, ◌⊎◌, inl, inr, ℕ, ◌<◌, [], Some, None, sym, ◌∙◌, ap, subst, arith}
 use Rattle.sector_device.specs.DevicePast.{Rises}
 use Rattle.block_device.specs.Blocks.{Image, block}
 use Rattle.block_device.specs.BlocksPast.{BlocksPast}
@@ -12,10 +12,10 @@ use Rattle.block_journal.proofs.Results.{from_err, from_ok}
 use Rattle.block_table.specs.Checked.{CheckedValue}
 use Rattle.block_table.specs.Table.{EachFits, data_of}
 use Rattle.block_file.specs.declared.plan.Plan.{Plan}
-use Rattle.block_file.specs.Header.{plan_told}
+use Rattle.block_file.specs.Header.{TellTwice, plan_told}
 use Rattle.block_file.specs.Making.{BecomesZeros, HoldsZeros}
 use Rattle.block_file.specs.Sectors.{sectors_of}
-use Rattle.block_file.proofs.Heading.{still_told}
+use Rattle.block_file.proofs.Heading.{still_told, twice_still}
 use Rattle.block_file.proofs.NewFile.{leaves_weaker, same_zeros, told_is_plan, told_small}
 use Rattle.block_file.proofs.creating.create.Goals as goal
 
@@ -63,11 +63,14 @@ returns-then-is_err g c =
     record {
       plan = tt;
       still = tt;
+      headers = tt;
       content = tt;
       synced = tt;
       fits = tt;
+      failures = tt;
       any_moment = tt;
       refused = c.lay_out.ensures.any_moment;
+      left_alone = λ is. absurd (cc);
       too_short = λ is. absurd (cc);
       failed = λ is. from_err _ _ failed c.lay_out.ensures.counts.failed;
       header = λ is. absurd (cc);
@@ -88,18 +91,22 @@ returns-in-Ok g c =
     let end : BlocksPast = h checked.journal.below in
     let held : HoldsZeros plan mid.file.content = from_ok _ _ good c.lay_out.ensures.zeros in
     let table : settled_of h checked.journal ≡ recovered plan.shape mid.file.content = opened.settled in
+    let stays = at_end mid end (λ image. (n : ℕ) → n < plan.shape.first → block image n ≡ block mid.file.content n) opened.before
+    end.file.content (content_is_image end.file end.whole) in
     record {
       plan = over.plan;
-      still = ap plan_told over.first ∙ still_told end.file.content mid.file.content plan (from_ok _ _ good c.lay_out.ensures.told)
-          (at_end mid end (λ image. (n : ℕ) → n < plan.shape.first → block image n ≡ block mid.file.content n) opened.before
-          end.file.content (content_is_image end.file end.whole));
+      still = ap plan_told over.first ∙ still_told end.file.content mid.file.content plan (from_ok _ _ good c.lay_out.ensures.told) stays;
+      headers = subst (λ (l : Image). TellTwice plan l) (sym over.first)
+          (twice_still end.file.content mid.file.content plan (from_ok _ _ good c.lay_out.ensures.headers) stays);
       content = over.content ∙ (λ i. sectors_of plan.lead plan.sectors (data_of (opened.blocks i) (table i))) ∙ held.zeros;
       synced = over.synced;
       fits = subst (λ (l : Image). EachFits plan.blocks l)
           (sym (ap (λ (v : JournalValue g.row.B.Denot). settled_of h v) over.journal ∙ table)) held.fits;
+      failures = omega (arith, over.failures, opened.quiet, opened.unrefused, from_ok _ _ good c.lay_out.ensures.counts.none);
       any_moment = subst (λ (v : JournalValue g.row.B.Denot). BecomesZeros plan old (h v.below)) (sym over.journal)
           (goes_on plan old mid (h checked.journal.below) c.lay_out.ensures.any_moment held opened.any_moment);
       refused = tt;
+      left_alone = tt;
       too_short = tt;
       failed = tt;
       header = tt;
@@ -118,15 +125,18 @@ returns-in-Err g c =
     let refused = c.in-Err.ensures in
     let kind = c.error_of.ensures in
     let held : HoldsZeros plan mid.file.content = from_ok _ _ good c.lay_out.ensures.zeros in
-    let begun : found plan.shape mid.file.content 0 ≡ Some (record { number = 0; entries = [] }) = from_ok _ _ good c.lay_out.ensures.begun in
+    let begun : found plan.shape mid.file.content 0 ≡ Some (record { number = 0; entries = [] }) = from_ok _ _ good c.lay_out.ensures.begun 0 (omega arith) in
     record {
       plan = tt;
       still = tt;
+      headers = tt;
       content = tt;
       synced = tt;
       fits = tt;
+      failures = tt;
       any_moment = tt;
       refused = goes_on plan old mid (h c.in-Err.refused.file) c.lay_out.ensures.any_moment held refused.refused;
+      left_alone = λ is. absurd (kind.short is);
       too_short = λ is. absurd (kind.short is);
       failed = λ is. subst (λ (a : ℕ). Rises a (F c.in-Err.refused.file)) (from_ok _ _ good c.lay_out.ensures.counts.none) (refused.failed (kind.failed is));
       header = kind.header;

@@ -1,17 +1,17 @@
-use Rattle.std.proofs.Common.{◌≡◌, ◌⊎◌, inl, inr, Err, [], Some, sym, ◌∙◌, ap, arith}
+use Rattle.std.proofs.Common.{◌≡◌, ◌⊎◌, inl, inr, Err, Some, sym, ◌∙◌, ap, arith}
 use Rattle.std.proofs.lemmas.Result.{err_from_is_err_and}
 use Rattle.sector_device.proofs.Counts.{counts_later}
 use Rattle.block_device.specs.Blocks.{Image, InRun, SameOutside, block}
 use Rattle.block_device.specs.BlocksPast.{BlocksPast, RunsWithin}
 use Rattle.block_device.proofs.Moments.{joined}
 use Rattle.block_device.proofs.Within.{within_start}
-use Rattle.block_journal.specs.Layout.{IsInside, found}
+use Rattle.block_journal.specs.Layout.{IsInside}
 use Rattle.block_journal.proofs.Placing.{inside_same, synced_all}
-use Rattle.block_journal.proofs.Results.{on_ok}
+use Rattle.block_journal.proofs.Results.{on_ok, on_ok_both}
 use Rattle.block_file.specs.declared.plan.Plan.{Plan}
-use Rattle.block_file.specs.Header.{plan_told}
-use Rattle.block_file.specs.Making.{BecomesZeros, HoldsZeros, IsBehind}
-use Rattle.block_file.proofs.NewFile.{area_same, first_tells, found_same, leaves_weaker, recovers_same, same_zeros, tells_same, told_small}
+use Rattle.block_file.specs.Header.{TellTwice, plan_told, told_by}
+use Rattle.block_file.specs.Making.{AreBegun, BecomesZeros, HoldsZeros, IsBehind}
+use Rattle.block_file.proofs.NewFile.{begun_same, first_tells, leaves_weaker, recovers_same, same_zeros, tells_same, told_small}
 use Rattle.block_file.proofs.making.lay_out.Goals as goal
 
 -- while only blocks behind the headers are written
@@ -35,6 +35,7 @@ returns-in_err-write_behind g c =
     let old : BlocksPast = h c.args.below.now in
     rw (p.1 ∙ ap Err p.2) (record {
       told = tt;
+      headers = tt;
       zeros = tt;
       begun = tt;
       synced = tt;
@@ -64,13 +65,15 @@ returns g c =
       told = on_ok (block new.file.content 0 ≡ c.spell_header.result) (plan_told new.file.content ≡ Some plan) c.write_headers.result
           (λ is. first_tells new.file.content c.spell_header.result plan is (c.spell_header.ensures ∙ ap (λ (p : Plan). Some p) (sym told.same)))
           head.first;
+      headers = on_ok _ (TellTwice plan new.file.content) c.write_headers.result
+          (λ (both : (block new.file.content 0 ≡ c.spell_header.result) × (block new.file.content 1 ≡ c.spell_header.result)). record {
+            first = ap told_by both.0 ∙ c.spell_header.ensures ∙ ap (λ (p : Plan). Some p) (sym told.same);
+            second = ap told_by both.1 ∙ c.spell_header.ensures ∙ ap (λ (p : Plan). Some p) (sym told.same);
+          }) (on_ok_both _ _ c.write_headers.result head.first head.second);
       zeros = on_ok (block new.file.content 0 ≡ c.spell_header.result) (HoldsZeros plan new.file.content) c.write_headers.result
           (λ is. held new.file.content agrees) head.first;
-      begun = on_ok (block new.file.content 0 ≡ c.spell_header.result) (found plan.shape new.file.content 0 ≡ Some (record { number = 0; entries = [] }))
-          c.write_headers.result
-          (λ is. found_same plan.shape mid.file.content new.file.content 0
-          (area_same plan.shape mid.file.content new.file.content two inside agrees 0 (omega arith)) ∙ behind.begun)
-          head.first;
+      begun = on_ok (block new.file.content 0 ≡ c.spell_header.result) (AreBegun plan.shape new.file.content) c.write_headers.result
+          (λ is. begun_same plan.shape mid.file.content new.file.content two inside agrees behind.begun) head.first;
       synced = head.synced;
       any_moment = joined old mid new (λ c. (plan_told c ≡ plan_told old.file.content) ⊎ HoldsZeros plan c)
           (before_headers plan old mid (c.write_behind.ensures.within old.file.content old

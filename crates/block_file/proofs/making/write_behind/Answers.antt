@@ -9,8 +9,8 @@ use Rattle.block_journal.proofs.Crash.{block_of_run}
 use Rattle.block_journal.proofs.Placing.{inside_same}
 use Rattle.block_journal.proofs.Results.{on_ok}
 use Rattle.block_table.specs.Table.{table_count}
-use Rattle.block_file.specs.Making.{HoldsZeros, IsBehind, IsNewBlock}
-use Rattle.block_file.proofs.NewFile.{found_same, told_small, zeros_held}
+use Rattle.block_file.specs.Making.{AreBegun, HoldsZeros, IsBehind, IsNewBlock}
+use Rattle.block_file.proofs.NewFile.{both_begun, found_same, told_small, zeros_held}
 use Rattle.block_file.proofs.making.write_behind.Goals as goal
 
 pub overflow_sub-table : goal.overflow_sub-table
@@ -106,8 +106,9 @@ returns g c =
     record {
       zeros = on_ok (new.file ≡ after_sync mid.file) (HoldsZeros plan new.file.content) c.sync.result
           (λ ok. subst (λ (f : BlockFile). HoldsZeros plan f.content) (sym ok) zeros) done.ok;
-      begun = on_ok (new.file ≡ after_sync mid.file) (found shape new.file.content 0 ≡ Some (record { number = 0; entries = [] })) c.sync.result
-          (λ ok. ap (λ (f : BlockFile). found shape f.content 0) ok ∙ first) done.ok;
+      begun = on_ok (new.file ≡ after_sync mid.file) (AreBegun shape new.file.content) c.sync.result
+          (λ ok. subst (λ (f : BlockFile). AreBegun shape f.content) (sym ok)
+          (both_begun shape mid.file.content first c.in_ok-begin_area-2.ensures.begun)) done.ok;
       synced = on_ok (new.file ≡ after_sync mid.file) (IsSynced new.file) c.sync.result (λ ok. subst IsSynced (sym ok) (λ n. refl)) done.ok;
       size = holds_after_sync (λ f. length f.content ≡ length old.content) mid.file new.file c.sync.result done.ok done.err size size;
       within = λ image start from. within_sync IsBehind image start mid new (c.begin_area-2.ensures.within image start

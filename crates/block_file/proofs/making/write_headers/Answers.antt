@@ -20,6 +20,7 @@ returns-in_err-write g c =
     let wrote = c.write.ensures in
     rw (p.1 ∙ ap Err p.2) (record {
       first = tt;
+      second = tt;
       synced = tt;
       within = within_write (InRun 0 2) old.file.content old old mid
           (within_start (InRun 0 2) old.file.content old (synced_all (InRun 0 2) old.file c.requires.synced)) wrote.time 0 run c.write.result
@@ -41,6 +42,9 @@ returns g c =
       first = on_ok (new.file ≡ after_sync mid.file) (block new.file.content 0 ≡ header) c.sync.result
           (λ ok. ap (λ (f : BlockFile). block f.content 0) ok ∙ ap (λ (f : BlockFile). block f.content 0) c.in_ok-write.ensures.ok
           ∙ with_run_inside old.file.content 0 run 0 0 refl (omega arith) (omega (arith, c.requires.room))) done.ok;
+      second = on_ok (new.file ≡ after_sync mid.file) (block new.file.content 1 ≡ header) c.sync.result
+          (λ ok. ap (λ (f : BlockFile). block f.content 1) ok ∙ ap (λ (f : BlockFile). block f.content 1) c.in_ok-write.ensures.ok
+          ∙ with_run_inside old.file.content 0 run 1 1 refl (omega arith) (omega (arith, c.requires.room))) done.ok;
       synced = on_ok (new.file ≡ after_sync mid.file) (IsSynced new.file) c.sync.result (λ ok. subst IsSynced (sym ok) (λ n. refl)) done.ok;
       within = within_sync (InRun 0 2) old.file.content old mid new (within_write (InRun 0 2) old.file.content old old mid
           (within_start (InRun 0 2) old.file.content old (synced_all (InRun 0 2) old.file c.requires.synced)) wrote.time 0 run c.write.result

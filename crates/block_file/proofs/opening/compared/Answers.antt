@@ -42,6 +42,9 @@ returns-in-Ok-None g c =
       first = c.over.ensures.first ∙ ap (λ (f : BlockFile). f.content) done.reads.file;
       fits = λ n below. subst (λ (l : Image). IsFit plan.blocks l n) table
           (subst (λ (b : ℕ). IsFit b (kept_table h old) n) c.requires.blocks (sound n (omega arith) (omega (arith, below, c.requires.blocks))));
+      failures = c.over.ensures.failures ∙ c.in-Ok-None.ensures.counts.none;
+      offered = ap (λ (v : JournalValue g.row.B.Denot). v.offered) c.over.ensures.journal
+          ∙ ap (λ (v : JournalValue g.row.B.Denot). v.offered) journal;
       read = subst (λ (v : JournalValue g.row.B.Denot). OnlyReads (h old.journal.below) (h v.below)) (sym c.over.ensures.journal) done.reads;
       refused = tt;
       damaged = tt;
@@ -65,6 +68,8 @@ returns-in-Ok-Some g c =
       synced = tt;
       fits = tt;
       first = tt;
+      failures = tt;
+      offered = tt;
       read = tt;
       refused = subst (λ (b : g.row.B.Denot). OnlyReads (h old.journal.below) (h b)) (sym c.into_file.ensures) done.reads;
       damaged = λ n is.
@@ -87,6 +92,8 @@ returns-in-Err g c =
       synced = tt;
       fits = tt;
       first = tt;
+      failures = tt;
+      offered = tt;
       read = tt;
       refused = subst (λ (b : g.row.B.Denot). OnlyReads (h c.args.checked.journal.below) (h b)) (sym c.into_file-in-Err.ensures)
           c.check.ensures.reads;

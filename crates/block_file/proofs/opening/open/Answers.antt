@@ -1,12 +1,14 @@
-use Rattle.std.proofs.Common.{◌≡◌, inl, inr, ℕ, ◌<◌, None, Some, sym, ◌∙◌, ap, subst}
+use Rattle.std.proofs.Common.{◌≡◌, inl, inr, ℕ, ◌<◌, List, None, Some, sym, ◌∙◌, ap, subst, arith}
 use Rattle.std.proofs.lemmas.Result.{IfErr-weaker}
 use Rattle.sector_device.specs.DevicePast.{Rises}
 use Rattle.block_device.specs.Blocks.{Image, BlockFile, block}
 use Rattle.block_device.proofs.Images.{content_is_image}
 use Rattle.block_device.proofs.Moments.{at_end}
 use Rattle.block_device.specs.BlocksPast.{BlocksPast}
-use Rattle.block_journal.specs.Layout.{IsInside, found, recovered}
-use Rattle.block_journal.specs.Journal.{StaysRecovered}
+use Rattle.block_batch.specs.Batch.{Batch}
+use Rattle.block_journal.specs.Layout.{IsHonest, IsInside, found, recovered}
+use Rattle.block_journal.specs.Journal.{AreInAreas, LeavesBefore, StaysRecovered}
+use Rattle.block_journal.proofs.Before.{before_read}
 use Rattle.block_table.specs.Checked.{CheckedValue, settled_table}
 use Rattle.block_table.specs.Table.{EachFits, IsFirstUnfit, data_of}
 use Rattle.block_table.proofs.Contents.{stays_read}
@@ -16,7 +18,7 @@ use Rattle.block_file.specs.Disks.{disk_past, first_content, journal_in}
 use Rattle.block_file.specs.Header.{plan_told}
 use Rattle.block_file.proofs.Heading.{still_told}
 use Rattle.block_file.specs.Sectors.{sectors_of}
-use Rattle.block_file.proofs.Openings.{if_ok, reads_recovered, same_plan, stays_then}
+use Rattle.block_file.proofs.Openings.{before_then, if_ok, reads_before, reads_recovered, same_plan, stays_then}
 use Rattle.block_file.proofs.opening.open.Goals as goal
 
 pub returns-then-not-has_room-clause-refused : goal.returns-then-not-has_room-clause-refused
@@ -118,7 +120,13 @@ returns-in-Err g c =
       content = tt;
       synced = tt;
       fits = tt;
+      failures = tt;
+      honest = tt;
+      found = tt;
       any_moment = tt;
+      headers = tt;
+      left_alone = λ _. c.in-Err.ensures.reads;
+      headers_refused = λ p told. reads_before p.shape (h c.args.below) (h c.read_plan.new.below) c.requires c.in-Err.ensures.reads;
       refused = λ p told inside. reads_recovered p.shape (h c.args.below) (h c.read_plan.new.below) c.requires c.in-Err.ensures.reads;
       damaged = λ n is. absurd (c.in-Err.ensures.undamaged n is);
       no_header = c.in-Err.ensures.none;
@@ -183,3 +191,101 @@ pub returns-in-Err-open-clause-failed : goal.returns-in-Err-open-clause-failed
 returns-in-Err-open-clause-failed g c = λ is.
     subst (λ (a : ℕ). Rises a (g.B.Blocks.failures c.in-Err-open.refused.file)) c.in-Ok.ensures.quiet
     (c.in-Err-open.ensures.failed (c.error_of.ensures.failed is))
+
+-- ---- the headers, and a file without a plan
+
+pub returns-then-not-has_room-clause-headers_refused : goal.returns-then-not-has_room-clause-headers_refused
+returns-then-not-has_room-clause-headers_refused g c = λ p told.
+    reads_before p.shape (g.B.Blocks.past_of c.args.below) (g.B.Blocks.past_of c.read_plan.new.below) c.requires c.in-Ok.ensures.reads
+
+pub returns-then-not-has_room-clause-left_alone : goal.returns-then-not-has_room-clause-left_alone
+returns-then-not-has_room-clause-left_alone g c = λ _. c.in-Ok.ensures.reads
+
+pub returns-in-Ok-open-clause-headers : goal.returns-in-Ok-open-clause-headers
+returns-in-Ok-open-clause-headers g c =
+    let h = g.B.Blocks.past_of in
+    let plan : Plan = c.in-Ok.plan in
+    let checked : CheckedValue g.row.B.Denot = c.in-Ok-open.checked in
+    let old : BlocksPast = h c.args.below in
+    let mid : BlocksPast = h c.read_plan.new.below in
+    let reads = c.in-Ok.ensures.reads in
+    let first = reads_before plan.shape old mid c.requires reads in
+    if_ok c.compared.result _ _ _
+    (λ d is read. subst (λ (p : Plan). LeavesBefore p.shape old (h (journal_in d.now).below)) (sym is)
+    (before_then plan.shape old mid (h (journal_in d.now).below) reads.file first
+    (before_read plan.shape mid (h checked.journal.below) (h (journal_in d.now).below) c.in-Ok-open.ensures.before read)))
+    c.compared.ensures.plan c.compared.ensures.read
+
+pub returns-in-Ok-open-clause-headers_refused : goal.returns-in-Ok-open-clause-headers_refused
+returns-in-Ok-open-clause-headers_refused g c =
+    let h = g.B.Blocks.past_of in
+    let plan : Plan = c.in-Ok.plan in
+    let checked : CheckedValue g.row.B.Denot = c.in-Ok-open.checked in
+    let old : BlocksPast = h c.args.below in
+    let mid : BlocksPast = h c.read_plan.new.below in
+    let reads = c.in-Ok.ensures.reads in
+    let first = reads_before plan.shape old mid c.requires reads in
+    IfErr-weaker c.compared.result _ _
+    (λ e read p told. subst (λ (q : Plan). LeavesBefore q.shape old (h e.file)) (same_plan _ plan p c.in-Ok.ensures.told told)
+    (before_then plan.shape old mid (h e.file) reads.file first
+    (before_read plan.shape mid (h checked.journal.below) (h e.file) c.in-Ok-open.ensures.before read)))
+    c.compared.ensures.refused
+
+pub returns-in-Err-open-clause-headers_refused : goal.returns-in-Err-open-clause-headers_refused
+returns-in-Err-open-clause-headers_refused g c = λ p told.
+    let h = g.B.Blocks.past_of in
+    let plan : Plan = c.in-Ok.plan in
+    let old : BlocksPast = h c.args.below in
+    let mid : BlocksPast = h c.read_plan.new.below in
+    let reads = c.in-Ok.ensures.reads in
+    let new : BlocksPast = h c.in-Err-open.refused.file in
+    subst (λ (q : Plan). LeavesBefore q.shape old new) (same_plan _ plan p c.in-Ok.ensures.told told)
+    (before_then plan.shape old mid new reads.file (reads_before plan.shape old mid c.requires reads) c.in-Err-open.ensures.before_refused)
+
+pub returns-in-Ok-open-clause-left_alone : goal.returns-in-Ok-open-clause-left_alone
+returns-in-Ok-open-clause-left_alone g c =
+    let h = g.B.Blocks.past_of in
+    let plan : Plan = c.in-Ok.plan in
+    let inside = subst (λ (f : BlockFile). IsInside plan.shape f.content) c.in-Ok.ensures.reads.file
+    (c.has_room.ensures.room c.if-not-has_room.false) in
+    IfErr-weaker c.compared.result _ _ (λ e read none. absurd (none plan c.in-Ok.ensures.told inside)) c.compared.ensures.refused
+
+pub returns-in-Err-open-clause-left_alone : goal.returns-in-Err-open-clause-left_alone
+returns-in-Err-open-clause-left_alone g c = λ none.
+    let h = g.B.Blocks.past_of in
+    let plan : Plan = c.in-Ok.plan in
+    let inside = subst (λ (f : BlockFile). IsInside plan.shape f.content) c.in-Ok.ensures.reads.file
+    (c.has_room.ensures.room c.if-not-has_room.false) in
+    absurd (none plan c.in-Ok.ensures.told inside)
+
+-- ---- the count of failures, and the batches that were found
+
+pub returns-in-Ok-open-clause-failures : goal.returns-in-Ok-open-clause-failures
+returns-in-Ok-open-clause-failures g c =
+    let opened = c.in-Ok-open.ensures in
+    let quiet = c.in-Ok.ensures.quiet in
+    if_ok c.compared.result _ _ _ (λ d _ is. omega (arith, is, opened.quiet, opened.unrefused, quiet)) c.compared.ensures.plan c.compared.ensures.failures
+
+pub returns-in-Ok-open-clause-honest : goal.returns-in-Ok-open-clause-honest
+returns-in-Ok-open-clause-honest g c =
+    let plan : Plan = c.in-Ok.plan in
+    let checked : CheckedValue g.row.B.Denot = c.in-Ok-open.checked in
+    let old : Image = (g.B.Blocks.past_of c.args.below).file.content in
+    let honest = subst (λ (f : BlockFile). IsHonest checked.journal.offered plan.shape f.content) c.in-Ok.ensures.reads.file
+    c.in-Ok-open.ensures.honest in
+    if_ok c.compared.result _ _ _
+    (λ d is same. subst (λ (p : Plan). IsHonest (journal_in d.now).offered p.shape old) (sym is)
+    (subst (λ (l : List Batch). IsHonest l plan.shape old) (sym same) honest))
+    c.compared.ensures.plan c.compared.ensures.offered
+
+pub returns-in-Ok-open-clause-found : goal.returns-in-Ok-open-clause-found
+returns-in-Ok-open-clause-found g c =
+    let plan : Plan = c.in-Ok.plan in
+    let checked : CheckedValue g.row.B.Denot = c.in-Ok-open.checked in
+    let old : Image = (g.B.Blocks.past_of c.args.below).file.content in
+    let known = subst (λ (f : BlockFile). AreInAreas plan.shape f.content checked.journal.offered) c.in-Ok.ensures.reads.file
+    c.in-Ok-open.ensures.found in
+    if_ok c.compared.result _ _ _
+    (λ d is same. subst (λ (p : Plan). AreInAreas p.shape old (journal_in d.now).offered) (sym is)
+    (subst (λ (l : List Batch). AreInAreas plan.shape old l) (sym same) known))
+    c.compared.ensures.plan c.compared.ensures.offered

@@ -12,6 +12,7 @@ returns-in_err-n g c =
     rw (p.1 ∙ ap Err p.2) (record {
       damaged = tt;
       fit = tt;
+      failed = done.failed;
       rest = done.rest;
       reads = done.reads;
       counts = done.counts;
@@ -32,6 +33,7 @@ returns-in-Some g c =
     record {
       damaged = first_sector p kept from n unfit c.first_in.result first.from first.low first.here first.before;
       fit = no_sector p kept from n unfit c.first_in.result first.none;
+      failed = tt;
       rest = done.rest;
       reads = done.reads;
       counts = record { later = omega (arith, done.counts.later); none = done.counts.none; failed = tt };
@@ -49,6 +51,7 @@ returns-in-None g c =
       damaged = tt;
       fit = λ n behind low. subst (λ (b : ℕ). IsFit b kept ((n + p.lead) / 8)) c.requires.blocks
           (sound ((n + p.lead) / 8) (omega (arith, behind)) (omega (arith, low, c.requires.plan.room, c.requires.blocks)));
+      failed = tt;
       rest = done.rest;
       reads = done.reads;
       counts = record { later = omega (arith, done.counts.later); none = done.counts.none; failed = tt };

@@ -1,4 +1,4 @@
-use Rattle.std.proofs.Common.{◌≡◌, ◌*◌, [], Err, Some, length, refl, sym, ◌∙◌, ap, subst, arith}
+use Rattle.std.proofs.Common.{◌≡◌, ℕ, ◌<◌, ◌*◌, [], Err, Some, length, refl, sym, ◌∙◌, ap, subst, arith}
 use Rattle.std.proofs.lemmas.Result.{err_from_is_err_and}
 use Rattle.sector_device.proofs.Counts.{counts_later}
 use Rattle.block_device.specs.Blocks.{Image, BlockFile, InRun, IsSynced, after_sync}
@@ -8,6 +8,7 @@ use Rattle.block_batch.specs.Replay.{pending}
 use Rattle.block_journal.specs.Layout.{found, found_in, kept_of, recovered}
 use Rattle.block_journal.proofs.Results.{on_ok}
 use Rattle.block_journal.proofs.Placing.{inside_same}
+use Rattle.block_journal.proofs.Beginning.{both_begun}
 use Rattle.block_journal.proofs.clearing.clear.Goals as goal
 
 pub clear_area-requires-2 : goal.clear_area-requires-2
@@ -21,6 +22,7 @@ returns-in_err-clear_area g c =
     let p = err_from_is_err_and c.from_residual.result c.from_residual.ensures.1 in
     rw (p.1 ∙ ap Err p.2) (record {
       recovered = tt;
+      begun = tt;
       synced = tt;
       kept = c.clear_area.ensures.kept;
       size = c.clear_area.ensures.size;
@@ -33,6 +35,7 @@ returns-in_err-clear_area-2 g c =
     let p = err_from_is_err_and c.from_residual-in_err-clear_area-2.result c.from_residual-in_err-clear_area-2.ensures.1 in
     rw (p.1 ∙ ap Err p.2) (record {
       recovered = tt;
+      begun = tt;
       synced = tt;
       kept = c.clear_area-2.ensures.kept ∙ c.clear_area.ensures.kept;
       size = c.clear_area-2.ensures.size ∙ c.clear_area.ensures.size;
@@ -56,6 +59,8 @@ returns g c =
     record {
       recovered = on_ok (new ≡ after_sync mid) (recovered shape new.content ≡ kept_of shape start) c.sync.result
           (λ ok. ap (λ (f : BlockFile). recovered shape f.content) ok ∙ stands ∙ kept) c.sync.ensures.ok;
+      begun = on_ok (new ≡ after_sync mid) ((a : ℕ) → a < 2 → found shape new.content a ≡ Some (record { number = a; entries = [] })) c.sync.result
+          (λ ok a low. ap (λ (f : BlockFile). found shape f.content a) ok ∙ both_begun shape mid.content first second a low) c.sync.ensures.ok;
       synced = on_ok (new ≡ after_sync mid) (IsSynced new) c.sync.result (λ ok. subst IsSynced (sym ok) (λ n. refl)) c.sync.ensures.ok;
       kept = holds_after_sync (λ f. kept_of shape f.content ≡ kept_of shape start) mid new c.sync.result c.sync.ensures.ok c.sync.ensures.err kept kept;
       size = holds_after_sync (λ f. length f.content ≡ length start) mid new c.sync.result c.sync.ensures.ok c.sync.ensures.err size size;

@@ -10,6 +10,7 @@ returns g c =
     record {
       damaged = done.damaged;
       fit = done.fit;
+      failed = done.failed;
       disk = done.disk;
       plan = done.plan;
       time = done.time;

@@ -7,5 +7,6 @@ returns g c =
       each = c.self.invariant.each;
       now = c.self.invariant.kept.now;
       offers = c.self.invariant.offers;
+      headers = c.self.invariant.before;
       told = tells_still g.B.Blocks.past_of c.self.inside.parts c.self.invariant.before;
     })

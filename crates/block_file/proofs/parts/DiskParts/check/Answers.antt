@@ -41,6 +41,7 @@ returns g c =
     record {
       damaged = done.damaged;
       fit = done.fit;
+      failed = done.failed;
       disk = disk;
       plan = refl;
       time = disk_elapses h d n refl c.and-self.ensures;

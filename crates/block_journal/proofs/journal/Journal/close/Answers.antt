@@ -16,6 +16,8 @@ returns g c =
       settled = either_result _ r
           (on_ok _ _ r (λ ok. ok ∙ ap (λ (l : List Entry). replayed l (settled_of past_of old)) c.requires) done.ok) done.err;
       none = either_result _ r done.none (on_err _ _ r (λ kept. kept ∙ c.requires) done.kept);
+      last = done.last;
+      last_stays = done.last_stays;
       synced = done.synced;
       sound = done.sound;
       failed = done.failed;

@@ -8,4 +8,6 @@ returns g c =
       inside = c.self.invariant.inside;
       synced = λ good. (c.self.invariant.ready good).synced;
       survives = λ good image crash honest. ready_stands g.B.Blocks.past_of (value_of c.self.inside.parts) (c.self.invariant.ready good) image crash honest;
+      last = λ good. (c.self.invariant.ready good).known.has_last;
+      latest = λ good. (c.self.invariant.ready good).known.none_later;
     })

@@ -16,6 +16,7 @@ returns g c =
       areas = done.areas;
       settled = done.settled;
       none = done.none;
+      sound = done.sound;
       synced = done.synced;
       failed = done.failed;
       any_moment = done.any_moment;
@@ -24,6 +25,7 @@ returns g c =
       refused = done.refused;
       shape = done.shape;
       blocks = refl;
+      fails = done.fails;
       counts = done.counts;
     })
 

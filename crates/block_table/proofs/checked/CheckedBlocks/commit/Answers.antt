@@ -10,6 +10,7 @@ returns g c =
       ok = done.ok;
       none = done.none;
       sound = done.sound;
+      synced = done.synced;
       err = done.err;
       kept = done.kept;
       failed = done.failed;
@@ -19,6 +20,7 @@ returns g c =
       refused = done.refused;
       shape = done.shape;
       blocks = refl;
+      fails = done.fails;
       counts = done.counts;
     })
 
