@@ -11,7 +11,7 @@ fn encode<A: Allocator>(record: &Record, bytes: &mut Vec<u8, A>) -> Result<(), E
     record.encode_into(bytes)
 }
 
-fn decode(bytes: &[u8]) -> Option<(Record, usize)> {
+pub(crate) fn decode(bytes: &[u8]) -> Option<(Record, usize)> {
     Record::decode(bytes)
 }
 
@@ -26,7 +26,7 @@ fn shown(alloc: Global, record: &Record) -> Result<String, AllocError> {
 
 // The vectors of the format document, and which records they are. Transaction 1 inserts a row at the first place, and
 // commits; an index is created; and the builder puts in a pair.
-static RECORDS: [(&[u8], &str); 4] = [
+pub(crate) static RECORDS: [(&[u8], &str); 4] = [
     (
         b"\0\0\0\0\0\0\0\x01\0\0\0\0\0\0\0\x01\x01\0\0\0\0\0\0\0\0\x01\x03\x61\x6e\x74\x01\x78",
         "Record { number: RecordNumber { number: 1 }, action: OfTxn { txn: Txn { number: 1 }, \
@@ -50,7 +50,7 @@ static RECORDS: [(&[u8], &str); 4] = [
 ];
 
 // Whether the record is shown so.
-fn is_shown(alloc: Global, record: &Record, text: &str) -> Result<bool, AllocError> {
+pub(crate) fn is_shown(alloc: Global, record: &Record, text: &str) -> Result<bool, AllocError> {
     let shown = shown(alloc, record)?;
     let is_same = shown.as_str() == text;
     drop(shown);
