@@ -1,6 +1,7 @@
 //! Tests of the parts of the core: the rows in their pages (`heap_pages`), the active transactions (`txn_table`), the
 //! builder's scan (`sorted_scan`), the tree of the entries (`btree_node`), the entries with their marks
-//! (`marked_index`), and the core (`nsf_core`) where it takes no memory.
+//! (`marked_index`); and where they take no memory the core (`nsf_core`), a disk in memory (`sector_device`) and the
+//! words that threads share (`board`).
 //!
 //! Proved of them is safety. Each allocation is refused in turn. The calls that take no memory are made where the next
 //! allocation would be refused, and counted.

@@ -1,73 +1,89 @@
 // Each part is used with each of its allocations refused in turn: it wants memory just where one was refused.
-use crate::quiet_tests::hand_out;
-use crate::values::{pair_of, row_of};
+use crate::quiet_tests::{hand_out, set_row};
+use crate::values::{claim, claim_at, pair_of, row_of};
 use heap_pages::Heap;
 use marked_index::MarkedIndex;
 use records::{Change, Error, Geometry, Mark, Pair, Rid, Rows, SLOTS_PER_PAGE};
 use sorted_scan::Scan;
-use std::alloc::Allocator;
+use std::alloc::{Allocator, Global};
 use std::process::Abort;
-use std::test::Fail;
 use test_memory::Refusing;
 use txn_table::TxnTable;
 
 // How often a part is used at most.
 const PLAYS: u64 = 2_000;
 
-// A scan of a heap of one page, which has taken its pairs.
-pub(crate) fn scan_rows<A: Allocator + Copy>(
+// A scan takes the pairs of a heap of one page.
+pub(crate) fn take_page<A: Allocator + Copy>(
     rt: &impl Abort,
-    memory: A,
     heap: &Heap<A>,
-) -> Result<Scan<A>, Error> {
-    let mut scan = Scan::new(memory, None, 1);
+    scan: &mut Scan<A>,
+) -> Result<(), Error> {
     assert!(rt; heap.pages() == 1 && scan.wants_page() == Some(0));
     let pairs = heap.page_pairs(0)?;
-    scan.take_page(0, &pairs)?;
-    Ok(scan)
+    let taken = scan.take_page(0, &pairs);
+    drop(pairs);
+    taken
 }
 
 fn fill_page<A: Allocator + Copy>(rt: &impl Abort, heap: &mut Heap<A>) -> Result<(), Error> {
     for slot in 0..SLOTS_PER_PAGE {
-        assert!(rt; heap.pages() == 1);
-        let rid = Rid { page: 0, slot };
-        heap.set(rid, Some(row_of(u32::from(slot))?));
+        let row = row_of(u32::from(slot))?;
+        set_row(rt, heap, Rid { page: 0, slot }, Some(row));
     }
     Ok(())
 }
 
-fn scan_all<A: Allocator + Copy>(rt: &impl Abort, memory: A, heap: &Heap<A>) -> Result<(), Error> {
-    let mut scan = scan_rows(rt, memory, heap)?;
-    for _ in 0..SLOTS_PER_PAGE {
-        assert!(rt; hand_out(&mut scan).is_some());
+// How many pairs the scan hands out, up to those of a page and one more.
+fn handed_out<A: Allocator + Copy>(scan: &mut Scan<A>) -> u16 {
+    for pairs in 0..=SLOTS_PER_PAGE {
+        if hand_out(scan).is_none() {
+            return pairs;
+        }
     }
-    assert!(rt; hand_out(&mut scan).is_none());
+    u16::MAX
+}
+
+fn scan_all<A: Allocator + Copy>(rt: &impl Abort, memory: A, heap: &Heap<A>) -> Result<(), Error> {
+    let mut scan = Scan::new(memory, None, 1);
+    let taken = take_page(rt, heap, &mut scan);
+    let pairs = handed_out(&mut scan);
     drop(scan);
-    Ok(())
+    claim(
+        rt,
+        taken.is_err() || pairs == SLOTS_PER_PAGE,
+        "a pair of each slot",
+    );
+    taken
+}
+
+fn fill_and_scan<A: Allocator + Copy>(
+    rt: &impl Abort,
+    memory: A,
+    heap: &mut Heap<A>,
+) -> Result<(), Error> {
+    fill_page(rt, heap)?;
+    scan_all(rt, memory, heap)
 }
 
 // Fills a page, whose pairs come from a scan then.
 fn scan_page<A: Allocator + Copy>(rt: &impl Abort, memory: A) -> Result<(), Error> {
     let mut heap = Heap::new(memory, 1)?;
-    let scanned = fill_page(rt, &mut heap).and_then(|()| scan_all(rt, memory, &heap));
+    let scanned = fill_and_scan(rt, memory, &mut heap);
     drop(heap);
     scanned
 }
 
-fn change_in<A: Allocator + Copy>(table: &mut TxnTable<A>) -> Result<(), Error> {
+fn change_in<A: Allocator + Copy>(table: &mut TxnTable<A>, rows: &Rows) -> Result<(), Error> {
     for page in 0..4u32 {
         let txn = table.begin()?;
         for position in 0..9u8 {
-            let rid = Rid {
-                page,
-                slot: u16::from(position),
-            };
-            let new = row_of(page)?;
-            let rows = Rows::Inserted { new };
+            let slot = u16::from(position);
+            let rid = Rid { page, slot };
             let change = Change {
                 position,
                 rid,
-                rows,
+                rows: *rows,
             };
             table.note(txn, change)?;
         }
@@ -77,8 +93,9 @@ fn change_in<A: Allocator + Copy>(table: &mut TxnTable<A>) -> Result<(), Error> 
 
 // Four transactions make nine changes each.
 fn change_rows<A: Allocator + Copy>(memory: A) -> Result<(), Error> {
+    let new = row_of(0)?;
     let mut table = TxnTable::new(memory);
-    let changed = change_in(&mut table);
+    let changed = change_in(&mut table, &Rows::Inserted { new });
     drop(table);
     changed
 }
@@ -98,6 +115,34 @@ fn add_entry<A: Allocator + Copy>(
     }
 }
 
+fn has<A: Allocator + Copy>(index: &MarkedIndex<A>, pair: &Pair) -> bool {
+    index.get(pair).is_some()
+}
+
+fn pledge_and_add<A: Allocator + Copy>(
+    rt: &impl Abort,
+    index: &mut MarkedIndex<A>,
+    number: u32,
+    pair: &Pair,
+) -> Result<(), Error> {
+    index.pledge()?;
+    add_entry(rt, index, number, pair)?;
+    claim(rt, has(index, pair), "an entry that was added");
+    Ok(())
+}
+
+// How many places are shown of a key.
+fn shown_of<A: Allocator + Copy>(
+    memory: A,
+    index: &MarkedIndex<A>,
+    pair: &Pair,
+) -> Result<usize, Error> {
+    let shown = index.shown_of(memory, pair.key)?;
+    let places = shown.len();
+    drop(shown);
+    Ok(places)
+}
+
 fn add_to<A: Allocator + Copy>(
     rt: &impl Abort,
     memory: A,
@@ -105,18 +150,21 @@ fn add_to<A: Allocator + Copy>(
 ) -> Result<(), Error> {
     for number in 0..34u32 {
         let pair = pair_of(number)?;
-        index.pledge()?;
-        add_entry(rt, index, number, &pair)?;
-        assert!(rt; index.get(&pair).is_some());
+        pledge_and_add(rt, index, number, &pair)?;
     }
-    let shown = index.shown_of(memory, pair_of(0)?.key)?;
-    assert!(rt; shown.len() == 1);
+    let pair = pair_of(0)?;
+    claim(
+        rt,
+        shown_of(memory, index, &pair)? == 1,
+        "one place of a key",
+    );
     Ok(())
 }
 
 // Each way to add an entry, by turns; then the shown ones of a key are listed.
 fn add_entries<A: Allocator + Copy>(rt: &impl Abort, memory: A) -> Result<(), Error> {
-    let mut index = MarkedIndex::new(memory, Geometry::new(1, 256, 4)?);
+    let geometry = Geometry::new(1, 256, 4)?;
+    let mut index = MarkedIndex::new(memory, geometry);
     let added = add_to(rt, memory, &mut index);
     drop(index);
     added
@@ -130,24 +178,40 @@ fn use_part<A: Allocator + Copy>(rt: &impl Abort, memory: A, part: u8) -> Result
     }
 }
 
-#[test]
-fn each_allocation_is_refused(rt: HostRuntime) -> Result<(), Fail> {
-    for part in 0..3 {
-        let mut refusals = 0;
-        for before in 0..PLAYS {
-            let memory = Refusing::new(rt.alloc(), before);
-            let used = use_part(&rt, &memory, part);
-            if memory.refused() == 0 {
-                assert!(rt; used == Ok(()), "part {part}");
-                break;
-            }
-            assert!(rt; used == Err(Error::NoMemory), "part {part}");
-            refusals = before;
+// Uses a part with this allocation refused. Whether it was.
+fn is_refused(rt: &impl Abort, alloc: Global, part: u8, before: u64) -> bool {
+    let memory = Refusing::new(alloc, before);
+    let used = use_part(rt, &memory, part);
+    let is_refused = memory.refused() > 0;
+    drop(memory);
+    let wanted = if is_refused {
+        Err(Error::NoMemory)
+    } else {
+        Ok(())
+    };
+    claim_at(
+        rt,
+        used == wanted,
+        "a want of memory just where it is refused, of part",
+        u32::from(part),
+    );
+    is_refused
+}
+
+// How many allocations of a part are refused in turn, until none is.
+fn refusals_of(rt: &impl Abort, alloc: Global, part: u8) -> u64 {
+    for before in 0..PLAYS {
+        if !is_refused(rt, alloc, part, before) {
+            return before;
         }
-        assert!(rt;
-            2 < refusals && refusals < PLAYS - 1,
-            "{refusals} of part {part}"
-        );
     }
-    Ok(())
+    0
+}
+
+#[test]
+fn each_allocation_is_refused(rt: HostRuntime) {
+    for part in 0..3 {
+        let refusals = refusals_of(&rt, rt.alloc(), part);
+        claim_at(&rt, refusals > 3, "allocations of part", u32::from(part));
+    }
 }

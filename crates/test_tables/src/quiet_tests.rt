@@ -1,16 +1,19 @@
 // The calls that take no memory. Each is made where the next allocation would be refused, and counted.
-use crate::memory_tests::scan_rows;
+ghost use Rattle.std.specs.Prelude.{◌≡◌};
+
+use crate::memory_tests::take_page;
 use crate::tree_tests::{found, put, put_quietly, take};
-use crate::values::{Memory, RID, pair_of, row_of};
+use crate::values::{Memory, RID, claim, claim_at, pair_of, row_of};
+use board::{Board, BuildView, FlushView, View};
 use btree_node::BTree;
 use heap_pages::{Heap, HeapPage};
 use marked_index::MarkedIndex;
 use nsf_core::{Core, Owed};
 use records::{Change, Error, Geometry, Mark, Pair, Rid, Row, Rows, Txn};
+use sector_device::{Device, MemDisk, SECTOR_SIZE};
 use sorted_scan::Scan;
-use std::alloc::Allocator;
+use std::alloc::{Allocator, Global};
 use std::process::Abort;
-use std::test::Fail;
 use test_memory::Refusing;
 use txn_table::TxnTable;
 
@@ -25,37 +28,45 @@ fn row_in_slot(page: &HeapPage) -> Option<Row> {
     page.get(5)
 }
 
-fn use_page(rt: &impl Abort) -> Result<(), Error> {
+fn use_page(rt: &impl Abort, row: Option<Row>) {
     let mut page = HeapPage::new();
-    set_slot(&mut page, Some(row_of(7)?));
-    assert!(rt; row_in_slot(&page) == Some(row_of(7)?));
-    Ok(())
+    set_slot(&mut page, row);
+    claim(rt, row_in_slot(&page) == row, "a row of a page");
 }
 
-fn set_row<A: Allocator + Copy>(rt: &impl Abort, heap: &mut Heap<A>, row: Option<Row>) {
-    assert!(rt; RID.page < heap.pages());
-    heap.set(RID, row);
+pub(crate) fn set_row<A: Allocator + Copy>(
+    rt: &impl Abort,
+    heap: &mut Heap<A>,
+    rid: Rid,
+    row: Option<Row>,
+) {
+    assert!(rt; rid.page < heap.pages());
+    heap.set(rid, row);
 }
 
 fn row_in<A: Allocator + Copy>(heap: &Heap<A>) -> Option<Row> {
     heap.get(RID)
 }
 
-fn set_and_clear<A: Allocator + Copy>(rt: &impl Abort, heap: &mut Heap<A>) -> Result<(), Error> {
-    let row = Some(row_of(7)?);
-    set_row(rt, heap, row);
-    assert!(rt; row_in(heap) == row);
-    set_row(rt, heap, None);
-    assert!(rt; row_in(heap).is_none());
-    Ok(())
+// Puts it in place, or takes it away.
+fn set_and_get<A: Allocator + Copy>(rt: &impl Abort, heap: &mut Heap<A>, row: Option<Row>) {
+    set_row(rt, heap, RID, row);
+    claim(rt, row_in(heap) == row, "a row of a heap");
 }
 
-fn use_heap<A: Allocator + Copy>(rt: &impl Abort, memory: &Memory, within: A) -> Result<(), Error> {
+fn use_heap<A: Allocator + Copy>(
+    rt: &impl Abort,
+    memory: &Memory,
+    within: A,
+    row: &Row,
+) -> Result<(), Error> {
     let mut heap = Heap::new(within, 1)?;
     memory.refuse_after(0);
-    let used = use_page(rt).and_then(|()| set_and_clear(rt, &mut heap));
+    use_page(rt, Some(*row));
+    set_and_get(rt, &mut heap, Some(*row));
+    set_and_get(rt, &mut heap, None);
     drop(heap);
-    used
+    Ok(())
 }
 
 fn mark<A: Allocator + Copy>(rt: &impl Abort, tree: &mut BTree<A>, pair: &Pair) {
@@ -67,22 +78,42 @@ fn above<A: Allocator + Copy>(tree: &BTree<A>, pair: &Pair) -> Option<(Pair, Mar
     tree.above(Some(pair))
 }
 
+// The last pair of a tree of two levels, and the one before: it is found, marked and taken out, and one leaf is left.
+fn join<A: Allocator + Copy>(rt: &impl Abort, tree: &mut BTree<A>, pair: &Pair, before: &Pair) {
+    claim(
+        rt,
+        found(tree, pair) == (Some(Mark::Live), 2),
+        "a pair on the second level",
+    );
+    mark(rt, tree, pair);
+    let next = above(tree, before);
+    claim(
+        rt,
+        next == Some((*pair, Mark::Marked)),
+        "a pair that is marked",
+    );
+    take(rt, tree, pair);
+    claim(rt, above(tree, before).is_none(), "a pair that is gone");
+    claim(rt, tree.len() == 32, "32 pairs");
+}
+
+fn fill_leaf<A: Allocator + Copy>(rt: &impl Abort, tree: &mut BTree<A>) -> Result<(), Error> {
+    for number in 0..32u32 {
+        put(rt, tree, number)?;
+    }
+    Ok(())
+}
+
 // The pair that is put last splits a leaf, and with it the tree gets a root. Its removal makes them one leaf again.
 fn split_and_join<A: Allocator + Copy>(
     rt: &impl Abort,
     memory: &Memory,
     tree: &mut BTree<A>,
 ) -> Result<(), Error> {
-    for number in 0..32u32 {
-        put(rt, tree, number)?;
-    }
     let (pair, before) = (pair_of(32)?, pair_of(31)?);
-    put_quietly(rt, tree, &pair, Some(memory))?;
-    assert!(rt; found(tree, &pair) == (Some(Mark::Live), 2));
-    mark(rt, tree, &pair);
-    assert!(rt; above(tree, &before) == Some((pair, Mark::Marked)));
-    take(rt, tree, &pair);
-    assert!(rt; tree.len() == 32 && above(tree, &before).is_none());
+    fill_leaf(rt, tree)?;
+    put_quietly(rt, tree, &pair, memory)?;
+    join(rt, tree, &pair, &before);
     Ok(())
 }
 
@@ -110,8 +141,7 @@ fn mark_new<A: Allocator + Copy>(
     pair: &Pair,
 ) -> Result<(), Error> {
     assert!(rt; 0 < index.pledged());
-    index.txn_mark(pair)?;
-    Ok(())
+    index.txn_mark(pair).and(Ok(()))
 }
 
 fn is_marked<A: Allocator + Copy>(index: &MarkedIndex<A>, pair: &Pair) -> bool {
@@ -122,23 +152,28 @@ fn clean<A: Allocator + Copy>(index: &mut MarkedIndex<A>, pair: &Pair) -> bool {
     index.clean(pair, true)
 }
 
-fn new_index<A: Allocator + Copy>(within: A) -> Result<MarkedIndex<A>, Error> {
-    Ok(MarkedIndex::new(within, Geometry::new(1, 64, 4)?))
+fn pledge_and_mark<A: Allocator + Copy>(
+    rt: &impl Abort,
+    index: &mut MarkedIndex<A>,
+    pair: &Pair,
+) -> Result<(), Error> {
+    pledge(rt, index)?;
+    mark_new(rt, index, pair)
 }
 
 fn mark_quietly<A: Allocator + Copy>(
     rt: &impl Abort,
     memory: &Memory,
     index: &mut MarkedIndex<A>,
+    pair: &Pair,
 ) -> Result<(), Error> {
-    let pair = pair_of(7)?;
-    pledge(rt, index)?;
-    mark_new(rt, index, &pair)?;
+    pledge_and_mark(rt, index, pair)?;
     memory.refuse_after(0);
     pledge(rt, index)?;
     release(rt, index);
-    assert!(rt; is_marked(index, &pair));
-    assert!(rt; clean(index, &pair) && index.is_empty());
+    claim(rt, is_marked(index, pair), "a marked entry");
+    claim(rt, clean(index, pair), "an entry that is taken out");
+    claim(rt, index.is_empty(), "an empty index");
     Ok(())
 }
 
@@ -146,9 +181,11 @@ fn use_index<A: Allocator + Copy>(
     rt: &impl Abort,
     memory: &Memory,
     within: A,
+    pair: &Pair,
 ) -> Result<(), Error> {
-    let mut index = new_index(within)?;
-    let used = mark_quietly(rt, memory, &mut index);
+    let geometry = Geometry::new(1, 64, 4)?;
+    let mut index = MarkedIndex::new(within, geometry);
+    let used = mark_quietly(rt, memory, &mut index, pair);
     drop(index);
     used
 }
@@ -172,22 +209,22 @@ fn end<A: Allocator + Copy>(table: &mut TxnTable<A>, txn: Txn) -> Result<(), Err
     table.end(txn)
 }
 
+fn undo<A: Allocator + Copy>(rt: &impl Abort, table: &mut TxnTable<A>, txn: Txn, change: Change) {
+    claim(rt, holds(table, txn), "a row that is held");
+    claim(rt, undone(table, txn) == Some(change), "the change");
+    claim(rt, end(table, txn) == Ok(()), "an end");
+    claim(rt, table.is_empty(), "an empty table");
+}
+
 fn change_and_undo<A: Allocator + Copy>(
     rt: &impl Abort,
     memory: &Memory,
     table: &mut TxnTable<A>,
+    change: Change,
 ) -> Result<(), Error> {
-    let change = Change {
-        position: 0,
-        rid: RID,
-        rows: Rows::Inserted { new: row_of(7)? },
-    };
     let txn = changing(table, change)?;
     memory.refuse_after(0);
-    assert!(rt; holds(table, txn));
-    assert!(rt; undone(table, txn) == Some(change));
-    end(table, txn)?;
-    assert!(rt; table.is_empty());
+    undo(rt, table, txn, change);
     Ok(())
 }
 
@@ -195,9 +232,15 @@ fn use_table<A: Allocator + Copy>(
     rt: &impl Abort,
     memory: &Memory,
     within: A,
+    new: Row,
 ) -> Result<(), Error> {
+    let change = Change {
+        position: 0,
+        rid: RID,
+        rows: Rows::Inserted { new },
+    };
     let mut table = TxnTable::new(within);
-    let used = change_and_undo(rt, memory, &mut table);
+    let used = change_and_undo(rt, memory, &mut table, change);
     drop(table);
     used
 }
@@ -210,38 +253,56 @@ pub(crate) fn hand_out<A: Allocator + Copy>(scan: &mut Scan<A>) -> Option<Pair> 
     scan.hand_out()
 }
 
-fn hand_out_all<A: Allocator + Copy>(rt: &impl Abort, scan: &mut Scan<A>, pair: Pair) {
-    assert!(rt; next(scan) == Some(pair) && hand_out(scan) == Some(pair));
-    assert!(rt; next(scan).is_none() && scan.remaining() == 0);
+// Whether the scan hands out this pair alone.
+fn hands_out<A: Allocator + Copy>(scan: &mut Scan<A>, pair: Pair) -> bool {
+    let first = next(scan);
+    let handed = hand_out(scan);
+    first == Some(pair) && handed == first && next(scan).is_none() && scan.remaining() == 0
 }
 
-fn use_scan<A: Allocator + Copy>(rt: &impl Abort, memory: &Memory, within: A) -> Result<(), Error> {
-    let (row, pair) = (row_of(7)?, pair_of(7)?);
-    let mut heap = Heap::new(within, 1)?;
-    set_row(rt, &mut heap, Some(row));
-    let scanned = scan_rows(rt, within, &heap);
-    drop(heap);
-    let mut scan = scanned?;
-    memory.refuse_after(0);
-    hand_out_all(rt, &mut scan, pair);
-    drop(scan);
-    Ok(())
-}
-
-// A core with an index, in which a transaction inserts this row.
-fn inserting<A: Allocator + Copy>(
+// A scan of a page on which this row stands alone.
+fn scan_row<A: Allocator + Copy>(
     rt: &impl Abort,
-    core: &mut Core<A>,
+    within: A,
+    scan: &mut Scan<A>,
     row: Row,
-) -> Result<(Txn, Rid), Error> {
-    let txn = begun(core)?;
-    assert!(rt; core.ready(txn));
-    Ok((txn, core.start_insert(txn, row.key, row.body)?))
+) -> Result<(), Error> {
+    let mut heap = Heap::new(within, 1)?;
+    set_row(rt, &mut heap, RID, Some(row));
+    let taken = take_page(rt, &heap, scan);
+    drop(heap);
+    taken
+}
+
+fn use_scan<A: Allocator + Copy>(
+    rt: &impl Abort,
+    memory: &Memory,
+    within: A,
+    row: Row,
+    pair: Pair,
+) -> Result<(), Error> {
+    let mut scan = Scan::new(within, None, 1);
+    let scanned = scan_row(rt, within, &mut scan, row);
+    memory.refuse_after(0);
+    let is_handed = hands_out(&mut scan, pair);
+    drop(scan);
+    claim(rt, scanned.is_err() || is_handed, "the pair");
+    scanned
 }
 
 fn begun<A: Allocator + Copy>(core: &mut Core<A>) -> Result<Txn, Error> {
     core.create_index()?;
     core.begin()
+}
+
+fn insert<A: Allocator + Copy>(
+    rt: &impl Abort,
+    core: &mut Core<A>,
+    txn: Txn,
+    row: Row,
+) -> Result<Rid, Error> {
+    assert!(rt; core.ready(txn));
+    core.start_insert(txn, row.key, row.body)
 }
 
 fn owes_key<A: Allocator + Copy>(core: &Core<A>, txn: Txn) -> bool {
@@ -257,27 +318,102 @@ fn is_indexed<A: Allocator + Copy>(core: &Core<A>) -> bool {
 }
 
 fn new_core<A: Allocator + Copy>(within: A) -> Result<Core<A>, Error> {
-    Core::new(within, Geometry::new(1, 64, 4)?, 0)
+    let geometry = Geometry::new(1, 64, 4)?;
+    Core::new(within, geometry, 0)
 }
 
+// In a core with an index a transaction inserts this row.
 fn insert_quietly<A: Allocator + Copy>(
     rt: &impl Abort,
     memory: &Memory,
     core: &mut Core<A>,
+    row: &Row,
 ) -> Result<(), Error> {
-    let row = row_of(7)?;
-    let (txn, rid) = inserting(rt, core, row)?;
+    let txn = begun(core)?;
+    let rid = insert(rt, core, txn, *row)?;
     memory.refuse_after(0);
-    assert!(rt; has_row_alone(core, rid, row) && owes_key(core, txn));
-    assert!(rt; is_indexed(core));
+    claim(rt, has_row_alone(core, rid, *row), "a row, and no entry");
+    claim(rt, owes_key(core, txn), "an entry that is owed");
+    claim(rt, is_indexed(core), "an index");
     Ok(())
 }
 
-fn use_core<A: Allocator + Copy>(rt: &impl Abort, memory: &Memory, within: A) -> Result<(), Error> {
+fn use_core<A: Allocator + Copy>(
+    rt: &impl Abort,
+    memory: &Memory,
+    within: A,
+    row: &Row,
+) -> Result<(), Error> {
     let mut core = new_core(within)?;
-    let used = insert_quietly(rt, memory, &mut core);
+    let used = insert_quietly(rt, memory, &mut core, row);
     drop(core);
     used
+}
+
+static SECTOR: [u8; SECTOR_SIZE] = [7; SECTOR_SIZE];
+
+fn writes<D: Device>(rt: &impl Abort, disk: &mut D) -> bool {
+    assert!(rt; 1 < disk.sectors());
+    disk.write(1, &SECTOR).is_ok()
+}
+
+fn reads<D: Device>(rt: &impl Abort, disk: &mut D) -> bool {
+    assert!(rt; 1 < disk.sectors());
+    let mut sector = [0; SECTOR_SIZE];
+    disk.read(1, &mut sector).is_ok() && sector == SECTOR
+}
+
+fn syncs<D: Device>(disk: &mut D) -> bool {
+    disk.sync().is_ok()
+}
+
+fn use_sectors<D: Device>(rt: &impl Abort, disk: &mut D) {
+    claim(rt, writes(rt, disk), "a sector that is written");
+    claim(rt, reads(rt, disk), "a sector that is read");
+    claim(rt, syncs(disk), "a sync");
+}
+
+// A disk in memory that has room for these calls.
+fn use_disk<A: Allocator + Copy>(rt: &impl Abort, memory: &Memory, within: A) -> Result<(), Error> {
+    let mut disk = MemDisk::new(within, 3, 8)?;
+    memory.refuse_after(0);
+    use_sectors(rt, &mut disk);
+    drop(disk);
+    Ok(())
+}
+
+fn use_views<A: Allocator>(
+    rt: &impl Abort,
+    board: &Board<A>,
+    flush: &mut FlushView,
+    build: &mut BuildView,
+    view: &mut View,
+)
+    requires flush { flush.old.board ≡ board.now }
+    requires build { build.old.board ≡ board.now }
+    requires view { view.old.board ≡ board.now }
+{
+    board.publish(flush, 7, 1);
+    let is_published = board.horizon(view) == 7 && board.mark(view) == 1;
+    board.raise_progress(build, 3);
+    let is_raised = board.progress(view) == 3;
+    board.fail(flush);
+    let has_failed = board.failed(view);
+    board.stop(view);
+    claim(rt, is_published, "a horizon and its mark");
+    claim(rt, is_raised, "the builder's progress");
+    claim(rt, has_failed, "a failed flag");
+    claim(rt, board.stopped(view), "a stop flag");
+}
+
+// What threads tell one another on a board.
+fn use_board<A: Allocator>(rt: &impl Abort, memory: &Memory, within: A) -> Result<(), Error> {
+    let (board, flush, mut build, mut view) = Board::new(within)?;
+    memory.refuse_after(0);
+    let mut flush = flush.begin();
+    use_views(rt, &board, &mut flush, &mut build, &mut view);
+    drop(board);
+    Ok(())
 }
 
 fn use_part<A: Allocator + Copy>(
@@ -285,34 +421,62 @@ fn use_part<A: Allocator + Copy>(
     memory: &Memory,
     within: A,
     part: u8,
+    (row, pair): (Row, Pair),
 ) -> Result<(), Error> {
     match part {
-        0 => use_heap(rt, memory, within),
+        0 => use_heap(rt, memory, within, &row),
         1 => use_tree(rt, memory, within),
-        2 => use_index(rt, memory, within),
-        3 => use_table(rt, memory, within),
-        4 => use_scan(rt, memory, within),
-        _ => use_core(rt, memory, within),
+        2 => use_index(rt, memory, within, &pair),
+        3 => use_table(rt, memory, within, row),
+        4 => use_scan(rt, memory, within, row, pair),
+        5 => use_core(rt, memory, within, &row),
+        6 => use_disk(rt, memory, within),
+        _ => use_board(rt, memory, within),
     }
 }
 
+// Uses a part, and looks at the count of refusals.
+fn use_quietly(rt: &impl Abort, alloc: Global, part: u8, values: (Row, Pair)) -> Result<(), Error> {
+    let memory = Refusing::new(alloc, u64::MAX);
+    let used = use_part(rt, &memory, &memory, part, values);
+    let refused = memory.refused();
+    drop(memory);
+    claim_at(
+        rt,
+        refused == 0,
+        "no call of the allocator by part",
+        u32::from(part),
+    );
+    used
+}
+
 #[test]
-fn these_calls_make_no_call_of_the_allocator(rt: HostRuntime) -> Result<(), Fail> {
-    for part in 0..6 {
-        let memory = Refusing::new(rt.alloc(), u64::MAX);
-        use_part(&rt, &memory, &memory, part)?;
-        assert!(rt; memory.refused() == 0, "part {part}");
+fn these_calls_make_no_call_of_the_allocator(rt: HostRuntime) -> Result<(), Error> {
+    let values = (row_of(7)?, pair_of(7)?);
+    for part in 0..8 {
+        use_quietly(&rt, rt.alloc(), part, values)?;
     }
     Ok(())
+}
+
+fn begin_without<A: Allocator + Copy>(memory: &Memory, within: A) -> Result<Txn, Error> {
+    let mut table = TxnTable::new(within);
+    memory.refuse_after(0);
+    let begun = table.begin();
+    drop(table);
+    begun
 }
 
 // The count is not blind: a call that wants memory is refused, and counted.
 #[test]
-fn a_call_that_wants_memory_is_counted(rt: HostRuntime) -> Result<(), Fail> {
+fn a_call_that_wants_memory_is_counted(rt: HostRuntime) {
     let memory = Refusing::new(rt.alloc(), u64::MAX);
-    let mut table = TxnTable::new(&memory);
-    memory.refuse_after(0);
-    assert!(rt; table.begin() == Err(Error::NoMemory) && memory.refused() == 1);
-    drop(table);
-    Ok(())
+    let begun = begin_without(&memory, &memory);
+    let refused = memory.refused();
+    drop(memory);
+    claim(
+        &rt,
+        begun == Err(Error::NoMemory) && refused == 1,
+        "one refusal",
+    );
 }

@@ -1,10 +1,9 @@
 // The tree of the entries: how high it is, and what a refused plan leaves.
-use crate::values::{Memory, pair_of};
+use crate::values::{Memory, claim, claim_at, pair_of};
 use btree_node::{BTree, ENTRIES_MAX};
 use records::{Error, Mark, Pair};
-use std::alloc::{Allocator, Global};
+use std::alloc::{AllocError, Allocator, Global};
 use std::process::Abort;
-use std::test::Fail;
 use test_memory::Refusing;
 
 // Plans the insertion of a pair.
@@ -19,18 +18,27 @@ pub(crate) fn found<A: Allocator + Copy>(tree: &BTree<A>, pair: &Pair) -> (Optio
     tree.get(pair)
 }
 
-/// Puts a pair in that is absent. Where memory is given, none is left of it from the plan on.
+/// Puts a pair in that is absent. No memory is left from the plan on.
 pub(crate) fn put_quietly<A: Allocator + Copy>(
     rt: &impl Abort,
     tree: &mut BTree<A>,
     pair: &Pair,
-    memory: Option<&Memory>,
+    memory: &Memory,
 ) -> Result<(), Error> {
     assert!(rt; tree.len() < ENTRIES_MAX && tree.get(pair).0.is_none());
     let plan = tree.plan_insert(pair)?;
-    if let Some(memory) = memory {
-        memory.refuse_after(0);
-    }
+    memory.refuse_after(0);
+    tree.insert(plan, Mark::Live);
+    Ok(())
+}
+
+fn put_pair<A: Allocator + Copy>(
+    rt: &impl Abort,
+    tree: &mut BTree<A>,
+    pair: &Pair,
+) -> Result<(), Error> {
+    assert!(rt; tree.len() < ENTRIES_MAX && tree.get(pair).0.is_none());
+    let plan = tree.plan_insert(pair)?;
     tree.insert(plan, Mark::Live);
     Ok(())
 }
@@ -41,7 +49,8 @@ pub(crate) fn put<A: Allocator + Copy>(
     tree: &mut BTree<A>,
     number: u32,
 ) -> Result<(), Error> {
-    put_quietly(rt, tree, &pair_of(number)?, None)
+    let pair = pair_of(number)?;
+    put_pair(rt, tree, &pair)
 }
 
 /// Takes a pair out that is present.
@@ -62,7 +71,12 @@ fn levels_of(pairs: u32) -> u32 {
 fn grow<A: Allocator + Copy>(rt: &impl Abort, tree: &mut BTree<A>) -> Result<(), Error> {
     for number in 1..=33u32 {
         put(rt, tree, number)?;
-        assert!(rt; tree.height() == levels_of(number), "with {number} pairs");
+        claim_at(
+            rt,
+            tree.height() == levels_of(number),
+            "the levels of so many pairs:",
+            number,
+        );
     }
     Ok(())
 }
@@ -71,22 +85,34 @@ fn shrink<A: Allocator + Copy>(rt: &impl Abort, tree: &mut BTree<A>) -> Result<(
     for left in (0..=32u32).rev() {
         take(rt, tree, &pair_of(left + 1)?);
         let is_low = tree.height() == levels_of(left);
-        assert!(rt; is_low || left == 32, "with {left} pairs");
+        claim_at(
+            rt,
+            is_low || left == 32,
+            "the levels with so many left:",
+            left,
+        );
     }
     Ok(())
 }
 
+fn grow_and_shrink_in<A: Allocator + Copy>(
+    rt: &impl Abort,
+    tree: &mut BTree<A>,
+) -> Result<(), Error> {
+    grow(rt, tree)?;
+    shrink(rt, tree)
+}
+
 fn grow_and_shrink<A: Allocator + Copy>(rt: &impl Abort, memory: A) -> Result<(), Error> {
     let mut tree = BTree::new(memory);
-    let done = grow(rt, &mut tree).and_then(|()| shrink(rt, &mut tree));
+    let done = grow_and_shrink_in(rt, &mut tree);
     drop(tree);
     done
 }
 
 #[test]
-fn the_thirty_third_pair_makes_a_second_level(rt: HostRuntime) -> Result<(), Fail> {
-    grow_and_shrink(&rt, rt.alloc())?;
-    Ok(())
+fn the_thirty_third_pair_makes_a_second_level(rt: HostRuntime) -> Result<(), Error> {
+    grow_and_shrink(&rt, rt.alloc())
 }
 
 // How many runs of entries a walk over a tree takes, and how many entries it meets.
@@ -112,9 +138,17 @@ fn fill_tree<A: Allocator + Copy>(
     for number in 0..65_536u32 {
         put(rt, tree, number.abs_diff(highest))?;
     }
-    assert!(rt; tree.len() == 65_536 && tree.height() <= 4);
+    claim(
+        rt,
+        tree.len() == 65_536 && tree.height() <= 4,
+        "four levels",
+    );
     let (runs, met) = runs_of(tree);
-    assert!(rt; runs <= 4_096 && met == 65_536, "{runs} runs met {met}");
+    claim(
+        rt,
+        runs <= 4_096 && met == 65_536,
+        "few runs over all pairs",
+    );
     Ok(())
 }
 
@@ -127,7 +161,7 @@ fn fill<A: Allocator + Copy>(rt: &impl Abort, memory: A, highest: u32) -> Result
 }
 
 #[test]
-fn many_pairs_give_few_levels_and_few_runs(rt: HostRuntime) -> Result<(), Fail> {
+fn many_pairs_give_few_levels_and_few_runs(rt: HostRuntime) -> Result<(), Error> {
     for highest in [0, 65_535] {
         fill(&rt, rt.alloc(), highest)?;
     }
@@ -149,6 +183,32 @@ fn walks<A: Allocator + Copy>(tree: &BTree<A>, numbers: &[u32]) -> Result<bool, 
     Ok(tree.above(last.as_ref()).is_none())
 }
 
+// Plans an insertion with the allocation refused that so many come before. Whether one was.
+fn is_refused<A: Allocator + Copy>(
+    rt: &impl Abort,
+    memory: &Memory,
+    tree: &BTree<A>,
+    pair: &Pair,
+    before: u64,
+) -> bool {
+    let was = memory.refused();
+    memory.refuse_after(before);
+    let planned = plan(rt, tree, pair);
+    memory.refuse_after(u64::MAX);
+    let is_refused = was < memory.refused();
+    let wanted = if is_refused {
+        Err(Error::NoMemory)
+    } else {
+        Ok(())
+    };
+    claim(
+        rt,
+        planned == wanted,
+        "a want of memory just where it is refused",
+    );
+    is_refused
+}
+
 // Plans an insertion with each of its allocations refused in turn, and at last none. How many there were. The tree
 // stays as it was.
 fn refuse_each<A: Allocator + Copy>(
@@ -157,43 +217,80 @@ fn refuse_each<A: Allocator + Copy>(
     tree: &BTree<A>,
     number: u32,
     numbers: &[u32],
-) -> Result<u64, Fail> {
+) -> Result<u64, Error> {
     let pair = pair_of(number)?;
     for before in 0..9 {
-        let was = memory.refused();
-        memory.refuse_after(before);
-        let planned = plan(rt, tree, &pair);
-        if memory.refused() == was {
-            assert!(rt; planned == Ok(()));
-            memory.refuse_after(u64::MAX);
+        if !is_refused(rt, memory, tree, &pair, before) {
             return Ok(before);
         }
-        assert!(rt; planned == Err(Error::NoMemory) && walks(tree, numbers)?);
+        claim(rt, walks(tree, numbers)?, "the pairs in order");
     }
-    Err("fewer allocations of an insertion")?
+    Ok(u64::MAX)
+}
+
+// Adds a number to the sorted ones, where it is new.
+fn add(numbers: &mut Vec<u32>, number: u32) -> Result<(), AllocError> {
+    if let Err(at) = numbers.binary_search(&number) {
+        numbers.insert(at, number)?;
+    }
+    Ok(())
+}
+
+// Puts a number in, once its insertion was refused. How often it was.
+fn refuse_and_put_one<A: Allocator + Copy>(
+    rt: &impl Abort,
+    memory: &Memory,
+    tree: &mut BTree<A>,
+    numbers: &mut Vec<u32>,
+    number: u32,
+) -> Result<u64, Error> {
+    let refused = refuse_each(rt, memory, tree, number, numbers)?;
+    put(rt, tree, number)?;
+    add(numbers, number)?;
+    Ok(refused)
 }
 
 fn refuse_and_put_in<A: Allocator + Copy>(
     rt: &impl Abort,
-    alloc: Global,
     memory: &Memory,
     tree: &mut BTree<A>,
-) -> Result<(), Fail> {
-    let mut numbers = Vec::new(alloc);
+    numbers: &mut Vec<u32>,
+) -> Result<u64, Error> {
     let mut refused: u64 = 0;
     let mut number: u32 = 0;
     for _ in 0..2_000 {
         number = (number % 2_000 + 709) % 2_000;
-        let more = refuse_each(rt, memory, tree, number, &numbers)?;
+        let more = refuse_and_put_one(rt, memory, tree, numbers, number)?;
+        claim(rt, more < 9, "few allocations of an insertion");
         refused = refused.saturating_add(more);
-        put(rt, tree, number)?;
-        let Err(at) = numbers.binary_search(&number) else {
-            return Err("a number that is there")?;
-        };
-        numbers.insert(at, number)?;
     }
-    assert!(rt; tree.len() == 2_000 && walks(tree, &numbers)? && 100 < refused);
+    Ok(refused)
+}
+
+// What became of the tree is as it should be.
+fn check_tree<A: Allocator + Copy>(
+    rt: &impl Abort,
+    tree: &BTree<A>,
+    numbers: &[u32],
+) -> Result<(), Error> {
+    claim(
+        rt,
+        tree.len() == 2_000 && numbers.len() == 2_000,
+        "2,000 pairs",
+    );
+    claim(rt, walks(tree, numbers)?, "the pairs in order");
     Ok(())
+}
+
+fn refuse_and_check<A: Allocator + Copy>(
+    rt: &impl Abort,
+    memory: &Memory,
+    tree: &mut BTree<A>,
+    numbers: &mut Vec<u32>,
+) -> Result<(), Error> {
+    let refused = refuse_and_put_in(rt, memory, tree, numbers)?;
+    claim(rt, 100 < refused, "more than 100 refusals");
+    check_tree(rt, tree, numbers)
 }
 
 // Puts numbers in, before each of which its insertion is refused. The tree takes this memory, which may refuse.
@@ -202,15 +299,19 @@ fn refuse_and_put<A: Allocator + Copy>(
     alloc: Global,
     memory: &Memory,
     within: A,
-) -> Result<(), Fail> {
+) -> Result<(), Error> {
     let mut tree = BTree::new(within);
-    let put = refuse_and_put_in(rt, alloc, memory, &mut tree);
+    let mut numbers = Vec::new(alloc);
+    let put = refuse_and_check(rt, memory, &mut tree, &mut numbers);
     drop(tree);
+    drop(numbers);
     put
 }
 
 #[test]
-fn a_refused_plan_leaves_the_tree_as_it_was(rt: HostRuntime) -> Result<(), Fail> {
+fn a_refused_plan_leaves_the_tree_as_it_was(rt: HostRuntime) -> Result<(), Error> {
     let memory = Refusing::new(rt.alloc(), u64::MAX);
-    refuse_and_put(&rt, rt.alloc(), &memory, &memory)
+    let put = refuse_and_put(&rt, rt.alloc(), &memory, &memory);
+    drop(memory);
+    put
 }
