@@ -3,7 +3,7 @@
 
 Usage: tools/time_file.py PROGRAM FOLDER [ROUNDS [SECONDS]]
 
-PROGRAM is the built benchmark (crates/test_bench_threads), FOLDER an empty folder on the disk in question. Each round lets one writer and then
+PROGRAM is the benchmark that `scripts/bench threads` built (.kept/bench_threads-..), FOLDER an empty folder on the disk in question. Each round lets one writer and then
 eight commit, of either: a transaction puts a row in a table with an index, or deletes the one before. SQLite's eight are processes. A line
 a round, and then the medians with their ratios.
 """

@@ -1,4 +1,0 @@
-use Rattle.test_bench_threads.proofs.rounds.play_on.Given as goal
-
-abbrev pub ghosts-begin : goal.ghosts-begin
-ghosts-begin g a = record { site = a.store.site }
