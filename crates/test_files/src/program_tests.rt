@@ -3,8 +3,10 @@ use crate::claims::claim;
 use crate::help::HELP;
 use crate::program::{Call, Look, ProgramRun, holds, make, make_all, run};
 use crate::scripts::{FILLING, MANY};
+use program_shell::refuse_words;
 use std::alloc::{AllocError, Global};
 use std::fs::File;
+use std::io::ErrorKind;
 use std::process::Abort;
 use std::rt::Files;
 use std::{fs, io};
@@ -116,6 +118,21 @@ fn make_and_serve<R: Abort + Files<File = File> + AllocGlobal>(
 #[test]
 fn a_store_is_made_served_built_and_shown(rt: HostRuntime) -> io::Result<()> {
     make_and_serve(&rt, "s", &MADE, &SERVED, &SHOWN)
+}
+
+// Words that can't be read for this.
+fn refuse<R: Abort + AllocGlobal>(rt: &R, kind: ErrorKind) {
+    let mut errors = Vec::new(rt.alloc());
+    let status = refuse_words("nsf-store", io::Error::from(kind), &mut errors);
+    let is_told = errors.as_slice() == b"nsf-store: a name that isn't text\n".as_slice();
+    drop(errors);
+    claim(rt, status == 2, "the status of bad words");
+    claim(rt, is_told, "what of the words is wrong");
+}
+
+#[test]
+fn words_that_are_no_text_are_told(rt: HostRuntime) {
+    refuse(&rt, ErrorKind::InvalidData);
 }
 
 static NO_STORE: Call = (
