@@ -7,3 +7,7 @@ mod Paged
 mod Fitting
 mod Logged
 pub mod Cited
+mod Moved
+mod InOrder
+mod Loading
+pub mod LoadedLaws

@@ -9,8 +9,8 @@ use Rattle.model.specs.Given.{Given}
 use Rattle.model.specs.Inside.{IsGivenInside}
 use Rattle.core_model.proofs.Laws.{not_none}
 use Rattle.core_model.specs.Histories.{CanOpen, FitsStore}
-use Rattle.core_loader.proofs.Laws.{stands_for}
-use Rattle.core_loader.specs.Loaded.{holding}
+use Rattle.core_copies.proofs.LoadedLaws.{stands_for}
+use Rattle.core_copies.specs.Loaded.{holding}
 use Rattle.core_parts.specs.Moves.{fresh}
 use Rattle.core_laws.specs.Calls.{BeginsWith}
 use Rattle.core_laws.specs.Openings.{empty_after, store_with}

@@ -3,10 +3,12 @@
 //!
 //! They follow from what the methods of `nsf_core` promise alone, one call after another, and speak of no device.
 //!
-//! Proved, of any list of calls: each reply was allowed (`replied`), and the core holds the history that the replies
-//! tell (`holds`). With a complete index and no transaction active, the visible entries are the pairs of the rows
-//! (`complete`). Wherever the records stop, a prefix of the history is recovered of them (`recovers`). `one_reply` and
-//! `one_answer`: but for want of memory, a state and an event leave one reply and one value.
+//! A core that was just loaded or made begins with what it was given (`each_opening`). Proved, of any list of calls
+//! (`any_calls`): each reply was allowed (`replied`), and the core holds the history that the replies tell (`holds`).
+//! With a complete index and no transaction active, the visible entries are the pairs of the rows (`complete`).
+//! Wherever the records stop, a prefix of the history is recovered of them (`recovers`). `one_reply` and `one_answer`:
+//! but for want of memory, a state and an event leave one reply and one value. A check says what the call then answers
+//! (`one_check`).
 //!
 //! Lemmas about its public words that crates above may cite, in `proofs`: `Laws`.
 #![tactic(auto)]
@@ -26,7 +28,7 @@ ghost use Rattle.core_model.specs.Histories.{CanOpen, Opened, no_writes};
 ghost use Rattle.core_model.specs.Events.{Event, Refused, Reply, Standing};
 ghost use Rattle.core_model.specs.Replies.{IsAllowed, WantsMemory};
 ghost use Rattle.core_model.specs.Served.{HasStanding, items_of};
-ghost use Rattle.core_loader.specs.Loaded.{holding};
+ghost use Rattle.core_copies.specs.Loaded.{holding};
 ghost use Rattle.core_parts.specs.Moves.{fresh};
 ghost use Rattle.nsf_core.specs.Outbox.{HandsOn};
 ghost use Rattle.core_parts.specs.Asked.{IsFine, IsRefused};

@@ -2,10 +2,13 @@
 //!
 //! Proved, on plain data: every order of the steps keeps rows, entries, history and reserved places together
 //! (`every_order`). A complete index with no transaction active is exact (`complete_index`). A restart at any stop
-//! gives a prefix of the history (`any_stop`). Each step sets the cell that its record names (`each_record`). A worked
-//! example shows that the premises can be met (`undone_insertion_is_rejected`). `IsAllowed` says which reply each event
-//! may get in a state, and the step that is made with it; `items_of` which history events and replies tell. Nothing
-//! here runs. That code makes these steps, and replies so, is the contract of `nsf_core`.
+//! gives a prefix of the history (`any_stop`); so do a run's records, wherever they stop (`any_record`), and its log
+//! (`each_log`). Each step sets the cell that its record names (`each_record`), which can follow those before it
+//! (`each_record_follows`). Pairs are attempted in rising order (`rising_attempts`). An allowed reply is one step or
+//! none (`each_reply`). Worked examples show that the premises can be met (`undone_insertion_is_rejected`,
+//! `undone_insertion_is_served`). `IsAllowed` says which reply each event may get in a state, and the step that is made
+//! with it; `items_of` which history events and replies tell. Nothing here runs. That code makes these steps, and
+//! replies so, is the contract of `nsf_core`.
 //!
 //! Lemmas about its public words that crates above may cite, in `proofs`: `Laws` and `ReplyLaws`.
 #![tactic(auto)]
@@ -127,8 +130,8 @@ pub fn each_log()
         × CanOpen (record o { given = given_after o.given (take n made) }) }
 {}
 
-/// The log of a half: whatever cells of the state it begins over, each step's record can follow on it, and it sets what
-/// the state has.
+/// A law of the log of a half: whatever cells of the state it begins over, each step's record can follow on it, and it
+/// sets what the state has.
 pub fn each_half()
     ensures begins { (pages base : ℕ) (cells : Cells) (s : State) → HasCells s cells → IsLogOf pages base cells [] s }
     ensures goes_on { (base : ℕ) (cells : Cells) (log : List RecordValue) (s : State) → IsWellFormed s

@@ -51,7 +51,7 @@ pub fn each_service()
         (given_after o.given (take n handed)) × CanOpen (record o { given = given_after o.given (take n handed) }) }
 {}
 
-/// So it is of a list of events, each with an allowed reply; and the numbers of the items rise.
+/// A law: so it is of a list of events, each with an allowed reply; and the numbers of the items rise.
 pub fn all_replies()
     ensures log { (o : Opened) → CanOpen o → o.given.last ≤ LAST_NUMBER
         → (pairs : List (Event × Reply)) (s : State) (k : Standing)

@@ -67,9 +67,7 @@ fn last_before(front: &[u8], last: u8) -> Key
 fn before_key(key: &Key) -> Option<Pair>
     ensures { IfSome result (λ p. slice_cmp nat_cmp p.key key.now ≡ Less) }
 {
-    let Some((last, front)) = key.as_slice().split_last() else {
-        return None;
-    };
+    let (last, front) = key.as_slice().split_last()?;
     Some(Pair {
         key: last_before(front, *last),
         rid: LAST,

@@ -3,7 +3,7 @@ ghost use Rattle.std.specs.Prelude.{◌≡◌, ◌≢◌, ◌↔◌, List, None,
 ghost use Rattle.std.specs.FinMap as map;
 ghost use Rattle.records.specs.ChangeValue.{ChangeValue};
 ghost use Rattle.records.specs.declared.record.Action.TheVariants.{OfTxn};
-ghost use Rattle.model.specs.Redo.{cells_of, given_of, with_part, IsRedone};
+ghost use Rattle.model.specs.Redo.{cells_of, given_of, with_part};
 ghost use Rattle.model.specs.Cells.{list_by, set_by, cells_after};
 ghost use Rattle.model.specs.Following.{CanFollow, CanFollowBy, CanFollowTxn};
 ghost use Rattle.model.specs.Given.{recovered};
@@ -22,15 +22,6 @@ pub struct CellMaps<A: Allocator> {
     pub entries: EntryMap<A>,
     pub lists: ListMap<A>,
     pub life: Life,
-}
-
-/// What became of records that were redone as long as each could follow the one before.
-#[derive(Drop)]
-pub enum Redone<A: Allocator> {
-    /// All of them: the cells that they left.
-    All(CellMaps<A>),
-    /// The record at this index, from 0, is the first that can't follow.
-    Unfit(usize),
 }
 
 /// What is recovered of cells: what they hold with every unfinished transaction taken back.
@@ -146,28 +137,6 @@ impl<A: Allocator + Copy> CellMaps<A> {
         ensures { IsTrue result ↔ CanFollow pages last (cells_of self.now) next.now }
     {
         next.number.get() - 1 == last && self.allows(pages, &next.action)
-    }
-
-    /// Redoes these records, the first of them first, as long as each can follow the one before, in a store of so many
-    /// pages. The record `last` left these cells.
-    pub fn follow(
-        mut self,
-        alloc: A,
-        pages: u32,
-        last: u64,
-        records: &[Record],
-    ) -> Result<Redone<A>, AllocError>
-        ensures { IfOk result (IsRedone pages last (cells_of self) records.now) }
-    {
-        let mut before = last;
-        for (index, record) in records.iter().enumerate() {
-            if !self.can_follow(pages, before, record) {
-                return Ok(Redone::Unfit(index));
-            }
-            self.redo_one(alloc, &record.action)?;
-            before = record.number.get();
-        }
-        Ok(Redone::All(self))
     }
 
     /// What is recovered of the cells, which records up to the number `last` left: every unfinished transaction is

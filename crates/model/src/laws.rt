@@ -98,8 +98,8 @@ pub fn copied_image()
         → AreFollowing pages last image records }
 {}
 
-/// What is given with no record is the opening, and is a beginning of every history from there on; a beginning stays
-/// one as the history goes on, and with a lower floor.
+/// A law: what is given with no record is the opening, and is a beginning of every history from there on; a beginning
+/// stays one as the history goes on, and with a lower floor.
 pub fn beginnings()
     ensures again { (given : Given) → given_after given [] ≡ given }
     ensures itself { (given : Given) (items : List Item) → AreRising given.last items

@@ -2,11 +2,12 @@
 //! accepted step makes at most one record of the log.
 //!
 //! Proved of each call: its reply is one that `core_model` allows, its step the abstract core's, and its record waits
-//! behind the others (`Serves`). A refusal leaves the value as it was (`refused_calls`). `take_outbox` hands
-//! records on in order (`handed`, `most`). `can_open` is true just where a core may begin with what this one holds
-//! (`opened_of`). `detach_index` drops the index and answers its entries (`taken`). `page_slots` and `run_above` read a
-//! page's rows and the entries, some at once. Only tested (`test_stores`, `test_replay_rows`): that calls succeed where
-//! there is memory, and worked examples. Neither: when memory is freed.
+//! behind the others (`Serves`). So it stands for the state after the step, whichever it stood for (`each_answer`). A
+//! refusal leaves the value as it was (`refused_calls`); `skipped_events` says what is to be skipped. `take_outbox`
+//! hands records on in order (`handed`, `most`). `can_open` is true just where a core may begin with what this one
+//! holds (`opened_of`). `detach_index` drops the index and answers its entries (`taken`). `page_slots` and `run_above`
+//! read a page's rows and the entries, some at once. Only tested (`test_stores`, `test_replay_rows`): that calls
+//! succeed where there is memory, and worked examples. Neither: when memory is freed.
 //!
 //! Lemmas about its public words that crates above may cite, in `proofs`: `Offered`.
 #![tactic(auto)]

@@ -114,9 +114,7 @@ impl Record {
         ensures none { IfNone result ((r : RecordValue) (rest : List ℕ) → FitsIn version r
             → bytes.now ≡ spelling r ++ rest → ⊥) }
     {
-        let Some(found) = Record::decode(bytes) else {
-            return None;
-        };
+        let found = Record::decode(bytes)?;
         if found.0.fits_in(version) {
             Some(found)
         } else {

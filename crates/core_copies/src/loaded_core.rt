@@ -8,7 +8,7 @@ ghost use Rattle.core_model.specs.Events.{standing_at};
 ghost use Rattle.nsf_core.specs.Loading.{IsQuiet};
 ghost use Rattle.nsf_core.specs.Value.{value_of};
 ghost use Rattle.core_parts.specs.View.{IsState};
-ghost use Rattle.core_loader.specs.Loaded.{holding, store_of, with_entries, with_rows};
+ghost use Rattle.core_copies.specs.Loaded.{holding, store_of, with_entries, with_rows};
 ghost use Rattle.store_reader.specs.Restored.{given_in};
 
 use model::{EntryMap, RowMap};

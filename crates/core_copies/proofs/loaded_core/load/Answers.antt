@@ -9,9 +9,9 @@ use Rattle.nsf_core.specs.Loading.{IsLifeInside, life_loaded}
 use Rattle.core_parts.specs.Moves.{fresh}
 use Rattle.nsf_core.specs.Value.{value_of}
 use Rattle.core_parts.specs.View.{CoreValue, IsState}
-use Rattle.core_loader.specs.Loaded.{store_of, with_entries, with_rows}
-use Rattle.core_loader.proofs.Loading.{stands_for}
-use Rattle.core_loader.proofs.loaded_core.load.Goals as goal
+use Rattle.core_copies.specs.Loaded.{store_of, with_entries, with_rows}
+use Rattle.core_copies.proofs.Loading.{stands_for}
+use Rattle.core_copies.proofs.loaded_core.load.Goals as goal
 
 pub load_rows-requires-clause-within : goal.load_rows-requires-clause-within
 load_rows-requires-clause-within g c = subst (λ (v : CoreValue). IsWithin v.heap.pages c.args.found.now.rows)

@@ -8,9 +8,9 @@ use Rattle.record_values.specs.Values.{Place}
 use Rattle.record_values.specs.declared.row.Row.{Row}
 use Rattle.model.specs.Table.{Table}
 use Rattle.nsf_core.specs.Value.{value_of}
-use Rattle.core_loader.proofs.InOrder.{all_in_order, next_left, next_sorted, next_there, none_in_order}
-use Rattle.core_loader.proofs.Loading.{AreRowsLoaded, all_rows, no_row, one_row, row_within, rows_quiet}
-use Rattle.core_loader.proofs.loaded_core.load_rows.Goals as goal
+use Rattle.core_copies.proofs.InOrder.{all_in_order, next_left, next_sorted, next_there, none_in_order}
+use Rattle.core_copies.proofs.Loading.{AreRowsLoaded, all_rows, no_row, one_row, row_within, rows_quiet}
+use Rattle.core_copies.proofs.loaded_core.load_rows.Goals as goal
 
 pub loop-entry-init : goal.loop-entry-init
 loop-entry-init g c =

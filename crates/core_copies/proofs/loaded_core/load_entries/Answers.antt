@@ -7,9 +7,9 @@ use Rattle.record_values.specs.declared.pair.Pair.{Pair}
 use Rattle.record_values.specs.declared.pair.Mark.{Mark}
 use Rattle.model.specs.Table.{Index}
 use Rattle.nsf_core.specs.Value.{value_of}
-use Rattle.core_loader.proofs.InOrder.{all_in_order, next_left, next_sorted, next_there, none_in_order}
-use Rattle.core_loader.proofs.Loading.{AreEntriesLoaded, all_entries, entry_within, no_entry, not_full, one_entry, still_quiet}
-use Rattle.core_loader.proofs.loaded_core.load_entries.Goals as goal
+use Rattle.core_copies.proofs.InOrder.{all_in_order, next_left, next_sorted, next_there, none_in_order}
+use Rattle.core_copies.proofs.Loading.{AreEntriesLoaded, all_entries, entry_within, no_entry, not_full, one_entry, still_quiet}
+use Rattle.core_copies.proofs.loaded_core.load_entries.Goals as goal
 
 pub loop-pair-init : goal.loop-pair-init
 loop-pair-init g c =

@@ -3,8 +3,8 @@ use Rattle.std.specs.Prelude.{T}
 use Rattle.std.specs.FinMap as map
 use Rattle.record_values.specs.Orders.{pair_cmp}
 use Rattle.nsf_core.specs.Value.{value_of}
-use Rattle.core_loader.proofs.Loading.{AreEntriesLoaded}
-use Rattle.core_loader.proofs.loaded_core.load_entries.Given as goal
+use Rattle.core_copies.proofs.Loading.{AreEntriesLoaded}
+use Rattle.core_copies.proofs.loaded_core.load_entries.Given as goal
 
 abbrev pub invariant-loop-pair : goal.invariant-loop-pair
 invariant-loop-pair g l = record {

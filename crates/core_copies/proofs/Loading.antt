@@ -25,8 +25,8 @@ use Rattle.nsf_core.specs.Loading.{IsQuiet, entry_loaded}
 use Rattle.core_parts.specs.View.{CoreValue, IsState}
 use Rattle.marked_index.specs.Index.{IsFull}
 use Rattle.model.proofs.MapLaws.{len_less}
-use Rattle.core_loader.specs.Loaded.{holding, with_entries, with_rows}
-use Rattle.core_loader.proofs.Moved.{IsMoved, all_moved, is_its, len_moved, none_moved, one_moved}
+use Rattle.core_copies.specs.Loaded.{holding, with_entries, with_rows}
+use Rattle.core_copies.proofs.Moved.{IsMoved, all_moved, is_its, len_moved, none_moved, one_moved}
 
 -- ---- rows
 

@@ -3,8 +3,8 @@ use Rattle.std.specs.Prelude.{T}
 use Rattle.std.specs.FinMap as map
 use Rattle.record_values.specs.Orders.{rid_cmp}
 use Rattle.nsf_core.specs.Value.{value_of}
-use Rattle.core_loader.proofs.Loading.{AreRowsLoaded}
-use Rattle.core_loader.proofs.loaded_core.load_rows.Given as goal
+use Rattle.core_copies.proofs.Loading.{AreRowsLoaded}
+use Rattle.core_copies.proofs.loaded_core.load_rows.Given as goal
 
 abbrev pub invariant-loop-entry : goal.invariant-loop-entry
 invariant-loop-entry g l = record {

@@ -1,4 +1,0 @@
-mod Moved
-mod InOrder
-mod Loading
-pub mod Laws
