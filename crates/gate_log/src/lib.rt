@@ -4,7 +4,8 @@
 //! Proved: an append that answers `Done` has added just the new group, synced (`done`, `synced`). At any moment of it a
 //! crash leaves the old groups, or them with the whole new one (`any_moment`). `Full` comes just where each slot is
 //! open (`full`). Reading gives just the records that are there (`read`), or names the first damaged gate (`refused`).
-//! Only tested, through a store: a group byte by byte. Neither: time, and how many calls the device gets.
+//! Records of groups are told group by group (the law `records_of_groups`). Only tested, through a store: a group byte
+//! by byte. Neither: time, and how many calls the device gets.
 //!
 //! Lemmas about its public words that crates above may cite, in `proofs`: `Readings`.
 #![tactic(auto)]

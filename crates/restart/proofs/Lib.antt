@@ -23,6 +23,7 @@ mod BuiltOn
 mod Ended
 mod Living
 mod Copied
+mod Passed
 mod Before
 mod Fewer
 mod CopyAnswers

@@ -16,7 +16,7 @@ use Rattle.core_model.specs.States.{State}
 use Rattle.core_model.specs.Events.{standing_at}
 use Rattle.core_model.proofs.ReplyLaws.{served_nothing}
 use Rattle.core_parts.specs.View.{CoreValue}
-use Rattle.core_loader.specs.Loaded.{holding}
+use Rattle.core_copies.specs.Loaded.{holding}
 use Rattle.sector_device.specs.Disk.{Disk, CrashState, IsCrashState, IsSynced}
 use Rattle.sector_device.specs.DevicePast.{DevicePast, LeavesOnly}
 use Rattle.sector_device.proofs.Moments.{weaker}

@@ -1,11 +1,13 @@
 -- An engine that is left as a restart would leave it.
-use Rattle.std.proofs.Common.{◌≡◌, ◌⊎◌, false, inl, inr, ℕ, ◌+◌, ◌-◌, ◌≤◌, ◌<◌, List, [], ◌∷◌, ◌++◌, None, IfSome, length, take, refl, sym, ◌∙◌, ap, subst}
-use Rattle.std.proofs.Common.{Option, unwrap_or, zero, suc, Result, Ok, Err, IfOk, IfErr, ◌↔◌, arith, append-nil, ⊎_elim}
+use Rattle.std.proofs.Common.{◌≡◌, ◌⊎◌, false, inl, inr, ℕ, ◌+◌, ◌-◌, ◌≤◌, ◌<◌, List, [], ◌∷◌, ◌++◌, length, take, refl, sym, ◌∙◌, ap, subst}
+use Rattle.std.proofs.Common.{None, Some, IfSome, Option, unwrap_or, zero, suc, Result, Ok, Err, IfOk, IfErr, ◌↔◌, arith, append-nil, ⊎_elim}
 use Rattle.std.proofs.lemmas.List.{nil_from_length, take_all}
 use Rattle.std.specs.FinMap as map
 use Rattle.std.specs.Ordering.{nat_cmp}
 use Rattle.records.specs.ChangeValue.{ChangeValue}
 use Rattle.record_values.specs.GeometryValue.{GeometryValue}
+use Rattle.record_values.specs.Values.{Place}
+use Rattle.record_values.specs.declared.row.Row.{Row}
 use Rattle.records.specs.RecordValue.{RecordValue}
 use Rattle.record_values.specs.declared.error.Error.{Error}
 use Rattle.record_values.specs.declared.error.Error.TheVariants.{IndexFull, NoMemory}
@@ -24,11 +26,13 @@ use Rattle.core_model.specs.Served as told
 use Rattle.core_copies.specs.Lists.{HasLists}
 use Rattle.core_copies.specs.Pieces.{IsWholeOf}
 use Rattle.core_copies.specs.Shown.{IsCellsOf, list_shown}
-use Rattle.core_loader.specs.Loaded.{holding}
+use Rattle.core_copies.specs.Loaded.{holding}
 use Rattle.core_model.specs.Histories.{Opened, no_writes, opened}
 use Rattle.core_model.specs.Records.{HasCells}
 use Rattle.core_model.specs.States.{State}
-use Rattle.flip_image.specs.Layout.{other}
+use Rattle.flip_image.specs.Layout.{header_sector, other}
+use Rattle.flip_image.specs.declared.half.Half.{Half}
+use Rattle.store_image_half.specs.Part.{HasPage}
 use Rattle.store_image_model.specs.declared.chunk.Piece.{Piece}
 use Rattle.store_image_model.specs.declared.chunk.Piece.TheVariants.{Entries, Page, Start, Whole}
 use Rattle.store_image_model.specs.Run.{Run, cells_at, end_of, records_between}
@@ -41,6 +45,7 @@ use Rattle.sector_device.proofs.Moments.{weaker}
 use Rattle.store_reader.specs.Contents.{Gives}
 use Rattle.store_writer.specs.Contents.{HalfHas, LeftBy, StoreHas}
 use Rattle.store_writer.specs.Image.{IsUnderway}
+use Rattle.store_writer.specs.Known.{HasPageNow, HasUnchanged, KnowsPages}
 use Rattle.store_writer.specs.Parts as writer
 use Rattle.store_writer.specs.Writer.{IsWriter, StandsFor}
 use Rattle.store_writer.specs.declared.copying.Copying.TheVariants.{GivenUp, Idle}
@@ -309,6 +314,39 @@ module _ {D M : Type 0} (past_of : D → DevicePast) (engine : EngineParts D M) 
               → Gives image run.geometry (recovered cells left.number)) here left.gives;
         }
 
+    handed_is : writer.handed_of w ≡ end_of run
+    handed_is = omega (arith, ap length (first_none (writer.waiting_of w) (unhanded engine) all), synced_is, last_is)
+
+    -- no record is made, so the cells are the same after any
+    same_begun : (m n : ℕ) → cells_at (begun run.geometry) m ≡ cells_at (begun run.geometry) n
+    same_begun m n =
+        ap (cells_after (opening_cells held)) (none_taken (m - v.last)) ∙ sym (ap (cells_after (opening_cells held)) (none_taken (n - v.last)))
+
+    page_there : (h : Half) (page : ℕ) → HasPageNow run h (past_of w.device).disk.content (writer.handed_of w) page
+        → HasPageNow (begun run.geometry) h (past_of w.device).disk.content (writer.handed_of w) page
+    page_there h page is =
+        let there = cells_there (writer.handed_of w) handed_is in
+        record {
+          has = subst (λ (x : Cells). HasPage (header_sector run.geometry h) (past_of w.device).disk.content page x.rows) there is.has;
+          slots = subst (λ (x : Cells). (q : Place) (r : Row) → q.page ≡ page → map.get x.rows q ≡ Some r → q.slot < 63) there is.slots;
+        }
+
+    half_there : (h : Half) (low : Option ℕ)
+        → IfSome low (HasUnchanged run h (past_of w.device).disk.content (writer.handed_of w) w.known.changed.items)
+        → IfSome low (HasUnchanged (begun run.geometry) h (past_of w.device).disk.content (writer.handed_of w) w.known.changed.items)
+    half_there h None is = is
+    half_there h (Some low) is = record { within = is.within; pages = λ page inside below. page_there h page (is.pages page inside below) }
+
+    known_there : KnowsPages run w.halves.current (past_of w.device).disk.content (writer.handed_of w) w.known.changed.items w.known.current w.known.other
+        → KnowsPages (begun run.geometry) w.halves.current (past_of w.device).disk.content (writer.handed_of w) w.known.changed.items w.known.current
+        w.known.other
+    known_there is = record {
+      few = is.few;
+      since = λ page inside n q late up at. ap (λ (x : Cells). map.get x.rows q) (same_begun n (writer.handed_of w));
+      current = half_there w.halves.current w.known.current is.current;
+      idle = half_there (other w.halves.current) w.known.other is.idle;
+    }
+
     stands_there : writer.has_failed w ≡ false → StandsFor past_of (begun run.geometry) w
     stands_there works =
         let now = stands.writer.holds works in
@@ -322,6 +360,7 @@ module _ {D M : Type 0} (past_of : D → DevicePast) (engine : EngineParts D M) 
           image = subst (λ (i : Option NewImage). IfSome i (IsUnderway (begun run.geometry) (other w.halves.current) (past_of w.device).disk.content w.synced))
               (sym none) tt;
           copying = now.copying;
+          known = known_there now.known;
         }
 
     writes : IsWriter past_of (begun run.geometry) v.last w

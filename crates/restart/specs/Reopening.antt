@@ -12,7 +12,7 @@ use Rattle.flip_image.specs.Layout.{HalvesValue, other}
 use Rattle.flip_image.specs.Store.{IsStore}
 use Rattle.store_reader.specs.Contents.{Gives, IsUnreadable}
 use Rattle.store_opener.specs.Reopening.{ReopeningLeaves, IsWrittenBack}
-use Rattle.core_loader.specs.Loaded.{holding}
+use Rattle.core_copies.specs.Loaded.{holding}
 use Rattle.core_model.specs.Histories.{CanOpen, opened}
 use Rattle.core_model.specs.Events.{standing_at}
 use Rattle.core_parts.specs.View.{CoreValue, IsState}

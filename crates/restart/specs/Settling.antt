@@ -6,7 +6,7 @@ use Rattle.record_values.specs.declared.error.Error.{Error}
 use Rattle.record_values.specs.declared.error.Error.TheVariants.{NoMemory, TxnsActive}
 use Rattle.model.specs.Given.{opening_cells}
 use Rattle.core_model.specs.Events.{standing_at}
-use Rattle.core_loader.specs.Loaded.{holding}
+use Rattle.core_copies.specs.Loaded.{holding}
 use Rattle.core_model.specs.Histories.{Opened, opened}
 use Rattle.nsf_core.specs.Loading.{IsQuiet}
 use Rattle.core_parts.specs.Opening.{opened_of}

@@ -71,8 +71,28 @@ impl<D: Device, A: Allocator + Copy> EngineParts<D, A> {
         }
     }
 
-    // Takes the piece of this place.
+    // Takes the piece of this place, or passes over it, where it is a page that the image's half has.
     fn copy_piece(&mut self, place: CopyPlace) -> Reply<A>
+        requires runs { CanRun D.past_of self.old }
+        requires all { unhanded self.old ≡ [] }
+        requires sound { has_failed self.old ≡ false }
+        requires next { next_place (copying_of self.old) ≡ Some place }
+        ensures moves { MovesOn D.past_of self.old self.new }
+        ensures answer { IsCopyAnswer D.failures result self.old self.new }
+        ensures around { CopiesAround D.past_of self.old self.new }
+    {
+        each_list();
+        one_copy();
+        self.writer.next_pieces();
+        self.core.stands();
+        if self.writer.pass_page() {
+            return Reply::Copied;
+        }
+        self.take_piece(place)
+    }
+
+    // Copies the piece of this place, and takes it.
+    fn take_piece(&mut self, place: CopyPlace) -> Reply<A>
         requires runs { CanRun D.past_of self.old }
         requires all { unhanded self.old ≡ [] }
         requires sound { has_failed self.old ≡ false }

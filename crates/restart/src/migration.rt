@@ -16,8 +16,7 @@ ghost use Rattle.restart.specs.Migrating.{IsNotMigrated, IsSmallAnswer, IsToldOf
 
 use crate::Engine;
 use crate::parts::EngineParts;
-use core_copies::each_list;
-use core_loader::load;
+use core_copies::{each_list, load};
 use core_model::each_half;
 use flip_image::Halves;
 use gate_log::LogArea;

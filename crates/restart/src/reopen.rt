@@ -13,8 +13,7 @@ ghost use Rattle.restart.specs.Reopening.{RecoversAnyRun, RefusesNoRun, StaysOfA
 
 use crate::Engine;
 use crate::parts::EngineParts;
-use core_copies::each_list;
-use core_loader::load;
+use core_copies::{each_list, load};
 use core_model::each_half;
 use flip_image::Halves;
 use gate_log::LogArea;

@@ -10,8 +10,7 @@ ghost use Rattle.store_writer.specs.Parts.{image_of};
 
 use crate::parts::EngineParts;
 use crate::{Engine, Reply};
-use core_copies::{Copies, each_list, one_copy};
-use core_loader::load;
+use core_copies::{Copies, each_list, load, one_copy};
 use model::CellMaps;
 use nsf_core::Core;
 use records::Error;

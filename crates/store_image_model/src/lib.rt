@@ -2,7 +2,8 @@
 //! that are redone over such an image.
 //!
 //! Laws, and `Chunk::place_behind`, which is exact. An image that was copied in steps, with the records above its base
-//! redone over it, gives the cells that they were made in (`copied_in_steps`, `redone_image`).
+//! redone over it, gives the cells that they were made in (`copied_in_steps`, `redone_image`). Entries copied above
+//! others stand behind these (`joined_in_order`).
 //!
 //! Lemmas about its public words that crates above may cite, in `proofs`: `Ordered`, `Runs` and `Steps`.
 #![tactic(auto)]

@@ -3,7 +3,8 @@
 //!
 //! Proved: `read_store_in` answers what the image gives by a version of the format, with its log (`found`, `GivesIn`),
 //! or names the first thing that is wrong (`refused`). It writes nothing (`reads`). An image gives one thing at most,
-//! and is refused in one way at most (the law `one_answer`). Only tested: that it succeeds where there is memory.
+//! and is refused in one way at most (the law `one_answer`). Over a fresh half records leave what they leave of nothing
+//! (`over_no_cells`). Only tested: that it succeeds where there is memory.
 //!
 //! Of the cells of a store alone: `redo` sets what a record says (`ok`), and refuses just those that can't follow, else
 //! for want of memory (`unfit`, `err`). `restore` takes every unfinished transaction back (`given`).

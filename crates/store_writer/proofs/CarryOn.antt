@@ -1,5 +1,5 @@
 -- The records above an image's base are carried on behind a group that was added to the current half's log.
-use Rattle.std.proofs.Common.{◌≡◌, ℕ, ◌+◌, ◌≤◌, true, length, take, drop, Option, Some, IfSome, sym, ap, subst, ◌∙◌, arith, length-take}
+use Rattle.std.proofs.Common.{◌≡◌, ℕ, ◌+◌, ◌≤◌, true, length, take, drop, Option, Some, IfSome, sym, ap, subst, ◌∙◌, arith, length-drop, length-take}
 use Rattle.std.proofs.lemmas.Bool.{false≢true}
 use Rattle.sector_device.specs.Disk.{CrashState, IsSynced, SameOutside}
 use Rattle.sector_device.specs.DevicePast.{DevicePast, LeavesOnly}
@@ -9,21 +9,25 @@ use Rattle.record_values.specs.GeometryValue.{GeometryValue}
 use Rattle.gate_log.specs.Area.{Area, Log, InArea, IsAreaInside, Stands}
 use Rattle.gate_log.proofs.Readings.{told_by_its_sectors}
 use Rattle.flip_image.specs.declared.half.Half.{Half}
-use Rattle.flip_image.specs.Layout.{HalvesValue, other, InHalf}
+use Rattle.flip_image.specs.Layout.{HalvesValue, other, InHalf, InHalfImage}
 use Rattle.flip_image.specs.Store.{IsStore}
-use Rattle.flip_image.proofs.Sides.{other_apart, log_inside}
+use Rattle.flip_image.proofs.Sides.{other_apart, log_inside, parts_apart}
 use Rattle.store_image_model.specs.Run.{Run, cells_at, records_between}
 use Rattle.store_reader.specs.Contents.{log_area}
 use Rattle.store_writer.specs.declared.writer.Writer.{Writer}
 use Rattle.store_writer.specs.declared.copying.Copying.{Copying}
 use Rattle.store_writer.specs.declared.image.NewImage.{NewImage}
+use Rattle.store_writer.specs.declared.known.KnownPages.{KnownPages}
 use Rattle.store_writer.specs.Contents.{HalfHas, LeftBy}
+use Rattle.store_writer.specs.Known.{KnowsPages, SamePages}
+use Rattle.store_writer.specs.Parts.{handed_of}
 use Rattle.store_writer.specs.Copying.{IsCopying}
 use Rattle.store_writer.specs.Image.{IsUnderway, InNewLog, StaysAtStage}
 use Rattle.store_writer.specs.Writer.{StandsFor, IsWriter, HasAppended}
 use Rattle.store_writer.proofs.Numbers.{front_between, back_between, length_between}
 use Rattle.store_writer.proofs.Halves.{SameIn, in_from_outside, half_apart, store_apart, log_room}
-use Rattle.store_writer.proofs.Underway.{new_log_in_half}
+use Rattle.store_writer.proofs.Knowing.{known_apart, pages_beside, pages_in}
+use Rattle.store_writer.proofs.Underway.{new_log_in_half, new_log_in_log}
 use Rattle.store_writer.proofs.Places.{kept_copying}
 use Rattle.store_writer.proofs.Left.{left_by}
 
@@ -94,9 +98,32 @@ module _ {D M : Type 0} (past_of : D → DevicePast) (run : Run) (handed count :
       (waiting_is : new.waiting.items ≡ drop count w.waiting.items)
       (same : SameOutside (InNewLog w.image) content (past_of new.device).disk.content) (all : IsSynced (past_of new.device).disk)
       (image : IfSome new.image (IsUnderway run (other half) (past_of new.device).disk.content (w.synced + length (take count w.waiting.items))))
-      (copying_is : new.copying ≡ w.copying) (stays : StaysAtStage w.image new.image) where
+      (copying_is : new.copying ≡ w.copying) (stays : StaysAtStage w.image new.image) (known_is : new.known ≡ w.known) where
     abbrev now : CrashState
     now = (past_of new.device).disk.content
+
+    -- what is known of pages
+    handed_new : handed_of w ≡ handed_of new
+    handed_new = omega (
+      arith,
+      synced_is,
+      ap length waiting_is,
+      length-drop count w.waiting.items,
+      length-take count w.waiting.items,
+      long,
+    )
+
+    other_there : SamePages g (other half) content now
+    other_there = pages_in g (other half) content now (in_from_outside (InHalfImage g (other half)) _ content now (λ n inside log.
+        parts_apart g (other half) n inside (new_log_in_log run (other half) content w.synced n w.image is.image log)) same)
+
+    known_new : KnowsPages run new.halves.current now (handed_of new) new.known.changed.items new.known.current new.known.other
+    known_new = subst (λ (h : HalvesValue). KnowsPages run h.current now (handed_of new) new.known.changed.items new.known.current new.known.other)
+        (sym halves_is)
+        (subst (λ (k : KnownPages M). KnowsPages run half now (handed_of new) k.changed.items k.current k.other) (sym known_is)
+        (subst (λ k. KnowsPages run half now k w.known.changed.items w.known.current w.known.other) handed_new
+        (known_apart run half content now (handed_of w) w.known.changed.items w.known.current w.known.other
+        (pages_beside g half content now (in_other now same)) other_there is.known)))
 
     stood_new : StandsFor past_of run new
     stood_new = record {
@@ -112,6 +139,7 @@ module _ {D M : Type 0} (past_of : D → DevicePast) (run : Run) (handed count :
           (IsUnderway run (other h.current) now (w.synced + length (take count w.waiting.items)))) (sym halves_is) image);
       copying = subst (λ (at : Copying). IsCopying g.pages at new.image) (sym copying_is)
           (kept_copying g.pages w.copying w.image new.image stays is.copying);
+      known = known_new;
     }
 
     pub carried_one : IsWriter past_of run handed new

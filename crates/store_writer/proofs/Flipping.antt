@@ -1,5 +1,6 @@
 -- What a flip leaves.
-use Rattle.std.proofs.Common.{◌≡◌, inl, inr, ⊎_elim, ℕ, ◌+◌, ◌-◌, ◌≤◌, false, true, List, length, drop, Option, Some, None, IfSome, sym, ap, subst, ◌∙◌, arith}
+use Rattle.std.proofs.Common.{◌≡◌, inl, inr, ⊎_elim, ℕ, ◌+◌, ◌-◌, ◌≤◌, false, true, List, length, drop, length-drop, Option, Some, None, IfSome, Vec, sym, ap}
+use Rattle.std.proofs.Common.{subst, ◌∙◌, arith}
 use Rattle.std.proofs.Common.{Result, Ok, Err, IfErr}
 use Rattle.std.specs.Result.{is_err}
 use Rattle.std.proofs.lemmas.Bool.{false≢true}
@@ -15,7 +16,7 @@ use Rattle.model.specs.Cells.{cells_after}
 use Rattle.gate_log.specs.Area.{Area, Log, InArea, HoldsGroups, Stands}
 use Rattle.gate_log.proofs.Readings.{told_by_its_sectors}
 use Rattle.flip_image.specs.declared.half.Half.{Half}
-use Rattle.flip_image.specs.Layout.{HalvesValue, other, InHalf}
+use Rattle.flip_image.specs.Layout.{HalvesValue, other, InHalf, InHalfImage}
 use Rattle.flip_image.specs.Store.{Names, IsDeviceFailure, IsSuperblock, IsStore, IsFlipping}
 use Rattle.flip_image.proofs.Sides.{behind_front, image_inside, log_inside, either_store}
 use Rattle.store_image_model.specs.Run.{Run, IsRun, end_of, cells_at, records_between}
@@ -32,6 +33,11 @@ use Rattle.store_writer.specs.Image.{IsImageWhole, IsContent, IsUnderway, reach}
 use Rattle.store_writer.specs.Writer.{CanFlip, StandsFor, IsWriter}
 use Rattle.store_writer.proofs.Numbers.{back_between, last_between, length_between}
 use Rattle.store_writer.proofs.Halves.{in_from_outside, half_apart}
+use Rattle.store_writer.specs.Known.{KnowsPages}
+use Rattle.store_writer.specs.Parts.{handed_of}
+use Rattle.store_writer.proofs.Knowing.{pages_in}
+use Rattle.store_writer.proofs.KnownPages.{known_flipped}
+use Rattle.store_writer.proofs.Opening.{waits_all}
 use Rattle.store_writer.proofs.Taking.{stand, left_kept}
 use Rattle.store_writer.proofs.Left.{left_by}
 
@@ -106,7 +112,8 @@ module _ {D M : Type 0} (past_of : D → DevicePast) (run : Run) (handed : ℕ) 
   -- the flip was done
   module _ (new : Writer D M) (halves_is : new.halves ≡ record { geometry = old.halves.geometry; current = to }) (log_is : new.log ≡ image.log)
       (synced_is : new.synced ≡ n) (waiting_is : new.waiting.items ≡ drop (n - old.synced) old.waiting.items) (none : new.image ≡ None)
-      (idle : new.copying ≡ Idle)
+      (idle : new.copying ≡ Idle) (changed_is : new.known.changed ≡ old.known.changed) (here_is : new.known.current ≡ Some image.base)
+      (there_is : new.known.other ≡ old.known.current)
       (same : SameOutside (λ k. k ≡ 1) content (past_of new.device).disk.content) (named : Names (sector (past_of new.device).disk.content 1) to)
       (all : IsSynced (past_of new.device).disk) where
     abbrev now : CrashState
@@ -132,6 +139,35 @@ module _ {D M : Type 0} (past_of : D → DevicePast) (run : Run) (handed : ℕ) 
       counted = there.stands.counted;
     }
 
+    -- what is known of pages
+    known_there : KnowsPages run to now (handed_of old) old.known.changed.items (Some image.base) old.known.current
+    known_there =
+        let content_is : IsImageWhole run to content image.base image.number =
+        subst (IsContent run to content image.base image.number) whole there.content in
+        known_flipped run from content now (handed_of old) image.base image.number content_is.copied old.known.changed.items old.known.current old.known.other
+        there.low there.rise (omega (arith, within, waits_all past_of run handed old is)) content_is.imaged content_is.copies
+        (pages_in g from content now (in_from_outside (InHalfImage g from) _ content now (λ k inside. not_front from k (image_inside g from k inside)) same))
+        (pages_in g to content now (in_from_outside (InHalfImage g to) _ content now (λ k inside. not_front to k (image_inside g to k inside)) same))
+        (stand past_of run handed old is sound).known
+
+    handed_now : handed_of old ≡ handed_of new
+    handed_now = omega (
+      arith,
+      synced_is,
+      ap length waiting_is,
+      length-drop (n - old.synced) old.waiting.items,
+      waits_all past_of run handed old is,
+      up,
+      handed_in,
+    )
+
+    known_now : KnowsPages run new.halves.current now (handed_of new) new.known.changed.items new.known.current new.known.other
+    known_now = subst (λ (h : Half). KnowsPages run h now (handed_of new) new.known.changed.items new.known.current new.known.other) (sym current_is)
+        (subst (λ (v : Vec ℕ M). KnowsPages run to now (handed_of new) v.items new.known.current new.known.other) (sym changed_is)
+        (subst (λ (o : Option ℕ). KnowsPages run to now (handed_of new) old.known.changed.items o new.known.other) (sym here_is)
+        (subst (λ (o : Option ℕ). KnowsPages run to now (handed_of new) old.known.changed.items (Some image.base) o) (sym there_is)
+        (subst (λ k. KnowsPages run to now k old.known.changed.items (Some image.base) old.known.current) handed_now known_there))))
+
     stood_now : StandsFor past_of run new
     stood_now = record {
       store = subst (λ (h : Half). IsStore g h now) (sym current_is) store_now;
@@ -143,6 +179,7 @@ module _ {D M : Type 0} (past_of : D → DevicePast) (run : Run) (handed : ℕ) 
       loose = λ k unsynced. absurd (false≢true (sym (all k) ∙ unsynced));
       image = subst (λ (t : Option NewImage). IfSome t (IsUnderway run (other new.halves.current) now new.synced)) (sym none) tt;
       copying = subst (λ (at : Copying). IsCopying g.pages at new.image) (sym idle) none;
+      known = known_now;
     }
 
     pub flipped_one : IsWriter past_of run handed new
@@ -171,12 +208,6 @@ no_image w handed none (image, there, _, _, _) = let never : Some image ≡ None
 pub not_whole : {D M : Type 0} (w : Writer D M) (handed : ℕ) (image : NewImage) → w.image ≡ Some image → ¬ (image.stage ≡ Whole) → ¬ CanFlip handed w
 not_whole w handed image is part (found, there, whole, _, _) =
     let same : image ≡ found = cc (is, there) in part (ap (λ (x : NewImage). x.stage) same ∙ whole)
-
--- the records that wait are the last ones that were handed in
-pub waits_all : {D M : Type 0} (past_of : D → DevicePast) (run : Run) (handed : ℕ) (w : Writer D M) → IsWriter past_of run handed w
-    → w.synced + length w.waiting.items ≡ handed
-waits_all past_of run handed w is =
-    omega (arith, ap length is.waits, length_between run w.synced handed is.opened is.reached is.made, is.reached)
 
 -- the image of a writer that stands is under way
 pub there_at : {D M : Type 0} (past_of : D → DevicePast) (run : Run) (handed : ℕ) (old : Writer D M) → IsWriter past_of run handed old → old.failed ≡ false

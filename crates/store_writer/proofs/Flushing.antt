@@ -160,7 +160,7 @@ module _ {D M : Type 0} (past_of : D → DevicePast) (failures : D → ℕ) (old
         mid = record old { device = device; log = log }
 
         pub has : (run : Run) (handed : ℕ) → IsWriter past_of run handed old → HasAppended past_of run handed count mid
-        has run handed is = has_appended past_of run handed old is sound count group refl within closed mid refl area refl refl refl refl outside
+        has run handed is = has_appended past_of run handed old is sound count group refl within closed mid refl area refl refl refl refl refl outside
             (stands_new (stood past_of run handed old is sound).has.groups (stands past_of run handed old is sound)) all
 
         log_is : log ≡ record old.log { open_slots = old.log.open_slots + 1 }

@@ -1,7 +1,9 @@
 mod OnePage
 mod Numbers
 mod Left
+mod Listed
 mod Halves
+mod Knowing
 mod Underway
 mod Writing
 mod CarryOn
@@ -11,6 +13,7 @@ mod Idle
 pub mod Alone
 mod Taking
 mod Stepwise
+mod KnownPages
 mod Flipping
 mod Replies
 mod Flushing

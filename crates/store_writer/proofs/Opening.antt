@@ -29,11 +29,20 @@ use Rattle.store_writer.specs.declared.copying.Copying.{Copying}
 use Rattle.store_writer.specs.declared.copying.Copying.TheVariants.{Idle}
 use Rattle.store_writer.specs.Copying.{IsCopying}
 use Rattle.store_writer.specs.Image.{IsContent, IsUnderway, reach}
+use Rattle.store_writer.specs.Known.{KnowsPages, with_changes}
 use Rattle.store_writer.specs.Parts.{without_image}
-use Rattle.store_writer.proofs.Numbers.{between_split, none_between}
+use Rattle.store_writer.specs.Parts.{handed_of}
+use Rattle.store_writer.proofs.Knowing.{known_longer, known_nothing, known_with}
+use Rattle.store_writer.proofs.Numbers.{between_split, length_between, none_between}
 use Rattle.store_writer.proofs.Left.{left_by}
 
 -- ---- more records are made
+
+-- the records that wait are the last ones that were handed in
+pub waits_all : {D M : Type 0} (past_of : D → DevicePast) (run : Run) (handed : ℕ) (w : Writer D M) → IsWriter past_of run handed w
+    → w.synced + length w.waiting.items ≡ handed
+waits_all past_of run handed w is =
+    omega (arith, ap length is.waits, length_between run w.synced handed is.opened is.reached is.made, is.reached)
 
 module _ (run : Run) (more : List RecordValue) where
   same_cells_at : (n : ℕ) → n ≤ end_of run → cells_at (longer run more) n ≡ cells_at run n
@@ -167,6 +176,8 @@ module _ (run : Run) (more : List RecordValue) where
             loose = stood.loose;
             image = if_underway (other w.halves.current) (past_of w.device).disk.content w.synced w.image (omega (arith, is.reached, is.made)) stood.image;
             copying = stood.copying;
+            known = known_longer run (longer run more) w.halves.current (past_of w.device).disk.content (handed_of w) w.known.changed.items w.known.current
+                w.known.other refl (λ n up. same_cells_at n (omega (arith, up, waits_all past_of run handed w is, is.made))) stood.known;
           };
       images = λ image crash. longer_left w.synced handed image is.made (is.images image crash);
     }
@@ -193,6 +204,16 @@ module _ {D M : Type 0} (past_of : D → DevicePast) (run : Run) (handed : ℕ) 
         let left = is.images image (subst (λ (x : D). IsCrashState (past_of x).disk image) d crash) in
         left_by run new.synced (handed + length records) left.number image (omega (arith, left.least, s)) (omega (arith, left.most)) left.has;
   }
+
+  -- what is known of pages, with what these records set
+  pub known_handed : old.failed ≡ false → (records : List RecordValue) → AreNext run handed records
+      → KnowsPages run old.halves.current (past_of old.device).disk.content (handed_of old + length records) (with_changes old.known.changed.items records)
+      old.known.current old.known.other
+  known_handed sound records next =
+      let at : handed ≡ handed_of old = sym (waits_all past_of run handed old is) in
+      known_with run is.run-is old.halves.current (past_of old.device).disk.content old.known.current old.known.other records (handed_of old)
+      old.known.changed.items (omega (arith, is.opened)) (omega (arith, next.made, at))
+      (subst (λ n. records ≡ records_between run n (n + length records)) at next.records-are) (is.holds sound).known
 
   -- what keeps all but where the records lie, keeps the writer
   pub kept_writer : (new : Writer D M) → new.device ≡ old.device → new.halves ≡ old.halves → new.synced ≡ old.synced
@@ -233,6 +254,7 @@ without past_of run handed copying w none is = record {
         loose = stood.loose;
         image = tt;
         copying = none;
+        known = stood.known;
       };
   images = is.images;
 }
@@ -243,9 +265,9 @@ no_record : (n : ℕ) (cells : Cells) → cells ≡ cells_after cells (take (n -
 no_record n cells = let zero : 0 ≡ n - n = omega arith in ap (λ k. cells_after cells (take k [])) zero
 
 pub opened_writer : {D M : Type 0} (past_of : D → DevicePast) (cells : Cells) (w : Writer D M) → IsOpenedAt (past_of w.device) w.halves w.log w.synced cells
-    → w.waiting.items ≡ [] → w.image ≡ None → w.copying ≡ Idle
+    → w.waiting.items ≡ [] → w.image ≡ None → w.copying ≡ Idle → w.known.changed.items ≡ [] → w.known.current ≡ None → w.known.other ≡ None
     → IsWriter past_of (opened_run w.halves w.synced cells) w.synced w
-opened_writer past_of cells w is empty none idle = record {
+opened_writer past_of cells w is empty none idle unknown here there = record {
   run-is = record { following = tt; placed = is.placed };
   geometry-is = refl;
   opened = omega arith;
@@ -263,6 +285,8 @@ opened_writer past_of cells w is empty none idle = record {
     image = subst (λ (t : Option NewImage).
         IfSome t (IsUnderway (opened_run w.halves w.synced cells) (other w.halves.current) (past_of w.device).disk.content w.synced)) (sym none) tt;
     copying = subst (λ (at : Copying). IsCopying w.halves.geometry.pages at w.image) (sym idle) none;
+    known = known_nothing (opened_run w.halves w.synced cells) w.halves.current (past_of w.device).disk.content (handed_of w) w.known.changed.items
+        w.known.current w.known.other unknown here there;
   };
   images = λ image crash.
       let same : image ≡ (past_of w.device).disk.content = crash_synced (past_of w.device).disk image is.all_synced crash in

@@ -8,7 +8,7 @@ use Rattle.record_values.specs.declared.pair.Mark.{Mark}
 use Rattle.model.specs.declared.life.Life.{Life}
 use Rattle.store_image_model.specs.declared.chunk.CopyPlace.{CopyPlace}
 use Rattle.store_image_model.specs.declared.chunk.CopyPlace.TheVariants as at
-use Rattle.store_writer.specs.Copying.{IsCopying}
+use Rattle.store_writer.specs.Copying.{IsCopying, next_place}
 use Rattle.store_writer.specs.declared.copying.Copying.{Copying}
 use Rattle.store_writer.specs.declared.copying.Copying.TheVariants.{Idle, Steps, GivenUp}
 use Rattle.store_writer.specs.declared.image.NewImage.{NewImage}
@@ -50,6 +50,29 @@ at_page pages (Steps place) image either i there page count highest life is belo
         let e : stage.Partly p 0 None began ≡ stage.Partly page count highest life = cc (came, there, from, is) in
         let same : p ≡ page = cc e in
         (below, (j, began, came, from ∙ ap (λ (n : ℕ). stage.Partly n 0 None began) same))
+    by (Some (at.Entries above)) (j, n, began, came, from) =
+        let e : stage.Partly pages n above began ≡ stage.Partly page count highest life = cc (came, there, from, is) in
+        let same : pages ≡ page = cc e in
+        absurd (omega (arith, same, below))
+
+-- and so it is where the copying goes on
+pub place_at : (pages : ℕ) (copying : Copying) (image : Option NewImage) → IsCopying pages copying image → (i : NewImage) → image ≡ Some i
+    → (page count : ℕ) (highest : Option Pair) (life : Life) → i.stage ≡ stage.Partly page count highest life → page < pages
+    → next_place copying ≡ Some (at.Page page)
+place_at pages Idle image none i there page count highest life is below = absurd (cc (none, there))
+place_at pages GivenUp image none i there page count highest life is below = absurd (cc (none, there))
+place_at pages (Steps place) image either i there page count highest life is below = ⊎_elim
+    (λ none. absurd (cc (none, there)))
+    (λ here. by place here)
+    either
+  where
+    by : (place : Option CopyPlace) → IsAtPlace pages place image → place ≡ Some (at.Page page)
+    by None (j, came, from) = absurd (let e : stage.Whole ≡ stage.Partly page count highest life = cc (came, there, from, is) in cc e)
+    by (Some at.Start) none = absurd none
+    by (Some (at.Page p)) (low, (j, began, came, from)) =
+        let e : stage.Partly p 0 None began ≡ stage.Partly page count highest life = cc (came, there, from, is) in
+        let same : p ≡ page = cc e in
+        ap (λ (n : ℕ). Some (at.Page n)) same
     by (Some (at.Entries above)) (j, n, began, came, from) =
         let e : stage.Partly pages n above began ≡ stage.Partly page count highest life = cc (came, there, from, is) in
         let same : pages ≡ page = cc e in

@@ -1,5 +1,5 @@
 -- What an image that is written into the half that isn't current leaves of the current one.
-use Rattle.std.proofs.Common.{◌≡◌, ℕ, ◌≤◌, true, false, [], length, IfSome, sym, ap, subst, ◌∙◌, arith}
+use Rattle.std.proofs.Common.{◌≡◌, ℕ, ◌≤◌, true, false, [], length, IfSome, None, sym, ap, subst, ◌∙◌, arith}
 use Rattle.sector_device.specs.Disk.{CrashState, sector, SameOutside}
 use Rattle.sector_device.specs.DevicePast.{DevicePast, LeavesOnly}
 use Rattle.sector_device.proofs.Moments.{weaker}
@@ -20,7 +20,10 @@ use Rattle.store_writer.specs.Contents.{HalfHas, LeftBy}
 use Rattle.store_writer.specs.declared.image.Stage.TheVariants.{Whole}
 use Rattle.store_writer.specs.Copying.{IsCopying}
 use Rattle.store_writer.specs.Image.{IsContent, IsUnderway, reach}
+use Rattle.store_writer.specs.Known.{KnowsPages}
+use Rattle.store_writer.specs.Parts.{handed_of}
 use Rattle.store_writer.specs.Writer.{StandsFor, IsWriter}
+use Rattle.store_writer.proofs.Knowing.{known_idle, pages_beside}
 use Rattle.store_writer.proofs.Numbers.{none_between}
 use Rattle.store_writer.proofs.Left.{left_by}
 use Rattle.store_writer.proofs.Halves.{SameIn, in_from_outside, half_apart, store_apart}
@@ -97,8 +100,10 @@ module _ {D M : Type 0} (past_of : D → DevicePast) (run : Run) (handed : ℕ) 
       → SameOutside (InHalf g (other half)) content (past_of new.device).disk.content
       → ((n : ℕ) → (past_of new.device).disk.unsynced n ≡ true → InHalfImage g (other half) n)
       → IfSome new.image (IsUnderway run (other half) (past_of new.device).disk.content old.synced)
-      → IsCopying run.geometry.pages new.copying new.image → StandsFor past_of run new
-  stands_with new halves_is log_is synced_is same loose image copying =
+      → IsCopying run.geometry.pages new.copying new.image
+      → KnowsPages run new.halves.current (past_of new.device).disk.content (handed_of new) new.known.changed.items new.known.current new.known.other
+      → StandsFor past_of run new
+  stands_with new halves_is log_is synced_is same loose image copying known =
       let c = (past_of new.device).disk.content in
       record {
         store = subst (λ (h : HalvesValue). IsStore g h.current c) (sym halves_is) (store_kept c same);
@@ -111,4 +116,11 @@ module _ {D M : Type 0} (past_of : D → DevicePast) (run : Run) (handed : ℕ) 
         image = subst (λ n. IfSome new.image (IsUnderway run (other new.halves.current) c n)) (sym synced_is)
             (subst (λ (h : HalvesValue). IfSome new.image (IsUnderway run (other h.current) c old.synced)) (sym halves_is) image);
         copying = copying;
+        known = known;
       }
+
+  -- nothing is known of the other half any more
+  pub known_dropped : (c : CrashState) → SameOutside (InHalf g (other half)) content c
+      → KnowsPages run half c (handed_of old) old.known.changed.items old.known.current None
+  known_dropped c same = known_idle run half content c (handed_of old) old.known.changed.items old.known.current old.known.other None
+      (pages_beside g half content c same) tt stand.known

@@ -19,7 +19,7 @@ use Rattle.record_values.specs.declared.pair.Pair.{Pair}
 use Rattle.model.specs.declared.life.Life.{Life}
 use Rattle.store_image_half.proofs.PartByPart.{part_told}
 use Rattle.flip_image.specs.declared.half.Half.{Half}
-use Rattle.flip_image.specs.Layout.{InHalf, InHalfImage}
+use Rattle.flip_image.specs.Layout.{InHalf, InHalfImage, InLog}
 use Rattle.flip_image.proofs.Sides.{image_inside, log_inside, parts_apart}
 use Rattle.store_image_model.specs.Run.{Run, end_of, records_between}
 use Rattle.store_reader.specs.Contents.{log_area}
@@ -169,7 +169,13 @@ pub if_underway_apart : (run : Run) (half : Half) (image c : CrashState) (synced
 if_underway_apart run half image c synced None same is = is
 if_underway_apart run half image c synced (Some new) same is = underway_apart run half image c synced new is same
 
--- a sector of an image's log is one of its half
+-- a sector of an image's log is one of its half's log
+pub new_log_in_log : (run : Run) (half : Half) (image : CrashState) (synced n : ℕ) (new : Option NewImage) → IfSome new (IsUnderway run half image synced)
+    → InNewLog new n → InLog run.geometry half n
+new_log_in_log run half image synced n None is inside = absurd inside
+new_log_in_log run half image synced n (Some new) is inside = subst (λ (a : Area). InArea a n) is.area-is inside
+
+-- and of its half
 pub new_log_in_half : (run : Run) (half : Half) (image : CrashState) (synced n : ℕ) (new : Option NewImage) → IfSome new (IsUnderway run half image synced)
     → InNewLog new n → InHalf run.geometry half n
 new_log_in_half run half image synced n None is inside = absurd inside

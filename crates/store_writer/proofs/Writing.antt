@@ -20,7 +20,11 @@ use Rattle.store_image_model.specs.Run.{Run, cells_at, records_between}
 use Rattle.store_image_model.proofs.Runs.{reached}
 use Rattle.store_reader.specs.Contents.{log_area}
 use Rattle.store_writer.specs.declared.writer.Writer.{Writer}
+use Rattle.store_writer.specs.declared.known.KnownPages.{KnownPages}
 use Rattle.store_writer.specs.Contents.{HalfHas, LeftBy}
+use Rattle.store_writer.specs.Known.{KnowsPages}
+use Rattle.store_writer.specs.Parts.{handed_of}
+use Rattle.store_writer.proofs.Knowing.{known_apart, pages_in}
 use Rattle.store_writer.specs.declared.copying.Copying.{Copying}
 use Rattle.store_writer.specs.declared.image.NewImage.{NewImage}
 use Rattle.store_writer.specs.Copying.{IsCopying}
@@ -150,6 +154,7 @@ module _ {D M : Type 0} (past_of : D → DevicePast) (run : Run) (handed : ℕ) 
     -- after the append was done
     module _ (new : Writer D M) (halves_is : new.halves ≡ old.halves) (same_area : new.log.area ≡ old.log.area) (synced_is : new.synced ≡ old.synced)
         (waiting_is : new.waiting.items ≡ old.waiting.items) (image_is : new.image ≡ old.image) (copying_is : new.copying ≡ old.copying)
+        (known_is : new.known ≡ old.known)
         (slot : SameOutside (InSlot old.log.area old.log.open_slots) disk.content (past_of new.device).disk.content)
         (stands_new : Stands new.log (past_of new.device).disk.content (stood.has.groups ++ group ∷ [])) (all : IsSynced (past_of new.device).disk) where
       abbrev content : CrashState
@@ -167,6 +172,22 @@ module _ {D M : Type 0} (past_of : D → DevicePast) (run : Run) (handed : ℕ) 
 
       image_kept : IfSome old.image (IsUnderway run (other half) content old.synced)
       image_kept = if_underway_apart run (other half) disk.content content old.synced old.image other_kept stood.image
+
+      -- what is known of pages
+      handed_new : handed_of old ≡ handed_of new
+      handed_new = omega (arith, synced_is, ap length waiting_is)
+
+      known_new : KnowsPages run new.halves.current content (handed_of new) new.known.changed.items new.known.current new.known.other
+      known_new = subst (λ (h : HalvesValue). KnowsPages run h.current content (handed_of new) new.known.changed.items new.known.current new.known.other)
+          (sym halves_is)
+          (subst (λ (k : KnownPages M). KnowsPages run half content (handed_of new) k.changed.items k.current k.other) (sym known_is)
+          (subst (λ k. KnowsPages run half content k old.known.changed.items old.known.current old.known.other) handed_new
+          (known_apart run half disk.content content (handed_of old) old.known.changed.items old.known.current old.known.other
+          (pages_in g half disk.content content (image_there content outside))
+          (pages_in g (other half) disk.content content (record {
+            sectors = other_kept.sectors;
+            same = λ n inside. other_kept.same n (image_inside g (other half) n inside);
+          })) stood.known)))
 
       pub has_appended : HasAppended past_of run handed count new
       has_appended = record {
@@ -190,6 +211,7 @@ module _ {D M : Type 0} (past_of : D → DevicePast) (run : Run) (handed : ℕ) 
             (subst (λ (h : HalvesValue). IfSome old.image (IsUnderway run (other h.current) content old.synced)) (sym halves_is) image_kept));
         copying = subst (λ (t : Option NewImage). IsCopying g.pages new.copying t) (sym image_is)
             (subst (λ (at : Copying). IsCopying g.pages at old.image) (sym copying_is) stood.copying);
+        known = known_new;
       }
 
 -- after a call that left records and numbers alone

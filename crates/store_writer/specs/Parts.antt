@@ -1,5 +1,5 @@
 -- The parts of a writer.
-use Rattle.std.specs.Prelude.{ℕ, Bool, List, Option, None}
+use Rattle.std.specs.Prelude.{ℕ, ◌+◌, Bool, List, length, Option, None}
 use Rattle.records.specs.RecordValue.{RecordValue}
 use Rattle.gate_log.specs.Area.{Log}
 use Rattle.flip_image.specs.Layout.{HalvesValue}
@@ -21,6 +21,10 @@ module _ {D M : Type 0} where
   -- the records that were handed in and are not synced yet, in order
   abbrev pub waiting_of : Writer D M → List RecordValue
   waiting_of w = w.waiting.items
+
+  -- the number of the last record that was handed in
+  abbrev pub handed_of : Writer D M → ℕ
+  handed_of w = w.synced + length w.waiting.items
 
   -- the number of the last synced record
   abbrev pub synced_of : Writer D M → ℕ

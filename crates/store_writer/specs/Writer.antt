@@ -46,16 +46,19 @@ use Rattle.model.specs.Redo.{cells_of}
 use Rattle.store_writer.specs.declared.writer.FlipReply.{FlipReply}
 use Rattle.store_writer.specs.declared.writer.FlipReply.TheVariants.{Flipped, Behind}
 use Rattle.store_writer.specs.declared.copying.Copying.TheVariants.{Idle, Steps, GivenUp}
-use Rattle.store_writer.specs.Copying.{IsCopying}
+use Rattle.store_image_model.specs.declared.chunk.CopyPlace.TheVariants as place
+use Rattle.store_writer.specs.Copying.{IsCopying, next_place, page_behind}
 use Rattle.store_writer.specs.declared.image.Plan.{Plan}
 use Rattle.store_writer.specs.Image.{BecomesImage, InNewSlot, IsPlan, IsUnderway, reach}
-use Rattle.store_writer.specs.Parts.{without_image}
+use Rattle.store_writer.specs.Known.{IsKnown, KnowsPages}
+use Rattle.store_writer.specs.Parts.{handed_of, without_image}
 
 -- ---- what it stands for
 
 module _ {D M : Type 0} (past_of : D → DevicePast) (run : Run) where
   -- The current half has the cells after the last synced record, and the log knows its open slots. No sector is
-  -- unsynced but of the other half's image, and an image under way is in that half, where its copying is.
+  -- unsynced but of the other half's image, and an image under way is in that half, where its copying is. What is known
+  -- of pages is so.
   pub record StandsFor (w : Writer D M) : Type 0 where
     pub store : IsStore run.geometry w.halves.current (past_of w.device).disk.content
     pub has : HalfHas run.geometry w.halves.current (past_of w.device).disk.content w.synced (cells_at run w.synced)
@@ -66,6 +69,8 @@ module _ {D M : Type 0} (past_of : D → DevicePast) (run : Run) where
         → InHalfImage run.geometry (other w.halves.current) n
     pub image : IfSome w.image (IsUnderway run (other w.halves.current) (past_of w.device).disk.content w.synced)
     pub copying : IsCopying run.geometry.pages w.copying w.image
+    pub known : KnowsPages run w.halves.current (past_of w.device).disk.content (handed_of w) w.known.changed.items
+        w.known.current w.known.other
 
   -- The records of the run up to number `handed` were handed in. The device stands for those up to the last synced one,
   -- unless it failed, and the others wait. A crash now leaves the cells after one of them, no earlier than the last
@@ -101,6 +106,8 @@ module _ {D M : Type 0} (past_of : D → DevicePast) (run : Run) where
     pub all_synced : IsSynced (past_of w.device).disk
     pub image : IfSome w.image (IsUnderway run (other w.halves.current) (past_of w.device).disk.content w.synced)
     pub copying : IsCopying run.geometry.pages w.copying w.image
+    pub known : KnowsPages run w.halves.current (past_of w.device).disk.content (handed_of w) w.known.changed.items
+        w.known.current w.known.other
 
 -- some records of some run were handed in
 abbrev pub IsSomewhere : {D M : Type 0} → (D → DevicePast) → Writer D M → Type 0
@@ -371,6 +378,28 @@ HasTaken number piece old new = (image : NewImage) × HasKept image old new × H
 abbrev pub IsStepReply : {A D M : Type 0} → ℕ → Piece A → StepReply → Writer D M → Writer D M → Type 0
 IsStepReply number piece Taken old new = (¬ MustStartAgain piece old) × HasTaken number piece old new
 IsStepReply number piece StartAgain old new = (new ≡ without_image GivenUp old) × MustStartAgain piece old
+
+-- The image's half has its next page as it is now, and the records up to its last step were handed in. A slot of the
+-- current log is closed.
+abbrev pub MayPass : {D M : Type 0} → Writer D M → Type 0
+MayPass w = (w.failed ≡ false) × (¬ IsLogFull w)
+    × ((image : NewImage) × (page count : ℕ) × (highest : Option Pair) × (life : Life) × (w.image ≡ Some image)
+    × (image.stage ≡ stage.Partly page count highest life) × (image.number ≤ handed_of w) × IsKnown w.known page)
+
+-- the image has its next page as the last record handed in left it, its copying goes on behind it, and all else is as
+-- it was
+abbrev pub HasPassed : {D M : Type 0} → Writer D M → Writer D M → Type 0
+HasPassed old new = (image : NewImage) × (page count : ℕ) × (highest : Option Pair) × (life : Life)
+    × (old.image ≡ Some image) × (image.stage ≡ stage.Partly page count highest life)
+    × (page < old.halves.geometry.pages) × (next_place old.copying ≡ Some (place.Page page)) × (new ≡ record old {
+      image = Some (record image { number = handed_of old; stage = stage.Partly (page + 1) count highest life });
+      copying = Steps (page_behind old.halves.geometry.pages page);
+    })
+
+-- it is as if the page that comes next had been copied as it is after the record `handed`, and taken
+abbrev pub IsAsTaken : {D M : Type 0} → Run → (handed : ℕ) → Writer D M → Writer D M → Type 0
+IsAsTaken {D} {M} run handed old new = (page : ℕ) × (rows : Table) × (next_place old.copying ≡ Some (place.Page page))
+    × IsChunk {A = M} run old handed (Page page rows) × IsStepReply {A = M} handed (Page page rows) Taken old new
 
 -- what a flip wants: there is a whole image, every record up to its last step was handed in, and those above its base
 -- are synced

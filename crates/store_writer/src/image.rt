@@ -28,6 +28,7 @@ ghost use Rattle.store_image_model.specs.declared.chunk.TheConstants.{CHUNK_ENTR
 ghost use Rattle.store_reader.specs.Contents.{log_area};
 ghost use Rattle.store_writer.specs.declared.image.Stage.TheVariants.{Partly};
 ghost use Rattle.store_writer.specs.Image.{IsUnderway, InNewLog, InNewSlot, IsPlan, BecomesImage, StaysAtStage};
+ghost use Rattle.store_writer.specs.Known.{SamePages};
 ghost use Rattle.store_writer.specs.Writer.{WritesOnly};
 ghost use Rattle.store_writer.specs.Writer.{stage_behind};
 
@@ -227,6 +228,8 @@ pub(crate) fn write_first<D: Device, A: Allocator + Copy>(
     ensures loose { OnOk result ((n : ℕ) → (D.past_of device.new).disk.unsynced n ≡ true
         → InHalfImage halves.geometry (other halves.current) n) }
     ensures outside { SameOutside (InHalf halves.geometry (other halves.current)) (D.past_of device.old).disk.content
+        (D.past_of device.new).disk.content }
+    ensures pages { SamePages halves.geometry (other halves.current) (D.past_of device.old).disk.content
         (D.past_of device.new).disk.content }
     ensures any_moment { LeavesOnly (D.past_of device.old) (D.past_of device.new)
         (SameOutside (InHalf halves.geometry (other halves.current)) (D.past_of device.old).disk.content) }

@@ -3,8 +3,10 @@
 //!
 //! Proved: `flush_group` writes as many waiting records as fill a group, and tells the last synced one (`flushed`); it
 //! writes in one slot of each log alone (`slot`). `checkpoint_step` takes an image piece by piece (`stepped`).
-//! `checkpoint_flip` makes it current just where its log has all it needs (`flipped`, `behind`). No record is lost for
-//! want of memory (`back`). Only tested, through a store: that calls succeed where there is memory.
+//! `pass_page` passes over a page just where the image's half is known to have it (`when`), as if it was taken
+//! (`taken`). `checkpoint_flip` makes an image current just where its log has all it needs (`flipped`, `behind`). No
+//! record is lost for want of memory (`back`). Only tested, through a store: that calls succeed where there is memory,
+//! and that an image passes over pages.
 //! It keeps how far the copying of an image has come (`Copying`): its own calls alone move it on. `opened_by_reader`:
 //! what a reader found is a premise of `StoreWriter::new`.
 //!
@@ -13,6 +15,7 @@
 
 mod copying;
 mod image;
+mod known;
 mod laws;
 mod page;
 mod store;

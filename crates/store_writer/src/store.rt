@@ -1,6 +1,6 @@
 //! The writer of a store.
 ghost use Rattle.std.specs.Prelude.{◌≡◌, ◌≢◌, ◌+◌, ◌-◌, ◌≤◌, ◌++◌, ℕ, List, [], length, false, Some, Option, None};
-ghost use Rattle.std.specs.Prelude.{OnOk, OnErr, IfOk, IfErr};
+ghost use Rattle.std.specs.Prelude.{◌↔◌, IsFalse, IsTrue, OnOk, OnErr, IfOk, IfErr};
 ghost use Rattle.sector_device.specs.Disk.{CrashState, IsCrashState};
 ghost use Rattle.sector_device.specs.DevicePast.{LeavesOnly};
 ghost use Rattle.records.specs.RecordValue.{RecordValue};
@@ -22,6 +22,7 @@ ghost use Rattle.store_writer.specs.Parts.{device_of, halves_of, log_of, waiting
 ghost use Rattle.store_writer.specs.Parts.{copying_of, without_image};
 
 use crate::image::Stage;
+use crate::known::KnownPages;
 use crate::writer::Writer;
 use crate::{Copying, FlipReply, FlushReply, StepReply};
 use flip_image::Halves;
@@ -63,6 +64,7 @@ impl<D: Device, A: Allocator + Copy> StoreWriter<D, A> {
     ghost use Rattle.store_writer.specs.Writer.{IsWriter, IsOpenedAt, opened_run, longer, AreNext, IsLogFull};
     ghost use Rattle.store_writer.specs.Writer.{IsFlushReply, IsNotFlushed, IsPageChunk, IsEntriesChunk, IsChunk};
     ghost use Rattle.store_writer.specs.Writer.{MustStartAgain, IsStepReply, CanFlip, IsFlipReply, HasFailed};
+    ghost use Rattle.store_writer.specs.Writer.{HasPassed, IsAsTaken, MayPass};
     ghost use Rattle.store_writer.specs.Writer.{InOpenedSlots, WritesLogsAlone, WritesOnly, IsAsBefore, IsBeforeFlush};
 
     /// A writer to which nothing was handed, over a device that is synced. The log is that of the current half, as a
@@ -89,6 +91,7 @@ impl<D: Device, A: Allocator + Copy> StoreWriter<D, A> {
             synced,
             image: None,
             copying: Copying::Idle,
+            known: KnownPages::new(alloc),
             failed: false,
         };
         StoreWriter { writer }
@@ -139,10 +142,12 @@ impl<D: Device, A: Allocator + Copy> StoreWriter<D, A> {
         if records.is_empty() {
             return Ok(());
         }
+        let before = self.writer.waiting.len();
         match self.writer.waiting.append(&mut records) {
             Ok(()) => {}
             Err(_) => return Err(records),
         }
+        self.writer.known.note(&self.writer.waiting[before..]);
         Ok(())
     }
 
@@ -227,6 +232,21 @@ impl<D: Device, A: Allocator + Copy> StoreWriter<D, A> {
         Ok(StepReply::Taken)
     }
 
+    /// Passes over the next page of the image under way, if its half has it as it is: from the image that it had before
+    /// the current one, whose pages no record changed since. Nothing is written, and the image is as if the page had
+    /// been copied and taken (`taken`).
+    pub fn pass_page(&mut self) -> bool
+        ensures writer { (run : Run) (handed : ℕ) → IsWriter D.past_of run handed self.old
+            → IsWriter D.past_of run handed self.new }
+        ensures passed { IsTrue result → HasPassed self.old self.new }
+        ensures still { IsFalse result → self.new ≡ self.old }
+        ensures when { IsTrue result ↔ MayPass self.old }
+        ensures taken { IsTrue result → (run : Run) (handed : ℕ) → IsWriter D.past_of run handed self.old
+            → IsAsTaken run handed self.old self.new }
+    {
+        self.writer.pass()
+    }
+
     /// Gives up an image under way: a whole one is to be taken at once. No sector is written.
     pub fn give_up(&mut self)
         ensures writer { (run : Run) (handed : ℕ) → IsWriter D.past_of run handed self.old
@@ -295,6 +315,7 @@ impl<D: Device, A: Allocator + Copy> StoreWriter<D, A> {
         self.writer.log = image.log;
         self.writer.image = None;
         self.writer.copying = Copying::Idle;
+        self.writer.known.turn(image.base);
         self.writer.synced = reached;
         Ok(FlipReply::Flipped(reached))
     }

@@ -1,6 +1,6 @@
 //! A device, its log, and the records that wait for it.
-ghost use Rattle.std.specs.Prelude.{◌≡◌, ◌≢◌, ◌↔◌, ◌+◌, ◌≤◌, ◌<◌, ℕ, length, take, true};
-ghost use Rattle.std.specs.Prelude.{false, Some, None, IsTrue, OnOk, OnErr, IfErr};
+ghost use Rattle.std.specs.Prelude.{◌≡◌, ◌≢◌, ◌↔◌, ◌+◌, ◌^◌, ◌≤◌, ◌<◌, ℕ, length, take, true};
+ghost use Rattle.std.specs.Prelude.{false, Some, None, IsFalse, IsTrue, OnOk, OnErr, IfErr};
 ghost use Rattle.sector_device.specs.DevicePast.{LeavesOnly};
 ghost use Rattle.model.specs.Redo.{cells_of};
 ghost use Rattle.store_image_model.specs.Run.{Run};
@@ -9,12 +9,14 @@ ghost use Rattle.flip_image.specs.Layout.{other, InHalf};
 ghost use Rattle.store_writer.specs.Contents.{LeftBy};
 ghost use Rattle.store_writer.specs.Copying.{entries_behind, page_behind};
 ghost use Rattle.store_writer.specs.Image.{IsPlan};
+ghost use Rattle.store_writer.specs.Parts.{handed_of};
 
 use crate::Copying;
 use crate::image::{
     NewImage, Plan, Stage, carry, lists_alone, plan_for, stage_behind, with_page, write_first,
     write_next, write_whole,
 };
+use crate::known::KnownPages;
 use crate::page::write_rows;
 use flip_image::Halves;
 use gate_log::{Appended, LogArea, group_len, spell};
@@ -71,6 +73,8 @@ pub(crate) struct Writer<D, A: Allocator> {
     pub(crate) image: Option<NewImage>,
     // How far its copying has come.
     pub(crate) copying: Copying,
+    // Which pages the halves have as they are.
+    pub(crate) known: KnownPages<A>,
     // Whether the device has failed.
     pub(crate) failed: bool,
 }
@@ -94,7 +98,7 @@ impl<D: Device, A: Allocator + Copy> Writer<D, A> {
     ghost use Rattle.store_writer.specs.Writer.{IsWriter, HasAppended, HasBegun, HasCarriedOn, HasFlushed, HasKept};
     ghost use Rattle.store_writer.specs.Writer.{HasRows, HasTaken, HaveEntries, IsAsBefore, IsChunk, IsEntriesChunk};
     ghost use Rattle.store_writer.specs.Writer.{IsPageChunk, IsPast, IsSomewhere, IsStartChunk, IsWholeChunk};
-    ghost use Rattle.store_writer.specs.Writer.{MustStartAgain, HasFailed, WritesOnly};
+    ghost use Rattle.store_writer.specs.Writer.{MustStartAgain, HasFailed, HasPassed, IsAsTaken, MayPass, WritesOnly};
 
     // Writes the next group of the records that wait, and syncs it.
     pub(crate) fn flush(&mut self, alloc: A) -> Result<FlushReply, Error>
@@ -243,6 +247,7 @@ impl<D: Device, A: Allocator + Copy> Writer<D, A> {
                     log,
                 });
                 self.copying = Copying::Steps(None);
+                self.known.other = None;
                 Ok(())
             }
             Err(_) => {
@@ -279,6 +284,7 @@ impl<D: Device, A: Allocator + Copy> Writer<D, A> {
         ensures left { OnErr result (IsAsBefore self.old self.new) }
     {
         let alloc = *self.waiting.allocator();
+        let handed = self.handed();
         let cells = lists_alone(alloc, life, lists);
         match write_first(&mut self.device, self.halves, &cells) {
             Ok(log) => {
@@ -296,6 +302,7 @@ impl<D: Device, A: Allocator + Copy> Writer<D, A> {
                     log,
                 });
                 self.copying = Copying::Steps(Some(CopyPlace::Page(0)));
+                self.known.begin_at(self.halves.geometry().pages, handed);
                 Ok(())
             }
             Err(_) => {
@@ -336,12 +343,14 @@ impl<D: Device, A: Allocator + Copy> Writer<D, A> {
         let Some(image) = self.image else {
             unreachable!()
         };
+        let handed = self.handed();
         if write_rows(&mut self.device, self.halves, page, &rows).is_err() {
             self.failed = true;
             return Err(Error::DeviceFailed);
         }
         self.image = Some(with_page(image, number, page));
         self.copying = Copying::Steps(behind);
+        self.known.page_written(number, handed);
         Ok(())
     }
 
@@ -408,6 +417,56 @@ impl<D: Device, A: Allocator + Copy> Writer<D, A> {
             log,
         });
         self.copying = Copying::Steps(behind);
+        self.known.other = None;
         Ok(())
+    }
+
+    /// The number of the last record that was handed in.
+    fn handed(&self) -> u64
+        requires { IsSomewhere D.past_of self.now }
+        ensures { result ≡ handed_of self.now }
+    {
+        self.synced + self.waiting.len() as u64
+    }
+
+    // The place behind a page.
+    fn place_behind(&self, page: u32) -> CopyPlace
+        requires { page + 1 < 2 ^ 32 }
+        ensures { Some result ≡ page_behind self.now.halves.geometry.pages page }
+    {
+        if page + 1 < self.halves.geometry().pages {
+            CopyPlace::Page(page + 1)
+        } else {
+            CopyPlace::Entries(None)
+        }
+    }
+
+    /// Passes over the next page of the image under way, if its half has it as it is.
+    pub(crate) fn pass(&mut self) -> bool
+        requires { IsSomewhere D.past_of self.old }
+        ensures writer { (run : Run) (handed : ℕ) → IsWriter D.past_of run handed self.old
+            → IsWriter D.past_of run handed self.new }
+        ensures passed { IsTrue result → HasPassed self.old self.new }
+        ensures still { IsFalse result → self.new ≡ self.old }
+        ensures when { IsTrue result ↔ MayPass self.old }
+        ensures taken { IsTrue result → (run : Run) (handed : ℕ) → IsWriter D.past_of run handed self.old
+            → IsAsTaken run handed self.old self.new }
+    {
+        let Some(image) = self.image else {
+            return false;
+        };
+        let Stage::Partly { pages: page, .. } = image.stage else {
+            return false;
+        };
+        if self.failed || is_full(self.log, self.halves.geometry()) || !self.known.has(page) {
+            return false;
+        }
+        let handed = self.handed();
+        if handed < image.number {
+            return false;
+        }
+        self.image = Some(with_page(image, handed, page));
+        self.copying = Copying::Steps(Some(self.place_behind(page)));
+        true
     }
 }

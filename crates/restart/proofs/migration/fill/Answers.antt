@@ -9,7 +9,7 @@ use Rattle.flip_image.specs.Layout.{HalvesValue}
 use Rattle.store_reader.specs.Restored.{given_in}
 use Rattle.store_reader.specs.Contents.{Gives}
 use Rattle.core_model.specs.Events.{standing_at}
-use Rattle.core_loader.specs.Loaded.{holding}
+use Rattle.core_copies.specs.Loaded.{holding}
 use Rattle.core_model.specs.Histories.{opened}
 use Rattle.nsf_core.specs.Value.{value_of}
 use Rattle.core_parts.specs.View.{IsState}

@@ -8,7 +8,7 @@ use Rattle.sector_device.specs.Disk.{CrashState}
 use Rattle.sector_device.specs.DevicePast.{Rises}
 use Rattle.gate_log.specs.Area.{Refuses}
 use Rattle.core_model.specs.Events.{standing_at}
-use Rattle.core_loader.specs.Loaded.{holding}
+use Rattle.core_copies.specs.Loaded.{holding}
 use Rattle.core_model.specs.Histories.{opened}
 use Rattle.nsf_core.specs.Value.{value_of}
 use Rattle.core_parts.specs.View.{IsState}

@@ -1,9 +1,10 @@
 use Rattle.std.proofs.Common.{◌∙◌, ℕ, [], Err, refl, ap, subst, arith}
 use Rattle.std.proofs.lemmas.Result.{err_from_is_err_and}
 use Rattle.sector_device.specs.DevicePast.{Rises}
-use Rattle.flip_image.specs.Layout.{other}
+use Rattle.flip_image.specs.Layout.{other, header_sector}
 use Rattle.store_reader.specs.Contents.{log_area}
 use Rattle.store_writer.proofs.Idle.{still_named, closing, closed_outside, imaging, imaged_outside, imaged_loose, imaged_log}
+use Rattle.store_writer.proofs.KnownPages.{no_gate, start_before}
 use Rattle.store_writer.proofs.image.write_first.Goals as goal
 
 pub closed_log-requires : goal.closed_log-requires
@@ -23,6 +24,7 @@ returns-in_err-log g c =
       empty = tt;
       loose = tt;
       outside = closed_outside halves.geometry (other halves.current) old mid area refl c.requires.loose c.closed_log.ensures.outside;
+      pages = λ n inside. c.closed_log.ensures.outside.same n (no_gate halves.geometry (other halves.current) n inside);
       any_moment = closing halves.geometry (other halves.current) old mid area refl c.requires.loose c.closed_log.ensures.any_moment;
       counts = record { later = c.closed_log.ensures.counts.later; none = tt; failed = c.in_err-log.ensures.counts.failed };
     })
@@ -54,6 +56,9 @@ returns-in_err-write_start g c =
       loose = tt;
       outside = imaged_outside halves.geometry (other halves.current) old mid area refl c.requires.loose new c.closed_log.ensures.any_moment
           c.closed_log.ensures.outside c.in_ok-log.ensures.synced c.write_start.ensures.within;
+      pages = λ n inside. c.write_start.ensures.outside.same n (λ start.
+          omega (arith, inside.0, start_before halves.geometry (header_sector halves.geometry (other halves.current)) _ c.requires.fits n start))
+          ∙ c.closed_log.ensures.outside.same n (no_gate halves.geometry (other halves.current) n inside);
       any_moment = imaging halves.geometry (other halves.current) old mid area refl c.requires.loose new c.closed_log.ensures.any_moment
           c.closed_log.ensures.outside c.in_ok-log.ensures.synced c.write_start.ensures.within;
       counts = record {
@@ -81,6 +86,9 @@ returns g c =
           c.closed_log.ensures.outside c.in_ok-log.ensures.synced c.write_start.ensures.within;
       outside = imaged_outside halves.geometry (other halves.current) old mid area refl c.requires.loose new c.closed_log.ensures.any_moment
           c.closed_log.ensures.outside c.in_ok-log.ensures.synced c.write_start.ensures.within;
+      pages = λ n inside. c.write_start.ensures.outside.same n (λ start.
+          omega (arith, inside.0, start_before halves.geometry (header_sector halves.geometry (other halves.current)) _ c.requires.fits n start))
+          ∙ c.closed_log.ensures.outside.same n (no_gate halves.geometry (other halves.current) n inside);
       any_moment = imaging halves.geometry (other halves.current) old mid area refl c.requires.loose new c.closed_log.ensures.any_moment
           c.closed_log.ensures.outside c.in_ok-log.ensures.synced c.write_start.ensures.within;
       counts = record {

@@ -16,7 +16,8 @@ use Rattle.records.specs.RecordValue.{RecordValue}
 use Rattle.sector_device.specs.DevicePast.{LeavesOnly}
 use Rattle.store_writer.proofs.Writing.{carried_on}
 use Rattle.store_writer.proofs.Idle.{from_ok, from_err}
-use Rattle.store_writer.proofs.Flipping.{leaves_flipping, flipped_one, no_image, not_whole, rises_then, there_at, waits_all}
+use Rattle.store_writer.proofs.Flipping.{leaves_flipping, flipped_one, no_image, not_whole, rises_then, there_at}
+use Rattle.store_writer.proofs.Opening.{waits_all}
 use Rattle.store_writer.proofs.Alone.{none_alone, flipped_alone}
 use Rattle.store_writer.proofs.store.StoreWriter.checkpoint_flip.Goals as goal
 use Rattle.store_writer.proofs.store.StoreWriter.checkpoint_flip.Goals.{then-handed-image-via-then-handed-image}
@@ -124,6 +125,7 @@ returns-then-is_err g c =
       synced = old.synced;
       image = old.image;
       copying = old.copying;
+      known = old.known;
       failed = true;
     } in
     let same : c.flip.new.self ≡ old.halves = from_err _ _ failed c.flip.ensures.err in
@@ -154,6 +156,7 @@ returns-then-is_err g c =
         synced = old.synced;
         image = old.image;
         copying = old.copying;
+        known = old.known;
         failed = true;
       }) same;
     })
@@ -174,6 +177,7 @@ returns g c =
       synced = c.max-reached.result;
       image = None;
       copying = Idle;
+      known = c.turn.new.self;
       failed = old.failed;
     } in
     let within : (run : Run) (handed : ℕ) → IsWriter past_of run handed old → image.number ≤ handed = λ run handed is.
@@ -187,7 +191,8 @@ returns g c =
     record {
       writer = λ run handed is. flipped_one past_of run handed old is c.if-self.false image
           (there_at past_of run handed old is c.if-self.false image c.in-Some.is) whole reaches (within run handed is) new halves_is refl c.max-reached.ensures
-          (waits ∙ ap (λ (k : ℕ). drop (k - old.synced) old.waiting.items) c.max-reached.ensures) refl refl c.flip.ensures.outside named
+          (waits ∙ ap (λ (k : ℕ). drop (k - old.synced) old.waiting.items) c.max-reached.ensures) refl refl c.turn.ensures.changed c.turn.ensures.current
+          c.turn.ensures.other c.flip.ensures.outside named
           (from_ok _ _ good c.flip.ensures.synced);
       images = λ run handed is. leaves_flipping past_of run handed old is c.if-self.false image
           (there_at past_of run handed old is c.if-self.false image c.in-Some.is) whole reaches (within run handed is) (past_of c.flip.new.device)

@@ -1,9 +1,14 @@
-use Rattle.std.proofs.Common.{◌≡◌, ℕ, ◌+◌, false, List, [], ◌++◌, append-nil, length, refl, sym, ap, subst, ◌∙◌, arith}
+use Rattle.std.proofs.Math.Seq.{drop-append_seam}
+use Rattle.std.proofs.Common.{◌≡◌, ℕ, ◌+◌, ◌-◌, false, List, [], ◌++◌, append-nil, drop, take, length, length-append, refl, sym, ap, subst, ◌∙◌, arith}
 use Rattle.records.specs.RecordValue.{RecordValue}
 use Rattle.store_image_model.specs.Run.{Run}
 use Rattle.store_writer.specs.declared.writer.Writer.{Writer}
-use Rattle.store_writer.specs.Writer.{IsWriter, StandsFor}
-use Rattle.store_writer.proofs.Opening.{handed_writer, kept_writer, none_in, some_in}
+use Rattle.store_writer.specs.declared.known.KnownPages.{KnownPages}
+use Rattle.store_writer.specs.Known.{KnowsPages, with_changes}
+use Rattle.store_writer.specs.Writer.{AreNext, IsWriter, StandsFor}
+use Rattle.store_writer.proofs.Knowing.{known_noted}
+use Rattle.store_writer.proofs.Underway.{rest_is}
+use Rattle.store_writer.proofs.Opening.{handed_writer, kept_writer, known_handed, none_in, some_in}
 use Rattle.store_writer.proofs.store.StoreWriter.hand_in.Goals as goal
 
 pub returns-then-is_empty : goal.returns-then-is_empty
@@ -40,6 +45,7 @@ returns-in-Err g c =
       synced = old.synced;
       image = old.image;
       copying = old.copying;
+      known = old.known;
       failed = old.failed;
     } in
     let holds : old.failed ≡ false → (run : Run) (handed : ℕ) → IsWriter g.D.Device.past_of run handed old → StandsFor g.D.Device.past_of run new =
@@ -54,6 +60,8 @@ returns-in-Err g c =
       loose = stood.loose;
       image = stood.image;
       copying = stood.copying;
+      known = subst (λ (l : List RecordValue). KnowsPages run old.halves.current (g.D.Device.past_of old.device).disk.content (old.synced + length l)
+          old.known.changed.items old.known.current old.known.other) (sym c.in-Err.ensures.items) stood.known;
     } in
     record {
       writer = tt;
@@ -84,6 +92,7 @@ invariant_of-self g c =
       synced = old.synced;
       image = old.image;
       copying = old.copying;
+      known = old.known;
       failed = old.failed;
     } in
     let holds : old.failed ≡ false → (run : Run) (handed : ℕ) → IsWriter g.D.Device.past_of run handed old → StandsFor g.D.Device.past_of run new =
@@ -98,6 +107,8 @@ invariant_of-self g c =
       loose = stood.loose;
       image = stood.image;
       copying = stood.copying;
+      known = subst (λ (l : List RecordValue). KnowsPages run old.halves.current (g.D.Device.past_of old.device).disk.content (old.synced + length l)
+          old.known.changed.items old.known.current old.known.other) (sym c.in-Err.ensures.items) stood.known;
     } in
     (run, handed, kept_writer g.D.Device.past_of run handed old is new refl refl refl (λ sound. holds sound run handed is) c.in-Err.ensures.items)
 
@@ -113,10 +124,25 @@ returns g c =
       synced = old.synced;
       image = old.image;
       copying = old.copying;
+      known = c.note.new.self;
       failed = old.failed;
     } in
-    let holds : old.failed ≡ false → (run : Run) (handed : ℕ) → IsWriter g.D.Device.past_of run handed old → StandsFor g.D.Device.past_of run new =
-    λ sound run handed is.
+    let kept : KnownPages g.row.A.Denot = c.note.new.self in
+    let slice : take (length c.deref.result.now - c.len-before.result) (drop c.len-before.result c.deref.result.now) ≡ c.args.records.items =
+    rest_is c.len-before.result c.deref.result.now
+    ∙ ap (drop c.len-before.result) (c.deref.ensures.value ∙ c.in-Ok.ensures.items)
+    ∙ ap (λ (n : ℕ). drop n (old.waiting.items ++ c.args.records.items)) (c.len-before.ensures ∙ old.waiting.ok.0)
+    ∙ drop-append_seam old.waiting.items c.args.records.items in
+    let changed : kept.changed.items ≡ with_changes old.known.changed.items c.args.records.items =
+    c.note.ensures.changed ∙ ap (with_changes old.known.changed.items) slice in
+    let noted : old.failed ≡ false → (run : Run) (handed : ℕ) → IsWriter g.D.Device.past_of run handed old → AreNext run handed c.args.records.items
+    → KnowsPages run old.halves.current (g.D.Device.past_of old.device).disk.content (old.synced + length c.append.new.self.items) kept.changed.items
+    kept.current kept.other = λ sound run handed is next.
+    known_noted run old.halves.current (g.D.Device.past_of old.device).disk.content _ _ _ _ _ _ _ _
+    (omega (arith, ap length c.in-Ok.ensures.items, length-append old.waiting.items c.args.records.items)) changed c.note.ensures.current c.note.ensures.other
+    (known_handed g.D.Device.past_of run handed old is sound c.args.records.items next) in
+    let holds : old.failed ≡ false → (run : Run) (handed : ℕ) → IsWriter g.D.Device.past_of run handed old → AreNext run handed c.args.records.items
+    → StandsFor g.D.Device.past_of run new = λ sound run handed is next.
     let stood = is.holds sound in
     record {
       store = stood.store;
@@ -127,10 +153,11 @@ returns g c =
       loose = stood.loose;
       image = stood.image;
       copying = stood.copying;
+      known = noted sound run handed is next;
     } in
     record {
       writer = λ run handed is next. handed_writer g.D.Device.past_of run handed old is new c.args.records.items refl refl refl (λ sound.
-          holds sound run handed is) c.in-Ok.ensures.items next;
+          holds sound run handed is next) c.in-Ok.ensures.items next;
       waits = c.in-Ok.ensures.items;
       unchanged = tt;
       still = tt;
@@ -157,10 +184,25 @@ invariant_of-self-2 g c =
       synced = old.synced;
       image = old.image;
       copying = old.copying;
+      known = c.note.new.self;
       failed = old.failed;
     } in
-    let holds : old.failed ≡ false → (run : Run) (handed : ℕ) → IsWriter g.D.Device.past_of run handed old → StandsFor g.D.Device.past_of run new =
-    λ sound run handed is.
+    let kept : KnownPages g.row.A.Denot = c.note.new.self in
+    let slice : take (length c.deref.result.now - c.len-before.result) (drop c.len-before.result c.deref.result.now) ≡ c.args.records.items =
+    rest_is c.len-before.result c.deref.result.now
+    ∙ ap (drop c.len-before.result) (c.deref.ensures.value ∙ c.in-Ok.ensures.items)
+    ∙ ap (λ (n : ℕ). drop n (old.waiting.items ++ c.args.records.items)) (c.len-before.ensures ∙ old.waiting.ok.0)
+    ∙ drop-append_seam old.waiting.items c.args.records.items in
+    let changed : kept.changed.items ≡ with_changes old.known.changed.items c.args.records.items =
+    c.note.ensures.changed ∙ ap (with_changes old.known.changed.items) slice in
+    let noted : old.failed ≡ false → (run : Run) (handed : ℕ) → IsWriter g.D.Device.past_of run handed old → AreNext run handed c.args.records.items
+    → KnowsPages run old.halves.current (g.D.Device.past_of old.device).disk.content (old.synced + length c.append.new.self.items) kept.changed.items
+    kept.current kept.other = λ sound run handed is next.
+    known_noted run old.halves.current (g.D.Device.past_of old.device).disk.content _ _ _ _ _ _ _ _
+    (omega (arith, ap length c.in-Ok.ensures.items, length-append old.waiting.items c.args.records.items)) changed c.note.ensures.current c.note.ensures.other
+    (known_handed g.D.Device.past_of run handed old is sound c.args.records.items next) in
+    let holds : old.failed ≡ false → (run : Run) (handed : ℕ) → IsWriter g.D.Device.past_of run handed old → AreNext run handed c.args.records.items
+    → StandsFor g.D.Device.past_of run new = λ sound run handed is next.
     let stood = is.holds sound in
     record {
       store = stood.store;
@@ -171,9 +213,10 @@ invariant_of-self-2 g c =
       loose = stood.loose;
       image = stood.image;
       copying = stood.copying;
+      known = noted sound run handed is next;
     } in (
       run,
       handed + length c.args.records.items,
       handed_writer g.D.Device.past_of run handed old is new c.args.records.items refl refl refl (λ sound.
-          holds sound run handed is) c.in-Ok.ensures.items next,
+          holds sound run handed is next) c.in-Ok.ensures.items next,
     )

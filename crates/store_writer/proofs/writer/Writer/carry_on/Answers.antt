@@ -40,6 +40,7 @@ returns-in-Ok g c =
       synced = w.synced + count;
       image = c.in-Ok.image;
       copying = w.copying;
+      known = w.known;
       failed = w.failed;
     } in
     let kept : new.waiting.items ≡ drop count w.waiting.items =
@@ -51,7 +52,7 @@ returns-in-Ok g c =
           (ap (λ (x : GeometryValue). x.slots) is.geometry-is) is.opened
           (omega (arith, long past_of run handed count w is, is.within, is.made)) (group_between past_of run handed count w is) in
           carried_one past_of run handed count w is new refl refl refl kept c.carry.ensures.outside c.in-Ok.ensures.synced image refl
-          c.in-Ok.ensures.stage;
+          c.in-Ok.ensures.stage refl;
       images = λ run handed is. leaves_there past_of run handed count w is (past_of c.carry.new.device) c.carry.ensures.any_moment;
       flushed = (refl, refl, refl);
       rest = (refl, refl, kept);
@@ -83,6 +84,7 @@ returns-in-Err g c =
       synced = w.synced;
       image = w.image;
       copying = w.copying;
+      known = w.known;
       failed = true;
     } in
     record {

@@ -1,4 +1,4 @@
-use Rattle.std.proofs.Common.{true, ◌≡◌, ◌⊎◌, ⊎_elim, inr, ◌+◌, ◌-◌, ◌%◌, ◌<◌, ◌≤◌, ℕ, length, Option, Some, IfSome, refl, sym, ap, subst, ◌∙◌, arith}
+use Rattle.std.proofs.Common.{true, ◌≡◌, ◌⊎◌, ⊎_elim, inr, ◌+◌, ◌-◌, ◌%◌, ◌<◌, ◌≤◌, ℕ, length, Option, Some, None, IfSome, refl, sym, ap, subst, ◌∙◌, arith}
 use Rattle.std.proofs.lemmas.Bool.{cases_lt, false≢true}
 use Rattle.std.specs.Prelude.{slice_get}
 use Rattle.sector_device.specs.Disk.{CrashState}
@@ -24,7 +24,7 @@ use Rattle.store_writer.proofs.Idle.{from_err, from_ok, writing, written_outside
 use Rattle.store_writer.proofs.Places.{behind_entries}
 use Rattle.store_writer.proofs.Stepwise.{at_stage, with_entries}
 use Rattle.store_writer.proofs.Writing.{stood, carried_on}
-use Rattle.store_writer.proofs.Taking.{leaves_kept, may_write, stands_with}
+use Rattle.store_writer.proofs.Taking.{known_dropped, leaves_kept, may_write, stands_with}
 use Rattle.store_writer.proofs.Alone.{part_alone}
 use Rattle.store_writer.proofs.writer.Writer.take_entries.Goals as goal
 
@@ -104,6 +104,7 @@ returns-then-is_err g c =
             synced = old.synced;
             image = old.image;
             copying = old.copying;
+            known = old.known;
             failed = true;
           } in
           carried_on g.D.Device.past_of run handed old new is refl refl refl (λ sound. absurd (false≢true (sym sound)))
@@ -196,6 +197,7 @@ returns g c =
             synced = old.synced;
             image = Some taken;
             copying = Steps c.args.behind;
+            known = record old.known { other = None };
             failed = old.failed;
           } in
           carried_on past_of run handed old new is refl refl refl
@@ -203,7 +205,9 @@ returns g c =
           (written_outside run.geometry half (past_of old.device) (past_of c.write_next.new.device) stand.loose within)
           (written_loose run.geometry half (past_of old.device) (past_of c.write_next.new.device) stand.loose within)
           (at_stage run half before after old.synced image there c.args.number taken.stage chunk.later chunk.made log content)
-          copied)
+          copied
+          (known_dropped past_of run handed old is c.requires.sound after
+          (written_outside run.geometry half (past_of old.device) (past_of c.write_next.new.device) stand.loose within)))
           (images run handed is);
       images = images;
       taken =

@@ -1,4 +1,4 @@
-use Rattle.std.proofs.Common.{true, ◌≡◌, ◌⊎◌, inr, ℕ, ◌+◌, ◌<◌, Option, Some, None, IfSome, refl, sym, ap, subst, ◌∙◌, arith}
+use Rattle.std.proofs.Common.{true, ◌≡◌, ◌⊎◌, inr, ℕ, ◌+◌, ◌<◌, ◌≤◌, Vec, Option, Some, None, IfSome, refl, sym, ap, subst, ◌∙◌, arith}
 use Rattle.std.specs.Prelude.{nat_lt}
 use Rattle.std.proofs.lemmas.Bool.{false≢true}
 use Rattle.sector_device.specs.Disk.{SameOutside}
@@ -21,6 +21,11 @@ use Rattle.store_writer.proofs.Idle.{from_err, from_ok, writing, written_outside
 use Rattle.store_writer.proofs.Places.{at_page, behind_page}
 use Rattle.store_writer.proofs.Stepwise.{at_stage, page_part}
 use Rattle.store_writer.proofs.Writing.{stood, carried_on}
+use Rattle.store_writer.specs.Known.{KnowsPages}
+use Rattle.store_writer.specs.Parts.{handed_of}
+use Rattle.store_writer.specs.declared.known.KnownPages.{KnownPages}
+use Rattle.store_writer.proofs.Knowing.{pages_beside}
+use Rattle.store_writer.proofs.KnownPages.{known_written}
 use Rattle.store_writer.proofs.Taking.{leaves_kept, may_write, stands_with}
 use Rattle.store_writer.proofs.Alone.{part_alone}
 use Rattle.store_writer.proofs.writer.Writer.take_page.Goals as goal
@@ -60,6 +65,7 @@ returns-then-is_err g c =
             synced = old.synced;
             image = old.image;
             copying = old.copying;
+            known = old.known;
             failed = true;
           } in
           carried_on g.D.Device.past_of run handed old new is refl refl refl (λ sound. absurd (false≢true (sym sound)))
@@ -141,6 +147,18 @@ returns g c =
           let copied : IsCopying run.geometry.pages (Steps c.args.behind) (Some taken) =
           subst (λ (p : Option CopyPlace). IsCopying run.geometry.pages (Steps p) (Some taken)) (sym behind)
           (inr (behind_page run.geometry.pages (Some taken) taken refl c.args.page began below further (nat_lt (c.args.page + 1) run.geometry.pages) refl)) in
+          let now : KnownPages g.row.A.Denot = c.page_written.new.self in
+          let outside = written_outside run.geometry half (past_of old.device) (past_of c.write_rows.new.device) stand.loose within in
+          let between : IfSome now.other (λ low. (low ≤ c.args.number) × (c.args.number ≤ handed_of old)) =
+          subst (λ (n : ℕ). IfSome now.other (λ low. (low ≤ c.args.number) × (c.args.number ≤ n))) c.handed-handed.ensures c.page_written.ensures.between in
+          let written = known_written run old.halves.current before after (handed_of old) c.args.number c.args.page c.args.rows old.known.changed.items
+          old.known.current old.known.other now.other chunk.below same has chunk.rows-are chunk.slots
+          (pages_beside run.geometry old.halves.current before after outside) c.page_written.ensures.other between stand.known in
+          let known : KnowsPages run old.halves.current after (handed_of old) now.changed.items now.current now.other =
+          subst (λ (v : Vec ℕ g.row.A.Denot). KnowsPages run old.halves.current after (handed_of old) v.items now.current now.other)
+          (sym c.page_written.ensures.changed)
+          (subst (λ (o : Option ℕ). KnowsPages run old.halves.current after (handed_of old) old.known.changed.items o now.other)
+          (sym c.page_written.ensures.current) written) in
           let new : Writer g.row.D.Denot g.row.A.Denot = record {
             device = c.write_rows.new.device;
             halves = old.halves;
@@ -149,6 +167,7 @@ returns g c =
             synced = old.synced;
             image = Some taken;
             copying = Steps c.args.behind;
+            known = c.page_written.new.self;
             failed = old.failed;
           } in
           carried_on past_of run handed old new is refl refl refl
@@ -157,7 +176,7 @@ returns g c =
           (written_loose run.geometry half (past_of old.device) (past_of c.write_rows.new.device) stand.loose within)
           (subst (IsUnderway run half after old.synced) taken_is
           (at_stage run half before after old.synced image there c.args.number (Partly (c.args.page + 1) count highest life) chunk.later chunk.made log next))
-          copied)
+          copied known)
           (images run handed is);
       images = images;
       taken = let (run, handed, is, asked) = c.requires.page in
@@ -176,3 +195,6 @@ returns g c =
           part_alone g.D.Device.past_of run handed c.args.self.now is c.requires.sound c.write_rows.new.device c.write_rows.ensures.within;
       left = tt;
     }
+
+pub handed-handed-requires : goal.handed-handed-requires
+handed-handed-requires g c = let (run, handed, is, asked) = c.requires.page in (run, handed, is)

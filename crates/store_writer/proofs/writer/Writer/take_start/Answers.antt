@@ -1,4 +1,5 @@
-use Rattle.std.proofs.Common.{true, ◌≡◌, inr, ℕ, Some, None, refl, sym, ap, subst, ◌∙◌, arith}
+use Rattle.std.specs.Prelude.{replicate}
+use Rattle.std.proofs.Common.{true, ◌≡◌, ◌⊎◌, ⊎_elim, inl, inr, ℕ, Some, None, refl, sym, ap, subst, ◌∙◌, arith}
 use Rattle.std.proofs.lemmas.Bool.{false≢true}
 use Rattle.std.specs.FinMap as map
 use Rattle.sector_device.specs.Disk.{SameOutside}
@@ -21,6 +22,11 @@ use Rattle.store_writer.specs.declared.image.NewImage.{NewImage}
 use Rattle.store_writer.specs.declared.image.Stage.TheVariants.{Partly}
 use Rattle.store_writer.proofs.Stepwise.{start_taken}
 use Rattle.store_writer.proofs.Writing.{stood, carried_on}
+use Rattle.store_writer.specs.Known.{KnowsPages, SamePages}
+use Rattle.store_writer.specs.Parts.{handed_of}
+use Rattle.store_writer.specs.declared.known.KnownPages.{KnownPages}
+use Rattle.store_writer.proofs.Knowing.{pages_beside}
+use Rattle.store_writer.proofs.KnownPages.{known_begun}
 use Rattle.store_writer.proofs.Taking.{leaves_kept, may_write, stands_with}
 use Rattle.store_writer.proofs.Alone.{these_alone}
 use Rattle.store_writer.proofs.writer.Writer.take_start.Goals as goal
@@ -64,6 +70,7 @@ returns-in-Ok g c =
             synced = old.synced;
             image = Some image;
             copying = Steps (Some (at.Page 0));
+            known = c.begin_at-in-Ok.new.self;
             failed = old.failed;
           } in
           let cells_are = c.lists_alone-cells.ensures in
@@ -73,14 +80,33 @@ returns-in-Ok g c =
           (record (cells_of c.lists_alone-cells.result) { rows = map.empty; entries = map.empty })) is.geometry-is c.in-Ok.ensures.written) in
           let area : image.log.area ≡ log_area run.geometry half =
           subst (λ (x : GeometryValue). image.log.area ≡ log_area x half) is.geometry-is c.in-Ok.ensures.area in
+          let before = (past_of old.device).disk.content in
+          let outside : SameOutside (InHalf run.geometry half) before now.content =
+          subst (λ (x : GeometryValue). SameOutside (InHalf x half) before now.content) is.geometry-is c.write_first.ensures.outside in
+          let kept : KnownPages g.row.A.Denot = c.begin_at-in-Ok.new.self in
+          let pages : c.begin_at.inside.pages ≡ run.geometry.pages =
+          ap (λ (x : GeometryValue). x.pages) (c.begin_at.view_is ∙ c.geometry.ensures ∙ is.geometry-is) in
+          let either = subst (λ (n : ℕ). ((kept.changed.items ≡ old.known.changed.items) × (kept.current ≡ old.known.current)
+          × (kept.other ≡ old.known.other))
+          ⊎ ((kept.changed.items ≡ replicate c.begin_at.inside.pages n) × (kept.current ≡ None) × (kept.other ≡ None))) c.handed-handed.ensures
+          (⊎_elim
+          (λ same. inl (
+            ap (λ (k : KnownPages g.row.A.Denot). k.changed.items) same,
+            ap (λ (k : KnownPages g.row.A.Denot). k.current) same,
+            ap (λ (k : KnownPages g.row.A.Denot). k.other) same,
+          ))
+          (λ new. inr new) c.begin_at-in-Ok.ensures.begun) in
+          let known : KnowsPages run old.halves.current now.content (handed_of old) kept.changed.items kept.current kept.other =
+          known_begun run old.halves.current before now.content (handed_of old) c.begin_at.inside.pages old.known.changed.items kept.changed.items
+          old.known.current old.known.other kept.current kept.other pages (pages_beside run.geometry old.halves.current before now.content outside)
+          (subst (λ (x : GeometryValue). SamePages x half before now.content) is.geometry-is c.write_first.ensures.pages) either
+          (stood past_of run handed old is c.requires.sound).known in
           carried_on past_of run handed old new is refl refl refl
-          (λ sound. stands_with past_of run handed old is c.requires.sound new refl refl refl
-          (subst (λ (x : GeometryValue). SameOutside (InHalf x half) (past_of old.device).disk.content now.content) is.geometry-is
-          c.write_first.ensures.outside)
+          (λ sound. stands_with past_of run handed old is c.requires.sound new refl refl refl outside
           (subst (λ (x : GeometryValue). (n : ℕ) → now.unsynced n ≡ true → InHalfImage x half n) is.geometry-is c.in-Ok.ensures.loose)
           (start_taken run half now.content old.synced image c.args.life c.args.lists is.opened refl
           (ap (λ (l : Life). Partly 0 0 None l) (ap (λ (x : Cells). x.life) cells_are)) start part area c.in-Ok.ensures.empty)
-          (inr (omega (arith, (stood past_of run handed old is c.requires.sound).store.limits.some_page), (image, life, refl, refl))))
+          (inr (omega (arith, (stood past_of run handed old is c.requires.sound).store.limits.some_page), (image, life, refl, refl))) known)
           (images run handed is);
       images = images;
       taken =
@@ -119,6 +145,7 @@ returns g c =
             synced = old.synced;
             image = old.image;
             copying = old.copying;
+            known = old.known;
             failed = true;
           } in
           carried_on g.D.Device.past_of run handed old new is refl refl refl (λ sound. absurd (false≢true (sym sound))) (images run handed is);
@@ -132,3 +159,6 @@ returns g c =
           c.write_first.new.device c.write_first.ensures.outside c.write_first.ensures.any_moment;
       left = refl;
     }
+
+pub handed-handed-requires : goal.handed-handed-requires
+handed-handed-requires g c = let (run, handed, is, start) = c.requires.start in (run, handed, is)

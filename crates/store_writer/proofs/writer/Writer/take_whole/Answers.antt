@@ -16,7 +16,7 @@ use Rattle.store_writer.specs.declared.writer.Writer.{Writer}
 use Rattle.store_writer.specs.declared.image.NewImage.{NewImage}
 use Rattle.store_writer.specs.declared.image.Stage.TheVariants.{Whole}
 use Rattle.store_writer.proofs.Writing.{carried_on}
-use Rattle.store_writer.proofs.Taking.{whole_taken, leaves_kept, may_write, stands_with}
+use Rattle.store_writer.proofs.Taking.{known_dropped, whole_taken, leaves_kept, may_write, stands_with}
 use Rattle.store_writer.proofs.Alone.{these_alone}
 use Rattle.store_writer.proofs.writer.Writer.take_whole.Goals as goal
 
@@ -58,6 +58,7 @@ returns-in-Ok g c =
             synced = old.synced;
             image = Some image;
             copying = Steps None;
+            known = record old.known { other = None };
             failed = old.failed;
           } in
           let holds : HoldsImage run.geometry half now.content c.args.number cells =
@@ -70,7 +71,10 @@ returns-in-Ok g c =
           c.write_whole.ensures.outside)
           (subst (λ (x : GeometryValue). (n : ℕ) → now.unsynced n ≡ true → InHalfImage x half n) is.geometry-is c.in-Ok.ensures.loose)
           (whole_taken run half now.content old.synced image cells is.opened whole.late refl refl whole.made whole.cells-are holds area c.in-Ok.ensures.empty)
-          (inr (image, refl, refl)))
+          (inr (image, refl, refl))
+          (known_dropped past_of run handed old is c.requires.sound now.content
+          (subst (λ (x : GeometryValue). SameOutside (InHalf x half) (past_of old.device).disk.content now.content) is.geometry-is
+          c.write_whole.ensures.outside)))
           (images run handed is);
       images = images;
       taken =
@@ -106,6 +110,7 @@ returns-in-Err g c =
             synced = old.synced;
             image = old.image;
             copying = old.copying;
+            known = old.known;
             failed = true;
           } in
           carried_on g.D.Device.past_of run handed old new is refl refl refl (λ sound. absurd (false≢true (sym sound)))
