@@ -210,9 +210,9 @@ impl<A: Allocator> Board<A> {
     }
 
     /// One thread that holds the flusher's view and another, as at the end, has them compared. It learns that no
-    /// horizon which the other has seen is above the flusher's own count, that the horizon which it had seen with its
-    /// mark was noted with that mark, and that a failed flag which it has seen is true. The other view has now seen all
-    /// that the flusher has published, so it reads no less from now on.
+    /// horizon which the other has seen is above the flusher's own count, and that a failed flag which it has seen is
+    /// true. Some horizon was noted with its mark that reaches the one which it had seen then (`noted`). The other view
+    /// has now seen all that the flusher has published, so it reads no less from now on.
     pub fn settle(&self, flush: &mut FlushView, view: &mut View)
         requires flush { flush.old.board ≡ self.now }
         requires view { view.old.board ≡ self.now }

@@ -6,7 +6,7 @@ use Rattle.record_values.specs.GeometryValue.{GeometryValue}
 use Rattle.records.specs.RecordValue.{RecordValue}
 use Rattle.record_values.specs.declared.error.Error.{Error}
 use Rattle.model.specs.Given.{Given, given_after}
-use Rattle.core_loader.specs.Loaded.{holding}
+use Rattle.core_copies.specs.Loaded.{holding}
 use Rattle.core_model.specs.Histories.{CanOpen, Opened}
 use Rattle.core_model.proofs.ReplyLaws.{served_recovers}
 use Rattle.core_parts.specs.View.{CoreValue}

@@ -9,7 +9,7 @@ use Rattle.record_values.specs.declared.error.Error.{Error}
 use Rattle.gate_log.specs.Area.{Refuses}
 use Rattle.model.specs.Given.{Given}
 use Rattle.core_model.specs.Histories.{CanOpen}
-use Rattle.core_loader.specs.Loaded.{holding}
+use Rattle.core_copies.specs.Loaded.{holding}
 use Rattle.core_parts.specs.View.{CoreValue}
 use Rattle.sector_device.specs.Disk.{CrashState, IsCrashState}
 use Rattle.sector_device.specs.DevicePast.{DevicePast, LeavesOnly}

@@ -4,7 +4,7 @@ use Rattle.record_values.specs.GeometryValue.{GeometryValue}
 use Rattle.record_values.specs.declared.error.Error.{Error}
 use Rattle.record_values.specs.declared.error.Error.TheVariants.{DeviceFailed, NoMemory}
 use Rattle.records.specs.RecordValue.{RecordValue}
-use Rattle.core_loader.specs.Loaded.{holding}
+use Rattle.core_copies.specs.Loaded.{holding}
 use Rattle.core_model.specs.Histories.{Opened}
 use Rattle.locked_core.specs.Names.{IsShared}
 use Rattle.model.specs.Given.{Given, given_after}

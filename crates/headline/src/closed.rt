@@ -16,7 +16,7 @@ use sector_device::Device;
 use shared::{Ack, Group, Keeping, Memory, Parts, Shared};
 use std::sync::Wait;
 use store_reader::one_answer;
-use threads_lifetime::{Closed, finish};
+use threads_lifetime::finish;
 
 /// A store that was opened again behind its threads. Where not all that they made had been written out before, why.
 #[derive(Drop)]
@@ -45,17 +45,7 @@ fn finish_device<B: Group, D: Device, R: Wait, A: Memory, K: Keeping>(
     ensures later { D.failures (device_of parts.flush.writer) ≤ D.failures result.0 }
 {
     match finish(rt, alloc, shared, parts, acks) {
-        Ok(closed) => {
-            let Closed {
-                device,
-                core,
-                commits,
-                ..
-            } = closed;
-            drop(core);
-            drop(commits);
-            (device, None)
-        }
+        Ok(closed) => (closed.into_device(), None),
         Err((error, device)) => (device, Some(error)),
     }
 }

@@ -32,9 +32,7 @@ fn serve_with_last<D: Mortal, A: Allocator + Copy>(
     let Ok(()) = replies.append(&mut first) else {
         unreachable!()
     };
-    let Ok(()) = replies.push(reply) else {
-        unreachable!()
-    };
+    replies.push_reserved(reply);
     Ok((replies, since))
 }
 
@@ -120,9 +118,7 @@ pub(crate) fn live_each_day<D: Mortal, A: Allocator + Copy>(
     for day in days {
         let (answer, found) = live_one_day(alloc, device, day);
         device = found;
-        let Ok(()) = answers.push(answer) else {
-            unreachable!()
-        };
+        answers.push_reserved(answer);
     }
     Ok((answers, device))
 }

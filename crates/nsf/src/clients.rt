@@ -26,7 +26,7 @@ use std::marker::Brand;
 use std::sync::Wait;
 use std::thread::{Threads, for_each_mut};
 use threads_flusher::FlushPart;
-use threads_lifetime::{OpenError, OpenStore, Parts, finish, open_store};
+use threads_lifetime::{OpenError, OpenStore, Parts, finish, let_go, open_store};
 use threads_loops::{BuilderEnd, Ended, NoGate, NotRun, run_beside};
 
 /// Something that uses a store beside others, in a thread of its own with a seat of its own.
@@ -193,18 +193,18 @@ fn desks_of<B: Group, C: Drop>(
     ensures seats { IfOk result (λ desks. map (λ d. d.seat) desks.items ≡ seats.items) }
     ensures clients { IfOk result (λ desks. map (λ d. d.client) desks.items ≡ clients.items) }
 {
+    if seats.len() != clients.len() {
+        return Err(AllocError);
+    }
     let mut desks = Vec::with_capacity(alloc, seats.len())?;
     let mut waiting = clients.into_iter();
     for seat in seats {
         let Some(client) = waiting.next() else {
-            return Err(AllocError);
+            unreachable!()
         };
-        desks.push(Desk { client, seat })?;
+        desks.push_reserved(Desk { client, seat });
     }
-    match waiting.next() {
-        Some(_) => Err(AllocError),
-        None => Ok(desks),
-    }
+    Ok(desks)
 }
 
 // Where clients and seats are put when the work is done, so that no memory is wanted then.
@@ -246,15 +246,9 @@ fn parted<B: Group, C: Drop>(desks: Vec<Desk<B, C>>, room: Room<B, C>) -> Room<B
     } = room;
     for desk in desks {
         let Desk { client, seat } = desk;
-        let Ok(()) = marks.push(seat.last_mark()) else {
-            unreachable!()
-        };
-        let Ok(()) = clients.push(client) else {
-            unreachable!()
-        };
-        let Ok(()) = seats.push(seat) else {
-            unreachable!()
-        };
+        marks.push_reserved(seat.last_mark());
+        clients.push_reserved(client);
+        seats.push_reserved(seat);
     }
     Room {
         clients,
@@ -369,7 +363,7 @@ fn close<B: Group, D: Device, R: Wait>(
 {
     parts.flush.stands();
     match finish(rt, alloc, shared, parts, Vec::new(alloc)) {
-        Ok(closed) => (closed.device, Ok(())),
+        Ok(closed) => (closed.into_device(), Ok(())),
         Err((error, device)) => (device, Err(error)),
     }
 }
@@ -538,8 +532,8 @@ fn seat_all<
                 let seen = see(ended.flush.device());
                 Ok((end(rt, alloc, shared, ended, room), seen))
             }
-            Err(flush) => Err(flush.into_parts().0),
+            Err(flush) => Err(let_go(shared, flush)),
         },
-        Err(AllocError) => Err(flush.into_parts().0),
+        Err(AllocError) => Err(let_go(shared, flush)),
     }
 }

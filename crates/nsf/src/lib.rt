@@ -195,7 +195,7 @@ pub use store_moving::{NotVersionOne, old_geometry};
 pub use threads_flusher::FlushPart;
 pub use threads_lifetime::{
     Closed, OpenError, OpenStore, Parts, finish, format_store, left_by_a_run, left_by_an_opening,
-    left_by_threads, open_engine, open_store, sound_or_not,
+    left_by_threads, let_go, open_engine, open_store, sound_or_not,
 };
 pub use threads_loops::{
     BuilderEnd, Ended, Gate, NoGate, NoThread, NotRun, Point, Told, build_loop, clean_loop,

@@ -79,8 +79,8 @@ undo_calls txn undone e reply = replicate undone (Event.Undo txn, Undone) ++ (e,
 abbrev pub TakesBack : (txn : ℕ) → Event → Type 0
 TakesBack txn e = (e ≡ Event.Undo txn) ⊎ (e ≡ Event.End txn)
 
--- A transaction began, a call of it was refused, and so it was to be taken back. So many steps of that were made, and
--- then a further one, or the end, was refused too.
+-- A core that may lie under the lock serves the beginning of a transaction, and its calls, the last of which it
+-- refuses. Then it serves so many steps by which that is taken back, and refuses a further one, or the end.
 pub record WasLeft (o : Opened) (seat : ℕ) (session : SessionValue) (change : ℕ → Event) (error : Error)
     (txn : ℕ) : Type 0 where
   pub calls : List (Event × Reply)

@@ -25,8 +25,8 @@ impl<B: Group, A: Memory> Shared<B, A> {
     /// Inserts a row, in a transaction of its own. It begins, makes all steps of the insertion and commits, in one hold
     /// of the lock. Nobody comes between.
     ///
-    /// The refusals are those of `begin`, of the steps of `insert`, and of `commit`. Then the seat is as before, unless
-    /// the transaction could not be taken back either (`Refusal`).
+    /// The refusals are those of `begin`, of the steps of `insert`, and of `commit`. Then the seat is as before, or the
+    /// transaction is left (`Refusal`).
     pub fn put<R: Wait, K: Keeping>(
         &self,
         rt: &R,

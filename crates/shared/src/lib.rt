@@ -8,16 +8,17 @@
 //!
 //! Proved: what an `Ok` makes of the seat's session (`ok`, `changed`). Each reply is one that some core which may lie
 //! under the lock gives (`served`). What is made in one hold is served with nothing between (`made`), and adds one
-//! commit to the seat's session (`committed`). Where it is refused, the session stays (`nothing_stays`), unless to take
-//! it back was refused too (`left`, `why_left`). `get` of a place that the seat holds answers its own row (`own`).
+//! commit to the seat's session (`committed`). Where it is refused, the session stays (`nothing_stays`), or the
+//! transaction is left in it (`left`), and a core may refuse a step of taking it back (`why_left`). `get` of a place
+//! that the seat holds answers its own row (`own`).
 //! `scan` and `count` read the index of such a core in order (`page`, `count`). An acknowledgement is of a ticket that
 //! a horizon reached (`acked`), no horizon falls (`rises`), what the seat has seen leaves a wait one answer (the law
 //! `one_wait`), and the horizon that it had seen with its mark was published by the moment that this marks, if it isn't
 //! 0 (`noted`).
 //!
 //! Neither: that a call which takes the lock or waits returns; fairness; that `find`, `scan`, `count`, `life`, or `get`
-//! of another's place is of now; that a dropped seat gives its transactions back (they stay active until the store is
-//! opened again).
+//! of another's place is of now; that taking back was tried where a transaction is left (want of memory may refuse each
+//! step of it); that a dropped seat gives its transactions back (they stay active until the store is opened again).
 #![tactic(auto)]
 
 mod abort;

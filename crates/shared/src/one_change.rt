@@ -18,8 +18,9 @@ pub struct Placed {
     pub ticket: Ticket,
 }
 
-/// Why a transaction of one change was refused. All that it had made is taken back, and it has ended. Where that was
-/// refused too, it is left, for `abort` to take back.
+/// Why a transaction of one change was refused. All that it had made is taken back, and it has ended. Or it is left,
+/// for `abort` to take back, where a step of that, or its end, is refused too. (That it is left there alone, no clause
+/// says: want of memory may refuse each of them.)
 #[derive(Clone, Copy, Debug, Drop)]
 pub struct Refusal {
     pub error: Error,

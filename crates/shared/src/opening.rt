@@ -166,11 +166,11 @@ fn seats_of<B: Group, A: Memory, K: Keeping>(
     for half in halves {
         let view = board.another(&mut view);
         let part = SeatPart::new(alloc, number, half);
-        seats.push(Seat {
+        seats.push_reserved(Seat {
             part,
             view,
             mark: 0,
-        })?;
+        });
         number += 1;
     }
     Ok(seats)

@@ -41,10 +41,10 @@ impl<B: Group, A: Memory> Shared<B, A> {
     /// behind which to go on. It is that of a core that may lie under the lock, and has all that the seat's session
     /// tells: each commit, creation and dropping, and each row of an active transaction.
     ///
-    /// A page is read in one hold of the lock, and the next one in another. The pages of a range, read one behind
-    /// another until none is left, are a `Reading` of the indexes of such cores. So the law `each_reading` of
-    /// `core_scan` holds of them: no pair comes twice, each was visible at its page, and none is missing that was
-    /// visible at every page.
+    /// A page is read in one hold of the lock, and the next one in another. Let the pages of a range have limits above
+    /// 0, and be read one behind another until none is left. They are a `Reading` of the indexes of such cores. So the
+    /// law `each_reading` of `core_scan` holds of them: no pair comes twice, each was visible at its page, and none is
+    /// missing that was visible at every page.
     ///
     /// The lock is held for as long as `scan` of `core_scan` takes: as many entries are looked at as lie between the
     /// page's pairs, marked ones too (no clause says so). The refusals are those of that call. What the queue had

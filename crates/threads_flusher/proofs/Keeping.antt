@@ -405,6 +405,12 @@ module _ {D A : Type 0} (failures : D → ℕ) (old new : Writer D A) where
   still_sound (Ok reply) sound err now = sound.0
   still_sound (Err e) sound device now = absurd (true≢false (sym device.1 ∙ now))
 
+-- a call that writes nothing leaves what was left before
+pub images_still : {D A : Type 0} (past_of : D → DevicePast) (w new : Writer D A) → device_of new ≡ device_of w → (run : Run) (n : ℕ)
+    → IsWriter past_of run n w → LeavesOnly (past_of (device_of w)) (past_of (device_of new)) (LeftBy run (synced_of w) n)
+images_still {D} past_of w new same run n is = subst (λ (d : D). LeavesOnly (past_of (device_of w)) (past_of d) (LeftBy run (synced_of w) n)) (sym same)
+    (started (past_of (device_of w)) (LeftBy run (synced_of w) n) is.images)
+
 -- ---- the fields, after records were handed in or given back
 
 module _ {D : Type 0} (past_of : D → DevicePast) (marks : ℕ → ℕ → Type 0) (o : Opened) where

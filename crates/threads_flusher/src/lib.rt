@@ -7,11 +7,12 @@
 //! made.
 //!
 //! Proved: no record that was popped is lost (`takes`, `handed`). A look under the lock hands in all that was pushed
-//! (`all` of `look`). At each moment of `flush`, `take_piece` and `flip` a crash leaves what the first records handed
-//! in make of what was opened, with all that were synced before (`images`). After each of them the board has what is
-//! synced, and no more (`publishes`). A crash at any moment since a horizon was published leaves all up to it
-//! (`IsFlusher.kept`, which the type keeps). With a horizon a mark of that moment is published, or 0. So who has read a
-//! horizon, and then a mark that isn't 0, knows of a moment since which that horizon is kept (`noted` of `settle`).
+//! (`all` of `look`). At each moment of `flush`, `take_piece`, `pass_page` and `flip` a crash leaves what the first
+//! records handed in make of what was opened, with all that were synced before (`images`). After each of them the board
+//! has what is synced, and no more (`publishes`). A crash at any moment since a horizon was published leaves all up to
+//! it (`IsFlusher.kept`, which the type keeps). With a horizon a mark of that moment is published, or 0. So who has
+//! read a horizon, and then a mark that isn't 0, knows of a moment since which that horizon is kept (`noted` of
+//! `settle`).
 //! Neither proved nor tested here: that the queue takes a record, that it gives one without the lock, and that calls
 //! succeed where there is memory.
 //!

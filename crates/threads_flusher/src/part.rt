@@ -1,7 +1,7 @@
 //! What the flusher owns.
 ghost use Rattle.std.specs.FinMap.{len};
 ghost use Rattle.std.specs.Prelude.{◌≡◌, ◌≢◌, ◌-◌, ◌≤◌, ◌++◌, ◌∷◌, ℕ, List, [], length, take, false, Ok, OnOk, OnErr};
-ghost use Rattle.std.specs.Prelude.{◌↔◌, ◌+◌, IfErr, IfOk, IsTrue};
+ghost use Rattle.std.specs.Prelude.{◌↔◌, ◌+◌, IfErr, IfOk, IsFalse, IsTrue};
 ghost use Rattle.sector_device.specs.Disk.{CrashState, IsCrashState};
 ghost use Rattle.sector_device.specs.DevicePast.{LeavesOnly};
 ghost use Rattle.records.specs.RecordValue.{RecordValue};
@@ -14,6 +14,7 @@ ghost use Rattle.store_writer.specs.Parts.{waiting_of};
 ghost use Rattle.flip_image.specs.Layout.{InHalf, other};
 ghost use Rattle.flip_image.specs.declared.half.TheConstants.{FLIP_SECTOR};
 ghost use Rattle.store_writer.specs.Writer.{CanFlip, HasFailed, InOpenedSlots, IsAsBefore, IsBeforeFlush, IsChunk};
+ghost use Rattle.store_writer.specs.Writer.{HasPassed, IsAsTaken, MayPass};
 ghost use Rattle.store_writer.specs.Writer.{IsFlipReply, IsFlushReply, IsLogFull, IsNotFlushed, IsStepReply, IsWriter};
 ghost use Rattle.store_writer.specs.Writer.{MustStartAgain, WritesLogsAlone, WritesOnly, opened_run};
 
@@ -336,6 +337,26 @@ impl<B: Group, D: Device, A: Memory> FlushPart<B, D, A> {
         let stepped = self.writer.checkpoint_step(chunk);
         publish(board, &mut self.view, &mut self.publications, &self.writer);
         stepped
+    }
+
+    /// Passes over the next page of an image under way, if its half has it as it is (`when`), and publishes. No lock is
+    /// needed, and nothing is written: the image is as if the page had been copied now, and taken (`taken`).
+    pub fn pass_page(&mut self, board: &Board<A>) -> bool
+        requires { board.now ≡ B.site.board }
+        ensures publishes { IsTrue result → Publishes D.past_of D.marks self.old self.new }
+        ensures images { IsTrue result → LeavesOnly (D.past_of (device_of self.old.writer))
+            (D.past_of (device_of self.new.writer)) (FlushLeaves B.site.opened self.old) }
+        ensures passed { IsTrue result → HasPassed self.old.writer self.new.writer }
+        ensures taken { IsTrue result → IsAsTaken (run_of B.site.opened self.old) (last_handed B.site.opened self.old)
+            self.old.writer self.new.writer }
+        ensures still { IsFalse result → self.new ≡ self.old }
+        ensures when { IsTrue result ↔ MayPass self.old.writer }
+    {
+        if !self.writer.pass_page() {
+            return false;
+        }
+        publish(board, &mut self.view, &mut self.publications, &self.writer);
+        true
     }
 
     /// Makes the image current, and publishes how far the records are synced with it. A crash at any moment of the call

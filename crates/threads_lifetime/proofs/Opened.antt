@@ -11,7 +11,7 @@ use Rattle.core_model.specs.States.{State}
 use Rattle.core_model.specs.Events.{Standing, standing_at}
 use Rattle.core_model.specs.Served.{ServesAll, nothing}
 use Rattle.core_laws.specs.Calls.{BeginsWith}
-use Rattle.core_loader.specs.Loaded.{holding}
+use Rattle.core_copies.specs.Loaded.{holding}
 use Rattle.core_parts.specs.View.{CoreValue, IsState}
 use Rattle.store_image_model.specs.Run.{end_of}
 use Rattle.sector_device.specs.Disk.{IsSynced}

@@ -36,6 +36,34 @@ pub struct Closed<D, A: Memory = Global> {
     pub commits: Option<Vec<Commit<A>, A>>,
 }
 
+impl<D, A: Memory> Closed<D, A> {
+    /// The device alone. The core and the commits are let go of.
+    pub fn into_device(self) -> D
+        ensures { result ≡ self.device }
+    {
+        let Closed {
+            device,
+            core,
+            horizon: _,
+            commits,
+        } = self;
+        drop(core);
+        drop(commits);
+        device
+    }
+}
+
+/// The device as it is, where nothing more is to be written to it. What the threads shared is let go of, and with it
+/// each record that the flusher hasn't written.
+pub fn let_go<B: Group, D: Device, A: Memory>(shared: Shared<B, A>, flush: FlushPart<B, D, A>) -> D
+    ensures { result ≡ device_of flush.writer }
+{
+    drop(shared);
+    let (device, ends) = flush.into_parts();
+    drop(ends);
+    device
+}
+
 // No acknowledgement names a record that isn't synced.
 fn settle_all<B: Group, D: Device, A: Memory>(
     board: &Board<A>,

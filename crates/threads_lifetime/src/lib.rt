@@ -33,7 +33,7 @@ mod refusal;
 mod store;
 mod writing;
 
-pub use closing::{Closed, finish};
+pub use closing::{Closed, finish, let_go};
 pub use from_engine::open_engine;
 pub use laws::{told_of_a_store, told_of_an_engine};
 pub use openable::{

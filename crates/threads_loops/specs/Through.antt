@@ -24,8 +24,9 @@ pub record IsFlush {D A : Type 0} (failures : D → ℕ) (old new : FlushValue D
   pub err : IfErr result (λ e. IsNotFlushed failures e old.writer new.writer)
   pub left : OnErr result (IsBeforeFlush old.writer new.writer)
 
--- One chunk of an image was offered that may be taken, with this answer. Half the slots of the log were full then, or
--- more, unless the device had failed: so no image is begun earlier.
+-- One chunk of an image was offered that may be taken, with this answer; or it is as if one had been, of a page that
+-- the image's half has. Half the slots of the log were full then, or more, unless the device had failed: so no image is
+-- begun earlier.
 pub record IsStep {D A : Type 0} (failures : D → ℕ) (o : Opened) (old new : FlushValue D A) : Type 0 where
   pub number : ℕ
   pub piece : Piece A

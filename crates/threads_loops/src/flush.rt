@@ -30,8 +30,8 @@ const LOOK_EVERY: u32 = 32;
 /// Pops the records that wait, hands them in under the lock, writes them in groups, and publishes behind each group how
 /// far they are synced. Now and then it looks under the lock for records that the queue refused. As half the slots of
 /// the log are open it begins an image (`wants_image`), copies each chunk of it under the lock anew, some of them
-/// behind each group, and makes it current. Where nothing waits it sleeps until records are made, or for a short while.
-/// After want of memory it tries again.
+/// behind each group, and makes it current. It passes over pages that the image's half has. Where nothing waits it
+/// sleeps until records are made, or for a short while. After want of memory it tries again.
 ///
 /// It ends where the stop flag is read, or with `DeviceFailed` where the device failed, now or earlier, stop flag or
 /// not. What is held or waits then is not written. A crash at any moment leaves all records that were synced as the
@@ -255,13 +255,33 @@ fn copy<B: Group, D: Device, R: Wait, G: Gate, A: Memory>(
             }
             copy_piece(rt, shared, part, CopyPlace::Start, gate)
         }
-        Copying::Steps(Some(place)) => copy_piece(rt, shared, part, place, gate),
+        Copying::Steps(Some(place)) => pass_or_copy(rt, shared, part, place, gate),
         Copying::Steps(None) => flip(shared, part, is_full),
         Copying::GivenUp => {
             copy_all(rt, shared, part, gate)?;
             flip(shared, part, is_full)
         }
     }
+}
+
+// Passes over the piece of this place, if it is a page that the image's half has; or copies it, and takes it.
+fn pass_or_copy<B: Group, D: Device, R: Wait, G: Gate, A: Memory>(
+    rt: &R,
+    shared: &Shared<B, A>,
+    part: &mut FlushPart<B, D, A>,
+    place: CopyPlace,
+    gate: &G,
+) -> Result<(), Error>
+    requires due { next_place (copying_of part.old.writer) ≡ Some place }
+    requires late { IsDue part.old }
+    ensures through { PassesThrough D.past_of D.marks D.failures B.site.opened part.old part.new }
+    ensures copying { StandsBy part.new }
+    ensures image { OnOk result (IsCopied part.old part.new) }
+{
+    if part.pass_page(shared.board()) {
+        return Ok(());
+    }
+    copy_piece(rt, shared, part, place, gate)
 }
 
 // Copies the piece of this place under the lock, and takes it.

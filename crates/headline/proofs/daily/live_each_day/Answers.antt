@@ -14,17 +14,22 @@ loop-day-init g c = record {
       (sym c.in-Ok.ensures.items) keeps;
 }
 
+pub push_reserved-requires : goal.push_reserved-requires
+push_reserved-requires g c =
+    omega (arith, c.loop-day.invariant.even, c.loop-day.invariant.room, c.loop-day-test.true, c.loop-day.answers.ok.0)
+
 pub loop-day-preserved : goal.loop-day-preserved
 loop-day-preserved g c =
     let inv = c.loop-day.invariant in
     let answers = c.loop-day.answers.items in
     let answer = c.live_one_day-answer.result.0 in
     record {
-      even = one_more {X = Answer g.row.A.Denot} answers c.push.new.self.items answer c.loop-day.day-index inv.even c.in-Ok-push.ensures.items;
-      room = omega (arith, inv.room, c.push.ensures.capacity);
+      even = one_more {X = Answer g.row.A.Denot} answers c.push_reserved.new.self.items answer c.loop-day.day-index inv.even c.push_reserved.ensures.items;
+      room = omega (arith, inv.room, c.push_reserved.ensures.capacity);
       keeps = λ size began keeps.
-          day_more g.D.Device.past_of g.D.Device.failures size began c.args.days.now c.loop-day.day-index c.day-item.result answers c.push.new.self.items answer
-          c.live_one_day-answer.result.1 c.loop-day-test.true c.day-item.is c.in-Ok-push.ensures.items
+          day_more g.D.Device.past_of g.D.Device.failures size began c.args.days.now c.loop-day.day-index c.day-item.result answers
+          c.push_reserved.new.self.items answer
+          c.live_one_day-answer.result.1 c.loop-day-test.true c.day-item.is c.push_reserved.ensures.items
           (c.live_one_day-answer.ensures size began (take c.loop-day.day-index c.args.days.now) answers (inv.keeps size began keeps));
     }
 

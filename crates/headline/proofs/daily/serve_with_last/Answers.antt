@@ -11,10 +11,10 @@ unreachable-requires g c =
     let bad : false ≡ true = sym (ap is_ok c.in_default.is) ∙ ok in
     false≢true bad
 
-pub unreachable-requires-in_default-push : goal.unreachable-requires-in_default-push
-unreachable-requires-in_default-push g c =
+pub push_reserved-requires : goal.push_reserved-requires
+push_reserved-requires g c =
     let even = lawful_even g.D.Device.failures c.args.events.now c.in_ok-first.first.items c.args.engine.now c.run.new.self c.in_ok-first.ensures.lawful in
-    let ok = c.push.ensures.succeeds (omega (
+    omega (
       arith,
       even,
       c.in_ok-replies.ensures.exact,
@@ -22,16 +22,14 @@ unreachable-requires-in_default-push g c =
       c.in_ok-first.first.ok.0,
       c.in-Ok.ensures.len,
       c.append.ensures.capacity,
-    )) in
-    let bad : false ≡ true = sym (ap is_ok c.in_default-push.is) ∙ ok in
-    false≢true bad
+    )
 
 pub returns-clause-served : goal.returns-clause-served
 returns-clause-served g c = record {
   first = c.in_ok-first.first.items;
   reply = c.serve-reply.result;
   all =
-      c.in-Ok-push.ensures.items ∙ ap (λ (l : List (Reply _)). l ++ c.serve-reply.result ∷ [])
+      c.push_reserved.ensures.items ∙ ap (λ (l : List (Reply _)). l ++ c.serve-reply.result ∷ [])
       (c.in-Ok.ensures.items ∙ ap (λ (l : List (Reply _)). l ++ c.in_ok-first.first.items) c.in_ok-replies.ensures.items);
   mid = c.run.new.self;
   lawful = c.in_ok-first.ensures.lawful;

@@ -1,4 +1,4 @@
-use Rattle.std.proofs.Common.{⊎_elim, arith, inl, inr}
+use Rattle.std.proofs.Common.{⊎_elim, ap, arith, inl, inr}
 use Rattle.std.proofs.Math.Logic.{∥∥₁_map}
 use Rattle.store_writer.specs.Parts.{halves_of}
 use Rattle.nsf.proofs.Published.{newest_kept}
@@ -7,7 +7,7 @@ use Rattle.nsf_core.specs.Value.{value_of}
 use Rattle.nsf.proofs.clients.close.Goals as goal
 
 pub returns-in-Ok-clause-leaves : goal.returns-in-Ok-clause-leaves
-returns-in-Ok-clause-leaves g c = record {
+returns-in-Ok-clause-leaves g c = rw c.into_device.ensures (record {
   geometry = (halves_of c.args.parts.flush.writer).geometry;
   pages = c.stands.ensures.pages;
   places = c.stands.ensures.places;
@@ -23,7 +23,7 @@ returns-in-Ok-clause-leaves g c = record {
     left = h.of_core;
     gives = h.gives;
   });
-}
+})
 
 pub returns-in-Err-clause-leaves : goal.returns-in-Err-clause-leaves
 returns-in-Err-clause-leaves g c = record {
@@ -42,10 +42,10 @@ pub returns-in-Err-clause-why : goal.returns-in-Err-clause-why
 returns-in-Err-clause-why g c = ⊎_elim (λ none. inl none.0) (λ failed. inr failed) c.in-Err.ensures.err
 
 pub returns-in-Ok-clause-goes : goal.returns-in-Ok-clause-goes
-returns-in-Ok-clause-goes g c = record { later = c.in-Ok.ensures.images.later; kept = c.in-Ok.ensures.images.kept }
+returns-in-Ok-clause-goes g c = rw c.into_device.ensures (record { later = c.in-Ok.ensures.images.later; kept = c.in-Ok.ensures.images.kept })
 
 pub returns-in-Err-clause-goes : goal.returns-in-Err-clause-goes
 returns-in-Err-clause-goes g c = record { later = c.in-Err.ensures.left.later; kept = c.in-Err.ensures.left.kept }
 
 pub returns-in-Ok-clause-later : goal.returns-in-Ok-clause-later
-returns-in-Ok-clause-later g c = omega (arith, c.in-Ok.ensures.quiet)
+returns-in-Ok-clause-later g c = omega (arith, c.in-Ok.ensures.quiet, ap g.D.Device.failures c.into_device.ensures)

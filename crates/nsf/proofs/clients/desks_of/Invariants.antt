@@ -1,8 +1,10 @@
-use Rattle.std.proofs.Common.{◌≡◌, ◌++◌, map}
+use Rattle.std.proofs.Common.{◌≡◌, ◌+◌, ◌++◌, ◌≤◌, length, map, vec_capacity}
 use Rattle.nsf.proofs.clients.desks_of.Given as goal
 
 abbrev pub invariant-loop-seat : goal.invariant-loop-seat
 invariant-loop-seat g l = record {
   seats : map (λ d. d.seat) l.desks.items ++ l.seat-iterator.rest.items ≡ l.fn.seats.items;
   clients : map (λ d. d.client) l.desks.items ++ l.waiting.rest.items ≡ l.fn.clients.items;
+  even : length l.waiting.rest.items ≡ length l.seat-iterator.rest.items;
+  room : length l.desks.items + length l.seat-iterator.rest.items ≤ vec_capacity l.desks;
 }

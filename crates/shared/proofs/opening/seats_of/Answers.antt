@@ -20,33 +20,40 @@ new-part-requires g c = record {
   number = omega (arith, c.loop-half.invariant.left, ap length c.in-Some.ensures.steps.0);
 }
 
-pub invariant_of-push : goal.invariant_of-push
-invariant_of-push g c =
+pub invariant_of-push_reserved : goal.invariant_of-push_reserved
+invariant_of-push_reserved g c =
     let leaves = c.another-view.ensures.leaves in
     let was = c.loop-half.invariant in (
       ap (λ (v : Sighting). v.board) leaves ∙ was.board,
       sym (ap (λ (v : Sighting). v.mark) leaves ∙ ap (λ (v : Sighting). v.mark) was.nothing),
     )
 
-pub returns-in_err-push : goal.returns-in_err-push
-returns-in_err-push g c =
-    let p = err_from_is_err_and c.from_residual-in_err-push.result c.from_residual-in_err-push.ensures.1 in
-    rw p.1 (record { seats = tt; no_memory = p.2 })
+pub push_reserved-requires : goal.push_reserved-requires
+push_reserved-requires g c = omega (arith, c.loop-half.invariant.room, ap length c.in-Some.ensures.steps.0, c.loop-half.seats.ok.0)
 
 pub loop-half-preserved : goal.loop-half-preserved
 loop-half-preserved g c =
     let was = c.loop-half.invariant in
     let is = c.new-part.ensures in
     record {
-      seats = more_seats g.B.Group.site.board c.loop-half.number c.loop-half.seats.items c.push.new.self.items _ was.seats (
+      seats = more_seats g.B.Group.site.board c.loop-half.number c.loop-half.seats.items c.push_reserved.new.self.items _ was.seats (
         ap (λ (s : SeatValue). s.number) is,
         ap (λ (s : SeatValue). s.session) is,
         sees_nothing g.B.Group.site.board c.loop-half.view _ _ was.nothing c.another-view.ensures.leaves,
-      ) c.in_ok-push.ensures.items;
+      ) c.push_reserved.ensures.items;
       board = ap (λ (v : Sighting). v.board) c.another-view.ensures.stays ∙ was.board;
       nothing = stays_blind g.B.Group.site.board c.loop-half.view _ _ was.nothing c.another-view.ensures.stays;
       left = omega (arith, was.left, ap length c.in-Some.ensures.steps.0);
       halves = rest_halves g.B.Group.site.table c.loop-half.number _ _ c.in-Some.half was.halves c.in-Some.ensures.steps.0;
+      room = omega (
+        arith,
+        was.room,
+        ap length c.in-Some.ensures.steps.0,
+        c.push_reserved.ensures.len,
+        c.push_reserved.ensures.capacity,
+        c.loop-half.seats.ok.0,
+        c.push_reserved.new.self.ok.0,
+      );
     }
 
 pub loop-half-init : goal.loop-half-init
@@ -59,6 +66,7 @@ loop-half-init g c =
       nothing = c.requires.view;
       left = omega (arith, ap length all, c.requires.counted);
       halves = all_halves z.table _ _ c.requires.halves all;
+      room = omega (arith, ap length all, c.in_ok-seats.ensures.exact, ap length c.in_ok-seats.ensures.items, c.len.ensures, c.args.halves.ok.0);
     }
 
 pub returns : goal.returns

@@ -17,11 +17,11 @@ copy_piece-requires-clause-due g c = ap next_place (sym c.copying.ensures ∙ c.
 pub copy_piece-requires-clause-late : goal.copy_piece-requires-clause-late
 copy_piece-requires-clause-late g c = λ sound. c.wants_image.ensures.begins.0 c.if-not-wants_image.false
 
-pub copy_piece-requires-in-Steps-Some-clause-due : goal.copy_piece-requires-in-Steps-Some-clause-due
-copy_piece-requires-in-Steps-Some-clause-due g c = ap next_place (sym c.copying.ensures ∙ c.in-Steps-Some.is ∙ ap Steps c.in-Steps-Some.field-0-is)
+pub pass_or_copy-requires-clause-due : goal.pass_or_copy-requires-clause-due
+pass_or_copy-requires-clause-due g c = ap next_place (sym c.copying.ensures ∙ c.in-Steps-Some.is ∙ ap Steps c.in-Steps-Some.field-0-is)
 
-pub copy_piece-requires-in-Steps-Some-clause-late : goal.copy_piece-requires-in-Steps-Some-clause-late
-copy_piece-requires-in-Steps-Some-clause-late g c = λ sound.
+pub pass_or_copy-requires-clause-late : goal.pass_or_copy-requires-clause-late
+pass_or_copy-requires-clause-late g c = λ sound.
     c.requires.copying sound (λ idle. steps_on _ (sym c.in-Steps-Some.is ∙ (c.copying.ensures ∙ idle)))
 
 pub flip-requires-clause-whole : goal.flip-requires-clause-whole
@@ -63,13 +63,13 @@ returns-else-not-wants_image g c =
 pub returns-in-Steps-Some : goal.returns-in-Steps-Some
 returns-in-Steps-Some g c =
     let old = c.args.part.now in
-    let new = c.copy_piece-in-Steps-Some.new.part in
-    let is = c.copy_piece-in-Steps-Some.ensures in
+    let new = c.pass_or_copy.new.part in
+    let is = c.pass_or_copy.ensures in
     let then : IsCopied old new → IsWanted old → HasImage old new = λ copied wanted. inl copied in
     record {
       through = is.through;
       copying = is.copying;
-      image = on_ok_weaker c.copy_piece-in-Steps-Some.result then is.image;
+      image = on_ok_weaker c.pass_or_copy.result then is.image;
     }
 
 pub returns-in-Steps-None : goal.returns-in-Steps-None
