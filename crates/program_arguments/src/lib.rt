@@ -1,10 +1,12 @@
-//! The arguments of the programs `nsf-replay` and `nsf-threads`, read from their words.
+//! What the words of the programs `nsf-replay`, `nsf-threads` and `nsf-store` ask for.
 //!
 //! Proved: `read` answers what the words ask for (`asked`), each number in its range (`in_range`). Help and faults come
 //! only where the words have them, with their status (`none`). What words ask for is said in the terms of `clap`'s own
-//! contract. Only tested: the texts of help and of faults.
+//! contract. Only tested: the texts of help and of faults, and what the words of `nsf-store` and `nsf-threads` ask for.
 #![tactic(auto)]
 
+mod args;
+mod store;
 mod threads;
 
 ghost use Rattle.std.specs.Prelude.{◌≡◌, ◌⊎◌, ◌≤◌, false, map, IfErr, IfOk, OnOk};
@@ -12,6 +14,7 @@ ghost use Rattle.clap.specs.Words.{app_of, found_of, kind_of, rows_of, rule_of};
 ghost use Rattle.program_arguments.specs.CommandLine.{Ask, AreInRange, FailBy, IsCommandLine, fate_in, option_of};
 ghost use Rattle.program_arguments.specs.Words.{IsTold, Tells};
 
+use crate::args::program_named;
 use clap::builder::ValueParser;
 use clap::error::ErrorKind;
 use clap::{Arg, ArgMatches, Command, Error, value_parser};
@@ -21,6 +24,7 @@ use sector_device::Fate;
 use std::alloc::{AllocError, Global};
 use std::convert::AsStr;
 use std::io::Write;
+pub use store::{Asked, Build, Verb, read_asked};
 pub use threads::{ThreadsArguments, read_threads};
 
 /// The version of the programs.
@@ -45,7 +49,7 @@ const STOP_HELP: &str = "The write or sync that fails with a crash, 1 to 4294967
 const FATE_HELP: &str = "What becomes of unsynced sectors in that crash [default: old]";
 
 /// Why there are no arguments.
-#[derive(Clone, Copy, Debug, PartialEq, Eq)]
+#[derive(Clone, Copy)]
 pub enum NoArguments {
     /// There was no memory for them.
     NoMemory,
@@ -81,9 +85,7 @@ fn command<'a>(alloc: Global) -> Result<Command<'a>, AllocError>
     let sectors = value_parser!(u32).range(0..=i64::from(SECTORS_MAX));
     let stop = value_parser!(u32).range(1..);
     let fate = ValueParser::from(FATES.as_slice());
-    Command::new(alloc, "nsf-replay")
-        .version(VERSION)
-        .about(ABOUT)
+    program_named(alloc, "nsf-replay", ABOUT)
         .arg(option_named(alloc, "pages", "P", pages, PAGES_HELP))?
         .arg(option_named(alloc, "entries", "E", entries, ENTRIES_HELP))?
         .arg(option_named(alloc, "slots", "S", slots, SLOTS_HELP))?

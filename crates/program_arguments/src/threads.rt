@@ -1,8 +1,8 @@
 //! The arguments of the program `nsf-threads`.
-use crate::{NoArguments, VERSION, tell};
-use clap::builder::ValueParser;
+use crate::args::{flag_arg, program_named, with_arg};
+use crate::{NoArguments, option_named, tell};
 use clap::error::ErrorKind;
-use clap::{Arg, ArgAction, ArgMatches, Command, Error, value_parser};
+use clap::{Arg, ArgMatches, Command, Error, value_parser};
 use std::alloc::{AllocError, Global};
 use std::convert::AsStr;
 use std::io::Write;
@@ -28,7 +28,7 @@ const WATCH_HELP: &str = "Shows on the error stream how far the builder is";
 
 /// What the arguments ask for: the path of the store's file, if it is in one, how many threads write, how many
 /// transactions each of them makes, and whether the builder's progress is to be shown.
-#[derive(Debug, Drop)]
+#[derive(Drop)]
 pub struct ThreadsArguments {
     pub file: Option<String>,
     pub writers: u8,
@@ -39,11 +39,7 @@ pub struct ThreadsArguments {
 // An option with a number from 1 on.
 fn number<'a>(alloc: Global, name: &'a str, value: &'a str, most: u8, help: &'a str) -> Arg<'a> {
     let takes = value_parser!(u8).range(1..=i64::from(most));
-    Arg::new(alloc, name)
-        .long(name)
-        .value_name(value)
-        .value_parser(takes)
-        .help(help)
+    option_named(alloc, name, value, takes, help)
 }
 
 // The path that was given, if one was.
@@ -54,14 +50,6 @@ fn file_in(alloc: Global, matches: &ArgMatches<'_>) -> Result<Option<String>, Al
     }
 }
 
-fn watch_arg<'a>(alloc: Global) -> Arg<'a> {
-    Arg::new(alloc, "watch")
-        .long("watch")
-        .action(ArgAction::SetTrue)
-        .value_parser(ValueParser::bool())
-        .help(WATCH_HELP)
-}
-
 fn file_arg<'a>(alloc: Global) -> Arg<'a> {
     Arg::new(alloc, "file")
         .long("file")
@@ -69,26 +57,13 @@ fn file_arg<'a>(alloc: Global) -> Arg<'a> {
         .help(FILE_HELP)
 }
 
-// Each of these hands on one call alone, so that what follows has no more to read than it needs.
-
-fn with_arg<'a>(command: Command<'a>, arg: Arg<'a>) -> Result<Command<'a>, AllocError> {
-    command.arg(arg)
-}
-
-fn program<'a>(alloc: Global) -> Command<'a> {
-    Command::new(alloc, "nsf-threads")
-        .version(VERSION)
-        .about(ABOUT)
-}
-
 fn command<'a>(alloc: Global) -> Result<Command<'a>, AllocError> {
     let writers = number(alloc, "writers", "N", WRITERS_MAX, WRITERS_HELP);
-    let all = with_arg(program(alloc), writers)?;
+    let all = with_arg(Ok(program_named(alloc, "nsf-threads", ABOUT)), writers);
     let changes = number(alloc, "changes", "M", CHANGES_MAX, CHANGES_HELP);
-    let all = with_arg(all, changes)?;
-    let all = with_arg(all, watch_arg(alloc))?;
-    let all = with_arg(all, file_arg(alloc))?;
-    all.bin_name("nsf-threads")
+    let all = with_arg(all, changes);
+    let all = with_arg(all, flag_arg(alloc, "watch", WATCH_HELP));
+    with_arg(all, file_arg(alloc))?.bin_name("nsf-threads")
 }
 
 fn given_in(alloc: Global, matches: &ArgMatches<'_>) -> Result<ThreadsArguments, AllocError> {

@@ -2,8 +2,8 @@
 //!
 //! Each run is one of `run_script` of `program_player`, which is stopped at one write or sync of the script's commands.
 //! What it prints behind the stop is what was left: the restart and a dump. `run` is the program `nsf-replay`: a
-//! script's run, or its map. Proved of it is safety. Tested (`test_replay_rows`, `test_replay`): the table of a script,
-//! and what is told where a stream fails, a script is refused, or memory is wanting.
+//! script's run, or its map. Proved of it is safety. Tested (`test_replay_rows`): the table of a script, and what
+//! is told where a stream fails or a script is refused; where memory is wanting, by `scripts/refuse-memory` alone.
 #![tactic(auto)]
 
 mod map;

@@ -1,6 +1,6 @@
 use Rattle.std.proofs.Common.{◌≡◌, ◌∙◌, ap, ap₂, codes, rules, true}
 use Rattle.std.proofs.lemmas.Result.{IfOk-weaker}
-use Rattle.clap.specs.Simple.{Shape, app_of_fields, on_top}
+use Rattle.clap.specs.Simple.{app_of_fields}
 use Rattle.clap.specs.Words.{rule_of, with_rule}
 use Rattle.clap.specs.declared.builder.value_parser.ValueParser.TheVariants as parser
 use Rattle.record_values.specs.declared.geometry.TheConstants.{ENTRIES_MAX, ENTRIES_MIN, LOG_SLOTS_MAX, LOG_SLOTS_MIN, PAGES_MAX}
@@ -32,8 +32,7 @@ returns c =
     let fate_is : rule_of c.option_named-6.result ≡ option_of (codes "fate") (parser.Names c.as_slice.result) = c.option_named-6.ensures.rule
     ∙ ap (option_of (codes "fate")) c.from-fate.ensures in
     let one = c.in_ok-arg.ensures.shape (search rules)
-    ∙ ap₂ with_rule (ap app_of_fields c.about.ensures ∙ ap app_of_fields c.version.ensures
-    ∙ ap (on_top (λ (s : Shape). record s { has_version = true })) c.new-5.ensures.app) pages_is in
+    ∙ ap₂ with_rule c.program_named.ensures pages_is in
     let two = c.in_ok-arg-2.ensures.shape (search rules) ∙ ap₂ with_rule one entries_is in
     let three = c.in_ok-arg-3.ensures.shape (search rules) ∙ ap₂ with_rule two slots_is in
     let four = c.in_ok-arg-4.ensures.shape (search rules) ∙ ap₂ with_rule three sectors_is in

@@ -1,6 +1,7 @@
-//! What the words of the program ask for.
-use clap::error::ErrorKind;
-use clap::{Arg, ArgAction, ArgMatches, Command, Error, value_parser};
+//! What the words of the program `nsf-store` ask for.
+use crate::args::{flag_arg, program_named, with_arg};
+use crate::{option_named, tell};
+use clap::{Arg, ArgMatches, Command, Error, value_parser};
 use records::{ENTRIES_MAX, ENTRIES_MIN, LOG_SLOTS_MAX, LOG_SLOTS_MIN, PAGES_MAX, SLOTS_PER_PAGE};
 use std::alloc::{AllocError, Global};
 use std::convert::AsStr;
@@ -10,7 +11,7 @@ use std::io::Write;
 const ENTRIES_PER_ROW: u32 = 4;
 
 /// How an index is to be built.
-#[derive(Clone, Copy, Debug, PartialEq, Eq)]
+#[derive(Clone, Copy)]
 pub struct Build {
     /// Whether it is dropped before, if there is one, and created.
     pub is_anew: bool,
@@ -19,7 +20,7 @@ pub struct Build {
 }
 
 /// What is to be done with the file.
-#[derive(Clone, Copy, Debug, PartialEq, Eq)]
+#[derive(Clone, Copy)]
 pub enum Verb {
     /// A store of this geometry is made in it.
     New {
@@ -41,7 +42,7 @@ pub enum Verb {
     Build(Build),
 }
 
-/// What is asked for.
+/// What is asked for of `nsf-store`.
 #[derive(Drop)]
 pub enum Asked {
     /// Something is done with the file of this path.
@@ -90,19 +91,6 @@ const PROGRESS_HELP: &str =
 // Each of these hands on one call alone, so that what follows has no more to read than it needs. What falls by the way
 // is let go of by a call.
 
-fn with_arg<'a>(
-    command: Result<Command<'a>, AllocError>,
-    arg: Arg<'a>,
-) -> Result<Command<'a>, AllocError> {
-    match command {
-        Ok(command) => command.arg(arg),
-        Err(error) => {
-            drop(arg);
-            Err(error)
-        }
-    }
-}
-
 fn with_verb<'a>(
     command: Result<Command<'a>, AllocError>,
     verb: Result<Command<'a>, AllocError>,
@@ -133,20 +121,9 @@ fn path_arg<'a>(alloc: Global, name: &'a str, help: &'a str) -> Arg<'a> {
     Arg::new(alloc, name).required(true).help(help)
 }
 
-fn flag_arg<'a>(alloc: Global, name: &'a str, help: &'a str) -> Arg<'a> {
-    Arg::new(alloc, name)
-        .long(name)
-        .action(ArgAction::SetTrue)
-        .help(help)
-}
-
 fn number_arg<'a>(alloc: Global, name: &'a str, least: u32, most: u32, help: &'a str) -> Arg<'a> {
     let range = value_parser!(u32).range(i64::from(least)..=i64::from(most));
-    Arg::new(alloc, name)
-        .long(name)
-        .value_name("N")
-        .value_parser(range)
-        .help(help)
+    option_named(alloc, name, "N", range, help)
 }
 
 fn bare_verb<'a>(alloc: Global, name: &'a str, about: &'a str) -> Command<'a> {
@@ -154,9 +131,7 @@ fn bare_verb<'a>(alloc: Global, name: &'a str, about: &'a str) -> Command<'a> {
 }
 
 fn program<'a>(alloc: Global) -> Result<Command<'a>, AllocError> {
-    Command::new(alloc, "nsf-store")
-        .about(ABOUT)
-        .version("0.1.0")
+    program_named(alloc, "nsf-store", ABOUT)
         .subcommand_required(true)
         .bin_name("nsf-store")
 }
@@ -289,30 +264,10 @@ fn asked_in<S: AsStr>(alloc: Global, words: &[S]) -> Result<Asked, Error> {
     Ok(asked?)
 }
 
-// Whether this is asked for, and so no fault.
-fn is_wanted(error: &Error) -> bool {
-    match error.kind() {
-        ErrorKind::DisplayHelp | ErrorKind::DisplayVersion => true,
-        _ => false,
-    }
-}
-
-// Says what is said in place of an answer, and answers the exit status.
-fn say<W: Write, E: Write>(error: &Error, output: &mut W, errors: &mut E) -> u8 {
-    if !is_wanted(error) {
-        let _ = write!(errors, "{error}");
-        return 2;
-    }
-    match write!(output, "{error}") {
-        Ok(()) => 0,
-        Err(_) => 1,
-    }
-}
-
-/// What the words ask for, the first of which is the program's own name. Or what there is to say in place of it is
-/// said, and the exit status answered: 0 for help and version, on the output, or 1 where that can't be written; 2 for
-/// bad words, on the error stream.
-pub fn read<S: AsStr, W: Write, E: Write>(
+/// What the words of `nsf-store` ask for, the first of which is the program's own name. Or what there is to say in
+/// place of it is said, and the exit status answered: 0 for help and version, on the output, or 1 where that can't be
+/// written; 2 for bad words, on the error stream.
+pub fn read_asked<S: AsStr, W: Write, E: Write>(
     alloc: Global,
     words: &[S],
     output: &mut W,
@@ -321,7 +276,7 @@ pub fn read<S: AsStr, W: Write, E: Write>(
     match asked_in(alloc, words) {
         Ok(asked) => Ok(asked),
         Err(error) => {
-            let status = say(&error, output, errors);
+            let status = tell(&error, output, errors);
             drop(error);
             Err(status)
         }
