@@ -2,8 +2,8 @@
 use crate::refused::{Refused, granted};
 use model::Life;
 use nsf_core::BuildReply;
+use program_arguments::Build;
 use program_commands::Store;
-use program_words::Build;
 use records::Error;
 use restart::{Event, Reply};
 use sector_device::Device;

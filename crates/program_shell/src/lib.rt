@@ -12,6 +12,7 @@
 
 mod building;
 mod migration;
+mod name;
 mod program;
 mod refused;
 mod serve;

@@ -1,12 +1,13 @@
 //! The verbs of the program.
 use crate::building::build_index;
 use crate::migration::{NotMoved, migrate_file};
+use crate::name::OpenName;
 use crate::refused::Refused;
 use crate::serve::Service;
 use crate::show::{Stored, write_stat};
 use flip_image::Halves;
+use program_arguments::{Asked, Build, Verb, read_asked};
 use program_commands::Store;
-use program_words::{Asked, Build, Verb, read};
 use records::Geometry;
 use sector_device::Device;
 use std::alloc::Global;
@@ -198,17 +199,19 @@ fn stat_file<R: Files<File = File>, W: Write>(
 
 // Serves the input over the store on the disk, and tells whether each line was one of a script. Behind the last line
 // what is not flushed yet is flushed.
-fn run_disk<D: Device + Troubled + Drop, I: BufRead, W: Write, E: Write>(
+fn run_disk<R: Files, D: Device + Troubled + Drop, I: BufRead, W: Write, E: Write>(
     alloc: Global,
     disk: D,
+    name: &OpenName<'_, R>,
     is_durable: bool,
     input: &mut I,
     output: &mut W,
     errors: &mut E,
 ) -> Result<bool, Refused> {
     let mut service = Service::new(open(alloc, disk)?, is_durable);
-    let served = service.serve_lines(alloc, input, output, errors);
+    let served = service.serve_lines(alloc, name, input, output, errors);
     let flushed = service.flush();
+    service.tell(name, errors);
     drop(service);
     flushed?;
     Ok(served?)
@@ -224,7 +227,8 @@ fn run_file<R: Files<File = File>, I: BufRead, W: Write, E: Write>(
     errors: &mut E,
 ) -> Result<bool, Refused> {
     let disk = store_file::open(rt, alloc, path)?;
-    run_disk(alloc, disk, is_durable, input, output, errors)
+    let name = OpenName::new(rt, path);
+    run_disk(alloc, disk, &name, is_durable, input, output, errors)
 }
 
 // Does what is asked for, and tells whether nothing was refused.
@@ -308,7 +312,7 @@ pub fn run<R: Files<File = File> + AllocGlobal, S: AsStr, I: BufRead, W: Write, 
     output: &mut W,
     errors: &mut E,
 ) -> u8 {
-    match read(rt.alloc(), words, output, errors) {
+    match read_asked(rt.alloc(), words, output, errors) {
         Ok(asked) => answer(rt, &asked, input, output, errors),
         Err(status) => status,
     }

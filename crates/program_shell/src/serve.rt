@@ -1,4 +1,5 @@
 //! The commands of the input, served line by line.
+use crate::name::OpenName;
 use crate::refused::{Refused, granted};
 use program_commands::{GuardedStore, Outcome, Request, Store};
 use program_script::Command;
@@ -8,10 +9,14 @@ use sector_device::Device;
 use std::alloc::Global;
 use std::io;
 use std::io::{BufRead, Write};
+use std::rt::Files;
 use store_file::Troubled;
 
 const FULL_INDEX: &str =
     "the index is full. What open transactions reserve comes free at their end, and `clean` takes marked entries out. Where neither helps, `drop` and then `create` make the index anew";
+
+const LOST_NAME: &str =
+    "the file that is open no longer has its name. Where it is gone, a flush tells so";
 
 // The refusal of a text of one line, as that of this line.
 fn at_line(error: Error, line: u64) -> Error {
@@ -31,6 +36,8 @@ pub(crate) struct Service<D: Device> {
     full: Notice,
     /// That the device failed.
     failure: Notice,
+    /// That the file no longer has its name.
+    lost_name: Notice,
 }
 
 /// What is told once, as soon as a command meets it.
@@ -65,6 +72,7 @@ impl<D: Device + Troubled> Service<D> {
             is_durable,
             full: Notice::Unmet,
             failure: Notice::Unmet,
+            lost_name: Notice::Unmet,
         }
     }
 
@@ -77,8 +85,12 @@ impl<D: Device + Troubled> Service<D> {
         }
     }
 
-    // Tells what helps where the index is full, and why the device failed.
-    fn tell<E: Write>(&mut self, errors: &mut E) {
+    /// Tells what helps where the index is full, why the device failed, and that the file no longer has its name, each
+    /// once.
+    pub(crate) fn tell<R: Files, E: Write>(&mut self, name: &OpenName<'_, R>, errors: &mut E) {
+        if name.is_lost() {
+            self.lost_name.meet();
+        }
         if self.full.take() {
             let _ = writeln!(errors, "nsf-store: {FULL_INDEX}");
         }
@@ -87,6 +99,9 @@ impl<D: Device + Troubled> Service<D> {
                 self.guarded.store().device(),
             );
             let _ = writeln!(errors, "nsf-store: {refused}");
+        }
+        if self.lost_name.take() {
+            let _ = writeln!(errors, "nsf-store: {LOST_NAME}");
         }
     }
 
@@ -162,10 +177,12 @@ impl<D: Device + Troubled> Service<D> {
 
     /// Serves the commands of the input until its end, each of which is answered before the next line is read, and
     /// tells whether each line was one of a script; a line that is none is answered with its number, and passed over.
-    /// Where the index is full, the error stream tells once what helps, and where the device failed, why.
-    pub(crate) fn serve_lines<I: BufRead, W: Write, E: Write>(
+    /// Where the index is full, the error stream tells once what helps; where the device failed, why; and once that the
+    /// file no longer has its name.
+    pub(crate) fn serve_lines<R: Files, I: BufRead, W: Write, E: Write>(
         &mut self,
         alloc: Global,
+        name: &OpenName<'_, R>,
         input: &mut I,
         output: &mut W,
         errors: &mut E,
@@ -179,7 +196,7 @@ impl<D: Device + Troubled> Service<D> {
             }
             is_script &= self.serve_line(alloc, line.as_slice(), number, output)?;
             output.flush()?;
-            self.tell(errors);
+            self.tell(name, errors);
         }
         Ok(is_script)
     }

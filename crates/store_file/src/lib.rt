@@ -23,6 +23,7 @@ pub use draft::{SECTORS_MAX, create, discard, publish};
 pub use error::OpenError;
 pub use host::{Held, HostFile, StoreFile};
 pub use mirror::FileDisk;
+pub use names::{FileNumber, number_at};
 pub use opening::{hold, open, read};
 pub use past::Past;
 pub use trouble::{Trouble, Troubled};

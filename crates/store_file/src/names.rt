@@ -23,6 +23,24 @@ fn found_at<R: Files>(rt: &R, path: &str) -> io::Result<Option<Metadata>> {
     }
 }
 
+/// Which file it is, by the numbers that the system has for its device and for itself.
+#[derive(Clone, Copy, PartialEq, Eq)]
+pub struct FileNumber {
+    device: u64,
+    file: u64,
+}
+
+/// The number of what has this name, if anything has it. A file keeps its number when it is renamed.
+pub fn number_at<R: Files>(rt: &R, path: &str) -> io::Result<Option<FileNumber>> {
+    match found_at(rt, path)? {
+        Some(found) => Ok(Some(FileNumber {
+            device: found.dev(),
+            file: found.ino(),
+        })),
+        None => Ok(None),
+    }
+}
+
 /// Whether something has this name.
 pub(crate) fn is_there<R: Files>(rt: &R, path: &str) -> io::Result<bool> {
     Ok(found_at(rt, path)?.is_some())

@@ -1,0 +1,27 @@
+//! The name under which a file was opened.
+use std::rt::Files;
+use store_file::{FileNumber, number_at};
+
+/// The name under which a file was opened, and which file that is, where the system has told.
+#[derive(Drop)]
+pub(crate) struct OpenName<'a, R> {
+    rt: &'a R,
+    path: &'a str,
+    number: Option<FileNumber>,
+}
+
+impl<'a, R: Files> OpenName<'a, R> {
+    /// That of the file which has this name now.
+    pub(crate) fn new(rt: &'a R, path: &'a str) -> Self {
+        let number = number_at(rt, path).unwrap_or(None);
+        OpenName { rt, path, number }
+    }
+
+    /// Whether the file has this name no more. Where the system doesn't tell, it is taken to have it.
+    pub(crate) fn is_lost(&self) -> bool {
+        match number_at(self.rt, self.path) {
+            Ok(found) => self.number.is_some() && found != self.number,
+            Err(_) => false,
+        }
+    }
+}
