@@ -6,7 +6,7 @@ use Rattle.std.proofs.lemmas.Bool.{false≢true}
 use Rattle.std.proofs.lemmas.Bool.Decides.{nat_tests}
 use Rattle.std.proofs.lemmas.List.{ext_get_or}
 use Rattle.std.proofs.lemmas.List.FromFn.{length-map-range_with_len, get_or-map-range_with_len}
-use Rattle.block_device.specs.Blocks.{Image, block}
+use Rattle.block_device.specs.Blocks.{CrashFile, block}
 use Rattle.block_digest.specs.Digest.{digest}
 use Rattle.block_words.specs.Words.{word}
 use Rattle.block_batch.specs.declared.head.TheConstants.{TEXT, PLACES_MAX}
@@ -42,10 +42,10 @@ same_entries f g n same = ext_get_or none (map f (range_with_len 0 n)) (map g (r
         get_or-map-range_with_len f 0 n i i none within (omega arith) ∙ same i within ∙ sym (get_or-map-range_with_len g 0 n i i none within (omega arith))
 
 -- the i-th block of a batch
-abbrev entry_of : Image → ℕ → Entry
+abbrev entry_of : CrashFile → ℕ → Entry
 entry_of image i = record { place = place_in image i; bytes = block image (1 + i) }
 
-module _ (area other : Image) (le : length area ≤ length other) (same : (n : ℕ) → n ≤ count_in area → block other n ≡ block area n) where
+module _ (area other : CrashFile) (le : length area ≤ length other) (same : (n : ℕ) → n ≤ count_in area → block other n ≡ block area n) where
   head : block other 0 ≡ block area 0
   head = same 0 (omega arith)
 

@@ -6,7 +6,7 @@ use Rattle.std.proofs.lemmas.Bool.Decides.{nat_tests}
 use Rattle.std.proofs.lemmas.List.{take-set-le, get_or-set_same, get_or-set_other}
 use Rattle.std.specs.List.{flat_map}
 use Rattle.byteorder.specs.Endian.{big_bytes}
-use Rattle.block_device.specs.Blocks.{Image, block}
+use Rattle.block_device.specs.Blocks.{CrashFile, block}
 use Rattle.block_digest.specs.Digest.{digest}
 use Rattle.block_words.specs.Words.{word}
 use Rattle.block_words.proofs.Spelled.{take_spelled}
@@ -46,7 +46,7 @@ not_fifth first second third false last is = not_both first second third false r
 
 -- ---- blocks that fit
 
-module _ (area : Image) where
+module _ (area : CrashFile) where
   pub fits_more : (n : ℕ) → do_fit area n ≡ true → digest_in area n ≡ block_digest (place_in area n) (block area (1 + n)) → do_fit area (n + 1) ≡ true
   fits_more n so_far is = ap (do_fit area) next ∙ both (do_fit area n) (digest_in area n) (block_digest (place_in area n) (block area (1 + n))) so_far is
     where
@@ -81,12 +81,12 @@ digested : (words : List ℕ) (d n : ℕ) → n ≤ 511 → take (8 * n) (flat_m
 digested words d n few =
     take_spelled (slice_set words 511 d) n ∙ ap (flat_map (big_bytes 8)) (take-set-le n words 511 d few) ∙ sym (take_spelled words n)
 
-module _ (area now : Image) (words head sealed places digests : List ℕ) (d : ℕ) (long : length words ≡ 512)
+module _ (area now : CrashFile) (words head sealed places digests : List ℕ) (d : ℕ) (long : length words ≡ 512)
     (head_is : head ≡ flat_map (big_bytes 8) words) (sealed_is : sealed ≡ flat_map (big_bytes 8) (slice_set words 511 d))
     (again : (i : ℕ) → i < 512 → word sealed i ≡ slice_index (slice_set words 511 d) i)
     (now_is : now ≡ slice_set area 0 sealed) (few : length places ≤ PLACES_MAX) (room : length places < length area) where
   front : block now 0 ≡ sealed
-  front = ap (λ (image : Image). block image 0) now_is ∙ get_or-set_same area 0 sealed [] (omega (arith, room))
+  front = ap (λ (image : CrashFile). block image 0) now_is ∙ get_or-set_same area 0 sealed [] (omega (arith, room))
 
   -- the numbers of the head
   pub sealed_word : (i : ℕ) → i < 511 → word (block now 0) i ≡ slice_index words i
@@ -103,7 +103,7 @@ module _ (area now : Image) (words head sealed places digests : List ℕ) (d : �
 
   -- the blocks behind it
   pub sealed_block : (n : ℕ) → 0 < n → block now n ≡ block area n
-  sealed_block n some = ap (λ (image : Image). block image n) now_is ∙ get_or-set_other area 0 n sealed [] (omega (arith, some))
+  sealed_block n some = ap (λ (image : CrashFile). block image n) now_is ∙ get_or-set_other area 0 n sealed [] (omega (arith, some))
 
   module _ (text : slice_index words 0 ≡ TEXT) (count_is : slice_index words 2 ≡ length places)
       (places_are : (i : ℕ) → i < length places → slice_index words (3 + 2 * i) ≡ slice_index places i)

@@ -2,7 +2,7 @@
 use Rattle.std.proofs.Common.{◌≡◌, ◌⊎◌, inl, inr, ⊎_elim, ◌+◌, ◌<◌, List, ◌++◌, Option, Some, None, IfSome, Contains, sym, ◌∙◌, ap, arith}
 use Rattle.std.proofs.lemmas.Bool.{cases_eq}
 use Rattle.std.proofs.lemmas.Bool.Decides.{nat_tests}
-use Rattle.block_device.specs.Blocks.{Image}
+use Rattle.block_device.specs.Blocks.{CrashFile}
 use Rattle.block_batch.specs.Batch.{Entry, Batch, replayed, IsPlace}
 use Rattle.block_batch.specs.Replay.{in_order, pending, IsCommitted, AreOffered}
 use Rattle.block_batch.proofs.Replay.{cut_off, both, agree}
@@ -33,7 +33,7 @@ itself_again x y is = ap (λ z. in_order y z) is ∙ alone y
     alone : (z : Batch) → in_order z z ≡ z.entries
     alone z = grind (arith, nat_tests)
 
-module _ (offered : List Batch) (last next : Batch) (settled kept : Image) (known : AreOffered offered last next settled)
+module _ (offered : List Batch) (last next : Batch) (settled kept : CrashFile) (known : AreOffered offered last next settled)
     (committed : IsCommitted last settled kept) where
   -- the last batch alone
   alone : replayed last.entries kept ≡ settled

@@ -13,8 +13,6 @@
 mod head;
 mod laws;
 mod reading;
-#[cfg(test)]
-mod tests;
 
 pub use head::{Head, PLACES_MAX, block_digest, seal};
 pub use laws::{in_a_larger_area, one_batch_more, replayed_again};

@@ -1,4 +1,4 @@
-pub mod Images
+pub mod CrashFiles
 pub mod Moments
 mod Past
 mod Tear

@@ -6,11 +6,11 @@ use Rattle.std.proofs.lemmas.List.{get_or-set_same, get_or-set_other, get_or_pas
 use Rattle.std.proofs.lemmas.Grind.{common_steps}
 use Rattle.block_device.specs.declared.fate.Fate.{Fate}
 use Rattle.block_device.specs.declared.fate.Fate.TheVariants.{Old, New, Front, Back, Junk}
-use Rattle.block_device.specs.Blocks.{Image, block, IsBlock, IsWhole, IsCrashImage}
+use Rattle.block_device.specs.Blocks.{CrashFile, block, IsBlock, IsWhole, IsCrashFile}
 use Rattle.block_device.specs.Crash.{IsJunk, halves, HasFate, fate_at, loose_below, Torn, IsCrashed}
 
 -- the blocks below k have their fates, and the others are as they were
-pub record TornBelow (fates : List Fate) (s : Torn) (image : Image) (k next : ℕ) : Type 0 where
+pub record TornBelow (fates : List Fate) (s : Torn) (image : CrashFile) (k next : ℕ) : Type 0 where
   pub count : next ≡ loose_below s.loose k
   pub size : length image ≡ length s.content
   pub kept : (j : ℕ) → slice_index_or s.loose j false ≡ false → block image j ≡ block s.content j
@@ -27,7 +27,7 @@ one_more flags k below is = grind (arith, common_steps)
 no_more : (flags : List Bool) (k : ℕ) → k < length flags → slice_index_or flags k false ≡ false → loose_below flags (k + 1) ≡ loose_below flags k
 no_more flags k below is = grind (arith, common_steps)
 
-module _ (fates : List Fate) (s : Torn) (image : Image) (k next : ℕ) (so_far : TornBelow fates s image k next) (below : k < length s.content)
+module _ (fates : List Fate) (s : Torn) (image : CrashFile) (k next : ℕ) (so_far : TornBelow fates s image k next) (below : k < length s.content)
     (flag : k < length s.loose) where
   pub torn_kept : slice_index_or s.loose k false ≡ false → TornBelow fates s image (k + 1) next
   torn_kept is = record {
@@ -66,7 +66,7 @@ module _ (fates : List Fate) (s : Torn) (image : Image) (k next : ℕ) (so_far :
       elsewhere j under other flags = subst (HasFate (fate_at fates (loose_below s.loose j)) (block s.synced j) (block s.content j))
           (sym (get_or-set_other image k j bytes [] other)) (so_far.fated j under flags)
 
-pub torn_end : (fates : List Fate) (s : Torn) (image : Image) (k next : ℕ) → length s.content ≤ k → TornBelow fates s image k next
+pub torn_end : (fates : List Fate) (s : Torn) (image : CrashFile) (k next : ℕ) → length s.content ≤ k → TornBelow fates s image k next
     → IsCrashed fates s image
 torn_end fates s image k next past torn = record {
   size = torn.size;
@@ -108,8 +108,8 @@ fate_block Back old new bytes of_old of_new is = subst IsBlock (sym is) (halves_
 fate_block Junk old new bytes of_old of_new is = junk_block bytes is
 
 -- it is a crash image of the file
-pub crash_image : (fates : List Fate) (s : Torn) (image : Image) → IsWhole s.content → IsWhole s.synced → length s.synced ≡ length s.content
-    → IsCrashed fates s image → IsCrashImage (record { content = s.content; loose = λ n. slice_index_or s.loose n false }) image
+pub crash_image : (fates : List Fate) (s : Torn) (image : CrashFile) → IsWhole s.content → IsWhole s.synced → length s.synced ≡ length s.content
+    → IsCrashed fates s image → IsCrashFile (record { content = s.content; loose = λ n. slice_index_or s.loose n false }) image
 crash_image fates s image whole synced_whole same crashed = record {
   size = crashed.size;
   kept = crashed.kept;
@@ -118,7 +118,7 @@ crash_image fates s image whole synced_whole same crashed = record {
 }
 
 -- and each of its blocks is whole
-pub crashed_whole : (fates : List Fate) (s : Torn) (image : Image) → IsWhole s.content → IsWhole s.synced → length s.synced ≡ length s.content
+pub crashed_whole : (fates : List Fate) (s : Torn) (image : CrashFile) → IsWhole s.content → IsWhole s.synced → length s.synced ≡ length s.content
     → IsCrashed fates s image → IsWhole image
 crashed_whole fates s image whole synced_whole same crashed k below = go (slice_index_or s.loose k false) refl
   where

@@ -3,7 +3,7 @@ use Rattle.std.specs.Prelude.{◌≡◌, ◌⊎◌, ℕ, ◌≤◌, List, length
 use Rattle.std.proofs.Common.{ap}
 use Rattle.std.proofs.Math.Nat.{le_refl}
 use Rattle.std.proofs.lemmas.List.{get_or_past}
-use Rattle.block_device.specs.Blocks.{Image, IsWhole, BlockFile, IsCrashImage, SameOutside, SyncedOutside}
+use Rattle.block_device.specs.Blocks.{CrashFile, IsWhole, BlockFile, IsCrashFile, SameOutside, SyncedOutside}
 
 -- the past of a file: as it is, and as it was at each moment until now
 pub record BlocksPast : Type 0 where
@@ -19,19 +19,19 @@ pub record Elapses (old new : BlocksPast) : Type 0 where
   pub kept : (t : ℕ) → t ≤ old.moment → new.file_at t ≡ old.file_at t
   pub during : (t : ℕ) → old.moment ≤ t → t ≤ new.moment → (new.file_at t ≡ old.file) ⊎ (new.file_at t ≡ new.file)
 
--- each crash image of the moments from one to another has P
-abbrev pub Between : (ℕ → BlockFile) → ℕ → ℕ → (Image → Type 0) → Type 0
-Between file_at from to P = (t : ℕ) (image : Image) → from ≤ t → t ≤ to → IsCrashImage (file_at t) image → P image
+-- each crash file of the moments from one to another has P
+abbrev pub Between : (ℕ → BlockFile) → ℕ → ℕ → (CrashFile → Type 0) → Type 0
+Between file_at from to P = (t : ℕ) (image : CrashFile) → from ≤ t → t ≤ to → IsCrashFile (file_at t) image → P image
 
--- a crash at any moment from old to new leaves an image that has P
-pub record LeavesOnly (old new : BlocksPast) (P : Image → Type 0) : Type 0 where
+-- a crash at any moment from old to new leaves a crash file that has P
+pub record LeavesOnly (old new : BlocksPast) (P : CrashFile → Type 0) : Type 0 where
   pub later : old.moment ≤ new.moment
   pub kept : (t : ℕ) → t ≤ old.moment → new.file_at t ≡ old.file_at t
   pub each : Between new.file_at old.moment new.moment P
 
--- Calls were made that write only blocks of S: a crash at any moment since leaves this image outside S, and outside S
--- the file holds it, synced.
-pub record RunsWithin (S : ℕ → Type 0) (image : Image) (old new : BlocksPast) : Type 0 where
+-- Calls were made that write only blocks of S: a crash at any moment since leaves this crash file outside S, and
+-- outside S the file holds it, synced.
+pub record RunsWithin (S : ℕ → Type 0) (image : CrashFile) (old new : BlocksPast) : Type 0 where
   pub now : SyncedOutside S image new.file
   pub run : LeavesOnly old new (SameOutside S image)
 

@@ -3,7 +3,7 @@ use Rattle.std.specs.Prelude.{◌≡◌, ℕ, ◌+◌, ◌*◌, ◌%◌, ◌<◌
 use Rattle.std.specs.Prelude.{slice_index, slice_index_or, count_by}
 use Rattle.block_device.specs.declared.fate.Fate.{Fate}
 use Rattle.block_device.specs.declared.fate.Fate.TheVariants.{Old, New, Front, Back, Junk}
-use Rattle.block_device.specs.Blocks.{Image, block}
+use Rattle.block_device.specs.Blocks.{CrashFile, block}
 
 -- byte i is (7 * i + 13) mod 256
 pub record IsJunk (bytes : List ℕ) : Type 0 where
@@ -32,12 +32,12 @@ loose_below loose k = count_by (λ is. is) (take k loose)
 
 -- the content, the content at the last sync, and for each block whether it is loose
 pub record Torn : Type 0 where
-  pub content : Image
-  pub synced : Image
+  pub content : CrashFile
+  pub synced : CrashFile
   pub loose : List Bool
 
 -- the blocks after a crash: the loose ones, ascending, get the fates in turn, and the others stay
-pub record IsCrashed (fates : List Fate) (was : Torn) (image : Image) : Type 0 where
+pub record IsCrashed (fates : List Fate) (was : Torn) (image : CrashFile) : Type 0 where
   pub size : length image ≡ length was.content
   pub kept : (k : ℕ) → slice_index_or was.loose k false ≡ false → block image k ≡ block was.content k
   pub fated : (k : ℕ) → k < length was.content → slice_index_or was.loose k false ≡ true

@@ -1,5 +1,5 @@
 // A file of blocks as its users see it: what its calls do, and what a crash may leave.
-ghost use Rattle.std.specs.Prelude.{◌≡◌, ◌+◌, ◌≤◌, ℕ, length, OnOk, OnErr};
+ghost use Rattle.std.specs.Prelude.{◌≡◌, ◌+◌, ◌<◌, ◌≤◌, ◌^◌, ℕ, length, OnOk, OnErr};
 ghost use Rattle.sector_device.specs.DevicePast.{CountsFailure};
 ghost use Rattle.block_device.specs.Blocks.{run_of, after_write, after_sync, IsFailedWrite};
 ghost use Rattle.block_device.specs.BlocksPast.{BlocksPast, Elapses};
@@ -51,4 +51,12 @@ pub trait Blocks {
         ensures err { OnErr result ((past_of self.new).file ≡ (past_of self.old).file) }
         ensures time { Elapses (past_of self.old) (past_of self.new) }
         ensures counts { CountsFailure (failures self.old) (failures self.new) result };
+}
+
+/// A law: a file has fewer than 2^64 blocks.
+pub fn few_blocks<B: Blocks>(below: &B)
+    ensures { length (B.past_of below.now).file.content < 2 ^ 64 }
+{
+    // the number is looked at, so that its limit is at hand
+    let _ = below.blocks();
 }

@@ -1,6 +1,6 @@
 // What a file in memory holds.
 ghost use Rattle.std.specs.Prelude.{◌≡◌, ◌+◌, ◌≤◌, length, replicate, IfOk};
-ghost use Rattle.block_device.specs.Blocks.{IsWhole, IsSynced, IsCrashImage, after_write, after_sync, zero_block};
+ghost use Rattle.block_device.specs.Blocks.{IsWhole, IsSynced, IsCrashFile, after_write, after_sync, zero_block};
 
 use crate::crash::tear;
 use crate::runs::{mark_run, put_run, zero_block};
@@ -66,7 +66,7 @@ impl<A: Allocator + Copy> Held<A> {
 
     /// Gives the loose blocks the fates in turn. Then none is loose.
     pub(crate) fn crash(&mut self, fates: &[Fate])
-        ensures crash { IsCrashImage (file_of self.old) (file_of self.new).content }
+        ensures crash { IsCrashFile (file_of self.old) (file_of self.new).content }
         ensures fates { IsCrashed fates.now (torn_of self.old) (file_of self.new).content }
         ensures synced { IsSynced (file_of self.new) }
     {

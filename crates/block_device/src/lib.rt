@@ -2,10 +2,10 @@
 //! may leave. Where a sector is harmed alone (`sector_device`), a block is harmed as a whole.
 //!
 //! Proved of `MemBlocks`: the clauses of `Blocks`: what each call does, and what it leaves where it fails (`ok`,
-//! `err`); what a crash leaves around it (`time`); that failures are counted (`counts`). `crash` leaves the crash image
+//! `err`); what a crash leaves around it (`time`); that failures are counted (`counts`). `crash` leaves the crash file
 //! that the fates name (`crash`, `fates`). Neither: that a real file behaves so. That is the premise of all above it.
 //!
-//! Lemmas about its public words that crates above may cite, in `proofs`: `Images`, `Moments` and `Within`.
+//! Lemmas about its public words that crates above may cite, in `proofs`: `CrashFiles`, `Moments` and `Within`.
 #![tactic(auto)]
 
 mod blocks;
@@ -14,9 +14,8 @@ mod fate;
 mod held;
 mod memory;
 mod runs;
-#[cfg(test)]
-mod tests;
 
-pub use blocks::{BLOCK_SIZE, Blocks};
+pub use blocks::{BLOCK_SIZE, Blocks, few_blocks};
 pub use fate::Fate;
 pub use memory::MemBlocks;
+pub use runs::{put_run, zero_block};

@@ -1,7 +1,7 @@
 // A file of blocks in memory, whose power may go at a call that is chosen.
 ghost use Rattle.std.specs.Prelude.{◌≡◌, ◌+◌, ◌-◌, ◌≤◌, ◌<◌, ◌^◌, length, replicate, IfOk, IsOk, IsErr, OnOk, OnErr};
 ghost use Rattle.sector_device.specs.DevicePast.{CountsFailure};
-ghost use Rattle.block_device.specs.Blocks.{run_of, after_write, after_sync, IsFailedWrite, IsSynced, IsCrashImage};
+ghost use Rattle.block_device.specs.Blocks.{run_of, after_write, after_sync, IsFailedWrite, IsSynced, IsCrashFile};
 ghost use Rattle.block_device.specs.Blocks.{zero_block};
 ghost use Rattle.block_device.specs.BlocksPast.{Elapses};
 
@@ -45,7 +45,7 @@ impl<A: Allocator + Copy> MemBlocks<A> {
     /// again at its end; an empty list is `Old`. Afterwards no block is loose, its moments begin anew, and so many
     /// writes and syncs succeed.
     pub fn crash(&mut self, fates: &[Fate], calls: u64)
-        ensures crash { IsCrashImage (past_of self.old).file (past_of self.new).file.content }
+        ensures crash { IsCrashFile (past_of self.old).file (past_of self.new).file.content }
         ensures fates { IsCrashed fates.now (state_of self.old) (past_of self.new).file.content }
         ensures synced { IsSynced (past_of self.new).file }
         ensures moment { (past_of self.new).moment ≡ 0 }

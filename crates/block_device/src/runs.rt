@@ -5,7 +5,7 @@ ghost use Rattle.block_device.specs.Blocks.{IsBlock, IsWhole, with_run, is_in_ru
 use crate::BLOCK_SIZE;
 
 /// A block of zeros.
-pub(crate) fn zero_block() -> [u8; BLOCK_SIZE]
+pub fn zero_block() -> [u8; BLOCK_SIZE]
     ensures { result ≡ zero_block }
 {
     [0; BLOCK_SIZE]
@@ -22,7 +22,7 @@ fn block_of(bytes: &[u8; BLOCK_SIZE]) -> [u8; BLOCK_SIZE]
 }
 
 /// Puts blocks over those from the first on.
-pub(crate) fn put_run(content: &mut [[u8; BLOCK_SIZE]], first: usize, run: &[[u8; BLOCK_SIZE]])
+pub fn put_run(content: &mut [[u8; BLOCK_SIZE]], first: usize, run: &[[u8; BLOCK_SIZE]])
     requires { first + length run.now ≤ length content.old }
     ensures content { content.new ≡ with_run content.old first run.now }
     ensures whole { IsWhole content.old → IsWhole content.new }

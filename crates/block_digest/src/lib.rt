@@ -1,16 +1,13 @@
 //! The digest of bytes: SipHash-1-3 with both keys 0, a hash of 64 bits. It is what std's `DefaultHasher` computes.
 //!
-//! Proved: `digest` gives it, and a `Digester` gives that of all the bytes that it took, in whatever pieces. Tested:
-//! what another program's hash of the same bytes is.
+//! Proved: `digest` gives it, and a `Digester` gives that of all the bytes that it took, in whatever pieces. Tested by
+//! `test_blocks`: what another program's hash of the same bytes is.
 #![tactic(auto)]
 
 ghost use Rattle.std.specs.Prelude.{◌≡◌, ℕ, List, [], ◌++◌};
 ghost use Rattle.block_digest.specs.Digest.{digest, Holds};
 
 use std::hash::{DefaultHasher, Hasher};
-
-#[cfg(test)]
-mod tests;
 
 /// The digest of bytes that come in pieces: `new`, an `update` for each piece, and `finish`.
 #[derive(Clone, Copy)]

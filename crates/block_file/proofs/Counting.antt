@@ -1,6 +1,6 @@
 -- A read of the checked blocks is counted, and so is a block that was damaged.
 use Rattle.std.specs.Prelude.{is_ok}
-use Rattle.std.proofs.Common.{Result, Ok, Err, ◌≡◌, ℕ, ◌+◌, ◌-◌, ◌^◌, ◌<◌, min, true, false, sym, ◌∙◌, ap, arith}
+use Rattle.std.proofs.Common.{Result, Ok, Err, ◌≡◌, ◌⊎◌, inl, inr, ⊎_elim, ℕ, ◌+◌, ◌-◌, ◌^◌, ◌<◌, min, true, false, refl, sym, ◌∙◌, ap, arith}
 use Rattle.sector_device.specs.DevicePast.{CountsFailure}
 use Rattle.block_table.specs.declared.checked.ReadError.{ReadError}
 use Rattle.block_table.specs.declared.checked.ReadError.TheVariants.{Damaged, FileFailed}
@@ -43,3 +43,9 @@ module _ (done : Result Unit ReadError) where
     where
       never : Path (Result Unit ReadError) (Err Damaged) (Err FileFailed) → ⊥
       never both = absurd cc
+
+-- why a block isn't read
+pub why_unread : (P Q R : Type 0) (e : ReadError) → (Path (Result Unit ReadError) (Err e) (Err FileFailed) → P ⊎ Q)
+    → (Path (Result Unit ReadError) (Err e) (Err Damaged) → R) → P ⊎ (Q ⊎ R)
+why_unread P Q R FileFailed failed damaged = ⊎_elim (λ p. inl p) (λ q. inr (inl q)) (failed refl)
+why_unread P Q R Damaged failed damaged = inr (inr (damaged refl))

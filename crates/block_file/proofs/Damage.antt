@@ -1,12 +1,12 @@
 -- The first sector of a block that is damaged.
 use Rattle.std.proofs.Common.{◌≡◌, ℕ, ◌+◌, ◌/◌, ◌<◌, ◌≤◌, Option, Some, None, sym, subst, arith}
 use Rattle.std.specs.Prelude.{IfNone, IfSome}
-use Rattle.block_device.specs.Blocks.{Image}
+use Rattle.block_device.specs.Blocks.{CrashFile}
 use Rattle.block_table.specs.Table.{IsFirstUnfit, IsFit}
 use Rattle.block_file.specs.declared.plan.Plan.{Plan}
 use Rattle.block_file.specs.Damage.{IsFirstDamaged, IsSectorFit}
 
-module _ (p : Plan) (kept : Image) (from n : ℕ) (unfit : IsFirstUnfit p.blocks kept ((from + p.lead) / 8) n) where
+module _ (p : Plan) (kept : CrashFile) (from n : ℕ) (unfit : IsFirstUnfit p.blocks kept ((from + p.lead) / 8) n) where
   fits_before : (m : ℕ) → from ≤ m → (m + p.lead) / 8 < n → IsSectorFit p kept m
   fits_before m behind below = unfit.before ((m + p.lead) / 8) (omega (arith, behind)) below
 

@@ -2,7 +2,7 @@
 use Rattle.std.proofs.Common.{Result, Ok, Err, OnErr, ◌≡◌, inl, inr, ⊎_elim, ℕ, sym, ◌∙◌, ap, subst, arith}
 use Rattle.std.proofs.lemmas.Bool.{cases_lt}
 use Rattle.sector_device.specs.DevicePast.{DevicePast, Elapses}
-use Rattle.block_device.specs.Blocks.{Image}
+use Rattle.block_device.specs.Blocks.{CrashFile}
 use Rattle.block_journal.specs.declared.shape.Shape.{Shape}
 use Rattle.block_journal.specs.Journal.{NeedsNoArea}
 use Rattle.block_table.specs.Table.{data_of}
@@ -15,11 +15,11 @@ on_err_always P (Ok x) h = tt
 on_err_always P (Err e) h = h
 
 -- where the journal needs no area, the file stands alone
-pub stands_alone : (p : Plan) (g : Shape) (image settled kept : Image) (blocks : ℕ) → g ≡ p.shape → blocks ≡ p.blocks → kept ≡ settled
+pub stands_alone : (p : Plan) (g : Shape) (image settled kept : CrashFile) (blocks : ℕ) → g ≡ p.shape → blocks ≡ p.blocks → kept ≡ settled
     → NeedsNoArea g image settled → StandsAlone p image (sectors_of p.lead p.sectors (data_of blocks kept))
 stands_alone p g image settled kept blocks shape count same needs = λ c there areas.
     let all : NeedsNoArea p.shape image settled = subst (λ (s : Shape). NeedsNoArea s image settled) shape needs in
-    ap (λ (l : Image). sectors_of p.lead p.sectors (data_of p.blocks l)) (all c there areas ∙ sym same)
+    ap (λ (l : CrashFile). sectors_of p.lead p.sectors (data_of p.blocks l)) (all c there areas ∙ sym same)
     ∙ ap (λ (b : ℕ). sectors_of p.lead p.sectors (data_of b kept)) (sym count)
 
 -- one call behind another that changes nothing of the disk

@@ -2,9 +2,9 @@
 use Rattle.std.proofs.Common.{◌≡◌, ◌⊎◌, inl, inr, ⊎_elim, ℕ, ◌-◌, ◌^◌, ◌<◌, Bool, true, false, ◌&&◌, if◌then◌else◌, List}
 use Rattle.std.proofs.Common.{Option, Some, None, refl, sym, ◌∙◌, ap, subst, arith}
 use Rattle.std.proofs.lemmas.Bool.{cases_Bool, cases_lt, false≢true}
-use Rattle.block_device.specs.Blocks.{BlockFile, Image, IsCrashImage, block}
+use Rattle.block_device.specs.Blocks.{BlockFile, CrashFile, IsCrashFile, block}
 use Rattle.block_device.specs.BlocksPast.{BlocksPast, LeavesOnly}
-use Rattle.block_device.proofs.Images.{content_is_image}
+use Rattle.block_device.proofs.CrashFiles.{content_is_image}
 use Rattle.block_device.proofs.Moments.{one_call}
 use Rattle.block_words.specs.Words.{word}
 use Rattle.block_journal.specs.declared.shape.Shape.{Shape}
@@ -31,12 +31,12 @@ behind_both : (bytes : List ℕ) (p : Plan) → told_by bytes ≡ Some p → p.s
 behind_both bytes p is = chosen (is_header bytes && can_be (word bytes 2) (word bytes 3) (word bytes 4))
     (plan_for (word bytes 2) (word bytes 3) (word bytes 4)) p refl is
 
-told_behind : (image : Image) (p : Plan) → plan_told image ≡ Some p → p.shape.first ≡ 2
+told_behind : (image : CrashFile) (p : Plan) → plan_told image ≡ Some p → p.shape.first ≡ 2
 told_behind image p is = ⊎_elim (behind_both (block image 0) p) (behind_both (block image 1) p)
     (first_or (told_by (block image 0)) (told_by (block image 1)) p is)
 
 -- where the blocks before the journal stay, the header is still told
-pub still_told : (image first : Image) (p : Plan) → plan_told first ≡ Some p → ((n : ℕ) → n < p.shape.first → block image n ≡ block first n)
+pub still_told : (image first : CrashFile) (p : Plan) → plan_told first ≡ Some p → ((n : ℕ) → n < p.shape.first → block image n ≡ block first n)
     → plan_told image ≡ Some p
 still_told image first p told same =
     let two = told_behind first p told in
@@ -45,7 +45,7 @@ still_told image first p told same =
     (λ i. first_of (told_by (zero i)) (told_by (one i))) ∙ told
 
 -- and both of its blocks tell it, if they did
-pub twice_still : (image first : Image) (p : Plan) → TellTwice p first → ((n : ℕ) → n < p.shape.first → block image n ≡ block first n)
+pub twice_still : (image first : CrashFile) (p : Plan) → TellTwice p first → ((n : ℕ) → n < p.shape.first → block image n ≡ block first n)
     → TellTwice p image
 twice_still image first p told same =
     let two = behind_both (block first 0) p told.first in
@@ -73,18 +73,18 @@ module _ {B A : Type 0} (past_of : B → BlocksPast) where
 
   module _ (d : DiskParts B A) (sound : IsSound past_of d) (new : CheckedValue B) where
     -- what a crash leaves has the blocks before the journal as they were first
-    abbrev pub HasFirst : Image → Type 0
+    abbrev pub HasFirst : CrashFile → Type 0
     HasFirst image = (n : ℕ) → n < d.plan.shape.first → block image n ≡ block (first_content past_of d) n
 
-    has_now : (image : Image) → IsCrashImage (past_of (journal_in d.now).below).file image → HasFirst image
+    has_now : (image : CrashFile) → IsCrashFile (past_of (journal_in d.now).below).file image → HasFirst image
     has_now image crash = sound.before (past_of (journal_in d.now).below).moment image (sound.rising 0 (omega arith)) (omega arith)
-        (subst (λ (f : BlockFile). IsCrashImage f image) (sym (past_of (journal_in d.now).below).now) crash)
+        (subst (λ (f : BlockFile). IsCrashFile f image) (sym (past_of (journal_in d.now).below).now) crash)
 
     -- calls that only read
     pub first_read : OnlyReads (past_of (journal_in d.now).below) (past_of new.journal.below)
         → LeavesOnly (past_of (journal_in d.now).below) (past_of new.journal.below) HasFirst
     first_read reads = one_call (past_of (journal_in d.now).below) (past_of new.journal.below) HasFirst reads.time has_now
-        (λ image crash. has_now image (subst (λ (f : BlockFile). IsCrashImage f image) reads.file crash))
+        (λ image crash. has_now image (subst (λ (f : BlockFile). IsCrashFile f image) reads.file crash))
 
     -- calls of which some may write
     pub first_moved : ((journal_in d.now).has_failed ≡ false

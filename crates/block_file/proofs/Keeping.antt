@@ -8,7 +8,7 @@ use Rattle.std.proofs.lemmas.Bool.Decides.{nat_tests}
 use Rattle.std.proofs.lemmas.List.{get_or-set_other, set-get_or}
 use Rattle.sector_device.specs.Disk.{CrashState, Disk, IsCrashState, IsDiskWhole, IsFailedWrite, after_sync, after_write, sector}
 use Rattle.sector_device.proofs.Sectors.{content_is_image, image_is_whole}
-use Rattle.block_device.specs.Blocks.{Image, BlockFile, IsCrashImage}
+use Rattle.block_device.specs.Blocks.{CrashFile, BlockFile, IsCrashFile}
 use Rattle.block_device.specs.BlocksPast.{BlocksPast, LeavesOnly}
 use Rattle.block_device.proofs.Moments.{at_end, one_call}
 use Rattle.block_batch.specs.Batch.{Batch, Entry, replayed}
@@ -60,7 +60,7 @@ crash_written disk n bytes c whole crash = record {
 -- ---- calls of the checked blocks below a disk
 
 module _ {B A : Type 0} (past_of : B → BlocksPast) (p : Plan) (s : Held B A) where
-  abbrev of_table : Image → CrashState
+  abbrev of_table : CrashFile → CrashState
   of_table table = sectors_of p.lead p.sectors (data_of p.blocks table)
 
   -- The checked blocks are these now. What they stand for, and what a crash left, are crash states of the disk as it was.
@@ -80,7 +80,7 @@ module _ {B A : Type 0} (past_of : B → BlocksPast) (p : Plan) (s : Held B A) w
         (subst (λ (c : CheckedValue B). IsCrashState (disk_of past_of p s) (sectors_of p.lead p.sectors (settled_data past_of c))) (sym is) comes.settled);
     now = λ image crash honest. so (disk_image p image)
         (at_end (past_of (journal_in s).below) (past_of new.journal.below) (StandsForCrash p new.journal.offered (disk_of past_of p s)) comes.leaves
-        image (subst (λ (c : CheckedValue B). IsCrashImage (past_of c.journal.below).file image) is crash)
+        image (subst (λ (c : CheckedValue B). IsCrashFile (past_of c.journal.below).file image) is crash)
         (subst (λ (c : CheckedValue B). IsHonest c.journal.offered p.shape image) is honest));
   }
 
@@ -98,17 +98,17 @@ module _ {B A : Type 0} (past_of : B → BlocksPast) (p : Plan) (s : Held B A) w
         → LeavesOnly (past_of (journal_in s).below) (past_of new.journal.below) (StandsForCrash p new.journal.offered (disk_of past_of p s))
     read_leaves new reads offered = one_call (past_of (journal_in s).below) (past_of new.journal.below)
         (StandsForCrash p new.journal.offered (disk_of past_of p s)) reads.time here
-        (λ c crash. here c (subst (λ (f : BlockFile). IsCrashImage f c) reads.file crash))
+        (λ c crash. here c (subst (λ (f : BlockFile). IsCrashFile f c) reads.file crash))
       where
-        here : (c : Image) → IsCrashImage (past_of (journal_in s).below).file c → StandsForCrash p new.journal.offered (disk_of past_of p s) c
+        here : (c : CrashFile) → IsCrashFile (past_of (journal_in s).below).file c → StandsForCrash p new.journal.offered (disk_of past_of p s) c
         here c crash honest = kept.now c crash (subst (λ (o : List Batch). IsHonest o p.shape c) offered honest)
 
     -- a table that is one of the two
-    one_of_two : (table : Image) → (table ≡ settled_table past_of s.checked) ⊎ (table ≡ kept_table past_of s.checked)
+    one_of_two : (table : CrashFile) → (table ≡ settled_table past_of s.checked) ⊎ (table ≡ kept_table past_of s.checked)
         → IsCrashState (disk_of past_of p s) (of_table table)
     one_of_two table which = ⊎_elim
-        (λ is. subst (λ (t : Image). IsCrashState (disk_of past_of p s) (of_table t)) (sym is) settled_here)
-        (λ is. subst (λ (t : Image). IsCrashState (disk_of past_of p s) (of_table t)) (sym is) kept_here) which
+        (λ is. subst (λ (t : CrashFile). IsCrashState (disk_of past_of p s) (of_table t)) (sym is) settled_here)
+        (λ is. subst (λ (t : CrashFile). IsCrashState (disk_of past_of p s) (of_table t)) (sym is) kept_here) which
 
     with_blocks : (new : CheckedValue B) → new.blocks ≡ p.blocks → IsCrashState (disk_of past_of p s) (of_table (settled_table past_of new))
         → IsCrashState (disk_of past_of p s) (sectors_of p.lead p.sectors (settled_data past_of new))
@@ -210,7 +210,7 @@ module _ {B A : Type 0} (past_of : B → BlocksPast) (p : Plan) where
   -- where all was committed, and nothing was put since
   pub settled_kept : (t : Held B A) → (journal_in t).shape ≡ p.shape → t.checked.blocks ≡ p.blocks → (journal_in t).next ≡ []
       → (journal_in t).has_failed ≡ false
-      → ((journal_in t).has_failed ≡ false → (image : Image) → IsCrashImage (past_of (journal_in t).below).file image
+      → ((journal_in t).has_failed ≡ false → (image : CrashFile) → IsCrashFile (past_of (journal_in t).below).file image
       → IsHonest (journal_in t).offered (journal_in t).shape image → recovered (journal_in t).shape image ≡ settled_table past_of t.checked)
       → IsKept past_of p t
   settled_kept t shape blocks none good survives = record {
@@ -220,7 +220,7 @@ module _ {B A : Type 0} (past_of : B → BlocksPast) (p : Plan) where
     now = λ image crash honest.
         let is = survives good image crash (subst (λ (g : Shape). IsHonest (journal_in t).offered g image) (sym shape) honest) in
         let stands : recovered p.shape image ≡ settled_table past_of t.checked = ap (λ (g : Shape). recovered g image) (sym shape) ∙ is in
-        subst (λ (l : Image). IsCrashState (disk_of past_of p t) (sectors_of p.lead p.sectors (data_of p.blocks l))) (sym stands)
+        subst (λ (l : CrashFile). IsCrashState (disk_of past_of p t) (sectors_of p.lead p.sectors (data_of p.blocks l))) (sym stands)
         (subst (λ (b : ℕ). IsCrashState (disk_of past_of p t) (sectors_of p.lead p.sectors (data_of b (settled_table past_of t.checked)))) blocks all);
   }
     where
@@ -228,5 +228,5 @@ module _ {B A : Type 0} (past_of : B → BlocksPast) (p : Plan) where
       same = ap (λ (l : List Entry). replayed l (settled_table past_of t.checked)) none
 
       all : IsCrashState (disk_of past_of p t) (sectors_of p.lead p.sectors (settled_data past_of t.checked))
-      all = subst (λ (l : Image). IsCrashState (disk_of past_of p t) (sectors_of p.lead p.sectors (data_of t.checked.blocks l))) same
+      all = subst (λ (l : CrashFile). IsCrashState (disk_of past_of p t) (sectors_of p.lead p.sectors (data_of t.checked.blocks l))) same
           (content_is_image (disk_of past_of p t) (sectors_are_whole p.lead p.sectors (data_now past_of t.checked)))

@@ -1,6 +1,6 @@
 -- What calls of checked blocks leave, one after the other.
 use Rattle.std.proofs.Common.{Result, Ok, Err, OnOk, OnErr, ◌≡◌, ◌⊎◌, inl, inr, ⊎_elim, ℕ, true, false, List, [], refl, sym, ◌∙◌, ap, subst}
-use Rattle.block_device.specs.Blocks.{Image, BlockFile, IsCrashImage, IsSynced}
+use Rattle.block_device.specs.Blocks.{CrashFile, BlockFile, IsCrashFile, IsSynced}
 use Rattle.block_device.specs.BlocksPast.{BlocksPast, LeavesOnly}
 use Rattle.block_device.proofs.Moments.{at_end, goes_on, started}
 use Rattle.block_batch.specs.Batch.{Batch, Entry, replayed}
@@ -52,7 +52,7 @@ module _ {B : Type 0} (past_of : B → BlocksPast) where
       ap (λ (l : List Entry). replayed l (settled_table past_of new)) kept ∙ ap (replayed old.journal.next) err
 
   -- no call
-  pub moves_none : (c : CheckedValue B) → (c.journal.has_failed ≡ false → (image : Image) → IsCrashImage (file_of c).file image
+  pub moves_none : (c : CheckedValue B) → (c.journal.has_failed ≡ false → (image : CrashFile) → IsCrashFile (file_of c).file image
       → IsHonest c.journal.offered c.journal.shape image → recovered c.journal.shape image ≡ settled_table past_of c)
       → (c.journal.has_failed ≡ false → IsSynced (file_of c).file) → Moves past_of c c
   moves_none c survives synced = record {
@@ -80,11 +80,11 @@ module _ {B : Type 0} (past_of : B → BlocksPast) where
     any_moment = λ good. subst (λ (o : List Batch). LeavesOnly (file_of old) (file_of new) (either o)) (sym offered)
         (goes_on (file_of old) (file_of mid) (file_of new) (either mid.journal.offered) (first.any_moment good) reads.time
         (λ c crash. at_end (file_of old) (file_of mid) (either mid.journal.offered) (first.any_moment good) c
-        (subst (λ (f : BlockFile). IsCrashImage f c) reads.file crash)));
+        (subst (λ (f : BlockFile). IsCrashFile f c) reads.file crash)));
     refused = λ failed. (reads_then (file_of old) (file_of mid) (file_of new) (first.refused failed).0 reads, offered ∙ (first.refused failed).1);
   }
     where
-      either : List Batch → Image → Type 0
+      either : List Batch → CrashFile → Type 0
       either offered c = IsHonest offered old.journal.shape c
           → (recovered old.journal.shape c ≡ settled_table past_of old) ⊎ (recovered old.journal.shape c ≡ kept_table past_of old)
 

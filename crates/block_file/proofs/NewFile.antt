@@ -6,7 +6,7 @@ use Rattle.std.specs.List.{range_with_len}
 use Rattle.std.proofs.lemmas.Bool.{and_parts, cases_eq, ltb-true}
 use Rattle.std.proofs.lemmas.List.{get_or-set_other}
 use Rattle.std.proofs.lemmas.Grind.{get_or-set_at}
-use Rattle.block_device.specs.Blocks.{Image, InRun, SameOutside, block, zero_block}
+use Rattle.block_device.specs.Blocks.{CrashFile, InRun, SameOutside, block, zero_block}
 use Rattle.block_device.specs.BlocksPast.{BlocksPast, LeavesOnly}
 use Rattle.block_batch.specs.Batch.{batch_in, block_digest, count_in, number_in, place_in, replayed}
 use Rattle.block_batch.specs.Replay.{pending}
@@ -68,15 +68,15 @@ some_told s l a o is = subst (λ (x : Option Plan). IfSome x CanBeTold) (sym is)
 
 -- ---- the kept blocks are written, one after the other
 
-pub new_more : (table first k : ℕ) (old new : Image) (bytes : List ℕ) → new ≡ slice_set old (first + k) bytes → first + k < length old
+pub new_more : (table first k : ℕ) (old new : CrashFile) (bytes : List ℕ) → new ≡ slice_set old (first + k) bytes → first + k < length old
     → IsNewBlock table k bytes
     → ((j : ℕ) → j < k → IsNewBlock table j (block old (first + j))) → (j : ℕ) → j < k + 1 → IsNewBlock table j (block new (first + j))
 new_more table first k old new bytes is room fresh before j below = elim (cases_eq j k) [
   | inl same ↦ subst (λ (b : List ℕ). IsNewBlock table j b)
-      (sym (ap (λ (l : Image). block l (first + j)) is ∙ get_or-set_at old (first + k) (first + j) bytes [] (omega (arith, same)) room))
+      (sym (ap (λ (l : CrashFile). block l (first + j)) is ∙ get_or-set_at old (first + k) (first + j) bytes [] (omega (arith, same)) room))
       (subst (λ (m : ℕ). IsNewBlock table m bytes) (sym same) fresh)
   | inr other ↦ subst (λ (b : List ℕ). IsNewBlock table j b)
-      (sym (ap (λ (l : Image). block l (first + j)) is ∙ get_or-set_other old (first + k) (first + j) bytes [] (λ equal. other (omega (arith, equal)))))
+      (sym (ap (λ (l : CrashFile). block l (first + j)) is ∙ get_or-set_other old (first + k) (first + j) bytes [] (λ equal. other (omega (arith, equal)))))
       (before j (omega (arith, below, other)))
 ]
 
@@ -90,7 +90,7 @@ set_more words i x f room is before k below = elim (cases_eq k i) [
 
 -- ---- an area with an empty batch
 
-pub no_blocks : (area : Image) (number : ℕ) → number_in area ≡ number → count_in area ≡ 0 → batch_in area ≡ record { number = number; entries = [] }
+pub no_blocks : (area : CrashFile) (number : ℕ) → number_in area ≡ number → count_in area ≡ 0 → batch_in area ≡ record { number = number; entries = [] }
 no_blocks area number numbered counted = λ i. record {
   number = numbered i;
   entries = map (λ k. record { place = place_in area k; bytes = block area (1 + k) }) (range_with_len 0 (counted i));
@@ -98,7 +98,7 @@ no_blocks area number numbered counted = λ i. record {
 
 -- ---- all of it
 
-module _ (p : Plan) (content : Image) (told : CanBeTold p) (inside : IsInside p.shape content)
+module _ (p : Plan) (content : CrashFile) (told : CanBeTold p) (inside : IsInside p.shape content)
     (first : found p.shape content 0 ≡ Some (record { number = 0; entries = [] }))
     (second : found p.shape content 1 ≡ Some (record { number = 1; entries = [] }))
     (new : (k : ℕ) → k < p.shape.kept → IsNewBlock (table_count p.blocks) k (block content (kept_start p.shape + k))) where
@@ -124,41 +124,43 @@ module _ (p : Plan) (content : Image) (told : CanBeTold p) (inside : IsInside p.
 
   pub zeros_held : HoldsZeros p content
   zeros_held = record {
-    zeros = ap (λ (l : Image). sectors_of p.lead p.sectors (data_of p.blocks l)) stands
+    zeros = ap (λ (l : CrashFile). sectors_of p.lead p.sectors (data_of p.blocks l)) stands
         ∙ zero_sectors p.lead p.sectors (data_of p.blocks (kept_of p.shape content)) (λ n below.
         data_block p.blocks (kept_of p.shape content) ((n + p.lead) / 8)
         ∙ zero_at ((n + p.lead) / 8) (omega (arith, below, (told_small p told).blocks)));
-    fits = subst (λ (l : Image). EachFits p.blocks l) (sym stands) fits_here;
+    blocks = λ n below. ap (λ (l : CrashFile). block (data_of p.blocks l) n) stands ∙ data_block p.blocks (kept_of p.shape content) n ∙ zero_at n below;
+    fits = subst (λ (l : CrashFile). EachFits p.blocks l) (sym stands) fits_here;
   }
 
 -- what stands for the same blocks holds zeros too
-pub same_zeros : (p : Plan) (image c : Image) → recovered p.shape c ≡ recovered p.shape image → HoldsZeros p image → HoldsZeros p c
+pub same_zeros : (p : Plan) (image c : CrashFile) → recovered p.shape c ≡ recovered p.shape image → HoldsZeros p image → HoldsZeros p c
 same_zeros p image c same held = record {
-  zeros = ap (λ (l : Image). sectors_of p.lead p.sectors (data_of p.blocks l)) same ∙ held.zeros;
-  fits = subst (λ (l : Image). EachFits p.blocks l) (sym same) held.fits;
+  zeros = ap (λ (l : CrashFile). sectors_of p.lead p.sectors (data_of p.blocks l)) same ∙ held.zeros;
+  blocks = λ n below. ap (λ (l : CrashFile). block (data_of p.blocks l) n) same ∙ held.blocks n below;
+  fits = subst (λ (l : CrashFile). EachFits p.blocks l) (sym same) held.fits;
 }
 
 -- ---- what a crash leaves meanwhile
 
 -- a weaker property
-pub leaves_weaker : (old new : BlocksPast) (P Q : Image → Type 0) → ((c : Image) → P c → Q c) → LeavesOnly old new P → LeavesOnly old new Q
+pub leaves_weaker : (old new : BlocksPast) (P Q : CrashFile → Type 0) → ((c : CrashFile) → P c → Q c) → LeavesOnly old new P → LeavesOnly old new Q
 leaves_weaker old new P Q so run = record { later = run.later; kept = run.kept; each = λ t c from to crash. so c (run.each t c from to crash) }
 
 -- where only blocks behind the headers are written, these tell what they told
-pub tells_same : (image c : Image) → SameOutside IsBehind image c → plan_told c ≡ plan_told image
+pub tells_same : (image c : CrashFile) → SameOutside IsBehind image c → plan_told c ≡ plan_told image
 tells_same image c agrees =
     let one : block c 0 ≡ block image 0 = agrees.same 0 (λ behind. omega (arith, behind)) in
     let two : block c 1 ≡ block image 1 = agrees.same 1 (λ behind. omega (arith, behind)) in
     λ i. first_of (told_by (one i)) (told_by (two i))
 
 -- where only headers are written, the areas stay
-pub area_same : (g : Shape) (image c : Image) → g.first ≡ 2 → IsInside g image → SameOutside (InRun 0 2) image c → (a : ℕ) → a < 2
+pub area_same : (g : Shape) (image c : CrashFile) → g.first ≡ 2 → IsInside g image → SameOutside (InRun 0 2) image c → (a : ℕ) → a < 2
     → area_of g c a ≡ area_of g image a
 area_same g image c two inside agrees a low = run_same image c (area_start g a) g.area (omega (arith, inside.room, area_before_kept g a low)) agrees.size
     (λ n within. agrees.same n (λ head. omega (arith, head.1, within.0, two)))
 
 -- and the journal stands for what it stood for
-pub recovers_same : (g : Shape) (image c : Image) → g.first ≡ 2 → IsInside g image → SameOutside (InRun 0 2) image c → recovered g c ≡ recovered g image
+pub recovers_same : (g : Shape) (image c : CrashFile) → g.first ≡ 2 → IsInside g image → SameOutside (InRun 0 2) image c → recovered g c ≡ recovered g image
 recovers_same g image c two inside agrees = λ i. replayed (pending (found_in (zero i) 0) (found_in (one i) 1)) (kept_same i)
   where
     zero : area_of g c 0 ≡ area_of g image 0
@@ -171,21 +173,21 @@ recovers_same g image c two inside agrees = λ i. replayed (pending (found_in (z
     kept_same = run_same image c (kept_start g) g.kept inside.room agrees.size (λ n within. agrees.same n (λ head. omega (arith, head.1, within.0, two)))
 
 -- the area that a head is written to, and the other one
-pub found_same : (g : Shape) (image c : Image) (a : ℕ) → area_of g c a ≡ area_of g image a → found g c a ≡ found g image a
-found_same g image c a same = ap (λ (l : Image). found_in l a) same
+pub found_same : (g : Shape) (image c : CrashFile) (a : ℕ) → area_of g c a ≡ area_of g image a → found g c a ≡ found g image a
+found_same g image c a same = ap (λ (l : CrashFile). found_in l a) same
 
 -- a header in the first block tells its plan
-pub first_tells : (image : Image) (bytes : List ℕ) (p : Plan) → block image 0 ≡ bytes → told_by bytes ≡ Some p → plan_told image ≡ Some p
+pub first_tells : (image : CrashFile) (bytes : List ℕ) (p : Plan) → block image 0 ≡ bytes → told_by bytes ≡ Some p → plan_told image ≡ Some p
 first_tells image bytes p here told =
     ap (λ (o : Option Plan). first_of o (told_by (block image 1))) (ap told_by here ∙ told)
 
 -- both areas are begun
-pub both_begun : (g : Shape) (image : Image) → found g image 0 ≡ Some (record { number = 0; entries = [] })
+pub both_begun : (g : Shape) (image : CrashFile) → found g image 0 ≡ Some (record { number = 0; entries = [] })
     → found g image 1 ≡ Some (record { number = 1; entries = [] }) → AreBegun g image
 both_begun g image first second zero low = first
 both_begun g image first second (suc zero) low = second
 both_begun g image first second (suc (suc a)) low = absurd (omega (arith, low))
 
 -- and stay so where only headers are written
-pub begun_same : (g : Shape) (image c : Image) → g.first ≡ 2 → IsInside g image → SameOutside (InRun 0 2) image c → AreBegun g image → AreBegun g c
+pub begun_same : (g : Shape) (image c : CrashFile) → g.first ≡ 2 → IsInside g image → SameOutside (InRun 0 2) image c → AreBegun g image → AreBegun g c
 begun_same g image c two inside agrees begun a low = found_same g image c a (area_same g image c two inside agrees a low) ∙ begun a low

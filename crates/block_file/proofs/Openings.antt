@@ -1,8 +1,8 @@
 -- A file is opened.
 use Rattle.std.proofs.Common.{Result, Ok, Err, IfOk, ◌≡◌, ℕ, ◌<◌, false, Option, Some, sym, ◌∙◌, ap, subst}
-use Rattle.block_device.specs.Blocks.{Image, BlockFile, IsCrashImage, block}
+use Rattle.block_device.specs.Blocks.{CrashFile, BlockFile, IsCrashFile, block}
 use Rattle.block_device.specs.BlocksPast.{BlocksPast, LeavesOnly}
-use Rattle.block_device.proofs.Images.{crash_synced}
+use Rattle.block_device.proofs.CrashFiles.{crash_synced}
 use Rattle.block_device.proofs.Moments.{joined, one_call}
 use Rattle.block_journal.specs.declared.shape.Shape.{Shape}
 use Rattle.block_journal.specs.Layout.{recovered}
@@ -24,9 +24,9 @@ if_ok (Err e) P Q S so p q = tt
 -- calls that only read a file with no loose block
 pub reads_recovered : (g : Shape) (old new : BlocksPast) → ((n : ℕ) → old.file.loose n ≡ false) → OnlyReads old new → StaysRecovered g old new
 reads_recovered g old new synced reads = one_call old new (λ c. recovered g c ≡ recovered g old.file.content) reads.time here
-    (λ c crash. here c (subst (λ (f : BlockFile). IsCrashImage f c) reads.file crash))
+    (λ c crash. here c (subst (λ (f : BlockFile). IsCrashFile f c) reads.file crash))
   where
-    here : (c : Image) → IsCrashImage old.file c → recovered g c ≡ recovered g old.file.content
+    here : (c : CrashFile) → IsCrashFile old.file c → recovered g c ≡ recovered g old.file.content
     here c crash = ap (recovered g) (crash_synced old.file c synced crash)
 
 -- one behind the other

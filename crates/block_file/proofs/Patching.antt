@@ -6,7 +6,7 @@ use Rattle.std.proofs.lemmas.List.{get_or_append_left, get_or-append_right, get_
 use Rattle.std.proofs.lemmas.List.FromFn.{fill_by_all, get_or-map-range_with_len, length-map-range_with_len}
 use Rattle.std.proofs.lemmas.Grind.{get_or-set_at}
 use Rattle.sector_device.specs.Disk.{sector}
-use Rattle.block_device.specs.Blocks.{Image, block}
+use Rattle.block_device.specs.Blocks.{CrashFile, block}
 use Rattle.block_file.specs.Sectors.{byte_in, part, sector_in, sectors_of}
 
 -- ---- one block
@@ -76,17 +76,17 @@ module _ (blk bytes : List ℕ) (k : ℕ) (size : length blk ≡ 4096) (fits : l
 
 -- ---- the sectors of a device
 
-pub length-sectors : (lead count : ℕ) (blocks : Image) → length (sectors_of lead count blocks) ≡ count
+pub length-sectors : (lead count : ℕ) (blocks : CrashFile) → length (sectors_of lead count blocks) ≡ count
 length-sectors lead count blocks = length-map-range_with_len (sector_in lead blocks) 0 count
 
-pub sector_at : (lead count : ℕ) (blocks : Image) (n : ℕ) → n < count → sector (sectors_of lead count blocks) n ≡ sector_in lead blocks n
+pub sector_at : (lead count : ℕ) (blocks : CrashFile) (n : ℕ) → n < count → sector (sectors_of lead count blocks) n ≡ sector_in lead blocks n
 sector_at lead count blocks n below = get_or-map-range_with_len (sector_in lead blocks) 0 count n n [] below (zero-add n)
 
 -- the block of a sector is put, with that sector changed
-module _ (lead count : ℕ) (blocks : Image) (n : ℕ) (bytes blk : List ℕ) (low : n < count) (room : (n + lead) / 8 < length blocks)
+module _ (lead count : ℕ) (blocks : CrashFile) (n : ℕ) (bytes blk : List ℕ) (low : n < count) (room : (n + lead) / 8 < length blocks)
     (here : part blk ((n + lead) % 8) ≡ bytes)
     (others : (j : ℕ) → j ≢ (n + lead) % 8 → part blk j ≡ part (block blocks ((n + lead) / 8)) j) where
-  now : Image
+  now : CrashFile
   now = slice_set blocks ((n + lead) / 8) blk
 
   block_here : (m : ℕ) → (m + lead) / 8 ≡ (n + lead) / 8 → block (slice_set blocks ((n + lead) / 8) blk) ((m + lead) / 8) ≡ blk

@@ -3,7 +3,7 @@ use Rattle.std.proofs.Common.{◌≡◌, inl, inr, ⊎_elim, ℕ, ◌+◌, ◌<�
 use Rattle.std.proofs.lemmas.Bool.{cases_eq, cases_lt}
 use Rattle.std.proofs.lemmas.List.{get_or_past, get_or_push, get_or_append_left, get_or_default, length_push}
 use Rattle.sector_device.specs.DevicePast.{Elapses}
-use Rattle.block_device.specs.Blocks.{Image, BlockFile, IsCrashImage, block}
+use Rattle.block_device.specs.Blocks.{CrashFile, BlockFile, IsCrashFile, block}
 use Rattle.block_device.specs.BlocksPast.{BlocksPast, LeavesOnly}
 use Rattle.block_file.specs.declared.plan.Plan.{Plan}
 use Rattle.block_file.specs.declared.parts.Held.{Held}
@@ -68,8 +68,8 @@ module _ {B A : Type 0} (past_of : B → BlocksPast) (d n : DiskParts B A) (plan
     ]
 
     -- an earlier call
-    each_before : (j : ℕ) → j < length d.past.items → (t : ℕ) (image : Image) → moment_in past_of (state_at n j) ≤ t
-        → t ≤ moment_in past_of (state_at n (j + 1)) → IsCrashImage ((past_of (journal_in n.now).below).file_at t) image
+    each_before : (j : ℕ) → j < length d.past.items → (t : ℕ) (image : CrashFile) → moment_in past_of (state_at n j) ≤ t
+        → t ≤ moment_in past_of (state_at n (j + 1)) → IsCrashFile ((past_of (journal_in n.now).below).file_at t) image
         → StandsForCrash n.plan (journal_in (state_at n (j + 1))).offered (disk_of past_of n.plan (state_at n j)) image
     each_before j below t image from to crash =
         let here = stays j (omega (arith, below)) in
@@ -77,14 +77,14 @@ module _ {B A : Type 0} (past_of : B → BlocksPast) (d n : DiskParts B A) (plan
         let low : moment_in past_of (state_at d j) ≤ t = subst (λ (s : Held B A). moment_in past_of s ≤ t) here from in
         let high : t ≤ moment_in past_of (state_at d (j + 1)) = subst (λ (s : Held B A). t ≤ moment_in past_of s) next to in
         let early : t ≤ moment_in past_of d.now = omega (arith, high, sound.rising (j + 1) (omega (arith, below))) in
-        let was = sound.each j below t image low high (subst (λ (f : BlockFile). IsCrashImage f image) (leaves.kept t early) crash) in
+        let was = sound.each j below t image low high (subst (λ (f : BlockFile). IsCrashFile f image) (leaves.kept t early) crash) in
         subst (λ (p : Plan). StandsForCrash p (journal_in (state_at n (j + 1))).offered (disk_of past_of p (state_at n j)) image) (sym plan)
         (subst (λ (s : Held B A). StandsForCrash d.plan (journal_in s).offered (disk_of past_of d.plan (state_at n j)) image) (sym next)
         (subst (λ (s : Held B A). StandsForCrash d.plan (journal_in (state_at d (j + 1))).offered (disk_of past_of d.plan s) image) (sym here) was))
 
     -- the last one
-    each_now : (j : ℕ) → j ≡ length d.past.items → (t : ℕ) (image : Image) → moment_in past_of (state_at n j) ≤ t
-        → t ≤ moment_in past_of (state_at n (j + 1)) → IsCrashImage ((past_of (journal_in n.now).below).file_at t) image
+    each_now : (j : ℕ) → j ≡ length d.past.items → (t : ℕ) (image : CrashFile) → moment_in past_of (state_at n j) ≤ t
+        → t ≤ moment_in past_of (state_at n (j + 1)) → IsCrashFile ((past_of (journal_in n.now).below).file_at t) image
         → StandsForCrash n.plan (journal_in (state_at n (j + 1))).offered (disk_of past_of n.plan (state_at n j)) image
     each_now j same t image from to crash =
         let here : state_at n j ≡ d.now = stays j (omega (arith, same)) ∙ get_or_past d.past.items j d.now (omega (arith, same)) in
@@ -120,7 +120,7 @@ module _ {B A : Type 0} (past_of : B → BlocksPast) (d n : DiskParts B A) (plan
         let same : block (first_content past_of d) k ≡ block (first_content past_of n) k =
         ap (λ (s : Held B A). block (past_of (journal_in s).below).file.content k) (sym start) in
         ⊎_elim
-        (λ early. sound.before t image low (omega (arith, early)) (subst (λ (f : BlockFile). IsCrashImage f image) (leaves.kept t (omega (arith, early))) crash)
+        (λ early. sound.before t image low (omega (arith, early)) (subst (λ (f : BlockFile). IsCrashFile f image) (leaves.kept t (omega (arith, early))) crash)
         k under ∙ same)
         (λ late. run.each t image late to crash k under ∙ same)
         (cases_lt t (moment_in past_of d.now))

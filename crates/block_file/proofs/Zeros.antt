@@ -6,7 +6,7 @@ use Rattle.std.proofs.lemmas.List.FromFn.{fill_by_all}
 use Rattle.std.proofs.Math.ListN.{length-replicate, get_or-replicate}
 use Rattle.std.specs.List.{range_with_len}
 use Rattle.sector_device.specs.Values.{zero_sector}
-use Rattle.block_device.specs.Blocks.{Image, block, zero_block}
+use Rattle.block_device.specs.Blocks.{CrashFile, block, zero_block}
 use Rattle.block_table.specs.Table.{data_of, place_of, table_count}
 use Rattle.block_file.specs.Sectors.{byte_in, part, sector_in, sectors_of}
 
@@ -26,12 +26,12 @@ unfolding part zero_block zero_sector
 part_zero k = sym (part_of_zeros 4096 k 512)
 
 -- the sectors of blocks of zeros
-pub zero_sectors : (lead count : ℕ) (blocks : Image) → ((n : ℕ) → n < count → block blocks ((n + lead) / 8) ≡ zero_block)
+pub zero_sectors : (lead count : ℕ) (blocks : CrashFile) → ((n : ℕ) → n < count → block blocks ((n + lead) / 8) ≡ zero_block)
     → sectors_of lead count blocks ≡ replicate count zero_sector
 zero_sectors lead count blocks zeros = sym (fill_by_all (sector_in lead blocks) (replicate count zero_sector) count [] (length-replicate count zero_sector)
     (λ n below. get_or-replicate count n zero_sector [] below
     ∙ sym (ap (λ (b : List ℕ). part b ((n + lead) % 8)) (zeros n below) ∙ part_zero ((n + lead) % 8))))
 
 -- the blocks of data, behind their table
-pub data_block : (blocks : ℕ) (kept : Image) (n : ℕ) → block (data_of blocks kept) n ≡ block kept (place_of blocks n)
+pub data_block : (blocks : ℕ) (kept : CrashFile) (n : ℕ) → block (data_of blocks kept) n ≡ block kept (place_of blocks n)
 data_block blocks kept n = get_or-drop (table_count blocks) kept n []

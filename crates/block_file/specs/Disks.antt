@@ -5,7 +5,7 @@ use Rattle.std.proofs.Common.{ap, le_refl}
 use Rattle.std.proofs.lemmas.List.{get_or_past}
 use Rattle.sector_device.specs.Disk.{Disk, IsCrashState}
 use Rattle.sector_device.specs.DevicePast.{DevicePast}
-use Rattle.block_device.specs.Blocks.{Image, IsCrashImage, block}
+use Rattle.block_device.specs.Blocks.{CrashFile, IsCrashFile, block}
 use Rattle.block_device.specs.BlocksPast.{BlocksPast, Between}
 use Rattle.block_batch.specs.Batch.{Batch}
 use Rattle.block_journal.specs.Layout.{IsHonest}
@@ -23,8 +23,8 @@ abbrev pub is_one_of : List ℕ → ℕ → Bool
 is_one_of [] k = false
 is_one_of (n ∷ sectors) k = (k == n) || is_one_of sectors k
 
--- Under the premise, the image of the file stands for a crash state of this disk.
-abbrev pub StandsForCrash : Plan → List Batch → Disk → Image → Type 0
+-- Under the premise, the crash file of the file stands for a crash state of this disk.
+abbrev pub StandsForCrash : Plan → List Batch → Disk → CrashFile → Type 0
 StandsForCrash p offered disk image = IsHonest offered p.shape image → IsCrashState disk (disk_image p image)
 
 -- of these batches one more was handed to be written, which a commit makes, or none
@@ -81,15 +81,15 @@ module _ {B A : Type 0} where
 
     -- and so for what a crash leaves now
     abbrev pub CrashStandsNow : Plan → Held B A → Type 0
-    CrashStandsNow p s = (image : Image) → IsCrashImage (past_of (journal_in s).below).file image
+    CrashStandsNow p s = (image : CrashFile) → IsCrashFile (past_of (journal_in s).below).file image
         → StandsForCrash p (journal_in s).offered (disk_of p s) image
 
     -- what the file held as the disk was opened
-    abbrev pub first_content : DiskParts B A → Image
+    abbrev pub first_content : DiskParts B A → CrashFile
     first_content d = (past_of (journal_in (state_at d 0)).below).file.content
 
     -- whatever a crash leaves since the disk was opened has P
-    abbrev pub SinceOpened : DiskParts B A → (Image → Type 0) → Type 0
+    abbrev pub SinceOpened : DiskParts B A → (CrashFile → Type 0) → Type 0
     SinceOpened d P = Between (past_of (journal_in d.now).below).file_at (moment_in (state_at d 0)) (moment_in d.now) P
 
     -- THE LAW: Whatever a crash leaves since the disk was opened has the blocks before the journal as they were then;

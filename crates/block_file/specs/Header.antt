@@ -2,7 +2,7 @@
 use Rattle.std.specs.Prelude.{◌≡◌, ℕ, ◌+◌, ◌/◌, ◌^◌, nat_lt, Bool, true, ◌&&◌, ◌==◌, if◌then◌else◌, List, take}
 use Rattle.std.specs.Prelude.{Option, Some, None}
 use Rattle.block_digest.specs.Digest.{digest}
-use Rattle.block_device.specs.Blocks.{Image, block}
+use Rattle.block_device.specs.Blocks.{CrashFile, block}
 use Rattle.block_words.specs.Words.{word}
 use Rattle.block_journal.specs.Layout.{IsInside}
 use Rattle.block_table.specs.Table.{kept_count}
@@ -45,18 +45,18 @@ first_of (Some p) second = Some p
 first_of None second = second
 
 -- the plan that a file tells: in its first block, or else in the second one
-abbrev pub plan_told : Image → Option Plan
+abbrev pub plan_told : CrashFile → Option Plan
 plan_told image = first_of (told_by (block image 0)) (told_by (block image 1))
 
 -- both of its first blocks tell this plan
-pub record TellTwice (p : Plan) (image : Image) : Type 0 where
+pub record TellTwice (p : Plan) (image : CrashFile) : Type 0 where
   pub first : told_by (block image 0) ≡ Some p
   pub second : told_by (block image 1) ≡ Some p
 
--- The image tells no plan that it has room for.
-abbrev pub HasNoPlan : Image → Type 0
+-- The crash file tells no plan that it has room for.
+abbrev pub HasNoPlan : CrashFile → Type 0
 HasNoPlan image = (p : Plan) → plan_told image ≡ Some p → ¬ IsInside p.shape image
 
--- The image ends before what its header tells.
-abbrev pub IsCut : Image → Type 0
+-- The crash file ends before what its header tells.
+abbrev pub IsCut : CrashFile → Type 0
 IsCut image = (p : Plan) × (plan_told image ≡ Some p) × (¬ IsInside p.shape image)

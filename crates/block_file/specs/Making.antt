@@ -1,25 +1,26 @@
 -- A file of a new device.
 use Rattle.std.specs.Prelude.{◌≡◌, ◌⊎◌, ℕ, ◌+◌, ◌*◌, ◌<◌, ◌≤◌, List, [], Some, replicate}
 use Rattle.sector_device.specs.Values.{zero_sector}
-use Rattle.block_device.specs.Blocks.{Image, zero_block}
+use Rattle.block_device.specs.Blocks.{CrashFile, block, zero_block}
 use Rattle.block_device.specs.BlocksPast.{BlocksPast, LeavesOnly}
 use Rattle.block_batch.specs.Batch.{block_digest}
 use Rattle.block_journal.specs.declared.shape.Shape.{Shape}
 use Rattle.block_journal.specs.Layout.{found, recovered}
-use Rattle.block_table.specs.Table.{EachFits}
+use Rattle.block_table.specs.Table.{EachFits, data_of}
 use Rattle.block_words.specs.Words.{word}
 use Rattle.block_file.specs.declared.plan.Plan.{Plan}
 use Rattle.block_file.specs.Header.{plan_told}
 use Rattle.block_file.specs.Plans.{disk_image}
 
--- Where a plan says so, the image has a device of zeros, and each block of data fits its digest. (Its headers may tell
--- something else.)
-pub record HoldsZeros (p : Plan) (image : Image) : Type 0 where
+-- Where a plan says so, the crash file has a device of zeros, in blocks of zeros, each of which fits its digest. (Its
+-- headers may tell something else.)
+pub record HoldsZeros (p : Plan) (image : CrashFile) : Type 0 where
   pub zeros : disk_image p image ≡ replicate p.sectors zero_sector
+  pub blocks : (n : ℕ) → n < p.blocks → block (data_of p.blocks (recovered p.shape image)) n ≡ zero_block
   pub fits : EachFits p.blocks (recovered p.shape image)
 
 -- each area of the journal has an empty batch, of the number of that area
-abbrev pub AreBegun : Shape → Image → Type 0
+abbrev pub AreBegun : Shape → CrashFile → Type 0
 AreBegun g image = (a : ℕ) → a < 2 → found g image a ≡ Some (record { number = a; entries = [] })
 
 -- Whatever a crash leaves from the one moment to the other has the headers that tell what the file told before, or

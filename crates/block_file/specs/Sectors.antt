@@ -5,7 +5,7 @@ use Rattle.std.proofs.Common.{lit<, subst, sym, zero-add}
 use Rattle.std.proofs.lemmas.List.FromFn.{get_or-map-range_with_len, length-map-range_with_len}
 use Rattle.std.proofs.lemmas.Nat.{mod_below}
 use Rattle.sector_device.specs.Disk.{CrashState, IsSector, IsDiskWhole}
-use Rattle.block_device.specs.Blocks.{Image, block}
+use Rattle.block_device.specs.Blocks.{CrashFile, block}
 
 -- byte i of the k-th sector of a block
 abbrev pub byte_in : List ℕ → ℕ → ℕ → ℕ
@@ -16,11 +16,11 @@ unfoldable pub part : List ℕ → ℕ → List ℕ
 part bytes k = map (byte_in bytes k) (range_with_len 0 512)
 
 -- sector n of a device, before whose first sector the first block has so many others
-abbrev pub sector_in : ℕ → Image → ℕ → List ℕ
+abbrev pub sector_in : ℕ → CrashFile → ℕ → List ℕ
 sector_in lead blocks n = part (block blocks ((n + lead) / 8)) ((n + lead) % 8)
 
 -- so many sectors
-abbrev pub sectors_of : (lead count : ℕ) → Image → CrashState
+abbrev pub sectors_of : (lead count : ℕ) → CrashFile → CrashState
 sectors_of lead count blocks = map (sector_in lead blocks) (range_with_len 0 count)
 
 -- ---- each has its 512 bytes
@@ -38,7 +38,7 @@ part_is_sector bytes k = record {
       (range_with_len 0 512);
 }
 
-pub sectors_are_whole : (lead count : ℕ) (blocks : Image) → IsDiskWhole (sectors_of lead count blocks)
+pub sectors_are_whole : (lead count : ℕ) (blocks : CrashFile) → IsDiskWhole (sectors_of lead count blocks)
 sectors_are_whole lead count blocks n below = subst IsSector
     (sym (get_or-map-range_with_len (sector_in lead blocks) 0 count n n []
     (subst (λ m. n < m) (length-map-range_with_len (sector_in lead blocks) 0 count) below) (zero-add n)))

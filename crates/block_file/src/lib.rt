@@ -8,6 +8,7 @@
 //! The file of a new device has zeros, whose digests fit, and two headers that tell where (`lay_out`, `create`). Of the
 //! sectors whose block doesn't fit its digest the first is told, and only such a one (`check`). Behind an end the file
 //! stands for the device whatever batches are lost (`close`). A file that tells no device is left alone (`left_alone`).
+//! Why a call of a device failed is told by `failed`.
 //!
 //! Neither: the premise; that a file is opened where there is memory; that a call which may fail ever succeeds.
 #![tactic(auto)]

@@ -2,7 +2,7 @@
 ghost use Rattle.std.specs.Prelude.{◌≡◌, ◌≢◌, ◌+◌, ◌*◌, ◌^◌, ◌<◌, ◌≤◌, ℕ, [], Some, length, slice_index, slice_set};
 ghost use Rattle.std.specs.Prelude.{OnOk};
 ghost use Rattle.sector_device.specs.DevicePast.{CountsFailure};
-ghost use Rattle.block_device.specs.Blocks.{Image, InRun, IsSynced, block, zero_block};
+ghost use Rattle.block_device.specs.Blocks.{CrashFile, InRun, IsSynced, block, zero_block};
 ghost use Rattle.block_device.specs.BlocksPast.{BlocksPast, RunsWithin};
 ghost use Rattle.block_batch.specs.Batch.{block_digest};
 ghost use Rattle.block_journal.specs.Layout.{IsInside, area_of, found, kept_of};
@@ -12,7 +12,7 @@ ghost use Rattle.block_file.specs.Making.{AreBegun, BecomesZeros, HoldsZeros, Is
 use crate::Plan;
 use crate::header::spell_header;
 use block_batch::{block_digest, seal};
-use block_device::{BLOCK_SIZE, Blocks};
+use block_device::{BLOCK_SIZE, Blocks, few_blocks};
 use block_journal::Shape;
 use block_words::{WORDS, spell_words};
 use sector_device::Failed;
@@ -56,7 +56,7 @@ fn write_one<B: Blocks>(below: &mut B, n: u64, bytes: &[u8; BLOCK_SIZE]) -> Resu
     ensures ok { OnOk result ((B.past_of below.new).file.content
         ≡ slice_set (B.past_of below.old).file.content n bytes.now) }
     ensures size { length (B.past_of below.new).file.content ≡ length (B.past_of below.old).file.content }
-    ensures within { (image : Image) (start : BlocksPast) → RunsWithin IsBehind image start (B.past_of below.old)
+    ensures within { (image : CrashFile) (start : BlocksPast) → RunsWithin IsBehind image start (B.past_of below.old)
         → RunsWithin IsBehind image start (B.past_of below.new) }
     ensures counts { CountsFailure (B.failures below.old) (B.failures below.new) result }
 {
@@ -71,11 +71,11 @@ fn write_kept<B: Blocks>(below: &mut B, first: u64, table: u64, count: u64) -> R
     ensures kept { OnOk result ((k : ℕ) → k < count
         → IsNewBlock table k (block (B.past_of below.new).file.content (first + k))) }
     ensures size { length (B.past_of below.new).file.content ≡ length (B.past_of below.old).file.content }
-    ensures within { (image : Image) (start : BlocksPast) → RunsWithin IsBehind image start (B.past_of below.old)
+    ensures within { (image : CrashFile) (start : BlocksPast) → RunsWithin IsBehind image start (B.past_of below.old)
         → RunsWithin IsBehind image start (B.past_of below.new) }
     ensures counts { CountsFailure (B.failures below.old) (B.failures below.new) result }
 {
-    let _ = below.blocks();
+    few_blocks(below);
     for k in 0..count {
         write_one(below, first + k, &new_block(table, k))?;
     }
@@ -94,11 +94,11 @@ fn begin_area<B: Blocks>(below: &mut B, shape: Shape, a: u64) -> Result<(), Fail
     ensures kept { OnOk result (kept_of shape (B.past_of below.new).file.content
         ≡ kept_of shape (B.past_of below.old).file.content) }
     ensures size { length (B.past_of below.new).file.content ≡ length (B.past_of below.old).file.content }
-    ensures within { (image : Image) (start : BlocksPast) → RunsWithin IsBehind image start (B.past_of below.old)
+    ensures within { (image : CrashFile) (start : BlocksPast) → RunsWithin IsBehind image start (B.past_of below.old)
         → RunsWithin IsBehind image start (B.past_of below.new) }
     ensures counts { CountsFailure (B.failures below.old) (B.failures below.new) result }
 {
-    let _ = below.blocks();
+    few_blocks(below);
     let mut head = [[0; BLOCK_SIZE]];
     seal(&mut head, a, &[], &[]);
     write_one(below, shape.first + a * shape.area, &head[0])
@@ -112,11 +112,11 @@ fn write_behind<B: Blocks>(below: &mut B, plan: Plan) -> Result<(), Failed>
     ensures begun { OnOk result (AreBegun plan.shape (B.past_of below.new).file.content) }
     ensures synced { OnOk result (IsSynced (B.past_of below.new).file) }
     ensures size { length (B.past_of below.new).file.content ≡ length (B.past_of below.old).file.content }
-    ensures within { (image : Image) (start : BlocksPast) → RunsWithin IsBehind image start (B.past_of below.old)
+    ensures within { (image : CrashFile) (start : BlocksPast) → RunsWithin IsBehind image start (B.past_of below.old)
         → RunsWithin IsBehind image start (B.past_of below.new) }
     ensures counts { CountsFailure (B.failures below.old) (B.failures below.new) result }
 {
-    let _ = below.blocks();
+    few_blocks(below);
     let shape = plan.shape;
     let first = shape.first + 2 * shape.area;
     let table = shape.kept - plan.blocks;

@@ -1,6 +1,6 @@
 // The parts of a device over a file of blocks, and what it does with them.
-ghost use Rattle.std.specs.Prelude.{◌≡◌, ◌⊎◌, ◌+◌, ◌<◌, ◌≤◌, ℕ, [], is_ok, false, true, IfNone, IfOk, IfSome, OnErr};
-ghost use Rattle.std.specs.Prelude.{OnOk};
+ghost use Rattle.std.specs.Prelude.{◌≡◌, ◌⊎◌, ◌+◌, ◌-◌, ◌^◌, ◌<◌, ◌≤◌, ℕ, [], is_ok, false, true, IfNone, IfOk, IfSome};
+ghost use Rattle.std.specs.Prelude.{OnErr, OnOk};
 ghost use Rattle.sector_device.specs.Disk.{IsFailedWrite, IsSynced, after_sync, after_write, sector};
 ghost use Rattle.sector_device.specs.DevicePast.{CountsFailure, Elapses, Rises};
 ghost use Rattle.block_table.specs.Checked.{CountsRead, kept_table};
@@ -60,6 +60,10 @@ impl<B: Blocks, A: Allocator + Copy> DiskParts<B, A> {
         requires inside { n < self.old.plan.sectors }
         ensures ok { OnOk result (buffer.new ≡ sector (disk_past B.past_of self.old).disk.content n) }
         ensures err { OnErr result (buffer.new ≡ buffer.old) }
+        ensures fits { OnOk result (IsSectorFit self.old.plan (kept_table B.past_of self.old.now.checked) n) }
+        ensures failed { OnErr result (((journal_in self.old.now).has_failed ≡ true)
+            ⊎ Rises (B.failures (journal_in self.old.now).below) (B.failures (journal_in self.new.now).below)
+            ⊎ ¬ IsSectorFit self.old.plan (kept_table B.past_of self.old.now.checked) n) }
         ensures disk { (disk_past B.past_of self.new).disk ≡ (disk_past B.past_of self.old).disk }
         ensures time { Elapses (disk_past B.past_of self.old) (disk_past B.past_of self.new) }
         ensures counts { CountsFailure (disk_failures B.failures self.old) (disk_failures B.failures self.new) result }
@@ -78,6 +82,12 @@ impl<B: Blocks, A: Allocator + Copy> DiskParts<B, A> {
             ≡ after_write (disk_past B.past_of self.old).disk n bytes.now) }
         ensures err { OnErr result (IsFailedWrite (disk_past B.past_of self.old).disk n
             (disk_past B.past_of self.new).disk) }
+        ensures kept { OnErr result ((disk_past B.past_of self.new).disk.content
+            ≡ (disk_past B.past_of self.old).disk.content) }
+        ensures failed { OnErr result (((journal_in self.old.now).has_failed ≡ true)
+            ⊎ ((journal_in self.old.now).last.number ≡ 2 ^ 64 - 1)
+            ⊎ Rises (B.failures (journal_in self.old.now).below) (B.failures (journal_in self.new.now).below)
+            ⊎ ¬ IsSectorFit self.old.plan (kept_table B.past_of self.old.now.checked) n) }
         ensures time { Elapses (disk_past B.past_of self.old) (disk_past B.past_of self.new) }
         ensures counts { CountsFailure (disk_failures B.failures self.old) (disk_failures B.failures self.new) result }
         ensures sound { IsSound B.past_of self.new }
@@ -95,6 +105,13 @@ impl<B: Blocks, A: Allocator + Copy> DiskParts<B, A> {
             ≡ after_sync (disk_past B.past_of self.old).disk) }
         ensures err { OnErr result ((disk_past B.past_of self.new).disk ≡ (disk_past B.past_of self.old).disk) }
         ensures none { OnOk result ((journal_in self.new.now).next ≡ []) }
+        ensures good { OnOk result ((journal_in self.new.now).has_failed ≡ false) }
+        ensures last { OnOk result ((journal_in self.new.now).last.number ≡ (journal_in self.old.now).last.number + 1) }
+        ensures quiet { OnOk result (B.failures (journal_in self.new.now).below
+            ≡ B.failures (journal_in self.old.now).below) }
+        ensures fails { OnErr result (((journal_in self.old.now).has_failed ≡ true)
+            ⊎ ((journal_in self.old.now).last.number ≡ 2 ^ 64 - 1)
+            ⊎ Rises (B.failures (journal_in self.old.now).below) (B.failures (journal_in self.new.now).below)) }
         ensures plan { self.new.plan ≡ self.old.plan }
         ensures time { Elapses (disk_past B.past_of self.old) (disk_past B.past_of self.new) }
         ensures counts { CountsFailure (disk_failures B.failures self.old) (disk_failures B.failures self.new) result }
@@ -111,6 +128,9 @@ impl<B: Blocks, A: Allocator + Copy> DiskParts<B, A> {
     fn settle(&mut self) -> Result<(), Failed>
         requires sound { IsSound B.past_of self.old }
         requires none { (journal_in self.old.now).next ≡ [] }
+        ensures fails { OnErr result (((journal_in self.old.now).has_failed ≡ true)
+            ⊎ ((journal_in self.old.now).last.number ≡ 2 ^ 64 - 1)
+            ⊎ Rises (B.failures (journal_in self.old.now).below) (B.failures (journal_in self.new.now).below)) }
         ensures disk { (disk_past B.past_of self.new).disk ≡ (disk_past B.past_of self.old).disk }
         ensures alone { OnOk result (StandsAlone self.old.plan
             (B.past_of (journal_in self.new.now).below).file.content (disk_past B.past_of self.old).disk.content) }
@@ -132,6 +152,9 @@ impl<B: Blocks, A: Allocator + Copy> DiskParts<B, A> {
         ensures alone { OnOk result (StandsAlone self.old.plan
             (B.past_of (journal_in self.new.now).below).file.content (disk_past B.past_of self.old).disk.content) }
         ensures safe { OnOk result ((n : ℕ) → (B.past_of (journal_in self.new.now).below).file.loose n ≡ false) }
+        ensures failed { OnErr result (((journal_in self.old.now).has_failed ≡ true)
+            ⊎ (2 ^ 64 - 2 ≤ (journal_in self.old.now).last.number)
+            ⊎ Rises (B.failures (journal_in self.old.now).below) (B.failures (journal_in self.new.now).below)) }
         ensures plan { self.new.plan ≡ self.old.plan }
         ensures time { Elapses (disk_past B.past_of self.old) (disk_past B.past_of self.new) }
         ensures counts { CountsFailure (disk_failures B.failures self.old) (disk_failures B.failures self.new) result }

@@ -1,6 +1,6 @@
 // Sectors are read and written, in blocks of data.
-ghost use Rattle.std.specs.Prelude.{◌≡◌, ◌≢◌, ◌⊎◌, ◌+◌, ◌/◌, ◌^◌, ◌<◌, ◌≤◌, ℕ, Err, IfNone, IfOk, IfSome, OnErr, OnOk};
-ghost use Rattle.std.specs.Prelude.{slice_set, true};
+ghost use Rattle.std.specs.Prelude.{◌≡◌, ◌≢◌, ◌⊎◌, ◌+◌, ◌-◌, ◌/◌, ◌^◌, ◌<◌, ◌≤◌, ℕ, Err, IfNone, IfOk, IfSome, OnErr};
+ghost use Rattle.std.specs.Prelude.{OnOk, slice_set, true};
 ghost use Rattle.sector_device.specs.Disk.{sector};
 ghost use Rattle.sector_device.specs.DevicePast.{CountsFailure, Rises};
 ghost use Rattle.block_journal.specs.Journal.{OnlyReads};
@@ -31,6 +31,10 @@ pub(crate) fn read_sector<B: Blocks, A: Allocator + Copy>(
     ensures ok { OnOk result (buffer.new
         ≡ sector (sectors_of plan.lead plan.sectors (data_now B.past_of checked.old)) n) }
     ensures err { OnErr result (buffer.new ≡ buffer.old) }
+    ensures fits { OnOk result (IsSectorFit plan (kept_table B.past_of checked.old) n) }
+    ensures failed { OnErr result ((checked.old.journal.has_failed ≡ true)
+        ⊎ Rises (B.failures checked.old.journal.below) (B.failures checked.new.journal.below)
+        ⊎ ¬ IsSectorFit plan (kept_table B.past_of checked.old) n) }
     ensures rest { checked.new ≡ record checked.old {
       journal = record checked.old.journal {
         below = checked.new.journal.below;
@@ -54,6 +58,11 @@ fn make_room<B: Blocks, A: Allocator + Copy>(
 ) -> Result<(), ReadError>
     requires { 2 < checked.old.journal.shape.area }
     ensures room { OnOk result (1 < room_of checked.new.journal) }
+    ensures good { OnOk result (checked.new.journal.has_failed ≡ true → checked.old.journal.has_failed ≡ true) }
+    ensures quiet { OnOk result (B.failures checked.new.journal.below ≡ B.failures checked.old.journal.below) }
+    ensures fails { OnErr result ((checked.old.journal.has_failed ≡ true)
+        ⊎ (checked.old.journal.last.number ≡ 2 ^ 64 - 1)
+        ⊎ Rises (B.failures checked.old.journal.below) (B.failures checked.new.journal.below)) }
     ensures same { kept_table B.past_of checked.new ≡ kept_table B.past_of checked.old }
     ensures moves { Moves B.past_of checked.old checked.new }
     ensures counts { CountsRead (failures_of B.failures checked.old.journal)
@@ -83,6 +92,10 @@ pub(crate) fn write_sector<B: Blocks, A: Allocator + Copy>(
     ensures ok { OnOk result (sectors_of plan.lead plan.sectors (data_now B.past_of checked.new)
         ≡ slice_set (sectors_of plan.lead plan.sectors (data_now B.past_of checked.old)) n bytes.now) }
     ensures err { OnErr result (data_now B.past_of checked.new ≡ data_now B.past_of checked.old) }
+    ensures failed { OnErr result ((checked.old.journal.has_failed ≡ true)
+        ⊎ (checked.old.journal.last.number ≡ 2 ^ 64 - 1)
+        ⊎ Rises (B.failures checked.old.journal.below) (B.failures checked.new.journal.below)
+        ⊎ ¬ IsSectorFit plan (kept_table B.past_of checked.old) n) }
     ensures moves { Moves B.past_of checked.old checked.new }
     ensures counts { CountsRead (failures_of B.failures checked.old.journal)
         (failures_of B.failures checked.new.journal) result }

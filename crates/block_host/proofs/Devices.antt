@@ -1,10 +1,9 @@
 -- Devices in files of the system.
-use Rattle.std.proofs.Common.{◌≡◌, ◌≢◌, ◌⊎◌, inl, inr, ℕ, ◌+◌, ◌^◌, ◌≤◌, List, Some, length, nat_lt, replicate, refl, sym, ◌∙◌, ap, subst, arith, ◌&&◌}
+use Rattle.std.proofs.Common.{◌≡◌, ◌≢◌, ◌⊎◌, inl, inr, ℕ, ◌+◌, ◌^◌, Some, length, nat_lt, replicate, refl, sym, ◌∙◌, ap, subst, arith, ◌&&◌}
 use Rattle.std.proofs.lemmas.Bool.{and_parts, ltb-true}
 use Rattle.std.proofs.Math.ListN.{length-replicate}
-use Rattle.block_device.specs.Blocks.{BlockFile, Image, zero_block}
-use Rattle.block_device.specs.BlocksPast.{BlocksPast}
-use Rattle.block_journal.specs.Journal.{StaysRecovered}
+use Rattle.block_device.specs.Blocks.{BlockFile, CrashFile, block, zero_block}
+use Rattle.block_journal.specs.Journal.{LeavesBefore, StaysRecovered}
 use Rattle.block_journal.specs.Layout.{IsInside, kept_start, recovered}
 use Rattle.block_table.specs.Table.{EachFits}
 use Rattle.block_file.specs.Disks.{disk_past, journal_in}
@@ -16,11 +15,14 @@ use Rattle.block_file.specs.declared.parts.DiskParts.{DiskParts}
 use Rattle.block_file.specs.declared.plan.Plan.{Plan}
 use Rattle.block_host.specs.FileBlocks.{past_of}
 use Rattle.block_host.specs.Opened.{IsOpened, first_read}
+use Rattle.block_host.specs.declared.error.DiskError.{DiskError}
+use Rattle.block_host.specs.declared.error.DiskError.TheVariants.{File, Open}
 use Rattle.block_host.specs.declared.mirror.FileBlocks.{FileBlocks}
 
 -- a device that was opened in a file which was just read
 module _ {F A : Type 0} (b : FileBlocks F A) (d : DiskParts (FileBlocks F A) A) (none : (past_of b).moment ≡ 0)
-    (stays : StaysRecovered d.plan.shape (past_of b) (past_of (journal_in d.now).below)) where
+    (stays : StaysRecovered d.plan.shape (past_of b) (past_of (journal_in d.now).below))
+    (before : LeavesBefore d.plan.shape (past_of b) (past_of (journal_in d.now).below)) where
   as_read : first_read d ≡ (past_of b).file.content
   as_read = ap (λ (f : BlockFile). f.content)
       (stays.kept 0 (omega arith) ∙ subst (λ (t : ℕ). (past_of b).file_at t ≡ (past_of b).file) none (past_of b).now)
@@ -30,12 +32,13 @@ module _ {F A : Type 0} (b : FileBlocks F A) (d : DiskParts (FileBlocks F A) A) 
   opened told content fits = record {
     told = ap plan_told as_read ∙ told;
     content = content ∙ ap (disk_image d.plan) (sym as_read);
-    fits = subst (λ (l : Image). EachFits d.plan.blocks (recovered d.plan.shape l)) (sym as_read) fits;
+    fits = subst (λ (l : CrashFile). EachFits d.plan.blocks (recovered d.plan.shape l)) (sym as_read) fits;
     any_moment = λ t c from to crash. stays.each t c (omega (arith, none)) to crash ∙ ap (recovered d.plan.shape) (sym as_read);
+    headers = λ t c from to crash n below. before.each t c (omega (arith, none)) to crash n below ∙ ap (λ (l : CrashFile). block l n) (sym as_read);
   }
 
 -- a file of zeros that has as many blocks as a plan asks for
-pub has_room : (p : Plan) (image : Image) (blocks : ℕ) → CanBeTold p → blocks ≡ kept_start p.shape + p.shape.kept → image ≡ replicate blocks zero_block
+pub has_room : (p : Plan) (image : CrashFile) (blocks : ℕ) → CanBeTold p → blocks ≡ kept_start p.shape + p.shape.kept → image ≡ replicate blocks zero_block
     → IsInside p.shape image
 has_room p image blocks told count zeros =
     let one = and_parts (nat_lt p.sectors (2 ^ 60)) (nat_lt p.lead 8 && (nat_lt 2 p.shape.area && nat_lt p.shape.area 256)) told.can in
@@ -47,11 +50,21 @@ has_room p image blocks told count zeros =
       room = omega (arith, count, ap length zeros, length-replicate blocks zero_block);
     }
 
+-- what an error of a device says of the file, or else this
+abbrev error_in : FileError → DiskError → FileError
+error_in other (File e) = e
+error_in other (Open e) = other
+
+not_made : (e : FileError) → e ≢ NoHeader → e ≢ TooShort → e ≢ NoBatch → ((n : ℕ) → e ≢ Damaged n) → (e ≡ NoMemory) ⊎ (e ≡ FileFailed)
+not_made NoMemory header short batch damaged = inl refl
+not_made FileFailed header short batch damaged = inr refl
+not_made NoHeader header short batch damaged = absurd (header refl)
+not_made TooShort header short batch damaged = absurd (short refl)
+not_made NoBatch header short batch damaged = absurd (batch refl)
+not_made (Damaged n) header short batch damaged = absurd (damaged n refl)
+
 -- why none is made in it
-pub why_none : (e : FileError) → e ≢ NoHeader → e ≢ TooShort → e ≢ NoBatch → ((n : ℕ) → e ≢ Damaged n) → (e ≡ NoMemory) ⊎ (e ≡ FileFailed)
-why_none NoMemory header short batch damaged = inl refl
-why_none FileFailed header short batch damaged = inr refl
-why_none NoHeader header short batch damaged = absurd (header refl)
-why_none TooShort header short batch damaged = absurd (short refl)
-why_none NoBatch header short batch damaged = absurd (batch refl)
-why_none (Damaged n) header short batch damaged = absurd (damaged n refl)
+pub why_none : (e error : FileError) → Path DiskError (File e) (File error) → e ≢ NoHeader → e ≢ TooShort → e ≢ NoBatch → ((n : ℕ) → e ≢ Damaged n)
+    → (error ≡ NoMemory) ⊎ (error ≡ FileFailed)
+why_none e error is header short batch damaged =
+    subst (λ (x : FileError). (x ≡ NoMemory) ⊎ (x ≡ FileFailed)) (ap (error_in error) is) (not_made e header short batch damaged)

@@ -29,6 +29,10 @@ module _ {F A : Type 0} where
   abbrev pub has_failed_of : FileBlocks F A → Bool
   has_failed_of b = b.has_failed
 
+  -- what is below
+  abbrev pub below_of : FileBlocks F A → F
+  below_of b = b.below
+
   -- no block is loose
   abbrev pub IsFileSynced : FileBlocks F A → Type 0
   IsFileSynced b = (n : ℕ) → (past_of b).file.loose n ≡ false

@@ -1,30 +1,25 @@
 //! Why there is no device in a file.
+ghost use Rattle.std.specs.Prelude.{◌≡◌};
+ghost use Rattle.block_host.specs.declared.error.DiskError.TheVariants.{Open};
+
 use block_file::FileError;
-use std::fmt;
 use store_file::OpenError;
 
-/// Why there is no device in a file.
-#[derive(Debug, Drop)]
+/// Why there is no device in a file. It tells what its cause tells.
+#[derive(Debug, Drop, thiserror::Error)]
 pub enum DiskError {
     /// The file can't be opened, or made.
+    #[error(transparent)]
     Open(OpenError),
     /// There is no device in it, or none that is whole.
+    #[error(transparent)]
     File(FileError),
 }
 
 impl From<OpenError> for DiskError {
+    ghost from_gives = { λ error result. result ≡ Open error };
+
     fn from(error: OpenError) -> DiskError {
         DiskError::Open(error)
     }
 }
-
-impl fmt::Display for DiskError {
-    fn fmt<W: fmt::Write>(&self, f: &mut fmt::Formatter<W>) -> fmt::Result {
-        match self {
-            DiskError::Open(error) => write!(f, "{error}"),
-            DiskError::File(error) => write!(f, "{error}"),
-        }
-    }
-}
-
-impl std::error::Error for DiskError {}

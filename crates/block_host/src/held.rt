@@ -2,8 +2,7 @@
 ghost use Rattle.std.specs.Prelude.{◌≡◌, ◌+◌, ◌≤◌, length, replicate, IfOk};
 ghost use Rattle.block_device.specs.Blocks.{IsSynced, IsWhole, after_sync, after_write, zero_block};
 
-use crate::runs::{put_run, zero_block};
-use block_device::BLOCK_SIZE;
+use block_device::{BLOCK_SIZE, put_run, zero_block};
 use ghost_list::GhostList;
 use std::alloc::{AllocError, Allocator};
 

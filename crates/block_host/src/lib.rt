@@ -16,7 +16,6 @@ mod held;
 mod mirror;
 mod opening;
 mod passing;
-mod runs;
 
 pub use error::DiskError;
 pub use mirror::FileBlocks;

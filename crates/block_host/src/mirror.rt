@@ -18,8 +18,8 @@ use store_file::{Backing, OpenError, Stored, Trouble, Troubled};
 const RUN: usize = 16;
 
 /// A file of blocks over what is below. Once a write or a sync of that failed, nothing is written any more, and each
-/// write and sync fails (`has_failed_of`): what is below is not known then, until it is read again. (That nothing
-/// reaches it then, no clause says.)
+/// write and sync fails (`has_failed_of`): what is below is not known then, until it is read again. (Where that is a
+/// handle, the clauses say that the handle stays, and not that nothing reaches the file.)
 #[derive(Drop)]
 pub struct FileBlocks<F, A: Allocator> {
     below: F,
@@ -57,7 +57,7 @@ fn refused_by<F: Backing>(below: &F, error: io::Error) -> OpenError {
 }
 
 impl<F: Drop, A: Allocator> FileBlocks<F, A> {
-    ghost use Rattle.block_host.specs.FileBlocks.{past_of, failures_of, has_failed_of};
+    ghost use Rattle.block_host.specs.FileBlocks.{past_of, failures_of, has_failed_of, below_of};
 
     // Over what is below, which is to hold this, with no loose block.
     fn holding(below: F, held: Held<A>) -> Self
@@ -65,6 +65,7 @@ impl<F: Drop, A: Allocator> FileBlocks<F, A> {
         ensures moment { (past_of result).moment ≡ 0 }
         ensures failures { failures_of result ≡ 0 }
         ensures sound { has_failed_of result ≡ false }
+        ensures below { below_of result ≡ below }
     {
         FileBlocks {
             below,
@@ -83,13 +84,16 @@ impl<F: Drop, A: Allocator> FileBlocks<F, A> {
         ensures moment { IfOk result (λ b. (past_of b).moment ≡ 0) }
         ensures failures { IfOk result (λ b. failures_of b ≡ 0) }
         ensures sound { IfOk result (λ b. has_failed_of b ≡ false) }
+        ensures below { IfOk result (λ b. below_of b ≡ below) }
     {
         let held = Held::new(alloc, blocks)?;
         Ok(FileBlocks::holding(below, held))
     }
 
     /// What is below.
-    pub fn into_below(self) -> F {
+    pub fn into_below(self) -> F
+        ensures { result ≡ below_of self }
+    {
         self.below
     }
 
@@ -100,6 +104,7 @@ impl<F: Drop, A: Allocator> FileBlocks<F, A> {
         ensures later { failures_of self.old ≤ failures_of self.new }
         ensures rises { Rises (failures_of self.old) (failures_of self.new) }
         ensures failed { has_failed_of self.new ≡ true }
+        ensures below { below_of self.new ≡ below_of self.old }
     {
         self.has_failed = true;
         self.failures = self.failures.saturating_add(1);
@@ -107,7 +112,7 @@ impl<F: Drop, A: Allocator> FileBlocks<F, A> {
 }
 
 impl<F: Stored + Drop, A: Allocator> FileBlocks<F, A> {
-    ghost use Rattle.block_host.specs.FileBlocks.{past_of, failures_of, has_failed_of};
+    ghost use Rattle.block_host.specs.FileBlocks.{past_of, failures_of, has_failed_of, below_of};
 
     /// A file of blocks over what is below, which holds so many blocks, as that does, all of them to be safe. (That it
     /// holds what is below, no clause says.)
@@ -134,6 +139,7 @@ impl<F: Stored + Drop, A: Allocator> FileBlocks<F, A> {
         ensures failures { self.new.failures ≡ self.old.failures }
         ensures failed { self.new.has_failed ≡ self.old.has_failed }
         ensures sound { result ≡ true → self.old.has_failed ≡ false }
+        ensures alone { self.old.has_failed ≡ true → self.new.below ≡ self.old.below }
     {
         !self.has_failed && put_blocks(&mut self.below, first, run).is_ok()
     }
@@ -145,6 +151,7 @@ impl<F: Stored + Drop, A: Allocator> FileBlocks<F, A> {
         ensures failures { self.new.failures ≡ self.old.failures }
         ensures failed { self.new.has_failed ≡ self.old.has_failed }
         ensures sound { result ≡ true → self.old.has_failed ≡ false }
+        ensures alone { self.old.has_failed ≡ true → self.new.below ≡ self.old.below }
     {
         !self.has_failed && self.below.sync().is_ok()
     }
@@ -157,7 +164,7 @@ impl<F: Backing + Drop, A: Allocator> Troubled for FileBlocks<F, A> {
 }
 
 impl<F: Stored + Drop, A: Allocator> Blocks for FileBlocks<F, A> {
-    ghost use Rattle.block_host.specs.FileBlocks.{past_of, failures_of, has_failed_of};
+    ghost use Rattle.block_host.specs.FileBlocks.{past_of, failures_of, has_failed_of, below_of};
 
     ghost past_of = { past_of };
 
@@ -177,6 +184,7 @@ impl<F: Stored + Drop, A: Allocator> Blocks for FileBlocks<F, A> {
         ensures counts { CountsFailure (failures_of self.old) (failures_of self.new) result }
         ensures succeeds { IsOk result }
         ensures failed { has_failed_of self.new ≡ has_failed_of self.old }
+        ensures below { below_of self.new ≡ below_of self.old }
     {
         let at = first as usize;
         let end = at + run.len();
@@ -185,7 +193,7 @@ impl<F: Stored + Drop, A: Allocator> Blocks for FileBlocks<F, A> {
     }
 
     /// Where it fails, the mirror has the new bytes, loose (`written`), and what is below any. One that has failed
-    /// fails from then on (`sound`, `failed`).
+    /// fails from then on (`sound`, `failed`), and leaves what is below as it is (`alone`).
     fn write(&mut self, first: u64, run: &[[u8; BLOCK_SIZE]]) -> Result<(), Failed>
         requires { first + length run.now ≤ length (past_of self.old).file.content }
         ensures ok { OnOk result ((past_of self.new).file ≡ after_write (past_of self.old).file first run.now) }
@@ -196,6 +204,7 @@ impl<F: Stored + Drop, A: Allocator> Blocks for FileBlocks<F, A> {
         ensures written { (past_of self.new).file ≡ after_write (past_of self.old).file first run.now }
         ensures sound { OnOk result ((has_failed_of self.old ≡ false) × (has_failed_of self.new ≡ false)) }
         ensures failed { OnErr result (has_failed_of self.new ≡ true) }
+        ensures alone { has_failed_of self.old ≡ true → below_of self.new ≡ below_of self.old }
     {
         self.past = self.past.and(&self.held);
         self.held.put(first as usize, run);
@@ -206,7 +215,7 @@ impl<F: Stored + Drop, A: Allocator> Blocks for FileBlocks<F, A> {
         Ok(())
     }
 
-    /// One that has failed fails from then on (`sound`, `failed`).
+    /// One that has failed fails from then on (`sound`, `failed`), and leaves what is below as it is (`alone`).
     fn sync(&mut self) -> Result<(), Failed>
         ensures ok { OnOk result ((past_of self.new).file ≡ after_sync (past_of self.old).file) }
         ensures err { OnErr result ((past_of self.new).file ≡ (past_of self.old).file) }
@@ -214,6 +223,7 @@ impl<F: Stored + Drop, A: Allocator> Blocks for FileBlocks<F, A> {
         ensures counts { CountsFailure (failures_of self.old) (failures_of self.new) result }
         ensures sound { OnOk result ((has_failed_of self.old ≡ false) × (has_failed_of self.new ≡ false)) }
         ensures failed { OnErr result (has_failed_of self.new ≡ true) }
+        ensures alone { has_failed_of self.old ≡ true → below_of self.new ≡ below_of self.old }
     {
         if !self.sync_below() {
             self.refuse();

@@ -4,7 +4,7 @@ ghost use Rattle.sector_device.specs.Disk.{IsSynced};
 ghost use Rattle.sector_device.specs.Values.{zero_sector};
 ghost use Rattle.block_device.specs.Blocks.{zero_block};
 ghost use Rattle.block_file.specs.Disks.{disk_failures, disk_past, first_content};
-ghost use Rattle.block_file.specs.Header.{CanBeTold, plan_told};
+ghost use Rattle.block_file.specs.Header.{CanBeTold, TellTwice, plan_told};
 ghost use Rattle.block_file.specs.declared.opening.FileError.{FileError};
 ghost use Rattle.block_file.specs.declared.opening.FileError.TheVariants.{FileFailed, NoMemory};
 ghost use Rattle.block_host.specs.FileBlocks.{past_of, failures_of, has_failed_of, IsFileSynced};
@@ -77,6 +77,7 @@ where
     ensures opened { IfOk result (λ d. IsOpened d) }
     ensures still { IfOk result (λ d. plan_told (first_content past_of d) ≡ Some d.plan) }
     ensures synced { IfOk result (λ d. IsSynced (disk_past past_of d).disk) }
+    ensures failures { IfOk result (λ d. disk_failures failures_of d ≡ 0) }
 {
     let below = open(rt, alloc, path)?;
     match block_file::open(alloc, below) {
@@ -99,15 +100,14 @@ where
     requires { CanBeTold plan }
     ensures plan { IfOk result (λ d. d.plan ≡ plan) }
     ensures still { IfOk result (λ d. plan_told (first_content past_of d) ≡ Some plan) }
+    ensures headers { IfOk result (λ d. TellTwice plan (first_content past_of d)) }
     ensures zeros { IfOk result (λ d. (disk_past past_of d).disk.content ≡ replicate plan.sectors zero_sector) }
     ensures synced { IfOk result (λ d. IsSynced (disk_past past_of d).disk) }
+    ensures failures { IfOk result (λ d. disk_failures failures_of d ≡ 0) }
     ensures refused { IfErr result (λ e. (error : FileError) → e ≡ DiskError.File error
         → (error ≡ NoMemory) ⊎ (error ≡ FileFailed)) }
 {
-    let below = match create(rt, alloc, path, plan.file_blocks()) {
-        Ok(below) => below,
-        Err(error) => return Err(DiskError::Open(error)),
-    };
+    let below = create(rt, alloc, path, plan.file_blocks())?;
     match block_file::create(alloc, below, plan) {
         Ok(disk) => Ok(disk),
         Err(refused) => {

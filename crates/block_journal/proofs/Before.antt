@@ -1,8 +1,8 @@
 -- The blocks before a journal stay.
 use Rattle.std.proofs.Common.{◌≡◌, ⊎_elim, ℕ, ◌<◌, List, ap, subst, arith}
-use Rattle.block_device.specs.Blocks.{BlockFile, Image, IsCrashImage, IsSynced, block}
+use Rattle.block_device.specs.Blocks.{BlockFile, CrashFile, IsCrashFile, IsSynced, block}
 use Rattle.block_device.specs.BlocksPast.{BlocksPast, RunsWithin}
-use Rattle.block_device.proofs.Images.{crash_synced}
+use Rattle.block_device.proofs.CrashFiles.{crash_synced}
 use Rattle.block_device.proofs.Moments.{at_end, goes_on, started}
 use Rattle.block_batch.specs.Batch.{Entry}
 use Rattle.block_journal.specs.declared.shape.Shape.{Shape}
@@ -27,10 +27,10 @@ leaves_before g S old new out within = record {
 -- no call was made, and no block is loose
 pub none_before : (g : Shape) (old : BlocksPast) → IsSynced old.file → LeavesBefore g old old
 none_before g old synced = started old (λ c. (n : ℕ) → n < g.first → block c n ≡ block old.file.content n)
-    (λ c crash n below. ap (λ (l : Image). block l n) (crash_synced old.file c synced crash))
+    (λ c crash n below. ap (λ (l : CrashFile). block l n) (crash_synced old.file c synced crash))
 
 -- calls that only read, behind it
 pub before_read : (g : Shape) (old mid new : BlocksPast) → LeavesBefore g old mid → OnlyReads mid new → LeavesBefore g old new
 before_read g old mid new leaves reads = goes_on old mid new (λ c. (n : ℕ) → n < g.first → block c n ≡ block old.file.content n) leaves reads.time
     (λ c crash. at_end old mid (λ c. (n : ℕ) → n < g.first → block c n ≡ block old.file.content n) leaves c
-    (subst (λ (f : BlockFile). IsCrashImage f c) reads.file crash))
+    (subst (λ (f : BlockFile). IsCrashFile f c) reads.file crash))

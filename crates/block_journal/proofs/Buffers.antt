@@ -1,7 +1,7 @@
 -- A buffer after a block was put, and after it was sealed.
 use Rattle.std.proofs.Common.{◌≡◌, ℕ, ◌+◌, ◌%◌, ◌<◌, ◌≤◌, true, List, Some, length, max, take, slice_index, slice_set, sym, ◌∙◌, ap, arith}
 use Rattle.std.proofs.Common.{length-set}
-use Rattle.block_device.specs.Blocks.{Image, block}
+use Rattle.block_device.specs.Blocks.{CrashFile, block}
 use Rattle.block_batch.specs.Batch.{Entry, Batch, batch_in, block_digest, count_in, is_batch, number_in, place_in, replayed}
 use Rattle.block_journal.specs.declared.gathered.Gathered.{Gathered}
 use Rattle.block_journal.specs.Entries.{AreDigests, IsSlot, entries_in}
@@ -29,7 +29,7 @@ module _ {A : Type 0} (b n : Gathered A) (whole : IsBuffer b) where
     same_size : length n.area.items ≡ length b.area.items
     same_size = ap length area ∙ length-set b.area.items (i + 1) bytes
 
-    pub put_replayed : (image : Image) → replayed (entries_of n) image ≡ slice_set (replayed (entries_of b) image) place bytes
+    pub put_replayed : (image : CrashFile) → replayed (entries_of n) image ≡ slice_set (replayed (entries_of b) image) place bytes
     put_replayed image =
         let now : replayed (entries_of n) image
         ≡ replayed (entries_in (slice_set b.area.items (i + 1) bytes) (slice_set b.places i place) (max b.count (i + 1))) image =
@@ -57,7 +57,7 @@ module _ {A : Type 0} (b n : Gathered A) (whole : IsBuffer b) where
     put_size = same_size
 
   -- it is sealed
-  module _ (number : ℕ) (sealed : Image) (area : n.area.items ≡ sealed) (places : n.places ≡ b.places) (digests : n.digests ≡ b.digests)
+  module _ (number : ℕ) (sealed : CrashFile) (area : n.area.items ≡ sealed) (places : n.places ≡ b.places) (digests : n.digests ≡ b.digests)
       (count : n.count ≡ b.count) (size : length sealed ≡ length b.area.items) (batch : is_batch sealed ≡ true) (numbered : number_in sealed ≡ number)
       (counted : count_in sealed ≡ length (take b.count b.places))
       (placed : (i : ℕ) → i < length (take b.count b.places) → place_in sealed i ≡ slice_index (take b.count b.places) i)
@@ -123,7 +123,7 @@ module _ {A : Type 0} (b n : Gathered A) (whole : IsBuffer b) where
       count = omega (arith, ap length area, count_is, counted, (few_in b.area.items batch).1);
       fitting = λ k below.
           fits k (omega (arith, below, count_is))
-          ∙ sym (ap (λ (l : Image). block_digest (slice_index n.places k) (block l (1 + k))) area);
+          ∙ sym (ap (λ (l : CrashFile). block_digest (slice_index n.places k) (block l (1 + k))) area);
     }
 
   -- its area was read, with nothing gathered

@@ -2,7 +2,7 @@
 use Rattle.std.proofs.Common.{◌≡◌, inl, inr, ⊎_elim, ℕ, ◌+◌, ◌%◌, ◌<◌, ◌==◌, nat_lt, if◌then◌else◌, List, [], ◌∷◌, ◌++◌, Option, Some, None, IfSome, refl}
 use Rattle.std.proofs.Common.{sym, ◌∙◌, ap, subst, arith}
 use Rattle.std.proofs.lemmas.Bool.{cases_eq, cond_both}
-use Rattle.block_device.specs.Blocks.{Image, SameOutside}
+use Rattle.block_device.specs.Blocks.{CrashFile, SameOutside}
 use Rattle.block_device.specs.BlocksPast.{BlocksPast, RunsWithin}
 use Rattle.block_batch.specs.Batch.{Entry, Batch, replayed}
 use Rattle.block_batch.specs.Replay.{in_order, pending}
@@ -14,7 +14,7 @@ use Rattle.block_journal.specs.Value.{JournalValue, IsReady, content_of, next_ba
 use Rattle.block_journal.proofs.Committing.{settled_again}
 use Rattle.block_journal.proofs.Crash.{same_area}
 
-module _ (settled : Image) where
+module _ (settled : CrashFile) where
   -- a replay of it changes nothing
   abbrev pub Harmless : Batch → Type 0
   Harmless b = replayed b.entries settled ≡ settled
@@ -39,7 +39,7 @@ module _ (settled : Image) where
   harmless (Some x) (Some y) first second = in_any_order x y first second
 
 -- The areas have the last batch and the next one, which is empty. Whatever becomes of them, the kept blocks are there.
-module _ (g : Shape) (image new settled : Image) (last next : Batch) (inside : IsInside g image) (follows : next.number ≡ last.number + 1)
+module _ (g : Shape) (image new settled : CrashFile) (last next : Batch) (inside : IsInside g image) (follows : next.number ≡ last.number + 1)
     (here : found g image (last.number % 2) ≡ Some last) (there : found g new (next.number % 2) ≡ Some next)
     (agrees : SameOutside (MayWrite g (next.number % 2) last.entries) image new) (again : replayed last.entries settled ≡ settled)
     (empty : next.entries ≡ []) (kept : kept_of g new ≡ settled) where
@@ -49,7 +49,7 @@ module _ (g : Shape) (image new settled : Image) (last next : Batch) (inside : I
     | inr other ↦
         let is : a ≡ last.number % 2 = omega (arith, other, low, follows) in
         subst (λ (o : Option Batch). IfSome o (Harmless settled))
-        (sym (ap (λ (area : Image). found_in area a) (same_area g image new (next.number % 2) last.entries inside (omega arith) agrees a low other)
+        (sym (ap (λ (area : CrashFile). found_in area a) (same_area g image new (next.number % 2) last.entries inside (omega arith) agrees a low other)
         ∙ ap (found g image) is ∙ here))
         again
   ]
@@ -71,7 +71,7 @@ module _ {B : Type 0} (past_of : B → BlocksPast) (old new : JournalValue B) (r
     (past_of new.below))
     (is : new ≡ record old { below = new.below; last = next_batch old; next = []; offered = old.offered ++ next_batch old ∷ [] })
     (now : IsReady past_of new) (settles : settled_of past_of new ≡ content_of past_of old) (empty : old.next ≡ []) where
-  abbrev pub after : Image
+  abbrev pub after : CrashFile
   after = (past_of new.below).file.content
 
   its_last : new.last ≡ next_batch old

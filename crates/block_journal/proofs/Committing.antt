@@ -1,8 +1,8 @@
 -- What a journal is once a batch is committed, and what a crash leaves of one that is ready.
 use Rattle.std.proofs.Common.{◌≡◌, ◌⊎◌, inl, ⊎_elim, ℕ, ◌+◌, ◌%◌, List, [], ◌∷◌, ◌++◌, refl, sym, ◌∙◌, subst, arith}
-use Rattle.block_device.specs.Blocks.{Image, BlockFile, IsCrashImage, IsSynced}
+use Rattle.block_device.specs.Blocks.{CrashFile, BlockFile, IsCrashFile, IsSynced}
 use Rattle.block_device.specs.BlocksPast.{BlocksPast, LeavesOnly, RunsWithin}
-use Rattle.block_device.proofs.Images.{crash_outside}
+use Rattle.block_device.proofs.CrashFiles.{crash_outside}
 use Rattle.block_device.proofs.Moments.{started}
 use Rattle.block_batch.specs.Batch.{Batch, replayed}
 use Rattle.block_batch.specs.Replay.{AreOffered}
@@ -12,11 +12,12 @@ use Rattle.block_journal.specs.Layout.{kept_of, recovered, IsHonest}
 use Rattle.block_journal.specs.Journal.{AreKnown, IsWritten, MayWrite, StandsFor}
 use Rattle.block_journal.specs.Value.{JournalValue, IsReady, LeavesEither, content_of, next_batch, settled_of}
 use Rattle.block_journal.proofs.Crash.{crash_of_commit, kept_agrees}
+use Rattle.block_journal.proofs.Honest.{honest_next}
 use Rattle.block_journal.proofs.Next.{now_offered, now_known, now_committed}
 use Rattle.block_journal.proofs.Placing.{synced_all}
 
 -- a batch that follows the last one is as good as offered
-not_offered : (offered : List Batch) (last next : Batch) (settled : Image) → AreKnown offered last settled → next.number ≡ last.number + 1
+not_offered : (offered : List Batch) (last next : Batch) (settled : CrashFile) → AreKnown offered last settled → next.number ≡ last.number + 1
     → AreOffered offered last next settled
 not_offered offered last next settled known follows = record {
   follows = follows;
@@ -35,7 +36,7 @@ module _ {B : Type 0} (past_of : B → BlocksPast) (old : JournalValue B) (ready
   settled_again = again old.last.entries (kept_of old.shape file.content)
 
   -- what a crash leaves now stands for the settled blocks
-  pub ready_stands : (c : Image) → IsCrashImage file c → IsHonest old.offered old.shape c → recovered old.shape c ≡ settled_of past_of old
+  pub ready_stands : (c : CrashFile) → IsCrashFile file c → IsHonest old.offered old.shape c → recovered old.shape c ≡ settled_of past_of old
   ready_stands c crash honest =
       let next : Batch = record { number = old.last.number + 1; entries = old.last.entries } in
       let S : ℕ → Type 0 = MayWrite old.shape (next.number % 2) old.last.entries in
@@ -89,8 +90,9 @@ module _ {B : Type 0} (past_of : B → BlocksPast) (old : JournalValue B) (ready
 
       pub ready_next : IsSynced (past_of new.below).file → IsReady past_of new
       ready_next synced = record {
-        stands = subst (λ (s : Image). StandsFor new.shape (past_of new.below).file.content new.last s) (sym settled_next) stands_next;
-        known = subst (λ (s : Image). AreKnown new.offered new.last s) (sym settled_next) known_next;
+        stands = subst (λ (s : CrashFile). StandsFor new.shape (past_of new.below).file.content new.last s) (sym settled_next) stands_next;
+        known = subst (λ (s : CrashFile). AreKnown new.offered new.last s) (sym settled_next) known_next;
+        honest = honest_now;
         synced = synced;
       }
         where
@@ -105,6 +107,13 @@ module _ {B : Type 0} (past_of : B → BlocksPast) (old : JournalValue B) (ready
           stands_next =
               subst (λ (b : Batch). StandsFor new.shape (past_of new.below).file.content b (content_of past_of old)) (sym last)
               (subst (λ (g : Shape). StandsFor g (past_of new.below).file.content (next_batch old) (content_of past_of old)) (sym shape) stands_old)
+
+          honest_now : IsHonest new.offered new.shape (past_of new.below).file.content
+          honest_now =
+              subst (λ (g : Shape). IsHonest new.offered g (past_of new.below).file.content) (sym shape)
+              (subst (λ (o : List Batch). IsHonest o old.shape (past_of new.below).file.content) (sym offered)
+              (honest_next old.shape file.content (past_of new.below).file.content old.last (next_batch old) old.offered ready.stands.inside
+              within.now.content written.here ready.honest))
 
           known_next : AreKnown new.offered new.last (content_of past_of old)
           known_next =

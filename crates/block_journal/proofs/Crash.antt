@@ -4,7 +4,7 @@ use Rattle.std.proofs.Common.{length, drop, Some, None}
 use Rattle.std.proofs.Common.{sym, ◌∙◌, ap, subst, arith, length-take, length-drop}
 use Rattle.std.proofs.lemmas.Bool.{cases_eq, cases_lt}
 use Rattle.std.proofs.lemmas.List.{get_or-take, get_or-drop, get_or_past, ext_get_or}
-use Rattle.block_device.specs.Blocks.{Image, block, run_of, InRun, SameOutside}
+use Rattle.block_device.specs.Blocks.{CrashFile, block, run_of, InRun, SameOutside}
 use Rattle.block_batch.specs.Batch.{Entry, Batch, is_batch, number_in, batch_in, replayed, IsPlace}
 use Rattle.block_batch.specs.Replay.{pending, IsCommitted, AreOffered}
 use Rattle.block_batch.proofs.Torn.{torn_first, torn_second}
@@ -14,14 +14,14 @@ use Rattle.block_journal.specs.Journal.{MayWrite, StandsFor}
 
 -- ---- runs of two images
 
-pub length-run_of : (image : Image) (first count : ℕ) → first + count ≤ length image → length (run_of image first count) ≡ count
+pub length-run_of : (image : CrashFile) (first count : ℕ) → first + count ≤ length image → length (run_of image first count) ≡ count
 length-run_of image first count room = omega (arith, length-take count (drop first image), length-drop first image)
 
-pub block_of_run : (image : Image) (first count i : ℕ) → i < count → block (run_of image first count) i ≡ block image (first + i)
+pub block_of_run : (image : CrashFile) (first count i : ℕ) → i < count → block (run_of image first count) i ≡ block image (first + i)
 block_of_run image first count i below = get_or-take count (drop first image) i [] below ∙ get_or-drop first image i []
 
 -- two images with the same blocks in a run have the same run
-pub run_same : (image other : Image) (first count : ℕ) → first + count ≤ length image → length other ≡ length image
+pub run_same : (image other : CrashFile) (first count : ℕ) → first + count ≤ length image → length other ≡ length image
     → ((n : ℕ) → InRun first count n → block other n ≡ block image n) → run_of other first count ≡ run_of image first count
 run_same image other first count room size same = ext_get_or [] (run_of other first count) (run_of image first count) sizes each
   where
@@ -60,7 +60,7 @@ areas_apart g a b n a_low b_low apart in_a in_b = ⊎_elim
     (λ w. ⊎_elim (λ v. omega (arith, w.1, v.1, in_a.0, in_a.1, in_b.0, in_b.1)) (λ v. omega (arith, w.0, v.0, apart)) (starts g b b_low))
     (starts g a a_low)
 
-module _ (g : Shape) (image c : Image) (torn : ℕ) (last : List Entry) (inside : IsInside g image) (low : torn < 2)
+module _ (g : Shape) (image c : CrashFile) (torn : ℕ) (last : List Entry) (inside : IsInside g image) (low : torn < 2)
     (agrees : SameOutside (MayWrite g torn last) image c) where
   -- the area that isn't written
   pub same_area : (a : ℕ) → a < 2 → a ≢ torn → area_of g c a ≡ area_of g image a
@@ -96,14 +96,14 @@ module _ (g : Shape) (image c : Image) (torn : ℕ) (last : List Entry) (inside 
 
 -- An image that agrees with one that stands for the settled blocks, but for what a commit may write, and of whose torn
 -- area the premise holds, is recovered as before the commit, or as after it.
-module _ (g : Shape) (image c settled : Image) (last next : Batch) (offered : List Batch) (stands : StandsFor g image last settled)
+module _ (g : Shape) (image c settled : CrashFile) (last next : Batch) (offered : List Batch) (stands : StandsFor g image last settled)
     (known : AreOffered offered last next settled) (agrees : SameOutside (MayWrite g (next.number % 2) last.entries) image c)
     (honest : IsHonest offered g c) where
-  abbrev Either : Image → Type 0
+  abbrev Either : CrashFile → Type 0
   Either found_so = (found_so ≡ settled) ⊎ (found_so ≡ replayed next.entries settled)
 
   still_there : found g c (last.number % 2) ≡ Some last
-  still_there = ap (λ (area : Image). if is_batch area && (number_in area % 2 == last.number % 2) then Some (batch_in area) else None)
+  still_there = ap (λ (area : CrashFile). if is_batch area && (number_in area % 2 == last.number % 2) then Some (batch_in area) else None)
       (same_area g image c (next.number % 2) last.entries stands.inside (omega arith) agrees (last.number % 2) (omega arith) (omega (arith, known.follows)))
       ∙ stands.here
 

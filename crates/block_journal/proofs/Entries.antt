@@ -6,7 +6,7 @@ use Rattle.std.proofs.lemmas.Bool.{cases_eq}
 use Rattle.std.proofs.lemmas.List.{get_or-set_other, set-set, set_comm}
 use Rattle.std.proofs.lemmas.List.FromFn.{length-map-range_with_len, map-range_with_len_more}
 use Rattle.std.proofs.lemmas.Grind.{get_or-set_at}
-use Rattle.block_device.specs.Blocks.{Image, block}
+use Rattle.block_device.specs.Blocks.{CrashFile, block}
 use Rattle.block_batch.specs.Batch.{Entry, block_digest, replayed, IsPlace}
 use Rattle.block_batch.proofs.Replay.{length-replayed, block_outside, both}
 use Rattle.block_journal.specs.Entries.{entry_at, entries_in, IsLastAt, IsSlot, HasNone, AreDigests}
@@ -29,13 +29,13 @@ place_either (e ∷ xs) ys p (inr later) = ⊎_elim (λ x. inl (inr x)) (λ y. i
 
 -- ---- one block more
 
-pub length-entries : (area : Image) (places : List ℕ) (n : ℕ) → length (entries_in area places n) ≡ n
+pub length-entries : (area : CrashFile) (places : List ℕ) (n : ℕ) → length (entries_in area places n) ≡ n
 length-entries area places n = length-map-range_with_len (entry_at area places) 0 n
 
-pub entries_more : (area : Image) (places : List ℕ) (n : ℕ) → entries_in area places (n + 1) ≡ entries_in area places n ++ entry_at area places n ∷ []
+pub entries_more : (area : CrashFile) (places : List ℕ) (n : ℕ) → entries_in area places (n + 1) ≡ entries_in area places n ++ entry_at area places n ∷ []
 entries_more area places n = map-range_with_len_more (entry_at area places) 0 n n (omega arith)
 
-pub replayed_more : (area : Image) (places : List ℕ) (n : ℕ) (image : Image)
+pub replayed_more : (area : CrashFile) (places : List ℕ) (n : ℕ) (image : CrashFile)
     → replayed (entries_in area places (n + 1)) image ≡ slice_set (replayed (entries_in area places n) image) (slice_index places n) (block area (1 + n))
 replayed_more area places n image =
     ap (λ (l : List Entry). replayed l image) (entries_more area places n)
@@ -53,18 +53,18 @@ same_map f g (suc n) same =
     ∙ sym (map-range_with_len_more g 0 n n (omega arith))
     ∙ sym (ap (λ (m : ℕ). map g (range_with_len 0 m)) next)
 
-same_entry : (area other : Image) (places others : List ℕ) (n : ℕ) → slice_index others n ≡ slice_index places n → block other (1 + n) ≡ block area (1 + n)
+same_entry : (area other : CrashFile) (places others : List ℕ) (n : ℕ) → slice_index others n ≡ slice_index places n → block other (1 + n) ≡ block area (1 + n)
     → entry_at other others n ≡ entry_at area places n
 same_entry area other places others n place bytes = λ i. record { place = place i; bytes = bytes i }
 
-pub entries_same : (area other : Image) (places others : List ℕ) (n : ℕ) → ((i : ℕ) → i < n → slice_index others i ≡ slice_index places i)
+pub entries_same : (area other : CrashFile) (places others : List ℕ) (n : ℕ) → ((i : ℕ) → i < n → slice_index others i ≡ slice_index places i)
     → ((i : ℕ) → i < n → block other (1 + i) ≡ block area (1 + i)) → entries_in other others n ≡ entries_in area places n
 entries_same area other places others n of_places of_blocks = same_map (entry_at other others) (entry_at area places) n
     (λ i below. same_entry area other places others i (of_places i below) (of_blocks i below))
 
 -- ---- which places they have
 
-pub place_there : (area : Image) (places : List ℕ) (n i p : ℕ) → i < n → slice_index places i ≡ p → IsPlace (entries_in area places n) p
+pub place_there : (area : CrashFile) (places : List ℕ) (n i p : ℕ) → i < n → slice_index places i ≡ p → IsPlace (entries_in area places n) p
 place_there area places zero i p below is = absurd (omega (arith, below))
 place_there area places (suc n) i p below is =
     let next : suc n ≡ n + 1 = omega arith in
@@ -74,7 +74,7 @@ place_there area places (suc n) i p below is =
     ] in
     subst (λ (l : List Entry). IsPlace l p) (sym (ap (entries_in area places) next ∙ entries_more area places n)) all
 
-pub no_place : (area : Image) (places : List ℕ) (n p : ℕ) → HasNone places n p → ¬ IsPlace (entries_in area places n) p
+pub no_place : (area : CrashFile) (places : List ℕ) (n p : ℕ) → HasNone places n p → ¬ IsPlace (entries_in area places n) p
 no_place area places zero p none there = there
 no_place area places (suc n) p none there =
     let next : suc n ≡ n + 1 = omega arith in
@@ -86,7 +86,7 @@ no_place area places (suc n) p none there =
 
 -- ---- what a block is after a replay
 
-module _ (area : Image) (places : List ℕ) (image : Image) (place : ℕ) where
+module _ (area : CrashFile) (places : List ℕ) (image : CrashFile) (place : ℕ) where
   -- the last one that has the place
   pub block_found : (n i : ℕ) → IsLastAt places n place i → place < length image → block (replayed (entries_in area places n) image) place ≡ block area (1 + i)
   block_found zero i last room = absurd (omega (arith, last.low))
@@ -109,7 +109,7 @@ module _ (area : Image) (places : List ℕ) (image : Image) (place : ℕ) where
             }) room
       ] in
       ap (λ (m : ℕ). block (replayed (entries_in area places m) image) place) next
-      ∙ ap (λ (l : Image). block l place) (replayed_more area places n image)
+      ∙ ap (λ (l : CrashFile). block l place) (replayed_more area places n image)
       ∙ step
 
   -- none that has it
@@ -118,8 +118,8 @@ module _ (area : Image) (places : List ℕ) (image : Image) (place : ℕ) where
 
 -- ---- a block is put
 
-module _ (area : Image) (places : List ℕ) (i place : ℕ) (bytes : List ℕ) (room : i + 1 < length area) (room_places : i < length places) where
-  abbrev pub area' : Image
+module _ (area : CrashFile) (places : List ℕ) (i place : ℕ) (bytes : List ℕ) (room : i + 1 < length area) (room_places : i < length places) where
+  abbrev pub area' : CrashFile
   area' = slice_set area (i + 1) bytes
 
   abbrev pub places' : List ℕ
@@ -143,7 +143,7 @@ module _ (area : Image) (places : List ℕ) (i place : ℕ) (bytes : List ℕ) (
       (λ k below. block_kept k (omega (arith, below, le)))
 
   -- as the last one of them
-  module _ (image : Image) where
+  module _ (image : CrashFile) where
     put_last : replayed (entries_in area' places' (i + 1)) image ≡ slice_set (replayed (entries_in area places i) image) place bytes
     put_last =
         replayed_more area' places' i image
@@ -164,20 +164,20 @@ module _ (area : Image) (places : List ℕ) (i place : ℕ) (bytes : List ℕ) (
               ∙ put_last
               ∙ sym (set-set (replayed (entries_in area places i) image) place (block area (1 + i)) bytes)
               ∙ ap (λ (p : ℕ). slice_set (slice_set (replayed (entries_in area places i) image) p (block area (1 + i))) place bytes) (sym last.here)
-              ∙ ap (λ (l : Image). slice_set l place bytes) (sym (replayed_more area places i image))
+              ∙ ap (λ (l : CrashFile). slice_set l place bytes) (sym (replayed_more area places i image))
               ∙ ap (λ (m : ℕ). slice_set (replayed (entries_in area places (m + 1)) image) place bytes) (sym is)
           | inr other ↦
               replayed_more area' places' n image
               ∙ ap (λ (p : ℕ). slice_set (replayed (entries_in area' places' n) image) p (block area' (1 + n))) (place_kept n other)
               ∙ ap (λ (b : List ℕ). slice_set (replayed (entries_in area' places' n) image) (slice_index places n) b) (block_kept n other)
-              ∙ ap (λ (l : Image). slice_set l (slice_index places n) (block area (1 + n))) (put_there n (record {
+              ∙ ap (λ (l : CrashFile). slice_set l (slice_index places n) (block area (1 + n))) (put_there n (record {
                 low = omega (arith, last.low, other);
                 here = last.here;
                 behind = λ k above below. last.behind k above (omega (arith, below));
               }))
               ∙ set_comm (replayed (entries_in area places n) image) place (slice_index places n) bytes (block area (1 + n))
               (λ same. last.behind n (omega (arith, last.low, other)) (omega arith) (sym same))
-              ∙ ap (λ (l : Image). slice_set l place bytes) (sym (replayed_more area places n image))
+              ∙ ap (λ (l : CrashFile). slice_set l place bytes) (sym (replayed_more area places n image))
         ] in
         ap (λ (m : ℕ). replayed (entries_in area' places' m) image) next
         ∙ step
@@ -214,7 +214,7 @@ module _ (area : Image) (places : List ℕ) (i place : ℕ) (bytes : List ℕ) (
 
 -- ---- what a head tells is taken
 
-module _ (area : Image) (places digests : List ℕ) (i place digest : ℕ) (room : i < length places) (room_digests : i < length digests) where
+module _ (area : CrashFile) (places digests : List ℕ) (i place digest : ℕ) (room : i < length places) (room_digests : i < length digests) where
   pub places_taken : (told : ℕ → ℕ) → ((k : ℕ) → k < i → slice_index places k ≡ told k) → place ≡ told i
       → (k : ℕ) → k < i + 1 → slice_index (slice_set places i place) k ≡ told k
   places_taken told so_far is k below = elim (cases_eq k i) [

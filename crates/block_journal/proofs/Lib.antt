@@ -5,6 +5,7 @@ mod Closing
 mod Committing
 pub mod Crash
 mod Entries
+mod Honest
 mod Loading
 mod Next
 pub mod OnlyReading

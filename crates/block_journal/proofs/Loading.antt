@@ -5,7 +5,7 @@ use Rattle.std.proofs.Common.{Some, None, refl, sym, ◌∙◌, ap, arith, lengt
 use Rattle.std.specs.List.{range_with_len}
 use Rattle.std.proofs.lemmas.Bool.{and_parts, leb-true, ltb-true, ne_eqb}
 use Rattle.std.proofs.lemmas.List.{get_or-take}
-use Rattle.block_device.specs.Blocks.{Image, block}
+use Rattle.block_device.specs.Blocks.{CrashFile, block}
 use Rattle.block_words.specs.Words.{word}
 use Rattle.block_batch.specs.declared.head.TheConstants.{PLACES_MAX}
 use Rattle.block_batch.specs.Batch.{Entry, Batch, batch_in, block_digest, count_in, do_fit, head_digest, is_batch, number_in, place_in}
@@ -15,7 +15,7 @@ use Rattle.block_journal.proofs.Entries.{entries_same, same_map}
 use Rattle.block_journal.proofs.Placing.{found_is}
 
 -- an area whose head tells these places has this batch
-pub batch_is : (area : Image) (number count : ℕ) (places : List ℕ) → number_in area ≡ number → count_in area ≡ count
+pub batch_is : (area : CrashFile) (number count : ℕ) (places : List ℕ) → number_in area ≡ number → count_in area ≡ count
     → ((i : ℕ) → i < count → place_in area i ≡ slice_index places i) → batch_in area ≡ record { number = number; entries = entries_in area places count }
 batch_is area number count places numbered counted placed = λ i. record { number = numbered i; entries = entries i }
   where
@@ -30,7 +30,7 @@ batch_is area number count places numbered counted placed = λ i. record { numbe
 
 -- ---- the blocks behind the head of a sealed area stay
 
-module _ (area sealed : Image) (count : ℕ) (places : List ℕ) (stays : (n : ℕ) → 0 < n → block sealed n ≡ block area n) where
+module _ (area sealed : CrashFile) (count : ℕ) (places : List ℕ) (stays : (n : ℕ) → 0 < n → block sealed n ≡ block area n) where
   pub entries_stay : entries_in sealed places count ≡ entries_in area places count
   entries_stay = entries_same area sealed places places count (λ i below. refl) (λ i below. stays (1 + i) (omega arith))
 
@@ -53,7 +53,7 @@ module _ (area sealed : Image) (count : ℕ) (places : List ℕ) (stays : (n : �
 -- ---- what an area has
 
 -- how many blocks a batch has
-pub few_in : (area : Image) → is_batch area ≡ true → (count_in area ≤ PLACES_MAX) × (count_in area < length area)
+pub few_in : (area : CrashFile) → is_batch area ≡ true → (count_in area ≤ PLACES_MAX) × (count_in area < length area)
 few_in area is =
     let first = and_parts _ (nat_le (count_in area) PLACES_MAX && (nat_lt (count_in area) (length area)
     && ((word (block area 0) 511 == head_digest area) && do_fit area (count_in area)))) is in
@@ -63,15 +63,15 @@ few_in area is =
     (leb-true (count_in area) PLACES_MAX second.0, ltb-true (count_in area) (length area) third.0)
 
 -- none
-pub none_in : (area : Image) (a : ℕ) → is_batch area ≡ false → found_in area a ≡ None
+pub none_in : (area : CrashFile) (a : ℕ) → is_batch area ≡ false → found_in area a ≡ None
 none_in area a is = λ i. if is i && (number_in area % 2 == a) then Some (batch_in area) else None
 
 -- one whose number belongs to the other area
-pub other_in : (area : Image) (a : ℕ) → is_batch area ≡ true → number_in area % 2 ≢ a → found_in area a ≡ None
+pub other_in : (area : CrashFile) (a : ℕ) → is_batch area ≡ true → number_in area % 2 ≢ a → found_in area a ≡ None
 other_in area a is other = λ i. if is i && ne_eqb (number_in area % 2) a other i then Some (batch_in area) else None
 
 -- one that is taken
-pub taken_in : (area : Image) (a number count : ℕ) (places : List ℕ) → is_batch area ≡ true → number_in area ≡ number → count_in area ≡ count
+pub taken_in : (area : CrashFile) (a number count : ℕ) (places : List ℕ) → is_batch area ≡ true → number_in area ≡ number → count_in area ≡ count
     → ((i : ℕ) → i < count → place_in area i ≡ slice_index places i) → number % 2 ≡ a
     → found_in area a ≡ Some (record { number = number; entries = entries_in area places count })
 taken_in area a number count places is numbered counted placed parity =

@@ -1,13 +1,14 @@
 -- After a commit the next batch is the last one.
 use Rattle.std.proofs.Common.{◌≡◌, ⊎_elim, ◌+◌, List, [], ◌∷◌, ◌++◌, sym, ◌∙◌, ap, subst, arith}
 use Rattle.std.proofs.lemmas.List.Elements.{Contains-push, Contains-push_cases}
-use Rattle.block_device.specs.Blocks.{Image, SameOutside}
+use Rattle.block_device.specs.Blocks.{CrashFile, SameOutside}
 use Rattle.block_batch.specs.Batch.{Batch, replayed, IsPlace}
 use Rattle.block_batch.specs.Replay.{IsCommitted, AreOffered}
 use Rattle.block_batch.proofs.Replay.{outside, agree, cut_off}
 use Rattle.block_journal.specs.Journal.{AreKnown}
 
-module _ (offered : List Batch) (last next : Batch) (settled : Image) (known : AreKnown offered last settled) (follows : next.number ≡ last.number + 1) where
+module _ (offered : List Batch) (last next : Batch) (settled : CrashFile) (known : AreKnown offered last settled)
+    (follows : next.number ≡ last.number + 1) where
   -- the next batch is offered
   pub now_offered : AreOffered (offered ++ next ∷ []) last next settled
   now_offered = record {
@@ -43,7 +44,7 @@ module _ (offered : List Batch) (last next : Batch) (settled : Image) (known : A
     }
 
 -- the kept blocks are there outside its places
-pub now_committed : (next : Batch) (settled kept : Image) → SameOutside (IsPlace next.entries) settled kept
+pub now_committed : (next : Batch) (settled kept : CrashFile) → SameOutside (IsPlace next.entries) settled kept
     → IsCommitted next (replayed next.entries settled) kept
 now_committed next settled kept same = record {
   elsewhere = record {

@@ -4,7 +4,7 @@ use Rattle.std.proofs.Common.{Option, Some, None, IfSome, Contains, refl, sym, �
 use Rattle.std.proofs.lemmas.Bool.{cases_eq}
 use Rattle.std.proofs.lemmas.Bool.Decides.{nat_tests}
 use Rattle.std.proofs.lemmas.List.Elements.{Contains-push, Contains-push_cases}
-use Rattle.block_device.specs.Blocks.{Image, SameOutside}
+use Rattle.block_device.specs.Blocks.{CrashFile, SameOutside}
 use Rattle.block_batch.specs.Batch.{Entry, Batch, replayed, IsPlace}
 use Rattle.block_batch.specs.Replay.{in_order, pending}
 use Rattle.block_batch.proofs.Replay.{again, both, cut_off, agree, outside}
@@ -61,7 +61,7 @@ module _ (last : Batch) (entries : List Entry) where
       ]
 
 -- what is replayed: what comes before the last batch, and then its blocks
-pub pending_is : (g : Shape) (image : Image) (last : Batch) (before : Option ℕ) (entries : List Entry) → AreFound g image last before entries
+pub pending_is : (g : Shape) (image : CrashFile) (last : Batch) (before : Option ℕ) (entries : List Entry) → AreFound g image last before entries
     → pending (found g image 0) (found g image 1) ≡ first_entries last.number before entries ++ last.entries
 pending_is g image last before entries finds = elim (cases_eq (last.number % 2) 0) [
   | inl even ↦
@@ -90,8 +90,8 @@ has_last last (Some n) entries = (0, omega arith, refl)
 has_other : (last : Batch) (n : ℕ) (entries : List Entry) → Contains (found_batches last (Some n) entries) (record { number = n; entries = entries })
 has_other last n entries = Contains-push (last ∷ []) (record { number = n; entries = entries })
 
-module _ (last : Batch) (entries : List Entry) (start : Image) where
-  abbrev pub settled : Option ℕ → Image
+module _ (last : Batch) (entries : List Entry) (start : CrashFile) where
+  abbrev pub settled : Option ℕ → CrashFile
   settled before = replayed last.entries (replayed (first_entries last.number before entries) start)
 
   pub found_known : (before : Option ℕ) (other : Option Batch) → IsBefore last.number before entries other
@@ -120,16 +120,16 @@ module _ (last : Batch) (entries : List Entry) (start : Image) where
       twice : n + 1 ≡ last.number → replayed last.entries (replayed entries (settled (Some n))) ≡ settled (Some n)
       twice next =
           let is : first_entries last.number (Some n) entries ≡ entries = first_is last.number n entries next in
-          let mid : Image = replayed entries start in
+          let mid : CrashFile = replayed entries start in
           let gave : settled (Some n) ≡ replayed last.entries mid = ap (λ (l : List Entry). replayed last.entries (replayed l start)) is in
-          ap (λ (s : Image). replayed last.entries (replayed entries s)) gave
+          ap (λ (s : CrashFile). replayed last.entries (replayed entries s)) gave
           ∙ cut_off last.entries mid (replayed entries (replayed last.entries mid))
-          (subst (λ (s : Image). SameOutside (IsPlace last.entries) s (replayed entries (replayed last.entries mid))) (again entries start)
+          (subst (λ (s : CrashFile). SameOutside (IsPlace last.entries) s (replayed entries (replayed last.entries mid))) (again entries start)
           (agree (IsPlace last.entries) entries mid (replayed last.entries mid) (outside last.entries mid)))
           ∙ sym gave
 
 -- each batch that was found is one of them
-pub found_honest : (g : Shape) (image : Image) (last : Batch) (before : Option ℕ) (entries : List Entry) → AreFound g image last before entries
+pub found_honest : (g : Shape) (image : CrashFile) (last : Batch) (before : Option ℕ) (entries : List Entry) → AreFound g image last before entries
     → IsHonest (found_batches last before entries) g image
 found_honest g image last before entries finds a low = elim (cases_eq a (last.number % 2)) [
   | inl is ↦ subst (λ (o : Option Batch). IfSome o (λ x. Contains (found_batches last before entries) x)) (sym (ap (found g image) is ∙ finds.here))
@@ -147,7 +147,7 @@ found_honest g image last before entries finds a low = elim (cases_eq a (last.nu
         subst (λ (o : Option Batch). IfSome o (λ x. Contains (found_batches last (Some n) entries) x)) (sym there) (has_other last n entries)
 
 -- and each of them is in an area
-pub found_in_areas : (g : Shape) (image : Image) (last : Batch) (before : Option ℕ) (entries : List Entry) → AreFound g image last before entries
+pub found_in_areas : (g : Shape) (image : CrashFile) (last : Batch) (before : Option ℕ) (entries : List Entry) → AreFound g image last before entries
     → AreInAreas g image (found_batches last before entries)
 found_in_areas g image last before entries finds x has = from before finds.other has
   where
@@ -169,9 +169,9 @@ found_in_areas g image last before entries finds x has = from before finds.other
 
 -- ---- the file after it was opened
 
-module _ (g : Shape) (image : Image) (last : Batch) (before : Option ℕ) (entries : List Entry) (inside : IsInside g image)
+module _ (g : Shape) (image : CrashFile) (last : Batch) (before : Option ℕ) (entries : List Entry) (inside : IsInside g image)
     (finds : AreFound g image last before entries) where
-  abbrev pub start : Image
+  abbrev pub start : CrashFile
   start = replayed (first_entries last.number before entries) (kept_of g image)
 
   recovered_is : recovered g image ≡ replayed last.entries start
@@ -180,7 +180,7 @@ module _ (g : Shape) (image : Image) (last : Batch) (before : Option ℕ) (entri
       ∙ both (first_entries last.number before entries) last.entries (kept_of g image)
 
   -- the blocks before the last batch are put in their places, but for its own
-  module _ (new : Image) (size : length new ≡ length image) (areas : (a : ℕ) → a < 2 → area_of g new a ≡ area_of g image a)
+  module _ (new : CrashFile) (size : length new ≡ length image) (areas : (a : ℕ) → a < 2 → area_of g new a ≡ area_of g image a)
       (placed : SameOutside (IsPlace last.entries) start (kept_of g new)) where
     pub opened_settled : replayed last.entries (kept_of g new) ≡ recovered g image
     opened_settled = cut_off last.entries start (kept_of g new) placed ∙ sym recovered_is
@@ -188,7 +188,7 @@ module _ (g : Shape) (image : Image) (last : Batch) (before : Option ℕ) (entri
     pub opened_stands : StandsFor g new last (replayed last.entries (kept_of g new))
     opened_stands = subst (StandsFor g new last) (sym (cut_off last.entries start (kept_of g new) placed)) (record {
       inside = inside_same g image new inside size;
-      here = ap (λ (area : Image). found_in area (last.number % 2)) (areas (last.number % 2) (omega arith)) ∙ finds.here;
+      here = ap (λ (area : CrashFile). found_in area (last.number % 2)) (areas (last.number % 2) (omega arith)) ∙ finds.here;
       committed = now_committed last start (kept_of g new) placed;
     })
 
@@ -198,11 +198,11 @@ module _ (g : Shape) (image : Image) (last : Batch) (before : Option ℕ) (entri
 
 -- ---- what a crash leaves meanwhile
 
-pub wider : (S T : ℕ → Type 0) (image c : Image) → ((n : ℕ) → S n → T n) → SameOutside S image c → SameOutside T image c
+pub wider : (S T : ℕ → Type 0) (image c : CrashFile) → ((n : ℕ) → S n → T n) → SameOutside S image c → SameOutside T image c
 wider S T image c within same = record { size = same.size; same = λ n out. same.same n (λ there. out (within n there)) }
 
 -- what agrees with an image but for what a replay sets stands for the same blocks
-pub recovered_stays : (g : Shape) (image c : Image) → IsInside g image → SameOutside (IsPending g image) image c → recovered g c ≡ recovered g image
+pub recovered_stays : (g : Shape) (image c : CrashFile) → IsInside g image → SameOutside (IsPending g image) image c → recovered g c ≡ recovered g image
 recovered_stays g image c inside agrees =
     same ∙ cut_off all (kept_of g image) (kept_of g c) (kept_agrees g image c 0 all inside (omega arith) (within 0))
   where

@@ -6,15 +6,16 @@ use Rattle.block_device.specs.Blocks.{BlockFile, IsSynced, SameOutside}
 use Rattle.block_device.specs.BlocksPast.{BlocksPast, RunsWithin}
 use Rattle.block_batch.specs.Batch.{Entry, Batch, IsPlace, batch_in, replayed}
 use Rattle.block_journal.specs.declared.gathered.Gathered.{Gathered}
-use Rattle.block_journal.specs.declared.parts.Parts.{Parts}
-use Rattle.block_journal.specs.Layout.{IsInside, area_of, kept_of, kept_start, recovered}
+use Rattle.block_journal.specs.declared.parts.JournalParts.{JournalParts}
+use Rattle.block_journal.specs.Layout.{IsHonest, IsInside, area_of, kept_of, kept_start, recovered}
 use Rattle.block_journal.specs.Journal.{AreKnown, IsWritten, MayWrite, StandsFor}
 use Rattle.block_journal.specs.Gathered.{IsBuffer, IsSealed, batches_of, entries_of}
 use Rattle.block_journal.specs.Opening.{AreFound, first_entries, found_batches}
-use Rattle.block_journal.specs.Parts.{IsSound, value_of}
+use Rattle.block_journal.specs.JournalParts.{IsSound, value_of}
 use Rattle.block_journal.specs.Value.{JournalValue, IsReady, content_of, next_batch, settled_of}
 use Rattle.block_journal.proofs.Committing.{ready_next, settled_next}
-use Rattle.block_journal.proofs.Opening.{opened_known, opened_settled, opened_stands}
+use Rattle.block_journal.proofs.Honest.{honest_same}
+use Rattle.block_journal.proofs.Opening.{found_honest, opened_known, opened_settled, opened_stands}
 use Rattle.block_journal.proofs.Placing.{inside_same}
 
 module _ {B : Type 0} (past_of : B → BlocksPast) where
@@ -24,10 +25,11 @@ module _ {B : Type 0} (past_of : B → BlocksPast) where
   ready_same v below same ready = record {
     stands = subst (λ (f : BlockFile). StandsFor v.shape f.content v.last (replayed v.last.entries (kept_of v.shape f.content))) (sym same) ready.stands;
     known = subst (λ (f : BlockFile). AreKnown v.offered v.last (replayed v.last.entries (kept_of v.shape f.content))) (sym same) ready.known;
+    honest = subst (λ (f : BlockFile). IsHonest v.offered v.shape f.content) (sym same) ready.honest;
     synced = subst IsSynced (sym same) ready.synced;
   }
 
-module _ {B A : Type 0} (past_of : B → BlocksPast) (p : Parts B A) (sound : IsSound past_of p) where
+module _ {B A : Type 0} (past_of : B → BlocksPast) (p : JournalParts B A) (sound : IsSound past_of p) where
   -- after a read
   pub sound_read : (below : B) → (past_of below).file ≡ (past_of p.below).file → IsSound past_of (record p { below = below })
   sound_read below same = record {
@@ -49,7 +51,12 @@ module _ {B A : Type 0} (past_of : B → BlocksPast) (p : Parts B A) (sound : Is
     next_size = sound.next_size;
     small = sound.small;
     inside = sound.inside;
-    ready = λ good. record { stands = (sound.ready good).stands; known = (sound.ready good).known; synced = (sound.ready good).synced };
+    ready = λ good. let ready = sound.ready good in record {
+      stands = ready.stands;
+      known = ready.known;
+      honest = ready.honest;
+      synced = ready.synced;
+    };
   }
 
   -- after a commit that was refused
@@ -73,14 +80,19 @@ module _ {B A : Type 0} (past_of : B → BlocksPast) (p : Parts B A) (sound : Is
     next_size = size ∙ sound.next_size;
     small = sound.small;
     inside = sound.inside;
-    ready = λ good. record { stands = (sound.ready good).stands; known = (sound.ready good).known; synced = (sound.ready good).synced };
+    ready = λ good. let ready = sound.ready good in record {
+      stands = ready.stands;
+      known = ready.known;
+      honest = ready.honest;
+      synced = ready.synced;
+    };
   }
 
   -- after a commit
   module _ (good : p.has_failed ≡ false) (sealed : Gathered A) (seals : IsSealed (p.number + 1) sealed) (entries : entries_of sealed ≡ entries_of p.next)
       (buffer : IsBuffer sealed) (size : length sealed.area.items ≡ length p.next.area.items) (below : B)
       (within : RunsWithin (MayWrite p.shape ((p.number + 1) % 2) (entries_of p.last)) (past_of p.below).file.content (past_of p.below) (past_of below))
-      (n : Parts B A) (items : n.offered.items ≡ p.offered.items ++ sealed.area ∷ []) where
+      (n : JournalParts B A) (items : n.offered.items ≡ p.offered.items ++ sealed.area ∷ []) where
     inside_now : IsInside p.shape (past_of below).file.content
     inside_now = inside_same p.shape (past_of p.below).file.content (past_of below).file.content sound.inside within.now.content.size
 
@@ -108,7 +120,7 @@ module _ {B A : Type 0} (past_of : B → BlocksPast) (p : Parts B A) (sound : Is
       })
         where
           is_below : below ≡ n.below
-          is_below = sym (ap (λ (q : Parts B A). q.below) is)
+          is_below = sym (ap (λ (q : JournalParts B A). q.below) is)
 
       pub failed_sound : IsSound past_of n
       failed_sound = subst (IsSound past_of) (sym is) (record {
@@ -148,7 +160,7 @@ module _ {B A : Type 0} (past_of : B → BlocksPast) (p : Parts B A) (sound : Is
       })
         where
           is_below : below ≡ n.below
-          is_below = sym (ap (λ (q : Parts B A). q.below) is)
+          is_below = sym (ap (λ (q : JournalParts B A). q.below) is)
 
           its_entries : entries_of last ≡ entries_of p.next
           its_entries = ap (λ (b : Gathered A). entries_of b) moved ∙ entries
@@ -164,7 +176,7 @@ module _ {B A : Type 0} (past_of : B → BlocksPast) (p : Parts B A) (sound : Is
           (settled_of past_of (value_of p))) entries written
 
       at_goal : value_of n ≡ goal_value
-      at_goal = committed_value ∙ (λ i. record goal_value { below = (ap (λ (q : Parts B A). q.below) is) i })
+      at_goal = committed_value ∙ (λ i. record goal_value { below = (ap (λ (q : JournalParts B A). q.below) is) i })
 
       pub committed_settled : settled_of past_of (value_of n) ≡ content_of past_of (value_of p)
       committed_settled = ap (settled_of past_of) at_goal
@@ -190,7 +202,7 @@ module _ {B A : Type 0} (past_of : B → BlocksPast) (p : Parts B A) (sound : Is
 
 -- ---- a journal that is opened
 
-module _ {B A : Type 0} (past_of : B → BlocksPast) (p n : Parts B A) (number : ℕ) (before : Option ℕ) (below : B)
+module _ {B A : Type 0} (past_of : B → BlocksPast) (p n : JournalParts B A) (number : ℕ) (before : Option ℕ) (below : B)
     (inside : IsInside p.shape (past_of p.below).file.content) (small : kept_start p.shape + p.shape.kept < 2 ^ 64)
     (last : IsBuffer p.last) (last_size : length p.last.area.items ≡ p.shape.area) (next : IsBuffer p.next)
     (next_size : length p.next.area.items ≡ p.shape.area)
@@ -242,6 +254,8 @@ module _ {B A : Type 0} (past_of : B → BlocksPast) (p n : Parts B A) (number :
           placed;
       known = opened_known p.shape (past_of p.below).file.content its_last before (entries_of p.next) inside finds (past_of below).file.content size areas
           placed;
+      honest = honest_same p.shape (past_of p.below).file.content (past_of below).file.content (found_batches its_last before (entries_of p.next)) areas
+          (found_honest p.shape (past_of p.below).file.content its_last before (entries_of p.next) finds);
       synced = synced;
     });
   })

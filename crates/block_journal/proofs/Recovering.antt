@@ -2,7 +2,7 @@
 use Rattle.std.proofs.Common.{◌≡◌, ◌≢◌, inr, ⊎_elim, ℕ, ◌+◌, ◌%◌, ◌<◌, ◌≤◌, Bool, true, false, List, Option, Some, None, IfSome, refl, sym}
 use Rattle.std.proofs.Common.{◌∙◌, ap, subst, arith}
 use Rattle.std.proofs.lemmas.Bool.{cases_Bool, cases_eq}
-use Rattle.block_device.specs.Blocks.{Image}
+use Rattle.block_device.specs.Blocks.{CrashFile}
 use Rattle.block_device.specs.BlocksPast.{BlocksPast, RunsWithin}
 use Rattle.block_device.proofs.Within.{within_start}
 use Rattle.block_batch.specs.Batch.{Entry, Batch, batch_in, IsPlace}
@@ -37,7 +37,7 @@ module _ {A : Type 0} where
       (cases_eq n number)
 
   -- what the areas have, with the last batch first
-  module _ (g : Shape) (image : Image) (number : ℕ) (before : Option ℕ) (last other : Gathered A) where
+  module _ (g : Shape) (image : CrashFile) (number : ℕ) (before : Option ℕ) (last other : Gathered A) where
     arranged : (a b : ℕ) → b ≡ (a + 1) % 2 → a < 2 → b < 2 → IfSome before (λ n. n ≤ number) → HasTaken (found g image a) a last (Some number)
         → HasTaken (found g image b) b other before → HasTakenBoth g image number before last other
     arranged a b next low_a low_b low of_last of_other =
@@ -49,7 +49,7 @@ module _ {A : Type 0} where
           low = strictly before (found g image b) number b other (omega (arith, here, next, low_a, low_b)) low of_other;
         }
 
-  pub both_taken : (g : Shape) (image : Image) (o : Order) (first second : Option ℕ) → IsOrder first second o → (l0 o0 l1 o1 : Gathered A)
+  pub both_taken : (g : Shape) (image : CrashFile) (o : Order) (first second : Option ℕ) → IsOrder first second o → (l0 o0 l1 o1 : Gathered A)
       → HasTaken (found g image 0) 0 l0 first → HasTaken (found g image 1) 1 o0 second → (o.is_second ≡ true → (l1 ≡ o0) × (o1 ≡ l0))
       → (o.is_second ≡ false → (l1 ≡ l0) × (o1 ≡ o0)) → HasTakenBoth g image o.number o.before l1 o1
   both_taken g image o first second order l0 o0 l1 o1 has_first has_second swaps stays = ⊎_elim
@@ -77,7 +77,7 @@ module _ {A : Type 0} where
       (λ is. (subst P (sym (stays is).0) of_last, subst P (sym (stays is).1) of_other))
       (cases_Bool second)
 
-  module _ (g : Shape) (image : Image) (number : ℕ) (before : Option ℕ) (last other : Gathered A)
+  module _ (g : Shape) (image : CrashFile) (number : ℕ) (before : Option ℕ) (last other : Gathered A)
       (taken : HasTakenBoth g image number before last other) where
     pub are_found : AreFound g image (record { number = number; entries = entries_of last }) before (entries_of other)
     are_found = record {

@@ -1,6 +1,6 @@
 -- What a journal keeps.
 use Rattle.std.specs.Prelude.{◌≡◌, ◌⊎◌, ℕ, ◌+◌, ◌%◌, ◌≤◌, ◌<◌, List, Some, None, Contains}
-use Rattle.block_device.specs.Blocks.{Image, InRun, SameOutside, block}
+use Rattle.block_device.specs.Blocks.{CrashFile, InRun, SameOutside, block}
 use Rattle.block_device.specs.BlocksPast.{BlocksPast, Elapses, LeavesOnly}
 use Rattle.block_batch.specs.Batch.{Entry, Batch, replayed, IsPlace}
 use Rattle.block_batch.specs.Replay.{IsCommitted, pending}
@@ -20,30 +20,30 @@ abbrev pub MayWrite : Shape → ℕ → List Entry → ℕ → Type 0
 MayWrite g a entries = InRunOrKept g (area_start g a) g.area entries
 
 -- The batches that were handed to be written, or found: the last one, and older ones.
-pub record AreKnown (offered : List Batch) (last : Batch) (settled : Image) : Type 0 where
+pub record AreKnown (offered : List Batch) (last : Batch) (settled : CrashFile) : Type 0 where
   pub has_last : Contains offered last
   pub none_later : (x : Batch) → Contains offered x → x.number ≤ last.number
   pub is_last : (x : Batch) → Contains offered x → x.number ≡ last.number → x ≡ last
   pub before : (x : Batch) → Contains offered x → x.number + 1 ≡ last.number
       → replayed last.entries (replayed x.entries settled) ≡ settled
 
--- The image stands for these blocks: the area of the last batch has it, and the kept blocks are there outside its
+-- The crash file stands for these blocks: the area of the last batch has it, and the kept blocks are there outside its
 -- places.
-pub record StandsFor (g : Shape) (image : Image) (last : Batch) (settled : Image) : Type 0 where
+pub record StandsFor (g : Shape) (image : CrashFile) (last : Batch) (settled : CrashFile) : Type 0 where
   pub inside : IsInside g image
   pub here : found g image (last.number % 2) ≡ Some last
   pub committed : IsCommitted last settled (kept_of g image)
 
--- The image has this batch in its area, and the blocks that were settled before it, outside its places.
-pub record IsWritten (g : Shape) (image : Image) (next : Batch) (settled : Image) : Type 0 where
+-- The crash file has this batch in its area, and the blocks that were settled before it, outside its places.
+pub record IsWritten (g : Shape) (image : CrashFile) (next : Batch) (settled : CrashFile) : Type 0 where
   pub inside : IsInside g image
   pub here : found g image (next.number % 2) ≡ Some next
   pub placed : SameOutside (IsPlace next.entries) settled (kept_of g image)
 
--- The areas are of no use: an image with the same kept blocks, each of whose areas has the same batch or none, stands
--- for these blocks.
-abbrev pub NeedsNoArea : Shape → Image → Image → Type 0
-NeedsNoArea g image settled = (c : Image) → kept_of g c ≡ kept_of g image
+-- The areas are of no use: a crash file with the same kept blocks, each of whose areas has the same batch or none,
+-- stands for these blocks.
+abbrev pub NeedsNoArea : Shape → CrashFile → CrashFile → Type 0
+NeedsNoArea g image settled = (c : CrashFile) → kept_of g c ≡ kept_of g image
     → ((a : ℕ) → a < 2 → (found g c a ≡ None) ⊎ (found g c a ≡ found g image a)) → recovered g c ≡ settled
 
 -- whatever a crash leaves from the one moment to the other stands for what the file stood for
@@ -55,15 +55,15 @@ abbrev pub LeavesBefore : Shape → BlocksPast → BlocksPast → Type 0
 LeavesBefore g old new = LeavesOnly old new (λ c. (n : ℕ) → n < g.first → block c n ≡ block old.file.content n)
 
 -- each of these batches is in one of the areas
-abbrev pub AreInAreas : Shape → Image → List Batch → Type 0
+abbrev pub AreInAreas : Shape → CrashFile → List Batch → Type 0
 AreInAreas g image batches = (x : Batch) → Contains batches x → (found g image 0 ≡ Some x) ⊎ (found g image 1 ≡ Some x)
 
 -- the blocks that a replay sets
-abbrev pub pending_in : Shape → Image → List Entry
+abbrev pub pending_in : Shape → CrashFile → List Entry
 pending_in g image = pending (found g image 0) (found g image 1)
 
 -- one of them
-abbrev pub IsPending : Shape → Image → ℕ → Type 0
+abbrev pub IsPending : Shape → CrashFile → ℕ → Type 0
 IsPending g image n = KeepsOne g (pending_in g image) n
 
 -- calls were made that change nothing

@@ -3,5 +3,5 @@ pub mod Gathered
 pub mod Journal
 pub mod Layout
 pub mod Opening
-pub mod Parts
+pub mod JournalParts
 pub mod Value

@@ -1,7 +1,7 @@
 -- What is found in the areas of a journal as it is opened. (No public clause cites this.)
 use Rattle.std.specs.Prelude.{◌≡◌, ℕ, ◌+◌, ◌%◌, ◌<◌, ◌≤◌, ◌==◌, if◌then◌else◌, true, false, List, [], ◌∷◌, Option, Some}
 use Rattle.std.specs.Prelude.{None, IfSome}
-use Rattle.block_device.specs.Blocks.{Image}
+use Rattle.block_device.specs.Blocks.{CrashFile}
 use Rattle.block_batch.specs.Batch.{Entry, Batch, batch_in}
 use Rattle.block_journal.specs.declared.shape.Shape.{Shape}
 use Rattle.block_journal.specs.Layout.{found}
@@ -25,7 +25,8 @@ found_batches last None entries = last ∷ []
 found_batches last (Some n) entries = last ∷ record { number = n; entries = entries } ∷ []
 
 -- One area has the last batch, and the other one what comes before it.
-pub record AreFound (g : Shape) (image : Image) (last : Batch) (before : Option ℕ) (entries : List Entry) : Type 0 where
+pub record AreFound (g : Shape) (image : CrashFile) (last : Batch) (before : Option ℕ)
+    (entries : List Entry) : Type 0 where
   pub here : found g image (last.number % 2) ≡ Some last
   pub other : IsBefore last.number before entries (found g image ((last.number + 1) % 2))
 
@@ -44,7 +45,7 @@ module _ {A : Type 0} where
       × (n % 2 ≡ a)
 
   -- One buffer has the last batch, and the other one what comes before it.
-  pub record HasTakenBoth (g : Shape) (image : Image) (number : ℕ) (before : Option ℕ) (last other : Gathered A)
+  pub record HasTakenBoth (g : Shape) (image : CrashFile) (number : ℕ) (before : Option ℕ) (last other : Gathered A)
       : Type 0 where
     pub of_last : HasTaken (found g image (number % 2)) (number % 2) last (Some number)
     pub of_other : HasTaken (found g image ((number + 1) % 2)) ((number + 1) % 2) other before

@@ -1,6 +1,6 @@
 -- What a journal shows.
 use Rattle.std.specs.Prelude.{◌≡◌, ◌⊎◌, ℕ, ◌+◌, ◌-◌, ◌^◌, ◌<◌, Bool, false, List, [], ◌∷◌, ◌++◌, length}
-use Rattle.block_device.specs.Blocks.{Image, IsSynced}
+use Rattle.block_device.specs.Blocks.{CrashFile, IsSynced}
 use Rattle.block_device.specs.BlocksPast.{BlocksPast, LeavesOnly}
 use Rattle.block_batch.specs.Batch.{Entry, Batch, replayed}
 use Rattle.block_journal.specs.declared.shape.Shape.{Shape}
@@ -43,17 +43,18 @@ module _ {B : Type 0} where
 
   module _ (past_of : B → BlocksPast) where
     -- the kept blocks as the last batch left them
-    abbrev pub settled_of : JournalValue B → Image
+    abbrev pub settled_of : JournalValue B → CrashFile
     settled_of j = replayed j.last.entries (kept_of j.shape (past_of j.below).file.content)
 
     -- the kept blocks with those that are gathered
-    abbrev pub content_of : JournalValue B → Image
+    abbrev pub content_of : JournalValue B → CrashFile
     content_of j = replayed j.next (settled_of j)
 
-    -- no call has failed: the file stands for the settled blocks, and no block is loose
+    -- no call has failed: the file stands for the settled blocks, the premise holds of it, and no block is loose
     pub record IsReady (j : JournalValue B) : Type 0 where
       pub stands : StandsFor j.shape (past_of j.below).file.content j.last (settled_of j)
       pub known : AreKnown j.offered j.last (settled_of j)
+      pub honest : IsHonest j.offered j.shape (past_of j.below).file.content
       pub synced : IsSynced (past_of j.below).file
 
     -- A crash at any moment from one state to another leaves, under the premise, what was settled, or that with the

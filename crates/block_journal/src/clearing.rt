@@ -1,13 +1,13 @@
 // A journal is begun.
 ghost use Rattle.std.specs.Prelude.{◌≡◌, ◌≢◌, ◌*◌, ◌<◌, ℕ, [], Some, length, OnOk};
 ghost use Rattle.sector_device.specs.DevicePast.{CountsFailure};
-ghost use Rattle.block_device.specs.Blocks.{Image, InRun, IsSynced};
+ghost use Rattle.block_device.specs.Blocks.{CrashFile, InRun, IsSynced};
 ghost use Rattle.block_device.specs.BlocksPast.{BlocksPast, RunsWithin};
 ghost use Rattle.block_journal.specs.Layout.{IsInside, area_of, found, kept_of, recovered};
 
 use crate::Shape;
 use block_batch::seal;
-use block_device::{BLOCK_SIZE, Blocks};
+use block_device::{BLOCK_SIZE, Blocks, few_blocks};
 use sector_device::Failed;
 
 /// Begins a journal: an empty batch in each area, synced. Then the file stands for its kept blocks as they are.
@@ -21,7 +21,7 @@ pub fn clear<B: Blocks>(below: &mut B, shape: Shape) -> Result<(), Failed>
     ensures kept { kept_of shape (B.past_of below.new).file.content
         ≡ kept_of shape (B.past_of below.old).file.content }
     ensures size { length (B.past_of below.new).file.content ≡ length (B.past_of below.old).file.content }
-    ensures within { (image : Image) (start : BlocksPast)
+    ensures within { (image : CrashFile) (start : BlocksPast)
         → RunsWithin (InRun shape.first (2 * shape.area)) image start (B.past_of below.old)
         → RunsWithin (InRun shape.first (2 * shape.area)) image start (B.past_of below.new) }
     ensures counts { CountsFailure (B.failures below.old) (B.failures below.new) result }
@@ -42,12 +42,12 @@ fn clear_area<B: Blocks>(below: &mut B, shape: Shape, a: u64) -> Result<(), Fail
     ensures kept { kept_of shape (B.past_of below.new).file.content
         ≡ kept_of shape (B.past_of below.old).file.content }
     ensures size { length (B.past_of below.new).file.content ≡ length (B.past_of below.old).file.content }
-    ensures within { (image : Image) (start : BlocksPast)
+    ensures within { (image : CrashFile) (start : BlocksPast)
         → RunsWithin (InRun shape.first (2 * shape.area)) image start (B.past_of below.old)
         → RunsWithin (InRun shape.first (2 * shape.area)) image start (B.past_of below.new) }
     ensures counts { CountsFailure (B.failures below.old) (B.failures below.new) result }
 {
-    let _ = below.blocks();
+    few_blocks(below);
     let mut head = [[0; BLOCK_SIZE]];
     seal(&mut head, a, &[], &[]);
     below.write(shape.first + a * shape.area, &head)

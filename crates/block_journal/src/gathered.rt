@@ -1,6 +1,6 @@
 // A buffer of an area: blocks that are gathered for a batch, with their places.
 ghost use Rattle.std.specs.Prelude.{◌≡◌, ◌+◌, ◌≤◌, ◌<◌, ℕ, true, length, slice_index, slice_set, IfOk, IfSome, IfNone};
-ghost use Rattle.block_device.specs.Blocks.{Image, block};
+ghost use Rattle.block_device.specs.Blocks.{CrashFile, block};
 ghost use Rattle.block_batch.specs.Batch.{block_digest, count_in, is_batch, number_in, place_in, replayed};
 ghost use Rattle.block_batch.specs.Head.{count_of, number_of, place_of};
 ghost use Rattle.block_journal.specs.Layout.{found_in};
@@ -138,7 +138,7 @@ impl<A: Allocator + Copy> Gathered<A> {
     pub(crate) fn put(&mut self, place: u64, bytes: &[u8; BLOCK_SIZE]) -> u64
         requires buffer { IsBuffer self.old }
         requires room { self.old.count + 1 < length self.old.area.items }
-        ensures put { (image : Image) → replayed (entries_of self.new) image
+        ensures put { (image : CrashFile) → replayed (entries_of self.new) image
             ≡ slice_set (replayed (entries_of self.old) image) place bytes.now }
         ensures digest { result ≡ block_digest place bytes.now }
         ensures count { self.new.count ≤ self.old.count + 1 }

@@ -2,7 +2,7 @@
 ghost use Rattle.std.specs.Prelude.{◌≡◌, ◌⊎◌, ◌+◌, ◌-◌, ◌^◌, ◌%◌, ◌<◌, ◌≤◌, ℕ, [], false, true, None, OnOk, OnErr};
 ghost use Rattle.std.specs.Prelude.{slice_set, Contains, IfOk, IfErr};
 ghost use Rattle.sector_device.specs.DevicePast.{CountsFailure, Rises};
-ghost use Rattle.block_device.specs.Blocks.{Image, IsCrashImage, IsSynced, block};
+ghost use Rattle.block_device.specs.Blocks.{CrashFile, IsCrashFile, IsSynced, block};
 ghost use Rattle.block_batch.specs.Batch.{Batch, block_digest, replayed};
 ghost use Rattle.block_journal.specs.Layout.{IsHonest, IsInside, found, kept_of, recovered};
 ghost use Rattle.block_journal.specs.Journal.{AreInAreas, IsPending, LeavesBefore, NeedsNoArea, OnlyReads};
@@ -11,9 +11,9 @@ ghost use Rattle.block_journal.specs.Value.{LeavesEither, Offers, content_of, fa
 ghost use Rattle.block_journal.specs.Value.{settled_of};
 
 use crate::gathered::buffers;
-use crate::parts::Parts;
+use crate::parts::JournalParts;
 use crate::{OpenError, Shape};
-use block_device::{BLOCK_SIZE, Blocks};
+use block_device::{BLOCK_SIZE, Blocks, few_blocks};
 use ghost_list::GhostList;
 use sector_device::Failed;
 use std::alloc::Allocator;
@@ -34,13 +34,13 @@ pub struct Unopened<B> {
 /// the file is left alone. It is to be opened again.
 #[derive(Drop)]
 pub struct Journal<B: Blocks, A: Allocator> {
-    parts: Parts<B, A>,
+    parts: JournalParts<B, A>,
 }
 
 impl<B: Blocks, A: Allocator> Model for Journal<B, A> {
     ghost use Rattle.std.specs.Coded.{codes};
     ghost use Rattle.block_journal.specs.Value.{JournalValue};
-    ghost use Rattle.block_journal.specs.Parts.{IsSound, value_of};
+    ghost use Rattle.block_journal.specs.JournalParts.{IsSound, value_of};
 
     ghost Value = { JournalValue B };
 
@@ -79,14 +79,14 @@ impl<B: Blocks, A: Allocator + Copy> Journal<B, A> {
             → Rises (B.failures below) (B.failures e.file)) }
         ensures no_memory { IfErr result (λ e. e.error ≡ OpenError.NoMemory → e.file ≡ below) }
     {
-        let _ = below.blocks();
+        few_blocks(&below);
         let Ok((last, next)) = buffers(alloc, shape) else {
             return Err(Unopened {
                 file: below,
                 error: OpenError::NoMemory,
             });
         };
-        let mut parts = Parts {
+        let mut parts = JournalParts {
             below,
             shape,
             number: 0,
@@ -138,7 +138,7 @@ impl<B: Blocks, A: Allocator + Copy> Journal<B, A> {
     pub fn put(&mut self, place: u64, bytes: &[u8; BLOCK_SIZE]) -> u64
         requires inside { place < self.old.shape.kept }
         requires room { 0 < room_of self.old }
-        ensures put { (image : Image) → replayed self.new.next image
+        ensures put { (image : CrashFile) → replayed self.new.next image
             ≡ slice_set (replayed self.old.next image) place bytes.now }
         ensures rest { self.new ≡ record self.old { next = self.new.next } }
         ensures room { room_of self.old ≤ room_of self.new + 1 }
@@ -163,6 +163,7 @@ impl<B: Blocks, A: Allocator + Copy> Journal<B, A> {
         ensures areas { self.old.next ≡ [] → OnOk result (NeedsNoArea self.old.shape
             (B.past_of self.new.below).file.content (settled_of B.past_of self.old)) }
         ensures last { OnOk result (self.new.last ≡ next_batch self.old) }
+        ensures quiet { OnOk result (B.failures self.new.below ≡ B.failures self.old.below) }
         ensures err { OnErr result (settled_of B.past_of self.new ≡ settled_of B.past_of self.old) }
         ensures last_stays { OnErr result (self.new.last ≡ self.old.last) }
         ensures kept { OnErr result (self.new.next ≡ self.old.next) }
@@ -199,6 +200,7 @@ impl<B: Blocks, A: Allocator + Copy> Journal<B, A> {
         ensures settled { settled_of B.past_of self.new ≡ settled_of B.past_of self.old }
         ensures none { self.new.next ≡ [] }
         ensures last { OnOk result (self.new.last ≡ next_batch self.old) }
+        ensures quiet { OnOk result (B.failures self.new.below ≡ B.failures self.old.below) }
         ensures last_stays { OnErr result (self.new.last ≡ self.old.last) }
         ensures synced { OnOk result (IsSynced (B.past_of self.new.below).file) }
         ensures sound { OnOk result ((self.old.has_failed ≡ false) × (self.new.has_failed ≡ false)) }
@@ -217,14 +219,16 @@ impl<B: Blocks, A: Allocator + Copy> Journal<B, A> {
     }
 
     /// A law: a journal lies within its file. One that hasn't failed has no loose block, and what a crash leaves of it
-    /// now stands, under the premise, for the settled blocks. Its last batch was handed to be written, or found
-    /// (`last`), and none of a higher number (`latest`).
+    /// now stands, under the premise, for the settled blocks. The premise holds of the file as it is (`honest`). The
+    /// last batch was handed to be written, or found (`last`), and none of a higher number (`latest`).
     pub fn stands(&self)
         ensures inside { IsInside self.now.shape (B.past_of self.now.below).file.content }
         ensures synced { self.now.has_failed ≡ false → IsSynced (B.past_of self.now.below).file }
-        ensures survives { self.now.has_failed ≡ false → (c : Image) → IsCrashImage (B.past_of self.now.below).file c
+        ensures survives { self.now.has_failed ≡ false → (c : CrashFile) → IsCrashFile (B.past_of self.now.below).file c
             → IsHonest self.now.offered self.now.shape c
             → recovered self.now.shape c ≡ settled_of B.past_of self.now }
+        ensures honest { self.now.has_failed ≡ false → IsHonest self.now.offered self.now.shape
+            (B.past_of self.now.below).file.content }
         ensures last { self.now.has_failed ≡ false → Contains self.now.offered self.now.last }
         ensures latest { self.now.has_failed ≡ false → (x : Batch) → Contains self.now.offered x
             → x.number ≤ self.now.last.number }

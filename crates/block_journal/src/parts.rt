@@ -2,7 +2,7 @@
 ghost use Rattle.std.specs.Prelude.{◌≡◌, ◌≢◌, ◌⊎◌, ◌+◌, ◌-◌, ◌^◌, ◌%◌, ◌≤◌, ◌<◌, ◌++◌, ◌∷◌, [], ℕ, length, true, false};
 ghost use Rattle.std.specs.Prelude.{None, OnOk, OnErr, IfErr};
 ghost use Rattle.sector_device.specs.DevicePast.{CountsFailure, Rises};
-ghost use Rattle.block_device.specs.Blocks.{Image, block};
+ghost use Rattle.block_device.specs.Blocks.{CrashFile, block};
 ghost use Rattle.block_device.specs.BlocksPast.{BlocksPast, RunsWithin};
 ghost use Rattle.block_journal.specs.Layout.{IsHonest, IsInside, found, kept_start, recovered};
 ghost use Rattle.block_journal.specs.Journal.{AreInAreas, InRunOrKept, IsPending, LeavesBefore, MayWrite, OnlyReads};
@@ -22,7 +22,7 @@ use std::mem;
 
 /// A file and what a journal knows of it.
 #[derive(Drop)]
-pub(crate) struct Parts<B, A: Allocator> {
+pub(crate) struct JournalParts<B, A: Allocator> {
     pub(crate) below: B,
     pub(crate) shape: Shape,
     // the number of the last batch, and its blocks, which come to their places with the next one
@@ -37,8 +37,8 @@ pub(crate) struct Parts<B, A: Allocator> {
     pub(crate) refused: u64,
 }
 
-impl<B: Blocks, A: Allocator + Copy> Parts<B, A> {
-    ghost use Rattle.block_journal.specs.Parts.{value_of, IsSound};
+impl<B: Blocks, A: Allocator + Copy> JournalParts<B, A> {
+    ghost use Rattle.block_journal.specs.JournalParts.{value_of, IsSound};
     ghost use Rattle.block_journal.specs.Gathered.{IsBuffer, IsEmptyBuffer};
     ghost use Rattle.block_journal.specs.Opening.{HasTakenBoth};
 
@@ -160,7 +160,7 @@ impl<B: Blocks, A: Allocator + Copy> Parts<B, A> {
         requires next_size { length self.old.next.area.items ≡ self.old.shape.area }
         requires taken { HasTakenBoth self.old.shape (B.past_of self.old.below).file.content number before
             self.old.last self.old.next }
-        ensures within { (image : Image) (start : BlocksPast) → RunsWithin (InRunOrKept self.old.shape 0 0
+        ensures within { (image : CrashFile) (start : BlocksPast) → RunsWithin (InRunOrKept self.old.shape 0 0
             (pending_in self.old.shape (B.past_of self.old.below).file.content)) image start (B.past_of self.old.below)
             → RunsWithin (InRunOrKept self.old.shape 0 0
             (pending_in self.old.shape (B.past_of self.old.below).file.content)) image start

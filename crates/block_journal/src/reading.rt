@@ -2,7 +2,7 @@
 ghost use Rattle.std.specs.Prelude.{◌≡◌, ◌⊎◌, ◌+◌, ◌%◌, ◌^◌, ◌≤◌, ◌<◌, ℕ, List, Option, None, Some, length, map, Vec};
 ghost use Rattle.std.specs.Prelude.{[], IfOk, IfSome, OnOk, MatchOption, true, false};
 ghost use Rattle.sector_device.specs.DevicePast.{CountsFailure};
-ghost use Rattle.block_device.specs.Blocks.{Image, IsSynced, SameOutside};
+ghost use Rattle.block_device.specs.Blocks.{CrashFile, IsSynced, SameOutside};
 ghost use Rattle.block_device.specs.BlocksPast.{BlocksPast, RunsWithin};
 ghost use Rattle.block_batch.specs.Batch.{Entry, IsPlace, batch_in, replayed};
 ghost use Rattle.block_journal.specs.Layout.{IsInside, area_of, found, kept_of, kept_start};
@@ -180,7 +180,7 @@ fn replay_before<B: Blocks, A: Allocator + Copy>(
     requires other { IsBuffer other.now }
     requires last { IsBuffer last.now }
     requires low { IfSome before (λ n. n < number) }
-    ensures within { (all : List Entry) (image : Image) (start : BlocksPast)
+    ensures within { (all : List Entry) (image : CrashFile) (start : BlocksPast)
         → ((place : ℕ) → IsPlace (first_entries number before (entries_of other.now)) place → IsPlace all place)
         → RunsWithin (InRunOrKept shape 0 0 all) image start (B.past_of below.old)
         → RunsWithin (InRunOrKept shape 0 0 all) image start (B.past_of below.new) }
@@ -213,7 +213,7 @@ pub(crate) fn replay<B: Blocks, A: Allocator + Copy>(
     requires other { IsBuffer other.now }
     requires last { IsBuffer last.now }
     requires low { IfSome before (λ n. n < number) }
-    ensures within { (all : List Entry) (image : Image) (start : BlocksPast)
+    ensures within { (all : List Entry) (image : CrashFile) (start : BlocksPast)
         → ((place : ℕ) → IsPlace (first_entries number before (entries_of other.now)) place → IsPlace all place)
         → RunsWithin (InRunOrKept shape 0 0 all) image start (B.past_of below.old)
         → RunsWithin (InRunOrKept shape 0 0 all) image start (B.past_of below.new) }

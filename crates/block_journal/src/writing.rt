@@ -2,7 +2,7 @@
 ghost use Rattle.std.specs.Prelude.{◌≡◌, ◌⊎◌, ◌+◌, ◌*◌, ◌^◌, ◌%◌, ◌≤◌, ◌<◌, ℕ, List, length, slice_set, true, false};
 ghost use Rattle.std.specs.Prelude.{OnOk};
 ghost use Rattle.sector_device.specs.DevicePast.{CountsFailure};
-ghost use Rattle.block_device.specs.Blocks.{Image, IsSynced, SameOutside, block};
+ghost use Rattle.block_device.specs.Blocks.{CrashFile, IsSynced, SameOutside, block};
 ghost use Rattle.block_device.specs.BlocksPast.{BlocksPast, RunsWithin};
 ghost use Rattle.block_batch.specs.Batch.{Entry, IsPlace, replayed};
 ghost use Rattle.block_journal.specs.Layout.{IsInside, area_of, kept_of, kept_start};
@@ -26,7 +26,7 @@ fn write_area<B: Blocks, A: Allocator + Copy>(
     requires small { kept_start shape + shape.kept < 2 ^ 64 }
     requires buffer { IsBuffer next.now }
     requires size { length next.now.area.items ≡ shape.area }
-    ensures within { (entries : List Entry) (image : Image) (start : BlocksPast)
+    ensures within { (entries : List Entry) (image : CrashFile) (start : BlocksPast)
         → RunsWithin (MayWrite shape (number % 2) entries) image start (B.past_of below.old)
         → RunsWithin (MayWrite shape (number % 2) entries) image start (B.past_of below.new) }
     ensures written { OnOk result ((n : ℕ) → n ≤ next.now.count
@@ -64,7 +64,7 @@ fn write_place<B: Blocks, A: Allocator + Copy>(
     requires inside { IsInside shape (B.past_of below.old).file.content }
     requires small { kept_start shape + shape.kept < 2 ^ 64 }
     requires next { IsBuffer next.now }
-    ensures within { (first count : ℕ) (all : List Entry) (image : Image) (start : BlocksPast) → IsPlace all place
+    ensures within { (first count : ℕ) (all : List Entry) (image : CrashFile) (start : BlocksPast) → IsPlace all place
         → RunsWithin (InRunOrKept shape first count all) image start (B.past_of below.old)
         → RunsWithin (InRunOrKept shape first count all) image start (B.past_of below.new) }
     ensures areas { (a : ℕ) → a < 2 → area_of shape (B.past_of below.new).file.content a
@@ -94,7 +94,7 @@ pub(crate) fn write_places<B: Blocks, A: Allocator + Copy>(
     requires small { kept_start shape + shape.kept < 2 ^ 64 }
     requires last { IsBuffer last.now }
     requires next { IsBuffer next.now }
-    ensures within { (first count : ℕ) (all : List Entry) (image : Image) (start : BlocksPast)
+    ensures within { (first count : ℕ) (all : List Entry) (image : CrashFile) (start : BlocksPast)
         → ((place : ℕ) → IsPlace (entries_of last.now) place → IsPlace all place)
         → RunsWithin (InRunOrKept shape first count all) image start (B.past_of below.old)
         → RunsWithin (InRunOrKept shape first count all) image start (B.past_of below.new) }

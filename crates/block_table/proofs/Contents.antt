@@ -1,7 +1,7 @@
 -- What a journal's calls leave of what it keeps.
 use Rattle.std.proofs.Common.{Result, Ok, Err, OnOk, OnErr, ◌≡◌, ℕ, ◌+◌, List, [], length, slice_set, sym, ◌∙◌, ap, subst, arith, length-drop}
 use Rattle.sector_device.specs.DevicePast.{CountsFailure, Rises}
-use Rattle.block_device.specs.Blocks.{Image, BlockFile, IsCrashImage}
+use Rattle.block_device.specs.Blocks.{CrashFile, BlockFile, IsCrashFile}
 use Rattle.block_device.specs.BlocksPast.{BlocksPast}
 use Rattle.block_device.proofs.Moments.{at_end, goes_on}
 use Rattle.block_batch.specs.Batch.{Entry, replayed}
@@ -32,7 +32,7 @@ module _ {B : Type 0} (past_of : B → BlocksPast) where
 
   -- a block is put
   pub content_put : (v n : JournalValue B) (place : ℕ) (bytes : List ℕ) → n ≡ record v { next = n.next }
-      → ((image : Image) → replayed n.next image ≡ slice_set (replayed v.next image) place bytes)
+      → ((image : CrashFile) → replayed n.next image ≡ slice_set (replayed v.next image) place bytes)
       → content_of past_of n ≡ slice_set (content_of past_of v) place bytes
   content_put v n place bytes is puts =
       let same : settled_of past_of n ≡ settled_of past_of v = ap (λ (w : JournalValue B). settled_of past_of w) is in
@@ -62,13 +62,13 @@ module _ {B : Type 0} (past_of : B → BlocksPast) where
     kept = ap (λ (g : Shape). g.kept) shape ∙ step.kept;
     small = step.small;
     count = step.count;
-    numbers = subst (λ (image : Image). AreNumbers image rows (table_count blocks)) (sym same) step.numbers;
+    numbers = subst (λ (image : CrashFile). AreNumbers image rows (table_count blocks)) (sym same) step.numbers;
   }
 
 -- what a crash leaves stays, behind a read
 pub stays_read : (g : Shape) (old mid new : BlocksPast) → StaysRecovered g old mid → OnlyReads mid new → StaysRecovered g old new
 stays_read g old mid new stays reads = goes_on old mid new (λ c. recovered g c ≡ recovered g old.file.content) stays reads.time
-    (λ c crash. at_end old mid (λ c. recovered g c ≡ recovered g old.file.content) stays c (subst (λ (f : BlockFile). IsCrashImage f c) reads.file crash))
+    (λ c crash. at_end old mid (λ c. recovered g c ≡ recovered g old.file.content) stays c (subst (λ (f : BlockFile). IsCrashFile f c) reads.file crash))
 
 -- two puts, one behind the other
 pub two_puts : {B : Type 0} (v m n : JournalValue B) → m ≡ record v { next = m.next } → n ≡ record m { next = n.next } → n ≡ record v { next = n.next }

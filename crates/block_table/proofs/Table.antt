@@ -4,7 +4,7 @@ use Rattle.std.proofs.Common.{◌∙◌, ap, arith, length-set}
 use Rattle.std.proofs.lemmas.Bool.{cases_eq}
 use Rattle.std.proofs.lemmas.List.{drop-set-add, drop-set-lt, get_or-set_other, get_or_append_left, get_or_push}
 use Rattle.std.proofs.lemmas.Grind.{get_or-set_at}
-use Rattle.block_device.specs.Blocks.{Image, block}
+use Rattle.block_device.specs.Blocks.{CrashFile, block}
 use Rattle.block_words.specs.Words.{word}
 use Rattle.block_batch.specs.Batch.{block_digest}
 use Rattle.block_table.specs.Table.{IsFit, data_of, digest_of, kept_count, place_of, table_count}
@@ -15,14 +15,14 @@ pub in_table : (blocks n : ℕ) → n < blocks → n / 512 < table_count blocks
 in_table blocks n low = omega (arith, low)
 
 -- the blocks that are kept after it
-abbrev pub after_put : ℕ → Image → ℕ → List ℕ → List ℕ → Image
+abbrev pub after_put : ℕ → CrashFile → ℕ → List ℕ → List ℕ → CrashFile
 after_put blocks kept n bytes row = slice_set (slice_set kept (place_of blocks n) bytes) (n / 512) row
 
-module _ (blocks : ℕ) (kept : Image) (n : ℕ) (bytes row : List ℕ) (digest : ℕ) (rows : List (List ℕ)) (low : n < blocks)
+module _ (blocks : ℕ) (kept : CrashFile) (n : ℕ) (bytes row : List ℕ) (digest : ℕ) (rows : List (List ℕ)) (low : n < blocks)
     (size : length kept ≡ kept_count blocks) (numbers : AreNumbers kept rows (table_count blocks)) (put : word row (n % 512) ≡ digest)
     (others : (i : ℕ) → i < 512 → i ≢ n % 512 → word row i ≡ slice_index (slice_index_or rows (n / 512) []) i)
     (is : digest ≡ block_digest (place_of blocks n) bytes) where
-  abbrev after : Image
+  abbrev after : CrashFile
   after = after_put blocks kept n bytes row
 
   row_block : block after (n / 512) ≡ row
@@ -90,7 +90,7 @@ module _ (blocks : ℕ) (kept : Image) (n : ℕ) (bytes row : List ℕ) (digest 
   ]
 
 -- one row more
-pub numbers_push : (kept : Image) (rows : List (List ℕ)) (t : ℕ) (row : List ℕ) → length rows ≡ t → AreNumbers kept rows t
+pub numbers_push : (kept : CrashFile) (rows : List (List ℕ)) (t : ℕ) (row : List ℕ) → length rows ≡ t → AreNumbers kept rows t
     → ((i : ℕ) → i < 512 → slice_index row i ≡ word (block kept t) i) → AreNumbers kept (rows ++ row ∷ []) (t + 1)
 numbers_push kept rows t row size so_far here s i below low = elim (cases_eq s t) [
   | inl same ↦

@@ -1,7 +1,7 @@
 -- What checked blocks show.
 use Rattle.std.specs.Prelude.{◌≡◌, ◌≢◌, ℕ, ◌≤◌, Result, Err}
 use Rattle.sector_device.specs.DevicePast.{Rises}
-use Rattle.block_device.specs.Blocks.{Image}
+use Rattle.block_device.specs.Blocks.{CrashFile}
 use Rattle.block_device.specs.BlocksPast.{BlocksPast}
 use Rattle.block_journal.specs.Value.{JournalValue, content_of, settled_of}
 use Rattle.block_table.specs.declared.checked.ReadError.{ReadError}
@@ -15,17 +15,17 @@ pub record CheckedValue (B : Type 0) : Type 0 where
 
 module _ {B : Type 0} (past_of : B → BlocksPast) where
   -- the table and the data: as they were committed last, and with what was put since
-  abbrev pub settled_table : CheckedValue B → Image
+  abbrev pub settled_table : CheckedValue B → CrashFile
   settled_table c = settled_of past_of c.journal
 
-  abbrev pub kept_table : CheckedValue B → Image
+  abbrev pub kept_table : CheckedValue B → CrashFile
   kept_table c = content_of past_of c.journal
 
   -- the blocks of data, likewise
-  abbrev pub settled_data : CheckedValue B → Image
+  abbrev pub settled_data : CheckedValue B → CrashFile
   settled_data c = data_of c.blocks (settled_table c)
 
-  abbrev pub data_now : CheckedValue B → Image
+  abbrev pub data_now : CheckedValue B → CrashFile
   data_now c = data_of c.blocks (kept_table c)
 
 -- What is read leaves the count of failures, also where it is damaged, and raises it where the file failed.

@@ -1,13 +1,13 @@
 -- The numbers of the table, as they are kept in memory. (No public clause cites this.)
 use Rattle.std.specs.Prelude.{◌≡◌, ℕ, ◌^◌, ◌<◌, List, [], length, slice_index, slice_index_or}
-use Rattle.block_device.specs.Blocks.{Image, block}
+use Rattle.block_device.specs.Blocks.{CrashFile, block}
 use Rattle.block_device.specs.BlocksPast.{BlocksPast}
 use Rattle.block_words.specs.Words.{word}
 use Rattle.block_journal.specs.Value.{JournalValue, content_of}
 use Rattle.block_table.specs.Table.{kept_count, table_count}
 
 -- each of so many rows has the numbers that its block spells
-abbrev pub AreNumbers : Image → List (List ℕ) → ℕ → Type 0
+abbrev pub AreNumbers : CrashFile → List (List ℕ) → ℕ → Type 0
 AreNumbers kept rows count = (t i : ℕ) → t < count → i < 512
     → slice_index (slice_index_or rows t []) i ≡ word (block kept t) i
 

@@ -1,17 +1,18 @@
 //! Blocks of data, each with a digest.
 ghost use Rattle.std.specs.Prelude.{◌≡◌, ◌≢◌, ◌⊎◌, ◌↔◌, ◌/◌, ◌+◌, ◌-◌, ◌^◌, ◌≤◌, ◌<◌, ℕ, [], true, false, None, Err};
-ghost use Rattle.std.specs.Prelude.{slice_set, IfErr, IfNone, IfOk, IfSome, OnErr, OnOk};
+ghost use Rattle.std.specs.Prelude.{slice_set, Contains, IfErr, IfNone, IfOk, IfSome, OnErr, OnOk};
 ghost use Rattle.sector_device.specs.DevicePast.{CountsFailure, Rises};
-ghost use Rattle.block_device.specs.Blocks.{Image, IsCrashImage, IsSynced, block};
+ghost use Rattle.block_device.specs.Blocks.{CrashFile, IsCrashFile, IsSynced, block};
 ghost use Rattle.block_journal.specs.Layout.{IsHonest, IsInside, found, kept_of, recovered};
 ghost use Rattle.block_journal.specs.Journal.{AreInAreas, IsPending, LeavesBefore, NeedsNoArea, OnlyReads};
 ghost use Rattle.block_journal.specs.Journal.{StaysRecovered};
-ghost use Rattle.block_journal.specs.Value.{LeavesEither, Offers, failures_of, room_of};
+ghost use Rattle.block_batch.specs.Batch.{Batch};
+ghost use Rattle.block_journal.specs.Value.{LeavesEither, Offers, failures_of, next_batch, room_of};
 ghost use Rattle.block_table.specs.Table.{IsFirstUnfit, IsFit, kept_count};
 
 use crate::rows::{digest_at, read_rows, set_digest};
 use block_batch::block_digest;
-use block_device::{BLOCK_SIZE, Blocks};
+use block_device::{BLOCK_SIZE, Blocks, few_blocks};
 use block_journal::{Journal, OpenError, Shape, Unopened};
 use block_words::WORDS;
 use sector_device::Failed;
@@ -83,7 +84,7 @@ impl<B: Blocks, A: Allocator + Copy> CheckedBlocks<B, A> {
         ensures failed { IfErr result (λ e. e.error ≡ OpenError.FileFailed
             → Rises (B.failures below) (B.failures e.file)) }
     {
-        let _ = below.blocks();
+        few_blocks(&below);
         let mut journal = Journal::open(alloc, below, shape)?;
         match read_rows(alloc, &mut journal, shape.kept - blocks) {
             Ok(rows) => Ok(CheckedBlocks {
@@ -122,6 +123,9 @@ impl<B: Blocks, A: Allocator + Copy> CheckedBlocks<B, A> {
         } }
         ensures good { self.old.journal.has_failed ≡ false → self.new ≡ record self.old {
           journal = record self.old.journal { below = self.new.journal.below };
+        } }
+        ensures refused { self.old.journal.has_failed ≡ true → self.new.journal ≡ record self.old.journal {
+          refused = self.new.journal.refused;
         } }
         ensures reads { OnlyReads (B.past_of self.old.journal.below) (B.past_of self.new.journal.below) }
         ensures counts { CountsRead (failures_of B.failures self.old.journal)
@@ -196,7 +200,10 @@ impl<B: Blocks, A: Allocator + Copy> CheckedBlocks<B, A> {
         ensures none { OnOk result (self.new.journal.next ≡ []) }
         ensures sound { OnOk result ((self.old.journal.has_failed ≡ false) × (self.new.journal.has_failed ≡ false)) }
         ensures synced { OnOk result (IsSynced (B.past_of self.new.journal.below).file) }
+        ensures last { OnOk result (self.new.journal.last ≡ next_batch self.old.journal) }
+        ensures quiet { OnOk result (B.failures self.new.journal.below ≡ B.failures self.old.journal.below) }
         ensures err { OnErr result (settled_table B.past_of self.new ≡ settled_table B.past_of self.old) }
+        ensures last_stays { OnErr result (self.new.journal.last ≡ self.old.journal.last) }
         ensures kept { OnErr result (self.new.journal.next ≡ self.old.journal.next) }
         ensures failed { OnErr result (self.new.journal.has_failed ≡ true) }
         ensures any_moment { self.old.journal.has_failed ≡ false
@@ -227,6 +234,9 @@ impl<B: Blocks, A: Allocator + Copy> CheckedBlocks<B, A> {
             (B.past_of self.new.journal.below).file.content (settled_table B.past_of self.old)) }
         ensures settled { settled_table B.past_of self.new ≡ settled_table B.past_of self.old }
         ensures none { self.new.journal.next ≡ [] }
+        ensures last { OnOk result (self.new.journal.last ≡ next_batch self.old.journal) }
+        ensures quiet { OnOk result (B.failures self.new.journal.below ≡ B.failures self.old.journal.below) }
+        ensures last_stays { OnErr result (self.new.journal.last ≡ self.old.journal.last) }
         ensures sound { OnOk result ((self.old.journal.has_failed ≡ false) × (self.new.journal.has_failed ≡ false)) }
         ensures synced { OnOk result (IsSynced (B.past_of self.new.journal.below).file) }
         ensures failed { OnErr result (self.new.journal.has_failed ≡ true) }
@@ -249,15 +259,22 @@ impl<B: Blocks, A: Allocator + Copy> CheckedBlocks<B, A> {
     }
 
     /// A law: the journal lies within its file, and keeps the table and the blocks of data. Unless it has failed, no
-    /// block is loose, and what a crash leaves of the file now stands, under the premise, for what was committed.
+    /// block is loose, and what a crash leaves of the file now stands, under the premise, for what was committed. The
+    /// premise holds of the file as it is (`honest`). The journal's last batch was handed to be written, or found
+    /// (`last`), and none of a higher number (`latest`).
     pub fn stands(&self)
         ensures inside { IsInside self.now.journal.shape (B.past_of self.now.journal.below).file.content }
         ensures kept { self.now.journal.shape.kept ≡ kept_count self.now.blocks }
         ensures synced { self.now.journal.has_failed ≡ false → IsSynced (B.past_of self.now.journal.below).file }
-        ensures survives { self.now.journal.has_failed ≡ false → (c : Image)
-            → IsCrashImage (B.past_of self.now.journal.below).file c
+        ensures survives { self.now.journal.has_failed ≡ false → (c : CrashFile)
+            → IsCrashFile (B.past_of self.now.journal.below).file c
             → IsHonest self.now.journal.offered self.now.journal.shape c
             → recovered self.now.journal.shape c ≡ settled_table B.past_of self.now }
+        ensures honest { self.now.journal.has_failed ≡ false → IsHonest self.now.journal.offered self.now.journal.shape
+            (B.past_of self.now.journal.below).file.content }
+        ensures last { self.now.journal.has_failed ≡ false → Contains self.now.journal.offered self.now.journal.last }
+        ensures latest { self.now.journal.has_failed ≡ false → (x : Batch) → Contains self.now.journal.offered x
+            → x.number ≤ self.now.journal.last.number }
     {
         self.journal.stands();
     }

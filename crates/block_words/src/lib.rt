@@ -14,9 +14,6 @@ ghost use Rattle.block_words.specs.Words.{word};
 use block_device::BLOCK_SIZE;
 use byteorder::{BigEndian, ByteOrder};
 
-#[cfg(test)]
-mod tests;
-
 /// The numbers of a block.
 pub const WORDS: usize = 512;
 

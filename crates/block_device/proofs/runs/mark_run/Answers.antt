@@ -1,5 +1,5 @@
 use Rattle.std.proofs.Common.{◌+◌, ◌<◌, true, false, length, slice_index_or, refl, ◌∙◌, arith, length-set}
-use Rattle.block_device.proofs.Images.{mark_none, mark_more}
+use Rattle.block_device.proofs.CrashFiles.{mark_none, mark_more}
 use Rattle.block_device.proofs.runs.mark_run.Goals as goal
 
 pub loop-i-init : goal.loop-i-init

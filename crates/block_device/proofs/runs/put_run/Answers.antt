@@ -1,6 +1,6 @@
 use Rattle.std.proofs.Common.{◌+◌, ◌<◌, ℕ, List, length, drop, slice_set, refl, ap, subst, ◌∙◌, arith, below_more, length-set}
 use Rattle.block_device.specs.Blocks.{IsBlock, with_run}
-use Rattle.block_device.proofs.Images.{set_whole, run_more, run_all}
+use Rattle.block_device.proofs.CrashFiles.{set_whole, run_more, run_all}
 use Rattle.block_device.proofs.runs.put_run.Goals as goal
 
 pub loop-i-init : goal.loop-i-init

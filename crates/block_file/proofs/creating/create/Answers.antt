@@ -1,8 +1,8 @@
 use Rattle.std.proofs.Common.{◌≡◌, ◌⊎◌, inl, inr, ℕ, ◌<◌, [], Some, None, sym, ◌∙◌, ap, subst, arith}
 use Rattle.sector_device.specs.DevicePast.{Rises}
-use Rattle.block_device.specs.Blocks.{Image, block}
+use Rattle.block_device.specs.Blocks.{CrashFile, block}
 use Rattle.block_device.specs.BlocksPast.{BlocksPast}
-use Rattle.block_device.proofs.Images.{content_is_image, crash_synced}
+use Rattle.block_device.proofs.CrashFiles.{content_is_image, crash_synced}
 use Rattle.block_device.proofs.Moments.{at_end, joined, started}
 use Rattle.block_journal.specs.Layout.{found, recovered}
 use Rattle.block_journal.specs.Journal.{StaysRecovered}
@@ -96,11 +96,11 @@ returns-in-Ok g c =
     record {
       plan = over.plan;
       still = ap plan_told over.first ∙ still_told end.file.content mid.file.content plan (from_ok _ _ good c.lay_out.ensures.told) stays;
-      headers = subst (λ (l : Image). TellTwice plan l) (sym over.first)
+      headers = subst (λ (l : CrashFile). TellTwice plan l) (sym over.first)
           (twice_still end.file.content mid.file.content plan (from_ok _ _ good c.lay_out.ensures.headers) stays);
       content = over.content ∙ (λ i. sectors_of plan.lead plan.sectors (data_of (opened.blocks i) (table i))) ∙ held.zeros;
       synced = over.synced;
-      fits = subst (λ (l : Image). EachFits plan.blocks l)
+      fits = subst (λ (l : CrashFile). EachFits plan.blocks l)
           (sym (ap (λ (v : JournalValue g.row.B.Denot). settled_of h v) over.journal ∙ table)) held.fits;
       failures = omega (arith, over.failures, opened.quiet, opened.unrefused, from_ok _ _ good c.lay_out.ensures.counts.none);
       any_moment = subst (λ (v : JournalValue g.row.B.Denot). BecomesZeros plan old (h v.below)) (sym over.journal)

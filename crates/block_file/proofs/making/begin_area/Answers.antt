@@ -1,5 +1,5 @@
 use Rattle.std.proofs.Common.{◌≡◌, ◌≢◌, ◌≤◌, ◌<◌, ℕ, List, [], ◌∷◌, Some, length, slice_set, sym, ◌∙◌, ap, arith}
-use Rattle.block_device.specs.Blocks.{Image, block}
+use Rattle.block_device.specs.Blocks.{CrashFile, block}
 use Rattle.block_batch.specs.Batch.{Batch}
 use Rattle.block_journal.specs.Layout.{area_of, area_start, found, kept_of}
 use Rattle.block_journal.proofs.Crash.{area_before_kept}
@@ -20,10 +20,10 @@ returns g c =
     let shape = c.args.shape in
     let a = c.args.a in
     let low = c.requires.low in
-    let sealed : Image = c.seal.new.area in
+    let sealed : CrashFile = c.seal.new.area in
     let head : List ℕ = block sealed 0 in
-    let old : Image = (h c.args.below.now).file.content in
-    let new : Image = (h c.write_one.new.below).file.content in
+    let old : CrashFile = (h c.args.below.now).file.content in
+    let new : CrashFile = (h c.write_one.new.below).file.content in
     let all = c.write_one.ensures in
     let at = area_start shape a in
     let one : length (head ∷ []) ≤ shape.area = omega (arith, c.requires.inside.some) in
@@ -36,13 +36,13 @@ returns g c =
           c.seal.ensures.batch (no_blocks sealed a c.seal.ensures.number c.seal.ensures.count) c.seal.ensures.count
           (λ n none. let zero : n ≡ 0 = omega (arith, none) in
           ap (block (area_of shape new a)) zero
-          ∙ ap (λ (l : Image). block (area_of shape l a) 0) ok
+          ∙ ap (λ (l : CrashFile). block (area_of shape l a) 0) ok
           ∙ area_has shape old c.requires.inside a (head ∷ []) low one 0 (omega arith)
           ∙ ap (block sealed) (sym zero))
           (omega (arith, low)))
           all.ok;
       other = on_ok (new ≡ slice_set old at head) ((b : ℕ) → b < 2 → b ≢ a → area_of shape new b ≡ area_of shape old b) c.write_one.result
-          (λ ok b below apart. ap (λ (l : Image). area_of shape l b) ok
+          (λ ok b below apart. ap (λ (l : CrashFile). area_of shape l b) ok
           ∙ area_other shape old c.requires.inside a (head ∷ []) low one b below apart)
           all.ok;
       kept = on_ok (new ≡ slice_set old at head) (kept_of shape new ≡ kept_of shape old) c.write_one.result

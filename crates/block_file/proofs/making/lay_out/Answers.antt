@@ -1,7 +1,7 @@
 use Rattle.std.proofs.Common.{◌≡◌, ◌⊎◌, inl, inr, Err, Some, sym, ◌∙◌, ap, arith}
 use Rattle.std.proofs.lemmas.Result.{err_from_is_err_and}
 use Rattle.sector_device.proofs.Counts.{counts_later}
-use Rattle.block_device.specs.Blocks.{Image, InRun, SameOutside, block}
+use Rattle.block_device.specs.Blocks.{CrashFile, InRun, SameOutside, block}
 use Rattle.block_device.specs.BlocksPast.{BlocksPast, RunsWithin}
 use Rattle.block_device.proofs.Moments.{joined}
 use Rattle.block_device.proofs.Within.{within_start}
@@ -59,7 +59,7 @@ returns g c =
     let inside : IsInside plan.shape mid.file.content =
     inside_same plan.shape old.file.content mid.file.content c.requires.room c.write_behind.ensures.size in
     let agrees : SameOutside (InRun 0 2) mid.file.content new.file.content = head.within.now.content in
-    let held : (image : Image) → SameOutside (InRun 0 2) mid.file.content image → HoldsZeros plan image =
+    let held : (image : CrashFile) → SameOutside (InRun 0 2) mid.file.content image → HoldsZeros plan image =
     λ image same. same_zeros plan mid.file.content image (recovers_same plan.shape mid.file.content image two inside same) behind.zeros in
     record {
       told = on_ok (block new.file.content 0 ≡ c.spell_header.result) (plan_told new.file.content ≡ Some plan) c.write_headers.result

@@ -1,7 +1,7 @@
 use Rattle.std.proofs.Common.{◌≡◌, ℕ, ◌+◌, ◌-◌, ◌<◌, Err, [], List, Some, length, refl, sym, ◌∙◌, ap, subst, arith}
 use Rattle.std.proofs.lemmas.Result.{err_from_is_err_and}
 use Rattle.sector_device.proofs.Counts.{counts_later}
-use Rattle.block_device.specs.Blocks.{Image, BlockFile, IsSynced, after_sync, block}
+use Rattle.block_device.specs.Blocks.{CrashFile, BlockFile, IsSynced, after_sync, block}
 use Rattle.block_device.specs.BlocksPast.{BlocksPast}
 use Rattle.block_device.proofs.Within.{holds_after_sync, within_sync}
 use Rattle.block_journal.specs.Layout.{IsInside, found, kept_of, kept_start}
@@ -83,8 +83,8 @@ returns g c =
     let plan = c.args.plan in
     let shape = plan.shape in
     let old : BlockFile = (h c.args.below.now).file in
-    let one : Image = (h c.write_kept.new.below).file.content in
-    let two : Image = (h c.begin_area.new.below).file.content in
+    let one : CrashFile = (h c.write_kept.new.below).file.content in
+    let two : CrashFile = (h c.begin_area.new.below).file.content in
     let mid : BlocksPast = h c.begin_area-2.new.below in
     let new : BlocksPast = h c.sync.new.self in
     let done = c.sync.ensures in
@@ -98,7 +98,7 @@ returns g c =
     let table : shape.kept - plan.blocks ≡ table_count plan.blocks = omega (arith, (told_small plan c.requires.told).kept) in
     let each : (k : ℕ) → k < shape.kept → IsNewBlock (table_count plan.blocks) k (block mid.file.content (kept_start shape + k)) =
     λ k below. subst (λ (b : List ℕ). IsNewBlock (table_count plan.blocks) k b)
-    (sym (sym (block_of_run mid.file.content (kept_start shape) shape.kept k below) ∙ ap (λ (l : Image). block l k) kept
+    (sym (sym (block_of_run mid.file.content (kept_start shape) shape.kept k below) ∙ ap (λ (l : CrashFile). block l k) kept
     ∙ block_of_run one (kept_start shape) shape.kept k below))
     (subst (λ (t : ℕ). IsNewBlock t k (block one (kept_start shape + k))) table (c.in_ok-write_kept.ensures.kept k below)) in
     let zeros : HoldsZeros plan mid.file.content =

@@ -1,9 +1,9 @@
 use Rattle.std.proofs.Common.{◌≡◌, ℕ, Err, List, [], ◌∷◌, refl, sym, ◌∙◌, ap, subst, arith}
 use Rattle.std.proofs.lemmas.Result.{err_from_is_err_and}
 use Rattle.sector_device.proofs.Counts.{counts_later}
-use Rattle.block_device.specs.Blocks.{Image, BlockFile, InRun, IsSynced, after_sync, block}
+use Rattle.block_device.specs.Blocks.{CrashFile, BlockFile, InRun, IsSynced, after_sync, block}
 use Rattle.block_device.specs.BlocksPast.{BlocksPast}
-use Rattle.block_device.proofs.Images.{with_run_inside}
+use Rattle.block_device.proofs.CrashFiles.{with_run_inside}
 use Rattle.block_device.proofs.Within.{within_start, within_sync, within_write}
 use Rattle.block_journal.proofs.Placing.{synced_all}
 use Rattle.block_journal.proofs.Results.{on_ok}
@@ -14,7 +14,7 @@ returns-in_err-write g c =
     let p = err_from_is_err_and c.from_residual.result c.from_residual.ensures.1 in
     let h = g.B.Blocks.past_of in
     let header : List ℕ = c.args.header.now in
-    let run : Image = header ∷ header ∷ [] in
+    let run : CrashFile = header ∷ header ∷ [] in
     let old : BlocksPast = h c.args.below.now in
     let mid : BlocksPast = h c.write.new.self in
     let wrote = c.write.ensures in
@@ -32,7 +32,7 @@ pub returns : goal.returns
 returns g c =
     let h = g.B.Blocks.past_of in
     let header : List ℕ = c.args.header.now in
-    let run : Image = header ∷ header ∷ [] in
+    let run : CrashFile = header ∷ header ∷ [] in
     let old : BlocksPast = h c.args.below.now in
     let mid : BlocksPast = h c.write.new.self in
     let new : BlocksPast = h c.sync.new.self in

@@ -1,5 +1,5 @@
 use Rattle.std.proofs.Common.{◌≡◌, ℕ, ◌+◌, ◌<◌, length}
-use Rattle.block_device.specs.Blocks.{Image, block}
+use Rattle.block_device.specs.Blocks.{CrashFile, block}
 use Rattle.block_device.specs.BlocksPast.{BlocksPast, RunsWithin}
 use Rattle.block_file.specs.Making.{IsBehind, IsNewBlock}
 use Rattle.block_file.proofs.making.write_kept.Given as goal
@@ -10,6 +10,6 @@ invariant-loop-k g l =
     record {
       kept : (j : ℕ) → j < l.k → IsNewBlock l.table j (block (h l.below).file.content (l.first + j));
       size : length (h l.below).file.content ≡ length (h l.initial.below).file.content;
-      within : (image : Image) (start : BlocksPast) → RunsWithin IsBehind image start (h l.initial.below) → RunsWithin IsBehind image start (h l.below);
+      within : (image : CrashFile) (start : BlocksPast) → RunsWithin IsBehind image start (h l.initial.below) → RunsWithin IsBehind image start (h l.below);
       quiet : g.B.Blocks.failures l.below ≡ g.B.Blocks.failures l.initial.below;
     }

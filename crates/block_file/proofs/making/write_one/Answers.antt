@@ -1,7 +1,7 @@
 use Rattle.std.proofs.Common.{◌≡◌, [], ◌∷◌, length, slice_set, ap, arith}
-use Rattle.block_device.specs.Blocks.{Image, BlockFile, after_write}
+use Rattle.block_device.specs.Blocks.{CrashFile, BlockFile, after_write}
 use Rattle.block_device.specs.BlocksPast.{BlocksPast}
-use Rattle.block_device.proofs.Images.{length-with_run}
+use Rattle.block_device.proofs.CrashFiles.{length-with_run}
 use Rattle.block_device.proofs.Within.{holds_after_write, within_write}
 use Rattle.block_journal.proofs.Results.{on_ok}
 use Rattle.block_file.specs.Making.{IsBehind}
@@ -12,7 +12,7 @@ returns g c =
     let h = g.B.Blocks.past_of in
     let n = c.args.n in
     let bytes = c.args.bytes.now in
-    let run : Image = bytes ∷ [] in
+    let run : CrashFile = bytes ∷ [] in
     let old : BlocksPast = h c.args.below.now in
     let new : BlocksPast = h c.write.new.self in
     let done = c.write.ensures in

@@ -1,7 +1,7 @@
 use Rattle.std.proofs.Common.{◌≡◌, ⊎_elim, ℕ, List, sym, ◌∙◌, ap, subst, arith}
 use Rattle.std.proofs.lemmas.Bool.{false≢true}
 use Rattle.sector_device.specs.DevicePast.{Rises}
-use Rattle.block_device.specs.Blocks.{BlockFile, Image}
+use Rattle.block_device.specs.Blocks.{BlockFile, CrashFile}
 use Rattle.block_batch.specs.Batch.{Entry, replayed}
 use Rattle.block_journal.specs.Journal.{OnlyReads}
 use Rattle.block_journal.specs.Value.{JournalValue}
@@ -40,7 +40,7 @@ returns-in-Ok-None g c =
       content = c.over.ensures.content ∙ (λ i. sectors_of plan.lead plan.sectors (data_of (blocks i) (settled i)));
       synced = c.over.ensures.synced;
       first = c.over.ensures.first ∙ ap (λ (f : BlockFile). f.content) done.reads.file;
-      fits = λ n below. subst (λ (l : Image). IsFit plan.blocks l n) table
+      fits = λ n below. subst (λ (l : CrashFile). IsFit plan.blocks l n) table
           (subst (λ (b : ℕ). IsFit b (kept_table h old) n) c.requires.blocks (sound n (omega arith) (omega (arith, below, c.requires.blocks))));
       failures = c.over.ensures.failures ∙ c.in-Ok-None.ensures.counts.none;
       offered = ap (λ (v : JournalValue g.row.B.Denot). v.offered) c.over.ensures.journal
@@ -75,7 +75,7 @@ returns-in-Ok-Some g c =
       damaged = λ n is.
           let same : c.in-Ok-Some.n ≡ n = cc in
           subst (IsFirstUnfit plan.blocks (settled_table h old) 0) same
-          (subst (λ (l : Image). IsFirstUnfit plan.blocks l 0 c.in-Ok-Some.n) table
+          (subst (λ (l : CrashFile). IsFirstUnfit plan.blocks l 0 c.in-Ok-Some.n) table
           (subst (λ (b : ℕ). IsFirstUnfit b (kept_table h old) 0 c.in-Ok-Some.n) c.requires.blocks unfit));
       header = λ is. absurd (cc);
       short = λ is. absurd (cc);

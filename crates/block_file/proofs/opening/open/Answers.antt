@@ -1,8 +1,8 @@
 use Rattle.std.proofs.Common.{◌≡◌, inl, inr, ℕ, ◌<◌, List, None, Some, sym, ◌∙◌, ap, subst, arith}
 use Rattle.std.proofs.lemmas.Result.{IfErr-weaker}
 use Rattle.sector_device.specs.DevicePast.{Rises}
-use Rattle.block_device.specs.Blocks.{Image, BlockFile, block}
-use Rattle.block_device.proofs.Images.{content_is_image}
+use Rattle.block_device.specs.Blocks.{CrashFile, BlockFile, block}
+use Rattle.block_device.proofs.CrashFiles.{content_is_image}
 use Rattle.block_device.proofs.Moments.{at_end}
 use Rattle.block_device.specs.BlocksPast.{BlocksPast}
 use Rattle.block_batch.specs.Batch.{Batch}
@@ -50,7 +50,7 @@ returns-in-Ok-open-clause-fits g c =
     c.in-Ok-open.ensures.settled ∙ ap (λ (f : BlockFile). recovered plan.shape f.content) c.in-Ok.ensures.reads.file in
     if_ok c.compared.result _ _ _
     (λ d is fits. subst (λ (p : Plan). EachFits p.blocks (recovered p.shape old.content)) (sym is)
-    (subst (λ (l : Image). EachFits plan.blocks l) table fits))
+    (subst (λ (l : CrashFile). EachFits plan.blocks l) table fits))
     c.compared.ensures.plan c.compared.ensures.fits
 
 pub returns-in-Ok-open-clause-any_moment : goal.returns-in-Ok-open-clause-any_moment
@@ -94,7 +94,7 @@ returns-in-Ok-open-clause-damaged g c =
     IfErr-weaker c.compared.result _ _
     (λ e damaged n is p told. subst (λ (q : Plan). IsFirstUnfit q.blocks (recovered q.shape old.content) 0 n)
     (same_plan _ plan p c.in-Ok.ensures.told told)
-    (subst (λ (l : Image). IsFirstUnfit plan.blocks l 0 n) table (damaged n is)))
+    (subst (λ (l : CrashFile). IsFirstUnfit plan.blocks l 0 n) table (damaged n is)))
     c.compared.ensures.damaged
 
 pub returns-in-Err-open-clause-refused : goal.returns-in-Err-open-clause-refused
@@ -270,7 +270,7 @@ pub returns-in-Ok-open-clause-honest : goal.returns-in-Ok-open-clause-honest
 returns-in-Ok-open-clause-honest g c =
     let plan : Plan = c.in-Ok.plan in
     let checked : CheckedValue g.row.B.Denot = c.in-Ok-open.checked in
-    let old : Image = (g.B.Blocks.past_of c.args.below).file.content in
+    let old : CrashFile = (g.B.Blocks.past_of c.args.below).file.content in
     let honest = subst (λ (f : BlockFile). IsHonest checked.journal.offered plan.shape f.content) c.in-Ok.ensures.reads.file
     c.in-Ok-open.ensures.honest in
     if_ok c.compared.result _ _ _
@@ -282,7 +282,7 @@ pub returns-in-Ok-open-clause-found : goal.returns-in-Ok-open-clause-found
 returns-in-Ok-open-clause-found g c =
     let plan : Plan = c.in-Ok.plan in
     let checked : CheckedValue g.row.B.Denot = c.in-Ok-open.checked in
-    let old : Image = (g.B.Blocks.past_of c.args.below).file.content in
+    let old : CrashFile = (g.B.Blocks.past_of c.args.below).file.content in
     let known = subst (λ (f : BlockFile). AreInAreas plan.shape f.content checked.journal.offered) c.in-Ok.ensures.reads.file
     c.in-Ok-open.ensures.found in
     if_ok c.compared.result _ _ _

@@ -1,4 +1,5 @@
-use Rattle.std.proofs.Common.{List, length, refl, ap, arith}
+use Rattle.std.proofs.Common.{List, length, refl, sym, ◌∙◌, ap, arith}
+use Rattle.std.proofs.lemmas.Bool.{false≢true}
 use Rattle.block_batch.specs.Batch.{Entry}
 use Rattle.block_journal.specs.declared.shape.Shape.{Shape}
 use Rattle.block_file.proofs.Moving.{kept_commit, moves_commit, moves_none}
@@ -7,6 +8,9 @@ use Rattle.block_file.proofs.sectors.make_room.Goals as goal
 pub returns-then-room-gt0 : goal.returns-then-room-gt0
 returns-then-room-gt0 g c = record {
   room = omega (arith, c.room.ensures, c.if-room-gt0.true);
+  good = λ was. was;
+  quiet = refl;
+  fails = tt;
   same = refl;
   moves = moves_none g.B.Blocks.past_of c.args.checked.now c.stands.ensures.survives c.stands.ensures.synced;
   counts = record { later = omega arith; quiet = λ _. refl; rises = λ is. absurd (cc) };
@@ -20,6 +24,9 @@ returns-in-Ok g c =
     let done = c.commit.ensures in
     record {
       room = omega (arith, ap (λ (l : List Entry). length l) c.in-Ok.ensures.none, ap (λ (s : Shape). s.area) done.shape, c.requires);
+      good = λ was. absurd (false≢true (sym c.in-Ok.ensures.sound.1 ∙ was));
+      quiet = c.in-Ok.ensures.quiet;
+      fails = tt;
       same = kept_commit h old new c.commit.result done.ok done.none done.err done.kept;
       moves = moves_commit h old new c.commit.result done.shape done.blocks done.ok done.err done.any_moment done.offered done.before
           done.refused;
@@ -34,6 +41,9 @@ returns-in-Err g c =
     let done = c.commit.ensures in
     record {
       room = tt;
+      good = tt;
+      quiet = tt;
+      fails = c.in-Err.ensures.fails;
       same = kept_commit h old new c.commit.result done.ok done.none done.err done.kept;
       moves = moves_commit h old new c.commit.result done.shape done.blocks done.ok done.err done.any_moment done.offered done.before
           done.refused;

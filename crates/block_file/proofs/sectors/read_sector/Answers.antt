@@ -1,7 +1,9 @@
-use Rattle.std.proofs.Common.{ℕ, ◌+◌, ◌%◌, Err, List, refl, sym, ◌∙◌, ap, arith}
+use Rattle.std.proofs.Common.{ℕ, ◌+◌, ◌/◌, ◌%◌, Err, List, refl, sym, ◌∙◌, ap, subst, arith}
 use Rattle.std.proofs.lemmas.Result.{err_from_is_err_and}
-use Rattle.block_table.specs.Checked.{data_now}
+use Rattle.block_table.specs.Checked.{data_now, kept_table}
+use Rattle.block_table.specs.Table.{IsFit}
 use Rattle.block_file.specs.Sectors.{part}
+use Rattle.block_file.proofs.Counting.{why_unread}
 use Rattle.block_file.proofs.Patching.{sector_at}
 use Rattle.block_file.proofs.sectors.read_sector.Goals as goal
 
@@ -10,11 +12,16 @@ read-requires g c = omega (arith, c.requires.plan.room, c.requires.inside, c.req
 
 pub returns-in_err-read : goal.returns-in_err-read
 returns-in_err-read g c =
+    let h = g.B.Blocks.past_of in
     let p = err_from_is_err_and c.from_residual.result c.from_residual.ensures.1 in
     let done = c.in_err-read.ensures in
     rw (p.1 ∙ ap Err p.2) (record {
       ok = tt;
       err = refl;
+      fits = tt;
+      failed = why_unread _ _ _ _ done.failed
+          (λ is fits. done.damaged is (subst (λ (b : ℕ). IsFit b (kept_table h c.args.checked.now) ((c.args.n + c.args.plan.lead) / 8))
+          (sym c.requires.blocks) fits));
       rest = done.rest;
       reads = done.reads;
       counts = done.counts;
@@ -31,6 +38,8 @@ returns g c =
           ∙ ap (λ (b : List ℕ). part b ((n + plan.lead) % 8)) done.ok
           ∙ sym (sector_at plan.lead plan.sectors (data_now h c.args.checked.now) n c.requires.inside);
       err = tt;
+      fits = subst (λ (b : ℕ). IsFit b (kept_table h c.args.checked.now) ((n + plan.lead) / 8)) c.requires.blocks done.fits;
+      failed = tt;
       rest = done.rest;
       reads = done.reads;
       counts = done.counts;

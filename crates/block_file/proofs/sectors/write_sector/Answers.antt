@@ -1,14 +1,16 @@
-use Rattle.std.proofs.Common.{◌≡◌, ℕ, ◌+◌, ◌/◌, ◌<◌, Err, List, length, slice_set, sym, ◌∙◌, ap, subst, arith}
+use Rattle.std.proofs.Common.{◌≡◌, inl, inr, ⊎_elim, ℕ, ◌+◌, ◌/◌, ◌<◌, Err, List, length, slice_set, sym, ◌∙◌, ap, subst, arith}
 use Rattle.std.proofs.lemmas.Result.{err_from_is_err_and}
-use Rattle.block_device.specs.Blocks.{Image, block}
+use Rattle.sector_device.specs.DevicePast.{Rises}
+use Rattle.block_device.specs.Blocks.{CrashFile, block}
 use Rattle.block_device.specs.BlocksPast.{BlocksPast}
 use Rattle.block_journal.specs.declared.shape.Shape.{Shape}
 use Rattle.block_journal.specs.Journal.{OnlyReads}
 use Rattle.block_journal.specs.Value.{JournalValue, failures_of, room_of, settled_of}
 use Rattle.block_table.specs.Checked.{CheckedValue, data_now, kept_table}
-use Rattle.block_table.specs.Table.{data_of}
+use Rattle.block_table.specs.Table.{IsFit, data_of}
 use Rattle.block_table.proofs.Contents.{length-data, settled_read, table_read}
 use Rattle.block_file.specs.Sectors.{part, sectors_of}
+use Rattle.block_file.proofs.Counting.{why_unread}
 use Rattle.block_file.proofs.Moving.{moves_then, read_later}
 use Rattle.block_file.proofs.Patching.{sector_put}
 use Rattle.block_file.proofs.sectors.write_sector.Goals as goal
@@ -23,6 +25,7 @@ returns-in_err-make_room g c =
     rw (p.1 ∙ ap Err p.2) (record {
       ok = tt;
       err = λ i. data_of (done.moves.blocks i) (done.same i);
+      failed = ⊎_elim (λ was. inl was) (⊎_elim (λ most. inr (inl most)) (λ up. inr (inr (inl up)))) done.fails;
       moves = done.moves;
       counts = done.counts;
     })
@@ -42,10 +45,16 @@ returns-in_err-read g c =
     let journal = ap (λ (x : CheckedValue g.row.B.Denot). x.journal) done.rest in
     let blocks = ap (λ (x : CheckedValue g.row.B.Denot). x.blocks) done.rest in
     let all : new.blocks ≡ old.blocks = blocks ∙ room.moves.blocks in
+    let at : ℕ = (c.args.n + c.args.plan.lead) / 8 in
     let table : kept_table h new ≡ kept_table h old = table_read h mid new done.rest done.reads ∙ room.same in
     rw (p.1 ∙ ap Err p.2) (record {
       ok = tt;
       err = λ i. data_of (all i) (table i);
+      failed = ⊎_elim (λ was. inl was) (λ rest. inr (inr rest)) (why_unread _ _ _ _
+          (λ is. ⊎_elim (λ was. inl (room.good was)) (λ up. inr (subst (λ (a : ℕ). Rises a (g.B.Blocks.failures new.journal.below)) room.quiet up))
+          (done.failed is))
+          (λ is fits. done.damaged is (subst (λ (b : ℕ). IsFit b (kept_table h mid) at) (sym (room.moves.blocks ∙ c.requires.blocks))
+          (subst (λ (l : CrashFile). IsFit c.args.plan.blocks l at) (sym room.same) fits))));
       moves = moves_then h old mid new room.moves (ap (λ (v : JournalValue g.row.B.Denot). v.shape) journal) blocks
           (ap (λ (v : JournalValue g.row.B.Denot). v.offered) journal) (settled_read h mid.journal new.journal journal done.reads) done.reads;
       counts = read_later _ _ _ _ (room.counts.quiet (λ is. absurd (cc))) done.counts;
@@ -89,11 +98,12 @@ returns g c =
     let counted : failures_of F new.journal ≡ failures_of F old.journal =
     ap (λ (v : JournalValue g.row.B.Denot). failures_of F v) behind ∙ done.counts.quiet (λ is. absurd (cc)) ∙ room.counts.quiet (λ is. absurd (cc)) in
     record {
-      ok = ap (sectors_of plan.lead plan.sectors) (put.put ∙ ap (λ (l : Image). slice_set l ((n + plan.lead) / 8) blk) same_data)
+      ok = ap (sectors_of plan.lead plan.sectors) (put.put ∙ ap (λ (l : CrashFile). slice_set l ((n + plan.lead) / 8) blk) same_data)
           ∙ sector_put plan.lead plan.sectors (data_now h old) n c.args.bytes.now blk c.requires.inside size c.put_sector.ensures.here
           (λ j apart. c.put_sector.ensures.others j apart
-          ∙ ap (λ (b : List ℕ). part b j) (done.ok ∙ ap (λ (l : Image). block l ((n + plan.lead) / 8)) mid_data));
+          ∙ ap (λ (b : List ℕ). part b j) (done.ok ∙ ap (λ (l : CrashFile). block l ((n + plan.lead) / 8)) mid_data));
       err = tt;
+      failed = tt;
       moves = moves_then h old mid new room.moves
           (ap (λ (v : JournalValue g.row.B.Denot). v.shape) behind ∙ ap (λ (v : JournalValue g.row.B.Denot). v.shape) journal)
           (ap (λ (x : CheckedValue g.row.B.Denot). x.blocks) put.rest ∙ blocks)

@@ -1,7 +1,7 @@
 use Rattle.std.proofs.Common.{◌≡◌, ℕ, ◌<◌, ◌*◌, [], Err, Some, length, refl, sym, ◌∙◌, ap, subst, arith}
 use Rattle.std.proofs.lemmas.Result.{err_from_is_err_and}
 use Rattle.sector_device.proofs.Counts.{counts_later}
-use Rattle.block_device.specs.Blocks.{Image, BlockFile, InRun, IsSynced, after_sync}
+use Rattle.block_device.specs.Blocks.{CrashFile, BlockFile, InRun, IsSynced, after_sync}
 use Rattle.block_device.proofs.Within.{holds_after_sync, within_sync}
 use Rattle.block_batch.specs.Batch.{replayed}
 use Rattle.block_batch.specs.Replay.{pending}
@@ -47,13 +47,13 @@ pub returns : goal.returns
 returns g c =
     let h = g.B.Blocks.past_of in
     let shape = c.args.shape in
-    let start : Image = (h c.args.below.now).file.content in
+    let start : CrashFile = (h c.args.below.now).file.content in
     let mid : BlockFile = (h c.clear_area-2.new.below).file in
     let new : BlockFile = (h c.sync.new.self).file in
     let kept : kept_of shape mid.content ≡ kept_of shape start = c.clear_area-2.ensures.kept ∙ c.clear_area.ensures.kept in
     let size : length mid.content ≡ length start = c.clear_area-2.ensures.size ∙ c.clear_area.ensures.size in
     let first : found shape mid.content 0 ≡ Some (record { number = 0; entries = [] }) =
-    ap (λ (area : Image). found_in area 0) (c.clear_area-2.ensures.other 0 (omega arith) (omega arith)) ∙ c.in_ok-clear_area.ensures.written in
+    ap (λ (area : CrashFile). found_in area 0) (c.clear_area-2.ensures.other 0 (omega arith) (omega arith)) ∙ c.in_ok-clear_area.ensures.written in
     let second : found shape mid.content 1 ≡ Some (record { number = 1; entries = [] }) = c.in_ok-clear_area-2.ensures.written in
     let stands : recovered shape mid.content ≡ kept_of shape mid.content = λ i. replayed (pending (first i) (second i)) (kept_of shape mid.content) in
     record {

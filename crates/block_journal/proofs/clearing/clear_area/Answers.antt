@@ -1,6 +1,6 @@
 use Rattle.std.proofs.Common.{◌≡◌, ◌≤◌, ◌*◌, [], Some, length, ◌∙◌, ap, arith}
-use Rattle.block_device.specs.Blocks.{Image, BlockFile, InRun, after_write, block}
-use Rattle.block_device.proofs.Images.{length-with_run}
+use Rattle.block_device.specs.Blocks.{CrashFile, BlockFile, InRun, after_write, block}
+use Rattle.block_device.proofs.CrashFiles.{length-with_run}
 use Rattle.block_device.proofs.Within.{holds_after_write, within_write}
 use Rattle.block_batch.specs.Batch.{Batch, count_in}
 use Rattle.block_journal.specs.Layout.{area_of, area_start, found, kept_of}
@@ -25,7 +25,7 @@ returns g c =
     let shape = c.args.shape in
     let a = c.args.a in
     let low = c.requires.low in
-    let sealed : Image = c.seal.new.area in
+    let sealed : CrashFile = c.seal.new.area in
     let old : BlockFile = (h c.args.below.now).file in
     let new : BlockFile = (h c.write.new.self).file in
     let long : length sealed ≡ 1 = c.seal.ensures.size in

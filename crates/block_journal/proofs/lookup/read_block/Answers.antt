@@ -1,5 +1,5 @@
 use Rattle.std.proofs.Common.{◌≡◌, ◌<◌, length, refl, sym, ◌∙◌, arith}
-use Rattle.block_device.specs.Blocks.{Image, block}
+use Rattle.block_device.specs.Blocks.{CrashFile, block}
 use Rattle.block_batch.specs.Batch.{replayed}
 use Rattle.block_batch.proofs.Replay.{length-replayed}
 use Rattle.block_journal.specs.Layout.{kept_of}
@@ -21,7 +21,7 @@ returns-in-Some g c =
     let h = g.B.Blocks.past_of in
     let next = c.args.next.now in
     let last = c.args.last.now in
-    let kept : Image = replayed (entries_of last) (kept_of c.args.shape (h c.args.below.now).file.content) in
+    let kept : CrashFile = replayed (entries_of last) (kept_of c.args.shape (h c.args.below.now).file.content) in
     let room : c.args.place < length kept =
     omega (
       arith,
@@ -41,7 +41,7 @@ returns-in-None g c =
     let h = g.B.Blocks.past_of in
     let next = c.args.next.now in
     let last = c.args.last.now in
-    let kept : Image = replayed (entries_of last) (kept_of c.args.shape (h c.args.below.now).file.content) in
+    let kept : CrashFile = replayed (entries_of last) (kept_of c.args.shape (h c.args.below.now).file.content) in
     let done = c.read_settled.ensures in
     record {
       ok = on_ok (c.read_settled.new.bytes ≡ block kept c.args.place) (c.read_settled.new.bytes ≡ block (replayed (entries_of next) kept) c.args.place)

@@ -1,5 +1,5 @@
 use Rattle.std.proofs.Common.{◌≡◌, ◌<◌, length, refl, sym, ◌∙◌, arith}
-use Rattle.block_device.specs.Blocks.{Image, block}
+use Rattle.block_device.specs.Blocks.{CrashFile, block}
 use Rattle.block_batch.specs.Batch.{replayed}
 use Rattle.block_journal.specs.Layout.{kept_of}
 use Rattle.block_journal.specs.Gathered.{entries_of}
@@ -19,7 +19,7 @@ pub returns-in-Some : goal.returns-in-Some
 returns-in-Some g c =
     let h = g.B.Blocks.past_of in
     let last = c.args.last.now in
-    let kept : Image = kept_of c.args.shape (h c.args.below.now).file.content in
+    let kept : CrashFile = kept_of c.args.shape (h c.args.below.now).file.content in
     let room : c.args.place < length kept =
     omega (arith, c.requires.kept, length-kept c.args.shape (h c.args.below.now).file.content c.requires.inside) in
     record {
@@ -33,7 +33,7 @@ pub returns-in-None : goal.returns-in-None
 returns-in-None g c =
     let h = g.B.Blocks.past_of in
     let last = c.args.last.now in
-    let kept : Image = kept_of c.args.shape (h c.args.below.now).file.content in
+    let kept : CrashFile = kept_of c.args.shape (h c.args.below.now).file.content in
     let done = c.read_kept.ensures in
     record {
       ok = on_ok (c.read_kept.new.bytes ≡ block kept c.args.place) (c.read_kept.new.bytes ≡ block (replayed (entries_of last) kept) c.args.place)

@@ -1,7 +1,7 @@
 use Rattle.std.proofs.Common.{rules, ◌≡◌, ◌++◌, Err, length, take, drop, refl, sym, ◌∙◌, ap, subst, arith}
 use Rattle.std.proofs.lemmas.Result.{err_from_is_err_and}
-use Rattle.block_device.specs.Blocks.{Image, run_of}
-use Rattle.block_device.proofs.Images.{written_back}
+use Rattle.block_device.specs.Blocks.{CrashFile, run_of}
+use Rattle.block_device.proofs.CrashFiles.{written_back}
 use Rattle.block_journal.specs.Layout.{area_of, area_start, found_in}
 use Rattle.block_journal.specs.Opening.{HasTaken}
 use Rattle.block_journal.proofs.Buffers.{empty_buffer}
@@ -26,7 +26,7 @@ read-requires g c = omega (
 pub load-requires : goal.load-requires
 load-requires g c =
     let b = c.args.buffer.now in
-    let image : Image = c.read.new.run in
+    let image : CrashFile = c.read.new.run in
     let size : length image ≡ length b.area.items = search rules in
     let back : take b.area.len (image ++ drop (length image) b.area.items) ≡ image = written_back image b.area.items b.area.len size b.area.ok.0 in
     record { buffer = empty_buffer b _ c.requires.buffer (ap length back ∙ size) refl refl refl c.requires.none; none = c.requires.none }
@@ -34,7 +34,7 @@ load-requires g c =
 pub returns-in_err-read : goal.returns-in_err-read
 returns-in_err-read g c =
     let b = c.args.buffer.now in
-    let image : Image = c.read.new.run in
+    let image : CrashFile = c.read.new.run in
     let size : length image ≡ length b.area.items = search rules in
     let back : take b.area.len (image ++ drop (length image) b.area.items) ≡ image = written_back image b.area.items b.area.len size b.area.ok.0 in
     let p = err_from_is_err_and c.from_residual.result c.from_residual.ensures.1 in
@@ -52,14 +52,14 @@ returns g c =
     let shape = c.args.shape in
     let a = c.args.a in
     let b = c.args.buffer.now in
-    let content : Image = (h c.args.below.now).file.content in
-    let image : Image = c.read.new.run in
+    let content : CrashFile = (h c.args.below.now).file.content in
+    let image : CrashFile = c.read.new.run in
     let size : length image ≡ length b.area.items = search rules in
     let back : take b.area.len (image ++ drop (length image) b.area.items) ≡ image = written_back image b.area.items b.area.len size b.area.ok.0 in
     let is : image ≡ area_of shape content a =
     c.in_ok-read.ensures.ok ∙ ap (run_of content (area_start shape a)) (sym c.read.ensures.size ∙ size ∙ c.requires.size) in
     record {
-      taken = subst (λ (l : Image). HasTaken (found_in l a) a c.load.new.self c.load.result) (back ∙ is) c.load.ensures.taken;
+      taken = subst (λ (l : CrashFile). HasTaken (found_in l a) a c.load.new.self c.load.result) (back ∙ is) c.load.ensures.taken;
       buffer = c.load.ensures.buffer;
       size = c.load.ensures.size ∙ ap length back ∙ size ∙ c.requires.size;
       reads = record { file = c.read.ensures.file; time = c.read.ensures.time };

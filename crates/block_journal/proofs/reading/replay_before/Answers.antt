@@ -1,5 +1,5 @@
 use Rattle.std.proofs.Common.{List, refl, sym, subst, arith}
-use Rattle.block_device.specs.Blocks.{Image, SameOutside}
+use Rattle.block_device.specs.Blocks.{CrashFile, SameOutside}
 use Rattle.block_batch.specs.Batch.{Entry, IsPlace, replayed}
 use Rattle.block_journal.specs.Layout.{kept_of}
 use Rattle.block_journal.specs.Gathered.{entries_of}
@@ -9,7 +9,7 @@ use Rattle.block_journal.proofs.reading.replay_before.Goals as goal
 pub returns-then-follows : goal.returns-then-follows
 returns-then-follows g c =
     let h = g.B.Blocks.past_of in
-    let kept : Image = kept_of c.args.shape (h c.args.below.now).file.content in
+    let kept : CrashFile = kept_of c.args.shape (h c.args.below.now).file.content in
     let is = c.if-follows.ensures.first refl (entries_of c.args.other.now) in
     let done = c.write_places.ensures in
     record {
@@ -25,7 +25,7 @@ returns-then-follows g c =
 pub returns-else-follows : goal.returns-else-follows
 returns-else-follows g c =
     let h = g.B.Blocks.past_of in
-    let kept : Image = kept_of c.args.shape (h c.args.below.now).file.content in
+    let kept : CrashFile = kept_of c.args.shape (h c.args.below.now).file.content in
     let none = c.if-follows.ensures.none refl (entries_of c.args.other.now) in
     record {
       within = λ all image start places so_far. so_far;

@@ -1,7 +1,7 @@
 use Rattle.std.proofs.Common.{◌≡◌, ℕ, ◌+◌, ◌%◌, ◌<◌, ◌≤◌, [], length, take, ◌∙◌, ap, arith, length-take}
 use Rattle.std.proofs.lemmas.List.{get_or-take}
-use Rattle.block_device.specs.Blocks.{Image, BlockFile, after_write, block}
-use Rattle.block_device.proofs.Images.{length-with_run}
+use Rattle.block_device.specs.Blocks.{CrashFile, BlockFile, after_write, block}
+use Rattle.block_device.proofs.CrashFiles.{length-with_run}
 use Rattle.block_device.proofs.Within.{holds_after_write, within_write}
 use Rattle.block_journal.specs.Layout.{area_of, area_start, kept_of}
 use Rattle.block_journal.specs.Journal.{MayWrite}
@@ -34,7 +34,7 @@ returns g c =
     let a = c.args.number % 2 in
     let low : a < 2 = omega arith in
     let count = c.args.next.now.count in
-    let run : Image = take (count + 1) c.deref.result.now in
+    let run : CrashFile = take (count + 1) c.deref.result.now in
     let old : BlockFile = (h c.args.below.now).file in
     let new : BlockFile = (h c.write.new.self).file in
     let long : length run ≡ count + 1 = omega (arith, c.requires.buffer.count, ap length c.deref.ensures.value, length-take (count + 1) c.deref.result.now) in
@@ -48,7 +48,7 @@ returns g c =
           (λ ok n le. ap (λ (f : BlockFile). block (area_of shape f.content a) n) ok
           ∙ area_has shape old.content c.requires.inside a run low short n (omega (arith, le, long))
           ∙ get_or-take (count + 1) c.deref.result.now n [] (omega (arith, le))
-          ∙ ap (λ (l : Image). block l n) c.deref.ensures.value)
+          ∙ ap (λ (l : CrashFile). block l n) c.deref.ensures.value)
           c.write.ensures.ok;
       kept = holds_after_write (λ f. kept_of shape f.content ≡ kept_of shape old.content) old (area_start shape a) run new c.write.result
           c.write.ensures.ok c.write.ensures.err

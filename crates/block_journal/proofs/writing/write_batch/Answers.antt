@@ -1,7 +1,7 @@
 use Rattle.std.proofs.Common.{◌≡◌, ℕ, ◌%◌, ◌<◌, Some, Err, refl, sym, ◌∙◌, ap, subst, arith}
 use Rattle.std.proofs.lemmas.Result.{err_from_is_err_and}
 use Rattle.sector_device.proofs.Counts.{counts_later}
-use Rattle.block_device.specs.Blocks.{Image, BlockFile, IsSynced, SameOutside, after_sync}
+use Rattle.block_device.specs.Blocks.{CrashFile, BlockFile, IsSynced, SameOutside, after_sync}
 use Rattle.block_device.proofs.Within.{within_start, within_sync}
 use Rattle.block_batch.specs.Batch.{Batch, IsPlace, replayed}
 use Rattle.block_journal.specs.Layout.{area_of, area_start, found_in, kept_of}
@@ -59,10 +59,10 @@ returns g c =
     let start = h c.args.below.now in
     let mid : BlockFile = (h c.write_places.new.below).file in
     let new : BlockFile = (h c.sync.new.self).file in
-    let wrote : Image = (h c.write_area.new.below).file.content in
+    let wrote : CrashFile = (h c.write_area.new.below).file.content in
     let last = entries_of c.args.last.now in
     let next : Batch = record { number = c.args.number; entries = entries_of c.args.next.now } in
-    let settled : Image = replayed last (kept_of shape start.file.content) in
+    let settled : CrashFile = replayed last (kept_of shape start.file.content) in
     let S : ℕ → Type 0 = MayWrite shape a last in
     let within = c.write_places.ensures.within (area_start shape a) shape.area last start.file.content start (λ place there. there)
     (c.write_area.ensures.within last start.file.content start
@@ -73,15 +73,15 @@ returns g c =
     c.in_ok-write_area.ensures.written refl in
     let written : IsWritten shape mid.content next settled = record {
       inside = inside_same shape wrote mid.content inside c.write_places.ensures.size;
-      here = ap (λ (area : Image). found_in area a) (c.write_places.ensures.areas a low) ∙ here;
-      placed = subst (λ (kept : Image). SameOutside (IsPlace next.entries) (replayed last kept) (kept_of shape mid.content)) c.write_area.ensures.kept
+      here = ap (λ (area : CrashFile). found_in area a) (c.write_places.ensures.areas a low) ∙ here;
+      placed = subst (λ (kept : CrashFile). SameOutside (IsPlace next.entries) (replayed last kept) (kept_of shape mid.content)) c.write_area.ensures.kept
           c.in_ok-write_places.ensures.placed;
     } in
     record {
       within = within_sync S start.file.content start (h c.write_places.new.below) (h c.sync.new.self) within c.sync.ensures.time c.sync.result
           c.sync.ensures.ok c.sync.ensures.err;
       written = on_ok (new ≡ after_sync mid) (IsWritten shape new.content next settled) c.sync.result
-          (λ ok. subst (λ (image : Image). IsWritten shape image next settled) (sym (ap (λ (f : BlockFile). f.content) ok)) written) c.sync.ensures.ok;
+          (λ ok. subst (λ (image : CrashFile). IsWritten shape image next settled) (sym (ap (λ (f : BlockFile). f.content) ok)) written) c.sync.ensures.ok;
       synced = on_ok (new ≡ after_sync mid) (IsSynced new) c.sync.result (λ ok. subst IsSynced (sym ok) (λ n. refl)) c.sync.ensures.ok;
       counts = counts_later _ _ _ c.sync.result (c.in_ok-write_places.ensures.counts.none ∙ c.in_ok-write_area.ensures.counts.none) c.sync.ensures.counts;
     }

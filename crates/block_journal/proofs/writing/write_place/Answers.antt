@@ -1,6 +1,6 @@
 use Rattle.std.proofs.Common.{◌≡◌, ◌⊎◌, ℕ, ◌+◌, ◌<◌, ◌≤◌, List, [], ◌∷◌, length, slice_set, refl, sym, ◌∙◌, ap, subst, arith}
-use Rattle.block_device.specs.Blocks.{Image, BlockFile, SameOutside, after_write}
-use Rattle.block_device.proofs.Images.{length-with_run}
+use Rattle.block_device.specs.Blocks.{CrashFile, BlockFile, SameOutside, after_write}
+use Rattle.block_device.proofs.CrashFiles.{length-with_run}
 use Rattle.block_device.proofs.Within.{holds_after_write, within_write}
 use Rattle.block_batch.specs.Batch.{IsPlace}
 use Rattle.block_journal.specs.Layout.{area_of, kept_of, kept_start}
@@ -32,7 +32,7 @@ returns-then-is_due g c =
     let old : BlockFile = (h c.args.below.now).file in
     let new : BlockFile = (h c.write.new.self).file in
     let bytes : List ℕ = c.args.bytes.now in
-    let run : Image = bytes ∷ [] in
+    let run : CrashFile = bytes ∷ [] in
     let at : ℕ = kept_start shape + c.args.place in
     let low : c.args.place < shape.kept = c.if-is_due.ensures.due refl in
     record {

@@ -1,7 +1,7 @@
 use Rattle.std.proofs.Common.{◌≡◌, ℕ, ◌+◌, List, Err, slice_index, slice_set, refl, ◌∙◌, ap, subst, arith}
 use Rattle.std.proofs.lemmas.Result.{err_from_is_err_and}
 use Rattle.sector_device.proofs.Counts.{counts_later}
-use Rattle.block_device.specs.Blocks.{Image, SameOutside, block}
+use Rattle.block_device.specs.Blocks.{CrashFile, SameOutside, block}
 use Rattle.block_batch.specs.Batch.{IsPlace, replayed}
 use Rattle.block_journal.specs.Layout.{kept_of}
 use Rattle.block_journal.specs.Entries.{entries_in}
@@ -49,8 +49,8 @@ loop-i-preserved g c =
     let done = c.write_place.ensures in
     let last = c.args.last.now in
     let i = c.loop-i.i in
-    let kept : Image = kept_of c.args.shape (h c.loop-i.below).file.content in
-    let new : Image = kept_of c.args.shape (h c.write_place.new.below).file.content in
+    let kept : CrashFile = kept_of c.args.shape (h c.loop-i.below).file.content in
+    let new : CrashFile = kept_of c.args.shape (h c.write_place.new.below).file.content in
     let bytes : c.block.result ≡ block last.area.items (1 + i) = c.block.ensures in
     record {
       within = λ first count all image start places before. done.within first count all image start

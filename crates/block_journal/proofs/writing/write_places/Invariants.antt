@@ -1,5 +1,5 @@
 use Rattle.std.proofs.Common.{◌≡◌, ℕ, ◌<◌, List, length}
-use Rattle.block_device.specs.Blocks.{Image, SameOutside}
+use Rattle.block_device.specs.Blocks.{CrashFile, SameOutside}
 use Rattle.block_device.specs.BlocksPast.{BlocksPast, RunsWithin}
 use Rattle.block_batch.specs.Batch.{Entry, IsPlace, replayed}
 use Rattle.block_journal.specs.Layout.{area_of, kept_of}
@@ -12,7 +12,7 @@ abbrev pub invariant-loop-i : goal.invariant-loop-i
 invariant-loop-i g l =
     let h = g.B.Blocks.past_of in
     record {
-      within : (first count : ℕ) (all : List Entry) (image : Image) (start : BlocksPast)
+      within : (first count : ℕ) (all : List Entry) (image : CrashFile) (start : BlocksPast)
           → ((place : ℕ) → IsPlace (entries_of l.last) place → IsPlace all place)
           → RunsWithin (InRunOrKept l.shape first count all) image start (h l.initial.below)
           → RunsWithin (InRunOrKept l.shape first count all) image start (h l.below);

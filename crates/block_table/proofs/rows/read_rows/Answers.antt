@@ -1,7 +1,7 @@
 use Rattle.std.proofs.Common.{◌≡◌, ℕ, ◌+◌, length, refl, ◌∙◌, ap, subst, arith}
 use Rattle.std.proofs.lemmas.List.{length_push}
 use Rattle.sector_device.specs.DevicePast.{Rises}
-use Rattle.block_device.specs.Blocks.{Image}
+use Rattle.block_device.specs.Blocks.{CrashFile}
 use Rattle.block_words.specs.Words.{word}
 use Rattle.block_device.specs.Blocks.{block}
 use Rattle.block_journal.specs.Value.{JournalValue, content_of}
@@ -63,7 +63,7 @@ loop-t-preserved g c =
     content_read h start c.loop-t.journal (as_read start c.loop-t.journal so_far.rest) so_far.reads in
     record {
       numbers = rw c.in-Ok-push.ensures.items (numbers_push (content_of h start) c.loop-t.rows.items c.loop-t.t c.in-Ok.row so_far.count so_far.numbers
-          (λ i low. c.in-Ok.ensures.row i low ∙ ap (λ (l : Image). word (block l c.loop-t.t) i) table));
+          (λ i low. c.in-Ok.ensures.row i low ∙ ap (λ (l : CrashFile). word (block l c.loop-t.t) i) table));
       count = ap length c.in-Ok-push.ensures.items ∙ length_push c.loop-t.rows.items c.in-Ok.row ∙ ap (λ (n : ℕ). n + 1) so_far.count;
       rest = journal_then start c.loop-t.journal c.read_row.new.journal so_far.rest c.read_row.ensures.rest;
       reads = reads_then _ _ _ so_far.reads c.read_row.ensures.reads;

@@ -2,7 +2,7 @@ use Rattle.std.proofs.Common.{rules, ◌≡◌, ◌++◌, take, drop, length, sy
 use Rattle.block_device.specs.Blocks.{BlockFile, IsWhole}
 use Rattle.block_device.specs.Crash.{IsCrashed}
 use Rattle.block_device.specs.MemBlocks.{torn_of}
-use Rattle.block_device.proofs.Images.{written_back}
+use Rattle.block_device.proofs.CrashFiles.{written_back}
 use Rattle.block_device.proofs.Tear.{crashed_whole}
 use Rattle.block_device.proofs.held.Held.crash.Goals as goal
 

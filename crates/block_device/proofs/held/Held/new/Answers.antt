@@ -1,7 +1,7 @@
 use Rattle.std.proofs.Common.{◌≡◌, ◌∙◌, ap, sym, subst, length, replicate, false, List, Bool, slice_index_or}
 use Rattle.std.proofs.Math.ListN.{length-replicate}
 use Rattle.block_device.specs.Blocks.{IsWhole, zero_block}
-use Rattle.block_device.proofs.Images.{zeros_are_whole, no_flag}
+use Rattle.block_device.proofs.CrashFiles.{zeros_are_whole, no_flag}
 use Rattle.block_device.proofs.held.Held.new.Goals as goal
 
 pub invariant_of-result : goal.invariant_of-result

@@ -12,6 +12,7 @@ returns g c =
       synced = done.synced;
       alone = done.alone;
       safe = done.safe;
+      failed = done.failed;
       plan = done.plan;
       time = done.time;
       counts = done.counts;

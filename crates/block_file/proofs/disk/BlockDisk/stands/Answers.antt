@@ -7,6 +7,7 @@ returns g c =
       each = c.self.invariant.each;
       now = c.self.invariant.kept.now;
       offers = c.self.invariant.offers;
+      honest = c.stands.ensures.honest;
       headers = c.self.invariant.before;
       told = tells_still g.B.Blocks.past_of c.self.inside.parts c.self.invariant.before;
     })

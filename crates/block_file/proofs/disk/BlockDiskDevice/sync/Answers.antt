@@ -7,7 +7,7 @@ pub returns : goal.returns
 returns g c =
     rw (← c.self.view_is) (
     let done = c.sync.ensures in
-    record { ok = done.ok; err = done.err; time = done.time; counts = done.counts })
+    record { ok = done.ok; err = done.err; time = done.time; counts = done.counts; failed = done.fails })
 
 pub invariant_of-self : goal.invariant_of-self
 invariant_of-self g c = c.sync.ensures.sound

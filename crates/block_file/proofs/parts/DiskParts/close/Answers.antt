@@ -1,9 +1,11 @@
-use Rattle.std.proofs.Common.{◌≡◌, Err, ◌∙◌, ap, subst}
+use Rattle.std.proofs.Common.{◌≡◌, inl, inr, ⊎_elim, ℕ, Err, sym, ◌∙◌, ap, subst, arith}
+use Rattle.std.proofs.lemmas.Bool.{false≢true}
 use Rattle.std.proofs.lemmas.Result.{err_from_is_err_and}
 use Rattle.sector_device.specs.Disk.{CrashState, Disk, IsSynced, after_sync}
 use Rattle.sector_device.proofs.Counts.{counts_later}
-use Rattle.block_device.specs.Blocks.{Image}
-use Rattle.block_journal.proofs.Results.{on_ok, on_ok_always}
+use Rattle.block_device.specs.Blocks.{CrashFile}
+use Rattle.sector_device.specs.DevicePast.{Rises}
+use Rattle.block_journal.proofs.Results.{on_err, on_ok, on_ok_always}
 use Rattle.block_file.specs.declared.parts.DiskParts.{DiskParts}
 use Rattle.block_file.specs.declared.plan.Plan.{Plan}
 use Rattle.block_file.specs.Closing.{StandsAlone}
@@ -26,6 +28,7 @@ returns-in_err-sync g c =
       synced = tt;
       alone = tt;
       safe = tt;
+      failed = ⊎_elim (λ was. inl was) (⊎_elim (λ most. inr (inl (omega (arith, most)))) (λ up. inr (inr up))) done.fails;
       plan = c.sync.ensures.plan;
       time = c.sync.ensures.time;
       counts = done.counts;
@@ -42,7 +45,7 @@ returns g c =
     let second = c.settle.ensures in
     let r = c.settle.result in
     let disk : (disk_past h new).disk ≡ after_sync (disk_past h old).disk = second.disk ∙ first.ok in
-    let image : Image = (h (journal_in new.now).below).file.content in
+    let image : CrashFile = (h (journal_in new.now).below).file.content in
     record {
       content = ap (λ (x : Disk). x.content) disk;
       synced = on_ok_always (IsSynced (disk_past h new).disk) r (λ k. ap (λ (x : Disk). x.unsynced k) disk);
@@ -50,6 +53,9 @@ returns g c =
           (λ alone. subst (λ (p : Plan). StandsAlone p image (disk_past h old).disk.content) c.sync.ensures.plan
           (subst (λ (s : CrashState). StandsAlone mid.plan image s) (ap (λ (x : Disk). x.content) first.ok) alone)) second.alone;
       safe = second.safe;
+      failed = on_err _ _ r (⊎_elim (λ was. absurd (false≢true (sym first.good ∙ was)))
+          (⊎_elim (λ most. inr (inl (omega (arith, most, first.last))))
+          (λ up. inr (inr (subst (λ (a : ℕ). Rises a (g.B.Blocks.failures (journal_in new.now).below)) first.quiet up))))) second.fails;
       plan = second.plan ∙ c.sync.ensures.plan;
       time = elapses_then (disk_past h old) (disk_past h mid) (disk_past h new) c.sync.ensures.time second.time second.disk;
       counts = counts_later _ _ _ r first.counts.none second.counts;

@@ -44,6 +44,8 @@ returns g c =
     record {
       ok = through_ok _ c.read_sector-done.result c.count.result c.count.ensures.ok done.ok;
       err = through_err _ c.read_sector-done.result c.count.result c.count.ensures.err done.err;
+      fits = through_ok _ c.read_sector-done.result c.count.result c.count.ensures.ok done.fits;
+      failed = through_err _ c.read_sector-done.result c.count.result c.count.ensures.err done.failed;
       disk = disk;
       time = disk_elapses h d n refl c.and-self.ensures;
       counts = c.count.ensures.counts _ _ done.counts;

@@ -44,6 +44,7 @@ returns g c =
     λ i. record { content = sectors_of d.plan.lead d.plan.sectors (same_data i); unsynced = (disk_of h d.plan d.now).unsynced } in
     let comes = comes_moved h d.plan d.now sound.kept new moves in
     record {
+      fails = all.fails;
       disk = disk;
       alone = on_ok (NeedsNoArea old.journal.shape (h new.journal.below).file.content (settled_table h old))
           (StandsAlone d.plan (h new.journal.below).file.content (disk_of h d.plan d.now).content) r

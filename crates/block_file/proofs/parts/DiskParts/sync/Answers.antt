@@ -1,6 +1,7 @@
 use Rattle.std.proofs.Common.{◌≡◌, ◌<◌, Err, refl, sym, ◌∙◌, ap, subst, arith}
 use Rattle.std.proofs.lemmas.Result.{err_from_is_err_and}
 use Rattle.sector_device.specs.Disk.{Disk, IsCrashState}
+use Rattle.block_batch.specs.Batch.{Batch}
 use Rattle.block_journal.specs.Value.{failures_of}
 use Rattle.block_table.specs.Checked.{CheckedValue, data_now}
 use Rattle.block_table.specs.Table.{data_of}
@@ -40,6 +41,10 @@ returns-in_err-commit g c =
       ok = tt;
       err = disk;
       none = tt;
+      good = tt;
+      last = tt;
+      quiet = tt;
+      fails = c.in_err-commit.ensures.fails;
       plan = refl;
       time = disk_elapses h d n refl c.and-self.ensures;
       counts = record {
@@ -74,6 +79,10 @@ returns g c =
       ok = synced_disk h d.plan d.now n.now same_data c.new-self.ensures;
       err = tt;
       none = done.none;
+      good = done.sound.1;
+      last = ap (λ (b : Batch). b.number) done.last;
+      quiet = done.quiet;
+      fails = tt;
       plan = refl;
       time = disk_elapses h d n refl c.and-self.ensures;
       counts = record { later = omega (arith, done.counts.later); none = omega (arith, done.counts.none); failed = tt };

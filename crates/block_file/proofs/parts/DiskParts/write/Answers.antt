@@ -1,7 +1,9 @@
-use Rattle.std.proofs.Common.{refl}
+use Rattle.std.proofs.Common.{refl, ap}
+use Rattle.block_device.specs.Blocks.{CrashFile}
 use Rattle.block_table.specs.Checked.{CheckedValue}
 use Rattle.block_file.specs.declared.parts.DiskParts.{DiskParts}
 use Rattle.block_journal.proofs.Results.{on_err, on_ok}
+use Rattle.block_file.specs.Sectors.{sectors_of}
 use Rattle.block_file.proofs.Heading.{first_moved}
 use Rattle.block_file.proofs.Keeping.{comes_kept, comes_moved, crash_after, through_err, through_ok, write_failed, written_disk}
 use Rattle.block_file.proofs.Pushing.{disk_elapses, sound_pushed}
@@ -36,6 +38,9 @@ returns g c =
       ok = through_ok _ r c.count.result c.count.ensures.ok (on_ok _ _ r (λ is. written_disk h d.plan d.now n.now at more c.args.bytes.now is) done.ok);
       err = through_err _ r c.count.result c.count.ensures.err
           (on_err _ _ r (λ is. write_failed h d.plan d.now n.now at more c.args.bytes.now c.requires.inside r done.ok done.err is) done.err);
+      kept = through_err _ r c.count.result c.count.ensures.err
+          (on_err _ _ r (λ is. ap (λ (l : CrashFile). sectors_of d.plan.lead d.plan.sectors l) is) done.err);
+      failed = through_err _ r c.count.result c.count.ensures.err done.failed;
       time = disk_elapses h d n refl c.and-self.ensures;
       counts = c.count.ensures.counts _ _ done.counts;
       sound = sound_pushed h d n refl c.and-self.ensures sound comes.leaves done.moves.offers

@@ -1,6 +1,6 @@
 use Rattle.std.proofs.Common.{sym, subst, ap, List}
 use Rattle.block_device.specs.Blocks.{IsWhole}
-use Rattle.block_device.proofs.Images.{zeros_are_whole}
+use Rattle.block_device.proofs.CrashFiles.{zeros_are_whole}
 use Rattle.block_host.specs.declared.held.Run.{Run}
 use Rattle.block_host.specs.FileBlocks.{is_in_any}
 use Rattle.block_host.proofs.held.Held.new.Goals as goal

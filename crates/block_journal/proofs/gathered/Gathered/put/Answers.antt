@@ -1,6 +1,6 @@
 use Rattle.std.proofs.Common.{rules, ◌≡◌, ℕ, ◌+◌, ◌++◌, length, take, drop, slice_set, refl, ◌∙◌, ap, arith, length-set}
-use Rattle.block_device.specs.Blocks.{Image}
-use Rattle.block_device.proofs.Images.{written_back}
+use Rattle.block_device.specs.Blocks.{CrashFile}
+use Rattle.block_device.proofs.CrashFiles.{written_back}
 use Rattle.block_batch.specs.Batch.{replayed}
 use Rattle.block_journal.specs.Entries.{entries_in}
 use Rattle.block_journal.proofs.Buffers.{put_buffer}
@@ -17,7 +17,7 @@ returns g c =
     let place = c.args.place in
     let i = c.slot-i.result in
     let digest = c.block_digest-digest.result in
-    let image : Image = c.put_block.new.area in
+    let image : CrashFile = c.put_block.new.area in
     let stored : image ≡ slice_set b.area.items (i + 1) bytes = search rules in
     let size : length image ≡ length b.area.items = ap length stored ∙ length-set b.area.items (i + 1) bytes in
     let back : take b.area.len (image ++ drop (length image) b.area.items) ≡ slice_set b.area.items (i + 1) bytes =
@@ -27,7 +27,7 @@ returns g c =
     let fits = c.block_digest-digest.ensures in
     record {
       put = λ l.
-          ap (λ (a : Image). replayed (entries_in a (slice_set b.places i place) c.max-self.result) l) back
+          ap (λ (a : CrashFile). replayed (entries_in a (slice_set b.places i place) c.max-self.result) l) back
           ∙ ap (λ (m : ℕ). replayed (entries_in (slice_set b.area.items (i + 1) bytes) (slice_set b.places i place) m) l) c.max-self.ensures
           ∙ put_is b.area.items b.places i place bytes (omega (arith, low, c.requires.room))
           (omega (arith, low, c.requires.room, c.requires.buffer.few, c.requires.buffer.places)) l b.count slot;

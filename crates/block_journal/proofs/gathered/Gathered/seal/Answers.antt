@@ -1,7 +1,7 @@
 use Rattle.std.proofs.Common.{rules, ◌≡◌, ℕ, ◌+◌, ◌<◌, ◌++◌, length, take, drop, slice_index, refl, sym, ◌∙◌, ap, arith, length-take}
 use Rattle.std.proofs.lemmas.List.{get_or-take}
-use Rattle.block_device.specs.Blocks.{Image, block}
-use Rattle.block_device.proofs.Images.{written_back}
+use Rattle.block_device.specs.Blocks.{CrashFile, block}
+use Rattle.block_device.proofs.CrashFiles.{written_back}
 use Rattle.block_batch.specs.Batch.{block_digest}
 use Rattle.block_journal.proofs.Buffers.{now_sealed, sealed_buffer}
 use Rattle.block_journal.specs.Entries.{entries_in}
@@ -11,7 +11,7 @@ use Rattle.block_journal.proofs.gathered.Gathered.seal.Goals as goal
 pub seal-requires : goal.seal-requires
 seal-requires g c =
     let b = c.args.self.now in
-    let area : Image = c.deref_mut.result.now in
+    let area : CrashFile = c.deref_mut.result.now in
     let of_places : length (take b.count b.places) ≡ b.count = omega (
       arith,
       length-take b.count b.places,
@@ -35,20 +35,20 @@ seal-requires g c =
           get_or-take b.count b.digests i 0 low
           ∙ c.requires.fitting i low
           ∙ ap (λ (p : ℕ). block_digest p (block b.area.items (1 + i))) (sym (get_or-take b.count b.places i 0 low))
-          ∙ ap (λ (l : Image). block_digest (slice_index (take b.count b.places) i) (block l (1 + i))) (sym c.deref_mut.ensures.value);
+          ∙ ap (λ (l : CrashFile). block_digest (slice_index (take b.count b.places) i) (block l (1 + i))) (sym c.deref_mut.ensures.value);
     }
 
 pub returns : goal.returns
 returns g c =
     let b = c.args.self.now in
-    let image : Image = c.seal.new.area in
+    let image : CrashFile = c.seal.new.area in
     let done = c.seal.ensures in
     let size : length image ≡ length b.area.items = search rules in
     let back : take b.area.len (image ++ drop (length image) b.area.items) ≡ image = written_back image b.area.items b.area.len size b.area.ok.0 in
     let stays : (n : ℕ) → 0 < n → block image n ≡ block b.area.items n = search rules in
     record {
       sealed = now_sealed b _ c.requires c.args.number image back refl refl refl size done.batch done.number done.count done.places stays;
-      entries = ap (λ (l : Image). entries_in l b.places b.count) back ∙ entries_stay b.area.items image b.count b.places stays;
+      entries = ap (λ (l : CrashFile). entries_in l b.places b.count) back ∙ entries_stay b.area.items image b.count b.places stays;
       buffer = sealed_buffer b _ c.requires c.args.number image back refl refl refl size done.batch done.number done.count done.places stays;
       size = ap length back ∙ size;
       count = refl;

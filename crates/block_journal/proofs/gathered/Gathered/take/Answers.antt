@@ -1,5 +1,5 @@
 use Rattle.std.proofs.Common.{◌≡◌, ◌%◌, ◌<◌, ℕ, length, slice_index, refl, sym, ◌∙◌, ap, subst, arith}
-use Rattle.block_device.specs.Blocks.{Image}
+use Rattle.block_device.specs.Blocks.{CrashFile}
 use Rattle.block_batch.specs.Batch.{count_in, place_in}
 use Rattle.block_journal.specs.declared.gathered.Gathered.{Gathered}
 use Rattle.block_journal.specs.Entries.{AreDigests}
@@ -43,7 +43,7 @@ returns g c =
     let counted : count_in b.area.items ≡ c.take_places-self.result = sym (done.count ∙ c.requires.count) in
     let placed : (i : ℕ) → i < c.take_places-self.result → place_in b.area.items i ≡ slice_index c.take_places-self.new.places i = λ i below.
     sym (done.places i below ∙ c.requires.places i (omega (arith, below, counted, few.0))) in
-    let fits = subst (λ (l : Image). AreDigests l c.take_places-self.new.places c.take_places-self.new.digests c.take_places-self.result)
+    let fits = subst (λ (l : CrashFile). AreDigests l c.take_places-self.new.places c.take_places-self.new.digests c.take_places-self.result)
     c.deref.ensures.value done.digests in
     record {
       taken = now_taken b n c.requires.buffer c.args.a c.number-number.result c.take_places-self.result c.requires.batch numbered counted

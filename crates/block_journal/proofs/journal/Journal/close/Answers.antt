@@ -17,6 +17,7 @@ returns g c =
           (on_ok _ _ r (λ ok. ok ∙ ap (λ (l : List Entry). replayed l (settled_of past_of old)) c.requires) done.ok) done.err;
       none = either_result _ r done.none (on_err _ _ r (λ kept. kept ∙ c.requires) done.kept);
       last = done.last;
+      quiet = done.quiet;
       last_stays = done.last_stays;
       synced = done.synced;
       sound = done.sound;

@@ -3,7 +3,7 @@ use Rattle.std.proofs.lemmas.Bool.{false≢true}
 use Rattle.block_journal.specs.Value.{JournalValue, content_of, next_batch, settled_of}
 use Rattle.block_journal.specs.Journal.{MayWrite}
 use Rattle.block_journal.proofs.Before.{leaves_before, none_before, not_by_commit}
-use Rattle.block_journal.specs.Parts.{value_of}
+use Rattle.block_journal.specs.JournalParts.{value_of}
 use Rattle.block_journal.proofs.Closing.{empty_commit}
 use Rattle.block_journal.proofs.Committing.{either_left, nothing_left}
 use Rattle.block_journal.proofs.Results.{counts_refused, counts_with, either_result, on_err, on_ok, on_ok_both}
@@ -51,6 +51,7 @@ returns-then-can_commit g c =
       places = λ empty. on_ok _ _ r (λ all. (closed empty all).0) both;
       areas = λ empty. on_ok _ _ r (λ all. (closed empty all).1) both;
       last = on_ok _ _ r (λ is. ap (λ (v : JournalValue g.row.B.Denot). v.last) is) done.ok;
+      quiet = done.counts.none;
       err = done.unsettled;
       last_stays = on_err _ _ r (λ is. ap (λ (v : JournalValue g.row.B.Denot). v.last) is) done.err;
       kept = on_err _ _ r (λ is. ap (λ (v : JournalValue g.row.B.Denot). v.next) is) done.err;
@@ -78,6 +79,7 @@ returns-else-can_commit g c =
       places = λ _. tt;
       areas = λ _. tt;
       last = tt;
+      quiet = tt;
       err = refl;
       last_stays = refl;
       kept = refl;

@@ -1,7 +1,7 @@
 use Rattle.std.proofs.Common.{◌≡◌, inl, inr, ap, refl, sym, ◌∙◌, arith}
 use Rattle.std.proofs.lemmas.Bool.{false≢true}
 use Rattle.block_journal.specs.Value.{JournalValue}
-use Rattle.block_journal.specs.Parts.{value_of}
+use Rattle.block_journal.specs.JournalParts.{value_of}
 use Rattle.block_journal.proofs.Parting.{as_read, sound_counted}
 use Rattle.block_journal.proofs.OnlyReading.{reads_none}
 use Rattle.block_journal.proofs.Results.{counts_refused, counts_with, on_err, on_ok_always}

@@ -1,4 +1,4 @@
-use Rattle.block_journal.specs.Parts.{value_of}
+use Rattle.block_journal.specs.JournalParts.{value_of}
 use Rattle.block_journal.proofs.Committing.{ready_stands}
 use Rattle.block_journal.proofs.journal.Journal.stands.Goals as goal
 
@@ -8,6 +8,7 @@ returns g c =
       inside = c.self.invariant.inside;
       synced = λ good. (c.self.invariant.ready good).synced;
       survives = λ good image crash honest. ready_stands g.B.Blocks.past_of (value_of c.self.inside.parts) (c.self.invariant.ready good) image crash honest;
+      honest = λ good. (c.self.invariant.ready good).honest;
       last = λ good. (c.self.invariant.ready good).known.has_last;
       latest = λ good. (c.self.invariant.ready good).known.none_later;
     })

@@ -1,7 +1,7 @@
 use Rattle.std.proofs.Common.{◌≡◌, inl, inr, ℕ, Err, ⊎_elim, refl, sym, ◌∙◌, ap, subst, arith}
 use Rattle.std.proofs.lemmas.Bool.{cases_Bool, cases_eq}
 use Rattle.sector_device.specs.DevicePast.{Rises}
-use Rattle.block_device.specs.Blocks.{Image}
+use Rattle.block_device.specs.Blocks.{CrashFile}
 use Rattle.block_journal.specs.Value.{failures_of}
 use Rattle.block_journal.proofs.OnlyReading.{reads_none, reads_then}
 use Rattle.block_table.specs.Checked.{CheckedValue, kept_table}
@@ -33,7 +33,7 @@ loop-n-preserved g c =
     let blocks = ap (λ (x : CheckedValue g.row.B.Denot). x.blocks) so_far.rest in
     let table = table_read h start mid so_far.rest so_far.reads in
     let here : IsFit start.blocks (kept_table h start) n =
-    subst (λ (k : ℕ). IsFit k (kept_table h start) n) blocks (subst (λ (l : Image). IsFit mid.blocks l n) table c.in-Ok.ensures.fits) in
+    subst (λ (k : ℕ). IsFit k (kept_table h start) n) blocks (subst (λ (l : CrashFile). IsFit mid.blocks l n) table c.in-Ok.ensures.fits) in
     let F = g.B.Blocks.failures in
     let same : failures_of F c.read.new.self.journal ≡ failures_of F mid.journal = c.read.ensures.counts.quiet (λ never. absurd (cc)) in
     record {
@@ -66,7 +66,7 @@ returns-in-Err-Damaged g c =
         behind = c.loop-n.auto.n;
         low = omega (arith, c.loop-n-test.true, ap (λ (x : CheckedValue g.row.B.Denot). x.blocks) c.self.view_is);
         unfit = subst (λ (k : ℕ). ¬ IsFit k (kept_table h start) n) blocks
-            (subst (λ (l : Image). ¬ IsFit mid.blocks l n) table (c.in-Err-Damaged.ensures.damaged (ap Err c.in-Err-Damaged.field-0-is)));
+            (subst (λ (l : CrashFile). ¬ IsFit mid.blocks l n) table (c.in-Err-Damaged.ensures.damaged (ap Err c.in-Err-Damaged.field-0-is)));
         before = so_far.fits;
       };
       sound = tt;

@@ -1,7 +1,7 @@
 use Rattle.std.proofs.Common.{◌≡◌, ◌≢◌, ℕ, ◌+◌, ◌/◌, ◌%◌, ◌<◌, List, [], ◌++◌, length, take, drop, slice_index, slice_index_or, slice_set}
 use Rattle.std.proofs.Common.{sym, ◌∙◌, ap, subst, arith}
-use Rattle.block_device.specs.Blocks.{Image}
-use Rattle.block_device.proofs.Images.{written_back}
+use Rattle.block_device.specs.Blocks.{CrashFile}
+use Rattle.block_device.proofs.CrashFiles.{written_back}
 use Rattle.block_batch.specs.Batch.{block_digest}
 use Rattle.block_journal.specs.Value.{JournalValue, content_of}
 use Rattle.block_words.specs.Words.{word}
@@ -31,7 +31,7 @@ returns g c =
     content_put h v m (c.len.result + n) bytes c.put-digest.ensures.rest c.put-digest.ensures.put
     ∙ ap (λ (k : ℕ). slice_set (content_of h v) k bytes) place in
     let at : content_of h now ≡ after_put blocks (content_of h v) n bytes row =
-    content_put h m now (n / 512) row c.put.ensures.rest c.put.ensures.put ∙ ap (λ (l : Image). slice_set l (n / 512) row) first in
+    content_put h m now (n / 512) row c.put.ensures.rest c.put.ensures.put ∙ ap (λ (l : CrashFile). slice_set l (n / 512) row) first in
     let rest = two_puts v m now c.put-digest.ensures.rest c.put.ensures.rest in
     let digest = c.put-digest.result in
     let is : digest ≡ block_digest (place_of blocks n) bytes = c.put-digest.ensures.digest ∙ ap (λ (k : ℕ). block_digest k bytes) place in
@@ -42,12 +42,12 @@ returns g c =
     λ i below apart. set.others i below apart ∙ ap (λ (l : List (List ℕ)). slice_index (slice_index_or l (n / 512) []) i) value in
     record {
       put = ap (data_of blocks) at ∙ put_data blocks (content_of h v) n bytes row digest rows low size step.numbers set.digest others is;
-      fits = subst (λ (l : Image). IsFit blocks l n) (sym at)
+      fits = subst (λ (l : CrashFile). IsFit blocks l n) (sym at)
           (put_fits blocks (content_of h v) n bytes row digest rows low size step.numbers set.digest others is);
       others = λ k below apart. (
         (λ fits. fits_before blocks (content_of h v) n bytes row digest rows low size step.numbers set.digest others is k below apart
-            (subst (λ (l : Image). IsFit blocks l k) at fits)),
-        (λ fits. subst (λ (l : Image). IsFit blocks l k) (sym at)
+            (subst (λ (l : CrashFile). IsFit blocks l k) at fits)),
+        (λ fits. subst (λ (l : CrashFile). IsFit blocks l k) (sym at)
             (fits_after blocks (content_of h v) n bytes row digest rows low size step.numbers set.digest others is k below apart fits)),
       );
       rest = ap (λ (w : JournalValue g.row.B.Denot). record { journal = w; blocks = blocks }) rest;
@@ -73,7 +73,7 @@ invariant_of-self g c =
     content_put h v m (c.len.result + n) bytes c.put-digest.ensures.rest c.put-digest.ensures.put
     ∙ ap (λ (k : ℕ). slice_set (content_of h v) k bytes) place in
     let at : content_of h now ≡ after_put blocks (content_of h v) n bytes row =
-    content_put h m now (n / 512) row c.put.ensures.rest c.put.ensures.put ∙ ap (λ (l : Image). slice_set l (n / 512) row) first in
+    content_put h m now (n / 512) row c.put.ensures.rest c.put.ensures.put ∙ ap (λ (l : CrashFile). slice_set l (n / 512) row) first in
     let set = c.set_digest-row.ensures in
     let new : List (List ℕ) = c.set_digest-row.new.rows in
     let value : c.deref_mut.result.now ≡ rows = c.deref_mut.ensures.value in
@@ -82,7 +82,7 @@ invariant_of-self g c =
     let long : length new ≡ length rows = set.size ∙ ap length value in
     let back : take c.self.inside.rows.len (new ++ drop (length new) rows) ≡ new = written_back new rows c.self.inside.rows.len long c.self.inside.rows.ok.0 in
     let numbers : AreNumbers (content_of h now) new (table_count blocks) =
-    subst (λ (l : Image). AreNumbers l new (table_count blocks)) (sym at)
+    subst (λ (l : CrashFile). AreNumbers l new (table_count blocks)) (sym at)
     (put_numbers blocks (content_of h v) n bytes row c.put-digest.result rows low size step.numbers set.digest others
     (c.put-digest.ensures.digest ∙ ap (λ (k : ℕ). block_digest k bytes) place) new set.row
     (λ t apart. set.rest t apart ∙ ap (λ (l : List (List ℕ)). slice_index_or l t []) value)) in

@@ -22,6 +22,7 @@ returns-then-is_err g c =
       failed = λ _. from_err _ _ failed done.fails;
       rest = ap (λ (v : JournalValue g.row.B.Denot). record { journal = v; blocks = c.self.inside.blocks }) done.rest;
       good = λ sound. ap (λ (w : JournalValue g.row.B.Denot). record { journal = w; blocks = c.self.inside.blocks }) (done.good sound);
+      refused = done.refused;
       reads = done.reads;
       counts = record {
         later = done.counts.later;
@@ -56,6 +57,7 @@ returns-then-told-found g c =
       failed = λ is. absurd (cc);
       rest = ap (λ (w : JournalValue g.row.B.Denot). record { journal = w; blocks = blocks }) done.rest;
       good = λ sound. ap (λ (w : JournalValue g.row.B.Denot). record { journal = w; blocks = c.self.inside.blocks }) (done.good sound);
+      refused = done.refused;
       reads = done.reads;
       counts = record {
         later = done.counts.later;
@@ -90,6 +92,7 @@ returns g c =
       failed = λ is. absurd (cc);
       rest = ap (λ (w : JournalValue g.row.B.Denot). record { journal = w; blocks = blocks }) done.rest;
       good = λ sound. ap (λ (w : JournalValue g.row.B.Denot). record { journal = w; blocks = c.self.inside.blocks }) (done.good sound);
+      refused = done.refused;
       reads = done.reads;
       counts = record {
         later = done.counts.later;

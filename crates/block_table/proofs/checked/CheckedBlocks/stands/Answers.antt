@@ -7,4 +7,7 @@ returns g c =
       kept = c.self.invariant.kept;
       synced = c.stands.ensures.synced;
       survives = c.stands.ensures.survives;
+      honest = c.stands.ensures.honest;
+      last = c.stands.ensures.last;
+      latest = c.stands.ensures.latest;
     })

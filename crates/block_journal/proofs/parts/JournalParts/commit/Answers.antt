@@ -1,11 +1,11 @@
 use Rattle.std.proofs.Common.{◌≡◌, ◌+◌, true, refl, sym, ◌∙◌, ap}
 use Rattle.block_journal.specs.declared.gathered.Gathered.{Gathered}
-use Rattle.block_journal.specs.declared.parts.Parts.{Parts}
-use Rattle.block_journal.specs.Parts.{value_of}
+use Rattle.block_journal.specs.declared.parts.JournalParts.{JournalParts}
+use Rattle.block_journal.specs.JournalParts.{value_of}
 use Rattle.block_journal.proofs.Committing.{settled_stays}
 use Rattle.block_journal.proofs.Parting.{committed_settled, committed_sound, committed_value, failed_sound, failed_value, offered_more}
 use Rattle.block_journal.proofs.Results.{from_ok, from_err}
-use Rattle.block_journal.proofs.parts.Parts.commit.Goals as goal
+use Rattle.block_journal.proofs.parts.JournalParts.commit.Goals as goal
 
 pub write_batch-requires : goal.write_batch-requires
 write_batch-requires g c =
@@ -27,7 +27,7 @@ returns-then-is_err g c =
     let p = c.args.self.now in
     let sound = c.requires.sound in
     let seal = c.seal.ensures in
-    let n : Parts g.row.B.Denot g.row.A.Denot = record {
+    let n : JournalParts g.row.B.Denot g.row.A.Denot = record {
       below = c.write_batch.new.below;
       shape = p.shape;
       number = p.number;
@@ -61,7 +61,7 @@ returns g c =
     let p = c.args.self.now in
     let sound = c.requires.sound in
     let seal = c.seal.ensures in
-    let n : Parts g.row.B.Denot g.row.A.Denot = record {
+    let n : JournalParts g.row.B.Denot g.row.A.Denot = record {
       below = c.write_batch.new.below;
       shape = p.shape;
       number = p.number + 1;

@@ -1,5 +1,5 @@
 use Rattle.std.proofs.Common.{◌+◌, ◌%◌, false, refl, sym, ◌∙◌, subst}
-use Rattle.block_journal.specs.declared.parts.Parts.{Parts}
+use Rattle.block_journal.specs.declared.parts.JournalParts.{JournalParts}
 use Rattle.block_journal.specs.Layout.{IsHonest, found}
 use Rattle.block_journal.specs.Journal.{AreInAreas}
 use Rattle.block_journal.specs.Gathered.{entries_of}
@@ -7,7 +7,7 @@ use Rattle.block_journal.proofs.Opening.{found_honest, found_in_areas}
 use Rattle.block_journal.proofs.Parting.{settled_opened, sound_opened}
 use Rattle.block_journal.proofs.Recovering.{are_found, first_places, its_batch}
 use Rattle.block_journal.proofs.Results.{from_ok, from_err}
-use Rattle.block_journal.proofs.parts.Parts.settle.Goals as goal
+use Rattle.block_journal.proofs.parts.JournalParts.settle.Goals as goal
 
 pub replay-requires : goal.replay-requires
 replay-requires g c = record {
@@ -49,7 +49,7 @@ returns g c =
     let counts = c.replay.ensures.counts in
     let replayed = c.replay.ensures in
     let finds = are_found p.shape content c.args.number c.args.before p.last p.next c.requires.taken in
-    let n : Parts g.row.B.Denot g.row.A.Denot = record {
+    let n : JournalParts g.row.B.Denot g.row.A.Denot = record {
       below = c.replay.new.below;
       shape = p.shape;
       number = c.args.number;

@@ -9,10 +9,10 @@ use Rattle.block_journal.proofs.Before.{leaves_before, not_by_replay}
 use Rattle.block_journal.specs.declared.refusal.OpenError.{OpenError}
 use Rattle.block_journal.specs.declared.refusal.OpenError.TheVariants.{FileFailed}
 use Rattle.block_journal.specs.Opening.{HasTakenBoth}
-use Rattle.block_journal.specs.Parts.{value_of}
+use Rattle.block_journal.specs.JournalParts.{value_of}
 use Rattle.block_journal.proofs.Recovering.{stays_recovered, within_pending}
 use Rattle.block_journal.proofs.Results.{err_rises, on_ok}
-use Rattle.block_journal.proofs.parts.Parts.recover.Goals as goal
+use Rattle.block_journal.proofs.parts.JournalParts.recover.Goals as goal
 
 pub read_areas-requires : goal.read_areas-requires
 read_areas-requires g c = record {

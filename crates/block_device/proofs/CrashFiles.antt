@@ -1,4 +1,4 @@
--- Images, and runs of blocks in them.
+-- CrashFiles, and runs of blocks in them.
 use Rattle.std.proofs.Common.{◌≡◌, ◌≢◌, inl, inr, ⊎_elim, ℕ, zero, suc, ◌+◌, ◌<◌, ◌≤◌, Bool, true, false, ◌||◌, List, [], ◌∷◌, ◌++◌, length, take, drop}
 use Rattle.std.proofs.Common.{replicate, slice_set, slice_index_or, refl, sym, ◌∙◌, ap, subst, arith, length-set}
 use Rattle.std.proofs.Math.Path.{fun_ext}
@@ -7,13 +7,13 @@ use Rattle.std.proofs.lemmas.Bool.Decides.{nat_tests}
 use Rattle.std.proofs.lemmas.List.{get_or-set_other, ext_get_or, get_or_past, drop_more, drop_all, take_all, append-nil}
 use Rattle.std.proofs.lemmas.Grind.{get_or-set_at}
 use Rattle.std.proofs.Math.ListN.{length-replicate, get_or-replicate}
-use Rattle.block_device.specs.Blocks.{Image, block, IsBlock, IsWhole, zero_block, with_run, InRun}
-use Rattle.block_device.specs.Blocks.{is_in_run, BlockFile, after_write, after_sync, IsSynced, IsCrashImage}
+use Rattle.block_device.specs.Blocks.{CrashFile, block, IsBlock, IsWhole, zero_block, with_run, InRun}
+use Rattle.block_device.specs.Blocks.{is_in_run, BlockFile, after_write, after_sync, IsSynced, IsCrashFile}
 use Rattle.block_device.specs.Blocks.{SameOutside, SyncedOutside}
 
 -- ---- one block
 
-pub set_whole : (image : Image) (n : ℕ) (bytes : List ℕ) → IsBlock bytes → IsWhole image → IsWhole (slice_set image n bytes)
+pub set_whole : (image : CrashFile) (n : ℕ) (bytes : List ℕ) → IsBlock bytes → IsWhole image → IsWhole (slice_set image n bytes)
 set_whole image n bytes all whole k below = elim (cases_eq k n) [
   | inl same ↦ subst IsBlock (sym (get_or-set_at image n k bytes [] same (omega (arith, below, same, length-set image n bytes)))) all
   | inr other ↦ subst IsBlock (sym (get_or-set_other image n k bytes [] other)) (whole k (omega (arith, below, length-set image n bytes)))
@@ -35,19 +35,20 @@ zeros_are_whole n k below = subst IsBlock (sym (get_or-replicate n k zero_block 
 
 -- ---- a run
 
-pub length-with_run : (image : Image) (first : ℕ) (run : Image) → length (with_run image first run) ≡ length image
+pub length-with_run : (image : CrashFile) (first : ℕ) (run : CrashFile) → length (with_run image first run) ≡ length image
 length-with_run image first [] = refl
 length-with_run image first (bytes ∷ run) = length-with_run (slice_set image first bytes) (first + 1) run ∙ length-set image first bytes
 
 -- the blocks outside a run stay
-pub with_run_outside : (image : Image) (first : ℕ) (run : Image) (n : ℕ) → ¬ InRun first (length run) n → block (with_run image first run) n ≡ block image n
+pub with_run_outside : (image : CrashFile) (first : ℕ) (run : CrashFile) (n : ℕ) → ¬ InRun first (length run) n
+    → block (with_run image first run) n ≡ block image n
 with_run_outside image first [] n out = refl
 with_run_outside image first (bytes ∷ run) n out =
     with_run_outside (slice_set image first bytes) (first + 1) run n (λ within. out (omega (arith, within.0), omega (arith, within.1)))
     ∙ get_or-set_other image first n bytes [] (λ same. out (omega (arith, same), omega (arith, same)))
 
 -- and those within it are its own
-pub with_run_inside : (image : Image) (first : ℕ) (run : Image) (i n : ℕ) → n ≡ first + i → i < length run → n < length image
+pub with_run_inside : (image : CrashFile) (first : ℕ) (run : CrashFile) (i n : ℕ) → n ≡ first + i → i < length run → n < length image
     → block (with_run image first run) n ≡ block run i
 with_run_inside image first [] i n is below room = absurd (omega (arith, below))
 with_run_inside image first (bytes ∷ run) zero n is below room =
@@ -58,7 +59,7 @@ with_run_inside image first (bytes ∷ run) (suc i) n is below room =
     (omega (arith, room, length-set image first bytes))
 
 -- a run of a loop: what is left of it, put over what is there, gives the same
-pub run_more : (image now : Image) (first i : ℕ) (run : Image) → i < length run → with_run now (first + i) (drop i run) ≡ image
+pub run_more : (image now : CrashFile) (first i : ℕ) (run : CrashFile) → i < length run → with_run now (first + i) (drop i run) ≡ image
     → with_run (slice_set now (first + i) (block run i)) (first + (i + 1)) (drop (i + 1) run) ≡ image
 run_more image now first i run below is =
     ap (λ n. with_run (slice_set now (first + i) (block run i)) n (drop (i + 1) run)) next
@@ -67,7 +68,7 @@ run_more image now first i run below is =
     next : first + (i + 1) ≡ first + i + 1
     next = omega arith
 
-pub run_all : (image now : Image) (first i : ℕ) (run : Image) → length run ≤ i → with_run now (first + i) (drop i run) ≡ image → now ≡ image
+pub run_all : (image now : CrashFile) (first i : ℕ) (run : CrashFile) → length run ≤ i → with_run now (first + i) (drop i run) ≡ image → now ≡ image
 run_all image now first i run past is = sym (ap (with_run now (first + i)) (drop_all i run past)) ∙ is
 
 -- whether a block is in a run, and in one of a block more
@@ -92,7 +93,7 @@ mark_more marks first i n was room is = elim (cases_eq n (first + i)) [
 
 -- ---- a file in memory, by its lists
 
-pub written : (content now : Image) (loose marks : List Bool) (first : ℕ) (run : Image) → now ≡ with_run content first run
+pub written : (content now : CrashFile) (loose marks : List Bool) (first : ℕ) (run : CrashFile) → now ≡ with_run content first run
     → ((n : ℕ) → slice_index_or marks n false ≡ (is_in_run first (length run) n || slice_index_or loose n false))
     → Path BlockFile (record { content = now; loose = λ n. slice_index_or marks n false })
     (after_write (record { content = content; loose = λ n. slice_index_or loose n false }) first run)
@@ -106,7 +107,7 @@ no_flag zero k = refl
 no_flag (suc n) zero = refl
 no_flag (suc n) (suc k) = no_flag n k
 
-pub settled : (content now : Image) (loose marks : List Bool) (n : ℕ) → now ≡ content → marks ≡ replicate n false
+pub settled : (content now : CrashFile) (loose marks : List Bool) (n : ℕ) → now ≡ content → marks ≡ replicate n false
     → Path BlockFile (record { content = now; loose = λ k. slice_index_or marks k false })
     (after_sync (record { content = content; loose = λ k. slice_index_or loose k false }))
 settled content now loose marks n is none = λ i. record { content = is i; loose = flagged i }
@@ -124,11 +125,11 @@ written_back {X} new old n same size =
 -- ---- crash images
 
 -- a content is one of its own crash images
-pub content_is_image : (file : BlockFile) → IsWhole file.content → IsCrashImage file file.content
+pub content_is_image : (file : BlockFile) → IsWhole file.content → IsCrashFile file file.content
 content_is_image file whole = record { size = refl; kept = λ k is. refl; torn = λ k below is. whole k below }
 
 -- each block of a crash image has its 4,096 bytes
-pub image_is_whole : (file : BlockFile) (c : Image) → IsWhole file.content → IsCrashImage file c → IsWhole c
+pub image_is_whole : (file : BlockFile) (c : CrashFile) → IsWhole file.content → IsCrashFile file c → IsWhole c
 image_is_whole file c whole crash k below = go (file.loose k) refl
   where
     go : (is : Bool) → file.loose k ≡ is → IsBlock (block c k)
@@ -136,11 +137,11 @@ image_is_whole file c whole crash k below = go (file.loose k) refl
     go false is = subst IsBlock (sym (crash.kept k is)) (whole k (omega (arith, below, crash.size)))
 
 -- with no loose block a crash leaves the content
-pub crash_synced : (file : BlockFile) (c : Image) → IsSynced file → IsCrashImage file c → c ≡ file.content
+pub crash_synced : (file : BlockFile) (c : CrashFile) → IsSynced file → IsCrashFile file c → c ≡ file.content
 crash_synced file c all crash = ext_get_or [] c file.content crash.size (λ k below. crash.kept k (all k))
 
 -- a crash leaves the image outside S
-pub crash_outside : (S : ℕ → Type 0) (image : Image) (file : BlockFile) (c : Image) → SyncedOutside S image file → IsCrashImage file c
+pub crash_outside : (S : ℕ → Type 0) (image : CrashFile) (file : BlockFile) (c : CrashFile) → SyncedOutside S image file → IsCrashFile file c
     → SameOutside S image c
 crash_outside S image file c held crash = record {
   size = crash.size ∙ held.content.size;
@@ -148,7 +149,7 @@ crash_outside S image file c held crash = record {
 }
 
 -- a write of a run within S
-pub written_outside : (S : ℕ → Type 0) (image : Image) (file : BlockFile) (first : ℕ) (run : Image) → ((n : ℕ) → InRun first (length run) n → S n)
+pub written_outside : (S : ℕ → Type 0) (image : CrashFile) (file : BlockFile) (first : ℕ) (run : CrashFile) → ((n : ℕ) → InRun first (length run) n → S n)
     → SyncedOutside S image file → SyncedOutside S image (after_write file first run)
 written_outside S image file first run within held = record {
   content = record {
@@ -168,5 +169,5 @@ written_outside S image file first run within held = record {
     ]
 
 -- a sync
-pub synced_outside : (S : ℕ → Type 0) (image : Image) (file : BlockFile) → SyncedOutside S image file → SyncedOutside S image (after_sync file)
+pub synced_outside : (S : ℕ → Type 0) (image : CrashFile) (file : BlockFile) → SyncedOutside S image file → SyncedOutside S image (after_sync file)
 synced_outside S image file held = record { content = held.content; synced = λ k out. refl }

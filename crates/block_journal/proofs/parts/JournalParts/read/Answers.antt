@@ -1,6 +1,6 @@
 use Rattle.std.proofs.Common.{refl}
 use Rattle.block_journal.proofs.Parting.{sound_read}
-use Rattle.block_journal.proofs.parts.Parts.read.Goals as goal
+use Rattle.block_journal.proofs.parts.JournalParts.read.Goals as goal
 
 pub read_block-requires : goal.read_block-requires
 read_block-requires g c = record {
