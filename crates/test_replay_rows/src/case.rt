@@ -25,6 +25,9 @@ pub struct Case {
     said: Vec<u8>,
 }
 
+// What is said where the output has no room.
+const NO_ROOM: &str = "nsf: cannot write to standard output\n";
+
 fn text_of(bytes: &[u8]) -> &str {
     from_utf8(bytes).unwrap_or("no text")
 }
@@ -235,8 +238,13 @@ impl Case {
         Ok(())
     }
 
+    // Whether the last run, which ended so, tells that the output had no room.
+    fn is_narrow(&self, status: u8) -> bool {
+        status == 1 && self.said.as_slice() == NO_ROOM.as_bytes()
+    }
+
     // Runs the program on these words at each width of the output up to that of what is expected. Whatever doesn't fit
-    // ends it with the status 1.
+    // ends it with the status 1, and is told.
     fn check_narrow<F: Files, W: Write>(
         &mut self,
         rt: &F,
@@ -246,8 +254,12 @@ impl Case {
         let whole = self.output.len();
         for room in 0..=whole {
             let status = self.play(rt, words, room)?;
-            let expected = if room < whole { 1 } else { self.status };
-            if status == expected {
+            let is_good = if room < whole {
+                self.is_narrow(status)
+            } else {
+                self.is_expected(status)
+            };
+            if is_good {
                 self.good = self.good.saturating_add(1);
             } else {
                 self.tell(words, status, report)?;

@@ -14,10 +14,13 @@
 //! - `@` two numbers, and the words of runs: one with each stop from the first to the second, and with each fate;
 //! - `%` the words of runs: one at each output that is too narrow, and at one that is just wide enough;
 //! - an empty line ends the case.
+//!
+//! Behind the table it prints whether the program tells of words that can't be read as it should.
 #![tactic(auto)]
 
 mod case;
 mod streams;
+mod words;
 
 use case::Case;
 use std::io;
@@ -31,5 +34,6 @@ fn main(rt: HostRuntime) -> io::Result<()> {
     let followed = case.follow_all(&rt, &table, &mut report);
     drop(case);
     drop(table);
-    followed
+    followed?;
+    words::tell_each(rt.alloc(), &mut report)
 }
