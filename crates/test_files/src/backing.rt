@@ -68,19 +68,12 @@ pub struct Host {
     calls: u64,
     // The number of the call that fails, from 1, or 0.
     fails_at: u64,
-    // whether writes count as calls too
-    counts_writes: bool,
 }
 
 impl Host {
-    /// A device of zeros.
-    pub fn new(alloc: Global, sectors: usize) -> Result<Host, AllocError> {
-        let page = Page {
-            safe: [0; SECTOR_SIZE],
-            shown: [0; SECTOR_SIZE],
-            is_dirty: false,
-        };
-        Ok(Host::over(vec![in alloc; page; sectors]?))
+    /// No sector yet.
+    pub fn new(alloc: Global) -> Host {
+        Host::over(Vec::new(alloc))
     }
 
     // No call of it fails.
@@ -89,11 +82,20 @@ impl Host {
             pages,
             calls: 0,
             fails_at: 0,
-            counts_writes: true,
         }
     }
 
-    /// How many calls were counted since it was said which fails.
+    /// One sector more, which the device holds so, and the cache shows so. No sync writes it.
+    pub fn add(&mut self, safe: Sector, shown: Sector) -> Result<(), AllocError> {
+        self.pages.push(Page {
+            safe,
+            shown,
+            is_dirty: false,
+        })?;
+        Ok(())
+    }
+
+    /// How many writes and syncs came since it was said which fails.
     pub fn calls(&self) -> u64 {
         self.calls
     }
@@ -102,13 +104,6 @@ impl Host {
     pub fn fail_at(&mut self, number: u64) {
         self.calls = 0;
         self.fails_at = number;
-        self.counts_writes = true;
-    }
-
-    /// The sync of this number from now on fails, from 1.
-    pub fn fail_at_sync(&mut self, number: u64) {
-        self.fail_at(number);
-        self.counts_writes = false;
     }
 
     /// The cache is gone with the power. No later call fails.
@@ -129,13 +124,6 @@ impl Host {
         self.calls = self.calls.saturating_add(1);
         if self.calls == self.fails_at {
             return Err(io::Error::from(ErrorKind::Other));
-        }
-        Ok(())
-    }
-
-    fn answer_write(&mut self) -> io::Result<()> {
-        if self.counts_writes {
-            return self.answer();
         }
         Ok(())
     }
@@ -173,7 +161,7 @@ pub struct Used<'a> {
 impl Backing for Used<'_> {
     fn put(&mut self, n: u64, bytes: &Sector) -> io::Result<()> {
         self.host.show(n, bytes);
-        self.host.answer_write()
+        self.host.answer()
     }
 
     fn sync(&mut self) -> io::Result<()> {
@@ -199,6 +187,6 @@ impl Stored for Used<'_> {
             self.host.show(number, sector);
             number = number.saturating_add(1);
         }
-        self.host.answer_write()
+        self.host.answer()
     }
 }

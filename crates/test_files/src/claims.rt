@@ -6,7 +6,7 @@ pub(crate) fn claim(rt: &impl Abort, holds: bool, what: &str) {
     assert!(rt; holds, "{what}");
 }
 
-/// The same, with a number.
-pub(crate) fn claim_at(rt: &impl Abort, holds: bool, what: &str, number: u64) {
-    assert!(rt; holds, "{what} {number}");
+/// The same, with a number, and what came in place of it.
+pub(crate) fn claim_at(rt: &impl Abort, holds: bool, what: &str, number: u64, came: &str) {
+    assert!(rt; holds, "{what} {number}: {came}");
 }

@@ -1,436 +1,214 @@
-// Each write and sync of a script fails in turn, the power is lost, at once or in the next process, and the store is
-// opened again.
-use crate::backing::{Host, Loss, Used};
+// Each write and sync of a process fails in turn, and each of the next one, the power is lost, and the disk is opened
+// again.
+use crate::backing::{Host, Loss, Sector, Used};
 use crate::claims::{claim, claim_at};
-use flip_image::Halves;
-use nsf_core::BuildReply;
-use program_commands::Store;
-use records::{Body, Error, Geometry, Key, Mark, Pair, Rid, Row, SLOTS_PER_PAGE, Txn};
-use restart::{Event, Reply};
 use sector_device::{Device, SECTOR_SIZE};
-use std::alloc::Global;
+use std::alloc::{AllocError, Global};
 use std::process::Abort;
-use store_file::{Backing, FileDisk, OpenError};
-
-const ROWS: u8 = 5;
+use store_file::FileDisk;
 
 // More sectors than are read at once, and no multiple of those.
 const SECTORS: usize = 300;
 
-const LOSSES: [Loss; 3] = [Loss::Dropped, Loss::Kept, Loss::Torn];
+// The sectors that a process writes: the first and the last, and those at which what is read at once ends and begins.
+static WRITTEN: [u64; 4] = [0, 127, 128, 299];
 
-fn geometry() -> Result<Geometry, Error> {
-    Geometry::new(1, 64, 4)
-}
+// The bytes of a sector that are looked at: the first and the last of each half.
+static PLACES: [usize; 4] = [0, 255, 256, 511];
 
-fn sectors() -> usize {
-    match geometry() {
-        Ok(geometry) => geometry.sectors() as usize,
-        Err(_) => 0,
-    }
-}
+static LOSSES: [Loss; 3] = [Loss::Dropped, Loss::Kept, Loss::Torn];
 
-// Makes it a new store.
-fn format(alloc: Global, host: &mut Host, geometry: Geometry, sectors: usize) -> Result<(), Error> {
-    let mut disk = FileDisk::new(alloc, Used { host }, sectors)?;
-    let formatted = Halves::format(&mut disk, geometry);
-    drop(disk);
-    formatted
-}
+// Calls of a process: three runs of sectors are written back and synced, and twice four sectors are written and synced.
+const CALLS: u64 = 14;
 
-// A new store.
-fn formatted(alloc: Global) -> Result<Host, Error> {
-    let geometry = geometry()?;
-    let sectors = geometry.sectors() as usize;
-    let mut host = Host::new(alloc, sectors)?;
-    match format(alloc, &mut host, geometry, sectors) {
-        Ok(()) => Ok(host),
-        Err(error) => {
-            drop(host);
-            Err(error)
-        }
-    }
-}
-
-// How many rows were committed, and how many a flush told to be safe.
+// Of the sectors that are written: the version that all have that a sync covered, and the last one that was written.
 #[derive(Clone, Copy)]
 struct Told {
-    committed: u8,
-    acknowledged: u8,
+    safe: u8,
+    written: u8,
 }
 
-const NOTHING: Told = Told {
-    committed: 0,
-    acknowledged: 0,
-};
-
-fn close<D: Device + Drop>(store: Store<D>) {
-    drop(store.into_device());
+// A sector of this version, of at most 7. Its neighbours, and those of the same place in what is read at once, have
+// other bytes in each version.
+fn byte_of(n: u64, version: u8) -> u8 {
+    ((n % 31) as u8).wrapping_mul(8).wrapping_add(version)
 }
 
-fn serve<D: Device>(store: &mut Store<D>, event: Event) -> Reply<Global> {
-    store.serve(event)
+fn sector_of(n: u64, version: u8) -> Sector {
+    [byte_of(n, version); SECTOR_SIZE]
 }
 
-// Serves an event, whatever is answered.
-fn make<D: Device>(store: &mut Store<D>, event: Event) {
-    drop(serve(store, event));
+// Of each sector the device holds version 0, and the cache shows version 1: a sync failed, and no later one writes it.
+fn spoiled(alloc: Global) -> Result<Host, AllocError> {
+    let mut host = Host::new(alloc);
+    for n in 0..SECTORS as u64 {
+        if let Err(error) = host.add(sector_of(n, 0), sector_of(n, 1)) {
+            drop(host);
+            return Err(error);
+        }
+    }
+    Ok(host)
 }
 
-fn flush<D: Device>(store: &mut Store<D>) -> bool {
-    matches!(store.flush(), Reply::Horizon(_))
+fn is_put<D: Device>(disk: &mut D, n: u64, version: u8) -> bool {
+    n < disk.sectors() && disk.write(n, &sector_of(n, version)).is_ok()
 }
 
-fn begun<D: Device>(store: &mut Store<D>) -> Option<Txn> {
-    match serve(store, Event::Begin) {
-        Reply::Txn(txn) => Some(txn),
-        _ => None,
+// Whether each of these sectors is written, and synced.
+fn are_put<D: Device>(disk: &mut D, version: u8) -> bool {
+    for n in &WRITTEN {
+        if !is_put(disk, *n, version) {
+            return false;
+        }
+    }
+    disk.sync().is_ok()
+}
+
+// Writes two versions more, until a call fails.
+fn play<D: Device>(disk: &mut D, before: Told) -> Told {
+    let mut told = before;
+    for _ in 0..2u8 {
+        told.written = told.written.saturating_add(1);
+        if !are_put(disk, told.written) {
+            return told;
+        }
+        told.safe = told.written;
+    }
+    told
+}
+
+// The version of a byte of this sector.
+fn version_of(n: u64, byte: u8) -> u8 {
+    byte.wrapping_sub(byte_of(n, 0))
+}
+
+// The least version of those sectors.
+fn least_in(sectors: &[Sector]) -> u8 {
+    let mut least = u8::MAX;
+    for n in &WRITTEN {
+        if let Some(sector) = sectors.get(*n as usize) {
+            least = least.min(version_of(*n, sector[0]));
+        }
+    }
+    least
+}
+
+// A process opens the file, and writes, until a call fails. What the opening reads is safe.
+fn live(alloc: Global, host: &mut Host, told: Told) -> Told {
+    match FileDisk::over(alloc, Used { host }, SECTORS) {
+        Ok(mut disk) => {
+            let read = Told {
+                safe: least_in(disk.content()).max(told.safe),
+                written: told.written,
+            };
+            let told = play(&mut disk, read);
+            drop(disk);
+            told
+        }
+        Err(_) => told,
     }
 }
 
-fn is_committed<D: Device>(store: &mut Store<D>, txn: Txn) -> bool {
-    matches!(serve(store, Event::Commit { txn }), Reply::Ticket(_))
+// Whether a byte of the sector is one of these versions.
+fn is_among(n: u64, byte: u8, told: Told) -> bool {
+    let version = version_of(n, byte);
+    told.safe <= version && version <= told.written
 }
 
-// An insertion of a row with this number as its key.
-fn insertion(txn: Txn, number: u8) -> Result<Event, Error> {
-    let key = Key::new(&[number])?;
-    let body = Body::new(&[])?;
-    Ok(Event::Insert { txn, key, body })
-}
-
-// Puts such a row, and commits it.
-fn put<D: Device>(store: &mut Store<D>, number: u8) -> Result<bool, Error> {
-    let Some(txn) = begun(store) else {
-        return Ok(false);
+// Whether the sector is as it was told: of a version that is safe, or was written since.
+fn is_left(n: u64, sector: &Sector, told: Told) -> bool {
+    let told = if WRITTEN.contains(&n) {
+        told
+    } else {
+        Told {
+            safe: told.safe.min(1),
+            written: 1,
+        }
     };
-    make(store, insertion(txn, number)?);
-    make(store, Event::Step { txn });
-    Ok(is_committed(store, txn))
-}
-
-fn row_in<D: Device>(store: &Store<D>, rid: Rid) -> Option<Row> {
-    store.core().get(rid)
-}
-
-fn entry_above<D: Device>(store: &Store<D>, last: Option<Pair>) -> Option<(Pair, Mark)> {
-    store.core().above(last.as_ref())
-}
-
-// Whether the row has this number as its key.
-fn is_row(row: &Row, number: u8) -> bool {
-    row.key.as_slice() == [number].as_slice()
-}
-
-// How many rows there are, where these are the first ones.
-fn rows_in<D: Device>(store: &Store<D>) -> Option<u8> {
-    let mut rows: u8 = 0;
-    for slot in 0..SLOTS_PER_PAGE {
-        if let Some(row) = row_in(store, Rid { page: 0, slot }) {
-            if !is_row(&row, rows) || u16::from(rows) != slot {
-                return None;
-            }
-            rows = rows.saturating_add(1);
-        }
-    }
-    Some(rows)
-}
-
-// Whether a step of the builder is the last, or refused, if it is one of these.
-fn built<D: Device>(store: &mut Store<D>) -> Option<bool> {
-    match serve(store, Event::Build) {
-        Reply::Built(BuildReply::Done(_)) | Reply::Built(BuildReply::Idle) => Some(true),
-        Reply::Refused(_) => Some(false),
-        _ => None,
-    }
-}
-
-fn build<D: Device>(store: &mut Store<D>) -> bool {
-    for _ in 0..200 {
-        if let Some(is_built) = built(store) {
-            return is_built;
-        }
-    }
-    false
-}
-
-// How many entries there are, where each is live.
-fn entries_in<D: Device>(store: &Store<D>) -> Option<u8> {
-    let mut entries: u8 = 0;
-    let mut last: Option<Pair> = None;
-    for _ in 0..100 {
-        match entry_above(store, last) {
-            Some((pair, Mark::Live)) => {
-                entries = entries.saturating_add(1);
-                last = Some(pair);
-            }
-            Some((_, Mark::Marked)) => return None,
-            None => break,
-        }
-    }
-    Some(entries)
-}
-
-// Puts a row more, while the index is built, and flushes. Whether the flush was granted.
-fn put_more<D: Device>(store: &mut Store<D>, told: &mut Told, number: u8) -> Result<bool, Error> {
-    if put(store, number)? {
-        told.committed = told.committed.max(number.saturating_add(1));
-    }
-    make(store, Event::Build);
-    if !flush(store) {
-        return Ok(false);
-    }
-    told.acknowledged = told.committed;
-    Ok(true)
-}
-
-// Puts so many rows more, each flushed, while the index is built, until a flush is refused.
-fn play<D: Device>(store: &mut Store<D>, told: Told, more: u8) -> Result<Told, Error> {
-    let mut told = told;
-    make(store, Event::Create);
-    for _ in 0..more {
-        let Some(number) = rows_in(store) else {
-            return Ok(told);
-        };
-        if !put_more(store, &mut told, number)? {
-            return Ok(told);
-        }
-    }
-    Ok(told)
-}
-
-// The same on a disk, whose store is opened first.
-fn play_on<D: Device + Drop>(alloc: Global, disk: D, told: Told, more: u8) -> Result<Told, Error> {
-    match Store::open(alloc, disk) {
-        Ok(mut store) => {
-            let played = play(&mut store, told, more);
-            close(store);
-            played
-        }
-        Err(refused) => {
-            drop(refused);
-            Ok(told)
-        }
-    }
-}
-
-// A process opens the file, and puts rows, until a call fails.
-fn live(alloc: Global, host: &mut Host, told: Told, more: u8) -> Result<Told, Error> {
-    match FileDisk::over(alloc, Used { host }, sectors()) {
-        Ok(disk) => play_on(alloc, disk, told, more),
-        Err(_) => Ok(told),
-    }
-}
-
-// The store holds what was acknowledged; and its index all of it, where that is to be built.
-fn look_in<D: Device>(
-    rt: &impl Abort,
-    store: &mut Store<D>,
-    told: Told,
-    is_built: bool,
-) -> Result<(), Error> {
-    let Some(rows) = rows_in(store) else {
-        rt.panic("rows that weren't put");
-    };
-    claim(rt, told.acknowledged <= rows, "all that was acknowledged");
-    claim(rt, rows <= told.committed.saturating_add(1), "no row more");
-    if is_built && build(store) {
-        claim(rt, entries_in(store) == Some(rows), "an entry of each row");
-    }
-    Ok(())
-}
-
-// The same of the store on the disk.
-fn look_on<D: Device + Drop>(
-    rt: &impl Abort,
-    alloc: Global,
-    disk: D,
-    told: Told,
-    is_built: bool,
-) -> Result<(), Error> {
-    match Store::open(alloc, disk) {
-        Ok(mut store) => {
-            let looked = look_in(rt, &mut store, told, is_built);
-            close(store);
-            looked
-        }
-        Err(refused) => {
-            drop(refused);
-            rt.panic("the store can't be opened again")
-        }
-    }
-}
-
-// The same of what is left, once the power was lost.
-fn look(
-    rt: &impl Abort,
-    alloc: Global,
-    host: &mut Host,
-    told: Told,
-    is_built: bool,
-) -> Result<(), Error> {
-    match FileDisk::over(alloc, Used { host }, sectors()) {
-        Ok(disk) => look_on(rt, alloc, disk, told, is_built),
-        Err(_) => rt.panic("the file can't be opened again"),
-    }
-}
-
-// A process goes on over the cache, and the power is lost before this of its syncs is done. Whether it made so many.
-fn cut_at(
-    rt: &impl Abort,
-    alloc: Global,
-    next: &mut Host,
-    told: Told,
-    sync: u64,
-) -> Result<bool, Error> {
-    next.fail_at_sync(sync);
-    let told = live(alloc, next, told, 1)?;
-    if next.calls() < sync {
-        return Ok(false);
-    }
-    next.lose_power(Loss::Dropped);
-    look(rt, alloc, next, told, false)?;
-    Ok(true)
-}
-
-// The same before each of its syncs: what is on the device changes by these.
-fn cut_next(rt: &impl Abort, alloc: Global, host: &Host, told: Told) -> Result<(), Error> {
-    for sync in 1..100 {
-        let mut next = host.copied()?;
-        let made = cut_at(rt, alloc, &mut next, told, sync);
-        drop(next);
-        if !made? {
-            return Ok(());
-        }
-    }
-    rt.panic("more syncs than there are")
-}
-
-// A sector that can be told from its neighbours.
-fn numbered(n: usize) -> [u8; SECTOR_SIZE] {
-    [(n & 0xff) as u8; SECTOR_SIZE]
-}
-
-fn puts_all(host: &mut Host) -> bool {
-    let mut used = Used { host };
-    for n in 0..SECTORS {
-        if used.put(n as u64, &numbered(n)).is_err() {
+    for place in &PLACES {
+        if !is_among(n, sector[*place % SECTOR_SIZE], told) {
             return false;
         }
     }
     true
 }
 
-// Whether an opening reads each of them.
-fn reads_all(alloc: Global, host: &mut Host) -> Result<bool, OpenError> {
-    let disk = FileDisk::over(alloc, Used { host }, SECTORS)?;
-    let mut is_whole = true;
-    for (n, sector) in disk.content().iter().enumerate() {
-        is_whole = is_whole && *sector == numbered(n);
+fn are_left(sectors: &[Sector], told: Told) -> bool {
+    let mut number: u64 = 0;
+    for sector in sectors {
+        if !is_left(number, sector, told) {
+            return false;
+        }
+        number = number.saturating_add(1);
     }
-    drop(disk);
-    Ok(is_whole)
+    number == SECTORS as u64
 }
 
-// A sync fails, so the device holds nothing of what the cache shows, and no later sync writes it. Each sector that an
-// opening reads is on the device then, so that the next one reads it behind a cut.
-fn read_behind_sync(rt: &impl Abort, alloc: Global, host: &mut Host) {
-    claim(rt, puts_all(host), "sectors that are put");
-    host.fail_at_sync(1);
-    let is_refused = Used { host: &mut *host }.sync().is_err();
-    claim(rt, is_refused, "a sync that fails");
-    claim(rt, reads_all(alloc, host).unwrap_or(false), "each sector");
-    host.lose_power(Loss::Dropped);
-    claim(rt, reads_all(alloc, host).unwrap_or(false), "each sector");
-}
-
-#[test]
-fn each_sector_that_was_read_is_safe(rt: HostRuntime) -> Result<(), Error> {
-    let mut host = Host::new(rt.alloc(), SECTORS)?;
-    read_behind_sync(&rt, rt.alloc(), &mut host);
-    drop(host);
-    Ok(())
+// Opens the file once more, where no call fails: each sector is as it was told.
+fn look(rt: &impl Abort, alloc: Global, host: &mut Host, told: Told) {
+    match FileDisk::over(alloc, Used { host }, SECTORS) {
+        Ok(disk) => {
+            let are_left = are_left(disk.content(), told);
+            drop(disk);
+            claim(rt, are_left, "what was safe, or was written since");
+        }
+        Err(_) => rt.panic("the file can't be opened again"),
+    }
 }
 
 // The power is lost, and what is left is looked at.
-fn lose_each(rt: &impl Abort, alloc: Global, host: &Host, told: Told) -> Result<(), Error> {
-    for loss in LOSSES {
+fn lose_each(rt: &impl Abort, alloc: Global, host: &Host, told: Told) -> Result<(), AllocError> {
+    for loss in &LOSSES {
         let mut left = host.copied()?;
-        left.lose_power(loss);
-        let looked = look(rt, alloc, &mut left, told, true);
+        left.lose_power(*loss);
+        look(rt, alloc, &mut left, told);
         drop(left);
-        looked?;
     }
     Ok(())
 }
 
-// This call of a process fails, and then the power. Whether it made so many.
-fn fail_call(rt: &impl Abort, alloc: Global, host: &mut Host, call: u64) -> Result<bool, Error> {
+// This call of a process fails, if it makes so many. What is told then, and whether it made them.
+fn fail_at(alloc: Global, host: &mut Host, told: Told, call: u64) -> (Told, bool) {
     host.fail_at(call);
-    let told = live(alloc, host, NOTHING, ROWS)?;
-    if host.calls() < call {
-        claim_at(
-            rt,
-            call > 30 && told.acknowledged == ROWS,
-            "all calls:",
-            call,
-        );
-        return Ok(false);
-    }
-    lose_each(rt, alloc, host, told)?;
-    Ok(true)
+    let told = live(alloc, host, told);
+    (told, call <= host.calls())
 }
 
-// What a sync that failed didn't write is in the cache, and no later sync writes it. This sync of a process fails, and
-// the power is lost in the next one. Whether it made so many.
-fn fail_sync(rt: &impl Abort, alloc: Global, host: &mut Host, sync: u64) -> Result<bool, Error> {
-    host.fail_at_sync(sync);
-    let told = live(alloc, host, NOTHING, ROWS)?;
-    if host.calls() < sync {
-        claim_at(rt, sync > 10, "all syncs:", sync);
-        return Ok(false);
+// The next process goes on over the cache, each of its calls fails in turn, and then the power.
+fn fail_next(rt: &impl Abort, alloc: Global, host: &Host, told: Told) -> Result<(), AllocError> {
+    for call in 0..CALLS + 1 {
+        let mut next = host.copied()?;
+        let (told, is_made) = fail_at(alloc, &mut next, told, call);
+        let lost = lose_each(rt, alloc, &next, told);
+        drop(next);
+        lost?;
+        claim_at(rt, is_made, "a next process's call", call, "none");
     }
-    cut_next(rt, alloc, host, told)?;
-    Ok(true)
+    Ok(())
 }
 
-// Each call or sync of a process fails in turn on a store that was just formatted, until none does.
-fn fail_each_of(
-    rt: &impl Abort,
-    alloc: Global,
-    formatted: &Host,
-    is_of_syncs: bool,
-) -> Result<(), Error> {
-    // At 0 no call fails.
-    let first = if is_of_syncs { 1 } else { 0 };
-    for number in first..200 {
-        let mut host = formatted.copied()?;
-        let made = if is_of_syncs {
-            fail_sync(rt, alloc, &mut host, number)
-        } else {
-            fail_call(rt, alloc, &mut host, number)
+// The same of a first process. At 0 no call fails, and all that it wrote is safe.
+fn fail_each(rt: &impl Abort, alloc: Global, spoiled: &Host) -> Result<(), AllocError> {
+    for call in 0..CALLS + 1 {
+        let mut host = spoiled.copied()?;
+        let nothing = Told {
+            safe: 0,
+            written: 1,
         };
+        let (told, is_made) = fail_at(alloc, &mut host, nothing, call);
+        let failed = fail_next(rt, alloc, &host, told);
         drop(host);
-        if !made? {
-            return Ok(());
-        }
+        failed?;
+        claim_at(rt, is_made, "a process's call", call, "none");
+        claim(rt, call > 0 || told.safe == 3, "all is safe");
     }
-    rt.panic("more calls than there are")
+    Ok(())
 }
 
-fn fail_each(rt: &impl Abort, alloc: Global, is_of_syncs: bool) -> Result<(), Error> {
-    let formatted = formatted(alloc)?;
-    let failed = fail_each_of(rt, alloc, &formatted, is_of_syncs);
-    drop(formatted);
+#[test]
+fn what_a_sync_covered_is_kept_whichever_calls_fail(rt: HostRuntime) -> Result<(), AllocError> {
+    let spoiled = spoiled(rt.alloc())?;
+    let failed = fail_each(&rt, rt.alloc(), &spoiled);
+    drop(spoiled);
     failed
-}
-
-#[test]
-fn nothing_acknowledged_is_lost_whichever_call_fails(rt: HostRuntime) -> Result<(), Error> {
-    fail_each(&rt, rt.alloc(), false)
-}
-
-#[test]
-fn nothing_acknowledged_is_lost_in_the_next_process(rt: HostRuntime) -> Result<(), Error> {
-    fail_each(&rt, rt.alloc(), true)
 }

@@ -1,7 +1,7 @@
 //! Tests of files, of the stores in them, and of the program `nsf-store`.
 //!
 //! Of files: names, locks and refusals; what is written, synced and named, and in which order; and calls that fail. Of
-//! stores in them: what a backing that fails, drops or tears leaves. Then the verbs of `nsf-store`, one behind the
+//! disks over them: what a backing that fails, drops or tears leaves. Then the verbs of `nsf-store`, one behind the
 //! other on a real file, also of version 1.
 //!
 //! Proved of them is safety. Outside the gate, `tools/kill_store.py` kills the program at random moments.
@@ -11,8 +11,6 @@
 mod answers;
 #[cfg(test)]
 mod backing;
-#[cfg(test)]
-mod calls;
 #[cfg(test)]
 mod claims;
 #[cfg(test)]
@@ -26,6 +24,10 @@ mod program;
 #[cfg(test)]
 mod program_tests;
 #[cfg(test)]
+mod scenes;
+#[cfg(test)]
 mod scripts;
+#[cfg(test)]
+mod steps;
 #[cfg(test)]
 mod watched;

@@ -1,25 +1,13 @@
-// The program `nsf-store`, run.
-use crate::answers::Answers;
-use crate::claims::{claim, claim_at};
+// The program `nsf-store`, run in a test of some steps.
+use crate::answers::{Answers, Look};
+use crate::claims::claim_at;
+use crate::steps::{Act, holds, name_of_done, told_of_act};
+use std::alloc::{AllocError, Global};
 use std::fs::File;
 use std::process::Abort;
 use std::rt::Files;
 use std::{fs, io};
-
-/// What of a run is looked at besides its status and what it says.
-#[derive(Clone, Copy)]
-pub(crate) enum Look {
-    /// What it prints.
-    Whole,
-    /// How what it prints ends.
-    End,
-    /// What it prints, and each line is answered before the next one is read. As the last ticket is answered, the file
-    /// of this name holds all that it does in the end.
-    Durable(&'static str),
-    /// What it prints, and each line is answered before the next one is read. The file of this name is cut once a row
-    /// has its place.
-    Cut(&'static str),
-}
+use test_store::{Edit, sector_with};
 
 /// A run of the program: its words and its input; the status that it ends with; and what it prints, and says on the
 /// error stream.
@@ -33,25 +21,21 @@ pub(crate) struct ProgramRun {
     pub said: &'static str,
 }
 
-// The file that is looked at, and whether it is cut.
-fn file_of(look: Look) -> (&'static str, bool) {
-    match look {
-        Look::Whole | Look::End => ("", false),
-        Look::Durable(path) => (path, false),
-        Look::Cut(path) => (path, true),
-    }
-}
+/// What a file holds in so many sectors: these parts, and zeros elsewhere.
+pub(crate) type Parts = (u64, &'static [Edit<'static>]);
 
-/// Whether the file of that name holds these bytes.
-pub(crate) fn holds<R: Files<File = File> + AllocGlobal>(
-    rt: &R,
-    path: &str,
-    wanted: &[u8],
-) -> io::Result<bool> {
-    let bytes = fs::read(rt, path)?;
-    let is_same = bytes.as_slice() == wanted;
-    drop(bytes);
-    Ok(is_same)
+/// A step of such a test.
+#[derive(Clone, Copy)]
+pub(crate) enum Deed {
+    /// The program is run without input: its words, the status that it ends with, and what it prints and says.
+    Call(&'static [&'static str], u8, &'static str, &'static str),
+    Serve(ProgramRun),
+    /// The file of this name gets these parts.
+    Lay(&'static str, Parts),
+    /// It has just these.
+    Keep(&'static str, Parts),
+    /// This is done to it.
+    Act(&'static str, Act),
 }
 
 // Each line is answered before the next one is read, and the file holds what it is to hold.
@@ -59,13 +43,12 @@ fn is_looked<R: Files<File = File> + AllocGlobal>(
     rt: &R,
     answers: &Answers<'_, R>,
     run: &ProgramRun,
-) -> io::Result<bool> {
+) -> bool {
+    let is_each = answers.flushes >= run.input.lines().count();
     match run.look {
-        Look::Whole | Look::End => Ok(true),
-        Look::Durable(path) => {
-            Ok(answers.flushes >= run.input.lines().count() && holds(rt, path, &answers.held)?)
-        }
-        Look::Cut(_) => Ok(answers.flushes >= run.input.lines().count()),
+        Look::Whole | Look::End | Look::Moved(..) => true,
+        Look::Durable(path) => is_each && holds(rt, path, &answers.held).unwrap_or(false),
+        Look::Cut(_) => is_each,
     }
 }
 
@@ -88,70 +71,78 @@ fn serve<R: Files<File = File> + AllocGlobal>(
     program_shell::run(rt, run.words, &mut input, answers, said)
 }
 
-fn check<R: Abort + Files<File = File> + AllocGlobal>(
-    rt: &R,
-    run: &ProgramRun,
-    answers: &mut Answers<'_, R>,
-    said: &mut Vec<u8>,
-) -> io::Result<()> {
-    let status = serve(rt, run, answers, said);
-    claim(rt, is_printed(&answers.text, run), run.printed);
-    claim(rt, said.as_slice() == run.said.as_bytes(), run.said);
-    claim_at(
-        rt,
-        status == run.status,
-        "the status of a run:",
-        u64::from(status),
-    );
-    claim(
-        rt,
-        is_looked(rt, answers, run)?,
-        "the file, and each answer by itself",
-    );
-    Ok(())
-}
-
-/// Runs the program, and compares what comes of it.
-pub(crate) fn run<R: Abort + Files<File = File> + AllocGlobal>(
-    rt: &R,
-    run: &ProgramRun,
-) -> io::Result<()> {
-    let (path, is_cut) = file_of(run.look);
-    let mut answers = Answers::new(rt, path, is_cut);
+// Runs the program, and tells what came otherwise than is wanted.
+fn run<R: Files<File = File> + AllocGlobal>(rt: &R, run: &ProgramRun) -> &'static str {
+    let mut answers = Answers::new(rt, run.look);
     let mut said = Vec::new(rt.alloc());
-    let checked = check(rt, run, &mut answers, &mut said);
+    let status = serve(rt, run, &mut answers, &mut said);
+    let is_printed = is_printed(&answers.text, run);
+    let is_looked = is_looked(rt, &answers, run);
+    let is_said = said.as_slice() == run.said.as_bytes();
     drop(answers);
     drop(said);
-    checked
-}
-
-/// A run without input: its words, the status that it ends with, and what it prints and says.
-pub(crate) type Call = (&'static [&'static str], u8, &'static str, &'static str);
-
-/// Runs the program so.
-pub(crate) fn make<R: Abort + Files<File = File> + AllocGlobal>(
-    rt: &R,
-    made: &Call,
-) -> io::Result<()> {
-    let (words, status, printed, said) = *made;
-    let wanted = ProgramRun {
-        words,
-        input: "",
-        status,
-        look: Look::Whole,
-        printed,
-        said,
-    };
-    run(rt, &wanted)
-}
-
-/// Runs it so one call behind the other.
-pub(crate) fn make_all<R: Abort + Files<File = File> + AllocGlobal>(
-    rt: &R,
-    calls: &[Call],
-) -> io::Result<()> {
-    for one in calls {
-        make(rt, one)?;
+    match (is_printed, is_said, status == run.status, is_looked) {
+        (true, true, true, true) => "done",
+        (false, ..) => "prints otherwise",
+        (_, false, ..) => "says otherwise",
+        (_, _, false, _) => "ends otherwise",
+        _ => "the file, or an answer by itself",
     }
-    Ok(())
+}
+
+// What a file holds with these parts.
+fn bytes_of(alloc: Global, (sectors, parts): Parts) -> Result<Vec<u8>, AllocError> {
+    let mut bytes = Vec::new(alloc);
+    for n in 0..sectors {
+        bytes.extend_from_slice(sector_with(parts, n).as_slice())?;
+    }
+    Ok(bytes)
+}
+
+// Writes it, or tells whether the file holds just it.
+fn lay<R: Files<File = File> + AllocGlobal>(
+    rt: &R,
+    path: &str,
+    parts: Parts,
+    is_kept: bool,
+) -> io::Result<bool> {
+    let bytes = bytes_of(rt.alloc(), parts)?;
+    let laid = if is_kept {
+        holds(rt, path, &bytes)
+    } else {
+        fs::write(rt, path, bytes.as_slice()).map(|()| true)
+    };
+    drop(bytes);
+    laid
+}
+
+// What a step comes to.
+fn take<R: Files<File = File> + AllocGlobal>(rt: &R, deed: &Deed) -> &'static str {
+    match *deed {
+        Deed::Call(words, status, printed, said) => {
+            let call = ProgramRun {
+                words,
+                input: "",
+                status,
+                look: Look::Whole,
+                printed,
+                said,
+            };
+            run(rt, &call)
+        }
+        Deed::Serve(served) => run(rt, &served),
+        Deed::Lay(path, parts) => name_of_done(lay(rt, path, parts, false)),
+        Deed::Keep(path, parts) => name_of_done(lay(rt, path, parts, true)),
+        Deed::Act(path, act) => told_of_act(rt, path, act),
+    }
+}
+
+/// Takes steps, one behind the other, each of which comes to what is wanted. Else it is told which came to what.
+pub(crate) fn take_all<R: Abort + Files<File = File> + AllocGlobal>(rt: &R, deeds: &[Deed]) {
+    let mut number: u64 = 0;
+    for deed in deeds {
+        number = number.saturating_add(1);
+        let told = take(rt, deed);
+        claim_at(rt, told == "done", "step", number, told);
+    }
 }

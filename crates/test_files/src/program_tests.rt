@@ -1,16 +1,15 @@
 // The verbs of `nsf-store`, one behind the other on real files.
+use crate::answers::Look;
 use crate::claims::claim;
 use crate::help::HELP;
-use crate::program::{Call, Look, ProgramRun, holds, make, make_all, run};
+use crate::program::{Deed, ProgramRun, take_all};
 use crate::scripts::{FILLING, MANY};
+use crate::steps::Act;
 use program_shell::refuse_words;
-use std::alloc::{AllocError, Global};
-use std::fs::File;
+use std::io;
 use std::io::ErrorKind;
 use std::process::Abort;
-use std::rt::Files;
-use std::{fs, io};
-use test_store::{BUILDING_1, Edit, GROUP, SUPERBLOCK_1, sector_with};
+use test_store::{BUILDING_1, Edit, GROUP, SUPERBLOCK_1};
 
 const NEW: &[&str] = &[
     "nsf-store",
@@ -67,57 +66,40 @@ live :62 0.1
 life complete
 ";
 
-static MADE: [Call; 5] = [
-    (&["nsf-store", "--help"], 0, HELP, ""),
-    (NEW, 0, "", ""),
-    (NEW, 1, "", "nsf-store: s: it is there already\n"),
-    (&["nsf-store", "check", "s"], 0, "sound\n", ""),
-    (
+static SHOWN: [Deed; 11] = [
+    Deed::Call(&["nsf-store", "--help"], 0, HELP, ""),
+    Deed::Call(NEW, 0, "", ""),
+    Deed::Call(NEW, 1, "", "nsf-store: s: it is there already\n"),
+    Deed::Call(&["nsf-store", "check", "s"], 0, "sound\n", ""),
+    Deed::Call(
         &["nsf-store", "build", "s"],
         1,
         "",
         "nsf-store: s: it has no index; `create` in `run` begins one\n",
     ),
-];
-
-static SERVED: ProgramRun = ProgramRun {
-    words: &["nsf-store", "run", "s"],
-    input: SCRIPT,
-    status: 1,
-    look: Look::Whole,
-    printed: ANSWERS,
-    said: "",
-};
-
-static SHOWN: [Call; 4] = [
-    (&["nsf-store", "stat", "s"], 0, STAT, ""),
-    (
+    Deed::Serve(ProgramRun {
+        words: &["nsf-store", "run", "s"],
+        input: SCRIPT,
+        status: 1,
+        look: Look::Whole,
+        printed: ANSWERS,
+        said: "",
+    }),
+    Deed::Call(&["nsf-store", "stat", "s"], 0, STAT, ""),
+    Deed::Call(
         &["nsf-store", "build", "s"],
         0,
         "complete, 2 pairs attempted\n",
         "",
     ),
-    (&["nsf-store", "dump", "s"], 0, DUMP, ""),
-    (&["nsf-store", "check", "s"], 0, "sound\n", ""),
+    Deed::Call(&["nsf-store", "dump", "s"], 0, DUMP, ""),
+    Deed::Call(&["nsf-store", "check", "s"], 0, "sound\n", ""),
+    Deed::Act("s", Act::Remove),
 ];
 
-// Makes a store in the file of that name by these calls, serves it so, and removes it behind further calls.
-fn make_and_serve<R: Abort + Files<File = File> + AllocGlobal>(
-    rt: &R,
-    path: &str,
-    made: &[Call],
-    served: &ProgramRun,
-    shown: &[Call],
-) -> io::Result<()> {
-    make_all(rt, made)?;
-    run(rt, served)?;
-    make_all(rt, shown)?;
-    fs::remove_file(rt, path)
-}
-
 #[test]
-fn a_store_is_made_served_built_and_shown(rt: HostRuntime) -> io::Result<()> {
-    make_and_serve(&rt, "s", &MADE, &SERVED, &SHOWN)
+fn a_store_is_made_served_built_and_shown(rt: HostRuntime) {
+    take_all(&rt, &SHOWN);
 }
 
 // Words that can't be read for this.
@@ -135,31 +117,27 @@ fn words_that_are_no_text_are_told(rt: HostRuntime) {
     refuse(&rt, ErrorKind::InvalidData);
 }
 
-static NO_STORE: Call = (
-    &["nsf-store", "check", "t"],
-    1,
-    "",
-    "nsf-store: t: it holds no store of this format\n",
-);
-
-static NO_SECTORS: Call = (
-    &["nsf-store", "stat", "t"],
-    1,
-    "",
-    "nsf-store: t: its length of 1000 bytes is no number of sectors from 1 to 1048576\n",
-);
-
-fn tell_other_kinds<R: Abort + Files<File = File> + AllocGlobal>(rt: &R) -> io::Result<()> {
-    fs::write(rt, "t", [1; 1024].as_slice())?;
-    make(rt, &NO_STORE)?;
-    fs::write(rt, "t", [1; 1000].as_slice())?;
-    make(rt, &NO_SECTORS)?;
-    fs::remove_file(rt, "t")
-}
+static OTHER_KINDS: [Deed; 5] = [
+    Deed::Act("t", Act::Put(1, 1_024)),
+    Deed::Call(
+        &["nsf-store", "check", "t"],
+        1,
+        "",
+        "nsf-store: t: it holds no store of this format\n",
+    ),
+    Deed::Act("t", Act::Put(1, 1_000)),
+    Deed::Call(
+        &["nsf-store", "stat", "t"],
+        1,
+        "",
+        "nsf-store: t: its length of 1000 bytes is no number of sectors from 1 to 1048576\n",
+    ),
+    Deed::Act("t", Act::Remove),
+];
 
 #[test]
-fn a_file_of_another_kind_is_told_in_words(rt: HostRuntime) -> io::Result<()> {
-    tell_other_kinds(&rt)
+fn a_file_of_another_kind_is_told_in_words(rt: HostRuntime) {
+    take_all(&rt, &OTHER_KINDS);
 }
 
 const FULL: &str =
@@ -169,109 +147,138 @@ const FULL: &str =
 const AGAIN: &str =
     "nsf-store: f: its index is full: `nsf-store build --again` drops it, creates it anew and builds it\n";
 
-static NEW_F: [Call; 1] = [(
-    &["nsf-store", "new", "f", "--pages", "1", "--entries", "64"],
-    0,
-    "",
-    "",
-)];
-
-static FILLED: ProgramRun = ProgramRun {
-    words: &["nsf-store", "run", "f"],
-    input: FILLING,
-    status: 0,
-    look: Look::End,
-    printed: "refused 13 IndexFull\n",
-    said: FULL,
-};
-
-static WAY_OUT: [Call; 3] = [
-    (&["nsf-store", "build", "f"], 1, "", AGAIN),
-    (
+static WAY_OUT: [Deed; 6] = [
+    Deed::Call(
+        &["nsf-store", "new", "f", "--pages", "1", "--entries", "64"],
+        0,
+        "",
+        "",
+    ),
+    Deed::Serve(ProgramRun {
+        words: &["nsf-store", "run", "f"],
+        input: FILLING,
+        status: 0,
+        look: Look::End,
+        printed: "refused 13 IndexFull\n",
+        said: FULL,
+    }),
+    Deed::Call(&["nsf-store", "build", "f"], 1, "", AGAIN),
+    Deed::Call(
         &["nsf-store", "build", "--again", "f"],
         0,
         "complete, 60 pairs attempted\n",
         "",
     ),
-    (&["nsf-store", "check", "f"], 0, "sound\n", ""),
+    Deed::Call(&["nsf-store", "check", "f"], 0, "sound\n", ""),
+    Deed::Act("f", Act::Remove),
 ];
 
 #[test]
-fn the_way_out_of_a_full_index_is_told(rt: HostRuntime) -> io::Result<()> {
-    make_and_serve(&rt, "f", &NEW_F, &FILLED, &WAY_OUT)
+fn the_way_out_of_a_full_index_is_told(rt: HostRuntime) {
+    take_all(&rt, &WAY_OUT);
 }
 
-static NEW_M: [Call; 1] = [(
-    &["nsf-store", "new", "m", "--pages", "2", "--entries", "64"],
-    0,
-    "",
-    "",
-)];
-
-static MANY_ROWS: ProgramRun = ProgramRun {
-    words: &["nsf-store", "run", "m"],
-    input: MANY,
-    status: 0,
-    look: Look::End,
-    printed: "rid 1.2\nticket 68\n",
-    said: "",
-};
-
-static TOO_SMALL: [Call; 1] = [(
-    &["nsf-store", "build", "--again", "m"],
-    1,
-    "",
-    "nsf-store: m: its index has fewer places than the table has rows\n",
-)];
+static TOO_SMALL: [Deed; 4] = [
+    Deed::Call(
+        &["nsf-store", "new", "m", "--pages", "2", "--entries", "64"],
+        0,
+        "",
+        "",
+    ),
+    Deed::Serve(ProgramRun {
+        words: &["nsf-store", "run", "m"],
+        input: MANY,
+        status: 0,
+        look: Look::End,
+        printed: "rid 1.2\nticket 68\n",
+        said: "",
+    }),
+    Deed::Call(
+        &["nsf-store", "build", "--again", "m"],
+        1,
+        "",
+        "nsf-store: m: its index has fewer places than the table has rows\n",
+    ),
+    Deed::Act("m", Act::Remove),
+];
 
 #[test]
-fn an_index_that_is_too_small_is_told(rt: HostRuntime) -> io::Result<()> {
-    make_and_serve(&rt, "m", &NEW_M, &MANY_ROWS, &TOO_SMALL)
+fn an_index_that_is_too_small_is_told(rt: HostRuntime) {
+    take_all(&rt, &TOO_SMALL);
 }
 
 const CUT: &str = "nsf-store: the file's length was changed while it was open
 nsf-store: d: the file's length was changed while it was open
 ";
 
-static NEW_D: [Call; 1] = [(&["nsf-store", "new", "d", "--pages", "1"], 0, "", "")];
+const NEW_D: Deed = Deed::Call(&["nsf-store", "new", "d", "--pages", "1"], 0, "", "");
 
-static DURABLE: ProgramRun = ProgramRun {
-    words: &["nsf-store", "run", "--durable", "d"],
-    input: "begin\ninsert 1 =a =\ncommit 1\nbegin\ncommit 2\ncommit 9\n",
-    status: 0,
-    look: Look::Durable("d"),
-    printed: "txn 1\nrid 0.0\nticket 2\nhorizon 2\n\
-        txn 2\nticket 3\nhorizon 3\nrefused 9 NoSuchTxn\n",
-    said: "",
-};
-
-static FAILED: ProgramRun = ProgramRun {
-    words: &["nsf-store", "run", "d"],
-    input: "begin\ninsert 1 =a =\ncommit 1\nflush\nbegin\ncommit 2\n",
-    status: 1,
-    look: Look::Cut("d"),
-    printed: "txn 1\nrid 0.0\nticket 2\nrefused 2 DeviceFailed\ntxn 2\nrefused 2 DeviceFailed\n",
-    said: CUT,
-};
-
-static FAILED_DURABLE: ProgramRun = ProgramRun {
-    words: &["nsf-store", "run", "--durable", "d"],
-    input: "begin\ninsert 1 =a =\ncommit 1\nbegin\ncommit 2\n",
-    status: 1,
-    look: Look::Cut("d"),
-    printed: "txn 1\nrid 0.0\nrefused 2 DeviceFailed\ntxn 2\nrefused 2 DeviceFailed\n",
-    said: CUT,
-};
-
-fn commit_durably<R: Abort + Files<File = File> + AllocGlobal>(rt: &R) -> io::Result<()> {
-    make_and_serve(rt, "d", &NEW_D, &DURABLE, &[])?;
-    make_and_serve(rt, "d", &NEW_D, &FAILED, &[])?;
-    make_and_serve(rt, "d", &NEW_D, &FAILED_DURABLE, &[])
-}
+static DURABLE: [Deed; 9] = [
+    NEW_D,
+    Deed::Serve(ProgramRun {
+        words: &["nsf-store", "run", "--durable", "d"],
+        input: "begin\ninsert 1 =a =\ncommit 1\nbegin\ncommit 2\ncommit 9\n",
+        status: 0,
+        look: Look::Durable("d"),
+        printed: "txn 1\nrid 0.0\nticket 2\nhorizon 2\n\
+            txn 2\nticket 3\nhorizon 3\nrefused 9 NoSuchTxn\n",
+        said: "",
+    }),
+    Deed::Act("d", Act::Remove),
+    NEW_D,
+    Deed::Serve(ProgramRun {
+        words: &["nsf-store", "run", "d"],
+        input: "begin\ninsert 1 =a =\ncommit 1\nflush\nbegin\ncommit 2\n",
+        status: 1,
+        look: Look::Cut("d"),
+        printed: "txn 1\nrid 0.0\nticket 2\nrefused 2 DeviceFailed\ntxn 2\nrefused 2 DeviceFailed\n",
+        said: CUT,
+    }),
+    Deed::Act("d", Act::Remove),
+    NEW_D,
+    Deed::Serve(ProgramRun {
+        words: &["nsf-store", "run", "--durable", "d"],
+        input: "begin\ninsert 1 =a =\ncommit 1\nbegin\ncommit 2\n",
+        status: 1,
+        look: Look::Cut("d"),
+        printed: "txn 1\nrid 0.0\nrefused 2 DeviceFailed\ntxn 2\nrefused 2 DeviceFailed\n",
+        said: CUT,
+    }),
+    Deed::Act("d", Act::Remove),
+];
 
 #[test]
-fn a_durable_commit_is_safe_once_it_is_answered(rt: HostRuntime) -> io::Result<()> {
-    commit_durably(&rt)
+fn a_durable_commit_is_safe_once_it_is_answered(rt: HostRuntime) {
+    take_all(&rt, &DURABLE);
+}
+
+const LOST: &str =
+    "nsf-store: the file that is open no longer has its name. Where it is gone, a flush tells so\n";
+
+// The file that is open gets another name, and has what is committed then.
+static RENAMED: [Deed; 5] = [
+    NEW_D,
+    Deed::Serve(ProgramRun {
+        words: &["nsf-store", "run", "d"],
+        input: "begin\ninsert 1 =a =\ncommit 1\nbegin\ninsert 2 =b =\ncommit 2\n",
+        status: 0,
+        look: Look::Moved("d", "e"),
+        printed: "txn 1\nrid 0.0\nticket 2\ntxn 2\nrid 0.1\nticket 4\n",
+        said: LOST,
+    }),
+    Deed::Call(
+        &["nsf-store", "dump", "e"],
+        0,
+        "row 0.0 :61 :\nrow 0.1 :62 :\nlife none\n",
+        "",
+    ),
+    Deed::Act("d", Act::Miss),
+    Deed::Act("e", Act::Remove),
+];
+
+#[test]
+fn that_a_file_has_another_name_is_told(rt: HostRuntime) {
+    take_all(&rt, &RENAMED);
 }
 
 // How many sectors the least store of version 1 has.
@@ -308,144 +315,105 @@ reserved 0
 free 62
 ";
 
-static OLD: Call = (
+const OLD: Deed = Deed::Call(
     &["nsf-store", "stat", "old"],
     1,
     "",
     "nsf-store: old: it holds a store of version 1, which `nsf-store migrate` moves to a new file\n",
 );
 
-static MOVED_LOGGED: Call = (&["nsf-store", "migrate", "old", "new"], 0, LOGGED_STAT, "");
+const MOVE: &[&str] = &["nsf-store", "migrate", "old", "new"];
 
-static MOVED_BUILDING: Call = (
-    &["nsf-store", "migrate", "old", "new"],
-    0,
-    BUILDING_STAT,
+const SOUND: Deed = Deed::Call(&["nsf-store", "check", "new"], 0, "sound\n", "");
+
+const THERE: Deed = Deed::Call(MOVE, 1, "", "nsf-store: new: it is there already\n");
+
+const MOVE_NEW: Deed = Deed::Call(
+    &["nsf-store", "migrate", "new", "other"],
+    1,
     "",
+    "nsf-store: new: it holds a store of version 2, which needs no move\n",
 );
 
-static BEHIND: [Call; 3] = [
-    (&["nsf-store", "check", "new"], 0, "sound\n", ""),
-    (
-        &["nsf-store", "migrate", "old", "new"],
-        1,
-        "",
-        "nsf-store: new: it is there already\n",
-    ),
-    (
-        &["nsf-store", "migrate", "new", "other"],
-        1,
-        "",
-        "nsf-store: new: it holds a store of version 2, which needs no move\n",
-    ),
+const REMOVE_OLD: Deed = Deed::Act("old", Act::Remove);
+
+const REMOVE_NEW: Deed = Deed::Act("new", Act::Remove);
+
+// Stores of version 1 are moved, and are as before then.
+static MOVED: [Deed; 18] = [
+    Deed::Lay("old", (SECTORS, LOGGED)),
+    OLD,
+    Deed::Call(MOVE, 0, LOGGED_STAT, ""),
+    SOUND,
+    THERE,
+    MOVE_NEW,
+    Deed::Keep("old", (SECTORS, LOGGED)),
+    REMOVE_OLD,
+    REMOVE_NEW,
+    Deed::Lay("old", (SECTORS, BUILDING_1)),
+    OLD,
+    Deed::Call(MOVE, 0, BUILDING_STAT, ""),
+    SOUND,
+    THERE,
+    MOVE_NEW,
+    Deed::Keep("old", (SECTORS, BUILDING_1)),
+    REMOVE_OLD,
+    REMOVE_NEW,
 ];
-
-// What a file of so many sectors holds with these parts, and zeros elsewhere.
-fn bytes_of(alloc: Global, sectors: u64, parts: &[Edit<'_>]) -> Result<Vec<u8>, AllocError> {
-    let mut bytes = Vec::new(alloc);
-    for n in 0..sectors {
-        bytes.extend_from_slice(sector_with(parts, n).as_slice())?;
-    }
-    Ok(bytes)
-}
-
-fn write_parts<R: Files<File = File> + AllocGlobal>(
-    rt: &R,
-    path: &str,
-    sectors: u64,
-    parts: &[Edit<'_>],
-) -> io::Result<()> {
-    let bytes = bytes_of(rt.alloc(), sectors, parts)?;
-    let written = fs::write(rt, path, bytes.as_slice());
-    drop(bytes);
-    written
-}
-
-// Whether the file holds just these parts.
-fn holds_parts<R: Files<File = File> + AllocGlobal>(
-    rt: &R,
-    path: &str,
-    parts: &[Edit<'_>],
-) -> io::Result<bool> {
-    let wanted = bytes_of(rt.alloc(), SECTORS, parts)?;
-    let held = holds(rt, path, &wanted);
-    drop(wanted);
-    held
-}
-
-// A store of version 1 with these parts is moved by this call, and is as before then.
-fn move_file<R: Abort + Files<File = File> + AllocGlobal>(
-    rt: &R,
-    parts: &[Edit<'_>],
-    moved: &Call,
-) -> io::Result<()> {
-    write_parts(rt, "old", SECTORS, parts)?;
-    make(rt, &OLD)?;
-    make(rt, moved)?;
-    make_all(rt, &BEHIND)?;
-    claim(rt, holds_parts(rt, "old", parts)?, "the old file as before");
-    fs::remove_file(rt, "old")?;
-    fs::remove_file(rt, "new")
-}
-
-fn move_each<R: Abort + Files<File = File> + AllocGlobal>(rt: &R) -> io::Result<()> {
-    move_file(rt, LOGGED, &MOVED_LOGGED)?;
-    move_file(rt, BUILDING_1, &MOVED_BUILDING)
-}
 
 #[test]
-fn a_store_of_version_1_is_moved_to_a_new_file(rt: HostRuntime) -> io::Result<()> {
-    move_each(&rt)
+fn a_store_of_version_1_is_moved_to_a_new_file(rt: HostRuntime) {
+    take_all(&rt, &MOVED);
 }
-
-// Files of so many sectors with these parts, and what is said of them.
-static HARMED: [(u64, &[Edit<'_>], &str); 4] = [
-    (
-        SECTORS,
-        &[SUPERBLOCK_1, (516, 0, b"\x01")],
-        "nsf-store: harmed: it is damaged at sector 516\n",
-    ),
-    (
-        SECTORS,
-        &[SUPERBLOCK_1, (0, 11, b"\x03")],
-        "nsf-store: harmed: it is damaged at sector 0\n",
-    ),
-    (
-        SECTORS - 1,
-        &[SUPERBLOCK_1],
-        "nsf-store: harmed: it is shorter than the store that it begins with\n",
-    ),
-    (
-        SECTORS,
-        &[],
-        "nsf-store: harmed: it holds no store of this format\n",
-    ),
-];
 
 const MIGRATE: &[&str] = &["nsf-store", "migrate", "harmed", "left"];
 
-// Such a file isn't moved, and this is said. No other file is left.
-fn refuse_file<R: Abort + Files<File = File> + AllocGlobal>(
-    rt: &R,
-    sectors: u64,
-    parts: &[Edit<'_>],
-    said: &'static str,
-) -> io::Result<()> {
-    write_parts(rt, "harmed", sectors, parts)?;
-    make(rt, &(MIGRATE, 1, "", said))?;
-    claim(rt, !fs::exists(rt, "left")?, "no file");
-    claim(rt, !fs::exists(rt, "left.new")?, "no draft");
-    fs::remove_file(rt, "harmed")
-}
+const NO_FILE: Deed = Deed::Act("left", Act::Miss);
 
-fn refuse_each<R: Abort + Files<File = File> + AllocGlobal>(rt: &R) -> io::Result<()> {
-    for (sectors, parts, said) in &HARMED {
-        refuse_file(rt, *sectors, *parts, *said)?;
-    }
-    Ok(())
-}
+const NO_DRAFT: Deed = Deed::Act("left.new", Act::Miss);
+
+// Such a file isn't moved, and this is said. No other file is left.
+static HARMED: [Deed; 17] = [
+    Deed::Lay("harmed", (SECTORS, &[SUPERBLOCK_1, (516, 0, b"\x01")])),
+    Deed::Call(
+        MIGRATE,
+        1,
+        "",
+        "nsf-store: harmed: it is damaged at sector 516\n",
+    ),
+    NO_FILE,
+    NO_DRAFT,
+    Deed::Lay("harmed", (SECTORS, &[SUPERBLOCK_1, (0, 11, b"\x03")])),
+    Deed::Call(
+        MIGRATE,
+        1,
+        "",
+        "nsf-store: harmed: it is damaged at sector 0\n",
+    ),
+    NO_FILE,
+    NO_DRAFT,
+    Deed::Lay("harmed", (SECTORS - 1, &[SUPERBLOCK_1])),
+    Deed::Call(
+        MIGRATE,
+        1,
+        "",
+        "nsf-store: harmed: it is shorter than the store that it begins with\n",
+    ),
+    NO_FILE,
+    NO_DRAFT,
+    Deed::Lay("harmed", (SECTORS, &[])),
+    Deed::Call(
+        MIGRATE,
+        1,
+        "",
+        "nsf-store: harmed: it holds no store of this format\n",
+    ),
+    NO_FILE,
+    NO_DRAFT,
+    Deed::Act("harmed", Act::Remove),
+];
 
 #[test]
-fn no_file_is_left_where_nothing_is_moved(rt: HostRuntime) -> io::Result<()> {
-    refuse_each(&rt)
+fn no_file_is_left_where_nothing_is_moved(rt: HostRuntime) {
+    take_all(&rt, &HARMED);
 }

@@ -1,23 +1,38 @@
 // The system's files, whose writes, syncs, locks and names are noted. A call of these can fail; each write is
 // interrupted first, and takes only a part.
-use std::alloc::Alloc;
+use std::alloc::{Alloc, Allocator};
 use std::cell::Cell;
-use std::fs::{File, Metadata, OpenFile, OpenOptions, TryLockError};
+use std::fs::{File, Metadata, OpenFile, OpenOptions, Permissions, TryLockError};
 use std::io;
-use std::io::{Error, ErrorKind, Read, Seek, SeekFrom, Write};
+use std::io::{Error, ErrorKind, PipeReader, PipeWriter, Read, Seek, SeekFrom, Write};
+use std::os::fd::BorrowedFd;
 use std::os::unix::fs::FileExt;
+use std::os::unix::net::SocketAddr;
+use std::path::PathBuf;
 use std::rt::Files;
 use store_file::StoreFile;
 
 // How many bytes a write takes at most.
 const PART: usize = 300;
 
-/// What is to be called, and which call fails. Calls are letters: `k` locks a file, `h` locks it against those that
-/// would lock it alone, `w` writes, `s` syncs it, `f` syncs the folder of the process, `d` another one, `l` gives a
-/// second name, `r` removes one.
+/// What becomes of the calls of the system.
+#[derive(Clone, Copy)]
+pub enum System {
+    /// Each is made.
+    Plain,
+    /// Just these come. At first so many locks find the file locked. Calls are letters: `k` locks a file, `h` locks it
+    /// against those that would lock it alone, `w` writes, `s` syncs it, `f` syncs the folder of the process, `d`
+    /// another one, `l` gives a second name, `r` removes one.
+    Calls(&'static [u8], u64),
+    /// The one that so many come before fails with this number.
+    Fails(u64, i32),
+}
+
+/// The calls that came.
 #[derive(Drop)]
 pub struct Log {
-    expected: &'static [u8],
+    // Which are to come, if that is said.
+    expected: Option<&'static [u8]>,
     // How many of them came so far, or more than there are where another one came.
     met: Cell<usize>,
     // How many calls come before the one that fails.
@@ -30,30 +45,45 @@ pub struct Log {
 }
 
 impl Log {
-    pub fn new(expected: &'static [u8], before: u64, code: i32) -> Log {
+    fn new(expected: Option<&'static [u8]>, busy: u64, before: u64, code: i32) -> Log {
         Log {
             expected,
             met: Cell::new(0),
             before: Cell::new(before),
             code,
             is_interrupted: Cell::new(false),
-            busy: Cell::new(0),
+            busy: Cell::new(busy),
         }
     }
 
-    /// The next so many locks find the file locked.
-    pub fn keep_busy(&self, locks: u64) {
-        self.busy.set(locks);
+    /// No call yet.
+    pub fn of(system: System) -> Log {
+        match system {
+            System::Plain => Log::new(None, 0, u64::MAX, 0),
+            System::Calls(expected, busy) => Log::new(Some(expected), busy, u64::MAX, 0),
+            System::Fails(before, code) => Log::new(None, 0, before, code),
+        }
     }
 
-    /// Whether just the calls came that are expected.
+    /// Whether just the calls came that are to come, if that is said.
     pub fn is_met(&self) -> bool {
-        self.met.get() == self.expected.len()
+        match self.expected {
+            Some(expected) => self.met.get() == expected.len(),
+            None => true,
+        }
     }
 
     /// Whether the call that failed is the last that came.
     pub fn ends_with_failure(&self) -> bool {
         self.before.get() == u64::MAX
+    }
+
+    // Whether this call is to come next.
+    fn is_next(&self, call: u8) -> bool {
+        match self.expected {
+            Some(expected) => expected.get(self.met.get()).copied() == Some(call),
+            None => true,
+        }
     }
 
     fn note_lock(&self, call: u8) -> Result<(), TryLockError> {
@@ -70,11 +100,7 @@ impl Log {
 
     fn note(&self, call: u8) -> io::Result<()> {
         let met = self.met.get();
-        let is_expected = match self.expected.get(met) {
-            Some(expected) => *expected == call,
-            None => false,
-        };
-        self.met.set(if is_expected {
+        self.met.set(if self.is_next(call) {
             met.saturating_add(1)
         } else {
             usize::MAX
@@ -239,12 +265,48 @@ impl<'a, R: Files<File = File>> Files for Watched<'a, R> {
         self.rt.remove_dir(path)
     }
 
-    fn remove_dir_all<B: std::alloc::Allocator>(&self, alloc: B, path: &str) -> io::Result<()> {
+    fn remove_dir_all<B: Allocator>(&self, alloc: B, path: &str) -> io::Result<()> {
         self.rt.remove_dir_all(alloc, path)
     }
 
     fn hard_link(&self, original: &str, link: &str) -> io::Result<()> {
         self.log.note(b'l')?;
         self.rt.hard_link(original, link)
+    }
+
+    fn canonicalize<B: Allocator>(&self, alloc: B, path: &str) -> io::Result<PathBuf<B>> {
+        self.rt.canonicalize(alloc, path)
+    }
+
+    fn read_link<B: Allocator>(&self, alloc: B, path: &str) -> io::Result<PathBuf<B>> {
+        self.rt.read_link(alloc, path)
+    }
+
+    fn set_permissions(&self, path: &str, perm: Permissions) -> io::Result<()> {
+        self.rt.set_permissions(path, perm)
+    }
+
+    fn symlink(&self, original: &str, link: &str) -> io::Result<()> {
+        self.rt.symlink(original, link)
+    }
+
+    fn pipe(&self) -> io::Result<(PipeReader, PipeWriter)> {
+        self.rt.pipe()
+    }
+
+    fn chown(&self, path: &str, uid: Option<u32>, gid: Option<u32>) -> io::Result<()> {
+        self.rt.chown(path, uid, gid)
+    }
+
+    fn lchown(&self, path: &str, uid: Option<u32>, gid: Option<u32>) -> io::Result<()> {
+        self.rt.lchown(path, uid, gid)
+    }
+
+    fn create_dir_with_mode(&self, path: &str, mode: u32) -> io::Result<()> {
+        self.rt.create_dir_with_mode(path, mode)
+    }
+
+    fn bind_unix(&self, socket: BorrowedFd<'_>, addr: &SocketAddr) -> io::Result<()> {
+        self.rt.bind_unix(socket, addr)
     }
 }

@@ -1,6 +1,5 @@
 //! Bytes of sectors.
-use records::Error;
-use sector_device::{Device, SECTOR_SIZE};
+use sector_device::SECTOR_SIZE;
 
 /// A sector, a place in it, and what is written there.
 pub type Edit<'a> = (u64, usize, &'a [u8]);
@@ -27,49 +26,14 @@ pub const BUILDING_1: &[Edit<'_>] = &[
     (524, 63, b"\x01"),
 ];
 
-// Writes bytes into a sector from this place on.
-fn write_at(sector: &mut [u8; SECTOR_SIZE], at: usize, bytes: &[u8]) {
+/// Writes bytes into a sector from this place on, as far as it goes.
+pub fn write_at(sector: &mut [u8; SECTOR_SIZE], at: usize, bytes: &[u8]) {
     for n in 0..bytes.len() {
         let place = at.saturating_add(n);
         if place < SECTOR_SIZE {
             sector[place] = bytes[n];
         }
     }
-}
-
-fn read_sector<D: Device>(device: &mut D, n: u64) -> Result<[u8; SECTOR_SIZE], Error> {
-    if device.sectors() <= n {
-        return Err(Error::DeviceTooSmall);
-    }
-    let mut sector = [0; SECTOR_SIZE];
-    match device.read(n, &mut sector) {
-        Ok(()) => Ok(sector),
-        Err(_) => Err(Error::DeviceFailed),
-    }
-}
-
-fn write_sector<D: Device>(
-    device: &mut D,
-    n: u64,
-    sector: &[u8; SECTOR_SIZE],
-) -> Result<(), Error> {
-    if device.sectors() <= n {
-        return Err(Error::DeviceTooSmall);
-    }
-    match device.write(n, sector) {
-        Ok(()) => Ok(()),
-        Err(_) => Err(Error::DeviceFailed),
-    }
-}
-
-/// Writes bytes into sectors of a device.
-pub(crate) fn edit<D: Device>(device: &mut D, edits: &[Edit<'_>]) -> Result<(), Error> {
-    for (n, at, bytes) in edits {
-        let mut sector = read_sector(device, *n)?;
-        write_at(&mut sector, *at, bytes);
-        write_sector(device, *n, &sector)?;
-    }
-    Ok(())
 }
 
 /// The sector of this number, where all is zeros but for these bytes.
@@ -81,19 +45,4 @@ pub fn sector_with(edits: &[Edit<'_>], n: u64) -> [u8; SECTOR_SIZE] {
         }
     }
     sector
-}
-
-/// Whether the sectors from the first number up to the end, which is left out, hold these bytes, and zeros elsewhere.
-pub(crate) fn holds<D: Device>(
-    device: &mut D,
-    edits: &[Edit<'_>],
-    first: u64,
-    end: u64,
-) -> Result<bool, Error> {
-    for n in first..end {
-        if read_sector(device, n)? != sector_with(edits, n) {
-            return Ok(false);
-        }
-    }
-    Ok(true)
 }

@@ -1,12 +1,15 @@
 // An index is built over as many rows as a store holds.
+use crate::answer::Answer;
 use crate::claims::{claim, claim_at};
-use crate::jobs::{Work, do_work};
+use crate::disk::Disk;
+use crate::jobs::{Job, do_job};
+use crate::opened::{begin, commit, open};
+use crate::store::{OpenStore, StoreMemory};
 use nsf_core::BuildReply;
 use records::{Body, Error, Key, Pair, Txn, compare_pairs};
 use restart::Event;
 use std::alloc::Global;
 use std::process::Abort;
-use test_store::{Answer, Disk, OpenStore, StoreMemory, open};
 
 const PAGES: u32 = 256;
 
@@ -22,14 +25,6 @@ fn insertion(txn: Txn, n: u32) -> Result<Event, Error> {
 // Whether it gives the row a place.
 fn is_put(store: &mut impl OpenStore, insertion: &Event) -> bool {
     matches!(store.ask(insertion), Answer::Rid(_))
-}
-
-fn begin(store: &mut impl OpenStore) {
-    store.ask(&Event::Begin);
-}
-
-fn commit(store: &mut impl OpenStore, txn: Txn) {
-    store.ask(&Event::Commit { txn });
 }
 
 // 64 insertions, from this one on.
@@ -114,7 +109,7 @@ pub(crate) fn fill_and_build_over<M: StoreMemory>(
     memory: M,
     alloc: Global,
 ) -> Result<(), Error> {
-    let mut store = open(memory, Disk::formatted(alloc, PAGES, 4)?)?;
+    let mut store = open(rt, memory, Disk::formatted(alloc, PAGES, 4)?)?;
     let built = fill_and_build(rt, &mut store);
     drop(store.close());
     built
@@ -122,5 +117,5 @@ pub(crate) fn fill_and_build_over<M: StoreMemory>(
 
 #[test]
 fn an_index_over_every_place(rt: HostRuntime) -> Result<(), Error> {
-    do_work(&rt, rt.alloc(), Work::BuildIndex)
+    do_job(&rt, rt.alloc(), &[], Job::BuildIndex)
 }

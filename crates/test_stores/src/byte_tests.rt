@@ -1,12 +1,14 @@
 // A store byte by byte, as the format document has it.
 use crate::claims::claim_at;
+use crate::disk::Disk;
 use crate::image_tests::run_over;
-use crate::jobs::{Play, do_play};
+use crate::jobs::{Job, do_job};
+use crate::store::StoreMemory;
 use records::Error;
 use restart::Event;
 use std::alloc::Global;
 use std::process::Abort;
-use test_store::{Disk, Edit, GROUP, Script, StoreMemory};
+use test_store::{Edit, GROUP, Script};
 
 // A commit, and then a build, a change behind it that owes nothing, and an image.
 static SCRIPT: [Script<'static>; 1] = [(
@@ -50,12 +52,11 @@ static COMPARED: [(u64, u64); 5] = [
     (2134, 2143),
 ];
 
-fn compare(rt: &impl Abort, disk: &mut Disk) -> Result<(), Error> {
+fn compare(rt: &impl Abort, disk: &mut Disk) {
     for (first, end) in &COMPARED {
-        let holds = disk.holds(BYTES.as_slice(), *first, *end)?;
+        let holds = disk.holds(BYTES.as_slice(), *first, *end);
         claim_at(rt, holds, "the sectors from this one on:", *first);
     }
-    Ok(())
 }
 
 pub(crate) fn run_and_compare<M: StoreMemory>(
@@ -65,14 +66,14 @@ pub(crate) fn run_and_compare<M: StoreMemory>(
     events: &[Event],
 ) -> Result<(), Error> {
     let disk = Disk::formatted(alloc, 1, 4)?;
-    let (answers, mut disk) = run_over(memory, disk, events)?;
+    let (answers, mut disk) = run_over(rt, memory, disk, events)?;
     drop(answers);
-    let compared = compare(rt, &mut disk);
+    compare(rt, &mut disk);
     drop(disk);
-    compared
+    Ok(())
 }
 
 #[test]
 fn a_store_byte_by_byte(rt: HostRuntime) -> Result<(), Error> {
-    do_play(&rt, rt.alloc(), &SCRIPT, Play::CompareBytes)
+    do_job(&rt, rt.alloc(), &SCRIPT, Job::CompareBytes)
 }

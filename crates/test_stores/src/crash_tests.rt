@@ -1,12 +1,17 @@
 // A store is stopped at each call of its device in turn, and crashes; and so are the restarts behind it.
+use crate::answer::Answer;
 use crate::claims::{claim, claim_at};
-use crate::jobs::{Play, do_play};
+use crate::contents::Contents;
+use crate::disk::Disk;
+use crate::jobs::{Job, do_job};
+use crate::opened::open;
+use crate::store::{OpenStore, StoreMemory};
 use records::Error;
 use restart::Event;
 use sector_device::{Fate, Which};
 use std::alloc::Global;
 use std::process::Abort;
-use test_store::{Answer, Contents, Disk, OpenStore, Script, StoreMemory, open};
+use test_store::Script;
 
 // More than the calls that a run makes.
 const CALLS: u64 = 1_000;
@@ -36,14 +41,6 @@ struct Whole<'a> {
     given: Vec<Contents>,
 }
 
-// The number up to which all is told to be safe, if an answer tells that.
-fn told_safe(answer: &Answer) -> Option<u64> {
-    match answer {
-        Answer::Horizon(number) | Answer::Flipped(number) => Some(*number),
-        _ => None,
-    }
-}
-
 // Runs the requests while nothing fails, and keeps what is answered and given.
 fn run_whole(
     store: &mut impl OpenStore,
@@ -54,7 +51,7 @@ fn run_whole(
     given.push(store.contents())?;
     for event in events {
         let answer = store.ask(event);
-        if told_safe(&answer).is_some() {
+        if answer.safe().is_some() {
             given.push(store.contents())?;
         }
         answers.push(answer)?;
@@ -64,11 +61,12 @@ fn run_whole(
 
 // Runs the requests on a new store while nothing fails.
 fn whole_by_new<'a, M: StoreMemory>(
+    rt: &impl Abort,
     memory: M,
     alloc: Global,
     events: &'a [Event],
 ) -> Result<Whole<'a>, Error> {
-    let mut store = open(memory, Disk::formatted(alloc, 1, 4)?)?;
+    let mut store = open(rt, memory, Disk::formatted(alloc, 1, 4)?)?;
     let mut answers = Vec::new(alloc);
     let mut given = Vec::new(alloc);
     let run = run_whole(&mut store, events, &mut answers, &mut given);
@@ -87,8 +85,6 @@ fn whole_by_new<'a, M: StoreMemory>(
     }
 }
 
-const FAILED: Answer = Answer::Refused(Error::DeviceFailed);
-
 // What a run has told: up to which number all is safe, and whether the device has failed.
 #[derive(Clone, Copy)]
 struct Told {
@@ -96,19 +92,14 @@ struct Told {
     failed: bool,
 }
 
-// Whether the request is for the device, which is answered so while nothing fails.
-fn is_for_device(wanted: &Answer) -> bool {
-    *wanted == Answer::Copied || told_safe(wanted).is_some()
-}
-
 // Takes the answer to a request: whether it may be this, where that is answered while nothing fails. A failure of the
 // device is told, and from then on whenever the device is asked; all other answers stay.
 fn take_answer(told: &mut Told, answer: &Answer, wanted: &Answer) -> bool {
-    if is_for_device(wanted) && (told.failed || *answer == FAILED) {
+    if wanted.is_of_device() && (told.failed || answer.is_failure()) {
         told.failed = true;
-        return *answer == FAILED;
+        return answer.is_failure();
     }
-    told.safe = told_safe(answer).unwrap_or(told.safe);
+    told.safe = answer.safe().unwrap_or(told.safe);
     answer == wanted
 }
 
@@ -298,7 +289,7 @@ pub(crate) fn stop_in_each<M: StoreMemory>(
     events: &[Event],
     cases: &[Case],
 ) -> Result<(), Error> {
-    let whole = whole_by_new(memory, alloc, events)?;
+    let whole = whole_by_new(rt, memory, alloc, events)?;
     let stopped = stop_whole(rt, memory, alloc, &whole, cases);
     drop(whole);
     stopped
@@ -348,20 +339,20 @@ static FAILING: [Case; 1] = [Case {
 
 #[test]
 fn each_stop_that_loses_all(rt: HostRuntime) -> Result<(), Error> {
-    do_play(&rt, rt.alloc(), &SCRIPT, Play::Stop(&LOSING))
+    do_job(&rt, rt.alloc(), &SCRIPT, Job::Stop(&LOSING))
 }
 
 #[test]
 fn each_stop_that_keeps_all(rt: HostRuntime) -> Result<(), Error> {
-    do_play(&rt, rt.alloc(), &SCRIPT, Play::Stop(&KEEPING))
+    do_job(&rt, rt.alloc(), &SCRIPT, Job::Stop(&KEEPING))
 }
 
 #[test]
 fn each_stop_that_spoils(rt: HostRuntime) -> Result<(), Error> {
-    do_play(&rt, rt.alloc(), &SCRIPT, Play::Stop(&SPOILING))
+    do_job(&rt, rt.alloc(), &SCRIPT, Job::Stop(&SPOILING))
 }
 
 #[test]
 fn each_failure(rt: HostRuntime) -> Result<(), Error> {
-    do_play(&rt, rt.alloc(), &SCRIPT, Play::Stop(&FAILING))
+    do_job(&rt, rt.alloc(), &SCRIPT, Job::Stop(&FAILING))
 }

@@ -1,10 +1,13 @@
 // Stores that were harmed.
 use crate::claims::claim;
-use crate::jobs::{Work, do_work};
+use crate::disk::Disk;
+use crate::jobs::{Job, do_job};
+use crate::opened::open;
+use crate::store::{OpenStore, StoreMemory};
 use records::Error;
 use std::alloc::Global;
 use std::process::Abort;
-use test_store::{Disk, Edit, GROUP, OpenStore, StoreMemory, open};
+use test_store::{Edit, GROUP};
 
 /// Why the store on the disk isn't opened.
 pub(crate) fn why_not_open<M: StoreMemory>(memory: M, disk: Disk) -> Option<Error> {
@@ -109,12 +112,12 @@ pub(crate) fn open_harmed<M: StoreMemory>(
 
 #[test]
 fn stores_that_were_harmed(rt: HostRuntime) -> Result<(), Error> {
-    do_work(&rt, rt.alloc(), Work::OpenHarmed)
+    do_job(&rt, rt.alloc(), &[], Job::OpenHarmed)
 }
 
 // The number of the record that ended the build of the index on the disk.
-fn completed_by<M: StoreMemory>(memory: M, disk: Disk) -> Result<u64, Error> {
-    let mut store = open(memory, disk)?;
+fn completed_by<M: StoreMemory>(rt: &impl Abort, memory: M, disk: Disk) -> Result<u64, Error> {
+    let mut store = open(rt, memory, disk)?;
     let completed = store.build_to_end();
     drop(store.close());
     completed
@@ -127,11 +130,11 @@ pub(crate) fn complete_index<M: StoreMemory>(
     alloc: Global,
 ) -> Result<(), Error> {
     let disk = edited(alloc, &[(2, 0, b"\x02")])?;
-    claim(rt, completed_by(memory, disk) == Ok(0), "no record");
+    claim(rt, completed_by(rt, memory, disk) == Ok(0), "no record");
     Ok(())
 }
 
 #[test]
 fn an_index_that_no_record_completed(rt: HostRuntime) -> Result<(), Error> {
-    do_work(&rt, rt.alloc(), Work::CompleteIndex)
+    do_job(&rt, rt.alloc(), &[], Job::CompleteIndex)
 }

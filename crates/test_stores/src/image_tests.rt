@@ -1,13 +1,18 @@
 // Images that are copied piece by piece.
-use crate::claims::claim;
-use crate::jobs::{Play, do_play};
+use crate::answer::Answer;
+use crate::claims::{claim, claim_at};
+use crate::contents::Contents;
+use crate::disk::Disk;
+use crate::jobs::{Job, do_job};
+use crate::opened::{held_on, open};
+use crate::store::{OpenStore, StoreMemory};
 use model::Life;
 use records::Error;
 use restart::Event;
-use sector_device::Fate;
+use sector_device::{Fate, Which};
 use std::alloc::Global;
 use std::process::Abort;
-use test_store::{Answer, Contents, Disk, OpenStore, Script, StoreMemory, open};
+use test_store::{Script, requests_of};
 
 /// What requests on a store of so many pages and slots tell, up to the flip that ends them: the last numbers of records
 /// to wait for, or that are safe, where a piece that is copied counts as 0. A crash leaves two rows then, and so many
@@ -19,17 +24,6 @@ pub(crate) struct Flip<'a> {
     entries: usize,
 }
 
-// The number of a record that an answer tells of: one to wait for, or the last that is safe. Of a piece that is copied,
-// 0.
-fn number_of(answer: &Answer) -> Option<u64> {
-    match answer {
-        Answer::Copied => Some(0),
-        Answer::Ticket(ticket) => Some(ticket.record.get()),
-        Answer::Horizon(number) | Answer::Flipped(number) => Some(*number),
-        _ => None,
-    }
-}
-
 // Whether the last numbers that the answers tell are these.
 fn tell_at_last(answers: &[Answer], numbers: &[u64]) -> bool {
     let mut before = numbers;
@@ -37,7 +31,7 @@ fn tell_at_last(answers: &[Answer], numbers: &[u64]) -> bool {
         let Some((last, others)) = before.split_last() else {
             return true;
         };
-        if let Some(number) = number_of(answer) {
+        if let Some(number) = answer.number() {
             if number != *last {
                 return false;
             }
@@ -49,11 +43,12 @@ fn tell_at_last(answers: &[Answer], numbers: &[u64]) -> bool {
 
 /// What these requests to the store on the disk are answered, and what they leave.
 pub(crate) fn run_over<M: StoreMemory>(
+    rt: &impl Abort,
     memory: M,
     disk: Disk,
     events: &[Event],
 ) -> Result<(Vec<Answer>, Disk), Error> {
-    let mut store = open(memory, disk)?;
+    let mut store = open(rt, memory, disk)?;
     let run = store.run(events);
     let disk = store.close();
     match run {
@@ -63,14 +58,6 @@ pub(crate) fn run_over<M: StoreMemory>(
             Err(error)
         }
     }
-}
-
-/// What the store on the disk holds.
-pub(crate) fn held_on<M: StoreMemory>(memory: M, disk: Disk) -> Result<Contents, Error> {
-    let store = open(memory, disk)?;
-    let held = store.contents();
-    drop(store.close());
-    Ok(held)
 }
 
 // What is left is this, where the last record that is safe has this number.
@@ -103,11 +90,11 @@ pub(crate) fn check_flip<M: StoreMemory>(
     flip: &Flip<'_>,
 ) -> Result<(), Error> {
     let disk = Disk::formatted(alloc, flip.size.0, flip.size.1)?;
-    let (answers, disk) = run_over(memory, disk, events)?;
+    let (answers, disk) = run_over(rt, memory, disk, events)?;
     let is_flipped = matches!(answers.last(), Some(Answer::Flipped(_)));
     let is_told = tell_at_last(&answers, flip.numbers);
     drop(answers);
-    let held = held_on(memory, disk.crash(Fate::Junk));
+    let held = held_on(rt, memory, disk.crash(Fate::Junk));
     claim(rt, is_flipped, "a flip at the end");
     claim(rt, is_told, "the numbers that are told");
     check_left(rt, &held?, flip);
@@ -142,8 +129,8 @@ static BEHIND_DROP: Flip<'static> = Flip {
 
 #[test]
 fn images_between_requests(rt: HostRuntime) -> Result<(), Error> {
-    do_play(&rt, rt.alloc(), &BETWEEN_REQUESTS, Play::Flip(&BETWEEN))?;
-    do_play(&rt, rt.alloc(), &DROPPED, Play::Flip(&BEHIND_DROP))
+    do_job(&rt, rt.alloc(), &BETWEEN_REQUESTS, Job::Flip(&BETWEEN))?;
+    do_job(&rt, rt.alloc(), &DROPPED, Job::Flip(&BEHIND_DROP))
 }
 
 // Four transactions of 50 rows each, and this behind them.
@@ -184,18 +171,103 @@ static ANEW: Flip<'static> = Flip {
 #[test]
 fn images_of_builds(rt: HostRuntime) -> Result<(), Error> {
     let scripts = behind_200_rows(OF_A_BUILD);
-    do_play(&rt, rt.alloc(), &scripts, Play::Flip(&BUILT))?;
+    do_job(&rt, rt.alloc(), &scripts, Job::Flip(&BUILT))?;
     let scripts = behind_200_rows(MADE_ANEW);
-    do_play(&rt, rt.alloc(), &scripts, Play::Flip(&ANEW))
+    do_job(&rt, rt.alloc(), &scripts, Job::Flip(&ANEW))
+}
+
+// An image of four pages, without an index, takes its start, the pages, no entries, and a flip.
+const STEPS: u32 = 7;
+
+// 200 rows on four pages; so many steps of images; then this; and then an image.
+fn behind_images(steps: u32, change: &str) -> [Script<'_>; 12] {
+    [
+        (1, "begin\n"),
+        (50, "insert 1 =a =\n"),
+        (1, "commit 1\nbegin\n"),
+        (50, "insert 2 =a =\n"),
+        (1, "commit 2\nbegin\n"),
+        (50, "insert 3 =a =\n"),
+        (1, "commit 3\nbegin\n"),
+        (50, "insert 4 =a =\n"),
+        (1, "commit 4\n"),
+        (steps, "image\n"),
+        (1, change),
+        (STEPS, "image\n"),
+    ]
+}
+
+// How many writes and syncs these requests make to a new store of four pages.
+fn calls_of<M: StoreMemory>(
+    rt: &impl Abort,
+    memory: M,
+    alloc: Global,
+    scripts: &[Script<'_>],
+) -> Result<u64, Error> {
+    let events = requests_of(alloc, scripts)?;
+    let disk = Disk::formatted(alloc, 4, 16)?.failing(Which::WritesAndSyncs, 0);
+    let ran = run_over(rt, memory, disk, &events);
+    drop(events);
+    let (answers, disk) = ran?;
+    drop(answers);
+    let made = disk.made();
+    drop(disk);
+    Ok(made)
+}
+
+// How many the last image makes, behind so many steps of images and this.
+fn calls_of_image<M: StoreMemory>(
+    rt: &impl Abort,
+    memory: M,
+    alloc: Global,
+    (steps, change): (u32, &str),
+) -> Result<u64, Error> {
+    let scripts = behind_images(steps, change);
+    let all = calls_of(rt, memory, alloc, &scripts)?;
+    let before = calls_of(rt, memory, alloc, &scripts[..11])?;
+    Ok(all.saturating_sub(before))
+}
+
+// A row of the first page is put anew.
+const CHANGED: &str = "begin\nupdate 5 0.0 =b =\ncommit 5\n";
+
+// What stands before an image, and how many pages of 16 sectors it passes over, of four. The second image of a store is
+// whole, as the first one is. The third passes over the pages that didn't change since the first.
+static PASSED: [(u32, &str, u64); 4] = [
+    (0, "", 0),
+    (STEPS, "", 0),
+    (2 * STEPS, "", 4),
+    (2 * STEPS, CHANGED, 3),
+];
+
+/// Counts the writes of images.
+pub(crate) fn count_writes<M: StoreMemory>(
+    rt: &impl Abort,
+    memory: M,
+    alloc: Global,
+) -> Result<(), Error> {
+    let whole = calls_of_image(rt, memory, alloc, (0, ""))?;
+    for (steps, change, passed) in &PASSED {
+        let calls = calls_of_image(rt, memory, alloc, (*steps, *change))?;
+        let is_so = whole.saturating_sub(calls) == passed.saturating_mul(16);
+        claim_at(rt, is_so, "pages that an image passes over:", *passed);
+    }
+    Ok(())
+}
+
+#[test]
+fn an_image_passes_over_pages(rt: HostRuntime) -> Result<(), Error> {
+    do_job(&rt, rt.alloc(), &[], Job::CountWrites)
 }
 
 // What taking the store on the disk apart gives behind these requests, but for the disk.
 fn parted<M: StoreMemory>(
+    rt: &impl Abort,
     memory: M,
     alloc: Global,
     events: &[Event],
 ) -> Result<Result<(u64, u64), Error>, Error> {
-    let mut store = open(memory, Disk::formatted(alloc, 1, 4)?)?;
+    let mut store = open(rt, memory, Disk::formatted(alloc, 1, 4)?)?;
     let run = store.run(events);
     let parts = store.into_parts();
     let numbers = match parts {
@@ -220,7 +292,7 @@ pub(crate) fn take_apart<M: StoreMemory>(
     events: &[Event],
     wanted: Result<(u64, u64), Error>,
 ) -> Result<(), Error> {
-    let parted = parted(memory, alloc, events)?;
+    let parted = parted(rt, memory, alloc, events)?;
     claim(rt, parted == wanted, "the parts of a store");
     Ok(())
 }
@@ -234,7 +306,7 @@ static WITH_TXN: [Script<'static>; 1] = [(1, "begin\n")];
 // A store with an image under way is taken apart: all is safe then. One with an active transaction isn't.
 #[test]
 fn a_store_is_taken_apart(rt: HostRuntime) -> Result<(), Error> {
-    do_play(&rt, rt.alloc(), &WITH_IMAGE, Play::TakeApart(Ok((2, 2))))?;
+    do_job(&rt, rt.alloc(), &WITH_IMAGE, Job::TakeApart(Ok((2, 2))))?;
     let refused = Err(Error::TxnsActive);
-    do_play(&rt, rt.alloc(), &WITH_TXN, Play::TakeApart(refused))
+    do_job(&rt, rt.alloc(), &WITH_TXN, Job::TakeApart(refused))
 }

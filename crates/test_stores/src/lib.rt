@@ -8,15 +8,21 @@
 #![tactic(auto)]
 
 #[cfg(test)]
+mod answer;
+#[cfg(test)]
 mod build_tests;
 #[cfg(test)]
 mod byte_tests;
 #[cfg(test)]
 mod claims;
 #[cfg(test)]
+mod contents;
+#[cfg(test)]
 mod crash_tests;
 #[cfg(test)]
 mod damage_tests;
+#[cfg(test)]
+mod disk;
 #[cfg(test)]
 mod image_tests;
 #[cfg(test)]
@@ -26,4 +32,8 @@ mod memory_tests;
 #[cfg(test)]
 mod migration_tests;
 #[cfg(test)]
+mod opened;
+#[cfg(test)]
 mod row_tests;
+#[cfg(test)]
+mod store;

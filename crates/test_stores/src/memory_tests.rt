@@ -1,14 +1,19 @@
 // Memory is refused to a store, each allocation in turn. What was refused for want of memory is asked again, and every
 // other reply is that of a store to which nothing was refused.
+use crate::answer::Answer;
 use crate::claims::{claim, claim_at};
-use crate::jobs::{Play, do_play};
+use crate::contents::Contents;
+use crate::disk::Disk;
+use crate::jobs::{Job, do_job};
+use crate::opened::{held_on, open};
+use crate::store::{OpenStore, StoreMemory};
 use nsf_core::BuildReply;
 use records::Error;
 use restart::Event;
 use sector_device::Fate;
 use std::alloc::Global;
 use std::process::Abort;
-use test_store::{Answer, Contents, Disk, OpenStore, Script, StoreMemory, open};
+use test_store::Script;
 
 // How often a run is played at most.
 const PLAYS: u64 = 2_000;
@@ -22,23 +27,6 @@ pub(crate) struct Wanted {
     complete: u32,
 }
 
-// Opens the store, if need be a second time. Without a refusal of memory there is no want of it.
-fn open_again<M: StoreMemory>(rt: &impl Abort, memory: M, disk: Disk) -> Result<M::Store, Error> {
-    let before = memory.refused();
-    match memory.open(disk) {
-        Ok(store) => Ok(store),
-        Err((error, disk)) => {
-            let is_refused = before < memory.refused();
-            claim(
-                rt,
-                error == Error::NoMemory && is_refused,
-                "a want of memory",
-            );
-            open(memory, disk)
-        }
-    }
-}
-
 // The answer, and whether it was to a second request, since memory was refused to the first.
 fn ask_again<M: StoreMemory>(
     rt: &impl Abort,
@@ -48,7 +36,7 @@ fn ask_again<M: StoreMemory>(
 ) -> (Answer, bool) {
     let before = memory.refused();
     let answer = store.ask(event);
-    if answer != Answer::Refused(Error::NoMemory) {
+    if !answer.is_want_of_memory() {
         return (answer, false);
     }
     claim(rt, before < memory.refused(), "that memory was refused");
@@ -84,14 +72,6 @@ fn answer_all<M: StoreMemory>(
     Ok(again)
 }
 
-// What the store on the disk holds.
-fn held_on<M: StoreMemory>(rt: &impl Abort, memory: M, disk: Disk) -> Result<Contents, Error> {
-    let store = open_again(rt, memory, disk)?;
-    let held = store.contents();
-    drop(store.close());
-    Ok(held)
-}
-
 // Plays the requests on the disk: the place of the one that was made again, and what a crash leaves then.
 fn play_on<M: StoreMemory>(
     rt: &impl Abort,
@@ -100,7 +80,7 @@ fn play_on<M: StoreMemory>(
     events: &[Event],
     answers: &mut Vec<Answer>,
 ) -> Result<(Option<usize>, Contents), Error> {
-    let mut store = open_again(rt, memory, disk)?;
+    let mut store = open(rt, memory, disk)?;
     let again = answer_all(rt, memory, &mut store, events, answers);
     let left = held_on(rt, memory, store.close().crash(Fate::Junk));
     Ok((again?, left?))
@@ -301,7 +281,7 @@ static CASES: [(&[Script<'_>], Wanted); 4] = [
 #[test]
 fn each_allocation_is_refused(rt: HostRuntime) -> Result<(), Error> {
     for (scripts, wanted) in &CASES {
-        do_play(&rt, rt.alloc(), *scripts, Play::Refuse(*wanted))?;
+        do_job(&rt, rt.alloc(), *scripts, Job::Refuse(*wanted))?;
     }
     Ok(())
 }

@@ -1,17 +1,19 @@
 // A store of version 1 is moved to another disk.
+use crate::answer::Answer;
 use crate::claims::{claim, claim_at};
+use crate::contents::Contents;
 use crate::damage_tests::why_not_open;
-use crate::image_tests::held_on;
-use crate::jobs::{Play, Work, do_play, do_work};
+use crate::disk::Disk;
+use crate::jobs::{Job, do_job};
+use crate::opened::held_on;
+use crate::store::{OpenStore, StoreMemory};
 use model::Life;
 use records::{Body, Error, Key, Mark, Pair, Rid, Row};
 use restart::{Event, MigrateError};
 use sector_device::{Fate, Which};
 use std::alloc::Global;
 use std::process::Abort;
-use test_store::{
-    Answer, BUILDING_1, Contents, Disk, Edit, GROUP, OpenStore, SUPERBLOCK_1, Script, StoreMemory,
-};
+use test_store::{BUILDING_1, Edit, GROUP, SUPERBLOCK_1, Script};
 
 // The sectors of the least store, in version 1 and in version 2.
 const OLD_SECTORS: u64 = 1_118;
@@ -85,7 +87,7 @@ fn moved_to<M: StoreMemory>(memory: M, old: &mut Disk, new: Disk) -> (Held, Disk
 }
 
 // Whether the old disk has just these sectors, and none that a crash may change.
-fn is_kept(old: Disk, edits: &[Edit<'_>]) -> Result<bool, Error> {
+fn is_kept(old: Disk, edits: &[Edit<'_>]) -> bool {
     let mut left = old.crash(Fate::Junk);
     let kept = left.holds(edits, 0, OLD_SECTORS);
     drop(left);
@@ -103,7 +105,7 @@ fn moved<M: StoreMemory>(
     let (mut old, new) = disks(alloc, edits, sectors)?;
     let (held, disk) = moved_to(memory, &mut old, new);
     let kept = is_kept(old, edits);
-    claim(rt, kept == Ok(true), "an old disk that is not written");
+    claim(rt, kept, "an old disk that is not written");
     Ok((held, disk))
 }
 
@@ -116,7 +118,7 @@ fn check_moved<M: StoreMemory>(
     wanted: &Contents,
 ) -> Result<(), Error> {
     let (held, disk) = moved(rt, memory, alloc, edits, SECTORS)?;
-    let again = held_on(memory, disk.crash(Fate::Junk));
+    let again = held_on(rt, memory, disk.crash(Fate::Junk));
     claim(rt, held == Ok(*wanted), "what a moved store holds");
     claim(rt, again? == *wanted, "what it holds again");
     Ok(())
@@ -178,7 +180,7 @@ pub(crate) fn move_each<M: StoreMemory>(
 
 #[test]
 fn stores_of_version_1_are_moved(rt: HostRuntime) -> Result<(), Error> {
-    do_work(&rt, rt.alloc(), Work::Move)
+    do_job(&rt, rt.alloc(), &[], Job::Move)
 }
 
 // What a moved store answers to requests.
@@ -233,7 +235,7 @@ static COMMIT: [Script<'static>; 1] = [(1, "begin\ninsert 1 =b =\ncommit 1\n")];
 
 #[test]
 fn a_moved_store_goes_on(rt: HostRuntime) -> Result<(), Error> {
-    do_play(&rt, rt.alloc(), &COMMIT, Play::GoOn)
+    do_job(&rt, rt.alloc(), &COMMIT, Job::GoOn)
 }
 
 const DAMAGED: MigrateError = MigrateError::Old(Error::Damaged { sector: 0 });
@@ -337,7 +339,7 @@ pub(crate) fn keep_each<M: StoreMemory>(
 
 #[test]
 fn stores_that_are_not_moved(rt: HostRuntime) -> Result<(), Error> {
-    do_work(&rt, rt.alloc(), Work::KeepOld)
+    do_job(&rt, rt.alloc(), &[], Job::KeepOld)
 }
 
 // More than the calls of a disk in a migration, and than its allocations.
@@ -351,11 +353,11 @@ type Hindrance = (u64, u64, u64);
 type Hindered = (Option<MigrateError>, bool, bool);
 
 // Whether the first sector of the disk was written.
-fn is_written(disk: Disk) -> Result<bool, Error> {
+fn is_written(disk: Disk) -> bool {
     let mut left = disk.crash(Fate::New);
     let is_empty = left.holds(&[], 0, 1);
     drop(left);
-    Ok(!is_empty?)
+    !is_empty
 }
 
 // Moves a store to a disk of so many sectors, where this fails.
@@ -371,7 +373,7 @@ fn hindered<M: StoreMemory>(
     memory.refuse_after(before);
     let (held, disk) = moved_to(memory, &mut old, new.failing(Which::All, new_call));
     drop(old);
-    let written = is_written(disk)?;
+    let written = is_written(disk);
     let error = match held {
         Ok(_) => None,
         Err(error) => Some(error),
@@ -456,5 +458,5 @@ pub(crate) fn hinder_all<M: StoreMemory>(
 
 #[test]
 fn migrations_that_are_hindered(rt: HostRuntime) -> Result<(), Error> {
-    do_work(&rt, rt.alloc(), Work::Hinder)
+    do_job(&rt, rt.alloc(), &[], Job::Hinder)
 }

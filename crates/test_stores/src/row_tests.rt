@@ -1,12 +1,15 @@
 // Rows of each length in each slot of a page, of which each fourth lies across the end of a sector.
+use crate::answer::Answer;
 use crate::claims::{claim, claim_at};
-use crate::jobs::{Work, do_work};
+use crate::disk::Disk;
+use crate::jobs::{Job, do_job};
+use crate::opened::{begin, commit, open};
+use crate::store::{OpenStore, StoreMemory};
 use records::{Body, Error, Key, Rid, Row, Txn};
 use restart::Event;
 use sector_device::Fate;
 use std::alloc::Global;
 use std::process::Abort;
-use test_store::{Answer, Disk, OpenStore, StoreMemory, open};
 
 // How many lengths a body may have, from 0 on.
 const LENGTHS: u32 = 70;
@@ -30,14 +33,6 @@ fn fill_page(store: &mut impl OpenStore, txn: Txn, row: Row) {
     for _ in 0..63 {
         store.ask(&insertion);
     }
-}
-
-fn begin(store: &mut impl OpenStore) {
-    store.ask(&Event::Begin);
-}
-
-fn commit(store: &mut impl OpenStore, txn: Txn) {
-    store.ask(&Event::Commit { txn });
 }
 
 // Fills each page with rows of a length of its own, the first page with rows of this one.
@@ -94,7 +89,7 @@ fn filled<M: StoreMemory>(
     alloc: Global,
     first: u32,
 ) -> Result<Disk, Error> {
-    let mut store = open(memory, Disk::formatted(alloc, PAGES, 128)?)?;
+    let mut store = open(rt, memory, Disk::formatted(alloc, PAGES, 128)?)?;
     let copied = fill_and_copy(rt, &mut store, first);
     let disk = store.close().crash(Fate::Junk);
     match copied {
@@ -113,7 +108,7 @@ fn fill_and_check<M: StoreMemory>(
     first: u32,
 ) -> Result<(), Error> {
     let disk = filled(rt, memory, alloc, first)?;
-    let mut store = open(memory, disk)?;
+    let mut store = open(rt, memory, disk)?;
     let checked = check(rt, &mut store, first);
     drop(store.close());
     checked
@@ -133,5 +128,5 @@ pub(crate) fn fill_and_check_all<M: StoreMemory>(
 
 #[test]
 fn rows_of_each_length_in_each_slot(rt: HostRuntime) -> Result<(), Error> {
-    do_work(&rt, rt.alloc(), Work::FillSlots)
+    do_job(&rt, rt.alloc(), &[], Job::FillSlots)
 }

@@ -29,6 +29,44 @@ pub enum Answer {
     Refused(Error),
 }
 
+impl Answer {
+    /// The number up to which all is safe, if that is told.
+    pub fn safe(&self) -> Option<u64> {
+        match self {
+            Answer::Horizon(number) | Answer::Flipped(number) => Some(*number),
+            _ => None,
+        }
+    }
+
+    /// Whether it is one of the device, as a flush or an image gets it.
+    pub fn is_of_device(&self) -> bool {
+        matches!(
+            self,
+            Answer::Copied | Answer::Horizon(_) | Answer::Flipped(_)
+        )
+    }
+
+    /// Whether it tells that the device has failed.
+    pub fn is_failure(&self) -> bool {
+        matches!(self, Answer::Refused(Error::DeviceFailed))
+    }
+
+    /// Whether it tells that memory is wanting.
+    pub fn is_want_of_memory(&self) -> bool {
+        matches!(self, Answer::Refused(Error::NoMemory))
+    }
+
+    /// The number of the record that is told of: one to wait for, or the last that is safe. Of a piece that is copied,
+    /// 0.
+    pub fn number(&self) -> Option<u64> {
+        match self {
+            Answer::Copied => Some(0),
+            Answer::Ticket(ticket) => Some(ticket.record.get()),
+            other => other.safe(),
+        }
+    }
+}
+
 /// What is answered by this reply.
 pub(crate) fn answer_of<A: Allocator>(reply: &Reply<A>) -> Answer {
     match reply {

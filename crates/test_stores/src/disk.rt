@@ -1,13 +1,47 @@
 //! A disk in memory, of which one call may fail.
-use crate::bytes::{Edit, edit, holds};
 use flip_image::Halves;
 use records::{Error, Geometry};
-use sector_device::{Fate, FaultDisk, MemDisk, Which};
+use sector_device::{Device, Fate, FaultDisk, MemDisk, SECTOR_SIZE, Which};
 use std::alloc::Global;
 use std::marker::Model;
+use test_store::{Edit, sector_with, write_at};
 
 // More than the calls that a test makes from one crash to the next.
 const CALLS: usize = 4_096;
+
+fn is_read<D: Device>(device: &mut D, n: u64, sector: &mut [u8; SECTOR_SIZE]) -> bool {
+    n < device.sectors() && device.read(n, sector).is_ok()
+}
+
+fn is_written<D: Device>(device: &mut D, n: u64, sector: &[u8; SECTOR_SIZE]) -> bool {
+    n < device.sectors() && device.write(n, sector).is_ok()
+}
+
+// Writes bytes into sectors of a device.
+fn edit<D: Device>(device: &mut D, edits: &[Edit<'_>]) -> Result<(), Error> {
+    for (n, at, bytes) in edits {
+        let mut sector = [0; SECTOR_SIZE];
+        if !is_read(device, *n, &mut sector) {
+            return Err(Error::DeviceTooSmall);
+        }
+        write_at(&mut sector, *at, bytes);
+        if !is_written(device, *n, &sector) {
+            return Err(Error::DeviceFailed);
+        }
+    }
+    Ok(())
+}
+
+// Whether the sectors from the first number up to the end, which is left out, hold these bytes, and zeros elsewhere.
+fn holds<D: Device>(device: &mut D, edits: &[Edit<'_>], first: u64, end: u64) -> bool {
+    for n in first..end {
+        let mut sector = [0; SECTOR_SIZE];
+        if !is_read(device, n, &mut sector) || sector != sector_with(edits, n) {
+            return false;
+        }
+    }
+    true
+}
 
 /// A disk in memory, of which one call may fail.
 #[derive(Drop)]
@@ -86,7 +120,7 @@ impl Disk {
 
     /// Whether the sectors from the first number up to the end, which is left out, hold these bytes, and zeros
     /// elsewhere.
-    pub fn holds(&mut self, edits: &[Edit<'_>], first: u64, end: u64) -> Result<bool, Error> {
+    pub fn holds(&mut self, edits: &[Edit<'_>], first: u64, end: u64) -> bool {
         holds(&mut self.device, edits, first, end)
     }
 }
