@@ -1,16 +1,27 @@
 -- Seats in their order.
-use Rattle.std.proofs.Common.{◌≡◌, ◌∙◌, ◌<◌, ℕ, List, map, subst, sym}
-use Rattle.std.specs.Prelude.{slice_index_or}
-use Rattle.std.specs.declared.vec.Vec.{Vec}
+use Rattle.std.proofs.Common.{◌≡◌, ◌∙◌, ◌++◌, ◌∷◌, ℕ, List, [], Some, length, length-append, map, refl, subst, sym}
+use Rattle.std.proofs.lemmas.List.{length-map}
+use Rattle.std.specs.Prelude.{slice_get}
+use Rattle.atomic_table.specs.Seated.{TableId}
 use Rattle.threads_lifetime.specs.Gathered.{AreAllSeats}
-use Rattle.threads_lifetime.proofs.Orders.{kept_in_order}
-use Rattle.shared.specs.Seats.{SeatValue}
+use Rattle.threads_lifetime.proofs.Orders.{one_more}
+use Rattle.shared.specs.Seats.{AreNewSeats, SeatValue}
 
--- writers that have the seats that they had
-pub all_kept : {W X Y : Type 0} (seat : W → SeatValue) (count : ℕ) (before : Vec W X) (after : Vec W Y)
-    → after.len ≡ before.len
-    → ((k : ℕ) (w : W) → k < before.len → (seat (slice_index_or after.items k w)).number ≡ (seat (slice_index_or before.items k w)).number)
-    → AreAllSeats count (map seat before.items) → AreAllSeats count (map seat after.items)
-all_kept seat count before after same numbers all =
-    kept_in_order seat count before.items after.items (sym after.ok.0 ∙ (same ∙ before.ok.0))
-    (λ k w within. numbers k w (subst (λ (m : ℕ). k < m) (sym before.ok.0) within)) all
+-- what stands behind a list
+get_next : {X : Type 0} (xs : List X) (x : X) (ys : List X) → slice_get (xs ++ x ∷ ys) (length xs) ≡ Some x
+get_next [] x ys = refl
+get_next (z ∷ zs) x ys = get_next zs x ys
+
+-- the next of new seats has the next number
+pub next_is : {C : Type 0} (seat : C → SeatValue) (board : TableId) (count : ℕ) (before : List C) (s : SeatValue) (after all : List SeatValue)
+    → AreNewSeats board count all → map seat before ++ s ∷ after ≡ all → s.number ≡ length before
+next_is seat board count before s after all new e =
+    (new.each (length (map seat before)) s (subst (λ (xs : List SeatValue). slice_get xs (length (map seat before)) ≡ Some s) e
+    (get_next (map seat before) s after))).0 ∙ length-map before seat
+
+-- one seat more, of the next number
+pub one_pushed : (seats pushed : List SeatValue) (s : SeatValue) → pushed ≡ seats ++ s ∷ [] → AreAllSeats (length seats) seats → s.number ≡ length seats
+    → AreAllSeats (length pushed) pushed
+one_pushed seats pushed s e all next =
+    subst (λ (xs : List SeatValue). AreAllSeats (length xs) xs) (sym e)
+    (subst (λ (n : ℕ). AreAllSeats n (seats ++ s ∷ [])) (sym (length-append seats (s ∷ []))) (one_more (length seats) seats s all next))

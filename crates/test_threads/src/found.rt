@@ -97,7 +97,7 @@ fn count_there(core: &Core<Global>, rows: &[Put]) -> Result<u32, Error> {
 
 /// What a restart finds: how many rows are lost that were told to be safe, how many are there that were told to be
 /// gone, and how many marked entries there are.
-#[derive(Debug, Drop, PartialEq)]
+#[derive(Drop)]
 pub struct Behind {
     pub lost: u32,
     pub back: u32,

@@ -1,12 +1,22 @@
 //! Tests of a store under many threads, of one seat to which memory is refused, and of the program `nsf-threads`.
 //!
 //! Writers, flusher, builder and cleaner share a store, are held at gates, meet devices that fail, and a dropping while
-//! the index is built. To a seat whose commits are kept each allocation is refused in turn. Behind a record that the
-//! queue refused it looks up. Proved of them is safety.
+//! the index is built. To a seat whose commits are kept each allocation is refused in turn, call by call, and in one
+//! hold of the lock. Behind a record that the queue refused it looks up; and calls that make no step of the core take
+//! no memory. Proved of them is safety.
+//!
+//! The calls of a seat are a trait that promises nothing (`calls`), which what plays is generic over; each heavy call
+//! is made once (`at_seat`). A seat stays beside its number, which is looked at again in the end (`Numbered`).
 #![tactic(auto)]
 
 #[cfg(test)]
+mod at_seat;
+#[cfg(test)]
 mod calls;
+#[cfg(test)]
+mod chairs;
+#[cfg(test)]
+mod claims;
 #[cfg(test)]
 mod drop_tests;
 #[cfg(test)]
@@ -16,9 +26,15 @@ mod found;
 #[cfg(test)]
 mod help;
 #[cfg(test)]
+mod interrupted;
+#[cfg(test)]
+mod keyed;
+#[cfg(test)]
 mod looks;
 #[cfg(test)]
 mod play;
+#[cfg(test)]
+mod players;
 #[cfg(test)]
 mod program_tests;
 #[cfg(test)]
@@ -26,10 +42,16 @@ mod refusal_tests;
 #[cfg(test)]
 mod requests;
 #[cfg(test)]
+mod runs;
+#[cfg(test)]
 mod scene;
 #[cfg(test)]
 mod scene_tests;
 #[cfg(test)]
 mod seats;
 #[cfg(test)]
+mod soloist;
+#[cfg(test)]
 mod stage;
+#[cfg(test)]
+mod store;

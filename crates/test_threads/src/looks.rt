@@ -1,15 +1,14 @@
 // Look-ups behind a record that the queue had refused.
-ghost use Rattle.std.specs.Prelude.{◌≡◌};
-
-use crate::requests::Answer;
+use crate::calls::Calls;
 use records::{Error, Key, Rid};
-use sector_device::Device;
-use shared::{Group, Kept, Memory, Seat, Shared};
 use std::alloc::Global;
-use std::sync::Wait;
 use test_memory::Refusing;
-use test_shared::{begin, commit, find, get, life};
-use threads_flusher::FlushPart;
+
+/// The end of the queue that the flusher has.
+pub trait QueueEnd {
+    /// The number of the last record that came to the queue. All that waits there is taken, and nothing is pushed.
+    fn last(&mut self) -> Result<u64, Error>;
+}
 
 // So many commits fill more than a block of the queue.
 const COMMITS: u32 = 80;
@@ -26,21 +25,16 @@ enum Look {
 }
 
 // Makes the look-up, whose answer is not asked for.
-fn make_look<B: Group, A: Memory, R: Wait>(
-    rt: &R,
-    shared: &Shared<B, A>,
-    seat: &mut Seat<B, A, Kept>,
-    kind: Look,
-) -> Result<(), Error>
-    ensures { seat.new.number ≡ seat.old.number }
-{
+fn make_look<C: Calls>(seat: &mut C, kind: Look) -> Result<(), Error> {
     match kind {
         Look::Get => {
-            get(rt, shared, seat, Rid { page: 0, slot: 0 });
+            seat.get(Rid { page: 0, slot: 0 });
         }
-        Look::Find => drop(find(rt, shared, seat, Key::new(b"ant")?)),
+        Look::Find => {
+            let _ = seat.find_one(Key::new(b"ant")?);
+        }
         Look::Life => {
-            life(rt, shared, seat);
+            seat.life();
         }
     }
     Ok(())
@@ -48,18 +42,11 @@ fn make_look<B: Group, A: Memory, R: Wait>(
 
 // Commits a transaction without a change. The last allocation of the commit is refused, where it makes one. Answers the
 // number of its record.
-fn commit_short<B: Group, A: Memory, R: Wait>(
-    rt: &R,
-    shared: &Shared<B, A>,
-    seat: &mut Seat<B, A, Kept>,
-    memory: &Refusing<Global>,
-) -> Result<u64, Error>
-    ensures { seat.new.number ≡ seat.old.number }
-{
-    let txn = begin(rt, shared, seat)?;
+fn commit_short<C: Calls>(seat: &mut C, memory: &Refusing<Global>) -> Result<u64, Error> {
+    let txn = seat.begin()?;
     for allowed in 0..ALLOCATIONS {
         memory.refuse_after(allowed);
-        let committed = commit(rt, shared, seat, txn);
+        let committed = seat.commit(txn);
         memory.refuse_after(u64::MAX);
         match committed {
             Err(Error::NoMemory) => {}
@@ -70,55 +57,49 @@ fn commit_short<B: Group, A: Memory, R: Wait>(
     Err(Error::NoMemory)
 }
 
-// The number of the last record that came to the queue. The flusher takes all that waits there, and nothing is pushed.
-fn last_in_queue<B: Group, D: Device, A: Memory, R: Wait>(
-    rt: &R,
-    shared: &Shared<B, A>,
-    flush: &mut FlushPart<B, D, A>,
-) -> Result<u64, Error> {
-    flush.take(rt, shared.queue())?;
-    let mut locked = shared.hold_to_flush(rt, flush);
-    flush.hand_in(rt, shared.queue(), &mut locked)?;
-    Ok(flush.last_handed())
-}
-
 // Makes commits until the queue refuses a record. Whether that record comes to the queue by a look-up behind it.
-fn pushes<B: Group, D: Device, A: Memory, R: Wait>(
-    rt: &R,
-    shared: &Shared<B, A>,
-    seat: &mut Seat<B, A, Kept>,
-    flush: &mut FlushPart<B, D, A>,
+fn pushes<C: Calls, Q: QueueEnd>(
+    seat: &mut C,
+    queue: &mut Q,
     memory: &Refusing<Global>,
     kind: Look,
-) -> Result<bool, Error>
-    ensures { seat.new.number ≡ seat.old.number }
-{
+) -> Result<bool, Error> {
     for _turn in 0..COMMITS {
-        let record = commit_short(rt, shared, seat, memory)?;
-        if last_in_queue(rt, shared, flush)? < record {
-            make_look(rt, shared, seat, kind)?;
-            return Ok(last_in_queue(rt, shared, flush)? == record);
+        let record = commit_short(seat, memory)?;
+        if queue.last()? < record {
+            make_look(seat, kind)?;
+            return Ok(queue.last()? == record);
         }
     }
     Ok(false)
 }
 
-/// Makes each look-up behind a record that the queue had refused. What was wrong, if something was.
-pub(crate) fn look_all<B: Group, D: Device, A: Memory, R: Wait>(
-    rt: &R,
-    shared: &Shared<B, A>,
-    seat: &mut Seat<B, A, Kept>,
-    flush: &mut FlushPart<B, D, A>,
+// Whether the calls that make no step of the core take no memory: they are made where the next allocation would be
+// refused. The last of them asks all to stop.
+fn takes_none<C: Calls>(seat: &mut C, memory: &Refusing<Global>) -> Result<bool, Error> {
+    let ticket = seat.create_index()?;
+    let txn = seat.begin()?;
+    let refused = memory.refused();
+    memory.refuse_after(0);
+    let is_safe = seat.is_acked(ticket);
+    seat.progress();
+    let is_ready = seat.ask_to_stop(txn);
+    memory.refuse_after(u64::MAX);
+    seat.commit(txn)?;
+    Ok(memory.refused() == refused && is_ready && !is_safe)
+}
+
+/// Makes each look-up behind a record that the queue had refused, and then the calls that take no memory. Whether each
+/// record comes to the queue, and none is refused.
+pub(crate) fn look_all<C: Calls, Q: QueueEnd>(
+    seat: &mut C,
+    queue: &mut Q,
     memory: &Refusing<Global>,
-) -> Option<Answer>
-    ensures { seat.new.number ≡ seat.old.number }
-{
+) -> Result<bool, Error> {
     for kind in [Look::Get, Look::Find, Look::Life] {
-        match pushes(rt, shared, seat, flush, memory, kind) {
-            Ok(true) => {}
-            Ok(false) => return Some(Answer::Waits),
-            Err(error) => return Some(Answer::Refused(error)),
+        if !pushes(seat, queue, memory, kind)? {
+            return Ok(false);
         }
     }
-    None
+    takes_none(seat, memory)
 }

@@ -1,41 +1,39 @@
 // What a seat is asked, and what it answers.
-ghost use Rattle.std.specs.Prelude.{◌≡◌};
-
+use crate::calls::Calls;
 use nsf_core::Ticket;
 use records::{Body, Error, Key, Rid, Txn};
-use shared::{Change, Group, Kept, Memory, Seat, Shared};
+use shared::Change;
 use std::alloc::Global;
-use std::sync::Wait;
 use test_memory::Refusing;
-use test_shared::{
-    abort, begin, carry_on, commit, create_index, delete, drop_index, insert, update,
-};
 
-/// A request for the transaction that began last, and for the row that was inserted last.
+/// A change of the row that was inserted last, or the insertion of one.
+#[derive(Clone, Copy)]
+pub(crate) enum Kind {
+    Insert(&'static [u8]),
+    Update(&'static [u8]),
+    Delete,
+}
+
+/// A request: a change of the transaction that began last, or one that is a transaction of its own.
 #[derive(Clone, Copy)]
 pub(crate) enum Request {
     Create,
     Drop,
     Begin,
-    Insert(&'static [u8]),
-    Update(&'static [u8]),
-    Delete,
+    Change(Kind),
     Abort,
     Commit,
+    AtOnce(Kind),
 }
 
-/// What a seat answers: the number of a record and that of a commit, the number of a transaction, or the place of a
-/// row. A want of memory where no allocation was refused is an answer of its own, which is never right; and so is that
-/// a record still waits for the queue.
+/// What a seat answers: the number of a record and that of a commit, the number of a transaction, or the slot of a row
+/// on the first page.
 #[derive(Clone, Copy, PartialEq)]
 pub(crate) enum Answer {
     Written(u64, Option<u64>),
     Begun(u64),
-    Changed(Rid),
+    Changed(u16),
     Ended,
-    Refused(Error),
-    WantsNothing,
-    Waits,
 }
 
 /// The transaction that began last, and the place of the row that was inserted last.
@@ -66,124 +64,139 @@ impl Last {
 }
 
 // A record that was made, as an answer.
-fn written(ticket: Ticket) -> Answer {
-    Answer::Written(ticket.record.get(), ticket.commit)
+fn written(made: Result<Ticket, Error>) -> Result<Answer, Error> {
+    match made {
+        Ok(ticket) => Ok(Answer::Written(ticket.record.get(), ticket.commit)),
+        Err(error) => Err(error),
+    }
+}
+
+// The place of a row, as an answer, which is to be on the first page.
+fn changed(rid: Rid) -> Result<Answer, Error> {
+    if rid.page == 0 {
+        Ok(Answer::Changed(rid.slot))
+    } else {
+        Err(Error::NoSuchRow)
+    }
+}
+
+// Begins a transaction.
+fn begin<C: Calls>(seat: &mut C, last: &mut Last) -> Result<Answer, Error> {
+    let txn = seat.begin()?;
+    last.txn = Some(txn);
+    Ok(Answer::Begun(txn.number()))
+}
+
+// Takes the transaction back that began last.
+fn abort<C: Calls>(seat: &mut C, last: &Last) -> Result<Answer, Error> {
+    let txn = last.begun()?;
+    seat.abort(txn)?;
+    Ok(Answer::Ended)
+}
+
+// Commits it.
+fn commit<C: Calls>(seat: &mut C, last: &Last) -> Result<Answer, Error> {
+    let txn = last.begun()?;
+    written(seat.commit(txn))
 }
 
 // The place of a change that was begun. One that found no memory for a later step is carried on, where an allocation
-// was refused since so many were.
-fn carried<B: Group, A: Memory, R: Wait>(
-    rt: &R,
-    shared: &Shared<B, A>,
-    seat: &mut Seat<B, A, Kept>,
-    memory: &Refusing<Global>,
-    refused: u64,
+// was refused since so many were. A want where none was refused is told as another refusal.
+fn carried<C: Calls>(
+    seat: &mut C,
+    is_refused: bool,
     txn: Txn,
     change: Change,
-) -> Result<Answer, Error>
-    ensures { seat.new.number ≡ seat.old.number }
-{
+) -> Result<Answer, Error> {
     match change.rest {
-        None => Ok(Answer::Changed(change.rid)),
-        Some(Error::NoMemory) => {
-            if memory.refused() == refused {
-                return Ok(Answer::WantsNothing);
-            }
-            carry_on(rt, shared, seat, txn)?;
-            Ok(Answer::Changed(change.rid))
+        None => changed(change.rid),
+        Some(Error::NoMemory) if is_refused => {
+            seat.carry_on(txn)?;
+            changed(change.rid)
         }
+        Some(Error::NoMemory) => Err(Error::Stopped),
         Some(error) => Err(error),
     }
 }
 
-// A change of the row that was inserted last, or the insertion of one.
-fn make_change<B: Group, A: Memory, R: Wait>(
-    rt: &R,
-    shared: &Shared<B, A>,
-    seat: &mut Seat<B, A, Kept>,
-    last: &mut Last,
-    request: Request,
-) -> Result<Change, Error>
-    ensures { seat.new.number ≡ seat.old.number }
-{
-    let txn = last.begun()?;
+// A change in a transaction.
+fn make_change<C: Calls>(
+    seat: &mut C,
+    txn: Txn,
+    rid: Result<Rid, Error>,
+    kind: Kind,
+) -> Result<Change, Error> {
     let body = Body::new(b"body")?;
-    match request {
-        Request::Insert(key) => {
-            let change = insert(rt, shared, seat, txn, Key::new(key)?, body)?;
-            last.rid = Some(change.rid);
-            Ok(change)
+    match kind {
+        Kind::Insert(key) => seat.insert(txn, Key::new(key)?, body),
+        Kind::Update(key) => seat.update(txn, rid?, Key::new(key)?, body),
+        Kind::Delete => seat.delete(txn, rid?),
+    }
+}
+
+// A change in the transaction that began last, with all its steps.
+fn change<C: Calls>(
+    seat: &mut C,
+    memory: &Refusing<Global>,
+    last: &mut Last,
+    kind: Kind,
+) -> Result<Answer, Error> {
+    let refused = memory.refused();
+    let txn = last.begun()?;
+    let change = make_change(seat, txn, last.inserted(), kind)?;
+    last.rid = Some(change.rid);
+    carried(seat, memory.refused() != refused, txn, change)
+}
+
+// A change that is a transaction of its own, in one hold of the lock. How many records it makes depends on what was
+// refused.
+fn change_at_once<C: Calls>(seat: &mut C, last: &mut Last, kind: Kind) -> Result<Answer, Error> {
+    let body = Body::new(b"body")?;
+    match kind {
+        Kind::Insert(key) => {
+            let rid = seat.put_at_once(Key::new(key)?, body)?.rid;
+            last.rid = Some(rid);
+            changed(rid)
         }
-        Request::Update(key) => {
-            update(
-                rt,
-                shared,
-                seat,
-                txn,
-                last.inserted()?,
-                Key::new(key)?,
-                body,
-            )
+        Kind::Update(key) => {
+            seat.replace_at_once(last.inserted()?, Key::new(key)?, body)?;
+            Ok(Answer::Ended)
         }
-        _ => delete(rt, shared, seat, txn, last.inserted()?),
+        Kind::Delete => {
+            seat.remove_at_once(last.inserted()?)?;
+            Ok(Answer::Ended)
+        }
     }
 }
 
 // One request, once.
-fn ask<B: Group, A: Memory, R: Wait>(
-    rt: &R,
-    shared: &Shared<B, A>,
-    seat: &mut Seat<B, A, Kept>,
+fn ask<C: Calls>(
+    seat: &mut C,
     memory: &Refusing<Global>,
     last: &mut Last,
     request: Request,
-) -> Result<Answer, Error>
-    ensures { seat.new.number ≡ seat.old.number }
-{
-    let refused = memory.refused();
+) -> Result<Answer, Error> {
     match request {
-        Request::Create => Ok(written(create_index(rt, shared, seat)?)),
-        Request::Drop => Ok(written(drop_index(rt, shared, seat)?)),
-        Request::Begin => {
-            let txn = begin(rt, shared, seat)?;
-            last.txn = Some(txn);
-            Ok(Answer::Begun(txn.number()))
-        }
-        Request::Abort => {
-            abort(rt, shared, seat, last.begun()?)?;
-            Ok(Answer::Ended)
-        }
-        Request::Commit => Ok(written(commit(rt, shared, seat, last.begun()?)?)),
-        _ => {
-            let change = make_change(rt, shared, seat, last, request)?;
-            carried(rt, shared, seat, memory, refused, last.begun()?, change)
-        }
-    }
-}
-
-// An answer or a refusal, as an answer.
-fn told(answered: Result<Answer, Error>) -> Answer {
-    match answered {
-        Ok(answer) => answer,
-        Err(error) => Answer::Refused(error),
+        Request::Create => written(seat.create_index()),
+        Request::Drop => written(seat.drop_index()),
+        Request::Begin => begin(seat, last),
+        Request::Change(kind) => change(seat, memory, last, kind),
+        Request::Abort => abort(seat, last),
+        Request::Commit => commit(seat, last),
+        Request::AtOnce(kind) => change_at_once(seat, last, kind),
     }
 }
 
 /// What a seat answers to a request, which is made once more where it wants memory and an allocation was refused.
-pub(crate) fn ask_again<B: Group, A: Memory, R: Wait>(
-    rt: &R,
-    shared: &Shared<B, A>,
-    seat: &mut Seat<B, A, Kept>,
+pub(crate) fn ask_again<C: Calls>(
+    seat: &mut C,
     memory: &Refusing<Global>,
     last: &mut Last,
     request: Request,
-) -> Answer
-    ensures { seat.new.number ≡ seat.old.number }
-{
+) -> Result<Answer, Error> {
     let refused = memory.refused();
-    match ask(rt, shared, seat, memory, last, request) {
-        Err(Error::NoMemory) if memory.refused() == refused => Answer::WantsNothing,
-        Err(Error::NoMemory) => told(ask(rt, shared, seat, memory, last, request)),
-        answered => told(answered),
+    match ask(seat, memory, last, request) {
+        Err(Error::NoMemory) if memory.refused() != refused => { ask(seat, memory, last, request) }
+        answered => answered,
     }
 }

@@ -1,21 +1,14 @@
 //! What seats do beside the loops.
-ghost use Rattle.std.specs.Prelude.{◌≡◌, ◌<◌, ℕ, IfOk, map, slice_index_or, vec_len};
-ghost use Rattle.threads_lifetime.specs.Gathered.{AreAllSeats};
-
-use crate::calls::{insert, make_anew, reads};
-use crate::stage::{Place, Stage};
+use crate::calls::{Calls, remove};
+use crate::chairs::Player;
+use crate::keyed::{ROWS, insert, make_anew, reads, set_up};
+use crate::stage::Stage;
 use model::Life;
 use nsf_core::Ticket;
-use program_demonstration::{key_of, set_up};
-use records::{Error, Rid};
-use shared::{Group, Kept, Seat, Shared};
+use program_demonstration::key_of;
+use records::{Error, Rid, Txn};
 use std::alloc::{AllocError, Global};
 use std::rt::Clock;
-use std::sync::Wait;
-use std::thread::{Threads, for_each_mut};
-use test_shared::{
-    abort, await_ack, begin, commit, find, has_failed, is_acked, life, progress, remove,
-};
 use threads_loops::Point;
 
 /// How many seats write.
@@ -37,29 +30,27 @@ const LEADING: u16 = 102;
 
 const ENDING: u16 = 103;
 
-// The places of the first two rows that are put before the writers' rows, on the page that the builder scans first, and
-// the first half of their keys.
+// The places of the first two rows that are put before the writers' rows, on the page that the builder scans first.
 const FIRST_ROW: Rid = Rid { page: 0, slot: 1 };
 
 const SECOND_ROW: Rid = Rid { page: 0, slot: 2 };
 
-const ROWS: u16 = 0xffff;
-
 /// A row that a writer put.
-#[derive(Clone, Copy, PartialEq)]
+#[derive(Clone, Copy)]
 pub struct Put {
     pub rid: Rid,
     pub first: u16,
     pub second: u16,
 }
 
-/// A writer: its seat and number; the rows that it was told to be safe, and those that it was told to be gone, or took
-/// back itself; how many tickets were acknowledged, and how many were refused for the device's failure; what else was
-/// refused; and what it saw of the index.
+/// A writer: its number, and whether its rows are written; the rows that it was told to be safe, and those that it was
+/// told to be gone, or took back itself; how many tickets were acknowledged, and how many were refused for the device's
+/// failure; what else was refused; and what it saw of the index.
 #[derive(Drop)]
-pub struct Writer<B: Group> {
-    pub seat: Seat<B, Global, Kept>,
+pub struct Writer<'a, R> {
+    stage: &'a Stage<'a, R>,
     number: u16,
+    has_written: bool,
     kept: Vec<Put>,
     gone: Vec<Put>,
     acknowledged: u32,
@@ -100,16 +91,9 @@ impl Built {
 // ---- before the writers' rows
 
 // Waits until a ticket is acknowledged, or both loops are held, or the device has failed.
-fn wait_unless_held<B: Group, R: Wait + Clock>(
-    shared: &Shared<B>,
-    seat: &mut Seat<B, Global, Kept>,
-    stage: &Stage<'_, R>,
-    ticket: &Ticket,
-)
-    ensures { seat.new.number ≡ seat.old.number }
-{
+fn wait_unless_held<C: Calls, R: Clock>(seat: &mut C, stage: &Stage<'_, R>, ticket: &Ticket) {
     for _ in stage.looks() {
-        if stage.holds() || is_acked(shared, seat, *ticket) || has_failed(shared, seat) {
+        if stage.holds() || seat.is_acked(*ticket) || seat.has_failed() {
             return;
         }
         stage.rest();
@@ -118,85 +102,64 @@ fn wait_unless_held<B: Group, R: Wait + Clock>(
 }
 
 // One transaction: a row is put, and another one is deleted, if there is another one.
-fn change<B: Group, R: Wait>(
-    rt: &R,
-    shared: &Shared<B>,
-    seat: &mut Seat<B, Global, Kept>,
+fn change<C: Calls>(
+    seat: &mut C,
     numbers: (u16, u16),
     gone: Option<Rid>,
-) -> Result<(Rid, Ticket), Error>
-    ensures { seat.new.number ≡ seat.old.number }
-{
+) -> Result<(Rid, Ticket), Error> {
     let (first, second) = numbers;
-    let txn = begin(rt, shared, seat)?;
-    let rid = insert(rt, shared, seat, txn, first, second)?;
+    let txn = seat.begin()?;
+    let rid = insert(seat, txn, first, second)?;
     if let Some(gone) = gone {
-        remove(rt, shared, seat, txn, gone)?;
+        remove(seat, txn, gone)?;
     }
-    let ticket = commit(rt, shared, seat, txn)?;
+    let ticket = seat.commit(txn)?;
     Ok((rid, ticket))
 }
 
 // One transaction that is taken back: a row is put.
-fn take_back<B: Group, R: Wait>(
-    rt: &R,
-    shared: &Shared<B>,
-    seat: &mut Seat<B, Global, Kept>,
-    numbers: (u16, u16),
-) -> Result<Rid, Error>
-    ensures { seat.new.number ≡ seat.old.number }
-{
+fn take_back<C: Calls>(seat: &mut C, numbers: (u16, u16)) -> Result<Rid, Error> {
     let (first, second) = numbers;
-    let txn = begin(rt, shared, seat)?;
-    let rid = insert(rt, shared, seat, txn, first, second)?;
-    abort(rt, shared, seat, txn)?;
+    let txn = seat.begin()?;
+    let rid = insert(seat, txn, first, second)?;
+    seat.abort(txn)?;
     Ok(rid)
 }
 
 // Commits rows until both loops are held, each in a group of its own, or the device has failed.
-fn fill<B: Group, R: Wait + Clock>(
-    rt: &R,
-    shared: &Shared<B>,
-    seat: &mut Seat<B, Global, Kept>,
-    stage: &Stage<'_, R>,
-) -> Result<(), Error>
-    ensures { seat.new.number ≡ seat.old.number }
-{
+fn fill<C: Calls, R: Clock>(seat: &mut C, stage: &Stage<'_, R>) -> Result<(), Error> {
     for row in 0..ROWS_MAX {
-        if stage.holds() || has_failed(shared, seat) {
+        if stage.holds() || seat.has_failed() {
             return Ok(());
         }
-        let (_, ticket) = change(rt, shared, seat, (FILLING, row), None)?;
-        wait_unless_held(shared, seat, stage, &ticket);
+        let (_, ticket) = change(seat, (FILLING, row), None)?;
+        wait_unless_held(seat, stage, &ticket);
     }
     stage.await_held();
     Ok(())
 }
 
-// While both loops are held, a row is inserted and read back. Then the flusher is let go, and while the builder is held
-// a row that it has scanned is deleted, the commit is acknowledged, and the cleaner goes on twice. Whether it was
-// acknowledged, and not refused for the device's failure. A builder that is held behind an attempt has told of it.
-fn lead<B: Group, R: Wait + Clock>(
-    rt: &R,
-    shared: &Shared<B>,
-    seat: &mut Seat<B, Global, Kept>,
+// While both loops are held, a row is inserted and read back. The transaction.
+fn put_and_read<C: Calls>(seat: &mut C) -> Result<Txn, Error> {
+    let txn = seat.begin()?;
+    let rid = insert(seat, txn, LEADING, 0)?;
+    if reads(seat, rid, LEADING, 0)? {
+        Ok(txn)
+    } else {
+        Err(Error::NoSuchRow)
+    }
+}
+
+// While the builder is held a row that it has scanned is deleted, the commit is acknowledged, and the cleaner goes on
+// twice. Whether it was acknowledged, and not refused for the device's failure.
+fn delete_scanned<C: Calls, R: Clock>(
+    seat: &mut C,
     stage: &Stage<'_, R>,
-) -> Result<bool, Error>
-    ensures { seat.new.number ≡ seat.old.number }
-{
-    fill(rt, shared, seat, stage)?;
-    if stage.builder.is_at(Place::At(Point::BuildAttempt)) && progress(shared, seat) == 0 {
-        return Err(Error::NoIndex);
-    }
-    let txn = begin(rt, shared, seat)?;
-    let rid = insert(rt, shared, seat, txn, LEADING, 0)?;
-    if !reads(rt, shared, seat, rid, LEADING, 0)? {
-        return Err(Error::NoSuchRow);
-    }
-    stage.flusher.let_go();
-    remove(rt, shared, seat, txn, FIRST_ROW)?;
-    let ticket = commit(rt, shared, seat, txn)?;
-    let waited = await_ack(rt, shared, seat, ticket);
+    txn: Txn,
+) -> Result<bool, Error> {
+    remove(seat, txn, FIRST_ROW)?;
+    let ticket = seat.commit(txn)?;
+    let waited = seat.await_ack(ticket);
     stage.await_cleaner(2);
     match waited {
         Ok(()) => Ok(true),
@@ -205,31 +168,42 @@ fn lead<B: Group, R: Wait + Clock>(
     }
 }
 
+// Does so, and lets the flusher go between. Whether the commit was acknowledged. A builder that is held behind an
+// attempt has told of it.
+fn lead<C: Calls, R: Clock>(seat: &mut C, stage: &Stage<'_, R>) -> Result<bool, Error> {
+    fill(seat, stage)?;
+    if stage.builder.is_at(Point::BuildAttempt) && seat.progress() == 0 {
+        return Err(Error::NoIndex);
+    }
+    let txn = put_and_read(seat)?;
+    stage.flusher.let_go();
+    delete_scanned(seat, stage, txn)
+}
+
 // ---- the writers
 
-// Notes what a writer was told of a row, and of the one that its transaction deleted. Nothing is acknowledged behind a
-// failure.
-fn note<B: Group>(
-    writer: &mut Writer<B>,
+// Notes a row that is safe, and the one that its transaction deleted. Nothing is acknowledged behind a failure.
+fn note_safe<R>(writer: &mut Writer<'_, R>, put: Put, deleted: Option<Put>) -> Result<(), Error> {
+    if writer.failed > 0 {
+        return Err(Error::DeviceFailed);
+    }
+    writer.acknowledged = writer.acknowledged.saturating_add(1);
+    writer.kept.push(put)?;
+    if let Some(row) = deleted {
+        writer.gone.push(row)?;
+    }
+    Ok(())
+}
+
+// Notes what a writer was told of them.
+fn note<R>(
+    writer: &mut Writer<'_, R>,
     put: &Put,
-    deleted: &Option<Put>,
+    deleted: Option<Put>,
     waited: Result<(), Error>,
-) -> Result<(), Error>
-    ensures { writer.new.seat ≡ writer.old.seat }
-{
+) -> Result<(), Error> {
     match waited {
-        Ok(()) => {
-            if writer.failed > 0 {
-                return Err(Error::DeviceFailed);
-            }
-            writer.acknowledged = writer.acknowledged.saturating_add(1);
-            writer.kept.push(*put)?;
-            let gone = *deleted;
-            if let Some(row) = gone {
-                writer.gone.push(row)?;
-            }
-            Ok(())
-        }
+        Ok(()) => note_safe(writer, *put, deleted),
         Err(Error::DeviceFailed) => {
             writer.failed = writer.failed.saturating_add(1);
             Ok(())
@@ -238,61 +212,47 @@ fn note<B: Group>(
     }
 }
 
-// The place of a row, if there is a row.
-fn place_of(row: &Option<Put>) -> Option<Rid> {
+// Takes a row off those that are there, if there is one and it is the last of them. Its place.
+fn forget(kept: &mut Vec<Put>, row: &Option<Put>) -> Option<Rid> {
     let row = *row;
-    match row {
-        Some(put) => Some(put.rid),
-        None => None,
+    let row = row?;
+    if let Some(last) = kept.last() {
+        if last.second == row.second {
+            kept.pop();
+        }
     }
-}
-
-// Takes a row off those that are there, if it is the last one.
-fn forget(kept: &mut Vec<Put>, row: &Option<Put>) {
-    if kept.last().copied() == *row {
-        kept.pop();
-    }
+    Some(row.rid)
 }
 
 // A transaction that is kept: a row is put, and the one before, if it is to be deleted, is no longer among those that
 // are there.
-fn keep_row<B: Group, R: Wait>(
-    rt: &R,
-    shared: &Shared<B>,
-    writer: &mut Writer<B>,
+fn keep_row<C: Calls, R>(
+    seat: &mut C,
+    writer: &mut Writer<'_, R>,
     second: u16,
     deleted: Option<Put>,
-) -> Result<Put, Error>
-    ensures { writer.new.seat.number ≡ writer.old.seat.number }
-{
+) -> Result<Put, Error> {
     let first = writer.number;
-    let gone = place_of(&deleted);
-    forget(&mut writer.kept, &deleted);
-    let (rid, ticket) = change(rt, shared, &mut writer.seat, (first, second), gone)?;
+    let gone = forget(&mut writer.kept, &deleted);
+    let (rid, ticket) = change(seat, (first, second), gone)?;
     let put = Put { rid, first, second };
-    let waited = await_ack(rt, shared, &mut writer.seat, ticket);
-    note(writer, &put, &deleted, waited)?;
+    let waited = seat.await_ack(ticket);
+    note(writer, &put, deleted, waited)?;
     Ok(put)
 }
 
 // A writer puts a row in each transaction. In each third of four it deletes the row before, and each fourth it takes
 // back. It waits for each commit, and goes on where the device has failed.
-fn write_rows<B: Group, R: Wait>(
-    rt: &R,
-    shared: &Shared<B>,
-    writer: &mut Writer<B>,
-) -> Result<(), Error>
-    ensures { writer.new.seat.number ≡ writer.old.seat.number }
-{
+fn write_rows<C: Calls, R>(seat: &mut C, writer: &mut Writer<'_, R>) -> Result<(), Error> {
     let first = writer.number;
     let mut before = None;
     for second in 0..CHANGES {
         if second % 4 == 3 {
-            let rid = take_back(rt, shared, &mut writer.seat, (first, second))?;
+            let rid = take_back(seat, (first, second))?;
             writer.gone.push(Put { rid, first, second })?;
         } else {
             let deleted = if second % 4 == 2 { before } else { None };
-            before = Some(keep_row(rt, shared, writer, second, deleted)?);
+            before = Some(keep_row(seat, writer, second, deleted)?);
         }
     }
     Ok(())
@@ -300,22 +260,16 @@ fn write_rows<B: Group, R: Wait>(
 
 // What the first writer does before its rows: it puts others, and creates the index, which lets all write. Where loops
 // are to be held it leads. In any case they are let go.
-fn begin_all<B: Group, R: Wait + Clock>(
-    rt: &R,
-    shared: &Shared<B>,
-    writer: &mut Writer<B>,
-    stage: &Stage<'_, R>,
-) -> Result<(), Error>
-    ensures { writer.new.seat.number ≡ writer.old.seat.number }
-{
+fn begin_all<C: Calls, R: Clock>(seat: &mut C, writer: &mut Writer<'_, R>) -> Result<(), Error> {
+    let stage = writer.stage;
     stage.arm();
-    let prepared = set_up(rt, shared, &mut writer.seat);
+    let prepared = set_up(seat);
     stage.begins_writing();
     prepared?;
     if !stage.is_set() {
         return Ok(());
     }
-    let led = lead(rt, shared, &mut writer.seat, stage);
+    let led = lead(seat, stage);
     stage.flusher.let_go();
     stage.builder.let_go();
     if led? {
@@ -328,67 +282,49 @@ fn begin_all<B: Group, R: Wait + Clock>(
     Ok(())
 }
 
+// All that a seat does before and for its rows.
+fn write<C: Calls, R: Clock>(seat: &mut C, writer: &mut Writer<'_, R>) -> Result<(), Error> {
+    if writer.number == 0 {
+        begin_all(seat, writer)?;
+    }
+    writer.stage.await_writing();
+    write_rows(seat, writer)
+}
+
 // What the first writer does behind all rows: it looks at the index, where loops were held and the device has not
 // failed.
-fn look_behind<B: Group, R: Wait + Clock>(
-    rt: &R,
-    shared: &Shared<B>,
-    writer: &mut Writer<B>,
-    stage: &Stage<'_, R>,
-) -> Result<(), Error>
-    ensures { writer.new.seat.number ≡ writer.old.seat.number }
-{
-    if writer.number == 0 && stage.is_set() && !has_failed(shared, &mut writer.seat) {
-        writer.built = end(rt, shared, &mut writer.seat, stage)?;
+fn look_behind<C: Calls, R: Clock>(seat: &mut C, writer: &mut Writer<'_, R>) -> Result<(), Error> {
+    let stage = writer.stage;
+    if writer.number == 0 && stage.is_set() && !seat.has_failed() {
+        writer.built = end(seat, stage)?;
     }
     Ok(())
 }
 
-// All that a seat does in a run.
-fn work<B: Group, R: Wait + Clock>(
-    rt: &R,
-    shared: &Shared<B>,
-    writer: &mut Writer<B>,
-    stage: &Stage<'_, R>,
-) -> Result<(), Error>
-    ensures { writer.new.seat.number ≡ writer.old.seat.number }
-{
-    if stage.is_written() {
-        return look_behind(rt, shared, writer, stage);
+/// A writer writes its rows, and then, in a run of its own, looks at what is there.
+impl<R: Clock> Player for Writer<'_, R> {
+    fn play<C: Calls>(&mut self, seat: &mut C) {
+        let done = if self.has_written {
+            look_behind(seat, self)
+        } else {
+            write(seat, self)
+        };
+        self.has_written = true;
+        self.refused = self.refused.or(done.err());
     }
-    if writer.number == 0 {
-        begin_all(rt, shared, writer, stage)?;
-    }
-    stage.await_writing();
-    write_rows(rt, shared, writer)
 }
 
-// What comes of it.
-fn write<B: Group, R: Wait + Clock>(
-    rt: &R,
-    shared: &Shared<B>,
-    writer: &mut Writer<B>,
-    stage: &Stage<'_, R>,
-)
-    ensures { writer.new.seat.number ≡ writer.old.seat.number }
-{
-    let refused = work(rt, shared, writer, stage).err();
-    writer.refused = writer.refused.or(refused);
-}
-
-/// A writer for each of these seats.
-pub fn writers_of<B: Group>(
+/// A writer for each seat.
+pub fn writers_on<'a, R>(
     alloc: Global,
-    seats: Vec<Seat<B, Global, Kept>>,
-) -> Result<Vec<Writer<B>>, AllocError>
-    ensures { IfOk result (λ writers. map (λ w. w.seat) writers.items ≡ seats.items) }
-{
-    let mut writers = Vec::with_capacity(alloc, seats.len())?;
-    let mut number: u16 = 0;
-    for seat in seats {
+    stage: &'a Stage<'a, R>,
+) -> Result<Vec<Writer<'a, R>>, Error> {
+    let mut writers = Vec::new(alloc);
+    for number in 0..WRITERS {
         writers.push(Writer {
-            seat,
+            stage,
             number,
+            has_written: false,
             kept: Vec::new(alloc),
             gone: Vec::new(alloc),
             acknowledged: 0,
@@ -396,46 +332,12 @@ pub fn writers_of<B: Group>(
             refused: None,
             built: Built::unseen(),
         })?;
-        number = number.saturating_add(1);
     }
     Ok(writers)
 }
 
-// Runs all writers, each in a thread.
-fn write_each<B: Group + Send + Sync, R: Threads + Wait + Clock + Sync>(
-    rt: &R,
-    shared: &Shared<B>,
-    mut writers: Vec<Writer<B>>,
-    stage: &Stage<'_, R>,
-) -> Vec<Writer<B>>
-    ensures len { vec_len result ≡ vec_len writers }
-    ensures numbers { (k : ℕ) (w : _) → k < vec_len writers
-        → (slice_index_or result.items k w).seat.number ≡ (slice_index_or writers.items k w).seat.number }
-{
-    for_each_mut(
-        rt,
-        &mut writers,
-        8,
-        &|_: usize, writer: &mut Writer<B>| { write(rt, shared, writer, stage) },
-    );
-    writers
-}
-
-/// Runs all writers, and gives them back in their order.
-pub fn write_all<B: Group + Send + Sync, R: Threads + Wait + Clock + Sync>(
-    rt: &R,
-    shared: &Shared<B>,
-    writers: Vec<Writer<B>>,
-    stage: &Stage<'_, R>,
-) -> Vec<Writer<B>>
-    ensures { (count : ℕ) → AreAllSeats count (map (λ w. w.seat) writers.items)
-        → AreAllSeats count (map (λ w. w.seat) result.items) }
-{
-    write_each(rt, shared, writers, stage)
-}
-
 /// What they were told.
-pub fn gather<B: Group>(alloc: Global, writers: &[Writer<B>]) -> Result<Told, AllocError> {
+pub fn gather<R>(alloc: Global, writers: &[Writer<'_, R>]) -> Result<Told, AllocError> {
     let mut told = Told {
         kept: Vec::new(alloc),
         gone: Vec::new(alloc),
@@ -457,33 +359,12 @@ pub fn gather<B: Group>(alloc: Global, writers: &[Writer<B>]) -> Result<Told, Al
     Ok(told)
 }
 
-/// The seats of all writers.
-pub fn seats_of<B: Group>(
-    alloc: Global,
-    writers: Vec<Writer<B>>,
-) -> Result<Vec<Seat<B, Global, Kept>>, AllocError>
-    ensures { IfOk result (λ seats. seats.items ≡ map (λ w. w.seat) writers.items) }
-{
-    let mut seats = Vec::with_capacity(alloc, writers.len())?;
-    for writer in writers {
-        seats.push(writer.seat)?;
-    }
-    Ok(seats)
-}
-
 // ---- behind the writers
 
 // Waits until the index is complete.
-fn await_index<B: Group, R: Wait + Clock>(
-    rt: &R,
-    shared: &Shared<B>,
-    seat: &mut Seat<B, Global, Kept>,
-    stage: &Stage<'_, R>,
-)
-    ensures { seat.new.number ≡ seat.old.number }
-{
+fn await_index<C: Calls, R: Clock>(seat: &mut C, stage: &Stage<'_, R>) {
     for _ in stage.looks() {
-        if let Life::Complete = life(rt, shared, seat) {
+        if let Life::Complete = seat.life() {
             return;
         }
         stage.rest();
@@ -492,48 +373,25 @@ fn await_index<B: Group, R: Wait + Clock>(
 }
 
 // Puts a row and deletes it, waits until the cleaner has looked at each entry, and until all that is on the device.
-fn leave_mark<B: Group, R: Wait + Clock>(
-    rt: &R,
-    shared: &Shared<B>,
-    seat: &mut Seat<B, Global, Kept>,
-    stage: &Stage<'_, R>,
-) -> Result<(), Error>
-    ensures { seat.new.number ≡ seat.old.number }
-{
-    let (rid, _) = change(rt, shared, seat, (ENDING, 0), None)?;
-    change(rt, shared, seat, (ENDING, 1), Some(rid))?;
+fn leave_mark<C: Calls, R: Clock>(seat: &mut C, stage: &Stage<'_, R>) -> Result<(), Error> {
+    let (rid, _) = change(seat, (ENDING, 0), None)?;
+    change(seat, (ENDING, 1), Some(rid))?;
     stage.await_cleaner(STEPS_OF_CLEANER);
-    let (_, ticket) = change(rt, shared, seat, (ENDING, 2), None)?;
-    await_ack(rt, shared, seat, ticket)
-}
-
-// Whether the index finds the second row at its place alone.
-fn finds_row<B: Group, R: Wait>(
-    rt: &R,
-    shared: &Shared<B>,
-    seat: &mut Seat<B, Global, Kept>,
-) -> Result<bool, Error>
-    ensures { seat.new.number ≡ seat.old.number }
-{
-    let found = find(rt, shared, seat, key_of(ROWS, 1)?)?;
-    Ok(found.as_slice() == [SECOND_ROW].as_slice())
+    let (_, ticket) = change(seat, (ENDING, 2), None)?;
+    seat.await_ack(ticket)
 }
 
 // Waits until the index is complete, and until one that is made in its place is; a row is deleted, and the cleaner
-// takes its entry away.
-fn end<B: Group, R: Wait + Clock>(
-    rt: &R,
-    shared: &Shared<B>,
-    seat: &mut Seat<B, Global, Kept>,
-    stage: &Stage<'_, R>,
-) -> Result<Built, Error>
-    ensures { seat.new.number ≡ seat.old.number }
-{
-    await_index(rt, shared, seat, stage);
-    make_anew(rt, shared, seat)?;
-    await_index(rt, shared, seat, stage);
-    leave_mark(rt, shared, seat, stage)?;
-    let found = finds_row(rt, shared, seat)?;
-    let told = progress(shared, seat) > 0;
-    Ok(Built { found, told })
+// takes its entry away. Then the index is to find the second row at its place alone.
+fn end<C: Calls, R: Clock>(seat: &mut C, stage: &Stage<'_, R>) -> Result<Built, Error> {
+    await_index(seat, stage);
+    make_anew(seat)?;
+    await_index(seat, stage);
+    leave_mark(seat, stage)?;
+    let found = seat.find_one(key_of(ROWS, 1)?)?;
+    let told = seat.progress() > 0;
+    Ok(Built {
+        found: found == Some(SECOND_ROW),
+        told,
+    })
 }

@@ -1,6 +1,4 @@
 //! Holding flusher and builder, each at a place, until something else was done.
-ghost use Rattle.std.specs.Prelude.{◌≡◌};
-
 use sector_device::{Device, Failed, SECTOR_SIZE};
 use std::ops::Range;
 use std::rt::Clock;
@@ -16,7 +14,7 @@ const LOOKS: u32 = 100_000;
 const BETWEEN_LOOKS: u64 = 20;
 
 /// A place of a loop.
-#[derive(Clone, Copy, PartialEq)]
+#[derive(Clone, Copy)]
 pub enum Place {
     /// Within a sync of the device.
     Sync,
@@ -40,9 +38,17 @@ impl Hold {
         }
     }
 
-    /// Whether a thread is to be held at this place.
-    pub fn is_at(&self, place: Place) -> bool {
-        self.place == Some(place)
+    /// Whether a thread is to be held at this point.
+    pub fn is_at(&self, point: Point) -> bool {
+        match self.place {
+            Some(Place::At(at)) => at == point,
+            _ => false,
+        }
+    }
+
+    // Whether a thread is to be held within a sync.
+    fn is_in_sync(&self) -> bool {
+        matches!(self.place, Some(Place::Sync))
     }
 
     /// Whether a thread was held.
@@ -56,7 +62,7 @@ impl Hold {
 }
 
 /// Where flusher and builder are held, once they are to be; how many steps the cleaner has begun; how many groups were
-/// flushed before the first chunk of an image; and whether the writers may begin, and have ended.
+/// flushed before the first chunk of an image; and whether the writers may begin.
 #[derive(Drop)]
 pub struct Stage<'a, R> {
     rt: &'a R,
@@ -68,7 +74,6 @@ pub struct Stage<'a, R> {
     groups: AtomicU64,
     copied: AtomicBool,
     begun: AtomicBool,
-    written: AtomicBool,
 }
 
 impl<'a, R: Clock> Stage<'a, R> {
@@ -83,7 +88,6 @@ impl<'a, R: Clock> Stage<'a, R> {
             groups: AtomicU64::new(0),
             copied: AtomicBool::new(false),
             begun: AtomicBool::new(false),
-            written: AtomicBool::new(false),
         }
     }
 
@@ -100,16 +104,6 @@ impl<'a, R: Clock> Stage<'a, R> {
     /// The writers may begin.
     pub fn begins_writing(&self) {
         self.begun.store(true, Ordering::SeqCst);
-    }
-
-    /// The writers have ended.
-    pub fn ends_writing(&self) {
-        self.written.store(true, Ordering::SeqCst);
-    }
-
-    /// Whether the writers have ended.
-    pub fn is_written(&self) -> bool {
-        self.written.load(Ordering::SeqCst)
     }
 
     /// Whether a loop is to be held.
@@ -153,10 +147,10 @@ impl<'a, R: Clock> Stage<'a, R> {
         self.is_too_late();
     }
 
-    // Holds a thread that comes by this place, where it is the first one.
-    fn pass(&self, hold: &Hold, place: Place) {
+    // Holds a thread that comes by the place of a loop, where it is the first one.
+    fn pass(&self, hold: &Hold, is_there: bool) {
         let armed = self.armed.load(Ordering::SeqCst);
-        if armed && hold.place == Some(place) && !hold.held.swap(true, Ordering::SeqCst) {
+        if armed && is_there && !hold.held.swap(true, Ordering::SeqCst) {
             self.look(&hold.let_go);
         }
     }
@@ -197,8 +191,8 @@ impl<R: Clock> Gate for Stage<'_, R> {
             Point::CopyStep => self.copied.store(true, Ordering::SeqCst),
             _ => {}
         }
-        self.pass(&self.flusher, Place::At(point));
-        self.pass(&self.builder, Place::At(point));
+        self.pass(&self.flusher, self.flusher.is_at(point));
+        self.pass(&self.builder, self.builder.is_at(point));
     }
 }
 
@@ -227,7 +221,8 @@ impl<D: Device, R: Clock> Device for HeldDisk<'_, D, R> {
     }
 
     fn sync(&mut self) -> Result<(), Failed> {
-        self.stage.pass(&self.stage.flusher, Place::Sync);
+        let flusher = &self.stage.flusher;
+        self.stage.pass(flusher, flusher.is_in_sync());
         self.disk.sync()
     }
 }

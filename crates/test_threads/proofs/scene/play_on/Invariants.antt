@@ -1,4 +1,0 @@
-use Rattle.test_threads.proofs.scene.play_on.Given as goal
-
-abbrev pub ghosts-play_in : goal.ghosts-play_in
-ghosts-play_in g a = record { site = a.store.site }

@@ -1,0 +1,225 @@
+//! Players at the seats of a store, beside its loops, to the end of all threads.
+ghost use Rattle.std.specs.Prelude.{◌≡◌};
+ghost use Rattle.shared.specs.Seats.{AreNewSeats};
+
+use crate::at_seat::let_play;
+use crate::chairs::{Chair, Player, THREADS_MAX, chairs_of, parted};
+use crate::runs::{Ran, run};
+use crate::store::{start, take_back};
+use records::Error;
+use sector_device::Device;
+use shared::{Group, Kept, LoopParts, Shared};
+use std::alloc::Global;
+use std::marker::Brand;
+use std::mem::forget;
+use std::sync::Wait;
+use std::thread::{Threads, for_each_mut};
+use threads_lifetime::{OpenStore, Parts};
+use threads_loops::Gate;
+
+/// What is left: the players, in their order; how the flusher ended first, and all threads; and the device.
+#[derive(Drop)]
+pub struct Left<P, D> {
+    pub players: Vec<P>,
+    pub flusher: Option<Error>,
+    pub end: Option<Error>,
+    pub device: D,
+}
+
+// Lets each play, each in a thread.
+fn play_each<B: Group + Send + Sync, P: Player + Send, R: Threads + Wait + Sync>(
+    rt: &R,
+    shared: &Shared<B>,
+    mut chairs: Vec<Chair<B, P>>,
+) -> Vec<Chair<B, P>> {
+    for_each_mut(
+        rt,
+        &mut chairs,
+        THREADS_MAX,
+        &|_: usize, chair: &mut Chair<B, P>| {
+            let_play(rt, shared, &mut chair.at, &mut chair.player)
+        },
+    );
+    chairs
+}
+
+// Lets all play beside the loops.
+fn run_chairs<
+    B: Group + Send + Sync,
+    P: Player + Send + Drop,
+    D: Device + Send + Drop,
+    R: Threads + Wait + Sync,
+    G: Gate + Sync,
+>(
+    rt: &R,
+    shared: &Shared<B>,
+    chairs: Vec<Chair<B, P>>,
+    loops: LoopParts<B, D>,
+    gate: &G,
+) -> Result<Ran<B, D, Vec<Chair<B, P>>>, Error> {
+    let clients = move || play_each(rt, shared, chairs);
+    run(rt, shared, loops, gate, clients)
+}
+
+// Lets them play twice, each time beside the loops.
+fn run_twice<
+    B: Group + Send + Sync,
+    P: Player + Send + Drop,
+    D: Device + Send + Drop,
+    R: Threads + Wait + Sync,
+    G: Gate + Sync,
+>(
+    rt: &R,
+    shared: &Shared<B>,
+    chairs: Vec<Chair<B, P>>,
+    loops: LoopParts<B, D>,
+    gate: &G,
+) -> Result<Ran<B, D, Vec<Chair<B, P>>>, Error> {
+    let Ran {
+        clients,
+        loops,
+        flushed: first,
+    } = run_chairs(rt, shared, chairs, loops, gate)?;
+    let Ran {
+        clients,
+        loops,
+        flushed,
+    } = run_chairs(rt, shared, clients, loops, gate)?;
+    Ok(Ran {
+        clients,
+        loops,
+        flushed: first.and(flushed),
+    })
+}
+
+// Lets them play with a seat for each.
+fn play_parts<
+    B: Group + Send + Sync,
+    P: Player + Send + Drop,
+    D: Device + Send + Drop,
+    R: Threads + Wait + Sync,
+    G: Gate + Sync,
+>(
+    rt: &R,
+    alloc: Global,
+    shared: &Shared<B>,
+    parts: Parts<B, D, Global, Kept>,
+    players: Vec<P>,
+    gate: &G,
+) -> Result<Ran<B, D, Vec<Chair<B, P>>>, Error>
+    requires { AreNewSeats B.site.board B.site.seats parts.seats.items }
+{
+    let (seats, loops) = parts.split();
+    match chairs_of(alloc, seats, players) {
+        Ok(chairs) => run_twice(rt, shared, chairs, loops, gate),
+        Err(_) => {
+            forget(loops);
+            Err(Error::NoMemory)
+        }
+    }
+}
+
+// Takes back what is left.
+fn end<B: Group, P: Drop, D: Device + Drop, R: Wait>(
+    rt: &R,
+    alloc: Global,
+    shared: Shared<B>,
+    ran: Ran<B, D, Vec<Chair<B, P>>>,
+    count: usize,
+) -> Result<Left<P, D>, Error>
+    requires { count ≡ B.site.seats }
+{
+    let Ran {
+        clients,
+        loops,
+        flushed,
+    } = ran;
+    match parted(alloc, clients, count) {
+        Ok((seats, players)) => {
+            let (device, end) = take_back(rt, alloc, shared, loops.with_seats(seats));
+            Ok(Left {
+                players,
+                flusher: flushed.err(),
+                end,
+                device,
+            })
+        }
+        Err(_) => {
+            forget(shared);
+            forget(loops);
+            Err(Error::NoMemory)
+        }
+    }
+}
+
+// Lets them play, and takes all back.
+fn play_with<
+    B: Group + Send + Sync,
+    P: Player + Send + Drop,
+    D: Device + Send + Drop,
+    R: Threads + Wait + Sync,
+    G: Gate + Sync,
+>(
+    rt: &R,
+    alloc: Global,
+    shared: Shared<B>,
+    parts: Parts<B, D, Global, Kept>,
+    players: Vec<P>,
+    gate: &G,
+) -> Result<Left<P, D>, Error>
+    requires { AreNewSeats B.site.board B.site.seats parts.seats.items }
+{
+    let count = parts.seats.len();
+    match play_parts(rt, alloc, &shared, parts, players, gate) {
+        Ok(ran) => end(rt, alloc, shared, ran, count),
+        Err(error) => {
+            forget(shared);
+            Err(error)
+        }
+    }
+}
+
+// The same in the store.
+fn play_in<
+    B: Group + Send + Sync,
+    P: Player + Send + Drop,
+    D: Device + Send + Drop,
+    R: Threads + Wait + Sync,
+    G: Gate + Sync,
+>(
+    rt: &R,
+    alloc: Global,
+    store: OpenStore<D>,
+    players: Vec<P>,
+    gate: &G,
+) -> Result<Left<P, D>, Error>
+    requires { store.site ≡ B.site }
+{
+    match start::<B, D, Global>(store) {
+        Ok((shared, parts)) => play_with(rt, alloc, shared, parts, players, gate),
+        Err((error, device)) => {
+            drop(device);
+            drop(players);
+            Err(error)
+        }
+    }
+}
+
+/// Lets players play at the seats of the store, each in a thread, beside the loops, whose gate is this. They play
+/// twice, each time until all have ended. Then all is taken back, and what was made is written out.
+///
+/// `NoMemory` where there are fewer players than seats, or no thread for a loop; what was given is lost then.
+pub fn play_beside<
+    P: Player + Send + Drop,
+    D: Device + Send + Drop,
+    R: Threads + Wait + Sync,
+    G: Gate + Sync,
+>(
+    rt: &R,
+    alloc: Global,
+    store: OpenStore<D>,
+    players: Vec<P>,
+    gate: &G,
+) -> Result<Left<P, D>, Error> {
+    play_in::<Brand, P, D, R, G>(rt, alloc, store, players, gate)
+}

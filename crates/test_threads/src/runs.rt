@@ -1,0 +1,67 @@
+//! The loops of the store, beside its clients.
+use records::Error;
+use sector_device::Device;
+use shared::{Group, LoopParts, Shared};
+use std::mem::forget;
+use std::sync::Wait;
+use std::thread::Threads;
+use threads_loops::{BuilderEnd, Ended, Gate, run_beside};
+
+/// What is left of the loops, what the clients returned, and how the flusher ended.
+#[derive(Drop)]
+pub(crate) struct Ran<B: Group, D: Device, X> {
+    pub clients: X,
+    pub loops: LoopParts<B, D>,
+    pub flushed: Result<(), Error>,
+}
+
+/// Runs the clients beside the loops. `NoMemory` where there is no thread for a loop; what was given is lost then.
+pub(crate) fn run<
+    B: Group + Send + Sync,
+    D: Device + Send + Drop,
+    R: Threads + Wait + Sync,
+    G: Gate + Sync,
+    X,
+    F: FnOnce() -> X,
+>(
+    rt: &R,
+    shared: &Shared<B>,
+    loops: LoopParts<B, D>,
+    gate: &G,
+    clients: F,
+) -> Result<Ran<B, D, X>, Error>
+    requires { F.pre clients }
+{
+    let LoopParts {
+        flush,
+        build,
+        clean,
+    } = loops;
+    let told = BuilderEnd::new();
+    match run_beside(rt, shared, flush, build, clean, &told, gate, clients) {
+        Ok((ended, _)) => {
+            let Ended {
+                clients,
+                flush,
+                build,
+                clean,
+                flushed,
+                built: _,
+            } = ended;
+            let loops = LoopParts {
+                flush,
+                build,
+                clean,
+            };
+            Ok(Ran {
+                clients,
+                loops,
+                flushed,
+            })
+        }
+        Err(not_run) => {
+            forget(not_run);
+            Err(Error::NoMemory)
+        }
+    }
+}
