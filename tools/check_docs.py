@@ -1,6 +1,6 @@
 #!/usr/bin/env python3
-"""Looks whether README.md and docs/*.md agree with the sources, at the width of these, and at what proofs cite of other crates. Usage:
-tools/check_docs.py, anywhere.
+"""Looks whether README.md, CHANGELOG.md and docs/*.md agree with the sources, at the width of these, and at what proofs cite of other
+crates. Usage: tools/check_docs.py [--run], anywhere.
 
 Each word in backticks that could name an item, a crate or a file stands in the sources. At each place FILE:LINE that a table row
 names stands what the row is about, and a block of code behind such a place begins with that line. Each relative link leads
@@ -8,8 +8,12 @@ somewhere. A row with functions and a file names functions of that file. A line 
 proofs 160, strings aside. Of another crate's proofs only the lemma files are cited that the head of its lib.rt names, and each of
 these is. The crate that a launcher `nsf-..` names, and the text of help in its tests, are there. It prints how many words each page
 has, and ends with status 1 where something is missing or too wide.
+
+With --run it also runs each block of `sh` behind which a block of `text` follows, where `rt` is there: in a copy of the checkout, in
+which no store is yet, a page's blocks one after another. Each ends with status 0, and prints that text. Programs which are built for
+this, in some minutes, are kept in .kept of the checkout.
 """
-import fnmatch, pathlib, re, sys
+import difflib, fnmatch, pathlib, re, shutil, subprocess, sys, tempfile
 
 TOP = pathlib.Path(__file__).resolve().parent.parent
 KINDS = {".rt", ".antt", ".edit", ".h", ".c", ".rs", ".py", ".sh"}
@@ -18,6 +22,7 @@ BYTES = re.compile(r"(?<![\w:]):[0-9a-f]{2,}\b|\b\d\w*")
 OUTSIDE = {"libc", "synchronous"}  # names of other programs
 TEXT = re.compile(r'"(?:[^"\\]|\\.)*"', re.S)
 PLACE = re.compile(r"`([\w./-]+\.(?:rt|antt)):(\d+)`")
+SHOWN = re.compile(r"^```sh\n(.*?)^```\n\s*^```text\n(.*?)^```$", re.M | re.S)
 
 
 def sources():
@@ -25,7 +30,7 @@ def sources():
     words, ends = set(), set()
     for path in TOP.rglob("*"):
         parts = path.relative_to(TOP).parts
-        if ".git" in parts or "out" in parts:
+        if {".git", ".kept", "out"} & set(parts):
             continue
         ends.update("/".join(parts[i:]) for i in range(len(parts)))
         words.update(WORD.findall(" ".join(parts)))
@@ -114,23 +119,51 @@ def cited_proofs():
 
 
 def launchers():
-    """Each crate that a launcher names and that isn't there, and each whose tests have no text of help."""
+    """Each crate that a launcher names and that isn't there, and each whose tests have no text of help: a file, or a row of a table."""
     for path in sorted(TOP.glob("nsf-*")):
         program, tests = re.search(rf"run-program\" {path.name} (\w+) (\w+) ", path.read_text()).groups()
-        for file in (f"crates/{program}/src/main.rt", f"crates/{tests}/src/help.rt"):
-            if not (TOP / file).is_file():
-                yield f"{path.name} needs {file}, which isn't there"
+        help_file, table = TOP / f"crates/{tests}/src/help.rt", TOP / f"crates/{tests}/stdin"
+        if not (TOP / f"crates/{program}/src/main.rt").is_file():
+            yield f"{path.name} needs crates/{program}/src/main.rt, which isn't there"
+        if not help_file.is_file() and not (table.is_file() and b"\n= the help\n" in table.read_bytes()):
+            yield f"{path.name} needs the text of its help in crates/{tests}"
+
+
+def shown_runs(page):
+    """Each block of commands of a page that fails, or doesn't print the block behind it."""
+    shown = SHOWN.findall(page.read_text())
+    if not shown:
+        return
+    with tempfile.TemporaryDirectory() as room:
+        copy = pathlib.Path(room) / "checkout"
+        shutil.copytree(TOP, copy, symlinks=True, ignore=shutil.ignore_patterns("out", ".git", ".kept"))
+        (TOP / ".kept").mkdir(exist_ok=True)
+        (copy / ".kept").symlink_to(TOP / ".kept")
+        for commands, text in shown:
+            run = subprocess.run(["sh", "-ec", commands], cwd=copy, stdin=subprocess.DEVNULL, stdout=subprocess.PIPE, text=True)
+            first = commands.splitlines()[0]
+            if run.returncode:
+                yield f"the block of `{first}` ends with status {run.returncode}"
+            differing = difflib.unified_diff(text.splitlines(), run.stdout.splitlines(), "shown", "printed", n=1, lineterm="")
+            difference = "\n       ".join(differing)
+            if difference:
+                yield f"the block of `{first}` prints other lines:\n       {difference}"
+    print(f"{len(shown):6} blocks of commands were run")
 
 
 def main():
+    runs = "--run" in sys.argv[1:]
+    if runs and not shutil.which("rt"):
+        print("no rt is there, so no block of commands is run")
+        runs = False
     words, ends = sources()
-    pages = [TOP / "README.md", *sorted((TOP / "docs").glob("*.md"))]
+    pages = [TOP / "README.md", TOP / "CHANGELOG.md", *sorted((TOP / "docs").glob("*.md"))]
     wrong, total = 0, 0
     for page in pages:
         count = len(page.read_text().split())
         total += count
         print(f"{count:6} {page.relative_to(TOP)}")
-        for fault in faults(page, words, ends):
+        for fault in (*faults(page, words, ends), *(shown_runs(page) if runs else ())):
             wrong += 1
             print(f"       {fault}")
     for fault in (*wide_lines(), *cited_proofs(), *launchers()):

@@ -1,5 +1,5 @@
 #!/usr/bin/env python3
-"""Lists the sentences of README.md and docs/*.md that have more words than so many: tools/long_sentences.py [24].
+"""Lists the sentences of README.md, CHANGELOG.md and docs/*.md that have more words than so many: tools/long_sentences.py [24].
 
 Blocks of code are left out, and what stands in backticks counts as one word. A list item, and a cell of a table, is looked at by
 itself. It ends with status 1 where there is such a sentence.
@@ -32,7 +32,7 @@ def blocks(text):
 def main():
     most = int(sys.argv[1]) if len(sys.argv) > 1 else 24
     found = 0
-    for page in [TOP / "README.md", *sorted((TOP / "docs").glob("*.md"))]:
+    for page in [TOP / "README.md", TOP / "CHANGELOG.md", *sorted((TOP / "docs").glob("*.md"))]:
         for number, block in blocks(page.read_text()):
             block = re.sub(r"!?\[([^\]]*)\]\([^)]*\)", r"\1", re.sub(r"`[^`]*`", "CODE", block))
             for sentence in END.split(block):
