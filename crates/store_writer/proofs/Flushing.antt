@@ -82,6 +82,7 @@ module _ {D M : Type 0} (past_of : D → DevicePast) (failures : D → ℕ) (old
     flushed = flushed;
     image = λ n is. absurd (never n is);
     copying-is = refl;
+    known-is = refl;
     sound = sound;
     full = full;
     err = err;
@@ -141,6 +142,7 @@ module _ {D M : Type 0} (past_of : D → DevicePast) (failures : D → ℕ) (old
             flushed = tt;
             image = λ n never. absurd ((cc));
             copying-is = refl;
+            known-is = refl;
             sound = tt;
             full = λ _ _ full. absurd (room full);
             err = inr (refl, refl, (λ _. (waits, rises)), λ was. absurd (false≢true (sym sound ∙ was)));
@@ -194,6 +196,7 @@ module _ {D M : Type 0} (past_of : D → DevicePast) (failures : D → ℕ) (old
                 flushed = flushed_more old mid new count result refl refl refl log_is some fills on.flushed on.rest;
                 image = image_is;
                 copying-is = on.copying-is;
+                known-is = on.known-is;
                 sound = sound_then result on.flushed;
                 full = λ _ _ full. absurd (room full);
                 err = IfErr-weaker result _ _ (λ e failed. inr (

@@ -189,7 +189,7 @@ passed_part run half image base number handed page count highest life opened ris
 -- the writer stands for as much where a page was passed over
 module _ {D M : Type 0} (past_of : D → DevicePast) (run : Run) (handed : ℕ) (w : Writer D M) (is : IsWriter past_of run handed w) (sound : w.failed ≡ false)
     (image : NewImage) (here : w.image ≡ Some image) (page count : ℕ) (highest : Option Pair) (life : Life) (at : image.stage ≡ Partly page count highest life)
-    (up : image.number ≤ handed_of w) (known : IsKnown w.known page) where
+    (up : image.number ≤ handed_of w) (known : IsKnown w.known.changed.items w.known.other page) where
   abbrev content : CrashState
   content = (past_of w.device).disk.content
 

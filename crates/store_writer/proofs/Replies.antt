@@ -10,6 +10,7 @@ use Rattle.store_writer.specs.declared.image.NewImage.{NewImage}
 use Rattle.store_writer.specs.declared.writer.Writer.{Writer}
 use Rattle.store_writer.specs.declared.writer.FlushReply.{FlushReply}
 use Rattle.store_writer.specs.declared.writer.FlushReply.TheVariants.{Flushed}
+use Rattle.store_writer.specs.Known.{KnowsBehind}
 use Rattle.store_writer.specs.Writer.{FillsGroup, HasKept, HasPiece, HasTaken, IsAsBefore, IsBeforeFlush, IsFlushReply}
 
 -- a log of the same area with one open slot more
@@ -59,3 +60,8 @@ pub taken_as : {A D M T E : Type 0} (number : ℕ) (piece shape : Piece A) (behi
 taken_as number piece shape behind old new (Ok x) is at (image, kept, has, copying) =
     (image, kept, subst (λ (p : Piece _). HasPiece number p old image) (sym is) has, copying ∙ ap Steps at)
 taken_as number piece shape behind old new (Err e) is at taken = tt
+
+-- and what is known then
+pub knows_as : {A D M T E : Type 0} (number : ℕ) (piece shape : Piece A) (old new : Writer D M) (result : Result T E) → piece ≡ shape
+    → OnOk result (KnowsBehind number shape old new) → OnOk result (KnowsBehind number piece old new)
+knows_as number piece shape old new result is knows = subst (λ (p : Piece _). OnOk result (KnowsBehind number p old new)) (sym is) knows

@@ -1,6 +1,6 @@
 -- Which pages the halves of a store have as they are.
-use Rattle.std.specs.Prelude.{◌≡◌, ℕ, ◌+◌, ◌≤◌, ◌<◌, nat_lt, if◌then◌else◌, List, [], ◌∷◌, length, slice_index_or}
-use Rattle.std.specs.Prelude.{slice_set, Option, Some, None, IfSome}
+use Rattle.std.specs.Prelude.{◌≡◌, ◌⊎◌, ℕ, ◌+◌, ◌≤◌, ◌<◌, nat_lt, if◌then◌else◌, List, [], ◌∷◌, length}
+use Rattle.std.specs.Prelude.{replicate, slice_index_or, slice_set, Option, Some, None, IfSome}
 use Rattle.std.specs.Option.{option_map_or}
 use Rattle.std.specs.FinMap as map
 use Rattle.sector_device.specs.Disk.{CrashState, sector}
@@ -19,7 +19,11 @@ use Rattle.store_image_half.specs.Part.{HasPage}
 use Rattle.flip_image.specs.declared.half.Half.{Half}
 use Rattle.flip_image.specs.Layout.{header_sector, other}
 use Rattle.store_image_model.specs.Run.{Run, cells_at}
-use Rattle.store_writer.specs.declared.known.KnownPages.{KnownPages}
+use Rattle.store_image_model.specs.declared.chunk.Piece.{Piece}
+use Rattle.store_image_model.specs.declared.chunk.Piece.TheVariants.{Whole, Start, Page, Entries}
+use Rattle.store_writer.specs.Parts.{changed_of, handed_of, known_here, known_there}
+use Rattle.store_writer.specs.declared.image.NewImage.{NewImage}
+use Rattle.store_writer.specs.declared.writer.Writer.{Writer}
 
 -- ---- what records set
 
@@ -85,7 +89,45 @@ pub record KnowsPages (run : Run) (half : Half) (image : CrashState) (handed : �
   pub current : IfSome here (HasUnchanged run half image handed changed)
   pub idle : IfSome there (HasUnchanged run (other half) image handed changed)
 
--- the other half has the page as it is
-abbrev pub IsKnown : {M : Type 0} → KnownPages M → (page : ℕ) → Type 0
-IsKnown k page = (page < length k.changed.items)
-    × ((low : ℕ) × (k.other ≡ Some low) × (slice_index_or k.changed.items page 0 ≤ low))
+-- a half has the page as it is, by what is known of it
+abbrev pub IsKnown : List ℕ → Option ℕ → (page : ℕ) → Type 0
+IsKnown changed known page = (page < length changed)
+    × ((low : ℕ) × (known ≡ Some low) × (slice_index_or changed page 0 ≤ low))
+
+-- ---- and what becomes of that
+
+-- as much as before
+abbrev pub KnowsAsBefore : {D M : Type 0} → (old new : Writer D M) → Type 0
+KnowsAsBefore old new = (changed_of new ≡ changed_of old) × (known_here new ≡ known_here old)
+    × (known_there new ≡ known_there old)
+
+-- The page of each row that these records set has the number of the last one that sets a row of it.
+abbrev pub NotesChanges : {D M : Type 0} → List RecordValue → (old new : Writer D M) → Type 0
+NotesChanges records old new = (changed_of new ≡ with_changes (changed_of old) records)
+    × (known_here new ≡ known_here old) × (known_there new ≡ known_there old)
+
+-- No page had a number. Each has that of the last record handed in now, and no half is known to have a page.
+abbrev pub BeginsToKnow : {D M : Type 0} → (old new : Writer D M) → Type 0
+BeginsToKnow old new = (changed_of old ≡ []) × (changed_of new ≡ replicate old.halves.geometry.pages (handed_of old))
+    × (known_here new ≡ None) × (known_there new ≡ None)
+
+-- A page as the record `number` left it was written into a half. What is known of the half stays, if that record isn't
+-- above the last one handed in, nor below what is known; or else nothing may be known.
+abbrev pub StaysKnown : (number handed : ℕ) → (old new : Option ℕ) → Type 0
+StaysKnown number handed old new = ((new ≡ old) ⊎ (new ≡ None))
+    × ((low : ℕ) → old ≡ Some low → low ≤ number → number ≤ handed → new ≡ old)
+
+-- What is known once a piece was taken. At the start of an image a number may be begun for each page. A whole image and
+-- entries may leave nothing known of the image's half.
+abbrev pub KnowsBehind : {A D M : Type 0} → (number : ℕ) → Piece A → (old new : Writer D M) → Type 0
+KnowsBehind number (Whole cells) old new = (changed_of new ≡ changed_of old) × (known_here new ≡ known_here old)
+KnowsBehind number (Start life lists) old new = KnowsAsBefore old new ⊎ BeginsToKnow old new
+KnowsBehind number (Page page rows) old new = (changed_of new ≡ changed_of old) × (known_here new ≡ known_here old)
+    × StaysKnown number (handed_of old) (known_there old) (known_there new)
+KnowsBehind number (Entries entries) old new = (changed_of new ≡ changed_of old) × (known_here new ≡ known_here old)
+
+-- The image's half is current: it is known to have each page that no record above the image's base sets a row of. What
+-- was known of the current half is known of the other one.
+abbrev pub KnowsTurned : {D M : Type 0} → (old new : Writer D M) → Type 0
+KnowsTurned old new = (changed_of new ≡ changed_of old) × (known_there new ≡ known_here old)
+    × ((image : NewImage) → old.image ≡ Some image → known_here new ≡ Some image.base)

@@ -42,6 +42,18 @@ module _ {D M : Type 0} where
   abbrev pub copying_of : Writer D M → Copying
   copying_of w = w.copying
 
+  -- For each page a number above which no record sets a row of it; for none, until there is memory for all.
+  abbrev pub changed_of : Writer D M → List ℕ
+  changed_of w = w.known.changed.items
+
+  -- the current half has each page as it is whose number is at most this one
+  abbrev pub known_here : Writer D M → Option ℕ
+  known_here w = w.known.current
+
+  -- and so has the half of an image
+  abbrev pub known_there : Writer D M → Option ℕ
+  known_there w = w.known.other
+
   -- with no image under way, and its copying here
   abbrev pub without_image : Copying → Writer D M → Writer D M
   without_image copying w = record w { image = None; copying = copying }

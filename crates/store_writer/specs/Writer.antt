@@ -51,7 +51,7 @@ use Rattle.store_writer.specs.Copying.{IsCopying, next_place, page_behind}
 use Rattle.store_writer.specs.declared.image.Plan.{Plan}
 use Rattle.store_writer.specs.Image.{BecomesImage, InNewSlot, IsPlan, IsUnderway, reach}
 use Rattle.store_writer.specs.Known.{IsKnown, KnowsPages}
-use Rattle.store_writer.specs.Parts.{handed_of, without_image}
+use Rattle.store_writer.specs.Parts.{changed_of, handed_of, known_there, without_image}
 
 -- ---- what it stands for
 
@@ -236,6 +236,7 @@ pub record HasCarriedOn {D M : Type 0} (past_of : D → DevicePast) (failures : 
   pub err : IfErr result (λ e. (e ≡ DeviceFailed) × (new.failed ≡ true) × (new.synced ≡ old.synced)
       × Rises (failures old.device) (failures new.device))
   pub copying-is : new.copying ≡ old.copying
+  pub known-is : new.known ≡ old.known
   pub quiet : OnOk result (failures new.device ≡ failures old.device)
   pub later : failures old.device ≤ failures new.device
   pub around : WritesLogsAlone past_of old new
@@ -252,6 +253,7 @@ pub record HasFlushed {D M : Type 0} (past_of : D → DevicePast) (failures : D 
   pub image : (n : ℕ) → result ≡ Ok (Flushed n)
       → BecomesImage old.halves.geometry.slots old.synced (n - old.synced) old.image new.image
   pub copying-is : new.copying ≡ old.copying
+  pub known-is : new.known ≡ old.known
   pub sound : OnOk result ((old.failed ≡ false) × (new.failed ≡ false))
   pub full : old.failed ≡ false → old.waiting.items ≢ [] → IsLogFull old → result ≡ Ok LogFull
   pub err : IfErr result (λ e. IsNotFlushed failures e old new)
@@ -350,7 +352,7 @@ HasPiece number (Start life lists) old new = HasBegun number (stage.Partly 0 0 N
 HasPiece number (Page page rows) old new = HasRows number page old new
 HasPiece number (Entries entries) old new = HaveEntries number entries.items old new
 
--- this is the image under way, and but for the device all else is as it was
+-- this is the image under way, and but for the device and what is known of pages all else is as it was
 abbrev pub HasKept : {D M : Type 0} → NewImage → Writer D M → Writer D M → Type 0
 HasKept image old new = (new.image ≡ Some image) × (new.halves ≡ old.halves) × (new.log ≡ old.log)
     × (new.waiting ≡ old.waiting) × (new.synced ≡ old.synced) × (new.failed ≡ old.failed)
@@ -369,7 +371,8 @@ MustStartAgain (Start life lists) w = IsLogFull w
 MustStartAgain (Page page rows) w = (w.image ≡ None) ⊎ IsLogFull w
 MustStartAgain (Entries entries) w = (w.image ≡ None) ⊎ (IsLogFull w ⊎ IsPast w (length entries.items))
 
--- the piece is in the image, whose copying goes on behind it, and all else but the device is as it was
+-- The piece is in the image, whose copying goes on behind it. But for the device and what is known of pages all else is
+-- as it was.
 abbrev pub HasTaken : {A D M : Type 0} → ℕ → Piece A → Writer D M → Writer D M → Type 0
 HasTaken number piece old new = (image : NewImage) × HasKept image old new × HasPiece number piece old image
     × (new.copying ≡ Steps (place_behind old.halves.geometry.pages piece))
@@ -379,12 +382,13 @@ abbrev pub IsStepReply : {A D M : Type 0} → ℕ → Piece A → StepReply → 
 IsStepReply number piece Taken old new = (¬ MustStartAgain piece old) × HasTaken number piece old new
 IsStepReply number piece StartAgain old new = (new ≡ without_image GivenUp old) × MustStartAgain piece old
 
--- The image's half has its next page as it is now, and the records up to its last step were handed in. A slot of the
--- current log is closed.
+-- The half of the image under way is known to have its next page as it is now, and the records up to its last step were
+-- handed in. The device has not failed, and a slot of the current log is closed.
 abbrev pub MayPass : {D M : Type 0} → Writer D M → Type 0
 MayPass w = (w.failed ≡ false) × (¬ IsLogFull w)
     × ((image : NewImage) × (page count : ℕ) × (highest : Option Pair) × (life : Life) × (w.image ≡ Some image)
-    × (image.stage ≡ stage.Partly page count highest life) × (image.number ≤ handed_of w) × IsKnown w.known page)
+    × (image.stage ≡ stage.Partly page count highest life) × (image.number ≤ handed_of w)
+    × IsKnown (changed_of w) (known_there w) page)
 
 -- the image has its next page as the last record handed in left it, its copying goes on behind it, and all else is as
 -- it was

@@ -1,5 +1,5 @@
 //! Which pages the halves of a store have as they are.
-ghost use Rattle.std.specs.Prelude.{◌≡◌, ◌≤◌, ◌⊎◌, ◌↔◌, [], IfSome, IsTrue, None, Some, replicate};
+ghost use Rattle.std.specs.Prelude.{◌≡◌, ◌≤◌, ◌⊎◌, ◌↔◌, [], IfSome, IsTrue, None, Some, replicate, ℕ};
 ghost use Rattle.store_writer.specs.Known.{IsKnown, place_set, with_change, with_changes};
 
 use records::{Action, Part, Record, Rid, TxnAction};
@@ -54,7 +54,8 @@ impl<A: Allocator + Copy> KnownPages<A> {
 
     /// Keeps a number for each of so many pages, this one, if none is kept yet. Without memory none is.
     pub(crate) fn begin_at(&mut self, pages: u32, number: u64)
-        ensures begun { (self.new ≡ self.old) ⊎ ((self.new.changed.items ≡ replicate pages number)
+        ensures begun { (self.new ≡ self.old) ⊎ ((self.old.changed.items ≡ [])
+            × (self.new.changed.items ≡ replicate pages number)
             × (self.new.current ≡ None) × (self.new.other ≡ None)) }
     {
         if !self.changed.is_empty() {
@@ -96,7 +97,7 @@ impl<A: Allocator + Copy> KnownPages<A> {
 
     /// Whether the other half has this page as it is.
     pub(crate) fn has(&self, page: u32) -> bool
-        ensures { IsTrue result ↔ IsKnown self.now page }
+        ensures { IsTrue result ↔ IsKnown self.now.changed.items self.now.other page }
     {
         let Some(low) = self.other else {
             return false;
@@ -112,6 +113,8 @@ impl<A: Allocator + Copy> KnownPages<A> {
         ensures current { self.new.current ≡ self.old.current }
         ensures other { (self.new.other ≡ self.old.other) ⊎ (self.new.other ≡ None) }
         ensures between { IfSome self.new.other (λ low. (low ≤ number) × (number ≤ handed)) }
+        ensures stays { (low : ℕ) → self.old.other ≡ Some low → low ≤ number → number ≤ handed
+            → self.new.other ≡ self.old.other }
     {
         let stays = match self.other {
             Some(low) => low <= number && number <= handed,

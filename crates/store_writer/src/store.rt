@@ -19,7 +19,8 @@ ghost use Rattle.store_writer.specs.Copying.{next_place};
 ghost use Rattle.store_writer.specs.Places.{AreRowsNow, AreEntriesNow};
 ghost use Rattle.store_writer.specs.Image.{BecomesImage};
 ghost use Rattle.store_writer.specs.Parts.{device_of, halves_of, log_of, waiting_of, synced_of, has_failed, image_of};
-ghost use Rattle.store_writer.specs.Parts.{copying_of, without_image};
+ghost use Rattle.store_writer.specs.Parts.{changed_of, copying_of, known_here, known_there, without_image};
+ghost use Rattle.store_writer.specs.Known.{KnowsAsBefore, KnowsBehind, KnowsTurned, NotesChanges};
 
 use crate::image::Stage;
 use crate::known::KnownPages;
@@ -82,6 +83,7 @@ impl<D: Device, A: Allocator + Copy> StoreWriter<D, A> {
         ensures image { image_of result ≡ None }
         ensures copying { copying_of result ≡ Copying.Idle }
         ensures sound { has_failed result ≡ false }
+        ensures knows { (changed_of result ≡ []) × (known_here result ≡ None) × (known_there result ≡ None) }
     {
         let writer = Writer {
             device,
@@ -138,6 +140,8 @@ impl<D: Device, A: Allocator + Copy> StoreWriter<D, A> {
         ensures image { image_of self.new ≡ image_of self.old }
         ensures copying { copying_of self.new ≡ copying_of self.old }
         ensures failed { has_failed self.new ≡ has_failed self.old }
+        ensures notes { OnOk result (NotesChanges records.items self.old self.new) }
+        ensures knows { OnErr result (KnowsAsBefore self.old self.new) }
     {
         if records.is_empty() {
             return Ok(());
@@ -185,6 +189,7 @@ impl<D: Device, A: Allocator + Copy> StoreWriter<D, A> {
         ensures around { WritesLogsAlone D.past_of self.old self.new }
         ensures slot { WritesOnly D.past_of (InOpenedSlots self.old) (device_of self.old) (device_of self.new) }
         ensures left { OnErr result (IsBeforeFlush self.old self.new) }
+        ensures knows { KnowsAsBefore self.old self.new }
     {
         self.writer.flush(alloc)
     }
@@ -217,6 +222,8 @@ impl<D: Device, A: Allocator + Copy> StoreWriter<D, A> {
         ensures around { WritesOnly D.past_of (InHalf (halves_of self.old).geometry
             (other (halves_of self.old).current)) (device_of self.old) (device_of self.new) }
         ensures left { OnErr result (IsAsBefore self.old self.new) }
+        ensures knows { IfOk result (λ reply. reply ≡ StepReply.Taken
+            → KnowsBehind chunk.number chunk.piece self.old self.new) }
     {
         if self.writer.failed {
             return Err(Error::DeviceFailed);
@@ -232,9 +239,9 @@ impl<D: Device, A: Allocator + Copy> StoreWriter<D, A> {
         Ok(StepReply::Taken)
     }
 
-    /// Passes over the next page of the image under way, if its half has it as it is: from the image that it had before
-    /// the current one, whose pages no record changed since. Nothing is written, and the image is as if the page had
-    /// been copied and taken (`taken`).
+    /// Passes over the next page of the image under way, if its half is known to have it as it is (`when`): from the
+    /// image that it had before the current one, since whose base no record set a row of it. Nothing is written, and
+    /// the image is as if the page had been copied and taken (`taken`).
     pub fn pass_page(&mut self) -> bool
         ensures writer { (run : Run) (handed : ℕ) → IsWriter D.past_of run handed self.old
             → IsWriter D.past_of run handed self.new }
@@ -290,6 +297,7 @@ impl<D: Device, A: Allocator + Copy> StoreWriter<D, A> {
         ensures kept { OnErr result (synced_of self.new ≡ synced_of self.old) }
         ensures around { WritesOnly D.past_of (λ n. n ≡ FLIP_SECTOR) (device_of self.old) (device_of self.new) }
         ensures left { OnErr result (IsAsBefore self.old self.new) }
+        ensures turns { (n : ℕ) → result ≡ Ok (FlipReply.Flipped n) → KnowsTurned self.old self.new }
     {
         if self.writer.failed {
             return Err(Error::DeviceFailed);

@@ -1,5 +1,5 @@
 //! A device, its log, and the records that wait for it.
-ghost use Rattle.std.specs.Prelude.{◌≡◌, ◌≢◌, ◌↔◌, ◌+◌, ◌^◌, ◌≤◌, ◌<◌, ℕ, length, take, true};
+ghost use Rattle.std.specs.Prelude.{◌≡◌, ◌≢◌, ◌↔◌, ◌⊎◌, ◌+◌, ◌^◌, ◌≤◌, ◌<◌, ℕ, length, take, true};
 ghost use Rattle.std.specs.Prelude.{false, Some, None, IsFalse, IsTrue, OnOk, OnErr, IfErr};
 ghost use Rattle.sector_device.specs.DevicePast.{LeavesOnly};
 ghost use Rattle.model.specs.Redo.{cells_of};
@@ -9,7 +9,8 @@ ghost use Rattle.flip_image.specs.Layout.{other, InHalf};
 ghost use Rattle.store_writer.specs.Contents.{LeftBy};
 ghost use Rattle.store_writer.specs.Copying.{entries_behind, page_behind};
 ghost use Rattle.store_writer.specs.Image.{IsPlan};
-ghost use Rattle.store_writer.specs.Parts.{handed_of};
+ghost use Rattle.store_writer.specs.Known.{BeginsToKnow, KnowsAsBefore, KnowsBehind, StaysKnown};
+ghost use Rattle.store_writer.specs.Parts.{changed_of, handed_of, known_here, known_there};
 
 use crate::Copying;
 use crate::image::{
@@ -202,6 +203,7 @@ impl<D: Device, A: Allocator + Copy> Writer<D, A> {
         ensures images { (run : Run) (handed : ℕ) → IsWriter D.past_of run handed self.old
             → LeavesOnly (D.past_of self.old.device) (D.past_of self.new.device) (LeftBy run self.old.synced handed) }
         ensures taken { OnOk result (HasTaken number piece self.old self.new) }
+        ensures knows { OnOk result (KnowsBehind number piece self.old self.new) }
         ensures synced { self.new.synced ≡ self.old.synced }
         ensures err { IfErr result (λ e. HasFailed D.failures e self.old self.new) }
         ensures quiet { OnOk result (D.failures self.new.device ≡ D.failures self.old.device) }
@@ -230,6 +232,8 @@ impl<D: Device, A: Allocator + Copy> Writer<D, A> {
             → LeavesOnly (D.past_of self.old.device) (D.past_of self.new.device) (LeftBy run self.old.synced handed) }
         ensures taken { OnOk result ((image : NewImage) × HasKept image self.old self.new
             × HasBegun number Stage.Whole image × (self.new.copying ≡ Copying.Steps None)) }
+        ensures knows { OnOk result ((changed_of self.new ≡ changed_of self.old)
+            × (known_here self.new ≡ known_here self.old)) }
         ensures synced { self.new.synced ≡ self.old.synced }
         ensures err { IfErr result (λ e. HasFailed D.failures e self.old self.new) }
         ensures quiet { OnOk result (D.failures self.new.device ≡ D.failures self.old.device) }
@@ -275,6 +279,7 @@ impl<D: Device, A: Allocator + Copy> Writer<D, A> {
         ensures taken { OnOk result ((image : NewImage) × HasKept image self.old self.new
             × HasBegun number (Stage.Partly 0 0 None life) image
             × (self.new.copying ≡ Copying.Steps (Some (CopyPlace.Page 0)))) }
+        ensures knows { OnOk result (KnowsAsBefore self.old self.new ⊎ BeginsToKnow self.old self.new) }
         ensures synced { self.new.synced ≡ self.old.synced }
         ensures err { IfErr result (λ e. HasFailed D.failures e self.old self.new) }
         ensures quiet { OnOk result (D.failures self.new.device ≡ D.failures self.old.device) }
@@ -332,6 +337,9 @@ impl<D: Device, A: Allocator + Copy> Writer<D, A> {
             → LeavesOnly (D.past_of self.old.device) (D.past_of self.new.device) (LeftBy run self.old.synced handed) }
         ensures taken { OnOk result ((image : NewImage) × HasKept image self.old self.new
             × HasRows number page self.old image × (self.new.copying ≡ Copying.Steps behind)) }
+        ensures knows { OnOk result ((changed_of self.new ≡ changed_of self.old)
+            × (known_here self.new ≡ known_here self.old)
+            × StaysKnown number (handed_of self.old) (known_there self.old) (known_there self.new)) }
         ensures synced { self.new.synced ≡ self.old.synced }
         ensures err { IfErr result (λ e. HasFailed D.failures e self.old self.new) }
         ensures quiet { OnOk result (D.failures self.new.device ≡ D.failures self.old.device) }
@@ -374,6 +382,8 @@ impl<D: Device, A: Allocator + Copy> Writer<D, A> {
             → LeavesOnly (D.past_of self.old.device) (D.past_of self.new.device) (LeftBy run self.old.synced handed) }
         ensures taken { OnOk result ((image : NewImage) × HasKept image self.old self.new
             × HaveEntries number entries.now self.old image × (self.new.copying ≡ Copying.Steps behind)) }
+        ensures knows { OnOk result ((changed_of self.new ≡ changed_of self.old)
+            × (known_here self.new ≡ known_here self.old)) }
         ensures synced { self.new.synced ≡ self.old.synced }
         ensures err { IfErr result (λ e. HasFailed D.failures e self.old self.new) }
         ensures quiet { OnOk result (D.failures self.new.device ≡ D.failures self.old.device) }

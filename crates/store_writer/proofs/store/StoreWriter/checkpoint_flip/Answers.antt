@@ -1,4 +1,4 @@
-use Rattle.std.proofs.Common.{true, ◌≡◌, ◌≤◌, ◌-◌, drop, ℕ, List, None, refl, sym, ap, subst, ◌∙◌, arith}
+use Rattle.std.proofs.Common.{true, ◌≡◌, ◌≤◌, ◌-◌, drop, ℕ, List, Vec, None, Some, refl, sym, ap, subst, ◌∙◌, arith}
 use Rattle.std.proofs.lemmas.Bool.{false≢true}
 use Rattle.sector_device.specs.Disk.{sector}
 use Rattle.sector_device.proofs.Moments.{started}
@@ -39,6 +39,7 @@ returns-then-self g c =
       kept = refl;
       around = none_alone g.D.Device.past_of (λ n. n ≡ 1) old.device;
       left = refl;
+      turns = λ n never. absurd (cc never);
     })
 
 pub returns-in_default : goal.returns-in_default
@@ -57,6 +58,7 @@ returns-in_default g c =
       kept = tt;
       around = none_alone g.D.Device.past_of (λ n. n ≡ 1) old.device;
       left = tt;
+      turns = λ n never. absurd (cc never);
     })
 
 pub returns-in_default-stage : goal.returns-in_default-stage
@@ -75,6 +77,7 @@ returns-in_default-stage g c =
       kept = tt;
       around = none_alone g.D.Device.past_of (λ n. n ≡ 1) old.device;
       left = tt;
+      turns = λ n never. absurd (cc never);
     })
 
 pub returns-then-handed-image : goal.returns-then-handed-image
@@ -107,6 +110,7 @@ returns-then-handed-image g c =
       kept = tt;
       around = none_alone g.D.Device.past_of (λ n. n ≡ 1) old.device;
       left = tt;
+      turns = λ n never. absurd (cc never);
     })
 
 pub returns-then-is_err : goal.returns-then-is_err
@@ -159,6 +163,7 @@ returns-then-is_err g c =
         known = old.known;
         failed = true;
       }) same;
+      turns = λ n never. absurd (cc never);
     })
 
 pub returns : goal.returns
@@ -218,6 +223,11 @@ returns g c =
       kept = tt;
       around = flipped_alone past_of old.device c.flip.new.device c.flip.ensures.outside c.flip.ensures.any_moment;
       left = tt;
+      turns = λ n _. (
+        ap (λ (v : Vec ℕ g.row.A.Denot). v.items) c.turn.ensures.changed,
+        c.turn.ensures.other,
+        λ t it. let same : image ≡ t = cc (c.in-Some.is, it) in c.turn.ensures.current ∙ ap (λ (x : NewImage). Some x.base) same,
+      );
     })
 
 pub invariant_of-self : goal.invariant_of-self

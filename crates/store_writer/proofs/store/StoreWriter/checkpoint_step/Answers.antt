@@ -28,6 +28,7 @@ returns-then-self g c =
       kept = refl;
       around = none_alone g.D.Device.past_of (InHalf old.halves.geometry (other old.halves.current)) old.device;
       left = refl;
+      knows = tt;
     })
 
 pub returns-then-must_start_again : goal.returns-then-must_start_again
@@ -46,6 +47,7 @@ returns-then-must_start_again g c =
       kept = refl;
       around = none_alone g.D.Device.past_of (InHalf old.halves.geometry (other old.halves.current)) old.device;
       left = tt;
+      knows = λ taken. absurd (cc taken);
     })
 
 pub returns-in_err-take : goal.returns-in_err-take
@@ -63,6 +65,7 @@ returns-in_err-take g c =
       kept = c.take.ensures.synced;
       around = c.take.ensures.around;
       left = c.in_err-take.ensures.left;
+      knows = tt;
     })
 
 pub returns : goal.returns
@@ -79,6 +82,7 @@ returns g c =
       kept = c.take.ensures.synced;
       around = c.take.ensures.around;
       left = tt;
+      knows = λ _. c.in_ok-take.ensures.knows;
     })
 
 pub invariant_of-self : goal.invariant_of-self

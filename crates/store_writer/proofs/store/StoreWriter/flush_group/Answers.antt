@@ -1,3 +1,4 @@
+use Rattle.std.proofs.Common.{ap}
 use Rattle.store_writer.proofs.Flushing.{nothing_then, idle_then}
 use Rattle.store_writer.proofs.store.StoreWriter.flush_group.Goals as goal
 
@@ -63,3 +64,9 @@ returns-clause-idle g c =
     λ run handed is sound all.
     idle_then g.D.Device.past_of g.D.Device.failures c.self.inside.writer c.flush.new.self run handed is c.flush.result c.flush.ensures.flushed
     c.flush.ensures.err sound all)
+
+pub returns-clause-knows : goal.returns-clause-knows
+returns-clause-knows g c =
+    rw (← c.self.view_is) (
+    let same = c.flush.ensures.known-is in
+    (ap (λ k. k.changed.items) same, ap (λ k. k.current) same, ap (λ k. k.other) same))

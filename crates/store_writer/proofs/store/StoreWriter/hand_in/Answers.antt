@@ -31,6 +31,8 @@ returns-then-is_empty g c =
       image = refl;
       copying = refl;
       failed = refl;
+      notes = (ap (with_changes old.known.changed.items) (sym none), refl, refl);
+      knows = tt;
     }
 
 pub returns-in-Err : goal.returns-in-Err
@@ -78,6 +80,8 @@ returns-in-Err g c =
       image = refl;
       copying = refl;
       failed = refl;
+      notes = tt;
+      knows = (refl, refl, refl);
     })
 
 pub invariant_of-self : goal.invariant_of-self
@@ -170,6 +174,8 @@ returns g c =
       image = refl;
       copying = refl;
       failed = refl;
+      notes = (changed, c.note.ensures.current, c.note.ensures.other);
+      knows = tt;
     })
 
 pub invariant_of-self-2 : goal.invariant_of-self-2

@@ -22,3 +22,6 @@ returns-clause-writer g c = λ cells is.
 
 pub invariant_of-result : goal.invariant_of-result
 invariant_of-result g c = let (cells, is) = c.requires in (opened_run c.args.halves c.args.synced cells, c.args.synced, returns-clause-writer g c cells is)
+
+pub returns-clause-knows : goal.returns-clause-knows
+returns-clause-knows g c = (c.new-2.ensures.changed, c.new-2.ensures.current, c.new-2.ensures.other)

@@ -62,6 +62,7 @@ returns-in-Ok g c =
           (c.in-Ok.ensures.becomes slots w.synced group planned run (other w.halves.current) is.image slots_is (omega (arith, there, some)));
       err = tt;
       copying-is = refl;
+      known-is = refl;
       quiet = c.in-Ok.ensures.counts.none;
       later = c.carry.ensures.counts.later;
       around =
@@ -96,6 +97,7 @@ returns-in-Err g c =
       image = tt;
       err = (refl, refl, refl, c.in-Err.ensures.counts.failed);
       copying-is = refl;
+      known-is = refl;
       quiet = tt;
       later = c.carry.ensures.counts.later;
       around =

@@ -26,7 +26,7 @@ returns-then-self-clause-when g c = (
         | then-self-via-then-self w ↦ absurd (false≢true (sym sound ∙ w.if-self.true))
         | then-self-via-else-self+then-is_full w ↦ absurd (room (w.if-is_full.ensures.0 refl ∙ ap (λ (x : GeometryValue). x.slots) w.geometry.ensures))
         | then-self-via-else-self+else-is_full+then-not-has w ↦ absurd
-            (false≢true (sym w.if-not-has.true ∙ w.has.ensures.1 (subst (IsKnown c.args.self.now.known) here known)))
+            (false≢true (sym w.if-not-has.true ∙ w.has.ensures.1 (subst (IsKnown c.args.self.now.known.changed.items c.args.self.now.known.other) here known)))
       ],
 )
 
@@ -34,7 +34,7 @@ pub returns-clause-writer : goal.returns-clause-writer
 returns-clause-writer g c = λ run handed is.
     let w : Writer g.row.D.Denot g.row.A.Denot = c.args.self.now in
     let image : NewImage = c.in-Some.image in
-    let known : IsKnown w.known c.in-Partly.page = c.has.ensures.0 c.if-not-has.false in
+    let known : IsKnown w.known.changed.items w.known.other c.in-Partly.page = c.has.ensures.0 c.if-not-has.false in
     let up : image.number ≤ handed_of w = omega (arith, c.if-handed-image.false, c.handed-handed.ensures) in
     let image_is : record image { number = handed_of w; stage = Partly (c.in-Partly.page + 1) c.in-Partly.entries c.in-Partly.highest c.in-Partly.life }
     ≡ c.with_page.result =
@@ -53,7 +53,7 @@ returns-clause-passed g c =
     let w : Writer g.row.D.Denot g.row.A.Denot = c.args.self.now in
     let image : NewImage = c.in-Some.image in
     let up : image.number ≤ handed_of w = omega (arith, c.if-handed-image.false, c.handed-handed.ensures) in
-    let known : IsKnown w.known c.in-Partly.page = c.has.ensures.0 c.if-not-has.false in
+    let known : IsKnown w.known.changed.items w.known.other c.in-Partly.page = c.has.ensures.0 c.if-not-has.false in
     let low = below g.D.Device.past_of run handed w is c.if-self.false image c.in-Some.is c.in-Partly.page c.in-Partly.entries c.in-Partly.highest
     c.in-Partly.life c.in-Partly.is up known in
     let image_is = c.with_page.ensures c.in-Partly.page c.in-Partly.entries c.in-Partly.highest c.in-Partly.life c.in-Partly.is
@@ -77,7 +77,7 @@ pub returns-clause-taken : goal.returns-clause-taken
 returns-clause-taken g c = λ _ run handed is.
     let w : Writer g.row.D.Denot g.row.A.Denot = c.args.self.now in
     let image : NewImage = c.in-Some.image in
-    let known : IsKnown w.known c.in-Partly.page = c.has.ensures.0 c.if-not-has.false in
+    let known : IsKnown w.known.changed.items w.known.other c.in-Partly.page = c.has.ensures.0 c.if-not-has.false in
     let up : image.number ≤ handed_of w = omega (arith, c.if-handed-image.false, c.handed-handed.ensures) in
     let image_is : record image { number = handed_of w; stage = Partly (c.in-Partly.page + 1) c.in-Partly.entries c.in-Partly.highest c.in-Partly.life }
     ≡ c.with_page.result =

@@ -8,7 +8,7 @@ use Rattle.store_writer.specs.Copying.{entries_behind}
 use Rattle.store_writer.specs.Writer.{HasKept, HaveEntries, IsChunk, IsEntriesChunk, IsPast, MustStartAgain}
 use Rattle.store_writer.specs.declared.copying.Copying.TheVariants.{Steps}
 use Rattle.store_writer.specs.declared.image.NewImage.{NewImage}
-use Rattle.store_writer.proofs.Replies.{taken_as}
+use Rattle.store_writer.proofs.Replies.{knows_as, taken_as}
 use Rattle.store_writer.proofs.writer.Writer.take.Goals as goal
 
 pub take_whole-requires : goal.take_whole-requires
@@ -68,6 +68,8 @@ returns-in-Whole g c =
       later = made.later;
       around = made.around;
       left = made.left;
+      knows = knows_as c.args.number c.args.piece (Whole c.in-Whole.cells) c.args.self.now c.take_whole.new.self c.take_whole.result c.in-Whole.is
+          made.knows;
     }
 
 pub returns-in-Start : goal.returns-in-Start
@@ -86,6 +88,8 @@ returns-in-Start g c =
       later = made.later;
       around = made.around;
       left = made.left;
+      knows = knows_as c.args.number c.args.piece (Start c.in-Start.life c.in-Start.lists) c.args.self.now c.take_start.new.self c.take_start.result
+          c.in-Start.is made.knows;
     }
 
 pub returns-in-Page : goal.returns-in-Page
@@ -103,6 +107,8 @@ returns-in-Page g c =
       later = made.later;
       around = made.around;
       left = made.left;
+      knows = knows_as c.args.number c.args.piece (Page c.in-Page.page c.in-Page.rows) c.args.self.now c.take_page.new.self c.take_page.result
+          c.in-Page.is made.knows;
     }
 
 pub returns-in-Entries : goal.returns-in-Entries
@@ -125,4 +131,6 @@ returns-in-Entries g c =
       later = made.later;
       around = made.around;
       left = made.left;
+      knows = knows_as c.args.number c.args.piece (Entries c.in-Entries.entries) c.args.self.now c.take_entries.new.self c.take_entries.result
+          c.in-Entries.is made.knows;
     }

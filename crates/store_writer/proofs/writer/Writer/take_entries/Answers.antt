@@ -119,6 +119,7 @@ returns-then-is_err g c =
           let (run, handed, is, asked) = c.requires.entries in
           part_alone g.D.Device.past_of run handed c.args.self.now is c.requires.sound c.write_next.new.device c.write_next.ensures.within;
       left = refl;
+      knows = tt;
     }
 
 pub stage_behind-stage-requires : goal.stage_behind-stage-requires
@@ -229,4 +230,5 @@ returns g c =
           let (run, handed, is, asked) = c.requires.entries in
           part_alone g.D.Device.past_of run handed c.args.self.now is c.requires.sound c.write_next.new.device c.write_next.ensures.within;
       left = tt;
+      knows = (refl, refl);
     }

@@ -80,6 +80,7 @@ returns-then-is_err g c =
           let (run, handed, is, asked) = c.requires.page in
           part_alone g.D.Device.past_of run handed c.args.self.now is c.requires.sound c.write_rows.new.device c.write_rows.ensures.within;
       left = refl;
+      knows = tt;
     }
 
 pub with_page-requires : goal.with_page-requires
@@ -194,6 +195,14 @@ returns g c =
           let (run, handed, is, asked) = c.requires.page in
           part_alone g.D.Device.past_of run handed c.args.self.now is c.requires.sound c.write_rows.new.device c.write_rows.ensures.within;
       left = tt;
+      knows = (
+        ap (λ (v : Vec ℕ g.row.A.Denot). v.items) c.page_written.ensures.changed,
+        c.page_written.ensures.current,
+        (
+          c.page_written.ensures.other,
+          λ low is late up. c.page_written.ensures.stays low is late (omega (arith, up, c.handed-handed.ensures)),
+        ),
+      );
     }
 
 pub handed-handed-requires : goal.handed-handed-requires

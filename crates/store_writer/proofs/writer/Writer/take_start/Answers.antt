@@ -95,7 +95,7 @@ returns-in-Ok g c =
             ap (λ (k : KnownPages g.row.A.Denot). k.current) same,
             ap (λ (k : KnownPages g.row.A.Denot). k.other) same,
           ))
-          (λ new. inr new) c.begin_at-in-Ok.ensures.begun) in
+          (λ new. inr (new.1, new.2, new.3)) c.begin_at-in-Ok.ensures.begun) in
           let known : KnowsPages run old.halves.current now.content (handed_of old) kept.changed.items kept.current kept.other =
           known_begun run old.halves.current before now.content (handed_of old) c.begin_at.inside.pages old.known.changed.items kept.changed.items
           old.known.current old.known.other kept.current kept.other pages (pages_beside run.geometry old.halves.current before now.content outside)
@@ -122,6 +122,24 @@ returns-in-Ok g c =
       around = these_alone g.D.Device.past_of (InHalf c.args.self.now.halves.geometry (other c.args.self.now.halves.current)) c.args.self.now.device
           c.write_first.new.device c.write_first.ensures.outside c.write_first.ensures.any_moment;
       left = tt;
+      knows =
+          let old = c.args.self.now in
+          let kept : KnownPages g.row.A.Denot = c.begin_at-in-Ok.new.self in
+          let pages : c.begin_at.inside.pages ≡ old.halves.geometry.pages =
+          ap (λ (x : GeometryValue). x.pages) (c.begin_at.view_is ∙ c.geometry.ensures) in
+          ⊎_elim
+          (λ same. inl (
+            ap (λ (k : KnownPages g.row.A.Denot). k.changed.items) same,
+            ap (λ (k : KnownPages g.row.A.Denot). k.current) same,
+            ap (λ (k : KnownPages g.row.A.Denot). k.other) same,
+          ))
+          (λ new. inr (
+            new.0,
+            new.1 ∙ ap (λ n. replicate n c.handed-handed.result) pages ∙ ap (replicate old.halves.geometry.pages) c.handed-handed.ensures,
+            new.2,
+            new.3,
+          ))
+          c.begin_at-in-Ok.ensures.begun;
     }
 
 pub returns : goal.returns
@@ -158,6 +176,7 @@ returns g c =
       around = these_alone g.D.Device.past_of (InHalf c.args.self.now.halves.geometry (other c.args.self.now.halves.current)) c.args.self.now.device
           c.write_first.new.device c.write_first.ensures.outside c.write_first.ensures.any_moment;
       left = refl;
+      knows = tt;
     }
 
 pub handed-handed-requires : goal.handed-handed-requires

@@ -87,6 +87,7 @@ returns-in-Ok g c =
       around = these_alone g.D.Device.past_of (InHalf c.args.self.now.halves.geometry (other c.args.self.now.halves.current)) c.args.self.now.device
           c.write_whole.new.device c.write_whole.ensures.outside c.write_whole.ensures.any_moment;
       left = tt;
+      knows = (refl, refl);
     }
 
 pub returns-in-Err : goal.returns-in-Err
@@ -124,4 +125,5 @@ returns-in-Err g c =
       around = these_alone g.D.Device.past_of (InHalf c.args.self.now.halves.geometry (other c.args.self.now.halves.current)) c.args.self.now.device
           c.write_whole.new.device c.write_whole.ensures.outside c.write_whole.ensures.any_moment;
       left = refl;
+      knows = tt;
     }
