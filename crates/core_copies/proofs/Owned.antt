@@ -5,10 +5,10 @@ use Rattle.std.proofs.lemmas.Bool.{eqb-true, false≢true}
 use Rattle.std.specs.FinMap.{get}
 use Rattle.records.specs.ChangeValue.{ChangeValue}
 use Rattle.record_values.specs.Maps.{alike, nat_exact}
-use Rattle.record_values.specs.Values.{Place}
+use Rattle.record_values.specs.Values.{Place, is_among}
 use Rattle.model.specs.Cells.{Cells}
 use Rattle.txn_table.specs.Sound.{IsSoundTable, OneHolder, Rises}
-use Rattle.txn_table.specs.Table.{TxnState, has_any, holder_of, is_among, state_of}
+use Rattle.txn_table.specs.Table.{TxnState, has_any, holder_of, state_of}
 use Rattle.core_model.specs.Changes.{as_list}
 use Rattle.core_model.specs.Records.{HasCells, IsListOf}
 use Rattle.core_model.specs.States.{Active, State}

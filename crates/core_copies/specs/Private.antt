@@ -3,24 +3,13 @@ use Rattle.std.specs.Prelude.{◌≡◌, ◌≢◌, ℕ, List, Option, Some, Non
 use Rattle.std.specs.FinMap as map
 use Rattle.records.specs.ChangeValue.{ChangeValue}
 use Rattle.record_values.specs.Values.{Place}
-use Rattle.record_values.specs.declared.pair.Mark.{Mark}
-use Rattle.record_values.specs.declared.pair.Pair.{Pair}
-use Rattle.record_values.specs.declared.row.Row.{Row}
 use Rattle.model.specs.Cells.{Cells, Pending, with_list}
-use Rattle.model.specs.Extended.{extended}
-use Rattle.model.specs.Table.{Index, Table}
+use Rattle.model.specs.Table.{Table}
 use Rattle.core_parts.specs.View.{CoreValue}
 
 -- the cells of the core without its lists
 abbrev pub unlisted : CoreValue → Cells
 unlisted v = record { rows = v.heap.rows; entries = v.index.entries; pending = map.empty; life = v.life }
-
--- the table of these rows, and the index of these entries
-abbrev pub table_of : List (Place × Row) → Table
-table_of rows = extended map.empty rows
-
-abbrev pub index_of : List (Pair × Mark) → Index
-index_of entries = extended map.empty entries
 
 -- the rows of this page of all of them are put to others
 pub record HasPagePut (all : Table) (page : ℕ) (old new : Table) : Type 0 where

@@ -9,7 +9,8 @@ ghost use Rattle.heap_pages.specs.Pages.{IsPlaceInside};
 ghost use Rattle.core_parts.specs.Moves.{txn_shown};
 ghost use Rattle.nsf_core.specs.Value.{value_of};
 ghost use Rattle.core_copies.specs.Pieces.{AreEntriesOf, IsPageOf};
-ghost use Rattle.core_copies.specs.Private.{HasListPut, HasPagePut, table_of, unlisted};
+ghost use Rattle.core_copies.specs.Private.{HasListPut, HasPagePut, unlisted};
+ghost use Rattle.model.specs.Extended.{table_of};
 ghost use Rattle.core_copies.specs.Shown.{list_shown};
 
 use btree_node::Entry;

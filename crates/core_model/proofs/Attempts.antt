@@ -1,4 +1,4 @@
--- The builder's attempts lie above the pair that was checkpointed last, also where that was before the core was opened.
+-- The builder's attempts lie is_above the pair that was checkpointed last, also where that was before the core was opened.
 use Rattle.std.proofs.Common.{Bool, ℕ, List, None, Option, Some, ap, refl, subst, sym, true, ◌∙◌, ◌≡◌, ◌≢◌}
 use Rattle.records.specs.ChangeValue.{ChangeValue}
 use Rattle.record_values.specs.declared.pair.Pair.{Pair}
@@ -9,11 +9,12 @@ use Rattle.core_model.specs.Histories.{Opened, highest_of, opened}
 use Rattle.core_model.specs.Invariants.{Invariant, IsOneBuild, Runs, no_step, one_step}
 use Rattle.core_model.specs.States.{Active, Made, NewMarked, OldMarked, OldSet, Phase, RowSet, State}
 use Rattle.core_model.specs.Steps.{Attempt, Begin, Checkpoint, Clean, Commit, Create, Drop, End, Finish, IsEnabled, Keep, Next, Start, MachineStep, Take, Undo}
-use Rattle.core_model.specs.Steps.{Wrap, above, after, carried_on, is_indexed, moved_by, started, txn_at, undone, undone_first, undone_row}
+use Rattle.core_model.specs.Steps.{Wrap, after, carried_on, is_indexed, moved_by, started, txn_at, undone, undone_first, undone_row}
+use Rattle.record_values.specs.Orders.{is_above}
 
 -- in this run
 pub above_checkpoint : (s : State) (p : Pair) → Invariant s → (highest : Option Pair) → s.life ≡ Building highest → IsEnabled s (Attempt p)
-    → above highest p ≡ true
+    → is_above highest p ≡ true
 above_checkpoint s p i highest building can = i.coherent.behind highest building p can.rising
 
 building_not_absent : (highest : Option Pair) → Building highest ≢ Absent
@@ -23,10 +24,10 @@ complete_not_absent : Complete ≢ Absent
 complete_not_absent e = cc
 
 module _ (highest : Option Pair) where
-  -- there is an index, and the builder comes only to pairs above this one
+  -- there is an index, and the builder comes only to pairs is_above this one
   record IsPast (s : State) : Type 0 where
     indexed : s.life ≢ Absent
-    past : (p : Pair) → above s.bound p ≡ true → above highest p ≡ true
+    past : (p : Pair) → is_above s.bound p ≡ true → is_above highest p ≡ true
 
   module _ (s : State) (h : IsPast s) (t : ℕ) (x : Active) where
     started_past : (c : ChangeValue) (o : Option Pair) → IsPast (started s t x c o)
@@ -82,10 +83,10 @@ module _ (highest : Option Pair) where
 
 -- after a restart, in the build that it found
 pub above_opened : (o : Opened) (highest : Option Pair) → o.given.life ≡ Building highest → (steps : List MachineStep) (s : State) → Runs (opened o) steps s
-    → IsOneBuild steps → (p : Pair) → IsEnabled s (Attempt p) → above highest p ≡ true
+    → IsOneBuild steps → (p : Pair) → IsEnabled s (Attempt p) → is_above highest p ≡ true
 above_opened o highest building steps s run one p can =
     let first : IsPast highest (opened o) = record {
       indexed = λ e. building_not_absent highest (sym building ∙ e);
-      past = λ q higher. subst (λ b. above b q ≡ true) (ap highest_of building) higher;
+      past = λ q higher. subst (λ b. is_above b q ≡ true) (ap highest_of building) higher;
     } in
     (run_past highest (opened o) s steps run one first).past p can.rising

@@ -4,7 +4,7 @@ use Rattle.std.proofs.Common.{◌⊎◌}
 use Rattle.std.specs.Cmp.Lexicographic.{nat_list_cmp_total}
 use Rattle.std.specs.FinMap.{get, get-empty, nat_cmp-IsAntisymmetric, slice_cmp-IsAntisymmetric}
 use Rattle.record_values.specs.Maps.{get-set_at_other, get-set_at_same, pair_exact, set_at}
-use Rattle.record_values.specs.Orders.{pair_cmp}
+use Rattle.record_values.specs.Orders.{pair_cmp, is_above}
 use Rattle.record_values.specs.Values.{Place}
 use Rattle.record_values.specs.declared.pair.Mark.{Mark}
 use Rattle.record_values.specs.declared.pair.Mark.TheVariants.{Live, Marked}
@@ -21,7 +21,7 @@ use Rattle.core_model.proofs.Orders.{above_trans, by_test, level, not_above}
 use Rattle.core_model.specs.Changes.{pair_of}
 use Rattle.core_model.specs.Invariants.{IsAhead, IsBacked, IsCoherent, IsHeld, IsPhaseOf, IsVisibleOrAhead, TxnHolds}
 use Rattle.core_model.specs.States.{Active, State}
-use Rattle.core_model.specs.Steps.{CanAttempt, CanClean, CanFinish, IsBuilding, IsPassed, above, attempted, created, dropped, is_indexed, is_pair_of}
+use Rattle.core_model.specs.Steps.{CanAttempt, CanClean, CanFinish, IsBuilding, IsPassed, attempted, created, dropped, is_indexed, is_pair_of}
 use Rattle.core_model.specs.Steps.{page_taken}
 
 -- the index is created, where it was absent and no transaction is active
@@ -42,7 +42,7 @@ module _ (s : State) (i : IsCoherent s) (absent : s.life ≡ Absent) (quiet : (t
     visible = λ r row e idle. inr (i.empty absent (pair_of r row), (refl, refl));
     empty = λ e p. i.empty absent p;
     backed = λ h e p g a. absurd (true≢false (sym g));
-    behind = λ h e p a. subst (λ o. above o p ≡ true) (building_is e) refl;
+    behind = λ h e p a. subst (λ o. is_above o p ≡ true) (building_is e) refl;
   }
     where
       building_is : {h : Option Pair} → Building None ≡ Building h → None ≡ h
@@ -108,7 +108,7 @@ module _ (s : State) (i : IsCoherent s) (n : ℕ) where
   page_visible : (r : Place) (row : Row) → get s.rows r ≡ Some row → IsVisibleOrAhead s (pair_of r row) → IsVisibleOrAhead (page_taken s n) (pair_of r row)
   page_visible r row e h = elim h [ inl live ↦ inl live | inr w ↦ inr (w.0, page_ahead r row e s.life w.1) ]
 
-  page_backed : (h : Option Pair) → s.life ≡ Building h → (p : Pair) → (page_taken s n).given p ≡ true → above s.bound p ≡ true → IsBacked (page_taken s n) p
+  page_backed : (h : Option Pair) → s.life ≡ Building h → (p : Pair) → (page_taken s n).given p ≡ true → is_above s.bound p ≡ true → IsBacked (page_taken s n) p
   page_backed h b p g a = elim (or_true (s.given p) _ g) [
     | inl before ↦ i.backed h b p before a
     | inr now ↦ inl (pair_by_test s.rows p (get s.rows p.rid) refl (and_right _ _ now))
@@ -184,13 +184,14 @@ module _ (s : State) (i : IsCoherent s) (p : Pair) (can : CanAttempt s p) where
   not_building h a b = absurd (true≢false (sym (ap is_indexed b) ∙ ap is_indexed a))
 
   -- a pair ahead of the builder is the one attempted, or stays ahead
-  attempt_ahead : (q : Pair) → q.rid.page < s.pages → get s.entries q ≡ None → above s.bound q ≡ true → s.missed q ≡ false → IsVisibleOrAhead (attempted s p) q
+  attempt_ahead : (q : Pair) → q.rid.page < s.pages → get s.entries q ≡ None → is_above s.bound q ≡ true → s.missed q ≡ false
+      → IsVisibleOrAhead (attempted s p) q
   attempt_ahead q inside none a m = elim (pair_decided q p) [
     | inl same ↦ inl (ap (get entries') same ∙ attempt_here ∙ ap (after_action BuildPut) (ap (get s.entries) (sym same) ∙ none))
     | inr n ↦ inr (attempt_other q n ∙ none, subst (λ life. IsAhead life (Some p) s.missed q) (sym can.building.1) (later _ refl n, m))
   ]
     where
-      later : (b : Bool) → above (Some p) q ≡ b → q ≢ p → above (Some p) q ≡ true
+      later : (b : Bool) → is_above (Some p) q ≡ b → q ≢ p → is_above (Some p) q ≡ true
       later true e n = e
       later false e n = elim (not_above p q e) [
         | inl same ↦ absurd (n same)
@@ -201,12 +202,12 @@ module _ (s : State) (i : IsCoherent s) (p : Pair) (can : CanAttempt s p) where
   attempt_visible r row e h = elim h [
     | inl live ↦ inl (present_stays (pair_of r row) Live live)
     | inr w ↦
-        let ahead : (above s.bound (pair_of r row) ≡ true)
+        let ahead : (is_above s.bound (pair_of r row) ≡ true)
         × (s.missed (pair_of r row) ≡ false) = subst (λ life. IsAhead life s.bound s.missed (pair_of r row)) can.building.1 w.1 in
         attempt_ahead (pair_of r row) (i.inside r row e) w.0 ahead.0 ahead.1
   ]
 
-  attempt_backed : (h : Option Pair) → s.life ≡ Building h → (q : Pair) → s.given q ≡ true → above (Some p) q ≡ true → IsBacked (attempted s p) q
+  attempt_backed : (h : Option Pair) → s.life ≡ Building h → (q : Pair) → s.given q ≡ true → is_above (Some p) q ≡ true → IsBacked (attempted s p) q
   attempt_backed h b q g a = elim (i.backed h b q g (above_trans s.bound p q can.rising a)) [
     | inl is ↦ inl is
     | inr some ↦ inr (λ e. some (still_none (get s.entries q) refl e))
@@ -257,7 +258,7 @@ module _ (s : State) (i : IsCoherent s) (b : IsBuilding s.life) where
         (i.visible r row e (λ h. idle (record { transaction = h.transaction; txn = h.txn; active = h.active; busy = h.busy })));
     empty = λ e p. absurd (true≢false (ap is_indexed e));
     backed = λ h e p g a. on_recorded p (i.backed b.0 b.1 p g a);
-    behind = λ h e p a. subst (λ o. above o p ≡ true) (same_highest e) a;
+    behind = λ h e p a. subst (λ o. is_above o p ≡ true) (same_highest e) a;
   }
     where
       same_highest : {h : Option Pair} → Building s.bound ≡ Building h → s.bound ≡ h
@@ -288,7 +289,7 @@ module _ (s : State) (i : IsCoherent s) (can : CanFinish s) where
   finished_visible r row e h = elim h [
     | inl live ↦ inl live
     | inr w ↦
-        let ahead : (above s.bound (pair_of r row) ≡ true)
+        let ahead : (is_above s.bound (pair_of r row) ≡ true)
         × (s.missed (pair_of r row) ≡ false) = subst (λ life. IsAhead life s.bound s.missed (pair_of r row)) can.building.1 w.1 in
         absurd (true≢false (sym (can.none_left (pair_of r row) ahead.0 (can.all_taken r.page (i.inside r row e))) ∙ ahead.1))
   ]
@@ -355,7 +356,7 @@ module _ (s : State) (i : IsCoherent s) (p : Pair) (can : CanClean s p) where
           two_marks : {o : Option Mark} → o ≡ Some Live → o ≡ Some Marked → ⊥
           two_marks a b = absurd (cc)
 
-  passed_by : (life : Life) → s.life ≡ life → IsPassed life p → (h : Option Pair) → s.life ≡ Building h → above s.bound p ≡ true → ⊥
+  passed_by : (life : Life) → s.life ≡ life → IsPassed life p → (h : Option Pair) → s.life ≡ Building h → is_above s.bound p ≡ true → ⊥
   passed_by Absent e k h b a = absurd k
   passed_by (Building o) e k h b a = true≢false (sym (i.behind o e p a) ∙ k)
   passed_by Complete e k h b a = absurd (apart_lives (sym e ∙ b))
@@ -363,9 +364,9 @@ module _ (s : State) (i : IsCoherent s) (p : Pair) (can : CanClean s p) where
       apart_lives : Complete ≡ Building h → ⊥
       apart_lives e = absurd (cc)
 
-  clean_backed : (h : Option Pair) → s.life ≡ Building h → (q : Pair) → s.given q ≡ true → above s.bound q ≡ true → IsBacked cleaner q
+  clean_backed : (h : Option Pair) → s.life ≡ Building h → (q : Pair) → s.given q ≡ true → is_above s.bound q ≡ true → IsBacked cleaner q
   clean_backed h b q g a = elim (pair_decided q p) [
-    | inl same ↦ absurd (passed_by s.life refl can.passed h b (ap (above s.bound) (sym same) ∙ a))
+    | inl same ↦ absurd (passed_by s.life refl can.passed h b (ap (is_above s.bound) (sym same) ∙ a))
     | inr n ↦ elim (i.backed h b q g a) [ inl is ↦ inl is | inr some ↦ inr (λ e. some (sym (clean_other q n) ∙ e)) ]
   ]
 

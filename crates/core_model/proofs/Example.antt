@@ -3,7 +3,7 @@ use Rattle.std.proofs.Common.{Bool, None, Some, [], ap, arith, false, inl, inr, 
 use Rattle.std.proofs.Common.{◌∷◌, ◌≡◌, ◌≢◌, ◌≤◌}
 use Rattle.std.specs.FinMap.{empty, get, get-empty, insert, len, len-empty}
 use Rattle.record_values.specs.Maps.{get-set_at_other, get-set_at_same, pair_exact, rid_exact, set_at}
-use Rattle.record_values.specs.Orders.{pair_cmp, rid_cmp}
+use Rattle.record_values.specs.Orders.{pair_cmp, rid_cmp, is_above}
 use Rattle.record_values.specs.declared.pair.Mark.{Mark}
 use Rattle.record_values.specs.declared.pair.Mark.TheVariants.{Marked}
 use Rattle.record_values.specs.declared.pair.Pair.{Pair}
@@ -21,7 +21,7 @@ use Rattle.core_model.specs.Example.{insertion, last, opening, pair, place, row,
 use Rattle.core_model.specs.Histories.{CanOpen, opened}
 use Rattle.core_model.specs.Invariants.{Runs, no_step, one_step}
 use Rattle.core_model.specs.States.{Pledges, State}
-use Rattle.core_model.specs.Steps.{Attempt, Begin, Create, End, Finish, IsEnabled, Start, Take, Undo, above, after, all_reserved, is_pair_of, reserved, update}
+use Rattle.core_model.specs.Steps.{Attempt, Begin, Create, End, Finish, IsEnabled, Start, Take, Undo, after, all_reserved, is_pair_of, reserved, update}
 
 abbrev rows : Table
 rows = set_at empty place (Some row)
@@ -48,11 +48,11 @@ page_zero : (n : ℕ) → n < 1 → nat_eq n 0 ≡ true
 page_zero zero h = refl
 page_zero (suc n) h = absurd (omega arith)
 
-not_below : (q : Pair) → above (Some q) pair ≡ true → q ≢ pair
-not_below q h e = true≢false (sym h ∙ ap (λ w. above (Some w) pair) e ∙ above_self pair)
+not_below : (q : Pair) → is_above (Some q) pair ≡ true → q ≢ pair
+not_below q h e = true≢false (sym h ∙ ap (λ w. is_above (Some w) pair) e ∙ above_self pair)
 
-not_after : (q : Pair) → above (Some pair) q ≡ true → q ≢ pair
-not_after q h e = true≢false (sym h ∙ ap (above (Some pair)) e ∙ above_self pair)
+not_after : (q : Pair) → is_above (Some pair) q ≡ true → q ≢ pair
+not_after q h e = true≢false (sym h ∙ ap (is_above (Some pair)) e ∙ above_self pair)
 
 abbrev pub s1 : State
 s1 = after (opened opening) Create

@@ -2,7 +2,7 @@
 use Rattle.std.proofs.Common.{None, Option, Some, ap, inl, inr, subst, sym, true, ℕ, ◌<◌, ◌∙◌, ◌≡◌, ◌≢◌, ◌⊎◌}
 use Rattle.std.specs.Cmp.{nat_cmp_total}
 use Rattle.std.specs.FinMap.{get, nat_cmp-IsAntisymmetric}
-use Rattle.record_values.specs.Orders.{rid_cmp-IsAntisymmetric, rid_cmp_total}
+use Rattle.record_values.specs.Orders.{rid_cmp-IsAntisymmetric, rid_cmp_total, is_above}
 use Rattle.record_values.specs.Values.{Place}
 use Rattle.record_values.specs.declared.pair.Mark.TheVariants.{Live}
 use Rattle.record_values.specs.declared.pair.Pair.{Pair}
@@ -15,7 +15,7 @@ use Rattle.core_model.specs.Changes.{latest, pair_of}
 use Rattle.core_model.specs.Invariants.{IsBacked, IsBusyWith, IsChained, IsCoherent, IsHeld, IsHolderOf, IsPhaseOf, IsUnfinished, IsVisibleOrAhead, TxnHolds}
 use Rattle.core_model.specs.Invariants.{made_of}
 use Rattle.core_model.specs.States.{Active, State}
-use Rattle.core_model.specs.Steps.{above, is_indexed, with_txn}
+use Rattle.core_model.specs.Steps.{is_indexed, with_txn}
 
 pub nat_decided : (a b : ℕ) → (a ≡ b) ⊎ (a ≢ b)
 nat_decided a b = decided nat_cmp_total nat_cmp-IsAntisymmetric a b
@@ -58,7 +58,7 @@ module _ (s : State) (rows' : Table) (entries' : Index) (holder' : Place → Opt
     pub sound : (p : Pair) → p.rid ≡ r → get entries' p ≡ Some Live → IsPairOf rows' p
     pub visible : (row : Row) → get rows' r ≡ Some row → (IsUnfinished moved r → ⊥) → IsVisibleOrAhead moved (pair_of r row)
     pub empty : s.life ≡ Absent → (p : Pair) → p.rid ≡ r → get entries' p ≡ None
-    pub backed : (highest : Option Pair) → s.life ≡ Building highest → (p : Pair) → p.rid ≡ r → s.given p ≡ true → above s.bound p ≡ true → IsBacked moved p
+    pub backed : (highest : Option Pair) → s.life ≡ Building highest → (p : Pair) → p.rid ≡ r → s.given p ≡ true → is_above s.bound p ≡ true → IsBacked moved p
 
   module _ (f : Frame) (l : Local) (i : IsCoherent s) where
     moved_free : (q : Place) → holder' q ≡ None → get rows' q ≡ get s.committed q
@@ -149,7 +149,7 @@ module _ (s : State) (rows' : Table) (entries' : Index) (holder' : Place → Opt
     backed_same : (p : Pair) → p.rid ≢ r → IsBacked s p → IsBacked moved p
     backed_same p n h = elim h [ inl is ↦ inl (on_table s.rows rows' p (f.rows p.rid n) is) | inr some ↦ inr (λ e. some (sym (f.entries p n) ∙ e)) ]
 
-    moved_backed : (highest : Option Pair) → s.life ≡ Building highest → (p : Pair) → s.given p ≡ true → above s.bound p ≡ true → IsBacked moved p
+    moved_backed : (highest : Option Pair) → s.life ≡ Building highest → (p : Pair) → s.given p ≡ true → is_above s.bound p ≡ true → IsBacked moved p
     moved_backed highest b p g a = elim (rid_decided p.rid r) [
       | inl same ↦ l.backed highest b p same g a
       | inr n ↦ backed_same p n (i.backed highest b p g a)

@@ -29,7 +29,8 @@ use Rattle.core_model.specs.Histories.{write_of, writes_after}
 use Rattle.core_model.specs.Invariants.{Invariant, IsAhead, IsCoherent, IsUnfinished, IsWellFormed, Runs, no_step, one_step}
 use Rattle.core_model.specs.States.{Active, Made, NewMarked, OldMarked, OldSet, Phase, RowSet, State}
 use Rattle.core_model.specs.Steps.{Attempt, Begin, Checkpoint, Clean, Commit, Create, Drop, End, Finish, IsEnabled, Keep, Next, Start, MachineStep, Take, Undo}
-use Rattle.core_model.specs.Steps.{Wrap, above, after, carried_on, is_indexed, new_txn, row_made, row_undone, started, txn_at, undoing, undone, undone_first}
+use Rattle.core_model.specs.Steps.{Wrap, after, carried_on, is_indexed, new_txn, row_made, row_undone, started, txn_at, undoing, undone, undone_first}
+use Rattle.record_values.specs.Orders.{is_above}
 use Rattle.core_model.specs.Steps.{update, with_change, with_phase, without_newest}
 
 -- the table and the life after these deeds
@@ -76,7 +77,7 @@ module _ (o : Opened) (fits : FitsStore o) where
 
 module _ (o : Opened) (can : CanOpen o) where
   ahead_by : (p : Pair) (life : Life) (m : Option Mark) (b : Bool) → get o.given.entries p ≡ m → m ≢ Some Marked
-      → (IsCovered life (highest_of life) p → get o.given.entries p ≡ Some Live) → above (highest_of life) p ≡ b
+      → (IsCovered life (highest_of life) p → get o.given.entries p ≡ Some Live) → is_above (highest_of life) p ≡ b
       → (life ≡ Absent → get o.given.entries p ≡ None)
       → (get o.given.entries p ≡ Some Live) ⊎ (get o.given.entries p ≡ None) × IsAhead life (highest_of life) (λ q. false) p
   ahead_by p life (Some Live) b e u c k a = inl e
@@ -97,7 +98,7 @@ module _ (o : Opened) (can : CanOpen o) where
         can.empty a (pair_of r row));
     empty = can.empty;
     backed = λ h e p g a. absurd (true≢false (sym g));
-    behind = λ h e p a. subst (λ l. above (highest_of l) p ≡ true) e a;
+    behind = λ h e p a. subst (λ l. is_above (highest_of l) p ≡ true) e a;
   }
 
   pub opened_holds : Invariant (opened o)

@@ -6,9 +6,9 @@ use Rattle.std.specs.Ordering.{eq_by_cmp, is_eq, is_lt, ordering_reverse}
 use Rattle.std.specs.declared.cmp.Ordering.{Ordering}
 use Rattle.std.specs.declared.cmp.Ordering.TheVariants.{Equal, Greater, Less}
 use mathlib.Core.Path.{fun_ext}
-use Rattle.record_values.specs.Orders.{pair_cmp, pair_cmp-IsAntisymmetric, pair_cmp_total}
+use Rattle.record_values.specs.Orders.{pair_cmp, pair_cmp-IsAntisymmetric, pair_cmp_total, is_above}
 use Rattle.record_values.specs.declared.pair.Pair.{Pair}
-use Rattle.core_model.specs.Steps.{above, update}
+use Rattle.core_model.specs.Steps.{update}
 
 module _ {K : Type 0} {R : K → K → Ordering} (o : IsTotalOrder R) where
   pub level : (k : K) → eq_by_cmp R k k ≡ true
@@ -58,18 +58,18 @@ less_is Less e = refl
 less_is Equal e = absurd (true≢false (sym e))
 less_is Greater e = absurd (true≢false (sym e))
 
-pub above_trans : (b : Option Pair) (p q : Pair) → above b p ≡ true → above (Some p) q ≡ true → above b q ≡ true
+pub above_trans : (b : Option Pair) (p q : Pair) → is_above b p ≡ true → is_above (Some p) q ≡ true → is_above b q ≡ true
 above_trans None p q h k = refl
 above_trans (Some b) p q h k = ap is_lt (pair_cmp_total.trans b p q (less_is _ h) (less_is _ k))
 
-pub above_self : (p : Pair) → above (Some p) p ≡ false
+pub above_self : (p : Pair) → is_above (Some p) p ≡ false
 above_self p = ap is_lt (tied_itself pair_cmp_total p)
 
-not_above_by : (p q : Pair) (o : Ordering) → pair_cmp p q ≡ o → is_lt o ≡ false → (q ≡ p) ⊎ (above (Some q) p ≡ true)
+not_above_by : (p q : Pair) (o : Ordering) → pair_cmp p q ≡ o → is_lt o ≡ false → (q ≡ p) ⊎ (is_above (Some q) p ≡ true)
 not_above_by p q Less e h = absurd (true≢false h)
 not_above_by p q Equal e h = inl (sym (pair_cmp-IsAntisymmetric p q e))
 not_above_by p q Greater e h = inr (ap is_lt (pair_cmp_total.antisymm q p ∙ ap ordering_reverse e))
 
--- a pair that isn't above another is that one, or below it
-pub not_above : (p q : Pair) → above (Some p) q ≡ false → (q ≡ p) ⊎ (above (Some q) p ≡ true)
+-- a pair that isn't is_above another is that one, or below it
+pub not_above : (p q : Pair) → is_above (Some p) q ≡ false → (q ≡ p) ⊎ (is_above (Some q) p ≡ true)
 not_above p q h = not_above_by p q (pair_cmp p q) refl h

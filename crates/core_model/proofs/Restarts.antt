@@ -26,7 +26,8 @@ use Rattle.core_model.specs.Invariants.{HasPlaces, IsBusyWith, IsCoherent, IsHel
 use Rattle.core_model.specs.Invariants.{lacking, lacks}
 use Rattle.core_model.proofs.Undone.{IsListing, entries_undone, restarted, rows_back, rows_undone}
 use Rattle.core_model.specs.States.{Active, Phase, State}
-use Rattle.core_model.specs.Steps.{above, all_reserved, freed, is_applied, is_indexed, reserved, update, with_entry, without_newest}
+use Rattle.core_model.specs.Steps.{all_reserved, freed, is_applied, is_indexed, reserved, update, with_entry, without_newest}
+use Rattle.record_values.specs.Orders.{is_above}
 
 module _ (s : State) (i : IsCoherent s) (n : IsStateInside s) (quiet : (t : ℕ) (x : Active) → s.txns t ≡ Some x → x.changes ≡ Unchanged) where
   not_busy : (cs : Changes) (phase : Phase) (r : Place) → cs ≡ Unchanged → IsBusyWith cs phase r → ⊥
@@ -52,9 +53,9 @@ module _ (s : State) (i : IsCoherent s) (n : IsStateInside s) (quiet : (t : ℕ)
 
   covered_by : (life : Life) → s.life ≡ life → (p : Pair) → IsCovered life (highest_of life) p → IsCovered life s.bound p
   covered_by Absent e p c = c
-  covered_by (Building h) e p c = below (above s.bound p) refl
+  covered_by (Building h) e p c = below (is_above s.bound p) refl
     where
-      below : (b : Bool) → above s.bound p ≡ b → above s.bound p ≡ false
+      below : (b : Bool) → is_above s.bound p ≡ b → is_above s.bound p ≡ false
       below true a = absurd (true≢false (sym (i.behind h e p a) ∙ c))
       below false a = a
   covered_by Complete e p c = c

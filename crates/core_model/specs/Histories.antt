@@ -21,7 +21,8 @@ use Rattle.core_model.specs.Invariants.{IsUnfinished}
 use Rattle.core_model.specs.Records.{HasCells}
 use Rattle.core_model.specs.States.{State}
 use Rattle.core_model.specs.Steps.{Attempt, Begin, Checkpoint, Clean, Commit, Create, Drop, End, Finish, Keep, Next}
-use Rattle.core_model.specs.Steps.{Start, MachineStep, Take, Undo, Wrap, above, all_reserved, update}
+use Rattle.core_model.specs.Steps.{Start, MachineStep, Take, Undo, Wrap, all_reserved, update}
+use Rattle.record_values.specs.Orders.{is_above}
 
 -- ---- the history of a run, read off the changes that were asked for, the commits, and what became of the index
 
@@ -115,7 +116,7 @@ opened o =
 -- where the index must have each row's pair
 abbrev pub IsCovered : Life → Option Pair → Pair → Type 0
 IsCovered Absent bound p = ⊥
-IsCovered (Building highest) bound p = above bound p ≡ false
+IsCovered (Building highest) bound p = is_above bound p ≡ false
 IsCovered Complete bound p = Unit {0}
 
 -- what fits the store: with that a core is safe

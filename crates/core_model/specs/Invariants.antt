@@ -13,7 +13,8 @@ use Rattle.model.specs.declared.life.Life.{Life}
 use Rattle.model.specs.declared.life.Life.TheVariants.{Absent, Building, Complete}
 use Rattle.core_model.specs.Changes.{Changes, Unchanged, latest, as_list, new_pair, old_pair, pair_of, ◌▹◌}
 use Rattle.core_model.specs.States.{Active, Made, NewMarked, OldMarked, OldSet, Phase, RowSet, State}
-use Rattle.core_model.specs.Steps.{Drop, IsEnabled, MachineStep, above, after, all_reserved, is_applied, is_indexed}
+use Rattle.core_model.specs.Steps.{Drop, IsEnabled, MachineStep, after, all_reserved, is_applied, is_indexed}
+use Rattle.record_values.specs.Orders.{is_above}
 use Rattle.core_model.specs.Steps.{reserved}
 
 -- ---- rows, entries, builder
@@ -89,7 +90,7 @@ pub record IsHeld (s : State) (r : Place) (t : ℕ) : Type 0 where
 -- the builder is still to come to this pair
 abbrev pub IsAhead : Life → Option Pair → (Pair → Bool) → Pair → Type 0
 IsAhead Absent bound missed p = Unit {0}
-IsAhead (Building highest) bound missed p = (above bound p ≡ true) × (missed p ≡ false)
+IsAhead (Building highest) bound missed p = (is_above bound p ≡ true) × (missed p ≡ false)
 IsAhead Complete bound missed p = ⊥
 
 -- the pair is live, or has no entry and the builder is still to come to it
@@ -111,9 +112,9 @@ pub record IsCoherent (s : State) : Type 0 where
       → IsVisibleOrAhead s (pair_of r row)
   pub empty : s.life ≡ Absent → (p : Pair) → get s.entries p ≡ None
   pub backed : (highest : Option Pair) → s.life ≡ Building highest → (p : Pair) → s.given p ≡ true
-      → above s.bound p ≡ true → IsBacked s p
-  pub behind : (highest : Option Pair) → s.life ≡ Building highest → (p : Pair) → above s.bound p ≡ true
-      → above highest p ≡ true
+      → is_above s.bound p ≡ true → IsBacked s p
+  pub behind : (highest : Option Pair) → s.life ≡ Building highest → (p : Pair) → is_above s.bound p ≡ true
+      → is_above highest p ≡ true
 
 -- ---- places of entries
 

@@ -6,7 +6,7 @@ use Rattle.std.specs.Ordering.{is_lt}
 use Rattle.std.specs.Prelude.{List, None, Option, Some, [], false, length, true, ℕ, ◌+◌, ◌<◌, ◌↔◌, ◌∷◌, ◌≡◌, ◌≢◌, ◌≤◌}
 use Rattle.std.specs.Prelude.{◌⊎◌}
 use Rattle.records.specs.ChangeValue.{ChangeValue}
-use Rattle.record_values.specs.Orders.{rid_cmp}
+use Rattle.record_values.specs.Orders.{rid_cmp, is_above}
 use Rattle.record_values.specs.Values.{Place}
 use Rattle.records.specs.declared.change.Rows.{Rows}
 use Rattle.records.specs.declared.change.Rows.TheVariants.{Deleted, Inserted, Updated}
@@ -26,7 +26,7 @@ use Rattle.record_values.specs.declared.limits.TheConstants.{ATTEMPTS_PER_CHECKP
 use Rattle.record_values.specs.declared.txn.TheConstants.{TXNS_MAX}
 use Rattle.core_model.specs.States.{Active, OldMarked, RowSet, State}
 use Rattle.core_model.specs.Steps.{Attempt, CanClean, CanFinish, Checkpoint, Finish, IsBuilding, IsReady, Keep, Next}
-use Rattle.core_model.specs.Steps.{Start, MachineStep, Take, Wrap, above, after, all_reserved, is_indexed, places_of}
+use Rattle.core_model.specs.Steps.{Start, MachineStep, Take, Wrap, after, all_reserved, is_indexed, places_of}
 use Rattle.core_model.specs.Steps.{txn_at}
 use Rattle.core_model.specs.Changes.{Unchanged, as_list}
 
@@ -141,9 +141,9 @@ IsBetween s k = IsBuilding s.life × (k.attempts < ATTEMPTS_PER_CHECKPOINT)
 -- a pair that the scan has next
 pub record IsNextPair (s : State) (p : Pair) : Type 0 where
   pub given : s.given p ≡ true
-  pub rising : above s.bound p ≡ true
+  pub rising : is_above s.bound p ≡ true
   pub all_taken : (n : ℕ) → n < s.pages → s.taken n ≡ true
-  pub none_left : (q : Pair) → above s.bound q ≡ true → above (Some q) p ≡ true → s.taken q.rid.page ≡ true
+  pub none_left : (q : Pair) → is_above s.bound q ≡ true → is_above (Some q) p ≡ true → s.taken q.rid.page ≡ true
       → s.missed q ≡ true
 
 -- when each answer of the builder is due
@@ -165,17 +165,17 @@ build_step (BuildReply.Marked p n) = Some (Checkpoint p)
 build_step (Done n) = Some Finish
 build_step Idle = None
 
--- the least entry above the cleaner's place
+-- the least entry is_above the cleaner's place
 pub record IsNextEntry (s : State) (p : Pair) : Type 0 where
   pub there : get s.entries p ≢ None
-  pub above_place : above s.cleaned p ≡ true
-  pub least : (q : Pair) → get s.entries q ≢ None → above s.cleaned q ≡ true → above (Some q) p ≡ false
+  pub above_place : is_above s.cleaned p ≡ true
+  pub least : (q : Pair) → get s.entries q ≢ None → is_above s.cleaned q ≡ true → is_above (Some q) p ≡ false
 
--- when each answer of the cleaner is due: the least entry above its place goes or stays, or there is none
+-- when each answer of the cleaner is due: the least entry is_above its place goes or stays, or there is none
 abbrev pub IsCleanDue : State → CleanReply → Type 0
 IsCleanDue s (Cleaned p) = IsNextEntry s p × CanClean s p
 IsCleanDue s (Kept p) = IsNextEntry s p × (CanClean s p → ⊥)
-IsCleanDue s Wrapped = (p : Pair) → above s.cleaned p ≡ true → get s.entries p ≡ None
+IsCleanDue s Wrapped = (p : Pair) → is_above s.cleaned p ≡ true → get s.entries p ≡ None
 
 -- the step that the machine makes with it
 abbrev pub clean_step : CleanReply → MachineStep

@@ -1,13 +1,13 @@
 -- The steps of the core: what each does, and when it is enabled.
 use Rattle.std.specs.Cmp.Lexicographic.{slice_cmp}
 use Rattle.std.specs.FinMap.{empty, entries, get, insert, len, remove, values}
-use Rattle.std.specs.Ordering.{eq_by_cmp, is_lt, nat_cmp}
+use Rattle.std.specs.Ordering.{eq_by_cmp, nat_cmp}
 use Rattle.std.specs.Prelude.{Bool, None, Option, Some, cond, false, length, nat_eq, not, sum, true, unwrap_or, ℕ, ◌&&◌}
 use Rattle.std.specs.Prelude.{◌+◌, ◌-◌, ◌<◌, ◌||◌, ◌≡◌, ◌≢◌, ◌≤◌, ◌⊎◌}
 use Rattle.std.specs.declared.cmp.Ordering.{Ordering}
 use Rattle.records.specs.ChangeValue.{ChangeValue}
 use Rattle.record_values.specs.Maps.{set_at}
-use Rattle.record_values.specs.Orders.{pair_cmp, rid_cmp}
+use Rattle.record_values.specs.Orders.{is_above, pair_cmp, rid_cmp}
 use Rattle.records.specs.Spelling.{new_row, old_row}
 use Rattle.record_values.specs.declared.pair.Mark.TheVariants.{Live, Marked}
 use Rattle.record_values.specs.declared.pair.Pair.{Pair}
@@ -27,11 +27,6 @@ use Rattle.core_model.specs.States.{Active, Made, NewMarked, OldMarked, OldSet, 
 -- the function with this value at this argument
 unfoldable pub update : {K X : Type 0} → (K → K → Ordering) → (K → X) → K → X → K → X
 update R f k v q = cond (eq_by_cmp R q k) v (f q)
-
--- whether a pair comes after this one: every pair does where there is none
-abbrev pub above : Option Pair → Pair → Bool
-above None q = true
-above (Some p) q = is_lt (pair_cmp p q)
 
 -- whether a pair is that of a row
 abbrev pub is_pair_of : Option Row → Pair → Bool
@@ -285,9 +280,9 @@ pub record CanStart (s : State) (t : ℕ) (c : ChangeValue) : Type 0 where
 pub record CanAttempt (s : State) (p : Pair) : Type 0 where
   pub building : IsBuilding s.life
   pub given : s.given p ≡ true
-  pub rising : above s.bound p ≡ true
+  pub rising : is_above s.bound p ≡ true
   pub all_taken : (n : ℕ) → n < s.pages → s.taken n ≡ true
-  pub none_left : (q : Pair) → above s.bound q ≡ true → above (Some q) p ≡ true → s.taken q.rid.page ≡ true
+  pub none_left : (q : Pair) → is_above s.bound q ≡ true → is_above (Some q) p ≡ true → s.taken q.rid.page ≡ true
       → s.missed q ≡ true
   pub room : get s.entries p ≡ None → len s.entries + all_reserved s.pledges < s.places
 
@@ -295,12 +290,12 @@ pub record CanAttempt (s : State) (p : Pair) : Type 0 where
 pub record CanFinish (s : State) : Type 0 where
   pub building : IsBuilding s.life
   pub all_taken : (n : ℕ) → n < s.pages → s.taken n ≡ true
-  pub none_left : (q : Pair) → above s.bound q ≡ true → s.taken q.rid.page ≡ true → s.missed q ≡ true
+  pub none_left : (q : Pair) → is_above s.bound q ≡ true → s.taken q.rid.page ≡ true → s.missed q ≡ true
 
 -- where the cleaner may take out an entry
 abbrev pub IsPassed : Life → Pair → Type 0
 IsPassed Absent p = ⊥
-IsPassed (Building highest) p = above highest p ≡ false
+IsPassed (Building highest) p = is_above highest p ≡ false
 IsPassed Complete p = Unit {0}
 
 -- when the cleaner may take an entry out: it is marked, nobody holds its row, and the build has passed it

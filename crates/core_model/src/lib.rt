@@ -38,7 +38,8 @@ ghost use Rattle.record_values.specs.declared.pair.Mark.TheVariants.{Marked};
 ghost use Rattle.record_values.specs.declared.pair.Pair.{Pair};
 ghost use Rattle.core_model.specs.Example.{opening, steps, last, pair};
 ghost use Rattle.core_model.specs.States.{State};
-ghost use Rattle.core_model.specs.Steps.{Attempt, MachineStep, above, after, IsEnabled};
+ghost use Rattle.record_values.specs.Orders.{is_above};
+ghost use Rattle.core_model.specs.Steps.{Attempt, MachineStep, after, IsEnabled};
 ghost use Rattle.core_model.specs.Invariants.{Invariant, IsOneBuild, IsWellFormed, Runs};
 ghost use Rattle.core_model.specs.Histories.{Opened, CanOpen, FitsStore, opened, AreItemsOf, IsFaithful};
 ghost use Rattle.core_model.specs.Histories.{ShowsJustTheRows, history};
@@ -68,12 +69,12 @@ pub fn complete_index()
 /// The builder attempts pairs in rising order, above the one that was checkpointed last, in this run or, as long as the
 /// index is not dropped, before the core was opened.
 pub fn rising_attempts()
-    ensures rising { (s : State) (p : Pair) → IsEnabled s (Attempt p) → above s.bound p ≡ true }
+    ensures rising { (s : State) (p : Pair) → IsEnabled s (Attempt p) → is_above s.bound p ≡ true }
     ensures checkpointed { (s : State) (p : Pair) → Invariant s → (highest : Option Pair) → s.life ≡ Building highest
-        → IsEnabled s (Attempt p) → above highest p ≡ true }
+        → IsEnabled s (Attempt p) → is_above highest p ≡ true }
     ensures opened { (o : Opened) (highest : Option Pair) → o.given.life ≡ Building highest
         → (steps : List MachineStep) (s : State) → Runs (opened o) steps s → IsOneBuild steps → (p : Pair)
-        → IsEnabled s (Attempt p) → above highest p ≡ true }
+        → IsEnabled s (Attempt p) → is_above highest p ≡ true }
 {}
 
 /// Wherever a run stops, what is recovered of its cells, every unfinished transaction taken back whichever of its steps

@@ -11,7 +11,7 @@ use Rattle.std.specs.Option.{IfSome}
 use Rattle.std.specs.Ordering.{eq_by_cmp, nat_cmp}
 use Rattle.std.specs.Prelude.{Err, IfErr, IfOk, Ok, OnErr, OnOk, Result, min, ◌-◌, ◌^◌, ◌↔◌}
 use Rattle.record_values.specs.Maps.{key_is, pair_exact, same_key, set_at, set_at-again, set_at-get}
-use Rattle.record_values.specs.Orders.{pair_cmp_total}
+use Rattle.record_values.specs.Orders.{pair_cmp_total, is_above}
 use Rattle.record_values.specs.declared.error.Error.{Error}
 use Rattle.record_values.specs.declared.limits.TheConstants.{ATTEMPTS_PER_CHECKPOINT}
 use Rattle.record_values.specs.declared.pair.Mark.{Mark}
@@ -25,14 +25,14 @@ use Rattle.model.specs.declared.key_action.KeyAction.TheVariants.{BuildPut}
 use Rattle.model.specs.declared.life.Life.{Life}
 use Rattle.model.specs.declared.life.Life.TheVariants.{Absent, Building, Complete}
 use Rattle.marked_index.specs.Index.{IndexValue, IsAbsent, IsFull, entries_after}
-use Rattle.sorted_scan.specs.Pairs.{is_above, is_among}
+use Rattle.sorted_scan.specs.Pairs.{is_among}
 use Rattle.sorted_scan.specs.Runs.{HandedOut, IsAtEnd, IsSteady, MayHandOut, ScanRun, Took, is_given, is_missed, is_taken, last_pair, taken_in_a_row, with_step}
 use Rattle.sorted_scan.specs.Scans.{HasRun, ScanValue, begun, begun_run}
 use Rattle.core_model.proofs.Laws.{build_put_some, not_none}
 use Rattle.core_model.specs.Logs.{one_record}
 use Rattle.core_model.specs.Records.{action_of, place_action}
 use Rattle.core_model.specs.States.{State}
-use Rattle.core_model.specs.Steps.{Attempt, CanFinish, Checkpoint, Finish, MachineStep, Take, above, after, all_reserved, is_pair_of}
+use Rattle.core_model.specs.Steps.{Attempt, CanFinish, Checkpoint, Finish, MachineStep, Take, after, all_reserved, is_pair_of}
 use Rattle.core_model.specs.Events as events
 use Rattle.core_model.specs.Events.{Event, Refused, Reply, Standing, standing_after}
 use Rattle.core_model.specs.Replies.{HasNoPlace, IsBetween, IsStepDue, IsFirst, IsNextPair, accepted, refusals, refused, refused_last}
@@ -66,10 +66,6 @@ idle v e s k st = still v s k Event.Build (events.Built events.Idle) st.shown re
 pub building_apart : (life : Life) (highest : Option Pair) → life ≡ Building highest → life ≡ Absent → ⊥
 building_apart life highest e f = cc
 
-above_is : (o : Option Pair) (q : Pair) → above o q ≡ is_above o q
-above_is None q = refl
-above_is (Some p) q = refl
-
 either : (b : Bool) → (b ≡ false → ⊥) → b ≡ true
 either true h = refl
 either false h = absurd (h refl)
@@ -84,8 +80,8 @@ module _ (v : CoreValue) (s : State) (k : Standing) (h : Shows v s k) where
   all_taken : ((n : ℕ) → n < run.pages → is_taken run n ≡ true) → (n : ℕ) → n < s.pages → s.taken n ≡ true
   all_taken all n less = h.scan.taken n ∙ all n (subst (λ m. n < m) (sym pages_are) less)
 
-  bound_is : (q : Pair) → above s.bound q ≡ is_above (last_pair run) q
-  bound_is q = above_is s.bound q ∙ ap (λ o. is_above o q) (h.bound ∙ h.scan.made.last_is)
+  bound_is : (q : Pair) → is_above s.bound q ≡ is_above (last_pair run) q
+  bound_is q = ap (λ o. is_above o q) (h.bound ∙ h.scan.made.last_is)
 
   -- a pair that was taken, and that no taking left out, is steady
   steady : (q : Pair) → s.taken q.rid.page ≡ true → s.missed q ≡ false → IsSteady run q
@@ -97,7 +93,7 @@ module _ (v : CoreValue) (s : State) (k : Standing) (h : Shows v s k) where
     rising = bound_is p ∙ next.rising;
     all_taken = all_taken next.all_taken;
     none_left = λ q over under taken. either (s.missed q) (λ left.
-        true≢false (sym (sym (above_is (Some q) p) ∙ under) ∙ next.none_between q (steady q taken left) (sym (bound_is q) ∙ over)));
+        true≢false (sym under ∙ next.none_between q (steady q taken left) (sym (bound_is q) ∙ over)));
   }
 
   end_is : IsBuilding s.life → IsAtEnd run → CanFinish s

@@ -5,7 +5,7 @@ use Rattle.std.specs.Ordering.{is_lt}
 use Rattle.std.specs.declared.cmp.Ordering.{Ordering}
 use Rattle.std.specs.declared.cmp.Ordering.TheVariants.{Less}
 use Rattle.record_values.specs.Maps.{set_at}
-use Rattle.record_values.specs.Orders.{pair_cmp}
+use Rattle.record_values.specs.Orders.{pair_cmp, is_above}
 use Rattle.record_values.specs.declared.error.Error.{Error}
 use Rattle.record_values.specs.declared.pair.Mark.{Mark}
 use Rattle.record_values.specs.declared.pair.Pair.{Pair}
@@ -17,7 +17,7 @@ use Rattle.model.specs.declared.life.Life.TheVariants.{Absent, Building, Complet
 use Rattle.btree_node.specs.Above.{IsAfter, IsLeastAbove}
 use Rattle.core_model.proofs.Laws.{not_none}
 use Rattle.core_model.specs.States.{State}
-use Rattle.core_model.specs.Steps.{CanClean, IsPassed, Keep, MachineStep, Wrap, above, after}
+use Rattle.core_model.specs.Steps.{CanClean, IsPassed, Keep, MachineStep, Wrap, after}
 use Rattle.core_model.specs.Events as events
 use Rattle.core_model.specs.Events.{Event, Refused, Reply, Standing, standing_after}
 use Rattle.core_model.specs.Replies.{IsStepDue, IsFirst, IsNextEntry, refusals, refused}
@@ -42,11 +42,11 @@ less_is Less e = refl
 less_is Ordering.Equal e = cc
 less_is Ordering.Greater e = cc
 
-after_is : (o : Option Pair) (q : Pair) → above o q ≡ true → IsAfter o q
+after_is : (o : Option Pair) (q : Pair) → is_above o q ≡ true → IsAfter o q
 after_is None q e = tt
 after_is (Some p) q e = less_is (pair_cmp p q) e
 
-above_when : (o : Option Pair) (q : Pair) → IsAfter o q → above o q ≡ true
+above_when : (o : Option Pair) (q : Pair) → IsAfter o q → is_above o q ≡ true
 above_when None q a = refl
 above_when (Some p) q a = ap is_lt a
 
@@ -66,8 +66,8 @@ module _ (v : CoreValue) (s : State) (k : Standing) (st : IsState v s k) (indexe
     abbrev wrapped : Reply
     wrapped = events.Cleaner events.Wrapped
 
-    none_above : (p : Pair) → above s.cleaned p ≡ true → get s.entries p ≡ None
-    none_above p over = ap (λ m. get m p) h.entries ∙ none p (after_is v.cleaned p (ap (λ o. above o p) (sym h.cleaned) ∙ over))
+    none_above : (p : Pair) → is_above s.cleaned p ≡ true → get s.entries p ≡ None
+    none_above p over = ap (λ m. get m p) h.entries ∙ none p (after_is v.cleaned p (ap (λ o. is_above o p) (sym h.cleaned) ∙ over))
 
     wrapped_due : IsStepDue s k Event.Clean wrapped (Some Wrap)
     wrapped_due = (events.Wrapped, none_above, refl, refl)
@@ -112,12 +112,12 @@ module _ (v : CoreValue) (s : State) (k : Standing) (st : IsState v s k) (indexe
     next : IsNextEntry s p
     next = record {
       there = λ e. not_none (ap (λ m. get m p) h.entries ∙ entry.1) e;
-      above_place = ap (λ o. above o p) h.cleaned ∙ above_when v.cleaned p entry.0;
+      above_place = ap (λ o. is_above o p) h.cleaned ∙ above_when v.cleaned p entry.0;
       least = λ q there over. not_above q (λ less. there (ap (λ m. get m q) h.entries
-          ∙ entry.2 q (after_is v.cleaned q (ap (λ o. above o q) (sym h.cleaned) ∙ over)) less));
+          ∙ entry.2 q (after_is v.cleaned q (ap (λ o. is_above o q) (sym h.cleaned) ∙ over)) less));
     }
       where
-        not_above : (q : Pair) → (pair_cmp q p ≡ Less → ⊥) → above (Some q) p ≡ false
+        not_above : (q : Pair) → (pair_cmp q p ≡ Less → ⊥) → is_above (Some q) p ≡ false
         not_above q n = by (pair_cmp q p) n
           where
             by : (r : Ordering) → (r ≡ Less → ⊥) → is_lt r ≡ false

@@ -9,7 +9,7 @@ use Rattle.std.specs.Ordering.{eq_by_cmp, is_lt, ordering_reverse}
 use Rattle.std.specs.declared.cmp.Ordering.{Ordering}
 use Rattle.std.specs.declared.cmp.Ordering.TheVariants.{Equal, Greater, Less}
 use Rattle.record_values.specs.Maps.{key_is, pair_exact}
-use Rattle.record_values.specs.Orders.{pair_cmp, pair_cmp_total}
+use Rattle.record_values.specs.Orders.{pair_cmp, pair_cmp_total, is_above}
 use Rattle.record_values.specs.declared.pair.Mark.{Mark}
 use Rattle.record_values.specs.declared.pair.Mark.TheVariants.{Live}
 use Rattle.record_values.specs.declared.pair.Pair.{Pair}
@@ -19,7 +19,6 @@ use Rattle.model.specs.Pairs.{is_indexed}
 use Rattle.model.specs.Table.{Index, Table}
 use Rattle.btree_node.specs.Above.{IsAfter, IsLeastAbove}
 use Rattle.core_model.specs.Histories.{CanOpen, FitsStore}
-use Rattle.core_model.specs.Steps.{above}
 use Rattle.core_parts.specs.Opening.{EachIsShown, EachMayStand, opened_of}
 use Rattle.core_parts.specs.View.{CoreValue, IsSafe}
 
@@ -30,11 +29,11 @@ is_less Less is = refl
 is_less Equal is = absurd (false≢true is)
 is_less Greater is = absurd (false≢true is)
 
-is_after : (last : Option Pair) (q : Pair) → above last q ≡ true → IsAfter last q
+is_after : (last : Option Pair) (q : Pair) → is_above last q ≡ true → IsAfter last q
 is_after None q is = tt
 is_after (Some l) q is = is_less (pair_cmp l q) is
 
-after_is : (last : Option Pair) (q : Pair) → IsAfter last q → above last q ≡ true
+after_is : (last : Option Pair) (q : Pair) → IsAfter last q → is_above last q ≡ true
 after_is None q after = refl
 after_is (Some l) q after = ap is_lt after
 
@@ -42,16 +41,16 @@ some_none : (m : Mark) → (◌≡◌ {A = Option Mark} None (Some m)) → ⊥
 some_none m e = absurd cc
 
 module _ (all : Index) (P : Pair → Mark → Type 0) where
-  -- each entry that is not above the last one is so
+  -- each entry that is not is_above the last one is so
   abbrev pub AreChecked : Option Pair → Type 0
-  AreChecked last = (p : Pair) (x : Mark) → above last p ≡ false → get all p ≡ Some x → P p x
+  AreChecked last = (p : Pair) (x : Mark) → is_above last p ≡ false → get all p ≡ Some x → P p x
 
   pub none_checked : AreChecked None
   none_checked p x before here = absurd (false≢true (sym before))
 
   pub one_checked : (last : Option Pair) → AreChecked last → (e : Pair × Mark) → IsLeastAbove all last (Some e) → P e.0 e.1 → AreChecked (Some e.0)
   one_checked last h e least good p x before here =
-      elim (cases_Bool (above last p)) [
+      elim (cases_Bool (is_above last p)) [
         | inl after ↦ by after (pair_cmp p e.0) refl
         | inr old ↦ h p x old here
       ]
@@ -59,7 +58,7 @@ module _ (all : Index) (P : Pair → Mark → Type 0) where
       mark_is : p ≡ e.0 → x ≡ e.1
       mark_is same = let both : Some x ≡ Some e.1 = sym here ∙ ap (get all) same ∙ least.1 in cc
 
-      by : above last p ≡ true → (o : Ordering) → pair_cmp p e.0 ≡ o → P p x
+      by : is_above last p ≡ true → (o : Ordering) → pair_cmp p e.0 ≡ o → P p x
       by after Less is = absurd (some_none x (sym (least.2 p (is_after last p after) is) ∙ here))
       by after Equal is =
           let same : p ≡ e.0 = pair_exact.only_equal p e.0 is in
@@ -70,7 +69,7 @@ module _ (all : Index) (P : Pair → Mark → Type 0) where
 
   pub all_checked : (last : Option Pair) → AreChecked last → IsLeastAbove all last None → (p : Pair) (x : Mark) → get all p ≡ Some x → P p x
   all_checked last h none p x here =
-      elim (cases_Bool (above last p)) [
+      elim (cases_Bool (is_above last p)) [
         | inl after ↦ absurd (some_none x (sym (none p (is_after last p after)) ∙ here))
         | inr old ↦ h p x old here
       ]
@@ -115,13 +114,13 @@ module _ (f g : Pair → Bool) (weaker : (q : Pair) → f q ≡ true → g q ≡
 
 -- how many entries come after a pair
 abbrev pub left_above : Index → Option Pair → ℕ
-left_above all last = passing (above last) (entries all)
+left_above all last = passing (is_above last) (entries all)
 
 pub fewer_left : (all : Index) (last : Option Pair) (e : Pair × Mark) → IsLeastAbove all last (Some e) → left_above all (Some e.0) < left_above all last
-fewer_left all last e least = fewer (above (Some e.0)) (above last) (λ q later. weaker last least.0 q (is_less (pair_cmp e.0 q) later)) e.0
+fewer_left all last e least = fewer (is_above (Some e.0)) (is_above last) (λ q later. weaker last least.0 q (is_less (pair_cmp e.0 q) later)) e.0
     (ap is_lt (tied_itself pair_cmp_total e.0)) (after_is last e.0 least.0) (entries all) e.1 (sym (get-entries all e.0) ∙ least.1)
   where
-    weaker : (last : Option Pair) → IsAfter last e.0 → (q : Pair) → pair_cmp e.0 q ≡ Less → above last q ≡ true
+    weaker : (last : Option Pair) → IsAfter last e.0 → (q : Pair) → pair_cmp e.0 q ≡ Less → is_above last q ≡ true
     weaker None after q later = refl
     weaker (Some l) after q later = ap is_lt (pair_cmp_total.trans l e.0 q after later)
 

@@ -12,9 +12,8 @@ use Rattle.std.specs.declared.cmp.Ordering.{Ordering}
 use Rattle.std.specs.declared.cmp.Ordering.TheVariants.{Equal, Greater, Less}
 use Rattle.std.specs.declared.ops.Bound.{Bound}
 use Rattle.std.specs.declared.ops.Bound.TheVariants.{Excluded, Included, Unbounded}
-use Rattle.record_values.specs.Orders.{pair_cmp, pair_cmp_total, rid_cmp}
+use Rattle.record_values.specs.Orders.{pair_cmp, pair_cmp_total, rid_cmp, is_above}
 use Rattle.record_values.specs.declared.pair.Pair.{Pair}
-use Rattle.core_model.specs.Steps.{above}
 
 abbrev pub Bytes : Type 0
 Bytes = List ℕ
@@ -39,13 +38,13 @@ same_keys = slice_cmp-IsAntisymmetric nat_cmp-IsAntisymmetric
 
 -- ---- pairs
 
-pub not_above_itself : (p : Pair) → above (Some p) p ≡ false
+pub not_above_itself : (p : Pair) → is_above (Some p) p ≡ false
 not_above_itself p = ap is_lt (tied_itself pair_cmp_total p)
 
-pub not_above_later : (p q : Pair) → pair_cmp p q ≡ Less → above (Some q) p ≡ false
+pub not_above_later : (p q : Pair) → pair_cmp p q ≡ Less → is_above (Some q) p ≡ false
 not_above_later p q less = ap is_lt (pair_cmp_total.antisymm q p ∙ ap ordering_reverse less)
 
-pub above_later : (o : Option Pair) (p q : Pair) → above o p ≡ true → pair_cmp p q ≡ Less → above o q ≡ true
+pub above_later : (o : Option Pair) (p q : Pair) → is_above o p ≡ true → pair_cmp p q ≡ Less → is_above o q ≡ true
 above_later None p q after less = refl
 above_later (Some l) p q after less = ap is_lt (pair_cmp_total.trans l p q (is_less (pair_cmp l p) after) less)
 
@@ -85,7 +84,7 @@ past_later to p q less past =
 
 -- a pair of a key before the bound is before the range
 pub before_included : (from to : Bound Bytes) (bound : Bytes) (l p : Pair) → from ≡ Included bound → key_cmp l.key bound ≡ Less
-    → range_contains key_cmp from to p.key ≡ true → above (Some l) p ≡ true
+    → range_contains key_cmp from to p.key ≡ true → is_above (Some l) p ≡ true
 before_included from to bound l p is less within =
     ap is_lt (before_by_key l p (by (less_or_equal (key_cmp bound p.key)
     (ap (λ f. is_from_start key_cmp f p.key) (sym is) ∙ (and_parts (is_from_start key_cmp from p.key) (not (is_past_end key_cmp to p.key)) within).0))))
@@ -95,12 +94,12 @@ before_included from to bound l p is less within =
     by (inr tie) = ap (key_cmp l.key) (sym (same_keys bound p.key tie)) ∙ less
 
 pub before_some : (from to : Bound Bytes) (bound : Bytes) (o : Option Pair) (p : Pair) → from ≡ Included bound → IfSome o (λ l. key_cmp l.key bound ≡ Less)
-    → range_contains key_cmp from to p.key ≡ true → above o p ≡ true
+    → range_contains key_cmp from to p.key ≡ true → is_above o p ≡ true
 before_some from to bound None p is less within = refl
 before_some from to bound (Some l) p is less within = before_included from to bound l p is less within
 
 -- and so is one of an excluded bound
-pub before_excluded : (from to : Bound Bytes) (l p : Pair) → from ≡ Excluded l.key → range_contains key_cmp from to p.key ≡ true → above (Some l) p ≡ true
+pub before_excluded : (from to : Bound Bytes) (l p : Pair) → from ≡ Excluded l.key → range_contains key_cmp from to p.key ≡ true → is_above (Some l) p ≡ true
 before_excluded from to l p is within =
     ap is_lt (before_by_key l p (is_less (key_cmp l.key p.key)
     (ap (λ f. is_from_start key_cmp f p.key) (sym is) ∙ (and_parts (is_from_start key_cmp from p.key) (not (is_past_end key_cmp to p.key)) within).0)))
@@ -117,21 +116,21 @@ first_alone true true weaker = refl
 first_alone true false weaker = absurd (false≢true (weaker refl))
 first_alone false b weaker = refl
 
--- what is above the later one is above both
-pub above_second : (a b p : Pair) → is_lt (pair_cmp a b) ≡ true → above (Some b) p ≡ (above (Some a) p && above (Some b) p)
-above_second a b p less = second_alone (above (Some a) p) (above (Some b) p) (λ after.
+-- what is is_above the later one is is_above both
+pub above_second : (a b p : Pair) → is_lt (pair_cmp a b) ≡ true → is_above (Some b) p ≡ (is_above (Some a) p && is_above (Some b) p)
+above_second a b p less = second_alone (is_above (Some a) p) (is_above (Some b) p) (λ after.
     ap is_lt (pair_cmp_total.trans a b p (is_less (pair_cmp a b) less) (is_less (pair_cmp b p) after)))
 
-pub above_first : (a b p : Pair) → is_lt (pair_cmp a b) ≡ false → above (Some a) p ≡ (above (Some a) p && above (Some b) p)
-above_first a b p not_less = first_alone (above (Some a) p) (above (Some b) p) (by (pair_cmp a b) refl)
+pub above_first : (a b p : Pair) → is_lt (pair_cmp a b) ≡ false → is_above (Some a) p ≡ (is_above (Some a) p && is_above (Some b) p)
+above_first a b p not_less = first_alone (is_above (Some a) p) (is_above (Some b) p) (by (pair_cmp a b) refl)
   where
-    by : (o : Ordering) → pair_cmp a b ≡ o → above (Some a) p ≡ true → above (Some b) p ≡ true
+    by : (o : Ordering) → pair_cmp a b ≡ o → is_above (Some a) p ≡ true → is_above (Some b) p ≡ true
     by Less is after = absurd (true≢false (sym (ap is_lt is) ∙ not_less))
     by Equal is after = ap is_lt (sym (pair_cmp_total.congr a b p is)) ∙ after
     by Greater is after = ap is_lt (pair_cmp_total.trans b a p (pair_cmp_total.antisymm b a ∙ ap ordering_reverse is) (is_less (pair_cmp a p) after))
 
-pub above_alone : (o : Option Pair) (p : Pair) → above o p ≡ (above o p && true)
-above_alone o p = first_alone (above o p) true (λ after. refl)
+pub above_alone : (o : Option Pair) (p : Pair) → is_above o p ≡ (is_above o p && true)
+above_alone o p = first_alone (is_above o p) true (λ after. refl)
 
 -- ---- keys before a key
 

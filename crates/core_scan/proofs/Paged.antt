@@ -9,10 +9,9 @@ use Rattle.std.specs.List.Sorted.{IsStrictlySortedBy}
 use Rattle.std.specs.Ordering.{is_lt}
 use Rattle.std.specs.declared.cmp.Ordering.TheVariants.{Less}
 use Rattle.std.specs.Prelude.{filter}
-use Rattle.record_values.specs.Orders.{pair_cmp}
+use Rattle.record_values.specs.Orders.{pair_cmp, is_above}
 use Rattle.record_values.specs.declared.pair.Pair.{Pair}
 use Rattle.model.specs.Table.{Index}
-use Rattle.core_model.specs.Steps.{above}
 use Rattle.core_scan.specs.Visible.{last_or, left_of, next_after, visible}
 use Rattle.core_scan.specs.declared.range.KeyRange.{KeyRange}
 use Rattle.core_scan.proofs.Filtered.{all_pass, all_take, all_weaker, filter_all, filter_within}
@@ -36,22 +35,22 @@ last_some : (p : Pair) (ps : List Pair) → last_or (Some p) ps ≡ None → ⊥
 last_some p [] none = no_pair p none
 last_some p (q ∷ ps) none = last_some q ps none
 
--- ---- pairs in order above a pair
+-- ---- pairs in order is_above a pair
 
 abbrev pub Rising : Option Pair → List Pair → Type 0
-Rising o ps = AllByRecursion (λ p. above o p ≡ true) ps × IsStrictlySortedBy pair_cmp ps
+Rising o ps = AllByRecursion (λ p. is_above o p ≡ true) ps × IsStrictlySortedBy pair_cmp ps
 
 -- behind the last of the first ones are the others
-rest_behind : (o : Option Pair) (n : ℕ) (ps : List Pair) → Rising o ps → filter (above (last_or o (take n ps))) ps ≡ drop n ps
+rest_behind : (o : Option Pair) (n : ℕ) (ps : List Pair) → Rising o ps → filter (is_above (last_or o (take n ps))) ps ≡ drop n ps
 unfolding IsStrictlySortedBy
-rest_behind o zero ps rising = filter_all (above o) ps rising.0
+rest_behind o zero ps rising = filter_all (is_above o) ps rising.0
 rest_behind o (suc n) [] rising = refl
 rest_behind o (suc n) (p ∷ ps) rising =
-    ap (λ b. cond b (p ∷ filter (above (last_or (Some p) (take n ps))) ps) (filter (above (last_or (Some p) (take n ps))) ps))
-    (last_is (λ l. above l p ≡ false) (Some p) (take n ps) (not_above_itself p)
-    (all_take (λ q. above (Some q) p ≡ false) n ps
-    (all_weaker (λ q. pair_cmp p q ≡ Less) (λ q. above (Some q) p ≡ false) (λ q less. not_above_later p q less) ps rising.1.0)))
-    ∙ rest_behind (Some p) n ps (all_weaker (λ q. pair_cmp p q ≡ Less) (λ q. above (Some p) q ≡ true) (λ q less. ap is_lt less) ps rising.1.0, rising.1.1)
+    ap (λ b. cond b (p ∷ filter (is_above (last_or (Some p) (take n ps))) ps) (filter (is_above (last_or (Some p) (take n ps))) ps))
+    (last_is (λ l. is_above l p ≡ false) (Some p) (take n ps) (not_above_itself p)
+    (all_take (λ q. is_above (Some q) p ≡ false) n ps
+    (all_weaker (λ q. pair_cmp p q ≡ Less) (λ q. is_above (Some q) p ≡ false) (λ q less. not_above_later p q less) ps rising.1.0)))
+    ∙ rest_behind (Some p) n ps (all_weaker (λ q. pair_cmp p q ≡ Less) (λ q. is_above (Some p) q ≡ true) (λ q less. ap is_lt less) ps rising.1.0, rising.1.1)
 
 -- pairs in order, and further ones behind their last, are in order
 pub rising_append : (o : Option Pair) (ps qs : List Pair) → Rising o ps → Rising (last_or o ps) qs → Rising o (ps ++ qs)
@@ -59,14 +58,14 @@ unfolding IsStrictlySortedBy
 rising_append o [] qs first further = further
 rising_append o (p ∷ ps) qs first further =
     let rest = rising_append (Some p) ps qs
-    (all_weaker (λ q. pair_cmp p q ≡ Less) (λ q. above (Some p) q ≡ true) (λ q less. ap is_lt less) ps first.1.0, first.1.1) further in (
+    (all_weaker (λ q. pair_cmp p q ≡ Less) (λ q. is_above (Some p) q ≡ true) (λ q less. ap is_lt less) ps first.1.0, first.1.1) further in (
       (
         first.0.0,
-        all_weaker (λ q. above (Some p) q ≡ true) (λ q. above o q ≡ true) (λ q later. above_later o p q first.0.0 (is_less (pair_cmp p q) later))
+        all_weaker (λ q. is_above (Some p) q ≡ true) (λ q. is_above o q ≡ true) (λ q later. above_later o p q first.0.0 (is_less (pair_cmp p q) later))
             (ps ++ qs) rest.0,
       ),
       (
-        all_weaker (λ q. above (Some p) q ≡ true) (λ q. pair_cmp p q ≡ Less) (λ q later. is_less (pair_cmp p q) later) (ps ++ qs) rest.0,
+        all_weaker (λ q. is_above (Some p) q ≡ true) (λ q. pair_cmp p q ≡ Less) (λ q later. is_less (pair_cmp p q) later) (ps ++ qs) rest.0,
         rest.1,
       ),
     )
@@ -78,27 +77,27 @@ take_sorted (suc n) [] sorted = tt
 take_sorted (suc n) (p ∷ ps) sorted = (all_take (λ q. pair_cmp p q ≡ Less) n ps sorted.0, take_sorted n ps sorted.1)
 
 pub rising_take : (o : Option Pair) (n : ℕ) (ps : List Pair) → Rising o ps → Rising o (take n ps)
-rising_take o n ps rising = (all_take (λ p. above o p ≡ true) n ps rising.0, take_sorted n ps rising.1)
+rising_take o n ps rising = (all_take (λ p. is_above o p ≡ true) n ps rising.0, take_sorted n ps rising.1)
 
 -- ---- what is left of a range
 
 module _ (index : Index) (range : KeyRange) (after : Option Pair) where
   pub rising_left : Rising after (left_of index range after)
   rising_left = (
-    all_pass (above after) (visible index range),
-    IsStrictlySortedBy-filter pair_cmp (above after) (visible index range) (visible_sorted index range),
+    all_pass (is_above after) (visible index range),
+    IsStrictlySortedBy-filter pair_cmp (is_above after) (visible index range) (visible_sorted index range),
   )
 
   module _ (limit : ℕ) where
-    further : (p : Pair) → above (last_or after (take limit (left_of index range after))) p ≡ true → above after p ≡ true
-    further = last_is (λ o. (p : Pair) → above o p ≡ true → above after p ≡ true) after (take limit (left_of index range after)) (λ p later. later)
-        (all_take (λ q. (p : Pair) → above (Some q) p ≡ true → above after p ≡ true) limit (left_of index range after)
-        (all_weaker (λ q. above after q ≡ true) (λ q. (p : Pair) → above (Some q) p ≡ true → above after p ≡ true) (λ q here p later.
+    further : (p : Pair) → is_above (last_or after (take limit (left_of index range after))) p ≡ true → is_above after p ≡ true
+    further = last_is (λ o. (p : Pair) → is_above o p ≡ true → is_above after p ≡ true) after (take limit (left_of index range after)) (λ p later. later)
+        (all_take (λ q. (p : Pair) → is_above (Some q) p ≡ true → is_above after p ≡ true) limit (left_of index range after)
+        (all_weaker (λ q. is_above after q ≡ true) (λ q. (p : Pair) → is_above (Some q) p ≡ true → is_above after p ≡ true) (λ q here p later.
         above_later after q p here (is_less (pair_cmp q p) later)) (left_of index range after) rising_left.0))
 
     -- behind the last pair of a page is left what the page left
     left_behind : left_of index range (last_or after (take limit (left_of index range after))) ≡ drop limit (left_of index range after)
-    left_behind = sym (filter_within (above (last_or after (take limit (left_of index range after)))) (above after) further (visible index range))
+    left_behind = sym (filter_within (is_above (last_or after (take limit (left_of index range after)))) (is_above after) further (visible index range))
         ∙ rest_behind after limit (left_of index range after) rising_left
 
 -- ---- the pair behind which to go on

@@ -4,7 +4,7 @@ use Rattle.std.proofs.lemmas.Bool.{cases_Bool, true≢false}
 use Rattle.std.proofs.lemmas.List.Elements.{All-head, All-tail, Contains-append_cases, Contains-append_left, Contains-append_right}
 use Rattle.record_values.specs.declared.pair.Pair.{Pair}
 use Rattle.model.specs.Table.{Index}
-use Rattle.core_model.specs.Steps.{above}
+use Rattle.record_values.specs.Orders.{is_above}
 use Rattle.core_scan.specs.Readings.{Reading, last, more}
 use Rattle.core_scan.specs.Visible.{left_of, visible}
 use Rattle.core_scan.specs.declared.range.KeyRange.{KeyRange}
@@ -12,7 +12,7 @@ use Rattle.core_scan.proofs.Filtered.{filter_has, has_first, has_later, kept_has
 use Rattle.core_scan.proofs.Paged.{Rising, next_is, page_more, rising_append, rising_left, rising_take}
 
 module _ (range : KeyRange) where
-  -- the pairs are in order, above the start
+  -- the pairs are in order, is_above the start
   pub reading_rises : (after : Option Pair) (seen : List Index) (pairs : List Pair) → Reading range after seen pairs → Rising after pairs
   reading_rises _ _ _ (last after index) = rising_left index range after
   reading_rises _ _ _ (more after index limit next seen pairs is rest) =
@@ -21,7 +21,7 @@ module _ (range : KeyRange) where
       (subst (λ o. Rising o pairs) (sym (next_is after limit (left_of index range after) next is)) (reading_rises (Some next) seen pairs rest))
 
   left_has : (index : Index) (after : Option Pair) (p : Pair) → Contains (left_of index range after) p → Contains (visible index range) p
-  left_has index after p = kept_has (above after) (visible index range) p
+  left_has index after p = kept_has (is_above after) (visible index range) p
 
   -- each was visible at its page
   pub reading_shows : (after : Option Pair) (seen : List Index) (pairs : List Pair) (p : Pair) → Reading range after seen pairs → Contains pairs p
@@ -34,18 +34,18 @@ module _ (range : KeyRange) where
       ]
 
   -- what was visible at every page has come
-  pub reading_has : (after : Option Pair) (seen : List Index) (pairs : List Pair) (p : Pair) → Reading range after seen pairs → above after p ≡ true
+  pub reading_has : (after : Option Pair) (seen : List Index) (pairs : List Pair) (p : Pair) → Reading range after seen pairs → is_above after p ≡ true
       → ((index : Index) → Contains seen index → Contains (visible index range) p) → Contains pairs p
-  reading_has _ _ _ p (last after index) behind each = filter_has (above after) (visible index range) p behind (each index (has_first index []))
+  reading_has _ _ _ p (last after index) behind each = filter_has (is_above after) (visible index range) p behind (each index (has_first index []))
   reading_has _ _ _ p (more after index limit next seen pairs is rest) behind each =
-      elim (cases_Bool (above (Some next) p)) [
+      elim (cases_Bool (is_above (Some next) p)) [
         | inl later ↦ Contains-append_right (take limit (left_of index range after)) pairs p
             (reading_has (Some next) seen pairs p rest later (λ other c. each other (has_later index seen other c)))
         | inr not_later ↦ elim (Contains-append_cases (take limit (left_of index range after)) (left_of index range (Some next)) p
             (subst (λ (ps : List Pair). Contains ps p) (page_more index range after limit next is)
-            (filter_has (above after) (visible index range) p behind (each index (has_first index seen))))) [
+            (filter_has (is_above after) (visible index range) p behind (each index (has_first index seen))))) [
               | inl here ↦ Contains-append_left (take limit (left_of index range after)) pairs p here
-              | inr past ↦ absurd (true≢false (sym (kept_passes (above (Some next)) (visible index range) p past) ∙ not_later))
+              | inr past ↦ absurd (true≢false (sym (kept_passes (is_above (Some next)) (visible index range) p past) ∙ not_later))
             ]
       ]
 

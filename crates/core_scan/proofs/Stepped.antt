@@ -10,12 +10,11 @@ use Rattle.std.specs.Ordering.{eq_by_cmp, is_eq, is_lt, ordering_reverse}
 use Rattle.std.specs.declared.cmp.Ordering.{Ordering}
 use Rattle.std.specs.declared.cmp.Ordering.TheVariants.{Equal, Greater, Less}
 use Rattle.record_values.specs.Maps.{pair_exact}
-use Rattle.record_values.specs.Orders.{pair_cmp, pair_cmp_total}
+use Rattle.record_values.specs.Orders.{pair_cmp, pair_cmp_total, is_above}
 use Rattle.record_values.specs.declared.pair.Mark.{Mark}
 use Rattle.record_values.specs.declared.pair.Pair.{Pair}
 use Rattle.model.specs.Table.{Index}
 use Rattle.btree_node.specs.Above.{IsAfter, IsLeastAbove}
-use Rattle.core_model.specs.Steps.{above}
 use Rattle.core_scan.specs.Ranges.{is_within}
 use Rattle.core_scan.specs.Visible.{is_live, is_shown, left_of, visible}
 use Rattle.core_scan.specs.declared.range.KeyRange.{KeyRange}
@@ -55,7 +54,7 @@ no_more (x ∷ xs) e = absurd (omega (arith, e))
 -- ---- the entries of a list that come after a pair
 
 abbrev pub past : Option Pair → List Entry → List Entry
-past last es = filter (λ e. above last e.0) es
+past last es = filter (λ e. is_above last e.0) es
 
 -- no entry of a pair before all of them
 pub none_below : (p : Pair) (es : List Entry) → T (below_all pair_cmp p es) → find pair_cmp p es ≡ None
@@ -69,7 +68,7 @@ below_more p q less (e ∷ es) h =
     both (is_lt (pair_cmp p e.0)) (below_all pair_cmp p es) (subst (λ o. T (is_lt o)) (sym rise) tt) (below_more p q less es (second _ _ h))
 
 -- all of them come after a pair before which none is
-all_past : (last : Option Pair) (p : Pair) → ((q : Pair) → pair_cmp p q ≡ Less → above last q ≡ true) → (es : List Entry) → T (below_all pair_cmp p es)
+all_past : (last : Option Pair) (p : Pair) → ((q : Pair) → pair_cmp p q ≡ Less → is_above last q ≡ true) → (es : List Entry) → T (below_all pair_cmp p es)
     → past last es ≡ es
 all_past last p after [] h = refl
 all_past last p after (e ∷ es) h =
@@ -86,25 +85,25 @@ found_first : (e : Entry) (es : List Entry) → find pair_cmp e.0 (e ∷ es) ≡
 found_first e es = ap (λ o. cond (is_eq o) (Some e.1) (find pair_cmp e.0 es)) (tied_itself pair_cmp_total e.0)
 
 -- where no pair after the last one has an entry, none is left
-nothing_past : (last : Option Pair) (es : List Entry) → ((q : Pair) → above last q ≡ true → find pair_cmp q es ≡ None) → past last es ≡ []
+nothing_past : (last : Option Pair) (es : List Entry) → ((q : Pair) → is_above last q ≡ true → find pair_cmp q es ≡ None) → past last es ≡ []
 nothing_past last [] none = refl
 nothing_past last (e ∷ es) none =
-    elim (cases_Bool (above last e.0)) [
+    elim (cases_Bool (is_above last e.0)) [
       | inl after ↦ absurd (no_mark e.1 (sym (found_first e es) ∙ none e.0 after))
       | inr before ↦ ap (λ b. cond b (e ∷ past last es) (past last es)) before
           ∙ nothing_past last es (λ q after. later_none (eq_by_cmp pair_cmp q e.0) e.1 (find pair_cmp q es) (none q after))
     ]
 
-module _ (last : Option Pair) (e : Entry) (after : above last e.0 ≡ true) where
+module _ (last : Option Pair) (e : Entry) (after : is_above last e.0 ≡ true) where
   abbrev IsLeastIn : List Entry → Type 0
-  IsLeastIn es = (q : Pair) → above last q ≡ true → pair_cmp q e.0 ≡ Less → find pair_cmp q es ≡ None
+  IsLeastIn es = (q : Pair) → is_above last q ≡ true → pair_cmp q e.0 ≡ Less → find pair_cmp q es ≡ None
 
   -- the entries after the last one begin with the least of them
   first_past : (es : List Entry) → T (is_sorted pair_cmp es) → find pair_cmp e.0 es ≡ Some e.1 → IsLeastIn es → past last es ≡ e ∷ past (Some e.0) es
   first_past [] sorted here none = absurd (no_mark e.1 (sym here))
   first_past (x ∷ es) sorted here none = by (first_past es (second _ _ sorted)) (pair_cmp e.0 x.0) refl
     where
-      keep : (o : Option Pair) (b : Bool) → above o x.0 ≡ b → past o (x ∷ es) ≡ cond b (x ∷ past o es) (past o es)
+      keep : (o : Option Pair) (b : Bool) → is_above o x.0 ≡ b → past o (x ∷ es) ≡ cond b (x ∷ past o es) (past o es)
       keep o b is = ap (λ t. cond t (x ∷ past o es) (past o es)) is
 
       here_by : (o : Ordering) → pair_cmp e.0 x.0 ≡ o → cond (is_eq o) (Some x.1) (find pair_cmp e.0 es) ≡ Some e.1
@@ -118,7 +117,7 @@ module _ (last : Option Pair) (e : Entry) (after : above last e.0 ≡ true) wher
           let mark : x.1 ≡ e.1 = same_mark x.1 e.1 (here_by Equal is) in
           let back : x.0 ≡ e.0 = sym same in
           let one : x ≡ e = λ i. (back i, mark i) in
-          let after_x : above last x.0 ≡ true = ap (above last) back ∙ after in
+          let after_x : is_above last x.0 ≡ true = ap (is_above last) back ∙ after in
           keep last true after_x
           ∙ ap (λ (y : Entry). y ∷ past last es) one
           ∙ ap (λ (ys : List Entry). e ∷ ys) (all_past last x.0 (λ q less. above_later last x.0 q after_x less) es (first _ _ sorted))
@@ -127,7 +126,7 @@ module _ (last : Option Pair) (e : Entry) (after : above last e.0 ≡ true) wher
           ∙ ap (λ (ys : List Entry). e ∷ ys) (sym (keep (Some e.0) false (ap is_lt is)))
       by rest Greater is =
           let less : pair_cmp x.0 e.0 ≡ Less = pair_cmp_total.antisymm x.0 e.0 ∙ ap ordering_reverse is in
-          elim (cases_Bool (above last x.0)) [
+          elim (cases_Bool (is_above last x.0)) [
             | inl past_it ↦ absurd (no_mark x.1 (sym (found_first x es) ∙ none x.0 past_it less))
             | inr before ↦ keep last false before
                 ∙ rest (here_by Greater is) (λ q past_it before_it. later_none (eq_by_cmp pair_cmp q x.0) x.1 (find pair_cmp q es) (none q past_it before_it))
@@ -136,25 +135,25 @@ module _ (last : Option Pair) (e : Entry) (after : above last e.0 ≡ true) wher
 
 -- ---- what is left of a range
 
-pub after_is : (last : Option Pair) (q : Pair) → IsAfter last q → above last q ≡ true
+pub after_is : (last : Option Pair) (q : Pair) → IsAfter last q → is_above last q ≡ true
 after_is None q after = refl
 after_is (Some l) q after = ap is_lt after
 
-is_after : (last : Option Pair) (q : Pair) → above last q ≡ true → IsAfter last q
+is_after : (last : Option Pair) (q : Pair) → is_above last q ≡ true → IsAfter last q
 is_after None q is = tt
 is_after (Some l) q is = is_less (pair_cmp l q) is
 
 module _ (index : Index) (range : KeyRange) where
   -- it is that of the entries which come after the pair
   left_is : (last : Option Pair) → left_of index range last ≡ map (λ (e : Entry). e.0) (filter (is_shown range) (past last (entries index)))
-  left_is last = filter-map (above last) (λ (e : Entry). e.0) (filter (is_shown range) (entries index))
-      ∙ ap (map (λ (e : Entry). e.0)) (filter_swap (λ (e : Entry). above last e.0) (is_shown range) (entries index))
+  left_is last = filter-map (is_above last) (λ (e : Entry). e.0) (filter (is_shown range) (entries index))
+      ∙ ap (map (λ (e : Entry). e.0)) (filter_swap (λ (e : Entry). is_above last e.0) (is_shown range) (entries index))
 
   -- of two pairs that are before the same pairs of the range the same is left
-  pub same_left : (one other : Option Pair) → ((p : Pair) → is_within range p.key ≡ true → above one p ≡ above other p)
+  pub same_left : (one other : Option Pair) → ((p : Pair) → is_within range p.key ≡ true → is_above one p ≡ is_above other p)
       → left_of index range one ≡ left_of index range other
   same_left one other same = left_is one
-      ∙ ap (map (λ (e : Entry). e.0)) (filter_under (is_shown range) (λ (e : Entry). above one e.0) (λ (e : Entry). above other e.0) (λ e shown.
+      ∙ ap (map (λ (e : Entry). e.0)) (filter_under (is_shown range) (λ (e : Entry). is_above one e.0) (λ (e : Entry). is_above other e.0) (λ e shown.
       same e.0 ((and_parts (is_live e.1) (is_within range e.0.key) shown).1)) (entries index))
       ∙ sym (left_is other)
 
@@ -194,7 +193,7 @@ module _ (index : Index) (range : KeyRange) where
     -- and where the next one is past the end, nothing is left
     pub past_left : true ≡ is_past_end key_cmp range.to e.0.key → left_of index range last ≡ []
     past_left past_end = hidden_left (sym (hidden e (sym past_end))) ∙ left_is (Some e.0)
-        ∙ ap (map (λ (x : Entry). x.0)) (filter_apart (is_shown range) (λ (x : Entry). above (Some e.0) x.0) (λ x later.
+        ∙ ap (map (λ (x : Entry). x.0)) (filter_apart (is_shown range) (λ (x : Entry). is_above (Some e.0) x.0) (λ x later.
         hidden x (past_later range.to e.0 x.0 (is_less (pair_cmp e.0 x.0) later) (sym past_end))) (entries index))
       where
         hidden : (x : Entry) → is_past_end key_cmp range.to x.0.key ≡ true → is_shown range x ≡ false
@@ -203,7 +202,7 @@ module _ (index : Index) (range : KeyRange) where
             (not_from_true (is_past_end key_cmp range.to x.0.key) is))
 
 -- all of a range is left where no pair is given
-every_pair : (ps : List Pair) → filter (above None) ps ≡ ps
+every_pair : (ps : List Pair) → filter (is_above None) ps ≡ ps
 every_pair [] = refl
 every_pair (p ∷ ps) = ap (λ (rest : List Pair). p ∷ rest) (every_pair ps)
 

@@ -6,7 +6,7 @@ use Rattle.record_values.specs.declared.pair.Mark.{Mark}
 use Rattle.record_values.specs.declared.pair.Mark.TheVariants.{Live, Marked}
 use Rattle.record_values.specs.declared.pair.Pair.{Pair}
 use Rattle.model.specs.Table.{Index}
-use Rattle.core_model.specs.Steps.{above}
+use Rattle.record_values.specs.Orders.{is_above}
 use Rattle.core_scan.specs.Ranges.{is_within}
 use Rattle.core_scan.specs.declared.range.KeyRange.{KeyRange}
 
@@ -25,7 +25,7 @@ visible index range = map (λ e. e.0) (filter (is_shown range) (entries index))
 
 -- what is left of the range behind a pair; all of it where none is given
 abbrev pub left_of : Index → KeyRange → Option Pair → List Pair
-left_of index range after = filter (above after) (visible index range)
+left_of index range after = filter (is_above after) (visible index range)
 
 -- the last of these pairs, or the one before them where there is none
 abbrev pub last_or : Option Pair → List Pair → Option Pair

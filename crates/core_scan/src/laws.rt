@@ -6,7 +6,7 @@ ghost use Rattle.record_values.specs.Orders.{pair_cmp};
 ghost use Rattle.record_values.specs.declared.pair.Mark.TheVariants.{Live};
 ghost use Rattle.record_values.specs.declared.pair.Pair.{Pair};
 ghost use Rattle.model.specs.Table.{Index};
-ghost use Rattle.core_model.specs.Steps.{above};
+ghost use Rattle.record_values.specs.Orders.{is_above};
 ghost use Rattle.core_scan.specs.Ranges.{is_within};
 ghost use Rattle.core_scan.specs.Readings.{Reading};
 ghost use Rattle.core_scan.specs.Visible.{left_of, next_after, visible};
@@ -40,7 +40,7 @@ pub fn each_reading()
         → Reading range after seen pairs → Contains pairs p
         → (entries : Index) × Contains seen entries × Contains (visible entries range) p }
     ensures steady { (range : KeyRange) (after : Option Pair) (seen : List Index) (pairs : List Pair) (p : Pair)
-        → Reading range after seen pairs → above after p ≡ true
+        → Reading range after seen pairs → is_above after p ≡ true
         → ((entries : Index) → Contains seen entries → Contains (visible entries range) p) → Contains pairs p }
     ensures unchanged { (range : KeyRange) (after : Option Pair) (seen : List Index) (pairs : List Pair)
         (entries : Index) → Reading range after seen pairs → All (λ other. other ≡ entries) seen

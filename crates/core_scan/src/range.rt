@@ -7,7 +7,7 @@ ghost use Rattle.std.specs.List.{starts_with};
 ghost use Rattle.std.specs.Ordering.{nat_cmp};
 ghost use Rattle.std.specs.declared.cmp.Ordering.TheVariants.{Less};
 ghost use Rattle.record_values.specs.declared.pair.Pair.{Pair};
-ghost use Rattle.core_model.specs.Steps.{above};
+ghost use Rattle.record_values.specs.Orders.{is_above};
 ghost use Rattle.core_scan.specs.Ranges.{IsKey, is_within};
 ghost use Rattle.core_scan.specs.Visible.{is_shown};
 
@@ -137,7 +137,7 @@ impl KeyRange {
     /// A pair before all of the range; none where no pair can be before it. (That it is next to the beginning, no
     /// clause says.)
     pub(crate) fn pair_before(&self) -> Option<Pair>
-        ensures { (p : Pair) → is_within self.now p.key ≡ true → above result p ≡ true }
+        ensures { (p : Pair) → is_within self.now p.key ≡ true → is_above result p ≡ true }
     {
         match self.from {
             Bound::Included(from) => before_key(&from),

@@ -5,7 +5,7 @@ ghost use Rattle.btree_node.specs.Above.{IsLeastAbove};
 ghost use Rattle.btree_node.specs.Runs.{IsRunAbove};
 ghost use Rattle.record_values.specs.declared.pair.Pair.{Pair};
 ghost use Rattle.model.specs.Table.{Index};
-ghost use Rattle.core_model.specs.Steps.{above};
+ghost use Rattle.record_values.specs.Orders.{is_above};
 ghost use Rattle.nsf_core.specs.Value.{value_of};
 ghost use Rattle.core_scan.specs.Visible.{left_of};
 
@@ -63,7 +63,7 @@ pub(crate) fn next_visible<'a, A: Allocator + Copy>(
 
 // The later of two pairs; none is before all.
 fn later(one: Option<Pair>, other: Option<Pair>) -> Option<Pair>
-    ensures { (p : Pair) → above result p ≡ (above one p && above other p) }
+    ensures { (p : Pair) → is_above result p ≡ (is_above one p && is_above other p) }
 {
     let Some(first) = one else {
         return other;

@@ -5,11 +5,11 @@ use Rattle.std.proofs.lemmas.Bool.Decides.{eqb_tells}
 use Rattle.std.proofs.lemmas.Option.{slice_get_within, slice_get-get_or}
 use Rattle.std.specs.declared.cmp.Ordering.TheVariants.{Less}
 use Rattle.std.specs.FinMap.{get, empty}
-use Rattle.record_values.specs.Values.{Place}
+use Rattle.record_values.specs.Values.{Place, is_among}
 use Rattle.record_values.specs.Orders.{rid_cmp}
 use Rattle.record_values.specs.declared.rid.TheConstants.{SLOTS_PER_PAGE}
 use Rattle.record_values.specs.declared.row.Row.{Row}
-use Rattle.heap_pages.specs.Slots.{Slots, is_among, IsFreeSlot, NoneFree}
+use Rattle.heap_pages.specs.Slots.{Slots, IsFreeSlot, NoneFree}
 use Rattle.heap_pages.specs.Pages.{HeapValue, AreFull, IsEmptyAndUnheld}
 use Rattle.heap_pages.proofs.Cells.{at}
 use Rattle.heap_pages.proofs.Held.{among_from-Contains, not_among}

@@ -5,9 +5,8 @@ use Rattle.std.proofs.lemmas.Bool.Decides.{eqb_tells}
 use Rattle.std.proofs.Math.Bool.{or-true, or-false}
 use Rattle.std.proofs.lemmas.Option.{slice_get_within, get_or_from_slice_get}
 use Rattle.std.proofs.lemmas.List.Folds.{list_any_more, list_any_at}
-use Rattle.record_values.specs.Values.{Place}
+use Rattle.record_values.specs.Values.{Place, is_among}
 use Rattle.record_values.specs.declared.rid.TheConstants.{SLOTS_PER_PAGE}
-use Rattle.heap_pages.specs.Slots.{is_among}
 use Rattle.heap_pages.proofs.Cells.{at}
 use Rattle.heap_pages.proofs.Writes.{get-set, get-set_other}
 

@@ -1,7 +1,5 @@
 -- What clauses see of a page.
 use Rattle.std.specs.Prelude.{◌≡◌, ℕ, zero, suc, ◌+◌, ◌<◌, Bool, false, List, [], ◌∷◌, Option, Some, None, slice_get}
-use Rattle.std.specs.Prelude.{◌==◌, ◌&&◌}
-use Rattle.std.specs.List.{list_any}
 use Rattle.std.specs.Ordering.{nat_cmp}
 use Rattle.std.specs.FinMap.{FinMap, code, get, from_sorted}
 use Rattle.std.specs.Coded.{Coded, coded_ℕ}
@@ -36,10 +34,6 @@ slots_from page i (suc n) = get page i ∷ slots_from page (i + 1) n
 -- the row or none in each slot of a page
 unfoldable pub slots_of : Slots → List (Option Row)
 slots_of page = slots_from page 0 SLOTS_PER_PAGE
-
--- whether the place is among these
-abbrev pub is_among : Place → List Place → Bool
-is_among r rs = list_any (λ q. (q.page == r.page) && (q.slot == r.slot)) rs
 
 -- the slot is empty and not held
 abbrev pub IsFreeSlot : Slots → List Bool → ℕ → Type 0

@@ -2,7 +2,8 @@
 ghost use Rattle.std.specs.Prelude.{◌≡◌, ◌<◌, ◌↔◌, ℕ, Some, None, IsTrue, IsSome, IfSome, MatchOption, slice_get};
 ghost use Rattle.std.specs.FinMap.{get, empty};
 ghost use Rattle.record_values.specs.Maps.{set_at};
-ghost use Rattle.heap_pages.specs.Slots.{is_among, IsFirstFree, NoneFree};
+ghost use Rattle.heap_pages.specs.Slots.{IsFirstFree, NoneFree};
+ghost use Rattle.record_values.specs.Values.{is_among};
 
 use crate::slot_set::SlotSet;
 use records::{Rid, Row, SLOTS_PER_PAGE};

@@ -1,9 +1,9 @@
 -- The orders of places and pairs: total, and only equal ones tie.
-use Rattle.std.specs.Prelude.{◌≡◌}
+use Rattle.std.specs.Prelude.{◌≡◌, Bool, true, Option, Some, None}
 use Rattle.std.proofs.Common.{refl}
 use Rattle.std.specs.declared.cmp.Ordering.{Ordering}
 use Rattle.std.specs.declared.cmp.Ordering.TheVariants.{Less, Equal, Greater}
-use Rattle.std.specs.Ordering.{nat_cmp, ordering_then}
+use Rattle.std.specs.Ordering.{is_lt, nat_cmp, ordering_then}
 use Rattle.std.specs.Cmp.{IsTotalOrder, nat_cmp_total, then_total, on_total}
 use Rattle.std.specs.Cmp.Lexicographic.{slice_cmp, nat_list_cmp_total}
 use Rattle.std.specs.FinMap.{IsAntisymmetric, nat_cmp-IsAntisymmetric, slice_cmp-IsAntisymmetric}
@@ -17,6 +17,11 @@ rid_cmp a b = ordering_then (nat_cmp a.page b.page) (nat_cmp a.slot b.slot)
 -- by key in byte order, a proper beginning first, then by place
 abbrev pub pair_cmp : Pair → Pair → Ordering
 pair_cmp a b = ordering_then (slice_cmp nat_cmp a.key b.key) (rid_cmp a.rid b.rid)
+
+-- whether a pair comes after this one: every pair does where there is none
+abbrev pub is_above : Option Pair → Pair → Bool
+is_above None q = true
+is_above (Some p) q = is_lt (pair_cmp p q)
 
 both_Equal : (a b : Ordering) → ordering_then a b ≡ Equal → (a ≡ Equal) × (b ≡ Equal)
 both_Equal Less b e = cc

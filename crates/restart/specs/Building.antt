@@ -1,7 +1,8 @@
 -- A build that goes on to its end.
 use Rattle.std.specs.List.{All}
 use Rattle.std.specs.Prelude.{Err, List, None, Ok, Option, Result, Some, ℕ, ◌+◌, [], ◌++◌, ◌↔◌, ◌∷◌, ◌≡◌, ◌≢◌, ◌≤◌, ◌⊎◌}
-use Rattle.std.specs.FinMap.{get, len}
+use Rattle.std.specs.FinMap.{get}
+use Rattle.marked_index.specs.Index.{IsFull}
 use Rattle.records.specs.RecordValue.{RecordValue}
 use Rattle.record_values.specs.declared.error.Error.{Error}
 use Rattle.record_values.specs.declared.pair.Mark.TheVariants.{Live}
@@ -129,7 +130,7 @@ pub record IsBuiltToEnd {D M : Type 0} (past_of : D
 
 -- each place of the index is taken by an entry, or reserved by a transaction
 abbrev pub IsIndexFull : CoreValue → Type 0
-IsIndexFull v = v.index.capacity ≤ len v.index.entries + v.index.pledged
+IsIndexFull v = IsFull v.index
 
 -- ---- what is built
 

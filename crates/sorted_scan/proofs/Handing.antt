@@ -7,10 +7,10 @@ use Rattle.std.specs.Option.{IfSome, IfNone}
 use Rattle.std.specs.Ordering.{is_lt}
 use Rattle.std.proofs.lemmas.Bool.{cases_Bool, or_cases}
 use Rattle.std.proofs.lemmas.List.Elements.{All-tail, All-contains, Contains-get_or}
-use Rattle.record_values.specs.Orders.{pair_cmp}
+use Rattle.record_values.specs.Orders.{pair_cmp, is_above}
 use Rattle.record_values.specs.declared.pair.Pair.{Pair}
 use Rattle.sorted_scan.specs.FullRuns.{MergeValue}
-use Rattle.sorted_scan.specs.Pairs.{is_above, least, AreSame, IsOnceEach, IsLow}
+use Rattle.sorted_scan.specs.Pairs.{least, AreSame, IsOnceEach, IsLow}
 use Rattle.sorted_scan.specs.Runs.{ScanStep, Took, HandedOut, ScanRun, with_step, takes, is_given, last_pair, AreInTurn, MayHandOut, IsAtEnd}
 use Rattle.sorted_scan.specs.Scans.{ScanValue, page_from, HasRun, IsSoundScan}
 use Rattle.sorted_scan.proofs.Order.{less_is, above_above, among_others, same_pair}

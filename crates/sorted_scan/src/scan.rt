@@ -4,7 +4,8 @@ ghost use Rattle.std.specs.Prelude.{OnErr, IfErr, IfSome, IfNone, IsTrue, false,
 ghost use Rattle.std.specs.List.Sorted.{IsStrictlyIncreasing};
 ghost use Rattle.record_values.specs.declared.pair.Pair.{Pair};
 ghost use Rattle.sorted_scan.specs.FullRuns.{full_run, AreFull, AreFullButOne};
-ghost use Rattle.sorted_scan.specs.Pairs.{is_above, AreSame};
+ghost use Rattle.sorted_scan.specs.Pairs.{AreSame};
+ghost use Rattle.record_values.specs.Orders.{is_above};
 ghost use Rattle.sorted_scan.specs.Runs.{ScanRun, Took, HandedOut, with_step, MayHandOut, IsAtEnd};
 ghost use Rattle.sorted_scan.specs.Scans.{begun, begun_run, page_from, next_of, HasRun};
 

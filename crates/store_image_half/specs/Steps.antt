@@ -16,7 +16,6 @@ use Rattle.record_values.specs.declared.error.Error.{Error}
 use Rattle.record_values.specs.declared.error.Error.TheVariants.{Damaged}
 use Rattle.model.specs.Table.{Table, Index}
 use Rattle.model.specs.Cells.{Pending}
-use Rattle.model.specs.Extended.{extended}
 use Rattle.store_image_parts.specs.declared.head.Head.{Head}
 use Rattle.store_image_parts.specs.declared.head.TheConstants.{HEAD_SIZE}
 use Rattle.store_image_parts.specs.declared.entry.TheConstants.{ENTRY_SIZE}
@@ -46,14 +45,6 @@ pub record HoldsLists (v : Version) (g : GeometryValue) (first : ℕ) (image : C
   pub heads-are : map head_of (finite.entries pending) ≡ heads
   pub each : (h : ℕ) (list : ℕ × List ChangeValue) → slice_get (finite.entries pending) h ≡ Some list
       → HoldsListIn v g first image h list.1
-
--- the table of these rows, and the index of these entries
-abbrev pub table_of : List (Place × Row) → Table
-table_of rows = extended finite.empty rows
-
--- the index of these entries
-abbrev pub index_of : List (Pair × Mark) → Index
-index_of entries = extended finite.empty entries
 
 -- no row is in a slot of the page
 abbrev pub AreRowsNone : List ℕ → Type 0

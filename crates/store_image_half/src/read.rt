@@ -11,7 +11,8 @@ ghost use Rattle.store_image_half.specs.Layout.{heads_at, page_at_in, entries_at
 ghost use Rattle.store_image_half.specs.Image.{IsHeaderIn, AreHeads, IsImageIn, HoldsListIn, no_cells};
 ghost use Rattle.store_image_half.specs.Damage.{SaysSomethingIn, TheHeader, TheHeads, IsHindered, IsUnreadIn};
 ghost use Rattle.store_image_half.specs.Steps.{HoldsLists, HoldsPages, HoldsEntries, IsItemRefused, AreListsRefused};
-ghost use Rattle.store_image_half.specs.Steps.{IsPageRefused, ArePagesRefused, AreEntriesRefused, table_of};
+ghost use Rattle.store_image_half.specs.Steps.{IsPageRefused, ArePagesRefused, AreEntriesRefused};
+ghost use Rattle.model.specs.Extended.{table_of};
 
 use crate::page::{page_at, read_bytes};
 use crate::parts::{entry_in, has_edges, header_in, heads_in, is_above, item_in, row_in};

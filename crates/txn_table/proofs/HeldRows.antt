@@ -4,9 +4,9 @@ use Rattle.std.proofs.Common.{is_some, nat_eq, ◌==◌, ◌&&◌, ◌||◌, tak
 use Rattle.std.proofs.Math.Bool.{or-false, or-true}
 use Rattle.std.proofs.lemmas.List.Folds.{list_any_at}
 use Rattle.std.specs.Map.{lookup, set_value}
-use Rattle.record_values.specs.Values.{Place}
+use Rattle.record_values.specs.Values.{Place, is_among}
 use Rattle.records.specs.ChangeValue.{ChangeValue}
-use Rattle.txn_table.specs.Table.{TxnState, is_among, with_rid, holder_of, without, change_noted}
+use Rattle.txn_table.specs.Table.{TxnState, with_rid, holder_of, without, change_noted}
 use Rattle.txn_table.specs.Held.{AreUpTo, place_number}
 use Rattle.txn_table.specs.Sound.{OneHolder, AreHeldRows}
 use Rattle.txn_table.proofs.Lookups.{place_test, is_among-append, not_among, among_more}

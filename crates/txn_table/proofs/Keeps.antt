@@ -4,11 +4,11 @@ use Rattle.std.proofs.Common.{Option, Some, None, nat_eq, ◌⊎◌, inl, inr, r
 use Rattle.std.proofs.lemmas.Bool.Decides.{eqb_tells}
 use Rattle.std.specs.Map.{lookup, set_value}
 use Rattle.indexmap.specs.IndexMap.{insert_entry}
-use Rattle.record_values.specs.Values.{Place}
+use Rattle.record_values.specs.Values.{Place, is_among}
 use Rattle.records.specs.ChangeValue.{ChangeValue}
 use Rattle.records.specs.declared.change.TheConstants.{CHANGES_MAX}
 use Rattle.record_values.specs.declared.txn.TheConstants.{TXNS_MAX}
-use Rattle.txn_table.specs.Table.{TxnState, TableValue, fresh_txn, is_among, with_rid, holder_of, with_next, without, change_noted, without_last, put_at}
+use Rattle.txn_table.specs.Table.{TxnState, TableValue, fresh_txn, with_rid, holder_of, with_next, without, change_noted, without_last, put_at}
 use Rattle.txn_table.specs.declared.progress.Progress.{Progress}
 use Rattle.txn_table.specs.Sound.{Rises, AllHeld, IsSoundTxn, EachSoundTxn, OneHolder, IsSoundTable, IsTableKept}
 use Rattle.txn_table.proofs.Lookups.{holder_above, not_among, among_kept, among_new, among_more}

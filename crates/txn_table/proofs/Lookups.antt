@@ -6,8 +6,8 @@ use Rattle.std.proofs.lemmas.Bool.{eqb-true}
 use Rattle.std.proofs.lemmas.List.Folds.{list_any-append}
 use Rattle.std.specs.Map.{lookup, set_value, values_of}
 use Rattle.indexmap.specs.IndexMap.{set_value_at}
-use Rattle.record_values.specs.Values.{Place}
-use Rattle.txn_table.specs.Table.{TxnState, is_among, with_rid, holder_of, with_state}
+use Rattle.record_values.specs.Values.{Place, is_among}
+use Rattle.txn_table.specs.Table.{TxnState, with_rid, holder_of, with_state}
 use Rattle.txn_table.specs.Places.{place_of}
 use Rattle.txn_table.specs.Sound.{Rises, OneHolder}
 

@@ -5,11 +5,11 @@ use Rattle.std.proofs.lemmas.Bool.{eqb-true}
 use Rattle.std.proofs.Math.Seq.{take-length, take-append_seam}
 use Rattle.std.specs.Option.{option_or}
 use Rattle.std.specs.Map.{lookup, set_value}
-use Rattle.record_values.specs.Values.{Place}
+use Rattle.record_values.specs.Values.{Place, is_among}
 use Rattle.records.specs.ChangeValue.{ChangeValue}
 use Rattle.records.specs.declared.change.TheConstants.{CHANGES_MAX}
 use Rattle.record_values.specs.declared.error.Error.TheVariants.{NoSuchTxn, TooManyChanges, RowBusy}
-use Rattle.txn_table.specs.Table.{TxnState, TableValue, is_among, with_rid, holder_of, with_state, change_noted, without_last, put_at, is_other, full_refusal}
+use Rattle.txn_table.specs.Table.{TxnState, TableValue, with_rid, holder_of, with_state, change_noted, without_last, put_at, is_other, full_refusal}
 use Rattle.txn_table.specs.Table.{busy_refusal, touch_refusal}
 use Rattle.txn_table.specs.declared.progress.Progress.{Progress}
 use Rattle.txn_table.specs.Sound.{IsTableKept, Rises}

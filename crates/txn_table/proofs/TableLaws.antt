@@ -3,9 +3,9 @@ use Rattle.std.proofs.Common.{◌≡◌, ◌≢◌, ℕ, ◌+◌, ◌≤◌, Boo
 use Rattle.std.proofs.Common.{eqb, ◌==◌, ◌||◌}
 use Rattle.std.proofs.Math.Bool.{or-false}
 use Rattle.std.proofs.lemmas.Bool.Decides.{eqb_tells}
-use Rattle.record_values.specs.Values.{Place}
+use Rattle.record_values.specs.Values.{Place, is_among}
 use Rattle.records.specs.ChangeValue.{ChangeValue}
-use Rattle.txn_table.specs.Table.{TxnState, TableValue, is_among, with_rid, change_noted, without_last, put_at, state_of, with_state, without, with_next}
+use Rattle.txn_table.specs.Table.{TxnState, TableValue, with_rid, change_noted, without_last, put_at, state_of, with_state, without, with_next}
 use Rattle.txn_table.specs.Table.{holder_of}
 use Rattle.txn_table.specs.declared.progress.Progress.{Progress}
 use Rattle.txn_table.specs.Sound.{Rises, OneHolder, IsSoundTable}

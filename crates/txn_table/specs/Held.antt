@@ -1,8 +1,7 @@
 -- The order of places, and places up to one of them.
 use Rattle.std.specs.Prelude.{◌≡◌, ℕ, ◌+◌, ◌*◌, ◌≤◌, List, true}
-use Rattle.record_values.specs.Values.{Place}
+use Rattle.record_values.specs.Values.{Place, is_among}
 use Rattle.record_values.specs.declared.rid.TheConstants.{SLOTS_PER_PAGE}
-use Rattle.txn_table.specs.Table.{is_among}
 
 -- how many places of a table are before this one
 abbrev pub place_number : Place → ℕ

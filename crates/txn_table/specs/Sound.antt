@@ -1,10 +1,10 @@
 -- What holds of every table.
 use Rattle.std.specs.Prelude.{◌≡◌, ℕ, ◌<◌, ◌≤◌, List, [], ◌∷◌, length, None, true, is_some}
-use Rattle.record_values.specs.Values.{Place}
+use Rattle.record_values.specs.Values.{Place, is_among}
 use Rattle.records.specs.ChangeValue.{ChangeValue}
 use Rattle.records.specs.declared.change.TheConstants.{CHANGES_MAX}
 use Rattle.record_values.specs.declared.txn.TheConstants.{TXNS_MAX}
-use Rattle.txn_table.specs.Table.{TxnState, TableValue, is_among, holder_of}
+use Rattle.txn_table.specs.Table.{TxnState, TableValue, holder_of}
 
 -- the numbers rise, above the first bound and up to the second
 abbrev pub Rises : ℕ → List (ℕ × TxnState) → ℕ → Type 0

@@ -1,10 +1,9 @@
 -- What clauses see of the table: the active transactions in the order in which they began.
 use Rattle.std.specs.Prelude.{ℕ, ◌+◌, ◌-◌, List, [], ◌∷◌, ◌++◌, length, take, Option, Some, None, Bool, true, false}
-use Rattle.std.specs.Prelude.{not, nat_eq, nat_le, ◌==◌, ◌&&◌, if◌then◌else◌, slice_get}
-use Rattle.std.specs.List.{list_any}
+use Rattle.std.specs.Prelude.{not, nat_eq, nat_le, ◌==◌, if◌then◌else◌, slice_get}
 use Rattle.std.specs.Option.{option_or}
 use Rattle.std.specs.Map.{lookup, remove_entry}
-use Rattle.record_values.specs.Values.{Place}
+use Rattle.record_values.specs.Values.{Place, is_among}
 use Rattle.records.specs.ChangeValue.{ChangeValue}
 use Rattle.records.specs.declared.change.TheConstants.{CHANGES_MAX}
 use Rattle.record_values.specs.declared.error.Error.{Error}
@@ -38,10 +37,6 @@ fresh_txn = record { changes = []; rows = []; progress = Ready; reserved = 0 }
 pub record TableValue : Type 0 where
   pub active : List (ℕ × TxnState)
   pub begun : ℕ
-
--- whether the place is among these
-abbrev pub is_among : Place → List Place → Bool
-is_among r rs = list_any (λ q. (q.page == r.page) && (q.slot == r.slot)) rs
 
 -- these places, with this one last where it is new
 abbrev pub with_rid : Place → List Place → List Place

@@ -1,6 +1,7 @@
 //! One active transaction.
 ghost use Rattle.std.specs.Prelude.{◌≡◌, ◌↔◌, ◌≤◌, [], IsTrue, IfErr, OnOk, OnErr, length};
-ghost use Rattle.txn_table.specs.Table.{has_any, is_among, fresh_txn, change_noted, without_last, last_change, put_at};
+ghost use Rattle.txn_table.specs.Table.{has_any, fresh_txn, change_noted, without_last, last_change, put_at};
+ghost use Rattle.record_values.specs.Values.{is_among};
 
 use crate::progress::Progress;
 use records::{CHANGES_MAX, Change, Error, Rid};

@@ -1,7 +1,8 @@
 //! The rows that somebody holds.
 ghost use Rattle.std.specs.Prelude.{◌≡◌, [], ◌≤◌, take, length, not, filter, false, IsTrue, IfErr, OnOk, OnErr};
 ghost use Rattle.std.specs.Prelude.{if◌then◌else◌};
-ghost use Rattle.txn_table.specs.Table.{is_among, with_rid};
+ghost use Rattle.record_values.specs.Values.{is_among};
+ghost use Rattle.txn_table.specs.Table.{with_rid};
 ghost use Rattle.txn_table.specs.Held.{place_number};
 
 use crate::active::ActiveTxn;

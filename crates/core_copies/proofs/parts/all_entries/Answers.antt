@@ -3,12 +3,11 @@ use Rattle.std.specs.FinMap.{empty}
 use Rattle.record_values.specs.Orders.{pair_cmp}
 use Rattle.record_values.specs.declared.pair.Mark.{Mark}
 use Rattle.record_values.specs.declared.pair.Pair.{Pair}
-use Rattle.model.specs.Extended.{extended}
+use Rattle.model.specs.Extended.{extended, index_of}
 use Rattle.model.specs.Table.{Index}
 use Rattle.model.proofs.ExtendedLaws.{extended_more}
 use Rattle.btree_node.specs.Runs.{IsRunAbove}
 use Rattle.nsf_core.specs.Value.{value_of}
-use Rattle.core_copies.specs.Private.{index_of}
 use Rattle.core_copies.proofs.Chunks.{no_more}
 use Rattle.core_copies.proofs.Copied.{AreUpTo, none_copied, one_put, whole_copied}
 use Rattle.core_parts.proofs.Walked.{fewer_left}

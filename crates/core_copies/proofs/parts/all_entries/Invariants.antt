@@ -1,7 +1,7 @@
 use Rattle.std.proofs.Common.{None}
 use Rattle.btree_node.specs.Runs.{IsRunAbove}
 use Rattle.nsf_core.specs.Value.{value_of}
-use Rattle.core_copies.specs.Private.{index_of}
+use Rattle.model.specs.Extended.{index_of}
 use Rattle.core_copies.proofs.Copied.{AreUpTo}
 use Rattle.core_parts.proofs.Walked.{left_above}
 use Rattle.core_copies.proofs.parts.all_entries.Given as goal

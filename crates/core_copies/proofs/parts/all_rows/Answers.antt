@@ -1,8 +1,7 @@
 use Rattle.std.proofs.Common.{ap, arith, subst, sym, ◌∙◌, ◌≡◌}
-use Rattle.model.specs.Extended.{extended}
+use Rattle.model.specs.Extended.{extended, table_of}
 use Rattle.model.specs.Table.{Table}
 use Rattle.nsf_core.specs.Value.{value_of}
-use Rattle.core_copies.specs.Private.{table_of}
 use Rattle.core_copies.proofs.Paged.{AreRowsTo, all_pages, no_rows, page_more}
 use Rattle.core_copies.proofs.parts.all_rows.Goals as goal
 

@@ -1,5 +1,5 @@
 use Rattle.nsf_core.specs.Value.{value_of}
-use Rattle.core_copies.specs.Private.{table_of}
+use Rattle.model.specs.Extended.{table_of}
 use Rattle.core_copies.proofs.Paged.{AreRowsTo}
 use Rattle.core_copies.proofs.parts.all_rows.Given as goal
 

@@ -1,7 +1,7 @@
 use Rattle.std.proofs.Common.{arith, refl, subst, ◌≡◌}
 use Rattle.record_values.specs.declared.rid.TheConstants.{SLOTS_PER_PAGE}
 use Rattle.nsf_core.specs.Value.{value_of}
-use Rattle.core_copies.specs.Private.{table_of}
+use Rattle.model.specs.Extended.{table_of}
 use Rattle.core_copies.proofs.Paged.{ArePutTo, one_put, page_put}
 use Rattle.core_copies.proofs.parts.put_page.Goals as goal
 

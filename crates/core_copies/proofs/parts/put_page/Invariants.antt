@@ -1,5 +1,5 @@
 use Rattle.nsf_core.specs.Value.{value_of}
-use Rattle.core_copies.specs.Private.{table_of}
+use Rattle.model.specs.Extended.{table_of}
 use Rattle.core_copies.proofs.Paged.{ArePutTo}
 use Rattle.core_copies.proofs.parts.put_page.Given as goal
 

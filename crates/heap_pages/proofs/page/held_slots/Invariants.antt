@@ -1,6 +1,6 @@
 use Rattle.std.proofs.Common.{◌≡◌, ℕ, ◌<◌, Some, slice_get, take}
 use Rattle.record_values.specs.declared.rid.TheConstants.{SLOTS_PER_PAGE}
-use Rattle.heap_pages.specs.Slots.{is_among}
+use Rattle.record_values.specs.Values.{is_among}
 use Rattle.heap_pages.proofs.page.held_slots.Given as goal
 
 abbrev pub invariant-loop-rid : goal.invariant-loop-rid

@@ -6,7 +6,7 @@ use Rattle.record_values.specs.Orders.{rid_cmp}
 use Rattle.record_values.specs.declared.row.Row.{Row}
 use Rattle.model.specs.Table.{Table}
 use Rattle.model.proofs.ExtendedLaws.{extended_more}
-use Rattle.store_image_half.specs.Steps.{table_of}
+use Rattle.model.specs.Extended.{table_of}
 use Rattle.store_image_half.proofs.read.add_row.Goals as goal
 
 pub returns-in_ok-push-in-Some : goal.returns-in_ok-push-in-Some

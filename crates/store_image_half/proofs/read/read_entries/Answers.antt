@@ -10,7 +10,7 @@ use Rattle.record_values.specs.declared.pair.Mark.{Mark}
 use Rattle.record_values.specs.declared.error.Error.TheVariants.{Damaged}
 use Rattle.model.specs.Table.{Index}
 use Rattle.model.specs.Cells.{Cells}
-use Rattle.model.specs.Extended.{extended}
+use Rattle.model.specs.Extended.{extended, index_of}
 use Rattle.model.proofs.ExtendedLaws.{extended_more}
 use Rattle.sector_device.specs.Disk.{Disk, sector}
 use Rattle.sector_device.proofs.Within.{reads_none, reads_then}
@@ -18,7 +18,7 @@ use Rattle.record_values.specs.Version.{entries_per_sector}
 use Rattle.store_image_parts.specs.Spelling.{entry_size}
 use Rattle.store_image_half.specs.Layout.{entries_at_in, sector_of_piece}
 use Rattle.store_image_half.specs.Image.{IsEntryIn}
-use Rattle.store_image_half.specs.Steps.{HoldsEntries, IsLastPair, index_of}
+use Rattle.store_image_half.specs.Steps.{HoldsEntries, IsLastPair}
 use Rattle.store_image_half.proofs.Growing.{no_entry, entries_more, last_more}
 use Rattle.store_image_half.proofs.Sound.{entries_sound}
 use Rattle.store_image_half.proofs.Refusing.{later_than, not_fewer, refuses_later}

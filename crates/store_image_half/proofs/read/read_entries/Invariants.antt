@@ -3,7 +3,8 @@ use Rattle.sector_device.specs.Disk.{sector}
 use Rattle.sector_device.specs.DevicePast.{OnlyReads}
 use Rattle.record_values.specs.Version.{entries_per_sector}
 use Rattle.store_image_half.specs.Layout.{entries_at_in, sector_of_piece}
-use Rattle.store_image_half.specs.Steps.{HoldsEntries, IsLastPair, index_of}
+use Rattle.store_image_half.specs.Steps.{HoldsEntries, IsLastPair}
+use Rattle.model.specs.Extended.{index_of}
 use Rattle.store_image_half.proofs.read.read_entries.Given as goal
 
 abbrev pub invariant-loop-n : goal.invariant-loop-n

@@ -9,7 +9,8 @@ use Rattle.model.specs.Table.{Table}
 use Rattle.sector_device.specs.Disk.{CrashState}
 use Rattle.store_image_half.specs.Layout.{page_at_in, bytes_of, page_bytes_in, row_of}
 use Rattle.store_image_half.specs.Image.{HasEdges, IsRowIn}
-use Rattle.store_image_half.specs.Steps.{HoldsSlots, table_of}
+use Rattle.store_image_half.specs.Steps.{HoldsSlots}
+use Rattle.model.specs.Extended.{table_of}
 use Rattle.store_image_half.proofs.Growing.{no_slots, slots_more, page_more}
 use Rattle.store_image_half.proofs.Places.{page_inside}
 use Rattle.store_image_half.proofs.read.read_page.Goals as goal

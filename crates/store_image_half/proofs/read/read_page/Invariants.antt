@@ -1,5 +1,6 @@
 use Rattle.std.proofs.Common.{◌≡◌}
-use Rattle.store_image_half.specs.Steps.{HoldsSlots, table_of}
+use Rattle.store_image_half.specs.Steps.{HoldsSlots}
+use Rattle.model.specs.Extended.{table_of}
 use Rattle.store_image_half.proofs.read.read_page.Given as goal
 
 abbrev pub invariant-loop-slot : goal.invariant-loop-slot

@@ -5,11 +5,11 @@ use Rattle.record_values.specs.Values.{Place}
 use Rattle.record_values.specs.declared.row.Row.{Row}
 use Rattle.model.specs.Table.{Table}
 use Rattle.model.specs.Cells.{Cells}
-use Rattle.model.specs.Extended.{extended}
+use Rattle.model.specs.Extended.{extended, table_of}
 use Rattle.sector_device.specs.Disk.{Disk, CrashState}
 use Rattle.sector_device.proofs.Within.{reads_none, reads_then}
 use Rattle.store_image_half.specs.Layout.{entries_at_in}
-use Rattle.store_image_half.specs.Steps.{HoldsPages, table_of}
+use Rattle.store_image_half.specs.Steps.{HoldsPages}
 use Rattle.store_image_half.proofs.Growing.{no_pages}
 use Rattle.store_image_half.proofs.Refusing.{page_refused, later_than, not_fewer}
 use Rattle.store_image_half.proofs.read.read_pages.Goals as goal

@@ -1,6 +1,7 @@
 use Rattle.std.proofs.Common.{◌≡◌}
 use Rattle.sector_device.specs.DevicePast.{OnlyReads}
-use Rattle.store_image_half.specs.Steps.{HoldsPages, table_of}
+use Rattle.store_image_half.specs.Steps.{HoldsPages}
+use Rattle.model.specs.Extended.{table_of}
 use Rattle.store_image_half.proofs.read.read_pages.Given as goal
 
 abbrev pub invariant-loop-page : goal.invariant-loop-page

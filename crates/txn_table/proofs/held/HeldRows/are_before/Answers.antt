@@ -1,6 +1,6 @@
 use Rattle.std.proofs.Common.{sym, ap, ◌∙◌, arith}
 use Rattle.std.proofs.lemmas.Bool.{ltb-true}
-use Rattle.txn_table.specs.Table.{is_among}
+use Rattle.record_values.specs.Values.{is_among}
 use Rattle.txn_table.proofs.HeldRows.{not_before}
 use Rattle.txn_table.proofs.held.HeldRows.are_before.Goals as goal
 

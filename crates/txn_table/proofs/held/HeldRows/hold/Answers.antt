@@ -1,7 +1,7 @@
 use Rattle.std.proofs.Common.{◌≡◌, false, cond, List, ◌++◌, ◌∷◌, [], sym, ap, subst, ◌∙◌, arith}
 use Rattle.std.proofs.lemmas.Result.{err_from_is_err_and}
-use Rattle.record_values.specs.Values.{Place}
-use Rattle.txn_table.specs.Table.{is_among, with_rid}
+use Rattle.record_values.specs.Values.{Place, is_among}
+use Rattle.txn_table.specs.Table.{with_rid}
 use Rattle.txn_table.specs.Held.{AreUpTo}
 use Rattle.txn_table.proofs.HeldRows.{up_to_more}
 use Rattle.txn_table.proofs.held.HeldRows.hold.Goals as goal

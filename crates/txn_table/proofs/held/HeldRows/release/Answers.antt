@@ -1,6 +1,6 @@
 use Rattle.std.proofs.Common.{cond, filter, not, [], sym, ap, ◌∙◌, rules}
 use Rattle.std.proofs.lemmas.Fn.{filter_same}
-use Rattle.txn_table.specs.Table.{is_among}
+use Rattle.record_values.specs.Values.{is_among}
 use Rattle.txn_table.proofs.HeldRows.{up_to_none, up_to_left}
 use Rattle.txn_table.proofs.held.HeldRows.release.Goals as goal
 

@@ -1,5 +1,6 @@
 use Rattle.std.proofs.Common.{is_some, sym, ap, ◌∙◌}
-use Rattle.txn_table.specs.Table.{TableValue, is_among, holder_of}
+use Rattle.txn_table.specs.Table.{TableValue, holder_of}
+use Rattle.record_values.specs.Values.{is_among}
 use Rattle.txn_table.proofs.HeldRows.{among_from-Contains, Contains-from_among}
 use Rattle.txn_table.proofs.table.TxnTable.held_rows.Goals as goal
 

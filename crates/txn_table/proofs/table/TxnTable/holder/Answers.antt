@@ -1,6 +1,7 @@
 use Rattle.std.proofs.Common.{rules, ◌≡◌, ◌+◌, ◌≤◌, cond, true, false, suc, drop, length, slice_get, Some, sym, ap, subst, ◌∙◌, arith}
 use Rattle.std.proofs.Math.ListN.{drop_of_length-le}
-use Rattle.txn_table.specs.Table.{TableValue, is_among, holder_of}
+use Rattle.txn_table.specs.Table.{TableValue, holder_of}
+use Rattle.record_values.specs.Values.{is_among}
 use Rattle.txn_table.specs.Sound.{OneHolder}
 use Rattle.txn_table.proofs.Lookups.{holder_of-drop, holder_is}
 use Rattle.txn_table.proofs.HeldRows.{among_from-Contains}
