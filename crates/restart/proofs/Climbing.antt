@@ -1,4 +1,4 @@
--- Why a build comes to its end: an attempt leaves one entry above it less, or one free place less.
+-- Why a build comes to its end: an attempt leaves one entry is_above it less, or one free place less.
 use Rattle.std.proofs.Common.{Bool, List, None, Option, Some, [], ap, arith, cond, false, is_some, nat_le, refl, subst, sym, true, ℕ, ◌*◌, ◌+◌, ◌-◌, ◌<◌, ◌∙◌}
 use Rattle.std.proofs.Common.{◌∷◌, ◌≡◌, ◌≤◌}
 use Rattle.std.proofs.Math.Nat.{mul-le-mul_left}
@@ -10,7 +10,7 @@ use Rattle.std.specs.Ordering.{eq_by_cmp, is_lt}
 use Rattle.std.specs.declared.cmp.Ordering.{Ordering}
 use Rattle.std.specs.declared.cmp.Ordering.TheVariants.{Equal, Greater, Less}
 use Rattle.record_values.specs.Maps.{key_is, pair_exact, set_at}
-use Rattle.record_values.specs.Orders.{pair_cmp, pair_cmp_total}
+use Rattle.record_values.specs.Orders.{pair_cmp, pair_cmp_total, is_above}
 use Rattle.record_values.specs.declared.limits.TheConstants.{ATTEMPTS_PER_CHECKPOINT}
 use Rattle.record_values.specs.declared.pair.Mark.{Mark}
 use Rattle.record_values.specs.declared.pair.Mark.TheVariants.{Live, Marked}
@@ -18,14 +18,13 @@ use Rattle.record_values.specs.declared.pair.Pair.{Pair}
 use Rattle.model.specs.KeyActions.{after_action}
 use Rattle.model.specs.Table.{Index}
 use Rattle.model.specs.declared.key_action.KeyAction.TheVariants.{BuildPut}
-use Rattle.core_model.specs.Steps.{above}
 
 less_is : (o : Ordering) → is_lt o ≡ true → o ≡ Less
 less_is Less e = refl
 less_is Equal e = absurd (false≢true e)
 less_is Greater e = absurd (false≢true e)
 
-above_both : (b : Option Pair) (p q : Pair) → above b p ≡ true → above (Some p) q ≡ true → above b q ≡ true
+above_both : (b : Option Pair) (p q : Pair) → is_above b p ≡ true → is_above (Some p) q ≡ true → is_above b q ≡ true
 above_both None p q h k = refl
 above_both (Some b) p q h k = ap is_lt (pair_cmp_total.trans b p q (less_is _ h) (less_is _ k))
 
@@ -34,9 +33,9 @@ abbrev pub passing : (Pair → Bool) → List (Pair × Mark) → ℕ
 passing test [] = 0
 passing test (e ∷ es) = cond (test e.0) 1 0 + passing test es
 
--- how many entries lie above a pair
+-- how many entries lie is_above a pair
 abbrev pub entries_above : Index → Option Pair → ℕ
-entries_above index bound = passing (above bound) (entries index)
+entries_above index bound = passing (is_above bound) (entries index)
 
 weaker_test : (a b : Bool) (m n : ℕ) → (a ≡ true → b ≡ true) → m ≤ n → cond a 1 0 + m ≤ cond b 1 0 + n
 weaker_test true true m n h le = omega (arith, le)
@@ -86,16 +85,16 @@ put_apart f p mark out (e ∷ es) = put_apart_at f p mark out e es (put_apart f 
 
 -- ---- an attempt
 
-module _ (index : Index) (bound : Option Pair) (p : Pair) (rising : above bound p ≡ true) where
-  passed : (q : Pair) → above (Some p) q ≡ true → above bound q ≡ true
+module _ (index : Index) (bound : Option Pair) (p : Pair) (rising : is_above bound p ≡ true) where
+  passed : (q : Pair) → is_above (Some p) q ≡ true → is_above bound q ≡ true
   passed q later = above_both bound p q rising later
 
-  itself : above (Some p) p ≡ false
+  itself : is_above (Some p) p ≡ false
   itself = ap is_lt (tied_itself pair_cmp_total p)
 
-  put_in : (mark : Mark) → entries_above (insert index p mark) (Some p) ≤ passing (above (Some p)) (entries index)
-  put_in mark = subst (λ es. passing (above (Some p)) es ≤ passing (above (Some p)) (entries index)) (sym (entries-insert pair_cmp_total index p mark))
-      (put_apart (above (Some p)) p mark itself (entries index))
+  put_in : (mark : Mark) → entries_above (insert index p mark) (Some p) ≤ passing (is_above (Some p)) (entries index)
+  put_in mark = subst (λ es. passing (is_above (Some p)) es ≤ passing (is_above (Some p)) (entries index)) (sym (entries-insert pair_cmp_total index p mark))
+      (put_apart (is_above (Some p)) p mark itself (entries index))
 
   len_new : (mark : Mark) → len (insert index p mark) ≡ cond (is_some (get index p)) (len index) (len index + 1)
   len_new mark = len-insert pair_cmp_total index p mark
@@ -105,17 +104,23 @@ module _ (index : Index) (bound : Option Pair) (p : Pair) (rising : above bound 
       (places - len index) + entries_above index bound
   attempt_falls_by places None none room =
       let longer : len (insert index p Live) ≡ len index + 1 = len_new Live ∙ ap (λ o. cond (is_some o) (len index) (len index + 1)) none in
-      omega (arith, longer, room refl, put_in Live, fewer (above (Some p)) (above bound) passed (entries index))
+      omega (arith, longer, room refl, put_in Live, fewer (is_above (Some p)) (is_above bound) passed (entries index))
   attempt_falls_by places (Some Live) there room =
       let same : len (insert index p Live) ≡ len index = len_new Live ∙ ap (λ o. cond (is_some o) (len index) (len index + 1)) there in
-      omega (arith, same, put_in Live, one_fewer (above (Some p)) (above bound) passed p itself rising (entries index) Live (sym (get-entries index p) ∙ there))
+      omega (
+        arith,
+        same,
+        put_in Live,
+        one_fewer (is_above (Some p)) (is_above bound) passed p itself rising (entries index) Live
+            (sym (get-entries index p) ∙ there),
+      )
   attempt_falls_by places (Some Marked) there room =
       let same : len (insert index p Marked) ≡ len index = len_new Marked ∙ ap (λ o. cond (is_some o) (len index) (len index + 1)) there in
       omega (
         arith,
         same,
         put_in Marked,
-        one_fewer (above (Some p)) (above bound) passed p itself rising (entries index) Marked (sym (get-entries index p)
+        one_fewer (is_above (Some p)) (is_above bound) passed p itself rising (entries index) Marked (sym (get-entries index p)
             ∙ there),
       )
 
@@ -146,7 +151,7 @@ module _ (pages places : ℕ) (index : Index) (bound : Option Pair) (tried scann
       ((places - len index) + entries_above index bound) + (cond b (pages + 1) 0 + (pages - scanned)))
       (sym (le-leb ATTEMPTS_PER_CHECKPOINT tried many)) (omega arith)
 
-  pub attempt_falls : (p : Pair) → above bound p ≡ true → (get index p ≡ None → len index < places)
+  pub attempt_falls : (p : Pair) → is_above bound p ≡ true → (get index p ≡ None → len index < places)
       → work pages places (set_at index p (after_action BuildPut (get index p))) (Some p) (tried + 1) 0 < work pages places index bound tried scanned
   attempt_falls p rising room =
       fewer_attempts (2 * pages + 2) _ _ _ _ (attempt_falls_by index bound p rising places (get index p) refl room)

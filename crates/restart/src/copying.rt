@@ -25,12 +25,13 @@ pub fn copies_flip<D: Device, A: Allocator>()
 impl<D: Device, A: Allocator + Copy> EngineParts<D, A> {
     ghost use Rattle.store_image_model.specs.declared.chunk.CopyPlace.{CopyPlace};
     ghost use Rattle.store_writer.specs.Copying.{next_place};
+    ghost use Rattle.store_writer.specs.Writer.{MayPass};
     ghost use Rattle.store_writer.specs.declared.copying.Copying.TheVariants.{Steps, GivenUp};
     ghost use Rattle.restart.specs.declared.event.Event.TheVariants as event;
     ghost use Rattle.restart.specs.Copies.{IsCopyAnswer};
     ghost use Rattle.restart.specs.Groups.{CopiesByGroups, WritesByGroups};
     ghost use Rattle.restart.specs.Handing.{FlushesFirst, MovesOn};
-    ghost use Rattle.restart.specs.Parts.{copying_of, has_failed, unhanded, writer_of};
+    ghost use Rattle.restart.specs.Parts.{copying_of, device_of, has_failed, unhanded, writer_of};
     ghost use Rattle.restart.specs.Store.{CanRun, CopiesAround, ServesOn};
 
     /// Takes the next piece of an image, or makes it current.
@@ -71,7 +72,8 @@ impl<D: Device, A: Allocator + Copy> EngineParts<D, A> {
         }
     }
 
-    // Takes the piece of this place, or passes over it, where it is a page that the image's half has.
+    // Takes the piece of this place; or passes over it, where it is a page that the image's half has, and writes
+    // nothing.
     fn copy_piece(&mut self, place: CopyPlace) -> Reply<A>
         requires runs { CanRun D.past_of self.old }
         requires all { unhanded self.old ≡ [] }
@@ -80,6 +82,7 @@ impl<D: Device, A: Allocator + Copy> EngineParts<D, A> {
         ensures moves { MovesOn D.past_of self.old self.new }
         ensures answer { IsCopyAnswer D.failures result self.old self.new }
         ensures around { CopiesAround D.past_of self.old self.new }
+        ensures spares { MayPass (writer_of self.old) → device_of self.new ≡ device_of self.old }
     {
         each_list();
         one_copy();

@@ -339,8 +339,9 @@ impl<B: Group, D: Device, A: Memory> FlushPart<B, D, A> {
         stepped
     }
 
-    /// Passes over the next page of an image under way, if its half has it as it is (`when`), and publishes. No lock is
-    /// needed, and nothing is written: the image is as if the page had been copied now, and taken (`taken`).
+    /// Passes over the next page of an image under way, if its half is known to have it as it is (`when`), and
+    /// publishes. No lock is needed, and nothing is written: the image is as if the page had been copied now, and taken
+    /// (`taken`).
     pub fn pass_page(&mut self, board: &Board<A>) -> bool
         requires { board.now ≡ B.site.board }
         ensures publishes { IsTrue result → Publishes D.past_of D.marks self.old self.new }

@@ -1,6 +1,7 @@
 //! Taking all that was shared back into one hand.
 ghost use Rattle.std.specs.Prelude.{◌≡◌, ◌⊎◌, ◌≤◌, ℕ, [], All, IfErr, IfOk, IfSome, OnOk, false, is_some, length, map};
 ghost use Rattle.std.specs.Prelude.{take, true};
+ghost use Rattle.sector_device.specs.Disk.{CrashState, IsCrashState};
 ghost use Rattle.sector_device.specs.DevicePast.{LeavesOnly, Rises};
 ghost use Rattle.record_values.specs.declared.error.Error.TheVariants.{DeviceFailed, NoMemory};
 ghost use Rattle.nsf_core.specs.Value.{value_of};
@@ -8,7 +9,7 @@ ghost use Rattle.store_writer.specs.Parts.{device_of, halves_of, has_failed, syn
 ghost use Rattle.threads_lifetime.specs.Closing.{GivesSome, IsClosed, KeepsPublished};
 ghost use Rattle.locked_core.specs.Locked.{locked_of};
 ghost use Rattle.threads_register.specs.Register.{AreAllCommits};
-ghost use Rattle.threads_flusher.specs.Part.{last_handed, popped_by};
+ghost use Rattle.threads_flusher.specs.Part.{FlushLeaves, last_handed, popped_by};
 ghost use Rattle.threads_lifetime.specs.Gathered.{AreAllSeats, sessions_of};
 ghost use Rattle.threads_lifetime.specs.Written.{WritesOn};
 
@@ -54,10 +55,16 @@ impl<D, A: Memory> Closed<D, A> {
 }
 
 /// The device as it is, where nothing more is to be written to it. What the threads shared is let go of, and with it
-/// each record that the flusher hasn't written.
+/// each record that isn't synced, though the device may have it. A crash of the device leaves what some of the records
+/// that the writer had got make of what was opened, the first ones, with all that were synced (`images`). No horizon
+/// that was published is above those (`kept`): what was acknowledged is not lost.
 pub fn let_go<B: Group, D: Device, A: Memory>(shared: Shared<B, A>, flush: FlushPart<B, D, A>) -> D
-    ensures { result ≡ device_of flush.writer }
+    ensures device { result ≡ device_of flush.writer }
+    ensures images { (image : CrashState) → IsCrashState (D.past_of result).disk image
+        → FlushLeaves B.site.opened flush image }
+    ensures kept { flush.published.horizon ≤ synced_of flush.writer }
 {
+    flush.stands();
     drop(shared);
     let (device, ends) = flush.into_parts();
     drop(ends);

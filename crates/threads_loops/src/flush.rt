@@ -4,8 +4,8 @@ ghost use Rattle.std.specs.Prelude.{IfErr, IfOk, IsTrue, OnOk};
 ghost use Rattle.record_values.specs.declared.error.Error.TheVariants.{DeviceFailed};
 ghost use Rattle.store_image_model.specs.Places.{place_behind};
 ghost use Rattle.store_writer.specs.Copying.{next_place, steps_of_image};
-ghost use Rattle.store_writer.specs.Parts.{copying_of, halves_of, has_failed, synced_of};
-ghost use Rattle.store_writer.specs.Writer.{IsChunk, MustStartAgain};
+ghost use Rattle.store_writer.specs.Parts.{copying_of, device_of, halves_of, has_failed, synced_of};
+ghost use Rattle.store_writer.specs.Writer.{IsChunk, MayPass, MustStartAgain};
 ghost use Rattle.threads_flusher.specs.Going.{GoesOn, TakesIn};
 ghost use Rattle.store_writer.specs.declared.copying.Copying.TheVariants.{Idle, Steps};
 ghost use Rattle.threads_flusher.specs.Part.{last_handed, run_of};
@@ -264,7 +264,8 @@ fn copy<B: Group, D: Device, R: Wait, G: Gate, A: Memory>(
     }
 }
 
-// Passes over the piece of this place, if it is a page that the image's half has; or copies it, and takes it.
+// Passes over the piece of this place, and writes nothing, if it is a page that the image's half has; or copies it, and
+// takes it.
 fn pass_or_copy<B: Group, D: Device, R: Wait, G: Gate, A: Memory>(
     rt: &R,
     shared: &Shared<B, A>,
@@ -277,6 +278,7 @@ fn pass_or_copy<B: Group, D: Device, R: Wait, G: Gate, A: Memory>(
     ensures through { PassesThrough D.past_of D.marks D.failures B.site.opened part.old part.new }
     ensures copying { StandsBy part.new }
     ensures image { OnOk result (IsCopied part.old part.new) }
+    ensures spares { MayPass part.old.writer → device_of part.new.writer ≡ device_of part.old.writer }
 {
     if part.pass_page(shared.board()) {
         return Ok(());

@@ -1,4 +1,5 @@
 use Rattle.std.proofs.Common.{◌≡◌, Ok, OnOk, false, sym, ap, arith, subst, ◌∙◌}
+use Rattle.std.proofs.lemmas.Bool.{false≢true}
 use Rattle.store_image_model.specs.declared.chunk.Piece.{Piece}
 use Rattle.store_image_model.specs.declared.chunk.Piece.TheVariants.{Page}
 use Rattle.store_writer.specs.Copying.{next_place}
@@ -32,6 +33,7 @@ returns-then-pass_page g c =
       through = through_call past_of failures o old new call;
       copying = stands_due new (due_behind old new failures number piece (Ok Taken) told tt c.requires.late);
       image = copied_behind old new failures number piece Taken told;
+      spares = λ _. ap (λ w. device_of w) passed.9;
     }
 
 -- ---- where nothing was passed over
@@ -53,4 +55,5 @@ returns g c =
           PassesThrough g.D.Device.past_of g.D.Device.marks g.D.Device.failures g.B.Group.site.opened f c.copy_piece.new.part) same is.through;
       copying = is.copying;
       image = subst (λ (f : FlushValue _ _). OnOk c.copy_piece.result (IsCopied f c.copy_piece.new.part)) same is.image;
+      spares = λ may. absurd (false≢true (sym c.if-pass_page.false ∙ c.pass_page.ensures.when.1 may));
     }

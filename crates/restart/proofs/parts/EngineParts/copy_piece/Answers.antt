@@ -1,4 +1,5 @@
 use Rattle.std.proofs.Common.{◌≡◌, ◌∙◌, refl, sym, ap, arith, subst}
+use Rattle.std.proofs.lemmas.Bool.{false≢true}
 use Rattle.record_values.specs.GeometryValue.{GeometryValue}
 use Rattle.sector_device.proofs.Moments.{started}
 use Rattle.sector_device.specs.DevicePast.{LeavesOnly}
@@ -74,6 +75,9 @@ returns-then-pass_page-clause-around g c =
     let old = c.args.self.now in
     device_copied g.D.Device.past_of old (record old { writer = c.pass_page.new.self }) (ap (λ w. writer.device_of w) passed.9)
 
+pub returns-then-pass_page-clause-spares : goal.returns-then-pass_page-clause-spares
+returns-then-pass_page-clause-spares g c = λ _. ap (λ w. writer.device_of w) (c.pass_page.ensures.passed c.if-pass_page.true).9
+
 -- ---- where it wasn't
 
 pub take_piece-requires-clause-runs : goal.take_piece-requires-clause-runs
@@ -105,3 +109,6 @@ returns-clause-around g c =
     let old = c.args.self.now in
     subst (λ (w : Writer _ _). CopiesAround g.D.Device.past_of (record old { writer = w }) c.take_piece.new.self)
     (c.pass_page.ensures.still c.if-pass_page.false) c.take_piece.ensures.around
+
+pub returns-clause-spares : goal.returns-clause-spares
+returns-clause-spares g c = λ may. absurd (false≢true (sym c.if-pass_page.false ∙ c.pass_page.ensures.when.1 may))
