@@ -1,5 +1,5 @@
 //! A seat's part of what is shared.
-ghost use Rattle.std.specs.Prelude.{◌≡◌, ◌<◌};
+ghost use Rattle.std.specs.Prelude.{◌≡◌, ◌==◌, ◌<◌, length};
 ghost use Rattle.threads_sessions.specs.Values.{empty_session, is_active, is_ready, is_unfinished};
 
 use crate::group::Group;
@@ -56,6 +56,13 @@ impl<B: Group, A: Memory, K: Keeping> SeatPart<B, A, K> {
             site: _,
         } = self;
         session
+    }
+
+    /// Whether the seat has no transaction.
+    pub fn is_idle(&self) -> bool
+        ensures { result ≡ (length self.now.session.active == 0) }
+    {
+        self.session.is_idle()
     }
 
     /// Whether the transaction is one of the seat's.

@@ -21,7 +21,8 @@ use std::sync::{MutexGuard, Wait};
 use threads_sessions::Keeping;
 
 impl<B: Group, A: Memory> Shared<B, A> {
-    /// Begins a transaction of the seat.
+    /// Begins a transaction of the seat. Where another seat waits until none is active (`create_index_when_quiet`), it
+    /// waits before that one, unless this seat has a transaction (no clause says so).
     ///
     /// The refusals are those of the core's `begin`. After a refusal the seat is as before.
     pub fn begin<R: Wait, K: Keeping>(&self, rt: &R, seat: &mut Seat<B, A, K>) -> Result<Txn, Error>
@@ -30,6 +31,7 @@ impl<B: Group, A: Memory> Shared<B, A> {
         ensures ok { IfOk result (λ txn. seat.new ≡ record seat.old { session = begun seat.old.session txn }) }
         ensures refused { OnErr result (seat.new ≡ seat.old) }
     {
+        self.give_way(rt, seat);
         let mut locked = self.hold(rt);
         locked.push_outbox(rt, &self.queue);
         let begun = locked.begin(&self.registry, &mut seat.part);

@@ -32,6 +32,7 @@ mod laws;
 mod one_change;
 mod opening;
 mod parts;
+mod quiet;
 mod scans;
 mod seat;
 mod shared;

@@ -8,6 +8,7 @@ ghost use Rattle.shared.specs.Seats.{AreNewSeats, HasSeenNothing};
 
 use crate::builder::BuildPart;
 use crate::cleaner::CleanPart;
+use crate::quiet::Quiet;
 use crate::seat::Seat;
 use crate::shared::Shared;
 use board::{Board, BuildView, NewFlushView, View};
@@ -135,6 +136,7 @@ impl<A: Memory> Opening<A> {
             queue,
             registry,
             board,
+            quiet: Quiet::unwanted(),
             site: PhantomData,
         };
         let parts = FirstParts {

@@ -1,5 +1,5 @@
 //! A seat, and what it is given for a ticket.
-ghost use Rattle.std.specs.Prelude.{◌≡◌, ◌≢◌, IfSome, unwrap_or};
+ghost use Rattle.std.specs.Prelude.{◌≡◌, ◌≢◌, ◌==◌, IfSome, length, unwrap_or};
 
 use board::View;
 use locked_core::{Group, Memory, SeatPart};
@@ -51,6 +51,13 @@ impl<B: Group> Model for Ack<B> {
 
 impl<B: Group, A: Memory, K: Keeping> Seat<B, A, K> {
     ghost use Rattle.threads_sessions.specs.Values.{is_active, is_ready, is_unfinished};
+
+    /// Whether the seat has no transaction.
+    pub fn is_idle(&self) -> bool
+        ensures { result ≡ (length self.now.session.active == 0) }
+    {
+        self.part.is_idle()
+    }
 
     /// Whether the transaction is one of the seat's.
     pub fn is_active(&self, txn: Txn) -> bool

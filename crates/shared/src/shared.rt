@@ -4,6 +4,7 @@ ghost use Rattle.threads_queue.specs.Ends.{name_prop};
 
 use crate::builder::BuildPart;
 use crate::cleaner::CleanPart;
+use crate::quiet::Quiet;
 use board::Board;
 use locked_core::{Group, Locked, Memory};
 use sector_device::Device;
@@ -31,6 +32,7 @@ pub struct Shared<B: Group, A: Memory = Global> {
     pub(crate) queue: RecordQueue<A>,
     pub(crate) registry: Registry<A>,
     pub(crate) board: Board<A>,
+    pub(crate) quiet: Quiet,
     pub(crate) site: PhantomData<B>,
     ghost queue_is: { queue ≡ B.site.queue } by { name_prop queue B.site.queue },
     ghost registry_is: { registry ≡ B.site.table },
@@ -122,9 +124,10 @@ impl<B: Group, A: Memory> Shared<B, A> {
         self.locked.lock(rt)
     }
 
-    // Wakes the flusher, for which records may wait.
+    // Wakes the flusher, for which records may wait, and who waits until no transaction is active: one may have ended.
     pub(crate) fn wake_flusher(&self) {
         self.board.waits().pushed.ring();
+        self.quiet.look_again();
     }
 
     /// What lay under the lock, the queue, the registry of the sessions and the board, in one hand.
@@ -138,6 +141,7 @@ impl<B: Group, A: Memory> Shared<B, A> {
             queue,
             registry,
             board,
+            quiet: _,
             site: _,
         } = self;
         (locked.into_inner(), queue, registry, board)

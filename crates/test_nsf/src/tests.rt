@@ -1,4 +1,5 @@
 //! The examples of README.
+use crate::busy::serve_the_busy;
 use crate::full_index::serve_a_crowd;
 use crate::many_threads::put_two;
 use crate::one_thread::{filled, find};
@@ -32,6 +33,14 @@ fn a_client_is_told_that_the_index_is_full(rt: HostRuntime) -> Result<(), Fail> 
     let (told, built) = serve_a_crowd(&rt, rt.alloc())?;
     assert_eq!(&rt; told, Some(Error::IndexFull));
     assert_eq!(&rt; built, Err(Error::IndexFull));
+    Ok(())
+}
+
+// An index is created and dropped where seats have a transaction nearly all the time, and nobody is refused anything.
+#[test]
+fn an_index_is_created_beside_busy_seats(rt: HostRuntime) -> Result<(), Fail> {
+    let turns = serve_the_busy(&rt, rt.alloc())?;
+    assert!(&rt; turns > 0);
     Ok(())
 }
 

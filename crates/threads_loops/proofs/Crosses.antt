@@ -49,6 +49,7 @@ use Rattle.sector_device.specs.declared.device.Device as device
 use Rattle.threads_flusher.specs.contracts.part.FlushPart as FlushPart
 use Rattle.threads_flusher.proofs.part.FlushPart.TheSendSync as flush_part
 use Rattle.shared.specs.contracts.seat.Seat as Seat
+use Rattle.shared.proofs.quiet.Quiet.TheSendSync as quiet
 use Rattle.shared.proofs.seat.Seat.TheSendSync as seat
 use Rattle.shared.specs.contracts.shared.Shared as Shared
 
@@ -161,7 +162,7 @@ module _ (B : RattleType) (g : group.Ghosts B.Denot) (m : memory.Ghosts H.Denot)
           queue.the_sync H m ghosts send sync frees,
           (
             registry.the_sync H ghosts send sync frees,
-            (board.the_sync H ghosts send sync frees, (search sendable depth 6, tt)),
+            (board.the_sync H ghosts send sync frees, (quiet.the_field_sync, (search sendable depth 6, tt))),
           ),
         ),
       )

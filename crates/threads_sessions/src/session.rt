@@ -1,5 +1,5 @@
 //! A session, and what it tells.
-ghost use Rattle.std.specs.Prelude.{◌≡◌, map, IfSome, is_some};
+ghost use Rattle.std.specs.Prelude.{◌≡◌, ◌==◌, length, map, IfSome, is_some};
 ghost use Rattle.threads_sessions.specs.Values.{SessionValue, empty_session, is_active, is_ready, is_unfinished};
 
 use crate::active::{ActiveTxn, place_of};
@@ -61,6 +61,13 @@ impl<A: Allocator + Copy, K: Keeping> Session<A, K> {
             spare: _,
         } = self;
         history.into_list()
+    }
+
+    /// Whether the seat has no transaction.
+    pub fn is_idle(&self) -> bool
+        ensures { result ≡ (length self.now.active == 0) }
+    {
+        self.active.is_empty()
     }
 
     /// Whether the transaction is one of the seat's.
