@@ -31,7 +31,7 @@ behind_both : (bytes : List ℕ) (p : Plan) → told_by bytes ≡ Some p → p.s
 behind_both bytes p is = chosen (is_header bytes && can_be (word bytes 2) (word bytes 3) (word bytes 4))
     (plan_for (word bytes 2) (word bytes 3) (word bytes 4)) p refl is
 
-told_behind : (image : CrashFile) (p : Plan) → plan_told image ≡ Some p → p.shape.first ≡ 2
+pub told_behind : (image : CrashFile) (p : Plan) → plan_told image ≡ Some p → p.shape.first ≡ 2
 told_behind image p is = ⊎_elim (behind_both (block image 0) p) (behind_both (block image 1) p)
     (first_or (told_by (block image 0)) (told_by (block image 1)) p is)
 

@@ -8,5 +8,6 @@ mod NewFile
 mod Openings
 mod Patching
 mod Pushing
+mod Reopening
 mod Telling
 mod Zeros

@@ -1,14 +1,21 @@
 -- A file is opened.
-use Rattle.std.proofs.Common.{Result, Ok, Err, IfOk, ◌≡◌, ℕ, ◌<◌, false, Option, Some, sym, ◌∙◌, ap, subst}
+use Rattle.std.proofs.Common.{Result, Ok, Err, IfOk, IfErr, ◌≡◌, ◌⊎◌, inl, inr, ⊎_elim, ℕ, ◌<◌, false, Option, Some, None, length, refl, sym, ◌∙◌}
+use Rattle.std.proofs.Common.{ap, subst, arith}
 use Rattle.block_device.specs.Blocks.{CrashFile, BlockFile, IsCrashFile, block}
 use Rattle.block_device.specs.BlocksPast.{BlocksPast, LeavesOnly}
 use Rattle.block_device.proofs.CrashFiles.{crash_synced}
 use Rattle.block_device.proofs.Moments.{joined, one_call}
 use Rattle.block_journal.specs.declared.shape.Shape.{Shape}
-use Rattle.block_journal.specs.Layout.{recovered}
+use Rattle.block_journal.specs.Layout.{IsInside, recovered}
 use Rattle.block_journal.specs.Journal.{LeavesBefore, OnlyReads, StaysRecovered}
 use Rattle.block_journal.proofs.Before.{before_read, none_before}
+use Rattle.block_table.specs.Table.{IsFit}
+use Rattle.block_file.specs.Damage.{CanBeOpened, IsDamagedAt}
+use Rattle.block_file.specs.Header.{HasNoBatch, IsCut, plan_told}
+use Rattle.block_file.specs.declared.opening.FileError.{FileError}
+use Rattle.block_file.specs.declared.opening.FileError.TheVariants.{Damaged, FileFailed, NoBatch, NoHeader, NoMemory, TooShort}
 use Rattle.block_file.specs.declared.plan.Plan.{Plan}
+use Rattle.block_file.proofs.Heading.{told_behind}
 
 -- two plans that one file tells
 pub same_plan : (o : Option Plan) (p q : Plan) → o ≡ Some p → o ≡ Some q → p ≡ q
@@ -41,3 +48,40 @@ reads_before g old new synced reads = before_read g old old new (none_before g o
 pub before_then : (g : Shape) (old mid new : BlocksPast) → mid.file ≡ old.file → LeavesBefore g old mid → LeavesBefore g mid new → LeavesBefore g old new
 before_then g old mid new same first second = joined old mid new (λ c. (n : ℕ) → n < g.first → block c n ≡ block old.file.content n) first
     (subst (λ (f : BlockFile). LeavesOnly mid new (λ c. (n : ℕ) → n < g.first → block c n ≡ block f.content n)) same second)
+
+-- ---- a file that can be opened
+
+pub if_ok5 : {T E : Type 0} (r : Result T E) (P Q R S V W : T → Type 0) → ((x : T) → P x → Q x → R x → S x → V x → W x)
+    → IfOk r P → IfOk r Q → IfOk r R → IfOk r S → IfOk r V → IfOk r W
+if_ok5 (Ok x) P Q R S V W so p q r s v = so x p q r s v
+if_ok5 (Err e) P Q R S V W so p q r s v = tt
+
+pub if_err4 : {T E : Type 0} (r : Result T E) (P Q R S V : E → Type 0) → ((e : E) → P e → Q e → R e → S e → V e)
+    → IfErr r P → IfErr r Q → IfErr r R → IfErr r S → IfErr r V
+if_err4 (Ok x) P Q R S V so p q r s = tt
+if_err4 (Err e) P Q R S V so p q r s = so e p q r s
+
+-- has room for both headers
+has_two : (p : Plan) (image : CrashFile) → CanBeOpened p image → ¬ (length image < 2)
+has_two p image can short = omega (arith, told_behind image p can.told, can.inside.room, short)
+
+-- why it is refused
+pub why_refused : (e : FileError) (image : CrashFile) (p : Plan) → CanBeOpened p image → (e ≡ NoHeader → plan_told image ≡ None)
+    → (e ≡ TooShort → (length image < 2) ⊎ IsCut image) → (e ≡ NoBatch → HasNoBatch image) → ((n : ℕ) → e ≡ Damaged n → IsDamagedAt n image)
+    → (e ≡ NoMemory) ⊎ (e ≡ FileFailed)
+why_refused NoMemory image p can none short batch damaged = inl refl
+why_refused FileFailed image p can none short batch damaged = inr refl
+why_refused NoHeader image p can none short batch damaged = absurd (never (sym (none refl) ∙ can.told))
+  where
+    never : Path (Option Plan) None (Some p) → ⊥
+    never is = absurd cc
+why_refused TooShort image p can none short batch damaged = absurd (⊎_elim (has_two p image can) cut (short refl))
+  where
+    cut : IsCut image → ⊥
+    cut is = is.2 (subst (λ (q : Plan). IsInside q.shape image) (same_plan (plan_told image) p is.0 can.told is.1) can.inside)
+why_refused NoBatch image p can none short batch damaged = absurd (can.batch (batch refl))
+why_refused (Damaged n) image p can none short batch damaged = absurd (unfit (damaged n refl))
+  where
+    unfit : IsDamagedAt n image → ⊥
+    unfit is = is.3.unfit (subst (λ (q : Plan). IsFit q.blocks (recovered q.shape image) n) (same_plan (plan_told image) p is.0 can.told is.1)
+        (can.fits n (subst (λ (q : Plan). n < q.blocks) (same_plan (plan_told image) is.0 p is.1 can.told) is.3.low)))

@@ -39,6 +39,10 @@ module _ {B A : Type 0} (past_of : B → BlocksPast) (d n : DiskParts B A) (plan
   disk_stays : (t : ℕ) → t ≤ length d.past.items → disk_of past_of n.plan (state_at n t) ≡ disk_of past_of d.plan (state_at d t)
   disk_stays t le = λ i. disk_of past_of (plan i) (stays t le i)
 
+  -- what the file held first
+  pub first_same : first_content past_of n ≡ first_content past_of d
+  first_same = ap (λ (s : Held B A). (past_of (journal_in s).below).file.content) (stays 0 (omega arith))
+
   -- a call of the disk was made
   pub disk_elapses : Elapses (disk_past past_of d) (disk_past past_of n)
   disk_elapses = record {

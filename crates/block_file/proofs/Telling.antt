@@ -1,6 +1,7 @@
 -- A header that is spelled, and one that is tested.
 use Rattle.std.proofs.Common.{◌≡◌, ◌≢◌, ℕ, ◌*◌, ◌<◌, ◌≤◌, Bool, true, false, ◌&&◌, ◌==◌, if◌then◌else◌, List, length, take, slice_index, slice_set}
-use Rattle.std.proofs.Common.{Some, None, refl, sym, ◌∙◌, ap, arith}
+use Rattle.std.proofs.Common.{Option, Some, None, ⊎_elim, refl, sym, ◌∙◌, ap, arith}
+use Rattle.std.proofs.lemmas.Bool.{cases_eq}
 use Rattle.std.proofs.lemmas.Bool.Decides.{nat_tests}
 use Rattle.std.proofs.lemmas.List.{take-set-le, get_or-set_same, get_or-set_other}
 use Rattle.std.specs.List.{flat_map}
@@ -57,6 +58,14 @@ tells bytes is = ap (λ (b : Bool). if b && can_be (word bytes 2) (word bytes 3)
 -- what can be
 pub plan_some : (s l a : ℕ) (p : Plan) → can_be s l a ≡ true → (if can_be s l a then Some p else None) ≡ Some p
 plan_some s l a p is = ap (λ (b : Bool). if b then Some p else None) is
+
+-- what tells a plan has the digest of its bytes
+pub header_fits : (bytes : List ℕ) (p : Plan) → told_by bytes ≡ Some p → word bytes 511 ≡ digest (take 4088 bytes)
+header_fits bytes p told = ⊎_elim (λ same. same) (λ other. absurd (never (sym (tells_none bytes (no_digest bytes other)) ∙ told)))
+    (cases_eq (word bytes 511) (digest (take 4088 bytes)))
+  where
+    never : Path (Option Plan) None (Some p) → ⊥
+    never is = absurd cc
 
 -- ---- a header is spelled
 

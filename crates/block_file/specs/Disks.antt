@@ -8,9 +8,10 @@ use Rattle.sector_device.specs.DevicePast.{DevicePast}
 use Rattle.block_device.specs.Blocks.{CrashFile, IsCrashFile, block}
 use Rattle.block_device.specs.BlocksPast.{BlocksPast, Between}
 use Rattle.block_batch.specs.Batch.{Batch}
+use Rattle.block_journal.specs.Journal.{OnlyReads}
 use Rattle.block_journal.specs.Layout.{IsHonest}
 use Rattle.block_journal.specs.Value.{JournalValue, failures_of, next_batch}
-use Rattle.block_table.specs.Checked.{data_now}
+use Rattle.block_table.specs.Checked.{CheckedValue, data_now, kept_table, settled_table}
 use Rattle.block_file.specs.declared.plan.Plan.{Plan}
 use Rattle.block_file.specs.declared.parts.Held.{Held}
 use Rattle.block_file.specs.declared.parts.DiskParts.{DiskParts}
@@ -35,6 +36,31 @@ module _ {B A : Type 0} where
   -- the journal in a state
   abbrev pub journal_in : Held B A → JournalValue B
   journal_in s = s.checked.journal
+
+  -- where the file has its sectors, the journal now, and the file of blocks
+  abbrev pub disk_plan : DiskParts B A → Plan
+  disk_plan d = d.plan
+
+  abbrev pub disk_journal : DiskParts B A → JournalValue B
+  disk_journal d = journal_in d.now
+
+  abbrev pub disk_file : DiskParts B A → B
+  disk_file d = (journal_in d.now).below
+
+  -- what it holds now, and the checked blocks in that
+  abbrev pub disk_state : DiskParts B A → Held B A
+  disk_state d = d.now
+
+  abbrev pub disk_blocks : DiskParts B A → CheckedValue B
+  disk_blocks d = d.now.checked
+
+  -- whether a commit has failed
+  abbrev pub disk_failed : DiskParts B A → Bool
+  disk_failed d = (journal_in d.now).has_failed
+
+  -- the number of the batch that was committed last
+  abbrev pub disk_number : DiskParts B A → ℕ
+  disk_number d = (journal_in d.now).last.number
 
   -- the t-th state: one of those that were, or the last one
   abbrev pub state_at : DiskParts B A → ℕ → Held B A
@@ -68,6 +94,13 @@ module _ {B A : Type 0} where
       whole = sectors_are_whole d.plan.lead d.plan.sectors (data_now past_of d.now.checked);
     }
 
+    -- the table and the data: with what was put since the last commit, and as that left them
+    abbrev pub disk_table : DiskParts B A → CrashFile
+    disk_table d = kept_table past_of d.now.checked
+
+    abbrev pub disk_settled : DiskParts B A → CrashFile
+    disk_settled d = settled_table past_of d.now.checked
+
     -- which moment of the file it was in a state
     abbrev pub moment_in : Held B A → ℕ
     moment_in s = (past_of (journal_in s).below).moment
@@ -100,3 +133,13 @@ module _ {B A : Type 0} where
     -- and so it tells where the disk is, if the file did then.
     abbrev pub TellsStill : DiskParts B A → Type 0
     TellsStill d = plan_told (first_content d) ≡ Some d.plan → SinceOpened d (λ image. plan_told image ≡ Some d.plan)
+
+    -- A call only read: nothing was put or written, and what is known of the journal stays.
+    pub record ReadsAlone (old new : DiskParts B A) : Type 0 where
+      pub plan : disk_plan new ≡ disk_plan old
+      pub table : disk_table new ≡ disk_table old
+      pub journal : disk_journal new ≡ record (disk_journal old) {
+        below = disk_file new;
+        refused = (disk_journal new).refused;
+      }
+      pub file : OnlyReads (past_of (disk_file old)) (past_of (disk_file new))

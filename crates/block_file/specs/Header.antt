@@ -4,7 +4,7 @@ use Rattle.std.specs.Prelude.{Option, Some, None}
 use Rattle.block_digest.specs.Digest.{digest}
 use Rattle.block_device.specs.Blocks.{CrashFile, block}
 use Rattle.block_words.specs.Words.{word}
-use Rattle.block_journal.specs.Layout.{IsInside}
+use Rattle.block_journal.specs.Layout.{IsInside, found}
 use Rattle.block_table.specs.Table.{kept_count}
 use Rattle.block_file.specs.declared.plan.Plan.{Plan}
 use Rattle.block_file.specs.declared.header.TheConstants.{TEXT, VERSION}
@@ -60,3 +60,8 @@ HasNoPlan image = (p : Plan) → plan_told image ≡ Some p → ¬ IsInside p.sh
 -- The crash file ends before what its header tells.
 abbrev pub IsCut : CrashFile → Type 0
 IsCut image = (p : Plan) × (plan_told image ≡ Some p) × (¬ IsInside p.shape image)
+
+-- The crash file tells a plan that it has room for, and neither area of its journal has a batch.
+abbrev pub HasNoBatch : CrashFile → Type 0
+HasNoBatch image = (p : Plan) × (plan_told image ≡ Some p) × IsInside p.shape image
+    × (found p.shape image 0 ≡ None) × (found p.shape image 1 ≡ None)

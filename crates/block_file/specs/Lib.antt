@@ -1,6 +1,7 @@
 pub mod Closing
 pub mod Damage
 pub mod Disks
+pub mod Good
 pub mod Header
 pub mod Making
 pub mod Moves

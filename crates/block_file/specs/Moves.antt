@@ -2,7 +2,7 @@
 use Rattle.std.specs.Prelude.{◌≡◌, ◌⊎◌, ℕ, ◌≤◌, true, false, length}
 use Rattle.sector_device.specs.Disk.{IsCrashState}
 use Rattle.block_device.specs.BlocksPast.{BlocksPast}
-use Rattle.block_journal.specs.Journal.{LeavesBefore, OnlyReads}
+use Rattle.block_journal.specs.Journal.{KeepsBatch, LeavesBefore, OnlyReads}
 use Rattle.block_journal.specs.Value.{LeavesEither}
 use Rattle.block_table.specs.Checked.{CheckedValue, kept_table, settled_data, settled_table}
 use Rattle.block_file.specs.declared.plan.Plan.{Plan}
@@ -23,6 +23,8 @@ pub record Moves {B : Type 0} (past_of : B → BlocksPast) (old new : CheckedVal
   pub offers : OffersOne old.journal new.journal
   pub before : old.journal.has_failed ≡ false
       → LeavesBefore old.journal.shape (past_of old.journal.below) (past_of new.journal.below)
+  pub holds : old.journal.has_failed ≡ false
+      → KeepsBatch old.journal.shape old.journal.last (past_of old.journal.below) (past_of new.journal.below)
   pub refused : old.journal.has_failed ≡ true
       → OnlyReads (past_of old.journal.below) (past_of new.journal.below) × (new.journal.offered ≡ old.journal.offered)
 

@@ -4,9 +4,8 @@ ghost use Rattle.sector_device.specs.Disk.{IsSynced};
 ghost use Rattle.sector_device.specs.DevicePast.{Rises};
 ghost use Rattle.sector_device.specs.Values.{zero_sector};
 ghost use Rattle.block_journal.specs.Layout.{IsInside};
-ghost use Rattle.block_table.specs.Checked.{settled_table};
-ghost use Rattle.block_table.specs.Table.{EachFits};
-ghost use Rattle.block_file.specs.Disks.{disk_failures, disk_past, first_content, journal_in};
+ghost use Rattle.block_file.specs.Disks.{disk_failures, disk_file, disk_past, disk_plan, first_content};
+ghost use Rattle.block_file.specs.Good.{IsGood};
 ghost use Rattle.block_file.specs.Header.{CanBeTold, TellTwice, plan_told};
 ghost use Rattle.block_file.specs.Making.{BecomesZeros};
 
@@ -32,16 +31,15 @@ pub fn create<B: Blocks, A: Allocator + Copy>(
 ) -> Result<BlockDisk<B, A>, Refused<B>>
     requires told { CanBeTold plan }
     requires synced { (n : ℕ) → (B.past_of below).file.loose n ≡ false }
-    ensures plan { IfOk result (λ d. d.plan ≡ plan) }
+    ensures plan { IfOk result (λ d. disk_plan d ≡ plan) }
     ensures still { IfOk result (λ d. plan_told (first_content B.past_of d) ≡ Some plan) }
     ensures headers { IfOk result (λ d. TellTwice plan (first_content B.past_of d)) }
     ensures content { IfOk result (λ d. (disk_past B.past_of d).disk.content
         ≡ replicate plan.sectors zero_sector) }
     ensures synced { IfOk result (λ d. IsSynced (disk_past B.past_of d).disk) }
-    ensures fits { IfOk result (λ d. EachFits plan.blocks (settled_table B.past_of d.now.checked)) }
+    ensures good { IfOk result (λ d. IsGood B.past_of d) }
     ensures failures { IfOk result (λ d. disk_failures B.failures d ≡ B.failures below) }
-    ensures any_moment { IfOk result (λ d. BecomesZeros plan (B.past_of below)
-        (B.past_of (journal_in d.now).below)) }
+    ensures any_moment { IfOk result (λ d. BecomesZeros plan (B.past_of below) (B.past_of (disk_file d))) }
     ensures refused { IfErr result (λ e. BecomesZeros plan (B.past_of below) (B.past_of e.file)) }
     ensures left_alone { IfErr result (λ e. e.error ≡ FileError.TooShort → e.file ≡ below) }
     ensures too_short { IfErr result (λ e. e.error ≡ FileError.TooShort

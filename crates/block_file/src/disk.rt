@@ -1,13 +1,14 @@
 //! A device of sectors over a file of blocks.
-ghost use Rattle.std.specs.Prelude.{◌≡◌, ◌⊎◌, ◌+◌, ◌-◌, ◌^◌, ◌<◌, ◌≤◌, ℕ, [], false, true, length, IfNone, IfOk};
-ghost use Rattle.std.specs.Prelude.{IfSome, OnErr, OnOk};
+ghost use Rattle.std.specs.Prelude.{◌≡◌, ◌⊎◌, ◌+◌, ◌-◌, ◌^◌, ◌<◌, ◌≤◌, ℕ, [], false, true, length, IfNone};
+ghost use Rattle.std.specs.Prelude.{IfOk, IfSome, OnErr, OnOk};
 ghost use Rattle.sector_device.specs.Disk.{IsFailedWrite, IsSynced, after_sync, after_write, sector};
 ghost use Rattle.sector_device.specs.DevicePast.{CountsFailure, Elapses, Rises};
 ghost use Rattle.block_file.specs.Plans.{IsPlan};
 ghost use Rattle.block_file.specs.Sectors.{sectors_of};
-ghost use Rattle.block_table.specs.Checked.{kept_table, settled_data};
-ghost use Rattle.block_journal.specs.Layout.{IsHonest};
-ghost use Rattle.block_journal.specs.Value.{failures_of};
+ghost use Rattle.block_table.specs.Checked.{settled_data};
+ghost use Rattle.block_device.specs.Blocks.{CrashFile, IsCrashFile};
+ghost use Rattle.block_journal.specs.Layout.{IsHonest, recovered};
+ghost use Rattle.block_journal.specs.Value.{LeavesEither, failures_of};
 
 use crate::Plan;
 use crate::parts::{DiskParts, Held};
@@ -19,9 +20,10 @@ use std::alloc::Allocator;
 use std::marker::Model;
 
 /// A device of sectors over a file of blocks. A write is gathered, and a sync commits what was gathered; a batch that
-/// is full is committed at once.
+/// is full is committed by the next write.
 ///
-/// Once a commit has failed, each call that needs the file fails, and the file is left alone (no clause says so).
+/// Where a call of the file fails, the call of the device fails (`quiet`). Once a commit has failed, each call fails
+/// from then on (`sound`; `unfailed` of a check), and the file is left alone (`left_alone`).
 #[derive(Drop)]
 pub struct BlockDisk<B: Blocks, A: Allocator> {
     parts: DiskParts<B, A>,
@@ -44,8 +46,11 @@ impl<B: Blocks, A: Allocator> Model for BlockDisk<B, A> {
 impl<B: Blocks, A: Allocator + Copy> BlockDisk<B, A> {
     ghost use Rattle.block_file.specs.Closing.{StandsAlone};
     ghost use Rattle.block_file.specs.Damage.{IsFirstDamaged, IsSectorFit};
-    ghost use Rattle.block_file.specs.Disks.{BeforeStays, CrashStandsNow, EachCrashStands, EachOffers, TellsStill};
-    ghost use Rattle.block_file.specs.Disks.{disk_failures, disk_past, first_content, journal_in};
+    ghost use Rattle.block_file.specs.Disks.{BeforeStays, CrashStandsNow, EachCrashStands, EachOffers, ReadsAlone};
+    ghost use Rattle.block_file.specs.Disks.{TellsStill, disk_blocks, disk_failed, disk_failures, disk_file};
+    ghost use Rattle.block_file.specs.Disks.{disk_journal, disk_number, disk_past, disk_plan, disk_state, disk_table};
+    ghost use Rattle.block_file.specs.Disks.{disk_settled, first_content};
+    ghost use Rattle.block_file.specs.Good.{IsGood, OpensNow};
 
     /// The device whose sectors these blocks hold, which were just opened: all of them synced.
     pub fn over(checked: CheckedBlocks<B, A>, plan: Plan) -> Self
@@ -58,8 +63,8 @@ impl<B: Blocks, A: Allocator + Copy> BlockDisk<B, A> {
             ≡ sectors_of plan.lead plan.sectors (settled_data B.past_of checked) }
         ensures synced { IsSynced (disk_past B.past_of result).disk }
         ensures moment { (disk_past B.past_of result).moment ≡ 0 }
-        ensures plan { result.plan ≡ plan }
-        ensures journal { journal_in result.now ≡ checked.journal }
+        ensures plan { disk_plan result ≡ plan }
+        ensures journal { disk_journal result ≡ checked.journal }
         ensures failures { disk_failures B.failures result ≡ failures_of B.failures checked.journal }
         ensures first { first_content B.past_of result ≡ (B.past_of checked.journal.below).file.content }
     {
@@ -81,12 +86,23 @@ impl<B: Blocks, A: Allocator + Copy> BlockDisk<B, A> {
     /// under the premise, for a crash state of the device at that moment (`each`, `now`). Meanwhile at most the batch
     /// that was gathered is handed to be written (`offers`), and the premise holds of the file as it is (`honest`). The
     /// blocks before the journal stay (`headers`). So the file tells where the device is, if it did (`told`).
+    ///
+    /// Unless a commit has failed, what a crash leaves now has the table and the data as they were committed
+    /// (`survives`), and can be opened, if each block fits (`opens`). The journal is where the plan says (`plan`,
+    /// `shape`).
     pub fn stands(&self)
         ensures each { EachCrashStands B.past_of self.now }
-        ensures now { CrashStandsNow B.past_of self.now.plan self.now.now }
+        ensures now { CrashStandsNow B.past_of (disk_plan self.now) (disk_state self.now) }
         ensures offers { EachOffers self.now }
-        ensures honest { (journal_in self.now.now).has_failed ≡ false → IsHonest (journal_in self.now.now).offered
-            (journal_in self.now.now).shape (B.past_of (journal_in self.now.now).below).file.content }
+        ensures honest { disk_failed self.now ≡ false → IsHonest (disk_journal self.now).offered
+            (disk_plan self.now).shape (B.past_of (disk_file self.now)).file.content }
+        ensures survives { disk_failed self.now ≡ false → (image : CrashFile)
+            → IsCrashFile (B.past_of (disk_file self.now)).file image
+            → IsHonest (disk_journal self.now).offered (disk_plan self.now).shape image
+            → recovered (disk_plan self.now).shape image ≡ disk_settled B.past_of self.now }
+        ensures opens { IsGood B.past_of self.now → OpensNow B.past_of self.now }
+        ensures plan { IsPlan (disk_plan self.now) }
+        ensures shape { (disk_journal self.now).shape ≡ (disk_plan self.now).shape }
         ensures headers { BeforeStays B.past_of self.now }
         ensures told { TellsStill B.past_of self.now }
     {
@@ -99,13 +115,19 @@ impl<B: Blocks, A: Allocator + Copy> BlockDisk<B, A> {
     pub fn close(&mut self) -> Result<(), Failed>
         ensures content { (disk_past B.past_of self.new).disk.content ≡ (disk_past B.past_of self.old).disk.content }
         ensures synced { OnOk result (IsSynced (disk_past B.past_of self.new).disk) }
-        ensures alone { OnOk result (StandsAlone self.old.plan
-            (B.past_of (journal_in self.new.now).below).file.content (disk_past B.past_of self.old).disk.content) }
-        ensures safe { OnOk result ((n : ℕ) → (B.past_of (journal_in self.new.now).below).file.loose n ≡ false) }
-        ensures failed { OnErr result (((journal_in self.old.now).has_failed ≡ true)
-            ⊎ (2 ^ 64 - 2 ≤ (journal_in self.old.now).last.number)
-            ⊎ Rises (B.failures (journal_in self.old.now).below) (B.failures (journal_in self.new.now).below)) }
-        ensures plan { self.new.plan ≡ self.old.plan }
+        ensures alone { OnOk result (StandsAlone (disk_plan self.old)
+            (B.past_of (disk_file self.new)).file.content (disk_past B.past_of self.old).disk.content) }
+        ensures safe { OnOk result ((n : ℕ) → (B.past_of (disk_file self.new)).file.loose n ≡ false) }
+        ensures failed { OnErr result ((disk_failed self.old ≡ true) ⊎ (2 ^ 64 - 2 ≤ disk_number self.old)
+            ⊎ Rises (B.failures (disk_file self.old)) (B.failures (disk_file self.new))) }
+        ensures sound { OnOk result ((disk_failed self.old ≡ false) × (disk_failed self.new ≡ false)) }
+        ensures broken { OnErr result (disk_failed self.new ≡ true) }
+        ensures settled { OnOk result (disk_settled B.past_of self.new ≡ disk_table B.past_of self.old) }
+        ensures good { IsGood B.past_of self.old → disk_failed self.new ≡ false → IsGood B.past_of self.new }
+        ensures left_alone { disk_failed self.old ≡ true → disk_file self.new ≡ disk_file self.old }
+        ensures table { disk_table B.past_of self.new ≡ disk_table B.past_of self.old }
+        ensures quiet { OnOk result (B.failures (disk_file self.new) ≡ B.failures (disk_file self.old)) }
+        ensures plan { disk_plan self.new ≡ disk_plan self.old }
         ensures time { Elapses (disk_past B.past_of self.old) (disk_past B.past_of self.new) }
         ensures counts { CountsFailure (disk_failures B.failures self.old) (disk_failures B.failures self.new) result }
     {
@@ -116,14 +138,19 @@ impl<B: Blocks, A: Allocator + Copy> BlockDisk<B, A> {
     /// likewise, so a search for more goes on behind its last one. It fails where the file does, and once a commit has
     /// failed (`failed`).
     pub fn check(&mut self, from: u64) -> Result<Option<u64>, Failed>
-        ensures damaged { IfOk result (λ found. IfSome found (IsFirstDamaged self.old.plan
-            (kept_table B.past_of self.old.now.checked) from)) }
-        ensures fit { IfOk result (λ found. IfNone found ((n : ℕ) → from ≤ n → n < self.old.plan.sectors
-            → IsSectorFit self.old.plan (kept_table B.past_of self.old.now.checked) n)) }
-        ensures failed { OnErr result (((journal_in self.old.now).has_failed ≡ true)
-            ⊎ Rises (B.failures (journal_in self.old.now).below) (B.failures (journal_in self.new.now).below)) }
+        ensures damaged { IfOk result (λ found. IfSome found (IsFirstDamaged (disk_plan self.old)
+            (disk_table B.past_of self.old) from)) }
+        ensures fit { IfOk result (λ found. IfNone found ((n : ℕ) → from ≤ n → n < (disk_plan self.old).sectors
+            → IsSectorFit (disk_plan self.old) (disk_table B.past_of self.old) n)) }
+        ensures failed { OnErr result ((disk_failed self.old ≡ true)
+            ⊎ Rises (B.failures (disk_file self.old)) (B.failures (disk_file self.new))) }
+        ensures unfailed { from < (disk_plan self.old).sectors → OnOk result (disk_failed self.old ≡ false) }
+        ensures quiet { OnOk result (B.failures (disk_file self.new) ≡ B.failures (disk_file self.old)) }
+        ensures left_alone { disk_failed self.old ≡ true → disk_file self.new ≡ disk_file self.old }
+        ensures reads { ReadsAlone B.past_of self.old self.new }
+        ensures good { IsGood B.past_of self.old → IsGood B.past_of self.new }
         ensures disk { (disk_past B.past_of self.new).disk ≡ (disk_past B.past_of self.old).disk }
-        ensures plan { self.new.plan ≡ self.old.plan }
+        ensures plan { disk_plan self.new ≡ disk_plan self.old }
         ensures time { Elapses (disk_past B.past_of self.old) (disk_past B.past_of self.new) }
         ensures counts { CountsFailure (disk_failures B.failures self.old) (disk_failures B.failures self.new) result }
     {
@@ -132,15 +159,17 @@ impl<B: Blocks, A: Allocator + Copy> BlockDisk<B, A> {
 
     /// The blocks, with what was gathered since the last sync.
     pub fn into_checked(self) -> CheckedBlocks<B, A>
-        ensures { result ≡ self.now.checked }
+        ensures { result ≡ disk_blocks self }
     {
         self.parts.now.checked
     }
 }
 
 impl<B: Blocks, A: Allocator + Copy> Device for BlockDisk<B, A> {
-    ghost use Rattle.block_file.specs.Damage.{IsSectorFit};
-    ghost use Rattle.block_file.specs.Disks.{disk_failures, disk_past, journal_in};
+    ghost use Rattle.block_file.specs.Damage.{FitsAsBefore, IsSectorFit};
+    ghost use Rattle.block_file.specs.Disks.{ReadsAlone, disk_failed, disk_failures, disk_file, disk_number};
+    ghost use Rattle.block_file.specs.Disks.{disk_journal, disk_past, disk_plan, disk_settled, disk_table};
+    ghost use Rattle.block_file.specs.Good.{IsGood, OpensMeanwhile};
 
     ghost past_of = { λ d. disk_past B.past_of d };
 
@@ -151,7 +180,7 @@ impl<B: Blocks, A: Allocator + Copy> Device for BlockDisk<B, A> {
     }
 
     /// It answers only what fits its digest (`fits`). It fails where that doesn't, where the file does, and once a
-    /// commit has failed (`failed`).
+    /// commit has failed (`failed`). It only reads (`reads`).
     fn read(&mut self, n: u64, buffer: &mut [u8; SECTOR_SIZE]) -> Result<(), Failed>
         requires { n < length (disk_past B.past_of self.old).disk.content }
         ensures ok { OnOk result (buffer.new ≡ sector (disk_past B.past_of self.old).disk.content n) }
@@ -159,16 +188,23 @@ impl<B: Blocks, A: Allocator + Copy> Device for BlockDisk<B, A> {
         ensures disk { (disk_past B.past_of self.new).disk ≡ (disk_past B.past_of self.old).disk }
         ensures time { Elapses (disk_past B.past_of self.old) (disk_past B.past_of self.new) }
         ensures counts { CountsFailure (disk_failures B.failures self.old) (disk_failures B.failures self.new) result }
-        ensures fits { OnOk result (IsSectorFit self.old.plan (kept_table B.past_of self.old.now.checked) n) }
-        ensures failed { OnErr result (((journal_in self.old.now).has_failed ≡ true)
-            ⊎ Rises (B.failures (journal_in self.old.now).below) (B.failures (journal_in self.new.now).below)
-            ⊎ ¬ IsSectorFit self.old.plan (kept_table B.past_of self.old.now.checked) n) }
+        ensures fits { OnOk result (IsSectorFit (disk_plan self.old) (disk_table B.past_of self.old) n) }
+        ensures failed { OnErr result ((disk_failed self.old ≡ true)
+            ⊎ Rises (B.failures (disk_file self.old)) (B.failures (disk_file self.new))
+            ⊎ ¬ IsSectorFit (disk_plan self.old) (disk_table B.past_of self.old) n) }
+        ensures sound { OnOk result (disk_failed self.old ≡ false) }
+        ensures quiet { OnOk result (B.failures (disk_file self.new) ≡ B.failures (disk_file self.old)) }
+        ensures left_alone { disk_failed self.old ≡ true → disk_file self.new ≡ disk_file self.old }
+        ensures reads { ReadsAlone B.past_of self.old self.new }
+        ensures good { IsGood B.past_of self.old → IsGood B.past_of self.new }
     {
         self.parts.read(n, buffer)
     }
 
     /// Where it fails, the sector holds what it held (`kept`), unsynced. It fails as a read of the sector does, and
-    /// where a batch that is full can't be committed (`failed`).
+    /// where a batch that is full can't be committed (`failed`). The same blocks fit as before (`fits`), and a commit
+    /// has failed only where it had before, or that one does (`broken`). A crash meanwhile leaves a file that can be
+    /// opened (`opens`), with the table and the data as they were committed, or as they were put (`any_moment`).
     fn write(&mut self, n: u64, bytes: &[u8; SECTOR_SIZE]) -> Result<(), Failed>
         requires { n < length (disk_past B.past_of self.old).disk.content }
         ensures ok { OnOk result ((disk_past B.past_of self.new).disk
@@ -179,24 +215,52 @@ impl<B: Blocks, A: Allocator + Copy> Device for BlockDisk<B, A> {
         ensures counts { CountsFailure (disk_failures B.failures self.old) (disk_failures B.failures self.new) result }
         ensures kept { OnErr result ((disk_past B.past_of self.new).disk.content
             ≡ (disk_past B.past_of self.old).disk.content) }
-        ensures failed { OnErr result (((journal_in self.old.now).has_failed ≡ true)
-            ⊎ ((journal_in self.old.now).last.number ≡ 2 ^ 64 - 1)
-            ⊎ Rises (B.failures (journal_in self.old.now).below) (B.failures (journal_in self.new.now).below)
-            ⊎ ¬ IsSectorFit self.old.plan (kept_table B.past_of self.old.now.checked) n) }
+        ensures failed { OnErr result ((disk_failed self.old ≡ true) ⊎ (disk_number self.old ≡ 2 ^ 64 - 1)
+            ⊎ Rises (B.failures (disk_file self.old)) (B.failures (disk_file self.new))
+            ⊎ ¬ IsSectorFit (disk_plan self.old) (disk_table B.past_of self.old) n) }
+        ensures sound { OnOk result ((disk_failed self.old ≡ false) × (disk_failed self.new ≡ false)) }
+        ensures quiet { OnOk result (B.failures (disk_file self.new) ≡ B.failures (disk_file self.old)) }
+        ensures left_alone { disk_failed self.old ≡ true → disk_file self.new ≡ disk_file self.old }
+        ensures fits { FitsAsBefore (disk_plan self.old) (disk_table B.past_of self.old)
+            (disk_table B.past_of self.new) }
+        ensures broken { disk_failed self.new ≡ true → (disk_failed self.old ≡ true)
+            ⊎ (disk_number self.old ≡ 2 ^ 64 - 1)
+            ⊎ Rises (B.failures (disk_file self.old)) (B.failures (disk_file self.new)) }
+        ensures number { disk_number self.new ≤ disk_number self.old + 1 }
+        ensures settled { (disk_settled B.past_of self.new ≡ disk_settled B.past_of self.old)
+            ⊎ (disk_settled B.past_of self.new ≡ disk_table B.past_of self.old) }
+        ensures any_moment { disk_failed self.old ≡ false
+            → LeavesEither B.past_of (disk_journal self.old) (disk_journal self.new) }
+        ensures good { IsGood B.past_of self.old → disk_failed self.new ≡ false → IsGood B.past_of self.new }
+        ensures opens { IsGood B.past_of self.old → OpensMeanwhile B.past_of self.old self.new }
+        ensures plan { disk_plan self.new ≡ disk_plan self.old }
     {
         self.parts.write(n, bytes)
     }
 
-    /// It fails where the file does, once a commit has failed, and at the last number of 64 bits (`failed`).
+    /// It fails where the file does, once a commit has failed, and at the last number of 64 bits (`failed`). A crash
+    /// meanwhile leaves what one leaves in a write (`opens`, `any_moment`).
     fn sync(&mut self) -> Result<(), Failed>
         ensures ok { OnOk result ((disk_past B.past_of self.new).disk
             ≡ after_sync (disk_past B.past_of self.old).disk) }
         ensures err { OnErr result ((disk_past B.past_of self.new).disk ≡ (disk_past B.past_of self.old).disk) }
         ensures time { Elapses (disk_past B.past_of self.old) (disk_past B.past_of self.new) }
         ensures counts { CountsFailure (disk_failures B.failures self.old) (disk_failures B.failures self.new) result }
-        ensures failed { OnErr result (((journal_in self.old.now).has_failed ≡ true)
-            ⊎ ((journal_in self.old.now).last.number ≡ 2 ^ 64 - 1)
-            ⊎ Rises (B.failures (journal_in self.old.now).below) (B.failures (journal_in self.new.now).below)) }
+        ensures failed { OnErr result ((disk_failed self.old ≡ true) ⊎ (disk_number self.old ≡ 2 ^ 64 - 1)
+            ⊎ Rises (B.failures (disk_file self.old)) (B.failures (disk_file self.new))) }
+        ensures sound { OnOk result ((disk_failed self.old ≡ false) × (disk_failed self.new ≡ false)) }
+        ensures broken { OnErr result (disk_failed self.new ≡ true) }
+        ensures settled { OnOk result (disk_settled B.past_of self.new ≡ disk_table B.past_of self.old) }
+        ensures unsettled { OnErr result (disk_settled B.past_of self.new ≡ disk_settled B.past_of self.old) }
+        ensures any_moment { disk_failed self.old ≡ false
+            → LeavesEither B.past_of (disk_journal self.old) (disk_journal self.new) }
+        ensures good { IsGood B.past_of self.old → disk_failed self.new ≡ false → IsGood B.past_of self.new }
+        ensures opens { IsGood B.past_of self.old → OpensMeanwhile B.past_of self.old self.new }
+        ensures left_alone { disk_failed self.old ≡ true → disk_file self.new ≡ disk_file self.old }
+        ensures table { disk_table B.past_of self.new ≡ disk_table B.past_of self.old }
+        ensures quiet { OnOk result (B.failures (disk_file self.new) ≡ B.failures (disk_file self.old)) }
+        ensures number { OnOk result (disk_number self.new ≡ disk_number self.old + 1) }
+        ensures plan { disk_plan self.new ≡ disk_plan self.old }
     {
         self.parts.sync()
     }

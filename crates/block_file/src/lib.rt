@@ -8,7 +8,11 @@
 //! The file of a new device has zeros, whose digests fit, and two headers that tell where (`lay_out`, `create`). Of the
 //! sectors whose block doesn't fit its digest the first is told, and only such a one (`check`). Behind an end the file
 //! stands for the device whatever batches are lost (`close`). A file that tells no device is left alone (`left_alone`).
-//! Why a call of a device failed is told by `failed`.
+//! Why a call of a device failed is told by `failed`. Once a commit has failed, each call fails, and the file is left
+//! alone (`sound`, `left_alone`). Each block of an opened device fits, and goes on fitting (`good`). So, under the
+//! premise, what a crash leaves can be opened (`opens`, `again`), and is refused for want of memory or as the file
+//! failed, alone (`only`). A law: bytes that changed while a file wasn't open don't fit, unless they have the digest
+//! that they had (`changes_are_told`).
 //!
 //! Neither: the premise; that a file is opened where there is memory; that a call which may fail ever succeeds.
 #![tactic(auto)]
@@ -17,6 +21,7 @@ mod creating;
 mod disk;
 mod eighths;
 mod header;
+mod laws;
 mod making;
 mod opening;
 mod parts;
@@ -26,6 +31,7 @@ mod sectors;
 pub use creating::create;
 pub use disk::BlockDisk;
 pub use header::{read_header, spell_header};
+pub use laws::changes_are_told;
 pub use making::lay_out;
 pub use opening::{FileError, Refused, has_room, open};
 pub use parts::{DiskParts, Held};

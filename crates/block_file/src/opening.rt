@@ -2,13 +2,17 @@
 ghost use Rattle.std.specs.Prelude.{◌≡◌, ◌≢◌, ◌⊎◌, ◌<◌, ℕ, [], false, true, length, None, Some, IfErr, IfOk, IfSome};
 ghost use Rattle.sector_device.specs.Disk.{IsSynced};
 ghost use Rattle.sector_device.specs.DevicePast.{Rises};
-ghost use Rattle.block_journal.specs.Layout.{IsHonest, IsInside, found, recovered};
+ghost use Rattle.block_device.specs.BlocksPast.{LeavesOnly};
+ghost use Rattle.block_journal.specs.Layout.{IsHonest, IsInside, recovered};
 ghost use Rattle.block_journal.specs.Journal.{AreInAreas, LeavesBefore, OnlyReads, StaysRecovered};
 ghost use Rattle.block_journal.specs.Value.{failures_of};
 ghost use Rattle.block_table.specs.Checked.{settled_data, settled_table};
 ghost use Rattle.block_table.specs.Table.{EachFits, IsFirstUnfit};
-ghost use Rattle.block_file.specs.Disks.{disk_failures, disk_past, first_content, journal_in};
-ghost use Rattle.block_file.specs.Header.{HasNoPlan, IsCut, first_of, plan_told};
+ghost use Rattle.block_file.specs.Damage.{CanBeOpened, IsDamagedAt};
+ghost use Rattle.block_file.specs.Disks.{disk_failed, disk_failures, disk_file, disk_journal, disk_past, disk_plan};
+ghost use Rattle.block_file.specs.Disks.{disk_settled, disk_table, first_content};
+ghost use Rattle.block_file.specs.Good.{IsGood};
+ghost use Rattle.block_file.specs.Header.{HasNoBatch, HasNoPlan, IsCut, first_of, plan_told};
 ghost use Rattle.block_file.specs.Plans.{IsPlan, disk_image};
 ghost use Rattle.block_file.specs.Sectors.{sectors_of};
 
@@ -130,16 +134,18 @@ fn compared<B: Blocks, A: Allocator + Copy>(
     requires blocks { checked.blocks ≡ plan.blocks }
     requires none { checked.journal.next ≡ [] }
     requires good { checked.journal.has_failed ≡ false }
-    ensures plan { IfOk result (λ d. d.plan ≡ plan) }
+    ensures plan { IfOk result (λ d. disk_plan d ≡ plan) }
     ensures content { IfOk result (λ d. (disk_past B.past_of d).disk.content
         ≡ sectors_of plan.lead plan.sectors (settled_data B.past_of checked)) }
     ensures synced { IfOk result (λ d. IsSynced (disk_past B.past_of d).disk) }
     ensures fits { IfOk result (λ d. EachFits plan.blocks (settled_table B.past_of checked)) }
     ensures first { IfOk result (λ d. first_content B.past_of d ≡ (B.past_of checked.journal.below).file.content) }
     ensures failures { IfOk result (λ d. disk_failures B.failures d ≡ failures_of B.failures checked.journal) }
-    ensures offered { IfOk result (λ d. (journal_in d.now).offered ≡ checked.journal.offered) }
-    ensures read { IfOk result (λ d. OnlyReads (B.past_of checked.journal.below)
-        (B.past_of (journal_in d.now).below)) }
+    ensures offered { IfOk result (λ d. (disk_journal d).offered ≡ checked.journal.offered) }
+    ensures sound { IfOk result (λ d. disk_failed d ≡ false) }
+    ensures each { IfOk result (λ d. EachFits plan.blocks (disk_table B.past_of d)) }
+    ensures committed { IfOk result (λ d. disk_settled B.past_of d ≡ disk_table B.past_of d) }
+    ensures read { IfOk result (λ d. OnlyReads (B.past_of checked.journal.below) (B.past_of (disk_file d))) }
     ensures refused { IfErr result (λ e. OnlyReads (B.past_of checked.journal.below) (B.past_of e.file)) }
     ensures damaged { IfErr result (λ e. (n : ℕ) → e.error ≡ FileError.Damaged n
         → IsFirstUnfit plan.blocks (settled_table B.past_of checked) 0 n) }
@@ -164,32 +170,35 @@ fn compared<B: Blocks, A: Allocator + Copy>(
 }
 
 /// Opens a file of blocks: its header, or where the first one is damaged, the second; its journal; and each block of
-/// data is compared with its digest. No block of the file is loose.
+/// data is compared with its digest. No block of the file is loose. So each sector can be read, where the file
+/// doesn't fail (`good`).
 ///
 /// Whatever it answers, a crash at any moment of it leaves what stands for the same blocks (`any_moment`, `refused`),
 /// behind the same headers (`headers`, `headers_refused`). Where the file has no plan that it has room for, nothing is
-/// written (`left_alone`).
+/// written (`left_alone`). One that can be opened is refused for want of memory, or as the file failed (`only`), and a
+/// crash meanwhile leaves one that can be opened (`again`, `again_refused`).
 pub fn open<B: Blocks, A: Allocator + Copy>(
     alloc: A,
     below: B,
 ) -> Result<BlockDisk<B, A>, Refused<B>>
     requires { (n : ℕ) → (B.past_of below).file.loose n ≡ false }
-    ensures told { IfOk result (λ d. plan_told (B.past_of below).file.content ≡ Some d.plan) }
-    ensures still { IfOk result (λ d. plan_told (first_content B.past_of d) ≡ Some d.plan) }
+    ensures told { IfOk result (λ d. plan_told (B.past_of below).file.content ≡ Some (disk_plan d)) }
+    ensures still { IfOk result (λ d. plan_told (first_content B.past_of d) ≡ Some (disk_plan d)) }
     ensures content { IfOk result (λ d. (disk_past B.past_of d).disk.content
-        ≡ disk_image d.plan (B.past_of below).file.content) }
+        ≡ disk_image (disk_plan d) (B.past_of below).file.content) }
     ensures synced { IfOk result (λ d. IsSynced (disk_past B.past_of d).disk) }
-    ensures fits { IfOk result (λ d. EachFits d.plan.blocks
-        (recovered d.plan.shape (B.past_of below).file.content)) }
+    ensures fits { IfOk result (λ d. EachFits (disk_plan d).blocks
+        (recovered (disk_plan d).shape (B.past_of below).file.content)) }
+    ensures good { IfOk result (λ d. IsGood B.past_of d) }
     ensures failures { IfOk result (λ d. disk_failures B.failures d ≡ B.failures below) }
-    ensures honest { IfOk result (λ d. IsHonest (journal_in d.now).offered d.plan.shape
+    ensures honest { IfOk result (λ d. IsHonest (disk_journal d).offered (disk_plan d).shape
         (B.past_of below).file.content) }
-    ensures found { IfOk result (λ d. AreInAreas d.plan.shape (B.past_of below).file.content
-        (journal_in d.now).offered) }
-    ensures any_moment { IfOk result (λ d. StaysRecovered d.plan.shape (B.past_of below)
-        (B.past_of (journal_in d.now).below)) }
-    ensures headers { IfOk result (λ d. LeavesBefore d.plan.shape (B.past_of below)
-        (B.past_of (journal_in d.now).below)) }
+    ensures found { IfOk result (λ d. AreInAreas (disk_plan d).shape (B.past_of below).file.content
+        (disk_journal d).offered) }
+    ensures any_moment { IfOk result (λ d. StaysRecovered (disk_plan d).shape (B.past_of below)
+        (B.past_of (disk_file d))) }
+    ensures headers { IfOk result (λ d. LeavesBefore (disk_plan d).shape (B.past_of below)
+        (B.past_of (disk_file d))) }
     ensures left_alone { IfErr result (λ e. HasNoPlan (B.past_of below).file.content
         → OnlyReads (B.past_of below) (B.past_of e.file)) }
     ensures headers_refused { IfErr result (λ e. (p : Plan) → plan_told (B.past_of below).file.content ≡ Some p
@@ -197,19 +206,22 @@ pub fn open<B: Blocks, A: Allocator + Copy>(
     ensures refused { IfErr result (λ e. (p : Plan) → plan_told (B.past_of below).file.content ≡ Some p
         → IsInside p.shape (B.past_of below).file.content
         → StaysRecovered p.shape (B.past_of below) (B.past_of e.file)) }
-    ensures damaged { IfErr result (λ e. (n : ℕ) → e.error ≡ FileError.Damaged n → (p : Plan)
-        → plan_told (B.past_of below).file.content ≡ Some p
-        → IsFirstUnfit p.blocks (recovered p.shape (B.past_of below).file.content) 0 n) }
+    ensures damaged { IfErr result (λ e. (n : ℕ) → e.error ≡ FileError.Damaged n
+        → IsDamagedAt n (B.past_of below).file.content) }
     ensures no_header { IfErr result (λ e. e.error ≡ FileError.NoHeader
         → plan_told (B.past_of below).file.content ≡ None) }
     ensures too_short { IfErr result (λ e. e.error ≡ FileError.TooShort
         → (length (B.past_of below).file.content < 2) ⊎ IsCut (B.past_of below).file.content) }
     ensures failed { IfErr result (λ e. e.error ≡ FileError.FileFailed
         → Rises (B.failures below) (B.failures e.file)) }
-    ensures no_batch { IfErr result (λ e. e.error ≡ FileError.NoBatch → (p : Plan)
-        → plan_told (B.past_of below).file.content ≡ Some p
-        → (found p.shape (B.past_of below).file.content 0 ≡ None)
-        × (found p.shape (B.past_of below).file.content 1 ≡ None)) }
+    ensures no_batch { IfErr result (λ e. e.error ≡ FileError.NoBatch
+        → HasNoBatch (B.past_of below).file.content) }
+    ensures again { IfOk result (λ d. CanBeOpened (disk_plan d) (B.past_of below).file.content
+        → LeavesOnly (B.past_of below) (B.past_of (disk_file d)) (CanBeOpened (disk_plan d))) }
+    ensures again_refused { IfErr result (λ e. (p : Plan) → CanBeOpened p (B.past_of below).file.content
+        → LeavesOnly (B.past_of below) (B.past_of e.file) (CanBeOpened p)) }
+    ensures only { IfErr result (λ e. (p : Plan) → CanBeOpened p (B.past_of below).file.content
+        → (e.error ≡ FileError.NoMemory) ⊎ (e.error ≡ FileError.FileFailed)) }
 {
     let mut below = below;
     let plan = match read_plan(&mut below) {

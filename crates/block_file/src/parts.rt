@@ -3,7 +3,8 @@ ghost use Rattle.std.specs.Prelude.{◌≡◌, ◌⊎◌, ◌+◌, ◌-◌, ◌^
 ghost use Rattle.std.specs.Prelude.{OnErr, OnOk};
 ghost use Rattle.sector_device.specs.Disk.{IsFailedWrite, IsSynced, after_sync, after_write, sector};
 ghost use Rattle.sector_device.specs.DevicePast.{CountsFailure, Elapses, Rises};
-ghost use Rattle.block_table.specs.Checked.{CountsRead, kept_table};
+ghost use Rattle.block_journal.specs.Value.{LeavesEither};
+ghost use Rattle.block_table.specs.Checked.{CountsRead};
 
 use crate::Plan;
 use crate::sectors::{first_damaged, read_sector, write_sector};
@@ -50,20 +51,27 @@ fn count(damaged: &mut u64, done: Result<(), ReadError>) -> Result<(), Failed>
 
 impl<B: Blocks, A: Allocator + Copy> DiskParts<B, A> {
     ghost use Rattle.block_file.specs.Closing.{StandsAlone};
-    ghost use Rattle.block_file.specs.Damage.{IsFirstDamaged, IsSectorFit};
-    ghost use Rattle.block_file.specs.Disks.{disk_failures, disk_past, journal_in};
+    ghost use Rattle.block_file.specs.Damage.{FitsAsBefore, IsFirstDamaged, IsSectorFit};
+    ghost use Rattle.block_file.specs.Disks.{ReadsAlone, disk_failed, disk_failures, disk_file, disk_journal};
+    ghost use Rattle.block_file.specs.Disks.{disk_number, disk_past, disk_plan, disk_settled, disk_table};
+    ghost use Rattle.block_file.specs.Good.{IsGood, OpensMeanwhile};
     ghost use Rattle.block_file.specs.Moves.{IsSound};
 
     /// Reads a sector.
     pub(crate) fn read(&mut self, n: u64, buffer: &mut [u8; SECTOR_SIZE]) -> Result<(), Failed>
         requires sound { IsSound B.past_of self.old }
-        requires inside { n < self.old.plan.sectors }
+        requires inside { n < (disk_plan self.old).sectors }
         ensures ok { OnOk result (buffer.new ≡ sector (disk_past B.past_of self.old).disk.content n) }
         ensures err { OnErr result (buffer.new ≡ buffer.old) }
-        ensures fits { OnOk result (IsSectorFit self.old.plan (kept_table B.past_of self.old.now.checked) n) }
-        ensures failed { OnErr result (((journal_in self.old.now).has_failed ≡ true)
-            ⊎ Rises (B.failures (journal_in self.old.now).below) (B.failures (journal_in self.new.now).below)
-            ⊎ ¬ IsSectorFit self.old.plan (kept_table B.past_of self.old.now.checked) n) }
+        ensures fits { OnOk result (IsSectorFit (disk_plan self.old) (disk_table B.past_of self.old) n) }
+        ensures failed { OnErr result ((disk_failed self.old ≡ true)
+            ⊎ Rises (B.failures (disk_file self.old)) (B.failures (disk_file self.new))
+            ⊎ ¬ IsSectorFit (disk_plan self.old) (disk_table B.past_of self.old) n) }
+        ensures working { OnOk result (disk_failed self.old ≡ false) }
+        ensures quiet { OnOk result (B.failures (disk_file self.new) ≡ B.failures (disk_file self.old)) }
+        ensures left_alone { disk_failed self.old ≡ true → disk_file self.new ≡ disk_file self.old }
+        ensures reads { ReadsAlone B.past_of self.old self.new }
+        ensures good { IsGood B.past_of self.old → IsGood B.past_of self.new }
         ensures disk { (disk_past B.past_of self.new).disk ≡ (disk_past B.past_of self.old).disk }
         ensures time { Elapses (disk_past B.past_of self.old) (disk_past B.past_of self.new) }
         ensures counts { CountsFailure (disk_failures B.failures self.old) (disk_failures B.failures self.new) result }
@@ -77,17 +85,32 @@ impl<B: Blocks, A: Allocator + Copy> DiskParts<B, A> {
     /// Writes a sector. Where it fails, the sector holds what it held, unsynced.
     pub(crate) fn write(&mut self, n: u64, bytes: &[u8; SECTOR_SIZE]) -> Result<(), Failed>
         requires sound { IsSound B.past_of self.old }
-        requires inside { n < self.old.plan.sectors }
+        requires inside { n < (disk_plan self.old).sectors }
         ensures ok { OnOk result ((disk_past B.past_of self.new).disk
             ≡ after_write (disk_past B.past_of self.old).disk n bytes.now) }
         ensures err { OnErr result (IsFailedWrite (disk_past B.past_of self.old).disk n
             (disk_past B.past_of self.new).disk) }
         ensures kept { OnErr result ((disk_past B.past_of self.new).disk.content
             ≡ (disk_past B.past_of self.old).disk.content) }
-        ensures failed { OnErr result (((journal_in self.old.now).has_failed ≡ true)
-            ⊎ ((journal_in self.old.now).last.number ≡ 2 ^ 64 - 1)
-            ⊎ Rises (B.failures (journal_in self.old.now).below) (B.failures (journal_in self.new.now).below)
-            ⊎ ¬ IsSectorFit self.old.plan (kept_table B.past_of self.old.now.checked) n) }
+        ensures failed { OnErr result ((disk_failed self.old ≡ true) ⊎ (disk_number self.old ≡ 2 ^ 64 - 1)
+            ⊎ Rises (B.failures (disk_file self.old)) (B.failures (disk_file self.new))
+            ⊎ ¬ IsSectorFit (disk_plan self.old) (disk_table B.past_of self.old) n) }
+        ensures working { OnOk result ((disk_failed self.old ≡ false) × (disk_failed self.new ≡ false)) }
+        ensures quiet { OnOk result (B.failures (disk_file self.new) ≡ B.failures (disk_file self.old)) }
+        ensures left_alone { disk_failed self.old ≡ true → disk_file self.new ≡ disk_file self.old }
+        ensures fits { FitsAsBefore (disk_plan self.old) (disk_table B.past_of self.old)
+            (disk_table B.past_of self.new) }
+        ensures broken { disk_failed self.new ≡ true → (disk_failed self.old ≡ true)
+            ⊎ (disk_number self.old ≡ 2 ^ 64 - 1)
+            ⊎ Rises (B.failures (disk_file self.old)) (B.failures (disk_file self.new)) }
+        ensures number { disk_number self.new ≤ disk_number self.old + 1 }
+        ensures settled { (disk_settled B.past_of self.new ≡ disk_settled B.past_of self.old)
+            ⊎ (disk_settled B.past_of self.new ≡ disk_table B.past_of self.old) }
+        ensures any_moment { disk_failed self.old ≡ false
+            → LeavesEither B.past_of (disk_journal self.old) (disk_journal self.new) }
+        ensures good { IsGood B.past_of self.old → disk_failed self.new ≡ false → IsGood B.past_of self.new }
+        ensures opens { IsGood B.past_of self.old → OpensMeanwhile B.past_of self.old self.new }
+        ensures plan { disk_plan self.new ≡ disk_plan self.old }
         ensures time { Elapses (disk_past B.past_of self.old) (disk_past B.past_of self.new) }
         ensures counts { CountsFailure (disk_failures B.failures self.old) (disk_failures B.failures self.new) result }
         ensures sound { IsSound B.past_of self.new }
@@ -104,15 +127,22 @@ impl<B: Blocks, A: Allocator + Copy> DiskParts<B, A> {
         ensures ok { OnOk result ((disk_past B.past_of self.new).disk
             ≡ after_sync (disk_past B.past_of self.old).disk) }
         ensures err { OnErr result ((disk_past B.past_of self.new).disk ≡ (disk_past B.past_of self.old).disk) }
-        ensures none { OnOk result ((journal_in self.new.now).next ≡ []) }
-        ensures good { OnOk result ((journal_in self.new.now).has_failed ≡ false) }
-        ensures last { OnOk result ((journal_in self.new.now).last.number ≡ (journal_in self.old.now).last.number + 1) }
-        ensures quiet { OnOk result (B.failures (journal_in self.new.now).below
-            ≡ B.failures (journal_in self.old.now).below) }
-        ensures fails { OnErr result (((journal_in self.old.now).has_failed ≡ true)
-            ⊎ ((journal_in self.old.now).last.number ≡ 2 ^ 64 - 1)
-            ⊎ Rises (B.failures (journal_in self.old.now).below) (B.failures (journal_in self.new.now).below)) }
-        ensures plan { self.new.plan ≡ self.old.plan }
+        ensures none { OnOk result ((disk_journal self.new).next ≡ []) }
+        ensures working { OnOk result ((disk_failed self.old ≡ false) × (disk_failed self.new ≡ false)) }
+        ensures broken { OnErr result (disk_failed self.new ≡ true) }
+        ensures settled { OnOk result (disk_settled B.past_of self.new ≡ disk_table B.past_of self.old) }
+        ensures unsettled { OnErr result (disk_settled B.past_of self.new ≡ disk_settled B.past_of self.old) }
+        ensures any_moment { disk_failed self.old ≡ false
+            → LeavesEither B.past_of (disk_journal self.old) (disk_journal self.new) }
+        ensures good { IsGood B.past_of self.old → disk_failed self.new ≡ false → IsGood B.past_of self.new }
+        ensures opens { IsGood B.past_of self.old → OpensMeanwhile B.past_of self.old self.new }
+        ensures left_alone { disk_failed self.old ≡ true → disk_file self.new ≡ disk_file self.old }
+        ensures table { disk_table B.past_of self.new ≡ disk_table B.past_of self.old }
+        ensures last { OnOk result (disk_number self.new ≡ disk_number self.old + 1) }
+        ensures quiet { OnOk result (B.failures (disk_file self.new) ≡ B.failures (disk_file self.old)) }
+        ensures fails { OnErr result ((disk_failed self.old ≡ true) ⊎ (disk_number self.old ≡ 2 ^ 64 - 1)
+            ⊎ Rises (B.failures (disk_file self.old)) (B.failures (disk_file self.new))) }
+        ensures plan { disk_plan self.new ≡ disk_plan self.old }
         ensures time { Elapses (disk_past B.past_of self.old) (disk_past B.past_of self.new) }
         ensures counts { CountsFailure (disk_failures B.failures self.old) (disk_failures B.failures self.new) result }
         ensures sound { IsSound B.past_of self.new }
@@ -127,15 +157,21 @@ impl<B: Blocks, A: Allocator + Copy> DiskParts<B, A> {
     // Puts all blocks in their places, behind a sync, so that no area of the journal is needed.
     fn settle(&mut self) -> Result<(), Failed>
         requires sound { IsSound B.past_of self.old }
-        requires none { (journal_in self.old.now).next ≡ [] }
-        ensures fails { OnErr result (((journal_in self.old.now).has_failed ≡ true)
-            ⊎ ((journal_in self.old.now).last.number ≡ 2 ^ 64 - 1)
-            ⊎ Rises (B.failures (journal_in self.old.now).below) (B.failures (journal_in self.new.now).below)) }
+        requires none { (disk_journal self.old).next ≡ [] }
+        ensures working { OnOk result ((disk_failed self.old ≡ false) × (disk_failed self.new ≡ false)) }
+        ensures broken { OnErr result (disk_failed self.new ≡ true) }
+        ensures settled { OnOk result (disk_settled B.past_of self.new ≡ disk_table B.past_of self.old) }
+        ensures good { IsGood B.past_of self.old → disk_failed self.new ≡ false → IsGood B.past_of self.new }
+        ensures left_alone { disk_failed self.old ≡ true → disk_file self.new ≡ disk_file self.old }
+        ensures table { disk_table B.past_of self.new ≡ disk_table B.past_of self.old }
+        ensures quiet { OnOk result (B.failures (disk_file self.new) ≡ B.failures (disk_file self.old)) }
+        ensures fails { OnErr result ((disk_failed self.old ≡ true) ⊎ (disk_number self.old ≡ 2 ^ 64 - 1)
+            ⊎ Rises (B.failures (disk_file self.old)) (B.failures (disk_file self.new))) }
         ensures disk { (disk_past B.past_of self.new).disk ≡ (disk_past B.past_of self.old).disk }
-        ensures alone { OnOk result (StandsAlone self.old.plan
-            (B.past_of (journal_in self.new.now).below).file.content (disk_past B.past_of self.old).disk.content) }
-        ensures safe { OnOk result ((n : ℕ) → (B.past_of (journal_in self.new.now).below).file.loose n ≡ false) }
-        ensures plan { self.new.plan ≡ self.old.plan }
+        ensures alone { OnOk result (StandsAlone (disk_plan self.old)
+            (B.past_of (disk_file self.new)).file.content (disk_past B.past_of self.old).disk.content) }
+        ensures safe { OnOk result ((n : ℕ) → (B.past_of (disk_file self.new)).file.loose n ≡ false) }
+        ensures plan { disk_plan self.new ≡ disk_plan self.old }
         ensures time { Elapses (disk_past B.past_of self.old) (disk_past B.past_of self.new) }
         ensures counts { CountsFailure (disk_failures B.failures self.old) (disk_failures B.failures self.new) result }
         ensures sound { IsSound B.past_of self.new }
@@ -149,13 +185,19 @@ impl<B: Blocks, A: Allocator + Copy> DiskParts<B, A> {
         requires sound { IsSound B.past_of self.old }
         ensures content { (disk_past B.past_of self.new).disk.content ≡ (disk_past B.past_of self.old).disk.content }
         ensures synced { OnOk result (IsSynced (disk_past B.past_of self.new).disk) }
-        ensures alone { OnOk result (StandsAlone self.old.plan
-            (B.past_of (journal_in self.new.now).below).file.content (disk_past B.past_of self.old).disk.content) }
-        ensures safe { OnOk result ((n : ℕ) → (B.past_of (journal_in self.new.now).below).file.loose n ≡ false) }
-        ensures failed { OnErr result (((journal_in self.old.now).has_failed ≡ true)
-            ⊎ (2 ^ 64 - 2 ≤ (journal_in self.old.now).last.number)
-            ⊎ Rises (B.failures (journal_in self.old.now).below) (B.failures (journal_in self.new.now).below)) }
-        ensures plan { self.new.plan ≡ self.old.plan }
+        ensures alone { OnOk result (StandsAlone (disk_plan self.old)
+            (B.past_of (disk_file self.new)).file.content (disk_past B.past_of self.old).disk.content) }
+        ensures safe { OnOk result ((n : ℕ) → (B.past_of (disk_file self.new)).file.loose n ≡ false) }
+        ensures failed { OnErr result ((disk_failed self.old ≡ true) ⊎ (2 ^ 64 - 2 ≤ disk_number self.old)
+            ⊎ Rises (B.failures (disk_file self.old)) (B.failures (disk_file self.new))) }
+        ensures working { OnOk result ((disk_failed self.old ≡ false) × (disk_failed self.new ≡ false)) }
+        ensures broken { OnErr result (disk_failed self.new ≡ true) }
+        ensures settled { OnOk result (disk_settled B.past_of self.new ≡ disk_table B.past_of self.old) }
+        ensures good { IsGood B.past_of self.old → disk_failed self.new ≡ false → IsGood B.past_of self.new }
+        ensures left_alone { disk_failed self.old ≡ true → disk_file self.new ≡ disk_file self.old }
+        ensures table { disk_table B.past_of self.new ≡ disk_table B.past_of self.old }
+        ensures quiet { OnOk result (B.failures (disk_file self.new) ≡ B.failures (disk_file self.old)) }
+        ensures plan { disk_plan self.new ≡ disk_plan self.old }
         ensures time { Elapses (disk_past B.past_of self.old) (disk_past B.past_of self.new) }
         ensures counts { CountsFailure (disk_failures B.failures self.old) (disk_failures B.failures self.new) result }
         ensures sound { IsSound B.past_of self.new }
@@ -167,14 +209,19 @@ impl<B: Blocks, A: Allocator + Copy> DiskParts<B, A> {
     /// The first sector, from a number on, whose block doesn't fit its digest.
     pub(crate) fn check(&mut self, from: u64) -> Result<Option<u64>, Failed>
         requires sound { IsSound B.past_of self.old }
-        ensures damaged { IfOk result (λ found. IfSome found (IsFirstDamaged self.old.plan
-            (kept_table B.past_of self.old.now.checked) from)) }
-        ensures fit { IfOk result (λ found. IfNone found ((n : ℕ) → from ≤ n → n < self.old.plan.sectors
-            → IsSectorFit self.old.plan (kept_table B.past_of self.old.now.checked) n)) }
-        ensures failed { OnErr result (((journal_in self.old.now).has_failed ≡ true)
-            ⊎ Rises (B.failures (journal_in self.old.now).below) (B.failures (journal_in self.new.now).below)) }
+        ensures damaged { IfOk result (λ found. IfSome found (IsFirstDamaged (disk_plan self.old)
+            (disk_table B.past_of self.old) from)) }
+        ensures fit { IfOk result (λ found. IfNone found ((n : ℕ) → from ≤ n → n < (disk_plan self.old).sectors
+            → IsSectorFit (disk_plan self.old) (disk_table B.past_of self.old) n)) }
+        ensures failed { OnErr result ((disk_failed self.old ≡ true)
+            ⊎ Rises (B.failures (disk_file self.old)) (B.failures (disk_file self.new))) }
+        ensures unfailed { from < (disk_plan self.old).sectors → OnOk result (disk_failed self.old ≡ false) }
+        ensures quiet { OnOk result (B.failures (disk_file self.new) ≡ B.failures (disk_file self.old)) }
+        ensures left_alone { disk_failed self.old ≡ true → disk_file self.new ≡ disk_file self.old }
+        ensures reads { ReadsAlone B.past_of self.old self.new }
+        ensures good { IsGood B.past_of self.old → IsGood B.past_of self.new }
         ensures disk { (disk_past B.past_of self.new).disk ≡ (disk_past B.past_of self.old).disk }
-        ensures plan { self.new.plan ≡ self.old.plan }
+        ensures plan { disk_plan self.new ≡ disk_plan self.old }
         ensures time { Elapses (disk_past B.past_of self.old) (disk_past B.past_of self.new) }
         ensures counts { CountsFailure (disk_failures B.failures self.old) (disk_failures B.failures self.new) result }
         ensures sound { IsSound B.past_of self.new }

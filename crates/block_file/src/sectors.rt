@@ -1,12 +1,12 @@
 // Sectors are read and written, in blocks of data.
 ghost use Rattle.std.specs.Prelude.{◌≡◌, ◌≢◌, ◌⊎◌, ◌+◌, ◌-◌, ◌/◌, ◌^◌, ◌<◌, ◌≤◌, ℕ, Err, IfNone, IfOk, IfSome, OnErr};
-ghost use Rattle.std.specs.Prelude.{OnOk, slice_set, true};
+ghost use Rattle.std.specs.Prelude.{OnOk, slice_set, true, false};
 ghost use Rattle.sector_device.specs.Disk.{sector};
 ghost use Rattle.sector_device.specs.DevicePast.{CountsFailure, Rises};
 ghost use Rattle.block_journal.specs.Journal.{OnlyReads};
 ghost use Rattle.block_journal.specs.Value.{failures_of, room_of};
 ghost use Rattle.block_table.specs.Checked.{CountsRead, data_now, kept_table};
-ghost use Rattle.block_file.specs.Damage.{IsFirstDamaged, IsSectorFit};
+ghost use Rattle.block_file.specs.Damage.{FitsAsBefore, IsFirstDamaged, IsSectorFit};
 ghost use Rattle.block_file.specs.Moves.{Moves};
 ghost use Rattle.block_file.specs.Plans.{IsPlan};
 ghost use Rattle.block_file.specs.Sectors.{sectors_of};
@@ -35,6 +35,9 @@ pub(crate) fn read_sector<B: Blocks, A: Allocator + Copy>(
     ensures failed { OnErr result ((checked.old.journal.has_failed ≡ true)
         ⊎ Rises (B.failures checked.old.journal.below) (B.failures checked.new.journal.below)
         ⊎ ¬ IsSectorFit plan (kept_table B.past_of checked.old) n) }
+    ensures sound { OnOk result (checked.old.journal.has_failed ≡ false) }
+    ensures quiet { OnOk result (B.failures checked.new.journal.below ≡ B.failures checked.old.journal.below) }
+    ensures alone { checked.old.journal.has_failed ≡ true → checked.new.journal.below ≡ checked.old.journal.below }
     ensures rest { checked.new ≡ record checked.old {
       journal = record checked.old.journal {
         below = checked.new.journal.below;
@@ -58,8 +61,10 @@ fn make_room<B: Blocks, A: Allocator + Copy>(
 ) -> Result<(), ReadError>
     requires { 2 < checked.old.journal.shape.area }
     ensures room { OnOk result (1 < room_of checked.new.journal) }
-    ensures good { OnOk result (checked.new.journal.has_failed ≡ true → checked.old.journal.has_failed ≡ true) }
+    ensures good { OnOk result (checked.new.journal.has_failed ≡ checked.old.journal.has_failed) }
     ensures quiet { OnOk result (B.failures checked.new.journal.below ≡ B.failures checked.old.journal.below) }
+    ensures number { checked.new.journal.last.number ≤ checked.old.journal.last.number + 1 }
+    ensures alone { checked.old.journal.has_failed ≡ true → checked.new.journal.below ≡ checked.old.journal.below }
     ensures fails { OnErr result ((checked.old.journal.has_failed ≡ true)
         ⊎ (checked.old.journal.last.number ≡ 2 ^ 64 - 1)
         ⊎ Rises (B.failures checked.old.journal.below) (B.failures checked.new.journal.below)) }
@@ -96,6 +101,15 @@ pub(crate) fn write_sector<B: Blocks, A: Allocator + Copy>(
         ⊎ (checked.old.journal.last.number ≡ 2 ^ 64 - 1)
         ⊎ Rises (B.failures checked.old.journal.below) (B.failures checked.new.journal.below)
         ⊎ ¬ IsSectorFit plan (kept_table B.past_of checked.old) n) }
+    ensures sound { OnOk result ((checked.old.journal.has_failed ≡ false)
+        × (checked.new.journal.has_failed ≡ false)) }
+    ensures quiet { OnOk result (B.failures checked.new.journal.below ≡ B.failures checked.old.journal.below) }
+    ensures fits { FitsAsBefore plan (kept_table B.past_of checked.old) (kept_table B.past_of checked.new) }
+    ensures broken { checked.new.journal.has_failed ≡ true → (checked.old.journal.has_failed ≡ true)
+        ⊎ (checked.old.journal.last.number ≡ 2 ^ 64 - 1)
+        ⊎ Rises (B.failures checked.old.journal.below) (B.failures checked.new.journal.below) }
+    ensures number { checked.new.journal.last.number ≤ checked.old.journal.last.number + 1 }
+    ensures alone { checked.old.journal.has_failed ≡ true → checked.new.journal.below ≡ checked.old.journal.below }
     ensures moves { Moves B.past_of checked.old checked.new }
     ensures counts { CountsRead (failures_of B.failures checked.old.journal)
         (failures_of B.failures checked.new.journal) result }
@@ -145,6 +159,9 @@ pub(crate) fn first_damaged<B: Blocks, A: Allocator + Copy>(
         → IsSectorFit plan (kept_table B.past_of checked.old) n)) }
     ensures failed { OnErr result ((checked.old.journal.has_failed ≡ true)
         ⊎ Rises (B.failures checked.old.journal.below) (B.failures checked.new.journal.below)) }
+    ensures unfailed { from < plan.sectors → OnOk result (checked.old.journal.has_failed ≡ false) }
+    ensures quiet { OnOk result (B.failures checked.new.journal.below ≡ B.failures checked.old.journal.below) }
+    ensures alone { checked.old.journal.has_failed ≡ true → checked.new.journal.below ≡ checked.old.journal.below }
     ensures rest { checked.new ≡ record checked.old {
       journal = record checked.old.journal {
         below = checked.new.journal.below;

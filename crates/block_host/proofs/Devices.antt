@@ -3,9 +3,11 @@ use Rattle.std.proofs.Common.{◌≡◌, ◌≢◌, ◌⊎◌, inl, inr, ℕ, �
 use Rattle.std.proofs.lemmas.Bool.{and_parts, ltb-true}
 use Rattle.std.proofs.Math.ListN.{length-replicate}
 use Rattle.block_device.specs.Blocks.{BlockFile, CrashFile, block, zero_block}
+use Rattle.block_device.specs.BlocksPast.{LeavesOnly}
 use Rattle.block_journal.specs.Journal.{LeavesBefore, StaysRecovered}
 use Rattle.block_journal.specs.Layout.{IsInside, kept_start, recovered}
 use Rattle.block_table.specs.Table.{EachFits}
+use Rattle.block_file.specs.Damage.{CanBeOpened}
 use Rattle.block_file.specs.Disks.{disk_past, journal_in}
 use Rattle.block_file.specs.Header.{CanBeTold, plan_told}
 use Rattle.block_file.specs.Plans.{disk_image}
@@ -28,12 +30,14 @@ module _ {F A : Type 0} (b : FileBlocks F A) (d : DiskParts (FileBlocks F A) A) 
       (stays.kept 0 (omega arith) ∙ subst (λ (t : ℕ). (past_of b).file_at t ≡ (past_of b).file) none (past_of b).now)
 
   pub opened : plan_told (past_of b).file.content ≡ Some d.plan → (disk_past past_of d).disk.content ≡ disk_image d.plan (past_of b).file.content
-      → EachFits d.plan.blocks (recovered d.plan.shape (past_of b).file.content) → IsOpened d
-  opened told content fits = record {
+      → EachFits d.plan.blocks (recovered d.plan.shape (past_of b).file.content)
+      → (CanBeOpened d.plan (past_of b).file.content → LeavesOnly (past_of b) (past_of (journal_in d.now).below) (CanBeOpened d.plan)) → IsOpened d
+  opened told content fits again = record {
     told = ap plan_told as_read ∙ told;
     content = content ∙ ap (disk_image d.plan) (sym as_read);
     fits = subst (λ (l : CrashFile). EachFits d.plan.blocks (recovered d.plan.shape l)) (sym as_read) fits;
     any_moment = λ t c from to crash. stays.each t c (omega (arith, none)) to crash ∙ ap (recovered d.plan.shape) (sym as_read);
+    opens = λ can t c from to crash. (again (subst (CanBeOpened d.plan) as_read can)).each t c (omega (arith, none)) to crash;
     headers = λ t c from to crash n below. before.each t c (omega (arith, none)) to crash n below ∙ ap (λ (l : CrashFile). block l n) (sym as_read);
   }
 

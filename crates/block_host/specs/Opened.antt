@@ -4,6 +4,7 @@ use Rattle.block_device.specs.Blocks.{CrashFile, block}
 use Rattle.block_device.specs.BlocksPast.{Between, BlocksPast}
 use Rattle.block_journal.specs.Layout.{recovered}
 use Rattle.block_table.specs.Table.{EachFits}
+use Rattle.block_file.specs.Damage.{CanBeOpened}
 use Rattle.block_file.specs.Disks.{disk_past, journal_in}
 use Rattle.block_file.specs.Header.{plan_told}
 use Rattle.block_file.specs.Plans.{disk_image}
@@ -25,10 +26,11 @@ module _ {F A : Type 0} where
   SinceRead d P = Between (file_past d).file_at 0 (file_past d).moment P
 
   -- As it was read, the file told this device, and each block of data fitted its digest. Whatever a crash leaves since
-  -- then stands for the same blocks, behind the same headers.
+  -- then stands for the same blocks, behind the same headers, and can be opened if the file could.
   pub record IsOpened (d : DiskParts (FileBlocks F A) A) : Type 0 where
     pub told : plan_told (first_read d) ≡ Some d.plan
     pub content : (disk_past past_of d).disk.content ≡ disk_image d.plan (first_read d)
     pub fits : EachFits d.plan.blocks (recovered d.plan.shape (first_read d))
     pub any_moment : SinceRead d (λ c. recovered d.plan.shape c ≡ recovered d.plan.shape (first_read d))
+    pub opens : CanBeOpened d.plan (first_read d) → SinceRead d (CanBeOpened d.plan)
     pub headers : SinceRead d (λ c. (n : ℕ) → n < d.plan.shape.first → block c n ≡ block (first_read d) n)

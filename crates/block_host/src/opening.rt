@@ -3,7 +3,8 @@ ghost use Rattle.std.specs.Prelude.{◌≡◌, ◌≢◌, ◌⊎◌, ◌+◌, �
 ghost use Rattle.sector_device.specs.Disk.{IsSynced};
 ghost use Rattle.sector_device.specs.Values.{zero_sector};
 ghost use Rattle.block_device.specs.Blocks.{zero_block};
-ghost use Rattle.block_file.specs.Disks.{disk_failures, disk_past, first_content};
+ghost use Rattle.block_file.specs.Disks.{disk_failures, disk_past, disk_plan, first_content};
+ghost use Rattle.block_file.specs.Good.{IsGood};
 ghost use Rattle.block_file.specs.Header.{CanBeTold, TellTwice, plan_told};
 ghost use Rattle.block_file.specs.declared.opening.FileError.{FileError};
 ghost use Rattle.block_file.specs.declared.opening.FileError.TheVariants.{FileFailed, NoMemory};
@@ -75,8 +76,9 @@ pub fn open_disk<R: Files, A: Allocator + Copy>(
 where
     R::File: StoreFile,
     ensures opened { IfOk result (λ d. IsOpened d) }
-    ensures still { IfOk result (λ d. plan_told (first_content past_of d) ≡ Some d.plan) }
+    ensures still { IfOk result (λ d. plan_told (first_content past_of d) ≡ Some (disk_plan d)) }
     ensures synced { IfOk result (λ d. IsSynced (disk_past past_of d).disk) }
+    ensures good { IfOk result (λ d. IsGood past_of d) }
     ensures failures { IfOk result (λ d. disk_failures failures_of d ≡ 0) }
 {
     let below = open(rt, alloc, path)?;
@@ -98,11 +100,12 @@ pub fn create_disk<R: Files + AllocGlobal, A: Allocator + Copy>(
 where
     R::File: StoreFile,
     requires { CanBeTold plan }
-    ensures plan { IfOk result (λ d. d.plan ≡ plan) }
+    ensures plan { IfOk result (λ d. disk_plan d ≡ plan) }
     ensures still { IfOk result (λ d. plan_told (first_content past_of d) ≡ Some plan) }
     ensures headers { IfOk result (λ d. TellTwice plan (first_content past_of d)) }
     ensures zeros { IfOk result (λ d. (disk_past past_of d).disk.content ≡ replicate plan.sectors zero_sector) }
     ensures synced { IfOk result (λ d. IsSynced (disk_past past_of d).disk) }
+    ensures good { IfOk result (λ d. IsGood past_of d) }
     ensures failures { IfOk result (λ d. disk_failures failures_of d ≡ 0) }
     ensures refused { IfErr result (λ e. (error : FileError) → e ≡ DiskError.File error
         → (error ≡ NoMemory) ⊎ (error ≡ FileFailed)) }

@@ -6,6 +6,7 @@ mod Committing
 pub mod Crash
 mod Entries
 mod Honest
+pub mod Keeping
 mod Loading
 mod Next
 pub mod OnlyReading

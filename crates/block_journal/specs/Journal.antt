@@ -54,6 +54,15 @@ StaysRecovered g old new = LeavesOnly old new (λ c. recovered g c ≡ recovered
 abbrev pub LeavesBefore : Shape → BlocksPast → BlocksPast → Type 0
 LeavesBefore g old new = LeavesOnly old new (λ c. (n : ℕ) → n < g.first → block c n ≡ block old.file.content n)
 
+-- whatever a crash leaves from the one moment to the other has room for the journal, and this batch in its area
+abbrev pub KeepsBatch : Shape → Batch → BlocksPast → BlocksPast → Type 0
+KeepsBatch g last old new = LeavesOnly old new (λ c. IsInside g c × (found g c (last.number % 2) ≡ Some last))
+
+-- and so for the batches that both areas had
+abbrev pub KeepsAreas : Shape → BlocksPast → BlocksPast → Type 0
+KeepsAreas g old new = LeavesOnly old new
+    (λ c. IsInside g c × ((a : ℕ) → a < 2 → found g c a ≡ found g old.file.content a))
+
 -- each of these batches is in one of the areas
 abbrev pub AreInAreas : Shape → CrashFile → List Batch → Type 0
 AreInAreas g image batches = (x : Batch) → Contains batches x → (found g image 0 ≡ Some x) ⊎ (found g image 1 ≡ Some x)

@@ -1,12 +1,12 @@
 //! A journal over a file of blocks.
-ghost use Rattle.std.specs.Prelude.{◌≡◌, ◌⊎◌, ◌+◌, ◌-◌, ◌^◌, ◌%◌, ◌<◌, ◌≤◌, ℕ, [], false, true, None, OnOk, OnErr};
-ghost use Rattle.std.specs.Prelude.{slice_set, Contains, IfOk, IfErr};
+ghost use Rattle.std.specs.Prelude.{◌≡◌, ◌⊎◌, ◌+◌, ◌-◌, ◌^◌, ◌%◌, ◌<◌, ◌≤◌, ℕ, [], false, true, None, Some, OnOk};
+ghost use Rattle.std.specs.Prelude.{OnErr, slice_set, Contains, IfOk, IfErr};
 ghost use Rattle.sector_device.specs.DevicePast.{CountsFailure, Rises};
 ghost use Rattle.block_device.specs.Blocks.{CrashFile, IsCrashFile, IsSynced, block};
 ghost use Rattle.block_batch.specs.Batch.{Batch, block_digest, replayed};
 ghost use Rattle.block_journal.specs.Layout.{IsHonest, IsInside, found, kept_of, recovered};
-ghost use Rattle.block_journal.specs.Journal.{AreInAreas, IsPending, LeavesBefore, NeedsNoArea, OnlyReads};
-ghost use Rattle.block_journal.specs.Journal.{StaysRecovered};
+ghost use Rattle.block_journal.specs.Journal.{AreInAreas, IsPending, KeepsAreas, KeepsBatch, LeavesBefore};
+ghost use Rattle.block_journal.specs.Journal.{NeedsNoArea, OnlyReads, StaysRecovered};
 ghost use Rattle.block_journal.specs.Value.{LeavesEither, Offers, content_of, failures_of, next_batch, room_of};
 ghost use Rattle.block_journal.specs.Value.{settled_of};
 
@@ -55,7 +55,8 @@ impl<B: Blocks, A: Allocator + Copy> Journal<B, A> {
     /// Opens the journal of a file. What the last batches left that a crash cut off is replayed, and synced.
     ///
     /// No block is loose but those that a replay sets. Whatever it answers, a crash at any moment of it leaves what
-    /// stands for the same blocks (`any_moment`, `refused`).
+    /// stands for the same blocks (`any_moment`, `refused`), and has the batches of both areas (`batches`,
+    /// `batches_refused`).
     pub fn open(alloc: A, below: B, shape: Shape) -> Result<Self, Unopened<B>>
         requires inside { IsInside shape (B.past_of below).file.content }
         requires synced { (n : ℕ) → ¬ IsPending shape (B.past_of below).file.content n
@@ -68,10 +69,12 @@ impl<B: Blocks, A: Allocator + Copy> Journal<B, A> {
         ensures found { IfOk result (λ j. AreInAreas shape (B.past_of below).file.content j.offered) }
         ensures any_moment { IfOk result (λ j. StaysRecovered shape (B.past_of below) (B.past_of j.below)) }
         ensures before { IfOk result (λ j. LeavesBefore shape (B.past_of below) (B.past_of j.below)) }
+        ensures batches { IfOk result (λ j. KeepsAreas shape (B.past_of below) (B.past_of j.below)) }
         ensures quiet { IfOk result (λ j. B.failures j.below ≡ B.failures below) }
         ensures unrefused { IfOk result (λ j. j.refused ≡ 0) }
         ensures refused { IfErr result (λ e. StaysRecovered shape (B.past_of below) (B.past_of e.file)) }
         ensures before_refused { IfErr result (λ e. LeavesBefore shape (B.past_of below) (B.past_of e.file)) }
+        ensures batches_refused { IfErr result (λ e. KeepsAreas shape (B.past_of below) (B.past_of e.file)) }
         ensures no_batch { IfErr result (λ e. e.error ≡ OpenError.NoBatch
             → (found shape (B.past_of below).file.content 0 ≡ None)
             × (found shape (B.past_of below).file.content 1 ≡ None)) }
@@ -151,8 +154,9 @@ impl<B: Blocks, A: Allocator + Copy> Journal<B, A> {
     /// fails where the file does, once the journal has failed, and at the last number of 64 bits.
     ///
     /// A crash at any moment of it leaves, under the premise, the blocks as they were settled, or with those that were
-    /// gathered (`any_moment`). Once a call has failed, no other one is made of the file (`refused`). Where nothing was
-    /// gathered, it puts all blocks in their places, and then needs no area (`places`, `areas`).
+    /// gathered (`any_moment`). It leaves the last batch in its area too, so that an opening finds one (`holds`). Once
+    /// a call has failed, no other one is made of the file (`refused`). Where nothing was gathered, it puts all blocks
+    /// in their places, and then needs no area (`places`, `areas`).
     pub fn commit(&mut self) -> Result<(), Failed>
         ensures ok { OnOk result (settled_of B.past_of self.new ≡ content_of B.past_of self.old) }
         ensures none { OnOk result (self.new.next ≡ []) }
@@ -172,6 +176,8 @@ impl<B: Blocks, A: Allocator + Copy> Journal<B, A> {
         ensures offered { Offers self.old self.new }
         ensures before { self.old.has_failed ≡ false
             → LeavesBefore self.old.shape (B.past_of self.old.below) (B.past_of self.new.below) }
+        ensures holds { self.old.has_failed ≡ false
+            → KeepsBatch self.old.shape self.old.last (B.past_of self.old.below) (B.past_of self.new.below) }
         ensures refused { self.old.has_failed ≡ true → self.new ≡ record self.old { refused = self.new.refused } }
         ensures shape { self.new.shape ≡ self.old.shape }
         ensures fails { OnErr result ((self.old.has_failed ≡ true) ⊎ (self.old.last.number ≡ 2 ^ 64 - 1)
@@ -209,6 +215,8 @@ impl<B: Blocks, A: Allocator + Copy> Journal<B, A> {
         ensures offered { Offers self.old self.new }
         ensures before { self.old.has_failed ≡ false
             → LeavesBefore self.old.shape (B.past_of self.old.below) (B.past_of self.new.below) }
+        ensures holds { self.old.has_failed ≡ false
+            → KeepsBatch self.old.shape self.old.last (B.past_of self.old.below) (B.past_of self.new.below) }
         ensures refused { self.old.has_failed ≡ true → self.new ≡ record self.old { refused = self.new.refused } }
         ensures shape { self.new.shape ≡ self.old.shape }
         ensures fails { OnErr result ((self.old.has_failed ≡ true) ⊎ (self.old.last.number ≡ 2 ^ 64 - 1)
@@ -218,12 +226,15 @@ impl<B: Blocks, A: Allocator + Copy> Journal<B, A> {
         self.commit()
     }
 
-    /// A law: a journal lies within its file. One that hasn't failed has no loose block, and what a crash leaves of it
-    /// now stands, under the premise, for the settled blocks. The premise holds of the file as it is (`honest`). The
-    /// last batch was handed to be written, or found (`last`), and none of a higher number (`latest`).
+    /// A law: a journal lies within its file. One that hasn't failed has no loose block, and its last batch in its area
+    /// (`here`); what a crash leaves of it now stands, under the premise, for the settled blocks. The premise holds of
+    /// the file as it is (`honest`). The last batch was handed to be written, or found (`last`), and none of a higher
+    /// number (`latest`).
     pub fn stands(&self)
         ensures inside { IsInside self.now.shape (B.past_of self.now.below).file.content }
         ensures synced { self.now.has_failed ≡ false → IsSynced (B.past_of self.now.below).file }
+        ensures here { self.now.has_failed ≡ false → found self.now.shape (B.past_of self.now.below).file.content
+            (self.now.last.number % 2) ≡ Some self.now.last }
         ensures survives { self.now.has_failed ≡ false → (c : CrashFile) → IsCrashFile (B.past_of self.now.below).file c
             → IsHonest self.now.offered self.now.shape c
             → recovered self.now.shape c ≡ settled_of B.past_of self.now }

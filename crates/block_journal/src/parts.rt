@@ -5,8 +5,8 @@ ghost use Rattle.sector_device.specs.DevicePast.{CountsFailure, Rises};
 ghost use Rattle.block_device.specs.Blocks.{CrashFile, block};
 ghost use Rattle.block_device.specs.BlocksPast.{BlocksPast, RunsWithin};
 ghost use Rattle.block_journal.specs.Layout.{IsHonest, IsInside, found, kept_start, recovered};
-ghost use Rattle.block_journal.specs.Journal.{AreInAreas, InRunOrKept, IsPending, LeavesBefore, MayWrite, OnlyReads};
-ghost use Rattle.block_journal.specs.Journal.{StaysRecovered, pending_in};
+ghost use Rattle.block_journal.specs.Journal.{AreInAreas, InRunOrKept, IsPending, KeepsAreas, LeavesBefore, MayWrite};
+ghost use Rattle.block_journal.specs.Journal.{OnlyReads, StaysRecovered, pending_in};
 ghost use Rattle.block_journal.specs.Value.{content_of, next_batch, settled_of};
 
 use crate::gathered::Gathered;
@@ -135,6 +135,7 @@ impl<B: Blocks, A: Allocator + Copy> JournalParts<B, A> {
             (value_of self.new).offered) }
         ensures stays { StaysRecovered self.old.shape (B.past_of self.old.below) (B.past_of self.new.below) }
         ensures before { LeavesBefore self.old.shape (B.past_of self.old.below) (B.past_of self.new.below) }
+        ensures batches { KeepsAreas self.old.shape (B.past_of self.old.below) (B.past_of self.new.below) }
         ensures quiet { OnOk result (B.failures self.new.below ≡ B.failures self.old.below) }
         ensures no_memory { IfErr result (λ e. e ≢ OpenError.NoMemory) }
         ensures no_batch { IfErr result (λ e. e ≡ OpenError.NoBatch

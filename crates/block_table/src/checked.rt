@@ -1,11 +1,11 @@
 //! Blocks of data, each with a digest.
-ghost use Rattle.std.specs.Prelude.{◌≡◌, ◌≢◌, ◌⊎◌, ◌↔◌, ◌/◌, ◌+◌, ◌-◌, ◌^◌, ◌≤◌, ◌<◌, ℕ, [], true, false, None, Err};
-ghost use Rattle.std.specs.Prelude.{slice_set, Contains, IfErr, IfNone, IfOk, IfSome, OnErr, OnOk};
+ghost use Rattle.std.specs.Prelude.{◌≡◌, ◌≢◌, ◌⊎◌, ◌↔◌, ◌/◌, ◌%◌, ◌+◌, ◌-◌, ◌^◌, ◌≤◌, ◌<◌, ℕ, [], true, false, None};
+ghost use Rattle.std.specs.Prelude.{Err, Some, slice_set, Contains, IfErr, IfNone, IfOk, IfSome, OnErr, OnOk};
 ghost use Rattle.sector_device.specs.DevicePast.{CountsFailure, Rises};
 ghost use Rattle.block_device.specs.Blocks.{CrashFile, IsCrashFile, IsSynced, block};
 ghost use Rattle.block_journal.specs.Layout.{IsHonest, IsInside, found, kept_of, recovered};
-ghost use Rattle.block_journal.specs.Journal.{AreInAreas, IsPending, LeavesBefore, NeedsNoArea, OnlyReads};
-ghost use Rattle.block_journal.specs.Journal.{StaysRecovered};
+ghost use Rattle.block_journal.specs.Journal.{AreInAreas, IsPending, KeepsAreas, KeepsBatch, LeavesBefore};
+ghost use Rattle.block_journal.specs.Journal.{NeedsNoArea, OnlyReads, StaysRecovered};
 ghost use Rattle.block_batch.specs.Batch.{Batch};
 ghost use Rattle.block_journal.specs.Value.{LeavesEither, Offers, failures_of, next_batch, room_of};
 ghost use Rattle.block_table.specs.Table.{IsFirstUnfit, IsFit, kept_count};
@@ -74,10 +74,12 @@ impl<B: Blocks, A: Allocator + Copy> CheckedBlocks<B, A> {
         ensures found { IfOk result (λ c. AreInAreas shape (B.past_of below).file.content c.journal.offered) }
         ensures any_moment { IfOk result (λ c. StaysRecovered shape (B.past_of below) (B.past_of c.journal.below)) }
         ensures before { IfOk result (λ c. LeavesBefore shape (B.past_of below) (B.past_of c.journal.below)) }
+        ensures batches { IfOk result (λ c. KeepsAreas shape (B.past_of below) (B.past_of c.journal.below)) }
         ensures quiet { IfOk result (λ c. B.failures c.journal.below ≡ B.failures below) }
         ensures unrefused { IfOk result (λ c. c.journal.refused ≡ 0) }
         ensures refused { IfErr result (λ e. StaysRecovered shape (B.past_of below) (B.past_of e.file)) }
         ensures before_refused { IfErr result (λ e. LeavesBefore shape (B.past_of below) (B.past_of e.file)) }
+        ensures batches_refused { IfErr result (λ e. KeepsAreas shape (B.past_of below) (B.past_of e.file)) }
         ensures no_batch { IfErr result (λ e. e.error ≡ OpenError.NoBatch
             → (found shape (B.past_of below).file.content 0 ≡ None)
             × (found shape (B.past_of below).file.content 1 ≡ None)) }
@@ -107,11 +109,13 @@ impl<B: Blocks, A: Allocator + Copy> CheckedBlocks<B, A> {
     }
 
     /// Reads a block of data: as it was put, or else as it was committed. `Damaged` where it doesn't fit its digest.
+    /// Once a commit has failed, it fails (`sound`).
     pub fn read(&mut self, n: u64, bytes: &mut [u8; BLOCK_SIZE]) -> Result<(), ReadError>
         requires { n < self.old.blocks }
         ensures ok { OnOk result (bytes.new ≡ block (data_now B.past_of self.old) n) }
         ensures fits { OnOk result (IsFit self.old.blocks (kept_table B.past_of self.old) n) }
         ensures damaged { result ≡ Err ReadError.Damaged → ¬ IsFit self.old.blocks (kept_table B.past_of self.old) n }
+        ensures sound { result ≢ Err ReadError.FileFailed → self.old.journal.has_failed ≡ false }
         ensures err { OnErr result (bytes.new ≡ bytes.old) }
         ensures failed { result ≡ Err ReadError.FileFailed → (self.old.journal.has_failed ≡ true)
             ⊎ Rises (B.failures self.old.journal.below) (B.failures self.new.journal.below) }
@@ -145,7 +149,8 @@ impl<B: Blocks, A: Allocator + Copy> CheckedBlocks<B, A> {
         Ok(())
     }
 
-    /// The first block of data, from a number on, that doesn't fit its digest.
+    /// The first block of data, from a number on, that doesn't fit its digest. Once a commit has failed, it fails,
+    /// unless there is no block from that number on (`unfailed`), and leaves the file alone (`alone`).
     pub fn check(&mut self, from: u64) -> Result<Option<u64>, Failed>
         ensures unfit { IfOk result (λ found. IfSome found (IsFirstUnfit self.old.blocks
             (kept_table B.past_of self.old) from)) }
@@ -159,6 +164,9 @@ impl<B: Blocks, A: Allocator + Copy> CheckedBlocks<B, A> {
         } }
         ensures failed { OnErr result ((self.old.journal.has_failed ≡ true)
             ⊎ Rises (B.failures self.old.journal.below) (B.failures self.new.journal.below)) }
+        ensures unfailed { from < self.old.blocks → OnOk result (self.old.journal.has_failed ≡ false) }
+        ensures quiet { OnOk result (B.failures self.new.journal.below ≡ B.failures self.old.journal.below) }
+        ensures alone { self.old.journal.has_failed ≡ true → self.new.journal.below ≡ self.old.journal.below }
         ensures reads { OnlyReads (B.past_of self.old.journal.below) (B.past_of self.new.journal.below) }
         ensures counts { CountsFailure (failures_of B.failures self.old.journal)
             (failures_of B.failures self.new.journal) result }
@@ -211,6 +219,8 @@ impl<B: Blocks, A: Allocator + Copy> CheckedBlocks<B, A> {
         ensures offered { Offers self.old.journal self.new.journal }
         ensures before { self.old.journal.has_failed ≡ false → LeavesBefore self.old.journal.shape
             (B.past_of self.old.journal.below) (B.past_of self.new.journal.below) }
+        ensures holds { self.old.journal.has_failed ≡ false → KeepsBatch self.old.journal.shape self.old.journal.last
+            (B.past_of self.old.journal.below) (B.past_of self.new.journal.below) }
         ensures refused { self.old.journal.has_failed ≡ true → self.new.journal ≡ record self.old.journal {
           refused = self.new.journal.refused;
         } }
@@ -245,6 +255,8 @@ impl<B: Blocks, A: Allocator + Copy> CheckedBlocks<B, A> {
         ensures offered { Offers self.old.journal self.new.journal }
         ensures before { self.old.journal.has_failed ≡ false → LeavesBefore self.old.journal.shape
             (B.past_of self.old.journal.below) (B.past_of self.new.journal.below) }
+        ensures holds { self.old.journal.has_failed ≡ false → KeepsBatch self.old.journal.shape self.old.journal.last
+            (B.past_of self.old.journal.below) (B.past_of self.new.journal.below) }
         ensures refused { self.old.journal.has_failed ≡ true → self.new.journal ≡ record self.old.journal {
           refused = self.new.journal.refused;
         } }
@@ -266,6 +278,9 @@ impl<B: Blocks, A: Allocator + Copy> CheckedBlocks<B, A> {
         ensures inside { IsInside self.now.journal.shape (B.past_of self.now.journal.below).file.content }
         ensures kept { self.now.journal.shape.kept ≡ kept_count self.now.blocks }
         ensures synced { self.now.journal.has_failed ≡ false → IsSynced (B.past_of self.now.journal.below).file }
+        ensures here { self.now.journal.has_failed ≡ false → found self.now.journal.shape
+            (B.past_of self.now.journal.below).file.content (self.now.journal.last.number % 2)
+            ≡ Some self.now.journal.last }
         ensures survives { self.now.journal.has_failed ≡ false → (c : CrashFile)
             → IsCrashFile (B.past_of self.now.journal.below).file c
             → IsHonest self.now.journal.offered self.now.journal.shape c

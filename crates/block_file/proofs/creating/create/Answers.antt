@@ -1,12 +1,13 @@
-use Rattle.std.proofs.Common.{◌≡◌, ◌⊎◌, inl, inr, ℕ, ◌<◌, [], Some, None, sym, ◌∙◌, ap, subst, arith}
+use Rattle.std.proofs.Common.{◌≡◌, ◌⊎◌, inl, inr, ℕ, ◌<◌, List, [], Some, None, sym, ◌∙◌, ap, subst, arith}
 use Rattle.sector_device.specs.DevicePast.{Rises}
 use Rattle.block_device.specs.Blocks.{CrashFile, block}
 use Rattle.block_device.specs.BlocksPast.{BlocksPast}
 use Rattle.block_device.proofs.CrashFiles.{content_is_image, crash_synced}
 use Rattle.block_device.proofs.Moments.{at_end, joined, started}
+use Rattle.block_batch.specs.Batch.{Entry, replayed}
 use Rattle.block_journal.specs.Layout.{found, recovered}
 use Rattle.block_journal.specs.Journal.{StaysRecovered}
-use Rattle.block_journal.specs.Value.{JournalValue, settled_of}
+use Rattle.block_journal.specs.Value.{JournalValue, content_of, settled_of}
 use Rattle.block_journal.proofs.Placing.{inside_same}
 use Rattle.block_journal.proofs.Results.{from_err, from_ok}
 use Rattle.block_table.specs.Checked.{CheckedValue}
@@ -15,8 +16,10 @@ use Rattle.block_file.specs.declared.plan.Plan.{Plan}
 use Rattle.block_file.specs.Header.{TellTwice, plan_told}
 use Rattle.block_file.specs.Making.{BecomesZeros, HoldsZeros}
 use Rattle.block_file.specs.Sectors.{sectors_of}
+use Rattle.block_file.specs.Disks.{journal_in}
 use Rattle.block_file.proofs.Heading.{still_told, twice_still}
 use Rattle.block_file.proofs.NewFile.{leaves_weaker, same_zeros, told_is_plan, told_small}
+use Rattle.block_file.proofs.Reopening.{good_opened}
 use Rattle.block_file.proofs.creating.create.Goals as goal
 
 -- what stays recovered goes on holding zeros
@@ -66,7 +69,7 @@ returns-then-is_err g c =
       headers = tt;
       content = tt;
       synced = tt;
-      fits = tt;
+      good = tt;
       failures = tt;
       any_moment = tt;
       refused = c.lay_out.ensures.any_moment;
@@ -100,8 +103,14 @@ returns-in-Ok g c =
           (twice_still end.file.content mid.file.content plan (from_ok _ _ good c.lay_out.ensures.headers) stays);
       content = over.content ∙ (λ i. sectors_of plan.lead plan.sectors (data_of (opened.blocks i) (table i))) ∙ held.zeros;
       synced = over.synced;
-      fits = subst (λ (l : CrashFile). EachFits plan.blocks l)
-          (sym (ap (λ (v : JournalValue g.row.B.Denot). settled_of h v) over.journal ∙ table)) held.fits;
+      good = good_opened h c.over.result plan over.plan
+          (ap plan_told over.first ∙ still_told end.file.content mid.file.content plan (from_ok _ _ good c.lay_out.ensures.told) stays)
+          (ap (λ (v : JournalValue g.row.B.Denot). v.has_failed) over.journal ∙ opened.sound)
+          (subst (λ (l : CrashFile). EachFits plan.blocks l)
+          (sym (ap (λ (v : JournalValue g.row.B.Denot). content_of h v) over.journal
+          ∙ ap (λ (l : List Entry). replayed l (settled_of h checked.journal)) opened.none ∙ table)) held.fits)
+          (sym (ap (λ (l : List Entry). replayed l (settled_of h (journal_in c.over.result.now)))
+          (ap (λ (v : JournalValue g.row.B.Denot). v.next) over.journal ∙ opened.none)));
       failures = omega (arith, over.failures, opened.quiet, opened.unrefused, from_ok _ _ good c.lay_out.ensures.counts.none);
       any_moment = subst (λ (v : JournalValue g.row.B.Denot). BecomesZeros plan old (h v.below)) (sym over.journal)
           (goes_on plan old mid (h checked.journal.below) c.lay_out.ensures.any_moment held opened.any_moment);
@@ -132,7 +141,7 @@ returns-in-Err g c =
       headers = tt;
       content = tt;
       synced = tt;
-      fits = tt;
+      good = tt;
       failures = tt;
       any_moment = tt;
       refused = goes_on plan old mid (h c.in-Err.refused.file) c.lay_out.ensures.any_moment held refused.refused;

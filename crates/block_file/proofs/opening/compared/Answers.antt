@@ -4,11 +4,12 @@ use Rattle.sector_device.specs.DevicePast.{Rises}
 use Rattle.block_device.specs.Blocks.{BlockFile, CrashFile}
 use Rattle.block_batch.specs.Batch.{Entry, replayed}
 use Rattle.block_journal.specs.Journal.{OnlyReads}
-use Rattle.block_journal.specs.Value.{JournalValue}
+use Rattle.block_journal.specs.Value.{JournalValue, content_of, settled_of}
 use Rattle.block_table.specs.Checked.{CheckedValue, kept_table, settled_table}
-use Rattle.block_table.specs.Table.{IsFirstUnfit, IsFit, data_of}
-use Rattle.block_table.proofs.Contents.{settled_read}
+use Rattle.block_table.specs.Table.{EachFits, IsFirstUnfit, IsFit, data_of}
+use Rattle.block_table.proofs.Contents.{settled_read, table_read}
 use Rattle.block_file.specs.Sectors.{sectors_of}
+use Rattle.block_file.specs.Disks.{journal_in}
 use Rattle.block_file.proofs.opening.compared.Goals as goal
 
 pub over-requires : goal.over-requires
@@ -45,6 +46,15 @@ returns-in-Ok-None g c =
       failures = c.over.ensures.failures ∙ c.in-Ok-None.ensures.counts.none;
       offered = ap (λ (v : JournalValue g.row.B.Denot). v.offered) c.over.ensures.journal
           ∙ ap (λ (v : JournalValue g.row.B.Denot). v.offered) journal;
+      sound = ap (λ (v : JournalValue g.row.B.Denot). v.has_failed) c.over.ensures.journal
+          ∙ ap (λ (v : JournalValue g.row.B.Denot). v.has_failed) journal ∙ c.requires.good;
+      each = subst (λ (l : CrashFile). EachFits plan.blocks l)
+          (sym (ap (λ (v : JournalValue g.row.B.Denot). content_of h v) c.over.ensures.journal ∙ table_read h old new done.rest done.reads))
+          (λ n low. subst (λ (b : ℕ). IsFit b (kept_table h old) n) c.requires.blocks (sound n (omega arith) (omega (arith, low, c.requires.blocks))));
+      committed =
+          let none = ap (λ (v : JournalValue g.row.B.Denot). v.next) c.over.ensures.journal
+          ∙ ap (λ (v : JournalValue g.row.B.Denot). v.next) journal ∙ c.requires.none in
+          sym (ap (λ (l : List Entry). replayed l (settled_of h (journal_in c.over.result.now))) none);
       read = subst (λ (v : JournalValue g.row.B.Denot). OnlyReads (h old.journal.below) (h v.below)) (sym c.over.ensures.journal) done.reads;
       refused = tt;
       damaged = tt;
@@ -70,6 +80,9 @@ returns-in-Ok-Some g c =
       first = tt;
       failures = tt;
       offered = tt;
+      sound = tt;
+      each = tt;
+      committed = tt;
       read = tt;
       refused = subst (λ (b : g.row.B.Denot). OnlyReads (h old.journal.below) (h b)) (sym c.into_file.ensures) done.reads;
       damaged = λ n is.
@@ -94,6 +107,9 @@ returns-in-Err g c =
       first = tt;
       failures = tt;
       offered = tt;
+      sound = tt;
+      each = tt;
+      committed = tt;
       read = tt;
       refused = subst (λ (b : g.row.B.Denot). OnlyReads (h c.args.checked.journal.below) (h b)) (sym c.into_file-in-Err.ensures)
           c.check.ensures.reads;

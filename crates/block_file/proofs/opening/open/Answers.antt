@@ -4,21 +4,24 @@ use Rattle.sector_device.specs.DevicePast.{Rises}
 use Rattle.block_device.specs.Blocks.{CrashFile, BlockFile, block}
 use Rattle.block_device.proofs.CrashFiles.{content_is_image}
 use Rattle.block_device.proofs.Moments.{at_end}
-use Rattle.block_device.specs.BlocksPast.{BlocksPast}
+use Rattle.block_device.specs.BlocksPast.{BlocksPast, LeavesOnly}
 use Rattle.block_batch.specs.Batch.{Batch}
 use Rattle.block_journal.specs.Layout.{IsHonest, IsInside, found, recovered}
 use Rattle.block_journal.specs.Journal.{AreInAreas, LeavesBefore, StaysRecovered}
 use Rattle.block_journal.proofs.Before.{before_read}
+use Rattle.block_journal.proofs.Keeping.{areas_read}
 use Rattle.block_table.specs.Checked.{CheckedValue, settled_table}
 use Rattle.block_table.specs.Table.{EachFits, IsFirstUnfit, data_of}
 use Rattle.block_table.proofs.Contents.{stays_read}
 use Rattle.block_file.specs.declared.plan.Plan.{Plan}
+use Rattle.block_file.specs.Damage.{CanBeOpened}
 use Rattle.block_file.specs.Plans.{disk_image}
 use Rattle.block_file.specs.Disks.{disk_past, first_content, journal_in}
 use Rattle.block_file.specs.Header.{plan_told}
 use Rattle.block_file.proofs.Heading.{still_told}
 use Rattle.block_file.specs.Sectors.{sectors_of}
-use Rattle.block_file.proofs.Openings.{before_then, if_ok, reads_before, reads_recovered, same_plan, stays_then}
+use Rattle.block_file.proofs.Openings.{before_then, if_err4, if_ok, if_ok5, reads_before, reads_recovered, same_plan, stays_then, why_refused}
+use Rattle.block_file.proofs.Reopening.{good_opened, reads_reopen, reopens_then}
 use Rattle.block_file.proofs.opening.open.Goals as goal
 
 pub returns-then-not-has_room-clause-refused : goal.returns-then-not-has_room-clause-refused
@@ -91,10 +94,15 @@ returns-in-Ok-open-clause-damaged g c =
     let old : BlockFile = (h c.args.below).file in
     let table : settled_table h checked ≡ recovered plan.shape old.content =
     c.in-Ok-open.ensures.settled ∙ ap (λ (f : BlockFile). recovered plan.shape f.content) c.in-Ok.ensures.reads.file in
+    let inside = subst (λ (f : BlockFile). IsInside plan.shape f.content) c.in-Ok.ensures.reads.file
+    (c.has_room.ensures.room c.if-not-has_room.false) in
     IfErr-weaker c.compared.result _ _
-    (λ e damaged n is p told. subst (λ (q : Plan). IsFirstUnfit q.blocks (recovered q.shape old.content) 0 n)
-    (same_plan _ plan p c.in-Ok.ensures.told told)
-    (subst (λ (l : CrashFile). IsFirstUnfit plan.blocks l 0 n) table (damaged n is)))
+    (λ e damaged n is. (
+      plan,
+      c.in-Ok.ensures.told,
+      inside,
+      subst (λ (l : CrashFile). IsFirstUnfit plan.blocks l 0 n) table (damaged n is),
+    ))
     c.compared.ensures.damaged
 
 pub returns-in-Err-open-clause-refused : goal.returns-in-Err-open-clause-refused
@@ -125,6 +133,8 @@ returns-in-Err g c =
       found = tt;
       any_moment = tt;
       headers = tt;
+      again = tt;
+      good = tt;
       left_alone = λ _. c.in-Err.ensures.reads;
       headers_refused = λ p told. reads_before p.shape (h c.args.below) (h c.read_plan.new.below) c.requires c.in-Err.ensures.reads;
       refused = λ p told inside. reads_recovered p.shape (h c.args.below) (h c.read_plan.new.below) c.requires c.in-Err.ensures.reads;
@@ -133,6 +143,9 @@ returns-in-Err g c =
       too_short = λ is. inl (c.in-Err.ensures.short is);
       failed = c.in-Err.ensures.failed;
       no_batch = λ is. absurd (c.in-Err.ensures.batch is);
+      again_refused = λ p can. reads_reopen p (h c.args.below) (h c.read_plan.new.below) c.requires can c.in-Err.ensures.reads;
+      only = λ p can. why_refused c.in-Err.error (g.B.Blocks.past_of c.args.below).file.content p can c.in-Err.ensures.none
+          (λ is. inl (c.in-Err.ensures.short is)) (λ is. absurd (c.in-Err.ensures.batch is)) (λ n is. absurd (c.in-Err.ensures.undamaged n is));
     }
 
 pub returns-then-not-has_room-clause-too_short : goal.returns-then-not-has_room-clause-too_short
@@ -156,14 +169,16 @@ pub returns-in-Err-open-clause-too_short : goal.returns-in-Err-open-clause-too_s
 returns-in-Err-open-clause-too_short g c = λ is. absurd (c.error_of.ensures.short is)
 
 pub returns-in-Err-open-clause-no_batch : goal.returns-in-Err-open-clause-no_batch
-returns-in-Err-open-clause-no_batch g c = λ is p told.
+returns-in-Err-open-clause-no_batch g c = λ is.
     let plan : Plan = c.in-Ok.plan in
     let same = c.in-Ok.ensures.reads.file in
-    let none = c.in-Err-open.ensures.no_batch (c.error_of.ensures.batch is) in
-    subst (λ (q : Plan). (found q.shape (g.B.Blocks.past_of c.args.below).file.content 0 ≡ None)
-    × (found q.shape (g.B.Blocks.past_of c.args.below).file.content 1 ≡ None))
-    (same_plan _ plan p c.in-Ok.ensures.told told)
-    (subst (λ (f : BlockFile). (found plan.shape f.content 0 ≡ None) × (found plan.shape f.content 1 ≡ None)) same none)
+    let none = c.in-Err-open.ensures.no_batch (c.error_of.ensures.batch is) in (
+      plan,
+      c.in-Ok.ensures.told,
+      subst (λ (f : BlockFile). IsInside plan.shape f.content) same (c.has_room.ensures.room c.if-not-has_room.false),
+      subst (λ (f : BlockFile). found plan.shape f.content 0 ≡ None) same none.0,
+      subst (λ (f : BlockFile). found plan.shape f.content 1 ≡ None) same none.1,
+    )
 
 pub returns-in-Ok-open-clause-still : goal.returns-in-Ok-open-clause-still
 returns-in-Ok-open-clause-still g c =
@@ -289,3 +304,109 @@ returns-in-Ok-open-clause-found g c =
     (λ d is same. subst (λ (p : Plan). AreInAreas p.shape old (journal_in d.now).offered) (sym is)
     (subst (λ (l : List Batch). AreInAreas plan.shape old l) (sym same) known))
     c.compared.ensures.plan c.compared.ensures.offered
+
+-- ---- each sector can be read
+
+pub returns-in-Ok-open-clause-good : goal.returns-in-Ok-open-clause-good
+returns-in-Ok-open-clause-good g c =
+    let h = g.B.Blocks.past_of in
+    let plan : Plan = c.in-Ok.plan in
+    let checked : CheckedValue g.row.B.Denot = c.in-Ok-open.checked in
+    let mid : BlocksPast = h c.read_plan.new.below in
+    let end : BlocksPast = h checked.journal.below in
+    let told : plan_told mid.file.content ≡ Some plan = ap (λ (f : BlockFile). plan_told f.content) c.in-Ok.ensures.reads.file ∙ c.in-Ok.ensures.told in
+    let stays = at_end mid end (λ image. (n : ℕ) → n < plan.shape.first → block image n ≡ block mid.file.content n) c.in-Ok-open.ensures.before
+    end.file.content (content_is_image end.file end.whole) in
+    let now : plan_told end.file.content ≡ Some plan = still_told end.file.content mid.file.content plan told stays in
+    if_ok5 c.compared.result _ _ _ _ _ _
+    (λ d is first sound each committed. good_opened h d plan is (ap plan_told first ∙ now) sound each committed)
+    c.compared.ensures.plan c.compared.ensures.first c.compared.ensures.sound c.compared.ensures.each c.compared.ensures.committed
+
+-- ---- a file that can be opened
+
+pub returns-then-not-has_room-clause-only : goal.returns-then-not-has_room-clause-only
+returns-then-not-has_room-clause-only g c = λ p can.
+    let plan : Plan = c.in-Ok.plan in
+    let same = c.in-Ok.ensures.reads.file in
+    let inside = subst (λ (q : Plan). IsInside q.shape (g.B.Blocks.past_of c.args.below).file.content)
+    (same_plan _ p plan can.told c.in-Ok.ensures.told) can.inside in
+    absurd (c.has_room.ensures.short c.if-not-has_room.true (subst (λ (f : BlockFile). IsInside plan.shape f.content) (sym same) inside))
+
+pub returns-in-Ok-open-clause-only : goal.returns-in-Ok-open-clause-only
+returns-in-Ok-open-clause-only g c =
+    let h = g.B.Blocks.past_of in
+    let plan : Plan = c.in-Ok.plan in
+    let checked : CheckedValue g.row.B.Denot = c.in-Ok-open.checked in
+    let old : BlockFile = (h c.args.below).file in
+    let table : settled_table h checked ≡ recovered plan.shape old.content =
+    c.in-Ok-open.ensures.settled ∙ ap (λ (f : BlockFile). recovered plan.shape f.content) c.in-Ok.ensures.reads.file in
+    if_err4 c.compared.result _ _ _ _ _
+    (λ e header short batch damaged p can. why_refused e.error old.content p can (λ is. absurd (header is)) (λ is. absurd (short is))
+    (λ is. absurd (batch is)) (λ n is. (
+      plan,
+      c.in-Ok.ensures.told,
+      subst (λ (f : BlockFile). IsInside plan.shape f.content) c.in-Ok.ensures.reads.file (c.has_room.ensures.room c.if-not-has_room.false),
+      subst (λ (l : CrashFile). IsFirstUnfit plan.blocks l 0 n) table (damaged n is),
+    ))) c.compared.ensures.header c.compared.ensures.short c.compared.ensures.batch c.compared.ensures.damaged
+
+pub returns-in-Err-open-clause-only : goal.returns-in-Err-open-clause-only
+returns-in-Err-open-clause-only g c = λ p can.
+    let plan : Plan = c.in-Ok.plan in
+    let same = c.in-Ok.ensures.reads.file in
+    let kind = c.error_of.ensures in
+    why_refused c.error_of.result (g.B.Blocks.past_of c.args.below).file.content p can (λ is. absurd (kind.header is)) (λ is. absurd (kind.short is))
+    (λ is. (
+      plan,
+      c.in-Ok.ensures.told,
+      subst (λ (f : BlockFile). IsInside plan.shape f.content) same (c.has_room.ensures.room c.if-not-has_room.false),
+      subst (λ (f : BlockFile). found plan.shape f.content 0 ≡ None) same (c.in-Err-open.ensures.no_batch (kind.batch is)).0,
+      subst (λ (f : BlockFile). found plan.shape f.content 1 ≡ None) same (c.in-Err-open.ensures.no_batch (kind.batch is)).1,
+    )) (λ n is. absurd (kind.undamaged n is))
+
+pub returns-then-not-has_room-clause-again_refused : goal.returns-then-not-has_room-clause-again_refused
+returns-then-not-has_room-clause-again_refused g c = λ p can.
+    reads_reopen p (g.B.Blocks.past_of c.args.below) (g.B.Blocks.past_of c.read_plan.new.below) c.requires can c.in-Ok.ensures.reads
+
+pub returns-in-Ok-open-clause-again : goal.returns-in-Ok-open-clause-again
+returns-in-Ok-open-clause-again g c =
+    let h = g.B.Blocks.past_of in
+    let plan : Plan = c.in-Ok.plan in
+    let checked : CheckedValue g.row.B.Denot = c.in-Ok-open.checked in
+    let old : BlocksPast = h c.args.below in
+    let mid : BlocksPast = h c.read_plan.new.below in
+    let opened = c.in-Ok-open.ensures in
+    if_ok c.compared.result _ _ _
+    (λ d is read. subst (λ (p : Plan). CanBeOpened p old.file.content → LeavesOnly old (h (journal_in d.now).below) (CanBeOpened p)) (sym is)
+    (reopens_then plan old mid (h (journal_in d.now).below) c.requires c.in-Ok.ensures.reads
+    (before_read plan.shape mid (h checked.journal.below) (h (journal_in d.now).below) opened.before read)
+    (stays_read plan.shape mid (h checked.journal.below) (h (journal_in d.now).below) opened.any_moment read)
+    (areas_read plan.shape mid (h checked.journal.below) (h (journal_in d.now).below) opened.batches read)))
+    c.compared.ensures.plan c.compared.ensures.read
+
+pub returns-in-Ok-open-clause-again_refused : goal.returns-in-Ok-open-clause-again_refused
+returns-in-Ok-open-clause-again_refused g c =
+    let h = g.B.Blocks.past_of in
+    let plan : Plan = c.in-Ok.plan in
+    let checked : CheckedValue g.row.B.Denot = c.in-Ok-open.checked in
+    let old : BlocksPast = h c.args.below in
+    let mid : BlocksPast = h c.read_plan.new.below in
+    let opened = c.in-Ok-open.ensures in
+    IfErr-weaker c.compared.result _ _
+    (λ e read p can. subst (λ (q : Plan). CanBeOpened q old.file.content → LeavesOnly old (h e.file) (CanBeOpened q))
+    (same_plan _ plan p c.in-Ok.ensures.told can.told)
+    (reopens_then plan old mid (h e.file) c.requires c.in-Ok.ensures.reads
+    (before_read plan.shape mid (h checked.journal.below) (h e.file) opened.before read)
+    (stays_read plan.shape mid (h checked.journal.below) (h e.file) opened.any_moment read)
+    (areas_read plan.shape mid (h checked.journal.below) (h e.file) opened.batches read)) can)
+    c.compared.ensures.refused
+
+pub returns-in-Err-open-clause-again_refused : goal.returns-in-Err-open-clause-again_refused
+returns-in-Err-open-clause-again_refused g c = λ p can.
+    let h = g.B.Blocks.past_of in
+    let plan : Plan = c.in-Ok.plan in
+    let old : BlocksPast = h c.args.below in
+    let mid : BlocksPast = h c.read_plan.new.below in
+    let new : BlocksPast = h c.in-Err-open.refused.file in
+    let opened = c.in-Err-open.ensures in
+    subst (λ (q : Plan). CanBeOpened q old.file.content → LeavesOnly old new (CanBeOpened q)) (same_plan _ plan p c.in-Ok.ensures.told can.told)
+    (reopens_then plan old mid new c.requires c.in-Ok.ensures.reads opened.before_refused opened.refused opened.batches_refused) can

@@ -13,6 +13,9 @@ returns-in_err-n g c =
       damaged = tt;
       fit = tt;
       failed = done.failed;
+      unfailed = λ _. tt;
+      quiet = tt;
+      alone = done.alone;
       rest = done.rest;
       reads = done.reads;
       counts = done.counts;
@@ -34,6 +37,9 @@ returns-in-Some g c =
       damaged = first_sector p kept from n unfit c.first_in.result first.from first.low first.here first.before;
       fit = no_sector p kept from n unfit c.first_in.result first.none;
       failed = tt;
+      unfailed = λ low. done.unfailed (omega (arith, low, c.requires.plan.room, c.requires.blocks));
+      quiet = done.quiet;
+      alone = done.alone;
       rest = done.rest;
       reads = done.reads;
       counts = record { later = omega (arith, done.counts.later); none = done.counts.none; failed = tt };
@@ -52,6 +58,9 @@ returns-in-None g c =
       fit = λ n behind low. subst (λ (b : ℕ). IsFit b kept ((n + p.lead) / 8)) c.requires.blocks
           (sound ((n + p.lead) / 8) (omega (arith, behind)) (omega (arith, low, c.requires.plan.room, c.requires.blocks)));
       failed = tt;
+      unfailed = λ low. done.unfailed (omega (arith, low, c.requires.plan.room, c.requires.blocks));
+      quiet = done.quiet;
+      alone = done.alone;
       rest = done.rest;
       reads = done.reads;
       counts = record { later = omega (arith, done.counts.later); none = done.counts.none; failed = tt };

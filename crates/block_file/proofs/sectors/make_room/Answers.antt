@@ -1,18 +1,20 @@
 use Rattle.std.proofs.Common.{List, length, refl, sym, ◌∙◌, ap, arith}
-use Rattle.std.proofs.lemmas.Bool.{false≢true}
-use Rattle.block_batch.specs.Batch.{Entry}
+use Rattle.block_batch.specs.Batch.{Batch, Entry}
 use Rattle.block_journal.specs.declared.shape.Shape.{Shape}
+use Rattle.block_journal.specs.Value.{JournalValue}
 use Rattle.block_file.proofs.Moving.{kept_commit, moves_commit, moves_none}
 use Rattle.block_file.proofs.sectors.make_room.Goals as goal
 
 pub returns-then-room-gt0 : goal.returns-then-room-gt0
 returns-then-room-gt0 g c = record {
   room = omega (arith, c.room.ensures, c.if-room-gt0.true);
-  good = λ was. was;
+  good = refl;
   quiet = refl;
+  number = omega arith;
+  alone = λ _. refl;
   fails = tt;
   same = refl;
-  moves = moves_none g.B.Blocks.past_of c.args.checked.now c.stands.ensures.survives c.stands.ensures.synced;
+  moves = moves_none g.B.Blocks.past_of c.args.checked.now c.stands.ensures.survives c.stands.ensures.synced c.stands.ensures.inside c.stands.ensures.here;
   counts = record { later = omega arith; quiet = λ _. refl; rises = λ is. absurd (cc) };
 }
 
@@ -24,12 +26,14 @@ returns-in-Ok g c =
     let done = c.commit.ensures in
     record {
       room = omega (arith, ap (λ (l : List Entry). length l) c.in-Ok.ensures.none, ap (λ (s : Shape). s.area) done.shape, c.requires);
-      good = λ was. absurd (false≢true (sym c.in-Ok.ensures.sound.1 ∙ was));
+      good = c.in-Ok.ensures.sound.1 ∙ sym c.in-Ok.ensures.sound.0;
       quiet = c.in-Ok.ensures.quiet;
+      number = omega (arith, ap (λ (b : Batch). b.number) c.in-Ok.ensures.last);
+      alone = λ was. ap (λ (v : JournalValue g.row.B.Denot). v.below) (done.refused was);
       fails = tt;
       same = kept_commit h old new c.commit.result done.ok done.none done.err done.kept;
       moves = moves_commit h old new c.commit.result done.shape done.blocks done.ok done.err done.any_moment done.offered done.before
-          done.refused;
+          done.holds done.refused;
       counts = record { later = done.counts.later; quiet = λ _. c.in-Ok.ensures.counts.none; rises = λ is. absurd (cc) };
     }
 
@@ -43,9 +47,11 @@ returns-in-Err g c =
       room = tt;
       good = tt;
       quiet = tt;
+      number = omega (arith, ap (λ (b : Batch). b.number) c.in-Err.ensures.last_stays);
+      alone = λ was. ap (λ (v : JournalValue g.row.B.Denot). v.below) (done.refused was);
       fails = c.in-Err.ensures.fails;
       same = kept_commit h old new c.commit.result done.ok done.none done.err done.kept;
       moves = moves_commit h old new c.commit.result done.shape done.blocks done.ok done.err done.any_moment done.offered done.before
-          done.refused;
+          done.holds done.refused;
       counts = record { later = done.counts.later; quiet = λ other. absurd (other refl); rises = λ _. c.in-Err.ensures.counts.failed };
     }

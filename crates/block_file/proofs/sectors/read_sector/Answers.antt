@@ -1,6 +1,7 @@
 use Rattle.std.proofs.Common.{ℕ, ◌+◌, ◌/◌, ◌%◌, Err, List, refl, sym, ◌∙◌, ap, subst, arith}
 use Rattle.std.proofs.lemmas.Result.{err_from_is_err_and}
-use Rattle.block_table.specs.Checked.{data_now, kept_table}
+use Rattle.block_journal.specs.Value.{JournalValue}
+use Rattle.block_table.specs.Checked.{CheckedValue, data_now, kept_table}
 use Rattle.block_table.specs.Table.{IsFit}
 use Rattle.block_file.specs.Sectors.{part}
 use Rattle.block_file.proofs.Counting.{why_unread}
@@ -22,6 +23,9 @@ returns-in_err-read g c =
       failed = why_unread _ _ _ _ done.failed
           (λ is fits. done.damaged is (subst (λ (b : ℕ). IsFit b (kept_table h c.args.checked.now) ((c.args.n + c.args.plan.lead) / 8))
           (sym c.requires.blocks) fits));
+      sound = tt;
+      quiet = tt;
+      alone = λ was. ap (λ (v : JournalValue g.row.B.Denot). v.below) (done.refused was);
       rest = done.rest;
       reads = done.reads;
       counts = done.counts;
@@ -33,6 +37,9 @@ returns g c =
     let plan = c.args.plan in
     let n = c.args.n in
     let done = c.in_ok-read.ensures in
+    let good = done.sound (λ is. absurd (cc)) in
+    let same = done.counts.quiet (λ is. absurd (cc)) in
+    let refused = ap (λ (x : CheckedValue g.row.B.Denot). x.journal.refused) (done.good good) in
     record {
       ok = c.sector_of.ensures
           ∙ ap (λ (b : List ℕ). part b ((n + plan.lead) % 8)) done.ok
@@ -40,6 +47,9 @@ returns g c =
       err = tt;
       fits = subst (λ (b : ℕ). IsFit b (kept_table h c.args.checked.now) ((n + plan.lead) / 8)) c.requires.blocks done.fits;
       failed = tt;
+      sound = good;
+      quiet = omega (arith, same, refused);
+      alone = λ was. ap (λ (v : JournalValue g.row.B.Denot). v.below) (done.refused was);
       rest = done.rest;
       reads = done.reads;
       counts = done.counts;

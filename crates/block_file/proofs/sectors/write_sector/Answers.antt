@@ -1,4 +1,6 @@
+use Rattle.std.specs.Prelude.{◌↔◌, false}
 use Rattle.std.proofs.Common.{◌≡◌, inl, inr, ⊎_elim, ℕ, ◌+◌, ◌/◌, ◌<◌, Err, List, length, slice_set, sym, ◌∙◌, ap, subst, arith}
+use Rattle.std.proofs.lemmas.Bool.{false≢true}
 use Rattle.std.proofs.lemmas.Result.{err_from_is_err_and}
 use Rattle.sector_device.specs.DevicePast.{Rises}
 use Rattle.block_device.specs.Blocks.{CrashFile, block}
@@ -11,6 +13,7 @@ use Rattle.block_table.specs.Table.{IsFit, data_of}
 use Rattle.block_table.proofs.Contents.{length-data, settled_read, table_read}
 use Rattle.block_file.specs.Sectors.{part, sectors_of}
 use Rattle.block_file.proofs.Counting.{why_unread}
+use Rattle.block_file.proofs.Damage.{fits_put, fits_same}
 use Rattle.block_file.proofs.Moving.{moves_then, read_later}
 use Rattle.block_file.proofs.Patching.{sector_put}
 use Rattle.block_file.proofs.sectors.write_sector.Goals as goal
@@ -26,6 +29,12 @@ returns-in_err-make_room g c =
       ok = tt;
       err = λ i. data_of (done.moves.blocks i) (done.same i);
       failed = ⊎_elim (λ was. inl was) (⊎_elim (λ most. inr (inl most)) (λ up. inr (inr (inl up)))) done.fails;
+      sound = tt;
+      quiet = tt;
+      fits = fits_same c.args.plan _ _ done.same;
+      broken = λ _. done.fails;
+      number = done.number;
+      alone = done.alone;
       moves = done.moves;
       counts = done.counts;
     })
@@ -51,10 +60,16 @@ returns-in_err-read g c =
       ok = tt;
       err = λ i. data_of (all i) (table i);
       failed = ⊎_elim (λ was. inl was) (λ rest. inr (inr rest)) (why_unread _ _ _ _
-          (λ is. ⊎_elim (λ was. inl (room.good was)) (λ up. inr (subst (λ (a : ℕ). Rises a (g.B.Blocks.failures new.journal.below)) room.quiet up))
+          (λ is. ⊎_elim (λ was. inl (sym room.good ∙ was)) (λ up. inr (subst (λ (a : ℕ). Rises a (g.B.Blocks.failures new.journal.below)) room.quiet up))
           (done.failed is))
           (λ is fits. done.damaged is (subst (λ (b : ℕ). IsFit b (kept_table h mid) at) (sym (room.moves.blocks ∙ c.requires.blocks))
           (subst (λ (l : CrashFile). IsFit c.args.plan.blocks l at) (sym room.same) fits))));
+      sound = tt;
+      quiet = tt;
+      fits = fits_same c.args.plan _ _ table;
+      broken = λ now. inl (sym room.good ∙ sym (ap (λ (v : JournalValue g.row.B.Denot). v.has_failed) journal) ∙ now);
+      number = omega (arith, room.number, ap (λ (v : JournalValue g.row.B.Denot). v.last.number) journal);
+      alone = λ was. ap (λ (v : JournalValue g.row.B.Denot). v.below) (done.refused (room.good ∙ was)) ∙ room.alone was;
       moves = moves_then h old mid new room.moves (ap (λ (v : JournalValue g.row.B.Denot). v.shape) journal) blocks
           (ap (λ (v : JournalValue g.row.B.Denot). v.offered) journal) (settled_read h mid.journal new.journal journal done.reads) done.reads;
       counts = read_later _ _ _ _ (room.counts.quiet (λ is. absurd (cc))) done.counts;
@@ -95,6 +110,11 @@ returns g c =
     omega (arith, length-data h old c.stands.ensures.inside c.stands.ensures.kept, c.requires.plan.room, c.requires.inside, c.requires.blocks) in
     let below : OnlyReads (h mid.journal.below) (h new.journal.below) =
     subst (λ (x : BlocksPast). OnlyReads (h mid.journal.below) x) (sym (ap (λ (v : JournalValue g.row.B.Denot). h v.below) behind)) done.reads in
+    let good : mid.journal.has_failed ≡ false = done.sound (λ is. absurd (cc)) in
+    let same = done.counts.quiet (λ is. absurd (cc)) in
+    let refused = ap (λ (x : CheckedValue g.row.B.Denot). x.journal.refused) (done.good good) in
+    let at : ℕ = (n + plan.lead) / 8 in
+    let has : read.blocks ≡ plan.blocks = to_read ∙ c.requires.blocks in
     let counted : failures_of F new.journal ≡ failures_of F old.journal =
     ap (λ (v : JournalValue g.row.B.Denot). failures_of F v) behind ∙ done.counts.quiet (λ is. absurd (cc)) ∙ room.counts.quiet (λ is. absurd (cc)) in
     record {
@@ -104,6 +124,26 @@ returns g c =
           ∙ ap (λ (b : List ℕ). part b j) (done.ok ∙ ap (λ (l : CrashFile). block l ((n + plan.lead) / 8)) mid_data));
       err = tt;
       failed = tt;
+      sound = (
+        sym room.good ∙ good,
+        ap (λ (v : JournalValue g.row.B.Denot). v.has_failed) behind ∙ ap (λ (v : JournalValue g.row.B.Denot). v.has_failed) journal ∙ good,
+      );
+      quiet = ap (λ (v : JournalValue g.row.B.Denot). F v.below) behind ∙ omega (arith, same, refused) ∙ room.quiet;
+      fits = fits_put plan (kept_table h old) (kept_table h new) at
+          (subst (λ (l : CrashFile). IsFit plan.blocks l at) room.same
+          (subst (λ (b : ℕ). IsFit b (kept_table h mid) at) (room.moves.blocks ∙ c.requires.blocks) done.fits))
+          (subst (λ (b : ℕ). IsFit b (kept_table h new) at) has put.fits)
+          (λ m low apart. subst (λ (l : CrashFile). IsFit plan.blocks (kept_table h new) m ↔ IsFit plan.blocks l m) table
+          (subst (λ (b : ℕ). IsFit b (kept_table h new) m ↔ IsFit b (kept_table h read) m) has (put.others m (omega (arith, low, has)) apart)));
+      broken = λ now. absurd (false≢true (sym (ap (λ (v : JournalValue g.row.B.Denot). v.has_failed) behind
+          ∙ ap (λ (v : JournalValue g.row.B.Denot). v.has_failed) journal ∙ good) ∙ now));
+      number = omega (
+        arith,
+        room.number,
+        ap (λ (v : JournalValue g.row.B.Denot). v.last.number) journal,
+        ap (λ (v : JournalValue g.row.B.Denot). v.last.number) behind,
+      );
+      alone = λ was. absurd (false≢true (sym (sym room.good ∙ good) ∙ was));
       moves = moves_then h old mid new room.moves
           (ap (λ (v : JournalValue g.row.B.Denot). v.shape) behind ∙ ap (λ (v : JournalValue g.row.B.Denot). v.shape) journal)
           (ap (λ (x : CheckedValue g.row.B.Denot). x.blocks) put.rest ∙ blocks)

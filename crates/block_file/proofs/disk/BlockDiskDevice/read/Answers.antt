@@ -15,7 +15,20 @@ pub returns : goal.returns
 returns g c =
     rw (← c.self.view_is) (
     let done = c.read.ensures in
-    record { ok = done.ok; err = done.err; disk = done.disk; time = done.time; counts = done.counts; fits = done.fits; failed = done.failed })
+    record {
+      ok = done.ok;
+      err = done.err;
+      disk = done.disk;
+      time = done.time;
+      counts = done.counts;
+      fits = done.fits;
+      failed = done.failed;
+      sound = done.working;
+      quiet = done.quiet;
+      left_alone = done.left_alone;
+      reads = done.reads;
+      good = done.good;
+    })
 
 pub invariant_of-self : goal.invariant_of-self
 invariant_of-self g c = c.read.ensures.sound

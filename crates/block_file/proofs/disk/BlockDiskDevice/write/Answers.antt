@@ -15,7 +15,25 @@ pub returns : goal.returns
 returns g c =
     rw (← c.self.view_is) (
     let done = c.write.ensures in
-    record { ok = done.ok; err = done.err; time = done.time; counts = done.counts; kept = done.kept; failed = done.failed })
+    record {
+      ok = done.ok;
+      err = done.err;
+      time = done.time;
+      counts = done.counts;
+      kept = done.kept;
+      failed = done.failed;
+      sound = done.working;
+      quiet = done.quiet;
+      left_alone = done.left_alone;
+      fits = done.fits;
+      broken = done.broken;
+      number = done.number;
+      settled = done.settled;
+      any_moment = done.any_moment;
+      good = done.good;
+      opens = done.opens;
+      plan = done.plan;
+    })
 
 pub invariant_of-self : goal.invariant_of-self
 invariant_of-self g c = c.write.ensures.sound

@@ -1,4 +1,4 @@
-use Rattle.std.proofs.Common.{◌≡◌, inl, refl, sym, ap, subst}
+use Rattle.std.proofs.Common.{◌≡◌, inl, refl, sym, ◌∙◌, ap, subst}
 use Rattle.sector_device.specs.Disk.{Disk, IsCrashState}
 use Rattle.block_journal.specs.Value.{JournalValue}
 use Rattle.block_journal.proofs.Results.{counts_with}
@@ -11,6 +11,7 @@ use Rattle.block_file.specs.Sectors.{sectors_of}
 use Rattle.block_file.proofs.Heading.{first_read}
 use Rattle.block_file.proofs.Keeping.{comes_kept, comes_read}
 use Rattle.block_file.proofs.Pushing.{disk_elapses, sound_pushed}
+use Rattle.block_file.proofs.Reopening.{good_same}
 use Rattle.block_file.proofs.parts.DiskParts.check.Goals as goal
 
 pub first_damaged-requires : goal.first_damaged-requires
@@ -42,6 +43,13 @@ returns g c =
       damaged = done.damaged;
       fit = done.fit;
       failed = done.failed;
+      unfailed = done.unfailed;
+      quiet = done.quiet;
+      left_alone = done.alone;
+      reads = record { plan = refl; table = table; journal = journal; file = done.reads };
+      good = λ good. good_same h d n refl c.and-self.ensures good
+          (ap (λ (v : JournalValue g.row.B.Denot). v.has_failed) journal ∙ good.sound)
+          (inl (settled_read h old.journal new.journal journal done.reads)) table;
       disk = disk;
       plan = refl;
       time = disk_elapses h d n refl c.and-self.ensures;

@@ -29,6 +29,13 @@ returns-in_err-sync g c =
       alone = tt;
       safe = tt;
       failed = ⊎_elim (λ was. inl was) (⊎_elim (λ most. inr (inl (omega (arith, most)))) (λ up. inr (inr up))) done.fails;
+      working = tt;
+      broken = done.broken;
+      settled = tt;
+      good = c.sync.ensures.good;
+      left_alone = c.sync.ensures.left_alone;
+      table = c.sync.ensures.table;
+      quiet = tt;
       plan = c.sync.ensures.plan;
       time = c.sync.ensures.time;
       counts = done.counts;
@@ -53,9 +60,16 @@ returns g c =
           (λ alone. subst (λ (p : Plan). StandsAlone p image (disk_past h old).disk.content) c.sync.ensures.plan
           (subst (λ (s : CrashState). StandsAlone mid.plan image s) (ap (λ (x : Disk). x.content) first.ok) alone)) second.alone;
       safe = second.safe;
-      failed = on_err _ _ r (⊎_elim (λ was. absurd (false≢true (sym first.good ∙ was)))
+      failed = on_err _ _ r (⊎_elim (λ was. absurd (false≢true (sym first.working.1 ∙ was)))
           (⊎_elim (λ most. inr (inl (omega (arith, most, first.last))))
           (λ up. inr (inr (subst (λ (a : ℕ). Rises a (g.B.Blocks.failures (journal_in new.now).below)) first.quiet up))))) second.fails;
+      working = on_ok _ _ r (λ both. (first.working.0, both.1)) second.working;
+      broken = second.broken;
+      settled = on_ok _ _ r (λ is. is ∙ c.sync.ensures.table) second.settled;
+      good = λ good kept. second.good (c.sync.ensures.good good first.working.1) kept;
+      left_alone = λ was. absurd (false≢true (sym first.working.0 ∙ was));
+      table = second.table ∙ c.sync.ensures.table;
+      quiet = on_ok _ _ r (λ same. same ∙ first.quiet) second.quiet;
       plan = second.plan ∙ c.sync.ensures.plan;
       time = elapses_then (disk_past h old) (disk_past h mid) (disk_past h new) c.sync.ensures.time second.time second.disk;
       counts = counts_later _ _ _ r first.counts.none second.counts;

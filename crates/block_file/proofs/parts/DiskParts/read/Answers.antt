@@ -1,4 +1,4 @@
-use Rattle.std.proofs.Common.{◌≡◌, inl, refl, sym, ap, subst}
+use Rattle.std.proofs.Common.{◌≡◌, inl, refl, sym, ◌∙◌, ap, subst}
 use Rattle.sector_device.specs.Disk.{Disk, IsCrashState}
 use Rattle.block_journal.specs.Value.{JournalValue}
 use Rattle.block_table.specs.Checked.{CheckedValue, data_now}
@@ -10,6 +10,7 @@ use Rattle.block_file.specs.Sectors.{sectors_of}
 use Rattle.block_file.proofs.Heading.{first_read}
 use Rattle.block_file.proofs.Keeping.{comes_kept, comes_read, through_err, through_ok}
 use Rattle.block_file.proofs.Pushing.{disk_elapses, sound_pushed}
+use Rattle.block_file.proofs.Reopening.{good_same}
 use Rattle.block_file.proofs.parts.DiskParts.read.Goals as goal
 
 pub read_sector-done-requires : goal.read_sector-done-requires
@@ -46,6 +47,13 @@ returns g c =
       err = through_err _ c.read_sector-done.result c.count.result c.count.ensures.err done.err;
       fits = through_ok _ c.read_sector-done.result c.count.result c.count.ensures.ok done.fits;
       failed = through_err _ c.read_sector-done.result c.count.result c.count.ensures.err done.failed;
+      working = through_ok _ c.read_sector-done.result c.count.result c.count.ensures.ok done.sound;
+      quiet = through_ok _ c.read_sector-done.result c.count.result c.count.ensures.ok done.quiet;
+      left_alone = done.alone;
+      reads = record { plan = refl; table = table; journal = journal; file = done.reads };
+      good = λ good. good_same h d n refl c.and-self.ensures good
+          (ap (λ (v : JournalValue g.row.B.Denot). v.has_failed) journal ∙ good.sound)
+          (inl (settled_read h old.journal new.journal journal done.reads)) table;
       disk = disk;
       time = disk_elapses h d n refl c.and-self.ensures;
       counts = c.count.ensures.counts _ _ done.counts;

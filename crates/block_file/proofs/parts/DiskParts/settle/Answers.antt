@@ -2,6 +2,7 @@ use Rattle.std.proofs.Common.{◌≡◌, List, refl, sym, ◌∙◌, ap, subst}
 use Rattle.sector_device.specs.Disk.{Disk, IsCrashState}
 use Rattle.block_batch.specs.Batch.{Entry, replayed}
 use Rattle.block_journal.specs.Journal.{NeedsNoArea}
+use Rattle.block_journal.specs.Value.{JournalValue}
 use Rattle.block_journal.proofs.Results.{counts_with, on_ok, on_ok_always}
 use Rattle.block_table.specs.Checked.{CheckedValue, data_now, kept_table, settled_table}
 use Rattle.block_table.specs.Table.{data_of}
@@ -14,6 +15,7 @@ use Rattle.block_file.proofs.Heading.{first_moved}
 use Rattle.block_file.proofs.Keeping.{comes_kept, comes_moved}
 use Rattle.block_file.proofs.Moving.{moves_commit}
 use Rattle.block_file.proofs.Pushing.{disk_elapses, sound_pushed}
+use Rattle.block_file.proofs.Reopening.{good_same}
 use Rattle.block_file.proofs.parts.DiskParts.settle.Goals as goal
 
 pub close-requires : goal.close-requires
@@ -37,7 +39,7 @@ returns g c =
     let was : kept_table h old ≡ settled_table h old = ap (λ (l : List Entry). replayed l (settled_table h old)) c.requires.none in
     let committed : settled_table h new ≡ kept_table h old = all.settled ∙ sym was in
     let moves = moves_commit h old new r all.shape all.blocks (on_ok_always (settled_table h new ≡ kept_table h old) r committed)
-    (on_err_always (settled_table h new ≡ settled_table h old) r all.settled) all.any_moment all.offered all.before all.refused in
+    (on_err_always (settled_table h new ≡ settled_table h old) r all.settled) all.any_moment all.offered all.before all.holds all.refused in
     let table : kept_table h new ≡ kept_table h old = ap (λ (l : List Entry). replayed l (settled_table h new)) all.none ∙ committed in
     let same_data : data_now h new ≡ data_now h old = λ i. data_of (all.blocks i) (table i) in
     let disk : disk_of h d.plan n.now ≡ disk_of h d.plan d.now =
@@ -45,6 +47,13 @@ returns g c =
     let comes = comes_moved h d.plan d.now sound.kept new moves in
     record {
       fails = all.fails;
+      working = all.sound;
+      broken = all.failed;
+      settled = on_ok_always _ r committed;
+      good = λ good kept. good_same h d n refl c.and-self.ensures good kept moves.settled table;
+      left_alone = λ was. ap (λ (v : JournalValue g.row.B.Denot). v.below) (all.refused was);
+      table = table;
+      quiet = all.quiet;
       disk = disk;
       alone = on_ok (NeedsNoArea old.journal.shape (h new.journal.below).file.content (settled_table h old))
           (StandsAlone d.plan (h new.journal.below).file.content (disk_of h d.plan d.now).content) r

@@ -2,7 +2,7 @@ use Rattle.std.proofs.Common.{◌≡◌, ◌<◌, Err, refl, sym, ◌∙◌, ap,
 use Rattle.std.proofs.lemmas.Result.{err_from_is_err_and}
 use Rattle.sector_device.specs.Disk.{Disk, IsCrashState}
 use Rattle.block_batch.specs.Batch.{Batch}
-use Rattle.block_journal.specs.Value.{failures_of}
+use Rattle.block_journal.specs.Value.{JournalValue, failures_of}
 use Rattle.block_table.specs.Checked.{CheckedValue, data_now}
 use Rattle.block_table.specs.Table.{data_of}
 use Rattle.block_file.specs.declared.parts.DiskParts.{DiskParts}
@@ -12,6 +12,7 @@ use Rattle.block_file.proofs.Heading.{first_moved}
 use Rattle.block_file.proofs.Keeping.{comes_kept, comes_moved, settled_kept, synced_disk}
 use Rattle.block_file.proofs.Moving.{kept_commit, moves_commit}
 use Rattle.block_file.proofs.Pushing.{disk_elapses, sound_pushed}
+use Rattle.block_file.proofs.Reopening.{good_same, moves_reopen}
 use Rattle.block_file.proofs.parts.DiskParts.sync.Goals as goal
 
 pub returns-in_err-commit : goal.returns-in_err-commit
@@ -31,7 +32,7 @@ returns-in_err-commit g c =
       past = c.and-self.result;
       damaged = d.damaged;
     } in
-    let moves = moves_commit h old new r all.shape all.blocks all.ok all.err all.any_moment all.offered all.before all.refused in
+    let moves = moves_commit h old new r all.shape all.blocks all.ok all.err all.any_moment all.offered all.before all.holds all.refused in
     let table = kept_commit h old new r all.ok all.none all.err all.kept in
     let same_data : data_now h new ≡ data_now h old = λ i. data_of (all.blocks i) (table i) in
     let disk : disk_of h d.plan n.now ≡ disk_of h d.plan d.now =
@@ -41,7 +42,15 @@ returns-in_err-commit g c =
       ok = tt;
       err = disk;
       none = tt;
-      good = tt;
+      working = tt;
+      broken = c.in_err-commit.ensures.failed;
+      settled = tt;
+      unsettled = c.in_err-commit.ensures.err;
+      any_moment = all.any_moment;
+      good = λ good kept. good_same h d n refl c.and-self.ensures good kept moves.settled table;
+      opens = λ good. moves_reopen h d new c.requires.sound moves good;
+      left_alone = λ was. ap (λ (v : JournalValue g.row.B.Denot). v.below) (all.refused was);
+      table = table;
       last = tt;
       quiet = tt;
       fails = c.in_err-commit.ensures.fails;
@@ -72,14 +81,23 @@ returns g c =
       past = c.and-self.result;
       damaged = d.damaged;
     } in
-    let moves = moves_commit h old new r all.shape all.blocks all.ok all.err all.any_moment all.offered all.before all.refused in
+    let moves = moves_commit h old new r all.shape all.blocks all.ok all.err all.any_moment all.offered all.before all.holds all.refused in
     let comes = comes_moved h d.plan d.now c.requires.sound.kept new moves in
-    let same_data : data_now h new ≡ data_now h old = λ i. data_of (all.blocks i) (kept_commit h old new r all.ok all.none all.err all.kept i) in
+    let table = kept_commit h old new r all.ok all.none all.err all.kept in
+    let same_data : data_now h new ≡ data_now h old = λ i. data_of (all.blocks i) (table i) in
     record {
       ok = synced_disk h d.plan d.now n.now same_data c.new-self.ensures;
       err = tt;
       none = done.none;
-      good = done.sound.1;
+      working = done.sound;
+      broken = tt;
+      settled = done.ok;
+      unsettled = tt;
+      any_moment = all.any_moment;
+      good = λ good kept. good_same h d n refl c.and-self.ensures good kept moves.settled table;
+      opens = λ good. moves_reopen h d new c.requires.sound moves good;
+      left_alone = λ was. ap (λ (v : JournalValue g.row.B.Denot). v.below) (all.refused was);
+      table = table;
       last = ap (λ (b : Batch). b.number) done.last;
       quiet = done.quiet;
       fails = tt;

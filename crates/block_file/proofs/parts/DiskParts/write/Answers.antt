@@ -7,6 +7,7 @@ use Rattle.block_file.specs.Sectors.{sectors_of}
 use Rattle.block_file.proofs.Heading.{first_moved}
 use Rattle.block_file.proofs.Keeping.{comes_kept, comes_moved, crash_after, through_err, through_ok, write_failed, written_disk}
 use Rattle.block_file.proofs.Pushing.{disk_elapses, sound_pushed}
+use Rattle.block_file.proofs.Reopening.{good_moved, moves_reopen}
 use Rattle.block_file.proofs.parts.DiskParts.write.Goals as goal
 
 pub write_sector-done-requires : goal.write_sector-done-requires
@@ -41,6 +42,17 @@ returns g c =
       kept = through_err _ r c.count.result c.count.ensures.err
           (on_err _ _ r (λ is. ap (λ (l : CrashFile). sectors_of d.plan.lead d.plan.sectors l) is) done.err);
       failed = through_err _ r c.count.result c.count.ensures.err done.failed;
+      working = through_ok _ r c.count.result c.count.ensures.ok done.sound;
+      quiet = through_ok _ r c.count.result c.count.ensures.ok done.quiet;
+      left_alone = done.alone;
+      fits = done.fits;
+      broken = done.broken;
+      number = done.number;
+      settled = done.moves.settled;
+      any_moment = done.moves.any_moment;
+      good = λ good kept. good_moved h d n refl c.and-self.ensures good kept done.moves.settled done.fits;
+      opens = λ good. moves_reopen h d new sound done.moves good;
+      plan = refl;
       time = disk_elapses h d n refl c.and-self.ensures;
       counts = c.count.ensures.counts _ _ done.counts;
       sound = sound_pushed h d n refl c.and-self.ensures sound comes.leaves done.moves.offers

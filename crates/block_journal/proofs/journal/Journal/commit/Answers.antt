@@ -3,6 +3,7 @@ use Rattle.std.proofs.lemmas.Bool.{false≢true}
 use Rattle.block_journal.specs.Value.{JournalValue, content_of, next_batch, settled_of}
 use Rattle.block_journal.specs.Journal.{MayWrite}
 use Rattle.block_journal.proofs.Before.{leaves_before, none_before, not_by_commit}
+use Rattle.block_journal.proofs.Keeping.{keeps_batch, none_batch}
 use Rattle.block_journal.specs.JournalParts.{value_of}
 use Rattle.block_journal.proofs.Closing.{empty_commit}
 use Rattle.block_journal.proofs.Committing.{either_left, nothing_left}
@@ -60,6 +61,7 @@ returns-then-can_commit g c =
       offered = record { next = λ _. offered; none = λ not. absurd (not (c.if-can_commit.ensures.can refl)) };
       before = λ _. leaves_before p.shape (MayWrite p.shape ((p.number + 1) % 2) old.last.entries) (past_of p.below) (past_of new.below)
           (not_by_commit p.shape ((p.number + 1) % 2) old.last.entries) done.within;
+      holds = λ _. keeps_batch p.shape old.last (settled_of past_of old) (past_of p.below) (past_of new.below) ready.stands done.within;
       refused = λ was. absurd (false≢true (sym good ∙ was));
       shape = shape;
       fails = on_err _ _ r (λ rises. inr (inr rises)) done.counts.failed;
@@ -92,6 +94,9 @@ returns-else-can_commit g c =
         none = λ _. refl;
       };
       before = λ good. none_before p.shape (past_of p.below) (c.self.invariant.ready good).synced;
+      holds = λ good.
+          let ready = c.self.invariant.ready good in
+          none_batch p.shape (value_of p).last (past_of p.below) ready.stands.inside ready.stands.here ready.synced;
       refused = λ was. ap (λ (b : Bool). record (value_of p) { has_failed = b; refused = c.saturating_add-self-inside.result }) (sym was);
       shape = refl;
       fails = ⊎_elim (λ was. inl was) (λ most. inr (inl most)) (c.if-can_commit.ensures.cannot refl);

@@ -2,6 +2,7 @@ use Rattle.std.proofs.Common.{refl, ap, arith}
 use Rattle.block_journal.specs.Entries.{entries_in}
 use Rattle.block_journal.specs.Journal.{InRunOrKept, pending_in}
 use Rattle.block_journal.proofs.Before.{leaves_before, not_by_replay}
+use Rattle.block_journal.proofs.Keeping.{keeps_areas}
 use Rattle.block_journal.proofs.Recovering.{stays_recovered, within_pending}
 use Rattle.block_journal.proofs.journal.Journal.open.Goals as goal
 
@@ -18,11 +19,13 @@ returns-in_default g c =
       found = tt;
       any_moment = tt;
       before = tt;
+      batches = tt;
       quiet = tt;
       unrefused = tt;
       refused = stays_recovered shape h h c.requires.inside (within_pending shape h c.requires.synced);
       before_refused = leaves_before shape (InRunOrKept shape 0 0 (pending_in shape h.file.content)) h h
           (not_by_replay shape (pending_in shape h.file.content)) (within_pending shape h c.requires.synced);
+      batches_refused = keeps_areas shape (pending_in shape h.file.content) h h c.requires.inside (within_pending shape h c.requires.synced);
       no_batch = λ never. absurd (cc);
       failed = λ never. absurd (cc);
       no_memory = λ _. refl;
@@ -53,10 +56,12 @@ returns-in-Ok-recover g c =
       found = done.found;
       any_moment = c.recover.ensures.stays;
       before = c.recover.ensures.before;
+      batches = c.recover.ensures.batches;
       quiet = done.quiet;
       unrefused = c.recover.ensures.refused;
       refused = tt;
       before_refused = tt;
+      batches_refused = tt;
       no_batch = tt;
       failed = tt;
       no_memory = tt;
@@ -74,10 +79,12 @@ returns-in-Err g c =
       found = tt;
       any_moment = tt;
       before = tt;
+      batches = tt;
       quiet = tt;
       unrefused = tt;
       refused = c.recover.ensures.stays;
       before_refused = c.recover.ensures.before;
+      batches_refused = c.recover.ensures.batches;
       no_batch = done.no_batch;
       failed = done.failed;
       no_memory = λ is. absurd (done.no_memory is);

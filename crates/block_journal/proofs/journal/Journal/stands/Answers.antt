@@ -7,6 +7,7 @@ returns g c =
     rw (← c.self.view_is) (record {
       inside = c.self.invariant.inside;
       synced = λ good. (c.self.invariant.ready good).synced;
+      here = λ good. (c.self.invariant.ready good).stands.here;
       survives = λ good image crash honest. ready_stands g.B.Blocks.past_of (value_of c.self.inside.parts) (c.self.invariant.ready good) image crash honest;
       honest = λ good. (c.self.invariant.ready good).honest;
       last = λ good. (c.self.invariant.ready good).known.has_last;

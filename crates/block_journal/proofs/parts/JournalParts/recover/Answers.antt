@@ -6,6 +6,7 @@ use Rattle.block_device.proofs.Within.{within_same}
 use Rattle.block_journal.specs.Layout.{IsHonest, IsInside, recovered}
 use Rattle.block_journal.specs.Journal.{AreInAreas, InRunOrKept, pending_in}
 use Rattle.block_journal.proofs.Before.{leaves_before, not_by_replay}
+use Rattle.block_journal.proofs.Keeping.{keeps_areas}
 use Rattle.block_journal.specs.declared.refusal.OpenError.{OpenError}
 use Rattle.block_journal.specs.declared.refusal.OpenError.TheVariants.{FileFailed}
 use Rattle.block_journal.specs.Opening.{HasTakenBoth}
@@ -47,6 +48,9 @@ returns-in-Err g c =
           (not_by_replay p.shape (pending_in p.shape (h p.below).file.content))
           (within_same (InRunOrKept p.shape 0 0 (pending_in p.shape (h p.below).file.content)) (h p.below).file.content (h p.below) (h p.below)
           (h c.read_areas.new.below) (within_pending p.shape (h p.below) c.requires.synced) reads.time reads.file);
+      batches = keeps_areas p.shape (pending_in p.shape (h p.below).file.content) (h p.below) (h c.read_areas.new.below) c.requires.inside
+          (within_same (InRunOrKept p.shape 0 0 (pending_in p.shape (h p.below).file.content)) (h p.below).file.content (h p.below) (h p.below)
+          (h c.read_areas.new.below) (within_pending p.shape (h p.below) c.requires.synced) reads.time reads.file);
       quiet = tt;
       no_memory = λ never. absurd (cc);
       no_batch = λ never. absurd (cc);
@@ -72,6 +76,9 @@ returns-in-Ok-None g c =
           (h c.read_areas.new.below) (within_pending p.shape (h p.below) c.requires.synced) reads.time reads.file);
       before = leaves_before p.shape (InRunOrKept p.shape 0 0 (pending_in p.shape (h p.below).file.content)) (h p.below) (h c.read_areas.new.below)
           (not_by_replay p.shape (pending_in p.shape (h p.below).file.content))
+          (within_same (InRunOrKept p.shape 0 0 (pending_in p.shape (h p.below).file.content)) (h p.below).file.content (h p.below) (h p.below)
+          (h c.read_areas.new.below) (within_pending p.shape (h p.below) c.requires.synced) reads.time reads.file);
+      batches = keeps_areas p.shape (pending_in p.shape (h p.below).file.content) (h p.below) (h c.read_areas.new.below) c.requires.inside
           (within_same (InRunOrKept p.shape 0 0 (pending_in p.shape (h p.below).file.content)) (h p.below).file.content (h p.below) (h p.below)
           (h c.read_areas.new.below) (within_pending p.shape (h p.below) c.requires.synced) reads.time reads.file);
       quiet = tt;
@@ -124,6 +131,7 @@ returns-in-Ok-Some g c =
       shape = done.shape;
       refused = done.refused;
       before = leaves_before p.shape (S old) (h p.below) (h c.settle.new.self.below) (not_by_replay p.shape (pending_in p.shape old.content)) within;
+      batches = keeps_areas p.shape (pending_in p.shape old.content) (h p.below) (h c.settle.new.self.below) c.requires.inside within;
       stays = stays_recovered p.shape (h p.below) (h c.settle.new.self.below) c.requires.inside within;
       quiet = on_ok _ _ r (λ ok. ok ∙ counted) done.counts.none;
       no_memory = IfErr-weaker r _ _ (λ e is never. absurd (cc)) done.err;

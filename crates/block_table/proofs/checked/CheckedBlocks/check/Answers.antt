@@ -1,8 +1,8 @@
-use Rattle.std.proofs.Common.{◌≡◌, inl, inr, ℕ, Err, ⊎_elim, refl, sym, ◌∙◌, ap, subst, arith}
-use Rattle.std.proofs.lemmas.Bool.{cases_Bool, cases_eq}
+use Rattle.std.proofs.Common.{◌≡◌, inl, inr, ℕ, Err, false, ⊎_elim, refl, sym, ◌∙◌, ap, subst, arith}
+use Rattle.std.proofs.lemmas.Bool.{cases_Bool, cases_eq, false≢true}
 use Rattle.sector_device.specs.DevicePast.{Rises}
 use Rattle.block_device.specs.Blocks.{CrashFile}
-use Rattle.block_journal.specs.Value.{failures_of}
+use Rattle.block_journal.specs.Value.{JournalValue, failures_of}
 use Rattle.block_journal.proofs.OnlyReading.{reads_none, reads_then}
 use Rattle.block_table.specs.Checked.{CheckedValue, kept_table}
 use Rattle.block_table.specs.Table.{IsFit}
@@ -14,7 +14,9 @@ loop-n-init g c = record {
   fits = λ m behind below. absurd (omega (arith, behind, below));
   rest = refl;
   reads = reads_none (g.B.Blocks.past_of c.args.self.now.journal.below);
-  good = λ _. refl;
+  sound = λ below. absurd (omega (arith, below));
+  alone = λ _. refl;
+  still = refl;
   quiet = refl;
 }
 
@@ -36,6 +38,9 @@ loop-n-preserved g c =
     subst (λ (k : ℕ). IsFit k (kept_table h start) n) blocks (subst (λ (l : CrashFile). IsFit mid.blocks l n) table c.in-Ok.ensures.fits) in
     let F = g.B.Blocks.failures in
     let same : failures_of F c.read.new.self.journal ≡ failures_of F mid.journal = c.read.ensures.counts.quiet (λ never. absurd (cc)) in
+    let good : mid.journal.has_failed ≡ false = c.read.ensures.sound (λ never. absurd (cc)) in
+    let began : start.journal.has_failed ≡ false = sym (ap (λ (x : CheckedValue g.row.B.Denot). x.journal.has_failed) so_far.rest) ∙ good in
+    let refused = ap (λ (x : CheckedValue g.row.B.Denot). x.journal.refused) (c.read.ensures.good good) in
     record {
       fits = λ m behind below. ⊎_elim
           (λ same. subst (IsFit start.blocks (kept_table h start)) (sym same) here)
@@ -43,10 +48,9 @@ loop-n-preserved g c =
           (cases_eq m n);
       rest = read_then start mid c.read.new.self so_far.rest c.read.ensures.rest;
       reads = reads_then _ _ _ so_far.reads c.read.ensures.reads;
-      good = λ sound.
-          let refused = ap (λ (x : CheckedValue g.row.B.Denot). x.journal.refused)
-          (c.read.ensures.good (ap (λ (x : CheckedValue g.row.B.Denot). x.journal.has_failed) so_far.rest ∙ sound)) in
-          omega (arith, same, refused, so_far.good sound);
+      sound = λ _. began;
+      alone = λ failed. absurd (false≢true (sym began ∙ failed));
+      still = omega (arith, same, refused, so_far.still);
       quiet = same ∙ so_far.quiet;
     }
 
@@ -60,7 +64,11 @@ returns-in-Err-Damaged g c =
     let read = c.read.ensures in
     let blocks : mid.blocks ≡ start.blocks = ap (λ (x : CheckedValue g.row.B.Denot). x.blocks) so_far.rest in
     let table = table_read h start mid so_far.rest so_far.reads in
-    let none = read.counts.quiet (λ is. absurd (cc)) ∙ so_far.quiet in
+    let same = read.counts.quiet (λ is. absurd (cc)) in
+    let none = same ∙ so_far.quiet in
+    let good : mid.journal.has_failed ≡ false = read.sound (λ is. absurd (cc)) in
+    let began : start.journal.has_failed ≡ false = sym (ap (λ (x : CheckedValue g.row.B.Denot). x.journal.has_failed) so_far.rest) ∙ good in
+    let refused = ap (λ (x : CheckedValue g.row.B.Denot). x.journal.refused) (read.good good) in
     record {
       unfit = record {
         behind = c.loop-n.auto.n;
@@ -72,6 +80,9 @@ returns-in-Err-Damaged g c =
       sound = tt;
       rest = read_then start mid c.read.new.self so_far.rest read.rest;
       failed = tt;
+      unfailed = λ _. began;
+      quiet = omega (arith, same, refused, so_far.still);
+      alone = λ failed. absurd (false≢true (sym began ∙ failed));
       reads = reads_then _ _ _ so_far.reads read.reads;
       counts = record { later = omega (arith, none); none = none; failed = tt };
     }
@@ -89,9 +100,13 @@ returns-in-Err-FileFailed g c =
       failed = ⊎_elim (λ was. inl was)
           (λ sound. ⊎_elim
           (λ was. inl (sym (ap (λ (x : CheckedValue g.row.B.Denot). x.journal.has_failed) so_far.rest) ∙ was))
-          (λ up. inr (subst (λ (a : ℕ). Rises a (g.B.Blocks.failures c.read.new.self.journal.below)) (so_far.good sound) up))
+          (λ up. inr (subst (λ (a : ℕ). Rises a (g.B.Blocks.failures c.read.new.self.journal.below)) so_far.still up))
           (c.in-Err-FileFailed.ensures.failed (ap Err c.in-Err-FileFailed.field-0-is)))
           (cases_Bool start.journal.has_failed);
+      unfailed = λ _. tt;
+      quiet = tt;
+      alone = λ failed. ap (λ (v : JournalValue g.row.B.Denot). v.below)
+          (read.refused (ap (λ (x : CheckedValue g.row.B.Denot). x.journal.has_failed) so_far.rest ∙ failed)) ∙ so_far.alone failed;
       reads = reads_then _ _ _ so_far.reads read.reads;
       counts = record {
         later = omega (arith, read.counts.later, so_far.quiet);
@@ -110,6 +125,10 @@ returns g c =
           (omega (arith, below, c.loop-n-test.false, ap (λ (x : CheckedValue g.row.B.Denot). x.blocks) c.self.view_is));
       rest = so_far.rest;
       failed = tt;
+      unfailed = λ low. so_far.sound
+          (omega (arith, low, c.loop-n-test.false, ap (λ (x : CheckedValue g.row.B.Denot). x.blocks) c.self.view_is));
+      quiet = so_far.still;
+      alone = so_far.alone;
       reads = so_far.reads;
       counts = record { later = omega (arith, so_far.quiet); none = so_far.quiet; failed = tt };
     }

@@ -1,4 +1,4 @@
-use Rattle.std.proofs.Common.{◌≡◌, ℕ, ◌<◌, ◌≤◌, false}
+use Rattle.std.proofs.Common.{◌≡◌, ℕ, ◌<◌, ◌≤◌, true, false}
 use Rattle.block_journal.specs.Journal.{OnlyReads}
 use Rattle.block_journal.specs.Value.{failures_of}
 use Rattle.block_table.specs.Table.{IsFit}
@@ -14,6 +14,8 @@ invariant-loop-n g l =
         journal = record l.initial.self.journal { below = l.self.journal.below; refused = l.self.journal.refused };
       };
       reads : OnlyReads (h l.initial.self.journal.below) (h l.self.journal.below);
-      good : l.initial.self.journal.has_failed ≡ false → g.B.Blocks.failures l.self.journal.below ≡ g.B.Blocks.failures l.initial.self.journal.below;
+      sound : l.from < l.n → l.initial.self.journal.has_failed ≡ false;
+      alone : l.initial.self.journal.has_failed ≡ true → l.self.journal.below ≡ l.initial.self.journal.below;
+      still : g.B.Blocks.failures l.self.journal.below ≡ g.B.Blocks.failures l.initial.self.journal.below;
       quiet : failures_of g.B.Blocks.failures l.self.journal ≡ failures_of g.B.Blocks.failures l.initial.self.journal;
     }

@@ -25,6 +25,7 @@ returns g c =
       any_moment = done.any_moment;
       offered = done.offered;
       before = done.before;
+      holds = done.holds;
       refused = done.refused;
       shape = done.shape;
       blocks = refl;

@@ -1,8 +1,9 @@
 use Rattle.std.proofs.Common.{◌≡◌, ℕ, ◌-◌, Err, refl, sym, ◌∙◌, ap, subst, arith}
 use Rattle.std.proofs.lemmas.Result.{err_from_is_err_and}
 use Rattle.sector_device.specs.DevicePast.{Rises}
-use Rattle.block_journal.specs.Journal.{LeavesBefore, StaysRecovered}
+use Rattle.block_journal.specs.Journal.{KeepsAreas, LeavesBefore, StaysRecovered}
 use Rattle.block_journal.proofs.Before.{before_read}
+use Rattle.block_journal.proofs.Keeping.{areas_read}
 use Rattle.block_journal.specs.Value.{JournalValue, content_of}
 use Rattle.block_journal.specs.declared.shape.Shape.{Shape}
 use Rattle.block_journal.proofs.Parting.{as_read}
@@ -25,10 +26,12 @@ returns-in_err-journal g c =
       found = tt;
       any_moment = tt;
       before = tt;
+      batches = tt;
       quiet = tt;
       unrefused = tt;
       refused = done.refused;
       before_refused = done.before_refused;
+      batches_refused = done.batches_refused;
       no_batch = done.no_batch;
       failed = done.failed;
     })
@@ -72,10 +75,12 @@ returns-in-Ok g c =
       found = rw (ap (λ (w : JournalValue g.row.B.Denot). w.offered) rest) opened.found;
       any_moment = stays_read c.args.shape (h c.args.below) (h v.below) (h m.below) opened.any_moment c.read_rows.ensures.reads;
       before = before_read c.args.shape (h c.args.below) (h v.below) (h m.below) opened.before c.read_rows.ensures.reads;
+      batches = areas_read c.args.shape (h c.args.below) (h v.below) (h m.below) opened.batches c.read_rows.ensures.reads;
       quiet = c.in-Ok.ensures.quiet ∙ opened.quiet;
       unrefused = ap (λ (w : JournalValue g.row.B.Denot). w.refused) rest ∙ opened.unrefused;
       refused = tt;
       before_refused = tt;
+      batches_refused = tt;
       no_batch = tt;
       failed = tt;
     }
@@ -96,12 +101,15 @@ returns-in-Err g c =
       found = tt;
       any_moment = tt;
       before = tt;
+      batches = tt;
       quiet = tt;
       unrefused = tt;
       refused = subst (λ (b : g.row.B.Denot). StaysRecovered c.args.shape (h c.args.below) (h b)) (sym c.into_file.ensures)
           (stays_read c.args.shape (h c.args.below) (h v.below) (h m.below) opened.any_moment c.read_rows.ensures.reads);
       before_refused = subst (λ (b : g.row.B.Denot). LeavesBefore c.args.shape (h c.args.below) (h b)) (sym c.into_file.ensures)
           (before_read c.args.shape (h c.args.below) (h v.below) (h m.below) opened.before c.read_rows.ensures.reads);
+      batches_refused = subst (λ (b : g.row.B.Denot). KeepsAreas c.args.shape (h c.args.below) (h b)) (sym c.into_file.ensures)
+          (areas_read c.args.shape (h c.args.below) (h v.below) (h m.below) opened.batches c.read_rows.ensures.reads);
       no_batch = λ is. absurd (c.in-Err.ensures.no_batch is);
       failed = λ is. subst (λ (b : g.row.B.Denot). Rises (g.B.Blocks.failures c.args.below) (g.B.Blocks.failures b)) (sym c.into_file.ensures)
           (subst (λ (a : ℕ). Rises a (g.B.Blocks.failures m.below)) opened.quiet (c.in-Err.ensures.failed is));

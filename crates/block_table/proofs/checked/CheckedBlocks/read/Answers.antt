@@ -18,6 +18,7 @@ returns-then-is_err g c =
       ok = tt;
       fits = tt;
       damaged = λ is. absurd (cc);
+      sound = λ other. absurd (other refl);
       err = refl;
       failed = λ _. from_err _ _ failed done.fails;
       rest = ap (λ (v : JournalValue g.row.B.Denot). record { journal = v; blocks = c.self.inside.blocks }) done.rest;
@@ -53,6 +54,7 @@ returns-then-told-found g c =
       ok = tt;
       fits = tt;
       damaged = λ _ fits. c.if-told-found.true (told ∙ fits ∙ sym found);
+      sound = λ _. from_ok _ _ good done.sound;
       err = refl;
       failed = λ is. absurd (cc);
       rest = ap (λ (w : JournalValue g.row.B.Denot). record { journal = w; blocks = blocks }) done.rest;
@@ -88,6 +90,7 @@ returns g c =
       ok = from_ok _ _ good done.ok ∙ ap (block (content_of h v)) place ∙ sym (get_or-drop (table_count blocks) (content_of h v) n []);
       fits = sym told ∙ c.if-told-found.false ∙ found;
       damaged = λ is. absurd (cc);
+      sound = λ _. from_ok _ _ good done.sound;
       err = tt;
       failed = λ is. absurd (cc);
       rest = ap (λ (w : JournalValue g.row.B.Denot). record { journal = w; blocks = blocks }) done.rest;

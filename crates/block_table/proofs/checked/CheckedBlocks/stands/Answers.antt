@@ -6,6 +6,7 @@ returns g c =
       inside = c.stands.ensures.inside;
       kept = c.self.invariant.kept;
       synced = c.stands.ensures.synced;
+      here = c.stands.ensures.here;
       survives = c.stands.ensures.survives;
       honest = c.stands.ensures.honest;
       last = c.stands.ensures.last;
