@@ -1,2 +1,3 @@
 mod Entries
 mod Made
+mod PairLines

@@ -5,3 +5,5 @@ pub mod Dump
 pub mod Guarded
 pub mod Outcomes
 pub mod Requested
+pub mod Pages
+pub mod Keyed

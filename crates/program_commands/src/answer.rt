@@ -13,8 +13,8 @@ use sector_device::Device;
 use std::io;
 use std::io::Write;
 
-// Prints an answer, and tells what came of a request whose last answer it is.
-fn print<W: Write>(output: &mut W, answer: &Answer) -> io::Result<Outcome>
+/// Prints an answer, and tells what came of a request whose last answer it is.
+pub(crate) fn print<W: Write>(output: &mut W, answer: &Answer) -> io::Result<Outcome>
     ensures { IfOk result (λ outcome.
         Prints W.contents answer.now output.old output.new × (outcome ≡ outcome_of answer.now)) }
 {

@@ -3,18 +3,25 @@
 //!
 //! Proved: each request is one of the engine's own calls, with just the reply that it had (`Serves`, `Flushes`,
 //! `TakesImage`), and a dump prints just the rows, the entries and the life that are there. A `GuardedStore` refuses
-//! each commit behind a known failure of its device (`ServesGuarded`). Neither: when memory is lacking.
+//! each commit behind a known failure of its device (`ServesGuarded`). `answer_key` changes the one row that has a key,
+//! and prints the answer to that (`AnswersKey`). `print_page` prints just the pairs of the page that is asked for, and
+//! `print_count` how many there are, or why there is none (`PrintsPage`, `PrintsCount`). Neither: when memory is
+//! lacking.
 #![tactic(auto)]
 
 mod answer;
 mod guarded;
+mod keyed;
 mod outcome;
+mod pages;
 mod reply;
 mod request;
 mod store;
 
 pub use guarded::GuardedStore;
+pub use keyed::{KeyChange, KeyRequest};
 pub use outcome::Outcome;
+pub use pages::PageRequest;
 pub use reply::answer_of;
 pub use request::Request;
 pub use store::Store;

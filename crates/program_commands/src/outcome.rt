@@ -12,8 +12,21 @@ pub enum Outcome {
     Ticket,
     /// Its last answer was this refusal.
     Refused(Error),
+    /// It was refused, since more rows than one have the key.
+    Several,
     /// Anything else.
     Other,
+}
+
+impl Outcome {
+    ghost use Rattle.program_commands.specs.Outcomes.{is_refusal};
+
+    /// Whether the request was refused.
+    pub fn is_refusal(self) -> bool
+        ensures { result ≡ is_refusal self }
+    {
+        matches!(self, Outcome::Refused(_) | Outcome::Several)
+    }
 }
 
 /// What came of a request whose last answer this is.
@@ -23,6 +36,7 @@ pub(crate) fn outcome_of(answer: &Answer) -> Outcome
     match answer {
         Answer::Ticket(_) => Outcome::Ticket,
         Answer::Refused(error) => Outcome::Refused(*error),
+        Answer::Several(_) => Outcome::Several,
         _ => Outcome::Other,
     }
 }

@@ -26,12 +26,12 @@ use Rattle.program_script.proofs.Texts.{text_takes, text_again}
 
 -- ---- words
 
-only_takes : (args : List (List ℕ)) (word : List ℕ) → only args ≡ Some word → args ≡ word ∷ []
+pub only_takes : (args : List (List ℕ)) (word : List ℕ) → only args ≡ Some word → args ≡ word ∷ []
 only_takes [] word e = absurd cc
 only_takes (one ∷ []) word e = ap (λ (w : List ℕ). w ∷ []) (some_is one word e)
 only_takes (one ∷ more ∷ rest) word e = absurd cc
 
-txn_takes : (word : List ℕ) (txn : ℕ) → txn_at word ≡ Some txn → (word ≡ decimal txn) × IsTxn txn
+pub txn_takes : (word : List ℕ) (txn : ℕ) → txn_at word ≡ Some txn → (word ≡ decimal txn) × IsTxn txn
 unfolding txn_at
 txn_takes word txn e =
     let n = bind_some (number_at word) (λ n. cond (eqb n 0) None (Some n)) txn e in
@@ -40,13 +40,13 @@ txn_takes word txn e =
     let low : 1 ≤ n.0 = grind (arith, some.0) in
     subst (λ (t : ℕ). (word ≡ decimal t) × IsTxn t) (some_is n.0 txn some.1) (read.0, (low, read.1))
 
-txn_again : (txn : ℕ) → IsTxn txn → txn_at (decimal txn) ≡ Some txn
+pub txn_again : (txn : ℕ) → IsTxn txn → txn_at (decimal txn) ≡ Some txn
 unfolding txn_at
 txn_again txn h =
     let some : eqb txn 0 ≡ false = grind (arith, h.0) in
     rw (number_again txn h.1, some) refl
 
-count_takes : (word : List ℕ) (count : ℕ) → count_at word ≡ Some count → (word ≡ decimal count) × IsCount count
+pub count_takes : (word : List ℕ) (count : ℕ) → count_at word ≡ Some count → (word ≡ decimal count) × IsCount count
 unfolding count_at
 count_takes word count e =
     let n = bind_some (number_at word) (λ n. cond (leb 1 n && leb n STEPS_MAX) (Some n) None) count e in
@@ -55,7 +55,7 @@ count_takes word count e =
     let read = number_takes word n.0 n.1 in
     subst (λ (c : ℕ). (word ≡ decimal c) × IsCount c) (some_is n.0 count some.1) (read.0, (leb-true _ _ both.0, leb-true _ _ both.1))
 
-count_again : (count : ℕ) → IsCount count → count_at (decimal count) ≡ Some count
+pub count_again : (count : ℕ) → IsCount count → count_at (decimal count) ≡ Some count
 unfolding count_at
 count_again count h =
     let low : leb 1 count ≡ true = le-leb _ _ h.0 in
@@ -119,7 +119,7 @@ fate_again Junk = refl
 abbrev one_word : List ℕ → List (List ℕ)
 one_word w = w ∷ []
 
-two_take : (args : List (List ℕ)) (two : List ℕ × List ℕ) → first_two args ≡ Some two → args ≡ two.0 ∷ two.1 ∷ []
+pub two_take : (args : List (List ℕ)) (two : List ℕ × List ℕ) → first_two args ≡ Some two → args ≡ two.0 ∷ two.1 ∷ []
 two_take [] two e = absurd cc
 two_take (first ∷ rest) two e =
     let second = bind_some (only rest) (λ second. Some (first, second)) two e in
@@ -134,7 +134,7 @@ three_take (first ∷ rest) three e =
     ap (λ (t : List (List ℕ)). first ∷ t) (two_take rest pair two.1)
     ∙ ap (λ (t : List ℕ × List ℕ × List ℕ). t.0 ∷ t.1 ∷ t.2 ∷ []) (some_is (first, pair.0, pair.1) three two.2)
 
-four_take : (args : List (List ℕ)) (four : List ℕ × List ℕ × List ℕ × List ℕ) → first_four args ≡ Some four → args ≡ four.0 ∷ four.1 ∷ four.2 ∷ four.3 ∷ []
+pub four_take : (args : List (List ℕ)) (four : List ℕ × List ℕ × List ℕ × List ℕ) → first_four args ≡ Some four → args ≡ four.0 ∷ four.1 ∷ four.2 ∷ four.3 ∷ []
 four_take [] four e = absurd cc
 four_take (first ∷ rest) four e =
     let three = bind_some (first_three rest) (λ three. Some (first, three.0, three.1, three.2)) four e in
@@ -146,7 +146,7 @@ alone_takes : (verb : List ℕ) (args : List (List ℕ)) (command c : Command) �
 alone_takes verb [] command c spelled e = subst (Spell (verb ∷ [])) (some_is command c e) spelled
 alone_takes verb (word ∷ more) command c spelled e = absurd cc
 
-spelled_so : (verb name : List ℕ) (args rest : List (List ℕ)) → verb ≡ name → args ≡ rest → verb ∷ args ≡ name ∷ rest
+pub spelled_so : (verb name : List ℕ) (args rest : List (List ℕ)) → verb ≡ name → args ≡ rest → verb ∷ args ≡ name ∷ rest
 spelled_so verb name args rest p q = cc
 
 two_are : (a b c d : List ℕ) (rest : List (List ℕ)) → a ≡ b → c ≡ d → a ∷ c ∷ rest ≡ b ∷ d ∷ rest
@@ -212,7 +212,7 @@ update_takes verb args c is e =
       text_takes words.3 body.0 body.1,
     )
 
-only_txn_takes : (args : List (List ℕ)) (txn : ℕ) → only_txn_at args ≡ Some txn → (args ≡ decimal txn ∷ []) × IsTxn txn
+pub only_txn_takes : (args : List (List ℕ)) (txn : ℕ) → only_txn_at args ≡ Some txn → (args ≡ decimal txn ∷ []) × IsTxn txn
 unfolding only_txn_at
 only_txn_takes args txn e =
     let word = bind_some (only args) txn_at txn e in

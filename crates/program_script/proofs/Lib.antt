@@ -5,3 +5,5 @@ mod Texts
 mod Commands
 mod Scripts
 mod Writing
+mod Scanning
+mod ShellLines

@@ -88,8 +88,9 @@ fn update_of(alloc: Global, rest: Option<&[u8]>) -> Result<Option<Command>, Allo
     }))
 }
 
+/// The transaction that is the only word left.
 #[tactic(auto, unfolding(crate::specs::Reading::only_txn_at))]
-fn only_txn(rest: Option<&[u8]>) -> Option<Txn>
+pub fn only_txn(rest: Option<&[u8]>) -> Option<Txn>
     ensures { result ≡ only_txn_at (parts_left 32 (option_map (λ r. r.now) rest.entry)) }
 {
     txn_of(only_part(b' ', rest)?)

@@ -14,7 +14,8 @@ use std::alloc::Global;
 /// How many lines a script has at most, the ones that are left out included.
 pub const LINES_MAX: u64 = 10_000;
 
-fn without_last_line_feed(text: &[u8]) -> &[u8]
+/// The text without a line feed at its end.
+pub(crate) fn without_last_line_feed(text: &[u8]) -> &[u8]
     ensures { result.now ≡ strip_last 10 text.now }
 {
     match text {

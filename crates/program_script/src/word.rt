@@ -1,7 +1,8 @@
 //! Words of a line: numbers, places of rows, and bytes.
-ghost use Rattle.std.specs.Prelude.{◌≡◌, IfOk};
+ghost use Rattle.std.specs.Prelude.{◌≡◌, IfOk, IfSome, List, None, ℕ};
 ghost use Rattle.std.specs.List.{list_all, list_any};
 ghost use Rattle.std.specs.Char.{is_ascii_graphic, is_ascii_uppercase};
+ghost use Rattle.program_script.specs.Grammar.{IsByteText};
 ghost use Rattle.program_script.specs.Reading.{begins_as_number, number_at, txn_at, count_at, rid_at, text_at, hex_at};
 
 use crate::byte_text::ByteText;
@@ -119,4 +120,13 @@ pub fn bytes_of(alloc: Global, word: &[u8]) -> Result<Option<ByteText>, AllocErr
         [b':', digits @ ..] => hex_of(alloc, digits),
         _ => Ok(None),
     }
+}
+
+/// The bytes that a word gives, as one of a script does; none where it gives none.
+pub fn read_bytes(alloc: Global, word: &[u8]) -> Result<Option<ByteText>, AllocError>
+    ensures given { IfOk result (λ found. IfSome found (IsByteText word.now)) }
+    ensures none { IfOk result (λ found. found ≡ None → (bytes : List ℕ) → ¬ IsByteText word.now bytes) }
+{
+    let found = bytes_of(alloc, word)?;
+    Ok(found)
 }

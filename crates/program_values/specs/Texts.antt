@@ -88,6 +88,7 @@ answer_text answer.Flipped = codes "flipped"
 answer_text (answer.Row row) = codes "row " ++ row_text row
 answer_text answer.NoRow = codes "none"
 answer_text (answer.Found rids) = places_text rids.items
+answer_text (answer.Several rids) = codes "refused several " ++ places_text rids.items
 answer_text (answer.Life life) = codes "life " ++ life_text life
 answer_text (answer.RowAt rid row) = codes "row " ++ rid_text rid ++ codes " " ++ row_text row
 answer_text (answer.Entry pair mark) = entry_text pair mark

@@ -32,6 +32,8 @@ pub enum Answer {
     NoRow,
     /// The places of the rows that were asked for, parted by spaces, or `-`.
     Found(Vec<Rid>),
+    /// The places of the rows of which just one was to be changed, and none was: `refused several <rid> ..`.
+    Several(Vec<Rid>),
     /// How far the index is: `life <life>`.
     Life(Life),
     /// A row of a dump, and its place: `row <rid> <key> <body>`.
@@ -84,6 +86,7 @@ impl fmt::Display for Answer {
             Answer::Row(row) => write!(f, "row {}", RowText(*row)),
             Answer::NoRow => f.write_str("none"),
             Answer::Found(rids) => write!(f, "{}", Places(rids.as_slice())),
+            Answer::Several(rids) => write!(f, "refused several {}", Places(rids.as_slice())),
             Answer::Life(life) => write!(f, "life {}", LifeText(*life)),
             Answer::RowAt { rid, row } => write!(f, "row {} {}", Place(*rid), RowText(*row)),
             Answer::Entry { pair, mark } => write!(f, "{}", EntryText(*pair, *mark)),

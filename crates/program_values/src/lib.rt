@@ -12,3 +12,4 @@ mod text;
 pub use answer::Answer;
 pub use given::{Arguments, FATES, Options, each_fate_has_a_name, fate_named};
 pub use step::Step;
+pub use text::PairText;

@@ -1,0 +1,106 @@
+//! What a line that asks for a range of the index says of it.
+ghost use Rattle.std.specs.Prelude.{◌≡◌, IfOk};
+ghost use Rattle.std.specs.Option.{option_map};
+ghost use Rattle.program_script.specs.Reading.{parts_left};
+ghost use Rattle.program_script.specs.ReadingScans.{between_at, from_at, keys_at, limit_at};
+
+use crate::byte_text::ByteText;
+use crate::parts::{cut_at, only_part};
+use crate::word::{bytes_of, count_of};
+use std::alloc::{AllocError, Global};
+
+/// The keys that a scan goes over.
+#[derive(Drop)]
+pub enum Span {
+    /// All keys.
+    Whole,
+    /// The keys from one on.
+    From { first: ByteText },
+    /// The keys from one to another, both of them too.
+    Between { first: ByteText, last: ByteText },
+}
+
+/// A range of the index that is asked for, and how many of its pairs, or all: `scan`, `scan <first>` or
+/// `scan <first> <last>`, and behind it `count <count>`.
+#[derive(Drop)]
+pub struct Scan {
+    pub span: Span,
+    pub limit: Option<u32>,
+}
+
+// How many pairs are asked for, where nothing else is left.
+#[tactic(auto, unfolding(crate::specs::ReadingScans::limit_at))]
+fn limit_of(rest: Option<&[u8]>) -> Option<Option<u32>>
+    ensures { result ≡ limit_at (parts_left 32 (option_map (λ r. r.now) rest.entry)) }
+{
+    let Some(rest) = rest else {
+        return Some(None);
+    };
+    let (name, more) = cut_at(b' ', rest);
+    if name == b"count".as_slice() {
+        let count = count_of(only_part(b' ', more)?)?;
+        Some(Some(count))
+    } else {
+        None
+    }
+}
+
+// What is asked for, where the first key was read.
+#[tactic(auto, unfolding(crate::specs::ReadingScans::between_at))]
+fn between_of(
+    alloc: Global,
+    first: ByteText,
+    rest: Option<&[u8]>,
+) -> Result<Option<Scan>, AllocError>
+    ensures { IfOk result (λ r. r ≡ between_at first (parts_left 32 (option_map (λ r. r.now) rest.entry))) }
+{
+    let Some(rest) = rest else {
+        return Ok(None);
+    };
+    let (word, more) = cut_at(b' ', rest);
+    let Some(last) = bytes_of(alloc, word)? else {
+        return Ok(None);
+    };
+    let Some(limit) = limit_of(more) else {
+        return Ok(None);
+    };
+    Ok(Some(Scan {
+        span: Span::Between { first, last },
+        limit,
+    }))
+}
+
+// What is asked for, where it begins with the first key.
+#[tactic(auto, unfolding(crate::specs::ReadingScans::from_at))]
+fn from_of(alloc: Global, rest: Option<&[u8]>) -> Result<Option<Scan>, AllocError>
+    ensures { IfOk result (λ r. r ≡ from_at (parts_left 32 (option_map (λ r. r.now) rest.entry))) }
+{
+    let Some(rest) = rest else {
+        return Ok(None);
+    };
+    let (word, more) = cut_at(b' ', rest);
+    let Some(first) = bytes_of(alloc, word)? else {
+        return Ok(None);
+    };
+    match limit_of(more) {
+        Some(limit) => Ok(Some(Scan {
+            span: Span::From { first },
+            limit,
+        })),
+        None => between_of(alloc, first, more),
+    }
+}
+
+/// What is asked for behind the name.
+#[tactic(auto, unfolding(crate::specs::ReadingScans::keys_at))]
+pub fn keys_of(alloc: Global, rest: Option<&[u8]>) -> Result<Option<Scan>, AllocError>
+    ensures { IfOk result (λ r. r ≡ keys_at (parts_left 32 (option_map (λ r. r.now) rest.entry))) }
+{
+    match limit_of(rest) {
+        Some(limit) => Ok(Some(Scan {
+            span: Span::Whole,
+            limit,
+        })),
+        None => from_of(alloc, rest),
+    }
+}
