@@ -6,6 +6,7 @@
 #![tactic(auto)]
 
 mod args;
+mod scan;
 mod store;
 mod threads;
 
@@ -20,11 +21,12 @@ use clap::error::ErrorKind;
 use clap::{Arg, ArgMatches, Command, Error, value_parser};
 use program_values::{Arguments, FATES, Options, fate_named};
 use records::{ENTRIES_MAX, ENTRIES_MIN, LOG_SLOTS_MAX, LOG_SLOTS_MIN, PAGES_MAX};
+pub use scan::ScanArguments;
 use sector_device::Fate;
 use std::alloc::{AllocError, Global};
 use std::convert::AsStr;
 use std::io::Write;
-pub use store::{Asked, Build, Verb, read_asked};
+pub use store::{Asked, Build, Serving, Verb, read_asked};
 pub use threads::{ThreadsArguments, read_threads};
 
 /// The version of the programs.

@@ -1,5 +1,6 @@
 //! What the words of the program `nsf-store` ask for.
 use crate::args::{flag_arg, program_named, with_arg};
+use crate::scan::{ScanArguments, scan_of, with_scan_args};
 use crate::{option_named, tell};
 use clap::{Arg, ArgMatches, Command, Error, value_parser};
 use records::{ENTRIES_MAX, ENTRIES_MIN, LOG_SLOTS_MAX, LOG_SLOTS_MIN, PAGES_MAX, SLOTS_PER_PAGE};
@@ -19,6 +20,15 @@ pub struct Build {
     pub shows_progress: bool,
 }
 
+/// How the commands of the input are to be served.
+#[derive(Clone, Copy)]
+pub struct Serving {
+    /// Whether each commit is flushed before its answer.
+    pub is_durable: bool,
+    /// Whether the input ends at the first command that is refused.
+    pub stops_on_refusal: bool,
+}
+
 /// What is to be done with the file.
 #[derive(Clone, Copy)]
 pub enum Verb {
@@ -28,10 +38,8 @@ pub enum Verb {
         entries: u32,
         slots: u32,
     },
-    /// The commands of the input are served; each commit is flushed before its answer where it is to be durable.
-    Run {
-        is_durable: bool,
-    },
+    /// The commands of the input are served.
+    Run(Serving),
     /// It is read, and what is wrong with it is said.
     Check,
     /// Its rows and entries are printed.
@@ -47,6 +55,8 @@ pub enum Verb {
 pub enum Asked {
     /// Something is done with the file of this path.
     Of { path: String, verb: Verb },
+    /// A range of the index in the file of this path is shown.
+    Scan { path: String, asked: ScanArguments },
     /// The store of version 1 in a file is moved to a new file.
     Migrate { old: String, new: String },
 }
@@ -54,7 +64,7 @@ pub enum Asked {
 const ABOUT: &str =
     "Keeps a table with an index in a file. The index is built while the table is written
 
-Exit status: 0 where it was done, refused commands included; 1 where the file or the store was refused, told on the error stream, or a line was no command, told in its place; 2 for bad words";
+Exit status: 0 where it was done, refused commands included; 1 where the file or the store was refused, told on the error stream, or a line was no command, told in its place; 2 for bad words; 3 where a command was refused, with --stop-on-refusal";
 
 const NEW_ABOUT: &str = "Makes a store in a new file";
 
@@ -64,6 +74,9 @@ const RUN_ABOUT: &str =
 const CHECK_ABOUT: &str = "Reads the file alone, and says `sound`, or what is wrong with it";
 
 const DUMP_ABOUT: &str = "Prints each row, each entry of the index, and how far that is";
+
+const SCAN_ABOUT: &str =
+    "Prints the index's pairs from a key to a key in order, and then `end` or `more`. The file is only read";
 
 const STAT_ABOUT: &str = "Prints what the store is and how far it has come";
 
@@ -81,6 +94,8 @@ const SLOTS_HELP: &str = "Slots of each log, 4 to 256 [default: 16]";
 
 const DURABLE_HELP: &str =
     "Flushes each commit before its ticket is answered, and its horizon behind that: no kill loses a commit that was answered";
+
+const STOP_HELP: &str = "Ends the input at the first command that is refused or line that is none";
 
 const AGAIN_HELP: &str =
     "Drops the index before, if there is one, and creates it anew: the way out where it is full";
@@ -157,7 +172,12 @@ fn new_verb<'a>(alloc: Global) -> Result<Command<'a>, AllocError> {
 
 fn run_verb<'a>(alloc: Global) -> Result<Command<'a>, AllocError> {
     let verb = verb_with_file(alloc, "run", RUN_ABOUT);
-    with_arg(verb, flag_arg(alloc, "durable", DURABLE_HELP))
+    let verb = with_arg(verb, flag_arg(alloc, "durable", DURABLE_HELP));
+    with_arg(verb, flag_arg(alloc, "stop-on-refusal", STOP_HELP))
+}
+
+fn scan_verb<'a>(alloc: Global) -> Result<Command<'a>, AllocError> {
+    with_scan_args(alloc, verb_with_file(alloc, "scan", SCAN_ABOUT))
 }
 
 fn build_verb<'a>(alloc: Global) -> Result<Command<'a>, AllocError> {
@@ -178,6 +198,7 @@ fn command<'a>(alloc: Global) -> Result<Command<'a>, AllocError> {
     let all = with_verb(all, run_verb(alloc));
     let all = with_verb(all, verb_with_file(alloc, "check", CHECK_ABOUT));
     let all = with_verb(all, verb_with_file(alloc, "dump", DUMP_ABOUT));
+    let all = with_verb(all, scan_verb(alloc));
     let all = with_verb(all, verb_with_file(alloc, "stat", STAT_ABOUT));
     let all = with_verb(all, build_verb(alloc));
     with_verb(all, migrate_verb(alloc))
@@ -205,9 +226,10 @@ fn new_of(matches: &ArgMatches<'_>) -> Verb {
 }
 
 fn run_of(matches: &ArgMatches<'_>) -> Verb {
-    Verb::Run {
+    Verb::Run(Serving {
         is_durable: matches.get_flag("durable"),
-    }
+        stops_on_refusal: matches.get_flag("stop-on-refusal"),
+    })
 }
 
 fn build_of(matches: &ArgMatches<'_>) -> Verb {
@@ -240,6 +262,12 @@ fn asked_by(alloc: Global, name: &str, matches: &ArgMatches<'_>) -> Result<Asked
         return Ok(Asked::Migrate {
             old: path_in(alloc, matches, "OLD")?,
             new: path_in(alloc, matches, "NEW")?,
+        });
+    }
+    if name == "scan" {
+        return Ok(Asked::Scan {
+            path: path_in(alloc, matches, "FILE")?,
+            asked: scan_of(alloc, matches)?,
         });
     }
     Ok(Asked::Of {

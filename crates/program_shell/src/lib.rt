@@ -11,12 +11,15 @@
 #![tactic(auto)]
 
 mod building;
+mod forms;
 mod migration;
 mod name;
 mod program;
 mod refused;
+mod scan;
 mod serve;
 mod show;
+mod tally;
 
 pub use program::run;
 pub use refused::{Refused, refuse_words};

@@ -3,10 +3,12 @@ use crate::building::build_index;
 use crate::migration::{NotMoved, migrate_file};
 use crate::name::OpenName;
 use crate::refused::Refused;
+use crate::scan::{Shown, show_range, shown_by};
 use crate::serve::Service;
 use crate::show::{Stored, write_stat};
+use crate::tally::Ended;
 use flip_image::Halves;
-use program_arguments::{Asked, Build, Verb, read_asked};
+use program_arguments::{Asked, Build, ScanArguments, Serving, Verb, read_asked};
 use program_commands::Store;
 use records::Geometry;
 use sector_device::Device;
@@ -197,41 +199,66 @@ fn stat_file<R: Files<File = File>, W: Write>(
     stat_disk(alloc, store_file::read(rt, alloc, path)?, output)
 }
 
-// Serves the input over the store on the disk, and tells whether each line was one of a script. Behind the last line
-// what is not flushed yet is flushed.
+// Shows a range of the index of the store on the disk.
+fn scan_disk<D: Device + Troubled + Drop, W: Write>(
+    alloc: Global,
+    disk: D,
+    shown: &Shown,
+    output: &mut W,
+) -> Result<(), Refused> {
+    let (_, store) = read_and_open(alloc, disk)?;
+    let done = show_range(alloc, &store, shown, output);
+    drop(store);
+    done
+}
+
+fn scan_file<R: Files<File = File>, W: Write>(
+    rt: &R,
+    alloc: Global,
+    path: &str,
+    shown: &Shown,
+    output: &mut W,
+) -> Result<(), Refused> {
+    scan_disk(alloc, store_file::read(rt, alloc, path)?, shown, output)
+}
+
+// Serves the input over the store on the disk, and tells how it ended. Behind the last line what is not flushed yet is
+// flushed.
 fn run_disk<R: Files, D: Device + Troubled + Drop, I: BufRead, W: Write, E: Write>(
     alloc: Global,
     disk: D,
     name: &OpenName<'_, R>,
-    is_durable: bool,
+    serving: Serving,
     input: &mut I,
     output: &mut W,
     errors: &mut E,
-) -> Result<bool, Refused> {
-    let mut service = Service::new(open(alloc, disk)?, is_durable);
+) -> Result<Ended, Refused> {
+    let mut service = Service::new(open(alloc, disk)?, serving);
     let served = service.serve_lines(alloc, name, input, output, errors);
     let flushed = service.flush();
     service.tell(name, errors);
+    let ended = service.sum_up(errors);
     drop(service);
     flushed?;
-    Ok(served?)
+    served?;
+    Ok(ended)
 }
 
 fn run_file<R: Files<File = File>, I: BufRead, W: Write, E: Write>(
     rt: &R,
     alloc: Global,
     path: &str,
-    is_durable: bool,
+    serving: Serving,
     input: &mut I,
     output: &mut W,
     errors: &mut E,
-) -> Result<bool, Refused> {
+) -> Result<Ended, Refused> {
     let disk = store_file::open(rt, alloc, path)?;
     let name = OpenName::new(rt, path);
-    run_disk(alloc, disk, &name, is_durable, input, output, errors)
+    run_disk(alloc, disk, &name, serving, input, output, errors)
 }
 
-// Does what is asked for, and tells whether nothing was refused.
+// Does what is asked for, and tells how the input ended.
 fn act<R: Files<File = File> + AllocGlobal, I: BufRead, W: Write, E: Write>(
     rt: &R,
     path: &str,
@@ -239,7 +266,7 @@ fn act<R: Files<File = File> + AllocGlobal, I: BufRead, W: Write, E: Write>(
     input: &mut I,
     output: &mut W,
     errors: &mut E,
-) -> Result<bool, Refused> {
+) -> Result<Ended, Refused> {
     let alloc = rt.alloc();
     match verb {
         Verb::New {
@@ -247,15 +274,15 @@ fn act<R: Files<File = File> + AllocGlobal, I: BufRead, W: Write, E: Write>(
             entries,
             slots,
         } => make(rt, path, Geometry::new(pages, entries, slots)?)?,
-        Verb::Run { is_durable } => {
-            return run_file(rt, alloc, path, is_durable, input, output, errors);
+        Verb::Run(serving) => {
+            return run_file(rt, alloc, path, serving, input, output, errors);
         }
         Verb::Check => check_file(rt, alloc, path, output)?,
         Verb::Dump => dump_file(rt, alloc, path, output)?,
         Verb::Stat => stat_file(rt, alloc, path, output)?,
         Verb::Build(build) => build_file(rt, alloc, path, build, output, errors)?,
     }
-    Ok(true)
+    Ok(Ended::Well)
 }
 
 // Moves the store in the old file to the new one, and prints what that is.
@@ -278,6 +305,26 @@ fn tell<E: Write>(path: &str, refused: &Refused, errors: &mut E) -> u8 {
     1
 }
 
+// Shows a range of the index of the store in the file, and answers the exit status.
+fn scan<R: Files<File = File> + AllocGlobal, W: Write, E: Write>(
+    rt: &R,
+    path: &str,
+    asked: &ScanArguments,
+    output: &mut W,
+    errors: &mut E,
+) -> u8 {
+    match shown_by(rt.alloc(), asked) {
+        Ok(shown) => match scan_file(rt, rt.alloc(), path, &shown, output) {
+            Ok(()) => 0,
+            Err(refused) => tell(path, &refused, errors),
+        },
+        Err(refused) => {
+            let _ = writeln!(errors, "nsf-store: {refused}");
+            2
+        }
+    }
+}
+
 // Does what is asked for, and answers the exit status.
 fn answer<R: Files<File = File> + AllocGlobal, I: BufRead, W: Write, E: Write>(
     rt: &R,
@@ -288,10 +335,12 @@ fn answer<R: Files<File = File> + AllocGlobal, I: BufRead, W: Write, E: Write>(
 ) -> u8 {
     match asked {
         Asked::Of { path, verb } => match act(rt, path.as_str(), *verb, input, output, errors) {
-            Ok(true) => 0,
-            Ok(false) => 1,
+            Ok(Ended::Well) => 0,
+            Ok(Ended::WithBadLine) => 1,
+            Ok(Ended::WithRefusal) => 3,
             Err(refused) => tell(path.as_str(), &refused, errors),
         },
+        Asked::Scan { path, asked } => scan(rt, path.as_str(), asked, output, errors),
         Asked::Migrate { old, new } => {
             match move_and_stat(rt, old.as_str(), new.as_str(), output) {
                 Ok(()) => 0,
@@ -304,7 +353,8 @@ fn answer<R: Files<File = File> + AllocGlobal, I: BufRead, W: Write, E: Write>(
 
 /// Runs the program on these words, the first of which is its own name, and answers its exit status: 0 where what they
 /// ask for was done, refused commands included; 1 where the file or the store was refused, of which the error stream
-/// says why, or a line of the input was no command; 2 for bad words.
+/// says why, or a line of the input was no command; 2 for bad words; 3 where the input was to end with a command that
+/// is refused, and one was.
 pub fn run<R: Files<File = File> + AllocGlobal, S: AsStr, I: BufRead, W: Write, E: Write>(
     rt: &R,
     words: &[S],

@@ -15,8 +15,12 @@ pub enum Refused {
     Store(Error),
     /// The device failed, and this is why.
     Device(Trouble),
-    /// There is no index to build.
+    /// There is no index.
     NoIndex,
+    /// The index isn't complete.
+    NotBuilt,
+    /// A word that is to give a key gives none.
+    NoKey,
     /// No place of the index is free, so that it can't be built on.
     FullIndex,
     /// The index that was made anew has fewer places than the table has rows.
@@ -106,6 +110,12 @@ impl fmt::Display for Refused {
             ),
             Refused::SmallIndex => f.write_str(
                 "its index has fewer places than the table has rows",
+            ),
+            Refused::NotBuilt => {
+                f.write_str("its index isn't complete; `nsf-store build` builds it to its end")
+            }
+            Refused::NoKey => f.write_str(
+                "a key is `=` and graphic bytes, as `=ant`, or `:` and hexadecimal digits, as `:616e74`",
             ),
             Refused::NoIndex => f.write_str("it has no index; `create` in `run` begins one"),
             Refused::Stream(error) => write!(f, "input or output failed: {error}"),

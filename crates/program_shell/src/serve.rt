@@ -1,10 +1,14 @@
 //! The commands of the input, served line by line.
+use crate::forms::{print_help, tell_why};
 use crate::name::OpenName;
 use crate::refused::{Refused, granted};
-use program_commands::{GuardedStore, Outcome, Request, Store};
-use program_script::Command;
+use crate::tally::{Came, Ended, Tally};
+use program_arguments::Serving;
+use program_commands::{GuardedStore, KeyRequest, Outcome, PageRequest, Request, Store};
+use program_script::{Command, Scan, ShellLine};
 use program_values::Answer;
-use records::Error;
+use records::{Error, Txn};
+use restart::Event;
 use sector_device::Device;
 use std::alloc::Global;
 use std::io;
@@ -18,11 +22,24 @@ const FULL_INDEX: &str =
 const LOST_NAME: &str =
     "the file that is open no longer has its name. Where it is gone, a flush tells so";
 
-// The refusal of a text of one line, as that of this line.
-fn at_line(error: Error, line: u64) -> Error {
+// Answers that something is refused.
+fn refuse<W: Write>(error: Error, output: &mut W) -> io::Result<Outcome> {
+    let answer = Answer::Refused(error);
+    writeln!(output, "{answer}")?;
+    Ok(Outcome::Refused(error))
+}
+
+// Answers a line that isn't read. The refusal of a text of one line is that of this line.
+fn refuse_line<W: Write>(error: Error, line: u64, output: &mut W) -> io::Result<Came> {
     match error {
-        Error::BadScript { .. } => Error::BadScript { line },
-        error => error,
+        Error::BadScript { .. } => {
+            refuse(Error::BadScript { line }, output)?;
+            Ok(Came::NoCommand)
+        }
+        error => {
+            refuse(error, output)?;
+            Ok(Came::Unread)
+        }
     }
 }
 
@@ -30,8 +47,9 @@ fn at_line(error: Error, line: u64) -> Error {
 #[derive(Drop)]
 pub(crate) struct Service<D: Device> {
     guarded: GuardedStore<D>,
-    /// Whether each commit is flushed before it is answered.
-    is_durable: bool,
+    serving: Serving,
+    /// What came of the lines.
+    tally: Tally,
     /// That the index is full.
     full: Notice,
     /// That the device failed.
@@ -66,10 +84,11 @@ impl Notice {
 }
 
 impl<D: Device + Troubled> Service<D> {
-    pub(crate) fn new(store: Store<D>, is_durable: bool) -> Self {
+    pub(crate) fn new(store: Store<D>, serving: Serving) -> Self {
         Service {
             guarded: GuardedStore::new(store),
-            is_durable,
+            serving,
+            tally: Tally::default(),
             full: Notice::Unmet,
             failure: Notice::Unmet,
             lost_name: Notice::Unmet,
@@ -119,16 +138,19 @@ impl<D: Device + Troubled> Service<D> {
         alloc: Global,
         request: Request,
         output: &mut W,
-    ) -> io::Result<()> {
+    ) -> io::Result<Outcome> {
         let mut answers = Vec::new(alloc);
-        if self.answer(request, &mut answers)? == Outcome::Ticket {
+        let mut outcome = self.answer(request, &mut answers)?;
+        if outcome == Outcome::Ticket {
             let mut flushed = Vec::new(alloc);
-            if let Outcome::Refused(_) = self.answer(Request::Flush, &mut flushed)? {
+            outcome = self.answer(Request::Flush, &mut flushed)?;
+            if outcome.is_refusal() {
                 answers.clear();
             }
             answers.extend_from_slice(flushed.as_slice())?;
         }
-        output.write_all(answers.as_slice())
+        output.write_all(answers.as_slice())?;
+        Ok(outcome)
     }
 
     // Serves a command, and prints its answers.
@@ -137,46 +159,128 @@ impl<D: Device + Troubled> Service<D> {
         alloc: Global,
         command: &Command,
         output: &mut W,
-    ) -> io::Result<()> {
+    ) -> io::Result<Outcome> {
         let request = match Request::of(command) {
             Ok(request) => request,
-            Err(error) => {
-                let answer = Answer::Refused(error);
-                return writeln!(output, "{answer}");
-            }
+            Err(error) => return refuse(error, output),
         };
-        if self.is_durable && matches!(command, Command::Commit { .. }) {
+        if self.serving.is_durable && matches!(command, Command::Commit { .. }) {
             return self.serve_durably(alloc, request, output);
         }
-        self.answer(request, output)?;
-        Ok(())
+        self.answer(request, output)
     }
 
-    // Serves the command of a line, if there is one, and tells whether the line is one of a script.
+    // Prints the pairs that a scan asks for.
+    fn serve_scan<W: Write>(
+        &self,
+        alloc: Global,
+        scan: &Scan,
+        output: &mut W,
+    ) -> io::Result<Outcome> {
+        match PageRequest::of(scan) {
+            Ok(asked) => self.guarded.store().print_page(alloc, &asked, output),
+            Err(error) => refuse(error, output),
+        }
+    }
+
+    // Changes the one row with a key, if what is asked for fits.
+    fn serve_key<W: Write>(
+        &mut self,
+        asked: Result<KeyRequest, Error>,
+        output: &mut W,
+    ) -> io::Result<Outcome> {
+        match asked {
+            Ok(asked) => {
+                let outcome = self.guarded.answer_key(&asked, output)?;
+                self.note(outcome);
+                Ok(outcome)
+            }
+            Err(error) => refuse(error, output),
+        }
+    }
+
+    // Commits, and flushes behind it.
+    fn commit_now<W: Write>(
+        &mut self,
+        alloc: Global,
+        txn: Txn,
+        output: &mut W,
+    ) -> io::Result<Outcome> {
+        self.serve_durably(alloc, Request::Event(Event::Commit { txn }), output)
+    }
+
+    // Serves a line that is no command of a script.
+    fn serve_shell_line<W: Write>(
+        &mut self,
+        alloc: Global,
+        line: &ShellLine,
+        output: &mut W,
+    ) -> io::Result<Came> {
+        let outcome = match line {
+            ShellLine::Scan(scan) => self.serve_scan(alloc, scan, output)?,
+            ShellLine::DeleteKey { txn, key } => {
+                self.serve_key(KeyRequest::delete(*txn, key), output)?
+            }
+            ShellLine::UpdateKey {
+                txn,
+                old,
+                key,
+                body,
+            } => self.serve_key(KeyRequest::update(*txn, old, key, body), output)?,
+            ShellLine::CommitNow { txn } => self.commit_now(alloc, *txn, output)?,
+            ShellLine::Help => {
+                print_help(output)?;
+                Outcome::Other
+            }
+            ShellLine::Quit => return Ok(Came::Quit),
+        };
+        Ok(Came::of(outcome))
+    }
+
+    // Serves the command of a line of a script, if there is one.
+    fn serve_script_line<W: Write>(
+        &mut self,
+        alloc: Global,
+        line: &[u8],
+        number: u64,
+        output: &mut W,
+    ) -> io::Result<Came> {
+        match program_script::read(alloc, line) {
+            Ok(commands) => {
+                let mut came = Came::Served;
+                for command in &commands {
+                    came = Came::of(self.serve_command(alloc, command, output)?);
+                }
+                Ok(came)
+            }
+            Err(error) => refuse_line(error, number, output),
+        }
+    }
+
+    // Serves a line.
     fn serve_line<W: Write>(
         &mut self,
         alloc: Global,
         line: &[u8],
         number: u64,
         output: &mut W,
-    ) -> io::Result<bool> {
-        match program_script::read(alloc, line) {
-            Ok(commands) => {
-                for command in &commands {
-                    self.serve_command(alloc, command, output)?;
-                }
-                Ok(true)
-            }
-            Err(error) => {
-                let answer = Answer::Refused(at_line(error, number));
-                writeln!(output, "{answer}")?;
-                Ok(false)
-            }
+    ) -> io::Result<Came> {
+        match program_script::read_shell_line(alloc, line) {
+            Ok(Some(line)) => self.serve_shell_line(alloc, &line, output),
+            Ok(None) => self.serve_script_line(alloc, line, number, output),
+            Err(error) => refuse_line(error, number, output),
         }
     }
 
-    /// Serves the commands of the input until its end, each of which is answered before the next line is read, and
-    /// tells whether each line was one of a script; a line that is none is answered with its number, and passed over.
+    // Notes what came of a line. Whether the input ends behind it.
+    fn count(&mut self, came: Came, number: u64) -> bool {
+        self.tally.add(came, number);
+        came == Came::Quit || (self.serving.stops_on_refusal && came != Came::Served)
+    }
+
+    /// Serves the lines of the input until its end, each of which is answered before the next is read. A line that is
+    /// none of those that are served is answered with its number, and the error stream says why.
+    ///
     /// Where the index is full, the error stream tells once what helps; where the device failed, why; and once that the
     /// file no longer has its name.
     pub(crate) fn serve_lines<R: Files, I: BufRead, W: Write, E: Write>(
@@ -186,19 +290,49 @@ impl<D: Device + Troubled> Service<D> {
         input: &mut I,
         output: &mut W,
         errors: &mut E,
-    ) -> io::Result<bool> {
-        let mut is_script = true;
+    ) -> io::Result<()> {
         let mut line = Vec::new(alloc);
         for number in 1..u64::MAX {
             line.clear();
             if input.read_until(b'\n', &mut line)? == 0 {
                 break;
             }
-            is_script &= self.serve_line(alloc, line.as_slice(), number, output)?;
+            let came = self.serve_line(alloc, line.as_slice(), number, output)?;
             output.flush()?;
+            if came == Came::NoCommand {
+                tell_why(alloc, line.as_slice(), number, errors);
+            }
             self.tell(name, errors);
+            if self.count(came, number) {
+                break;
+            }
         }
-        Ok(is_script)
+        Ok(())
+    }
+
+    // Tells which transactions are open still.
+    fn tell_open<E: Write>(&self, errors: &mut E) {
+        let core = self.guarded.store().core();
+        if core.active_txns() == 0 {
+            return;
+        }
+        let _ = write!(
+            errors,
+            "nsf-store: transactions open at the end, of which nothing is kept:"
+        );
+        for index in 0..core.active_txns() {
+            if let Some(txn) = core.txn_at(index) {
+                let _ = write!(errors, " {}", txn.number());
+            }
+        }
+        let _ = writeln!(errors);
+    }
+
+    /// Tells how many commands were refused, and which transactions are open still. How the input ended.
+    pub(crate) fn sum_up<E: Write>(&self, errors: &mut E) -> Ended {
+        self.tally.tell(errors);
+        self.tell_open(errors);
+        self.tally.ended(self.serving.stops_on_refusal)
     }
 
     /// Flushes what is not flushed yet.

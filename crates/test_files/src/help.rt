@@ -3,7 +3,7 @@
 pub const HELP: &str =
     "Keeps a table with an index in a file. The index is built while the table is written
 
-Exit status: 0 where it was done, refused commands included; 1 where the file or the store was refused, told on the error stream, or a line was no command, told in its place; 2 for bad words
+Exit status: 0 where it was done, refused commands included; 1 where the file or the store was refused, told on the error stream, or a line was no command, told in its place; 2 for bad words; 3 where a command was refused, with --stop-on-refusal
 
 Usage: nsf-store <COMMAND>
 
@@ -12,6 +12,7 @@ Commands:
   run      Serves the commands of the input, each of which is answered before the next is read
   check    Reads the file alone, and says `sound`, or what is wrong with it
   dump     Prints each row, each entry of the index, and how far that is
+  scan     Prints the index's pairs from a key to a key in order, and then `end` or `more`. The file is only read
   stat     Prints what the store is and how far it has come
   build    Builds the index to its end
   migrate  Moves a store of version 1 to a new file, and prints what `stat` does of it. The old file is only read

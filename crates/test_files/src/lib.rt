@@ -28,6 +28,8 @@ mod scenes;
 #[cfg(test)]
 mod scripts;
 #[cfg(test)]
+mod shell_tests;
+#[cfg(test)]
 mod steps;
 #[cfg(test)]
 mod watched;

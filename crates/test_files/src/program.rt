@@ -30,6 +30,8 @@ pub(crate) enum Deed {
     /// The program is run without input: its words, the status that it ends with, and what it prints and says.
     Call(&'static [&'static str], u8, &'static str, &'static str),
     Serve(ProgramRun),
+    /// The program is run: its words and its input, the status that it ends with, and what it prints and says.
+    Feed(&'static [&'static str], &'static str, u8, &'static str, &'static str),
     /// The file of this name gets these parts.
     Lay(&'static str, Parts),
     /// It has just these.
@@ -90,6 +92,24 @@ fn run<R: Files<File = File> + AllocGlobal>(rt: &R, run: &ProgramRun) -> &'stati
     }
 }
 
+// Runs the program on this input, which is to end with a status, and to print and say this.
+fn feed<R: Files<File = File> + AllocGlobal>(
+    rt: &R,
+    words: &'static [&'static str],
+    input: &'static str,
+    (status, printed, said): (u8, &'static str, &'static str),
+) -> &'static str {
+    let fed = ProgramRun {
+        words,
+        input,
+        status,
+        look: Look::Whole,
+        printed,
+        said,
+    };
+    run(rt, &fed)
+}
+
 // What a file holds with these parts.
 fn bytes_of(alloc: Global, (sectors, parts): Parts) -> Result<Vec<u8>, AllocError> {
     let mut bytes = Vec::new(alloc);
@@ -119,16 +139,9 @@ fn lay<R: Files<File = File> + AllocGlobal>(
 // What a step comes to.
 fn take<R: Files<File = File> + AllocGlobal>(rt: &R, deed: &Deed) -> &'static str {
     match *deed {
-        Deed::Call(words, status, printed, said) => {
-            let call = ProgramRun {
-                words,
-                input: "",
-                status,
-                look: Look::Whole,
-                printed,
-                said,
-            };
-            run(rt, &call)
+        Deed::Call(words, status, printed, said) => feed(rt, words, "", (status, printed, said)),
+        Deed::Feed(words, input, status, printed, said) => {
+            feed(rt, words, input, (status, printed, said))
         }
         Deed::Serve(served) => run(rt, &served),
         Deed::Lay(path, parts) => name_of_done(lay(rt, path, parts, false)),

@@ -83,7 +83,7 @@ static SHOWN: [Deed; 11] = [
         status: 1,
         look: Look::Whole,
         printed: ANSWERS,
-        said: "",
+        said: "nsf-store: line 8: `nonsense` is no command; `help` tells of all\n",
     }),
     Deed::Call(&["nsf-store", "stat", "s"], 0, STAT, ""),
     Deed::Call(
@@ -140,9 +140,11 @@ fn a_file_of_another_kind_is_told_in_words(rt: HostRuntime) {
     take_all(&rt, &OTHER_KINDS);
 }
 
+// The first command that is refused is a step of the builder behind 31 updates, and the second one is the last line.
 const FULL: &str =
     "nsf-store: the index is full. What open transactions reserve comes free at their end, and `clean` takes marked \
-    entries out. Where neither helps, `drop` and then `create` make the index anew\n";
+    entries out. Where neither helps, `drop` and then `create` make the index anew\n\
+    nsf-store: commands refused: 2, the first in line 219\n";
 
 const AGAIN: &str =
     "nsf-store: f: its index is full: `nsf-store build --again` drops it, creates it anew and builds it\n";
@@ -208,6 +210,14 @@ fn an_index_that_is_too_small_is_told(rt: HostRuntime) {
 }
 
 const CUT: &str = "nsf-store: the file's length was changed while it was open
+nsf-store: commands refused: 2, the first in line 4
+nsf-store: transactions open at the end, of which nothing is kept: 2
+nsf-store: d: the file's length was changed while it was open
+";
+
+const CUT_DURABLY: &str = "nsf-store: the file's length was changed while it was open
+nsf-store: commands refused: 2, the first in line 3
+nsf-store: transactions open at the end, of which nothing is kept: 2
 nsf-store: d: the file's length was changed while it was open
 ";
 
@@ -222,7 +232,7 @@ static DURABLE: [Deed; 9] = [
         look: Look::Durable("d"),
         printed: "txn 1\nrid 0.0\nticket 2\nhorizon 2\n\
             txn 2\nticket 3\nhorizon 3\nrefused 9 NoSuchTxn\n",
-        said: "",
+        said: "nsf-store: commands refused: 1, the first in line 6\n",
     }),
     Deed::Act("d", Act::Remove),
     NEW_D,
@@ -242,7 +252,7 @@ static DURABLE: [Deed; 9] = [
         status: 1,
         look: Look::Cut("d"),
         printed: "txn 1\nrid 0.0\nrefused 2 DeviceFailed\ntxn 2\nrefused 2 DeviceFailed\n",
-        said: CUT,
+        said: CUT_DURABLY,
     }),
     Deed::Act("d", Act::Remove),
 ];

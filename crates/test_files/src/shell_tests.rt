@@ -1,0 +1,332 @@
+// What is served beside the commands of a script, and what the error stream says of an input.
+use crate::answers::Look;
+use crate::program::{Deed, ProgramRun, take_all};
+use crate::steps::Act;
+
+const NEW: Deed = Deed::Call(&["nsf-store", "new", "r", "--pages", "1"], 0, "", "");
+
+const REMOVE: Deed = Deed::Act("r", Act::Remove);
+
+const RUN: &[&str] = &["nsf-store", "run", "r"];
+
+const STOPPING: &[&str] = &["nsf-store", "run", "r", "--stop-on-refusal"];
+
+// In `scan = =:` the first key has no bytes, and the last one is the byte `:`.
+const RANGES: &str = "scan
+begin
+insert 1 =ant =
+insert 1 =bee =
+insert 1 =cow =
+insert 1 =bee =
+commit 1
+create
+scan
+build 9
+scan
+scan =b
+scan =b =bee
+scan =d
+scan count 1
+scan =bee =z count 2
+scan =b =a
+scan = =:
+scan :62 count 3
+scan =b count 4
+begin
+delete 2 0.1
+scan =bee =bee
+";
+
+const RANGES_ANSWERED: &str = "refused 18 NoIndex
+txn 1
+rid 0.0
+rid 0.1
+rid 0.2
+rid 0.3
+ticket 5
+ticket 6
+refused 19 NotBuilt
+scanned 0
+placed :616e74 0.0
+placed :626565 0.1
+placed :626565 0.3
+placed :636f77 0.2
+done ticket 11
+:616e74 0.0
+:626565 0.1
+:626565 0.3
+:636f77 0.2
+end
+:626565 0.1
+:626565 0.3
+:636f77 0.2
+end
+:626565 0.1
+:626565 0.3
+end
+end
+:616e74 0.0
+more :616e74 0.0
+:626565 0.1
+:626565 0.3
+more :626565 0.3
+end
+end
+:626565 0.1
+:626565 0.3
+:636f77 0.2
+end
+:626565 0.1
+:626565 0.3
+:636f77 0.2
+end
+txn 2
+ok
+:626565 0.3
+end
+";
+
+const RANGES_SAID: &str = "nsf-store: commands refused: 2, the first in line 1
+nsf-store: transactions open at the end, of which nothing is kept: 2
+";
+
+// The transaction that was open is taken back where the file is opened again.
+static SCANNED: [Deed; 14] = [
+    NEW,
+    Deed::Feed(RUN, RANGES, 0, RANGES_ANSWERED, RANGES_SAID),
+    Deed::Call(
+        &["nsf-store", "scan", "r"],
+        0,
+        ":616e74 0.0\n:626565 0.1\n:626565 0.3\n:636f77 0.2\nend\n",
+        "",
+    ),
+    Deed::Call(
+        &["nsf-store", "scan", "r", "=b"],
+        0,
+        ":626565 0.1\n:626565 0.3\n:636f77 0.2\nend\n",
+        "",
+    ),
+    Deed::Call(
+        &["nsf-store", "scan", "r", "=b", ":626565", "--limit", "1"],
+        0,
+        ":626565 0.1\nmore :626565 0.1\n",
+        "",
+    ),
+    Deed::Call(
+        &["nsf-store", "scan", "r", "--prefix", "=be"],
+        0,
+        ":626565 0.1\n:626565 0.3\nend\n",
+        "",
+    ),
+    Deed::Call(&["nsf-store", "scan", "r", "--count"], 0, "4\n", ""),
+    Deed::Call(
+        &["nsf-store", "scan", "r", "=b", "--count", "--limit", "1"],
+        0,
+        "3\n",
+        "",
+    ),
+    Deed::Call(
+        &["nsf-store", "scan", "r", "bee"],
+        2,
+        "",
+        "nsf-store: a key is `=` and graphic bytes, as `=ant`, or `:` and hexadecimal digits, as `:616e74`\n",
+    ),
+    REMOVE,
+    NEW,
+    Deed::Call(
+        &["nsf-store", "scan", "r"],
+        1,
+        "",
+        "nsf-store: r: it has no index; `create` in `run` begins one\n",
+    ),
+    Deed::Feed(RUN, "create\n", 0, "ticket 1\n", ""),
+    Deed::Call(
+        &["nsf-store", "scan", "r", "--count"],
+        1,
+        "",
+        "nsf-store: r: its index isn't complete; `nsf-store build` builds it to its end\n",
+    ),
+];
+
+#[test]
+fn ranges_are_read_in_order(rt: HostRuntime) {
+    take_all(&rt, &SCANNED);
+    take_all(&rt, &[REMOVE]);
+}
+
+const KEYS: &str = "begin
+insert 1 =ant =1
+insert 1 =bee =1
+insert 1 =bee =2
+delete-key 1 =ant
+commit! 1
+create
+build 9
+begin
+delete-key 2 =ant
+delete-key 2 =ant
+delete-key 2 =bee
+update-key 2 =cow =c =
+commit 2
+begin
+delete 3 0.1
+update-key 3 =bee =c =
+step 3
+update-key 3 =bee =cow =x
+commit! 3
+delete-key 3 =cow
+dump
+";
+
+// A deletion of a row with an entry makes two records, and an update of one three.
+const KEYS_ANSWERED: &str = "txn 1
+rid 0.0
+rid 0.1
+rid 0.2
+refused 18 NoIndex
+ticket 4
+horizon 4
+ticket 5
+scanned 0
+placed :616e74 0.0
+placed :626565 0.1
+placed :626565 0.2
+done ticket 9
+txn 2
+ok
+refused 10 NoSuchRow
+refused several 0.1 0.2
+refused 10 NoSuchRow
+ticket 12
+txn 3
+ok
+skipped
+ok
+ok
+ticket 18
+horizon 18
+refused 9 NoSuchTxn
+row 0.2 :636f77 :78
+marked :616e74 0.0
+marked :626565 0.1
+marked :626565 0.2
+live :636f77 0.2
+life complete
+";
+
+static KEYED: [Deed; 3] = [
+    NEW,
+    Deed::Feed(
+        RUN,
+        KEYS,
+        0,
+        KEYS_ANSWERED,
+        "nsf-store: commands refused: 5, the first in line 5\n",
+    ),
+    REMOVE,
+];
+
+#[test]
+fn the_one_row_with_a_key_is_changed(rt: HostRuntime) {
+    take_all(&rt, &KEYED);
+}
+
+static STOPPED: [Deed; 6] = [
+    NEW,
+    Deed::Feed(
+        STOPPING,
+        "begin\ninsert 1 =a =\nbegin\ncommit 9\nbegin\n",
+        3,
+        "txn 1\nrid 0.0\ntxn 2\nrefused 9 NoSuchTxn\n",
+        "nsf-store: commands refused: 1, the first in line 4\n\
+        nsf-store: transactions open at the end, of which nothing is kept: 1 2\n",
+    ),
+    Deed::Feed(
+        STOPPING,
+        "begin\nstep 1\nbegin 1\nbegin\n",
+        1,
+        "txn 1\nskipped\nrefused 22 BadScript 3\n",
+        "nsf-store: line 3: it is written `begin`\n\
+        nsf-store: transactions open at the end, of which nothing is kept: 1\n",
+    ),
+    Deed::Feed(
+        STOPPING,
+        "begin\ncommit! 1\n",
+        0,
+        "txn 1\nticket 2\nhorizon 2\n",
+        "",
+    ),
+    Deed::Feed(
+        RUN,
+        "begin\ncommit 1\nquit\nbegin\n",
+        0,
+        "txn 1\nticket 3\n",
+        "",
+    ),
+    REMOVE,
+];
+
+#[test]
+fn an_input_may_end_with_a_refusal(rt: HostRuntime) {
+    take_all(&rt, &STOPPED);
+}
+
+const FAULTS: &str = "instert 1 =a =
+insert 1 ant =
+insert 1
+scan ant
+commit!1
+begin\r
+begin\x20
+find =\u{e9}
+xyzzy
+quit now
+";
+
+const FAULTS_ANSWERED: &str = "refused 22 BadScript 1
+refused 22 BadScript 2
+refused 22 BadScript 3
+refused 22 BadScript 4
+refused 22 BadScript 5
+refused 22 BadScript 6
+refused 22 BadScript 7
+refused 22 BadScript 8
+refused 22 BadScript 9
+refused 22 BadScript 10
+";
+
+const FAULTS_SAID: &str = "nsf-store: line 1: `instert` is no command; is `insert` meant?
+nsf-store: line 2: `ant` begins with neither `=` nor `:`, as a key or body does
+nsf-store: line 3: it is written `insert <t> <key> <body>`
+nsf-store: line 4: `ant` begins with neither `=` nor `:`, as a key or body does
+nsf-store: line 5: `commit!1` is no command; is `commit!` meant?
+nsf-store: line 6: a carriage return is in it; a line ends with a line feed alone
+nsf-store: line 7: its words aren't parted by single spaces
+nsf-store: line 8: a byte in it is neither a space nor graphic ASCII
+nsf-store: line 9: `xyzzy` is no command; `help` tells of all
+nsf-store: line 10: it is written `quit`
+";
+
+const HELPED: &str = "help: shows this
+quit: ends the input
+A key or body is `=` and graphic bytes, as `=ant`, or `:` and hexadecimal digits, as `:616e74`
+";
+
+static TOLD: [Deed; 4] = [
+    NEW,
+    Deed::Feed(RUN, FAULTS, 1, FAULTS_ANSWERED, FAULTS_SAID),
+    Deed::Serve(ProgramRun {
+        words: RUN,
+        input: "help\n",
+        status: 0,
+        look: Look::End,
+        printed: HELPED,
+        said: "",
+    }),
+    REMOVE,
+];
+
+#[test]
+fn why_a_line_is_none_is_told(rt: HostRuntime) {
+    take_all(&rt, &TOLD);
+}
