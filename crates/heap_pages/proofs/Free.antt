@@ -1,6 +1,7 @@
 -- The least free place.
-use Rattle.std.proofs.Common.{◌≡◌, ◌≢◌, ℕ, ◌+◌, ◌<◌, ◌≤◌, Bool, true, false, List, length, Some, None, IsSome, get_or, slice_get, refl, sym, ap, subst, ◌∙◌}
-use Rattle.std.proofs.Common.{arith, eqb, ◌⊎◌, inl, inr}
+use Rattle.std.proofs.Common.{◌≡◌, ◌≢◌, ℕ, ◌+◌, ◌-◌, ◌*◌, ◌/◌, ◌%◌, ◌<◌, ◌≤◌, Bool, true, false, List, length, Some, None, IsSome, get_or, slice_get}
+use Rattle.std.proofs.Common.{option_and_then, refl, sym, ap, subst, ◌∙◌, arith, eqb, ◌⊎◌, inl, inr}
+use Rattle.std.proofs.lemmas.Bool.{cases_lt}
 use Rattle.std.proofs.lemmas.Bool.Decides.{eqb_tells}
 use Rattle.std.proofs.lemmas.Option.{slice_get_within, slice_get-get_or}
 use Rattle.std.specs.declared.cmp.Ordering.TheVariants.{Less}
@@ -10,7 +11,7 @@ use Rattle.record_values.specs.Orders.{rid_cmp}
 use Rattle.record_values.specs.declared.rid.TheConstants.{SLOTS_PER_PAGE}
 use Rattle.record_values.specs.declared.row.Row.{Row}
 use Rattle.heap_pages.specs.Slots.{Slots, IsFreeSlot, NoneFree}
-use Rattle.heap_pages.specs.Pages.{HeapValue, AreFull, IsEmptyAndUnheld}
+use Rattle.heap_pages.specs.Pages.{HeapValue, OthersAreFull, IsEmptyAndUnheld, is_open}
 use Rattle.heap_pages.proofs.Cells.{at}
 use Rattle.heap_pages.proofs.Held.{among_from-Contains, not_among}
 use Rattle.heap_pages.proofs.RidOrder.{page_before, slot_before}
@@ -75,13 +76,31 @@ module _ (pages : List Slots) (h : HeapValue) (held : List Place) (n : ℕ) (pag
       let some : IsSome {T = Row} None = subst IsSome gone there in
       absurd cc) none
 
--- the least place is on no page that is full
-pub none_on_full : (pages : List Slots) (h : HeapValue) (held : List Place) (n : ℕ) → shown_of pages ≡ h → n ≤ length pages → AreFull n pages
-    → NoneOnEarlierPages h held n
-none_on_full pages h held n is le full q below free =
-    let page = get_or pages q.page empty in
-    let here : slice_get pages q.page ≡ Some page = slice_get-get_or pages q.page empty (omega arith) in
-    let there : IsSome (get page q.slot) = full q.page page below here q.slot free.inside.1 in
-    let gone = empty_slot pages h held q.page page is here q free refl in
-    let some : IsSome {T = Row} None = subst IsSome gone there in
-    absurd cc
+-- where the set of a run has no page, none of the run has a free place
+pub none_in_run : (pages : List Slots) (h : HeapValue) (held : List Place) (sets : List (List Bool)) (run : List Bool) (k : ℕ) → shown_of pages ≡ h
+    → OthersAreFull sets pages → slice_get sets k ≡ Some run → ((s : ℕ) → s < SLOTS_PER_PAGE → slice_get run s ≡ Some false)
+    → NoneOnEarlierPages h held (k * SLOTS_PER_PAGE) → NoneOnEarlierPages h held ((k + 1) * SLOTS_PER_PAGE)
+none_in_run pages h held sets run k is others here closed none q below free = by (cases_lt q.page (k * SLOTS_PER_PAGE))
+  where
+    by : (q.page < k * SLOTS_PER_PAGE) ⊎ (k * SLOTS_PER_PAGE ≤ q.page) → ⊥
+    by (inl low) = none q low free
+    by (inr high) =
+        let whole : q.page / SLOTS_PER_PAGE ≡ k = omega (arith, high, below) in
+        let inside : q.page < length pages = subst (λ (n : ℕ). q.page < n) (sym (ap (λ (v : HeapValue). v.pages) is)) free.inside.0 in
+        let page = get_or pages q.page empty in
+        let there : slice_get pages q.page ≡ Some page = slice_get-get_or pages q.page empty inside in
+        let flag : is_open sets q.page ≡ Some false =
+        ap (option_and_then (λ (l : List Bool). slice_get l (q.page % SLOTS_PER_PAGE))) (ap (slice_get sets) whole ∙ here)
+        ∙ closed (q.page % SLOTS_PER_PAGE) (omega arith) in
+        let full : IsSome (get page q.slot) = others q.page page there flag q.slot free.inside.1 in
+        let gone = empty_slot pages h held q.page page is there q free refl in
+        let some : IsSome {T = Row} None = subst IsSome gone full in
+        absurd cc
+
+-- what the set of a run tells of a page
+pub flag_at : (sets : List (List Bool)) (run : List Bool) (k n : ℕ) (b : Bool) → slice_get sets k ≡ Some run → k * SLOTS_PER_PAGE ≤ n
+    → n < (k + 1) * SLOTS_PER_PAGE → slice_get run (n - k * SLOTS_PER_PAGE) ≡ Some b → is_open sets n ≡ Some b
+flag_at sets run k n b here low high told =
+    let whole : n / SLOTS_PER_PAGE ≡ k = omega (arith, high, low) in
+    let rest : n % SLOTS_PER_PAGE ≡ n - k * SLOTS_PER_PAGE = omega (arith, high, low) in
+    ap (option_and_then (λ (l : List Bool). slice_get l (n % SLOTS_PER_PAGE))) (ap (slice_get sets) whole ∙ here) ∙ ap (slice_get run) rest ∙ told

@@ -10,3 +10,4 @@ mod Held
 mod Open
 mod Pairs
 mod PairLaws
+mod Sets

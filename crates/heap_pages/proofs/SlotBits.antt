@@ -22,7 +22,7 @@ length-flags_from : (bits i n : ℕ) → length (flags_from bits i n) ≡ n
 length-flags_from bits i zero = refl
 length-flags_from bits i (suc n) = let rest = length-flags_from bits (i + 1) n in omega arith
 
-get-flags_of : (bits s : ℕ) → s < SLOTS_PER_PAGE → slice_get (flags_of bits) s ≡ Some (bit_at bits s == 1)
+pub get-flags_of : (bits s : ℕ) → s < SLOTS_PER_PAGE → slice_get (flags_of bits) s ≡ Some (bit_at bits s == 1)
 unfolding flags_of
 get-flags_of bits s within = get-flags_from bits 0 SLOTS_PER_PAGE s within
     ∙ (let same : 0 + s ≡ s = omega arith in ap (λ k. Some (bit_at bits k == 1)) same)

@@ -1,6 +1,6 @@
 -- What clauses see of a heap.
-use Rattle.std.specs.Prelude.{◌≡◌, ℕ, ◌+◌, ◌<◌, List, [], ◌∷◌, ◌++◌, map, Option, Some, None, IsSome, Contains}
-use Rattle.std.specs.Prelude.{slice_get, ◌==◌, refl}
+use Rattle.std.specs.Prelude.{◌≡◌, ◌≢◌, ℕ, ◌+◌, ◌/◌, ◌%◌, ◌<◌, Bool, false, List, [], ◌∷◌, ◌++◌, map, Option, Some}
+use Rattle.std.specs.Prelude.{None, IsSome, Contains, slice_get, option_and_then, ◌==◌, refl}
 use Rattle.std.specs.FinMap.{FinMap, code, entries, get, retain_keys, from_sorted}
 use Rattle.std.specs.Coded.{Coded, code_by, coded×, coded_ℕ}
 use Rattle.record_values.specs.Values.{Place}
@@ -65,10 +65,22 @@ abbrev pub heap_entries : ℕ → List (List (Option Row)) → List (Place × Ro
 heap_entries n [] = []
 heap_entries n (slots ∷ pages) = page_entries n 0 slots ++ heap_entries (n + 1) pages
 
--- the first n of these pages have a row in each slot
-abbrev pub AreFull : ℕ → List Slots → Type 0
-AreFull n pages = (k : ℕ) (page : Slots) → k < n → slice_get pages k ≡ Some page → (s : ℕ) → s < SLOTS_PER_PAGE
-    → IsSome (get page s)
+-- no place on the first n pages is empty and not among the held ones (no public clause cites this or the next three)
+abbrev pub IsNoneFree : HeapValue → List Place → ℕ → Type 0
+IsNoneFree h held n = (q : Place) → q.page < n → ¬ IsEmptyAndUnheld h held q
+
+-- whether page n is one of those that these sets have, each for the next SLOTS_PER_PAGE pages
+abbrev pub is_open : List (List Bool) → ℕ → Option Bool
+is_open sets n = option_and_then (λ set. slice_get set (n % SLOTS_PER_PAGE)) (slice_get sets (n / SLOTS_PER_PAGE))
+
+-- they have every page
+abbrev pub AreAllOpen : List (List Bool) → Type 0
+AreAllOpen sets = (n : ℕ) → is_open sets n ≢ Some false
+
+-- the others of these pages have a row in each slot
+abbrev pub OthersAreFull : List (List Bool) → List Slots → Type 0
+OthersAreFull sets pages = (n : ℕ) (page : Slots) → slice_get pages n ≡ Some page → is_open sets n ≡ Some false
+    → (s : ℕ) → s < SLOTS_PER_PAGE → IsSome (get page s)
 
 -- the row in each slot of each page, by its place
 abbrev pub rows_of : List (List (Option Row)) → Rows

@@ -1,6 +1,6 @@
 //! The pages of the heap.
-ghost use Rattle.std.specs.Prelude.{◌≡◌, ◌≢◌, ◌<◌, ◌≤◌, ◌^◌, ◌↔◌, ℕ, map, length, slice_get, Some, None, All, Contains};
-ghost use Rattle.std.specs.Prelude.{IfSome, IfOk, IfErr, IsErr, IsSome};
+ghost use Rattle.std.specs.Prelude.{◌≡◌, ◌≢◌, ◌+◌, ◌*◌, ◌/◌, ◌<◌, ◌≤◌, ◌↔◌, ℕ, map, length, slice_get, Some, None};
+ghost use Rattle.std.specs.Prelude.{All, Contains, IfSome, IfNone, IfOk, IfErr, IsErr, IsSome};
 ghost use Rattle.std.specs.List.Sorted.{IsStrictlyIncreasing};
 ghost use Rattle.std.specs.declared.cmp.Ordering.{Ordering};
 ghost use Rattle.std.specs.FinMap.{get, empty};
@@ -9,12 +9,17 @@ ghost use Rattle.record_values.specs.Orders.{rid_cmp};
 ghost use Rattle.record_values.specs.Maps.{set_at};
 ghost use Rattle.record_values.specs.declared.pair.Pair.{Pair};
 ghost use Rattle.record_values.specs.declared.rid.TheConstants.{SLOTS_PER_PAGE};
-ghost use Rattle.heap_pages.specs.Pages.{AreFull, IsPlaceInside, IsEmptyAndUnheld, IsPairOnPage, page_rows, pairs_of};
+ghost use Rattle.heap_pages.specs.Pages.{IsPlaceInside, IsEmptyAndUnheld, IsPairOnPage, page_rows, pairs_of};
+ghost use Rattle.heap_pages.specs.Pages.{AreAllOpen, IsNoneFree};
 
 use crate::page::{HeapPage, SLOTS, held_slots};
+use crate::slot_set::SlotSet;
 use records::{Error, Pair, Rid, Row, SLOTS_PER_PAGE};
 use std::alloc::Allocator;
 use std::marker::Model;
+
+// Of how many pages a set of open pages tells.
+const RUN: u32 = SLOTS_PER_PAGE as u32;
 
 /// The rows of the table, each at its place.
 ///
@@ -23,14 +28,15 @@ use std::marker::Model;
 pub struct Heap<A: Allocator> {
     alloc: A,
     pages: Vec<HeapPage, A>,
-    // the pages before this one are full
-    first_open: u32,
+    // of each run of as many pages as a page has slots, those that aren't full
+    open_pages: Vec<SlotSet, A>,
 }
 
 impl<A: Allocator> Model for Heap<A> {
-    ghost use Rattle.std.specs.Prelude.{◌<◌, ◌≤◌, ◌^◌, map, length};
+    ghost use Rattle.std.specs.Prelude.{◌≡◌, ◌<◌, ◌+◌, ◌/◌, ◌^◌, map, length};
+    ghost use Rattle.record_values.specs.declared.rid.TheConstants.{SLOTS_PER_PAGE};
     ghost use Rattle.heap_pages.specs.Slots.{slots_of};
-    ghost use Rattle.heap_pages.specs.Pages.{HeapValue, coded_heap, rows_of, AreFull};
+    ghost use Rattle.heap_pages.specs.Pages.{HeapValue, coded_heap, rows_of, OthersAreFull};
 
     ghost Value = { HeapValue };
 
@@ -41,22 +47,22 @@ impl<A: Allocator> Model for Heap<A> {
       rows = rows_of (map slots_of h.pages.items);
     } };
 
-    ghost invariant = { λ h. (length h.pages.items < 2 ^ 32) × (h.first_open ≤ length h.pages.items)
-        × AreFull h.first_open h.pages.items };
+    ghost invariant = { λ h. (length h.pages.items < 2 ^ 32)
+        × (length h.open_pages.items ≡ length h.pages.items / SLOTS_PER_PAGE + 1)
+        × OthersAreFull h.open_pages.items h.pages.items };
 }
 
-// The next page where the first of which it is not known yet whether it is full is full: the pages before it are full,
-// as those before that one were.
-fn first_open_from(pages: &[HeapPage], first: u32) -> u32
-    requires few { length pages.now < 2 ^ 32 }
-    requires inside { first ≤ length pages.now }
-    ensures inside { result ≤ length pages.now }
-    ensures full { AreFull first pages.now → AreFull result pages.now }
+// So many runs of pages, none of which is full.
+fn all_open<A: Allocator>(alloc: A, runs: u32) -> Result<Vec<SlotSet, A>, Error>
+    ensures number { IfOk result (λ sets. length sets.items ≡ runs) }
+    ensures each { IfOk result (λ sets. AreAllOpen sets.items) }
+    ensures no_memory { IfErr result (λ e. e ≡ Error.NoMemory) }
 {
-    match pages.get(first as usize) {
-        Some(page) if page.is_full() => first + 1,
-        _ => first,
+    let mut sets = Vec::with_capacity(alloc, runs as usize)?;
+    for _ in 0..runs {
+        sets.push(SlotSet::all())?;
     }
+    Ok(sets)
 }
 
 impl<A: Allocator + Copy> Heap<A> {
@@ -75,7 +81,7 @@ impl<A: Allocator + Copy> Heap<A> {
         Ok(Heap {
             alloc,
             pages: made,
-            first_open: 0,
+            open_pages: all_open(alloc, pages / RUN + 1)?,
         })
     }
 
@@ -127,14 +133,11 @@ impl<A: Allocator + Copy> Heap<A> {
         requires { rid.page < self.old.pages }
         ensures { self.new ≡ record self.old { rows = set_at self.old.rows rid row } }
     {
-        let is_taken = row.is_some();
         let page = &mut self.pages[rid.page as usize];
         page.set(rid.slot, row);
-        self.first_open = if is_taken {
-            first_open_from(&self.pages, self.first_open)
-        } else {
-            self.first_open.min(rid.page)
-        };
+        let is_open = !page.is_full();
+        let run = &mut self.open_pages[(rid.page / RUN) as usize];
+        run.put((rid.page % RUN) as u16, is_open);
     }
 
     /// The least place that is empty and not among the held ones: first by its page, then by its
@@ -148,16 +151,40 @@ impl<A: Allocator + Copy> Heap<A> {
         ensures full { IsErr result → (q : Place) → ¬ IsEmptyAndUnheld self.now held.now q }
         ensures heap_full { IfErr result (λ e. e ≡ Error.HeapFull) }
     {
-        for page in self.first_open..self.pages() {
-            let slots = &self.pages[page as usize];
-            if slots.is_full() {
-                continue;
-            }
-            if let Some(slot) = slots.first_free(&held_slots(page, held)) {
-                return Ok(Rid { page, slot });
+        let runs = self.pages() / RUN + 1;
+        for run in 0..runs {
+            if let Some(rid) = self.least_free_in(run, held) {
+                return Ok(rid);
             }
         }
         Err(Error::HeapFull)
+    }
+
+    // The least such place on the pages of a run, where there is none on those before it.
+    fn least_free_in(&self, run: u32, held: &[Rid]) -> Option<Rid>
+        requires inside { run ≤ self.now.pages / SLOTS_PER_PAGE }
+        requires before { IsNoneFree self.now held.now (run * SLOTS_PER_PAGE) }
+        ensures free { IfSome result (IsEmptyAndUnheld self.now held.now) }
+        ensures least { IfSome result (λ r.
+            (q : Place) → IsEmptyAndUnheld self.now held.now q → rid_cmp q r ≢ Ordering.Less) }
+        ensures none { IfNone result (IsNoneFree self.now held.now ((run + 1) * SLOTS_PER_PAGE)) }
+    {
+        let set = &self.open_pages[run as usize];
+        if set.is_empty() {
+            return None;
+        }
+        let first = run * RUN;
+        let end = first.saturating_add(RUN).min(self.pages());
+        for page in first..end {
+            if !set.has((page - first) as u16) {
+                continue;
+            }
+            let slots = &self.pages[page as usize];
+            if let Some(slot) = slots.first_free(&held_slots(page, held)) {
+                return Some(Rid { page, slot });
+            }
+        }
+        None
     }
 
     /// The pair of each row of the page, once, in the order of the slots.

@@ -9,7 +9,8 @@ use std::marker::Model;
 // The bits of all slots.
 const ALL: u64 = (1 << SLOTS_PER_PAGE) - 1;
 
-/// Some of a page's slots, a bit for each. To a contract it tells of each slot in turn whether it is one of them.
+/// Some of a page's slots, or of a run of as many pages, a bit for each. To a contract it tells of each in turn whether
+/// it is one of them.
 #[derive(Drop)]
 pub(crate) struct SlotSet {
     bits: u64,
@@ -60,6 +61,14 @@ impl SlotSet {
         ensures { self.new ≡ slice_set self.old slot is_in }
     {
         self.bits = with_bit(self.bits, slot, is_in);
+    }
+
+    /// Whether it has the slot.
+    pub(crate) fn has(&self, slot: u16) -> bool
+        requires { slot < SLOTS_PER_PAGE }
+        ensures { slice_get self.now slot ≡ Some result }
+    {
+        (self.bits >> slot) & 1 == 1
     }
 
     /// Whether it has no slot.
