@@ -43,16 +43,16 @@ module _ {D M : Type 0} (past_of : D → DevicePast) (run : Run) (handed count :
 
   -- ---- what is asked of a call of `carry`
 
-  pub long : length (take count w.waiting.items) ≡ count
+  pub long : length (take count w.waiting) ≡ count
   long = omega (
     arith,
-    length-take count w.waiting.items,
+    length-take count w.waiting,
     ap length is.waits,
     length_between run w.synced handed is.opened (omega (arith, is.within)) is.made,
     is.within,
   )
 
-  pub group_between : take count w.waiting.items ≡ records_between run w.synced (w.synced + length (take count w.waiting.items))
+  pub group_between : take count w.waiting ≡ records_between run w.synced (w.synced + length (take count w.waiting))
   group_between = ap (take count) is.waits ∙ front_between run w.synced handed is.opened (omega (arith, is.within)) is.made count (omega (arith, is.within))
       ∙ ap (λ n. records_between run w.synced (w.synced + n)) (sym long)
 
@@ -95,9 +95,9 @@ module _ {D M : Type 0} (past_of : D → DevicePast) (run : Run) (handed count :
 
   -- it was done
   module _ (new : Writer D M) (halves_is : new.halves ≡ w.halves) (log_is : new.log ≡ w.log) (synced_is : new.synced ≡ w.synced + count)
-      (waiting_is : new.waiting.items ≡ drop count w.waiting.items)
+      (waiting_is : new.waiting ≡ drop count w.waiting)
       (same : SameOutside (InNewLog w.image) content (past_of new.device).disk.content) (all : IsSynced (past_of new.device).disk)
-      (image : IfSome new.image (IsUnderway run (other half) (past_of new.device).disk.content (w.synced + length (take count w.waiting.items))))
+      (image : IfSome new.image (IsUnderway run (other half) (past_of new.device).disk.content (w.synced + length (take count w.waiting))))
       (copying_is : new.copying ≡ w.copying) (stays : StaysAtStage w.image new.image) (known_is : new.known ≡ w.known) where
     abbrev now : CrashState
     now = (past_of new.device).disk.content
@@ -108,8 +108,8 @@ module _ {D M : Type 0} (past_of : D → DevicePast) (run : Run) (handed count :
       arith,
       synced_is,
       ap length waiting_is,
-      length-drop count w.waiting.items,
-      length-take count w.waiting.items,
+      length-drop count w.waiting,
+      length-take count w.waiting,
       long,
     )
 
@@ -136,7 +136,7 @@ module _ {D M : Type 0} (past_of : D → DevicePast) (run : Run) (handed count :
       loose = λ n unsynced. absurd (false≢true (sym (all n) ∙ unsynced));
       image = subst (λ n. IfSome new.image (IsUnderway run (other new.halves.current) now n)) (ap (λ n. w.synced + n) long
           ∙ sym synced_is) (subst (λ (h : HalvesValue). IfSome new.image
-          (IsUnderway run (other h.current) now (w.synced + length (take count w.waiting.items)))) (sym halves_is) image);
+          (IsUnderway run (other h.current) now (w.synced + length (take count w.waiting)))) (sym halves_is) image);
       copying = subst (λ (at : Copying). IsCopying g.pages at new.image) (sym copying_is)
           (kept_copying g.pages w.copying w.image new.image stays is.copying);
       known = known_new;
@@ -160,7 +160,7 @@ module _ {D M : Type 0} (past_of : D → DevicePast) (run : Run) (handed count :
     }
 
   -- it failed
-  pub failed_one : (new : Writer D M) → new.halves ≡ w.halves → new.synced ≡ w.synced → new.waiting.items ≡ w.waiting.items → new.failed ≡ true
+  pub failed_one : (new : Writer D M) → new.halves ≡ w.halves → new.synced ≡ w.synced → new.waiting ≡ w.waiting → new.failed ≡ true
       → LeavesOnly (past_of w.device) (past_of new.device) (LeftBy run w.synced handed) → IsWriter past_of run handed new
   failed_one new halves_is synced_is waiting_is failed left = record {
     run-is = is.run-is;

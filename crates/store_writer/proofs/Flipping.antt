@@ -111,7 +111,7 @@ module _ {D M : Type 0} (past_of : D → DevicePast) (run : Run) (handed : ℕ) 
 
   -- the flip was done
   module _ (new : Writer D M) (halves_is : new.halves ≡ record { geometry = old.halves.geometry; current = to }) (log_is : new.log ≡ image.log)
-      (synced_is : new.synced ≡ n) (waiting_is : new.waiting.items ≡ drop (n - old.synced) old.waiting.items) (none : new.image ≡ None)
+      (synced_is : new.synced ≡ n) (waiting_is : new.waiting ≡ drop (n - old.synced) old.waiting) (none : new.image ≡ None)
       (idle : new.copying ≡ Idle) (changed_is : new.known.changed ≡ old.known.changed) (here_is : new.known.current ≡ Some image.base)
       (there_is : new.known.other ≡ old.known.current)
       (same : SameOutside (λ k. k ≡ 1) content (past_of new.device).disk.content) (named : Names (sector (past_of new.device).disk.content 1) to)
@@ -155,7 +155,7 @@ module _ {D M : Type 0} (past_of : D → DevicePast) (run : Run) (handed : ℕ) 
       arith,
       synced_is,
       ap length waiting_is,
-      length-drop (n - old.synced) old.waiting.items,
+      length-drop (n - old.synced) old.waiting,
       waits_all past_of run handed old is,
       up,
       handed_in,

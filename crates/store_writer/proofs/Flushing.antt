@@ -75,7 +75,7 @@ module _ {D M : Type 0} (past_of : D → DevicePast) (failures : D → ℕ) (old
 
   stays : (result : Result FlushReply Error) → IfOk result (λ reply. IsFlushReply reply old old) → IfErr result (λ e. IsNotFlushed failures e old old)
       → ((n : ℕ) → ¬ (result ≡ Ok (Flushed n))) → OnOk result ((old.failed ≡ false) × (old.failed ≡ false))
-      → (old.failed ≡ false → old.waiting.items ≢ [] → IsLogFull old → result ≡ Ok LogFull) → HasFlushed past_of failures old old result
+      → (old.failed ≡ false → old.waiting ≢ [] → IsLogFull old → result ≡ Ok LogFull) → HasFlushed past_of failures old old result
   stays result flushed err never sound full = record {
     writer = λ run handed is. is;
     images = λ run handed is. started (past_of old.device) (LeftBy run old.synced handed) is.images;
@@ -99,27 +99,27 @@ module _ {D M : Type 0} (past_of : D → DevicePast) (failures : D → ℕ) (old
       (λ sound _ _. absurd (false≢true (sym sound ∙ failed)))
 
   module _ (sound : old.failed ≡ false) where
-    pub none_waits : old.waiting.items ≡ [] → HasFlushed past_of failures old old (Ok Nothing)
+    pub none_waits : old.waiting ≡ [] → HasFlushed past_of failures old old (Ok Nothing)
     none_waits none = stays (Ok Nothing) (refl, none) tt (λ n is. (cc)) (sound, sound) (λ _ waits _. absurd (waits none))
 
-    pub is_full : old.waiting.items ≢ [] → IsLogFull old → HasFlushed past_of failures old old (Ok LogFull)
+    pub is_full : old.waiting ≢ [] → IsLogFull old → HasFlushed past_of failures old old (Ok LogFull)
     is_full waits full = stays (Ok LogFull) (refl, full, waits) tt (λ n is. (cc)) (sound, sound) (λ _ _ _. refl)
 
-    pub no_memory : (result : Result FlushReply Error) → result ≡ Err NoMemory → old.waiting.items ≢ [] → ¬ IsLogFull old
+    pub no_memory : (result : Result FlushReply Error) → result ≡ Err NoMemory → old.waiting ≢ [] → ¬ IsLogFull old
         → HasFlushed past_of failures old old result
     no_memory result is waits room = subst (HasFlushed past_of failures old old) (sym is)
         (stays (Err NoMemory) tt (inl (refl, sound, waits, room, refl)) (λ n e. (cc)) tt (λ _ _ full. absurd (room full)))
 
     -- ---- a group was added to the current half's log, or a part of it
 
-    module _ (somewhere : IsSomewhere past_of old) (count : ℕ) (some : 0 < count) (within : count ≤ length old.waiting.items) (room : ¬ IsLogFull old)
+    module _ (somewhere : IsSomewhere past_of old) (count : ℕ) (some : 0 < count) (within : count ≤ length old.waiting) (room : ¬ IsLogFull old)
         (closed : old.log.open_slots ≢ old.log.area.slots) (device : D) (log : Log) (area : log.area ≡ old.log.area)
         (outside : SameOutside (InSlot old.log.area old.log.open_slots) (past_of old.device).disk.content (past_of device).disk.content)
-        (any_moment : LeavesOnly (past_of old.device) (past_of device) (IsAppended old.log (past_of old.device).disk (take count old.waiting.items))) where
+        (any_moment : LeavesOnly (past_of old.device) (past_of device) (IsAppended old.log (past_of old.device).disk (take count old.waiting))) where
       abbrev group : List RecordValue
-      group = take count old.waiting.items
+      group = take count old.waiting
 
-      waits : old.waiting.items ≢ []
+      waits : old.waiting ≢ []
       waits none = omega (arith, some, within, ap length none)
 
       left_there : (run : Run) (handed : ℕ) → IsWriter past_of run handed old
@@ -172,7 +172,7 @@ module _ {D M : Type 0} (past_of : D → DevicePast) (failures : D → ℕ) (old
             let before = stands past_of run handed old is sound in
             log_more old.log log area (omega (arith, before.counted, (stands_new groups before).counted, length-append groups (group ∷ [])))
 
-        module _ (plan : Plan M) (new : Writer D M) (result : Result FlushReply Error) (fills : FillsGroup old.waiting.items count)
+        module _ (plan : Plan M) (new : Writer D M) (result : Result FlushReply Error) (fills : FillsGroup old.waiting count)
             (planned : IsPlan old.image old.halves.geometry.slots old.synced group plan) (quiet : failures device ≡ failures old.device)
             (on : HasCarriedOn past_of failures count plan mid new result) where
           image_is : (n : ℕ) → result ≡ Ok (Flushed n) → BecomesImage old.halves.geometry.slots old.synced (n - old.synced) old.image new.image
@@ -228,11 +228,11 @@ module _ {D M : Type 0} (past_of : D → DevicePast) (failures : D → ℕ) (old
 -- what a flush says of the records that were handed in
 module _ {D M : Type 0} (past_of : D → DevicePast) (failures : D → ℕ) (old new : Writer D M) (run : Run) (handed : ℕ)
     (is : IsWriter past_of run handed old) where
-  many : length old.waiting.items ≡ handed - old.synced
+  many : length old.waiting ≡ handed - old.synced
   many = ap length is.waits ∙ length_between run old.synced handed is.opened is.reached is.made
 
-  none_waiting : old.synced ≡ handed → old.waiting.items ≡ []
-  none_waiting all = nil_from_length old.waiting.items (omega (arith, all, many))
+  none_waiting : old.synced ≡ handed → old.waiting ≡ []
+  none_waiting all = nil_from_length old.waiting (omega (arith, all, many))
 
   pub nothing_then : (result : Result FlushReply Error) → IfOk result (λ reply. IsFlushReply reply old new) → result ≡ Ok Nothing → old.synced ≡ handed
   nothing_then result flushed replies = omega (arith, ap length (IfOk-at_ok _ replies flushed).1, many, is.reached)
@@ -240,7 +240,7 @@ module _ {D M : Type 0} (past_of : D → DevicePast) (failures : D → ℕ) (old
   pub idle_then : (result : Result FlushReply Error) → IfOk result (λ reply. IsFlushReply reply old new) → IfErr result (λ e. IsNotFlushed failures e old new)
       → old.failed ≡ false → old.synced ≡ handed → result ≡ Ok Nothing
   idle_then (Ok (Flushed n)) flushed err sound all = absurd
-      (omega (arith, flushed.2.fits.some, length-take (n - old.synced) old.waiting.items, ap length (none_waiting all)))
+      (omega (arith, flushed.2.fits.some, length-take (n - old.synced) old.waiting, ap length (none_waiting all)))
   idle_then (Ok Nothing) flushed err sound all = refl
   idle_then (Ok LogFull) flushed err sound all = absurd (flushed.2 (none_waiting all))
   idle_then (Err e) flushed err sound all = absurd (⊎_elim (λ wants. wants.2 (none_waiting all)) (λ failed. (failed.2 sound).0 (none_waiting all)) err)

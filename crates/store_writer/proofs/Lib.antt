@@ -22,3 +22,4 @@ mod Pieces
 mod Opening
 mod Given
 mod Carrying
+mod Waits

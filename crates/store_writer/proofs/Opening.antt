@@ -40,7 +40,7 @@ use Rattle.store_writer.proofs.Left.{left_by}
 
 -- the records that wait are the last ones that were handed in
 pub waits_all : {D M : Type 0} (past_of : D → DevicePast) (run : Run) (handed : ℕ) (w : Writer D M) → IsWriter past_of run handed w
-    → w.synced + length w.waiting.items ≡ handed
+    → w.synced + length w.waiting ≡ handed
 waits_all past_of run handed w is =
     omega (arith, ap length is.waits, length_between run w.synced handed is.opened is.reached is.made, is.reached)
 
@@ -187,7 +187,7 @@ module _ (run : Run) (more : List RecordValue) where
 module _ {D M : Type 0} (past_of : D → DevicePast) (run : Run) (handed : ℕ) (old : Writer D M) (is : IsWriter past_of run handed old) where
   pub handed_writer : (new : Writer D M) (records : List RecordValue) → new.device ≡ old.device → new.halves ≡ old.halves → new.synced ≡ old.synced
       → (new.failed ≡ false → StandsFor past_of run new)
-      → new.waiting.items ≡ old.waiting.items ++ records → AreNext run handed records → IsWriter past_of run (handed + length records) new
+      → new.waiting ≡ old.waiting ++ records → AreNext run handed records → IsWriter past_of run (handed + length records) new
   handed_writer new records d h s stands waits next = record {
     run-is = is.run-is;
     geometry-is = ap (λ (x : HalvesValue). x.geometry) h ∙ is.geometry-is;
@@ -217,7 +217,7 @@ module _ {D M : Type 0} (past_of : D → DevicePast) (run : Run) (handed : ℕ) 
 
   -- what keeps all but where the records lie, keeps the writer
   pub kept_writer : (new : Writer D M) → new.device ≡ old.device → new.halves ≡ old.halves → new.synced ≡ old.synced
-      → (new.failed ≡ false → StandsFor past_of run new) → new.waiting.items ≡ old.waiting.items → IsWriter past_of run handed new
+      → (new.failed ≡ false → StandsFor past_of run new) → new.waiting ≡ old.waiting → IsWriter past_of run handed new
   kept_writer new d h s stands waits = record {
     run-is = is.run-is;
     geometry-is = ap (λ (x : HalvesValue). x.geometry) h ∙ is.geometry-is;
@@ -265,7 +265,7 @@ no_record : (n : ℕ) (cells : Cells) → cells ≡ cells_after cells (take (n -
 no_record n cells = let zero : 0 ≡ n - n = omega arith in ap (λ k. cells_after cells (take k [])) zero
 
 pub opened_writer : {D M : Type 0} (past_of : D → DevicePast) (cells : Cells) (w : Writer D M) → IsOpenedAt (past_of w.device) w.halves w.log w.synced cells
-    → w.waiting.items ≡ [] → w.image ≡ None → w.copying ≡ Idle → w.known.changed.items ≡ [] → w.known.current ≡ None → w.known.other ≡ None
+    → w.waiting ≡ [] → w.image ≡ None → w.copying ≡ Idle → w.known.changed.items ≡ [] → w.known.current ≡ None → w.known.other ≡ None
     → IsWriter past_of (opened_run w.halves w.synced cells) w.synced w
 opened_writer past_of cells w is empty none idle unknown here there = record {
   run-is = record { following = tt; placed = is.placed };

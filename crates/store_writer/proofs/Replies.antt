@@ -22,11 +22,11 @@ log_more old new area slots =
 
 module _ {D M : Type 0} (old mid new : Writer D M) (count : ℕ) where
   -- a group was appended, and all that is planned with the image was done
-  pub flushed_more : (result : Result FlushReply Error) → mid.halves ≡ old.halves → mid.waiting.items ≡ old.waiting.items → mid.synced ≡ old.synced
+  pub flushed_more : (result : Result FlushReply Error) → mid.halves ≡ old.halves → mid.waiting ≡ old.waiting → mid.synced ≡ old.synced
       → mid.log ≡ record old.log { open_slots = old.log.open_slots + 1 }
-      → 0 < count → FillsGroup old.waiting.items count
+      → 0 < count → FillsGroup old.waiting count
       → IfOk result (λ reply. (reply ≡ Flushed new.synced) × (new.synced ≡ mid.synced + count) × (new.failed ≡ mid.failed))
-      → OnOk result ((new.halves ≡ mid.halves) × (new.log ≡ mid.log) × (new.waiting.items ≡ drop count mid.waiting.items))
+      → OnOk result ((new.halves ≡ mid.halves) × (new.log ≡ mid.log) × (new.waiting ≡ drop count mid.waiting))
       → IfOk result (λ reply. IsFlushReply reply old new)
   flushed_more (Err e) halves waiting synced log some fills flushed rest = tt
   flushed_more (Ok reply) halves waiting synced log some fills (is, number, _) (halves_new, log_new, waiting_new) =
@@ -34,11 +34,11 @@ module _ {D M : Type 0} (old mid new : Writer D M) (count : ℕ) where
       subst (λ (r : FlushReply). IsFlushReply r old new) (sym is) (
         refl,
         omega (arith, number, synced, some),
-        subst (FillsGroup old.waiting.items) counted fills,
+        subst (FillsGroup old.waiting) counted fills,
         record {
           halves-are = halves_new ∙ halves;
           log-is = log_new ∙ log;
-          waiting-are = waiting_new ∙ ap (drop count) waiting ∙ ap (λ (n : ℕ). drop n old.waiting.items) counted;
+          waiting-are = waiting_new ∙ ap (drop count) waiting ∙ ap (λ (n : ℕ). drop n old.waiting) counted;
         },
       )
 

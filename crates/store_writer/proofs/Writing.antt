@@ -66,7 +66,7 @@ module _ {D M : Type 0} (past_of : D → DevicePast) (run : Run) (handed : ℕ) 
   stands = stands_for Two old.log disk.content stood.groups stood.has.groups stood.stands
       (subst (λ (a : Area). HoldsGroups a disk.content stood.has.groups) (sym stood.area-is) stood.has.held)
 
-  module _ (count : ℕ) (group : List RecordValue) (group_is : group ≡ take count old.waiting.items) (within : count ≤ length old.waiting.items)
+  module _ (count : ℕ) (group : List RecordValue) (group_is : group ≡ take count old.waiting) (within : count ≤ length old.waiting)
       (room : old.log.open_slots ≢ old.log.area.slots) where
     pub total : old.synced + count ≤ handed
     total = omega (arith, within, ap length is.waits, length_between run old.synced handed is.opened is.reached is.made, is.reached)
@@ -153,7 +153,7 @@ module _ {D M : Type 0} (past_of : D → DevicePast) (run : Run) (handed : ℕ) 
 
     -- after the append was done
     module _ (new : Writer D M) (halves_is : new.halves ≡ old.halves) (same_area : new.log.area ≡ old.log.area) (synced_is : new.synced ≡ old.synced)
-        (waiting_is : new.waiting.items ≡ old.waiting.items) (image_is : new.image ≡ old.image) (copying_is : new.copying ≡ old.copying)
+        (waiting_is : new.waiting ≡ old.waiting) (image_is : new.image ≡ old.image) (copying_is : new.copying ≡ old.copying)
         (known_is : new.known ≡ old.known)
         (slot : SameOutside (InSlot old.log.area old.log.open_slots) disk.content (past_of new.device).disk.content)
         (stands_new : Stands new.log (past_of new.device).disk.content (stood.has.groups ++ group ∷ [])) (all : IsSynced (past_of new.device).disk) where
@@ -216,7 +216,7 @@ module _ {D M : Type 0} (past_of : D → DevicePast) (run : Run) (handed : ℕ) 
 
 -- after a call that left records and numbers alone
 module _ {D M : Type 0} (past_of : D → DevicePast) (run : Run) (handed : ℕ) (old new : Writer D M) (is : IsWriter past_of run handed old) where
-  pub carried_on : new.halves ≡ old.halves → new.synced ≡ old.synced → new.waiting.items ≡ old.waiting.items → (new.failed ≡ false → StandsFor past_of run new)
+  pub carried_on : new.halves ≡ old.halves → new.synced ≡ old.synced → new.waiting ≡ old.waiting → (new.failed ≡ false → StandsFor past_of run new)
       → LeavesOnly (past_of old.device) (past_of new.device) (LeftBy run old.synced handed) → IsWriter past_of run handed new
   carried_on halves_is synced_is waiting_is holds left = record {
     run-is = is.run-is;

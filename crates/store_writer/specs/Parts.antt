@@ -20,11 +20,11 @@ module _ {D M : Type 0} where
 
   -- the records that were handed in and are not synced yet, in order
   abbrev pub waiting_of : Writer D M → List RecordValue
-  waiting_of w = w.waiting.items
+  waiting_of w = w.waiting
 
   -- the number of the last record that was handed in
   abbrev pub handed_of : Writer D M → ℕ
-  handed_of w = w.synced + length w.waiting.items
+  handed_of w = w.synced + length w.waiting
 
   -- the number of the last synced record
   abbrev pub synced_of : Writer D M → ℕ

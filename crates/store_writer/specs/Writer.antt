@@ -82,7 +82,7 @@ module _ {D M : Type 0} (past_of : D → DevicePast) (run : Run) where
     pub reached : w.synced ≤ handed
     pub made : handed ≤ end_of run
     pub small : handed ≤ LAST_NUMBER
-    pub waits : w.waiting.items ≡ records_between run w.synced handed
+    pub waits : w.waiting ≡ records_between run w.synced handed
     pub holds : w.failed ≡ false → StandsFor w
     pub images : (image : CrashState) → IsCrashState (past_of w.device).disk image → LeftBy run w.synced handed image
 
@@ -96,7 +96,7 @@ module _ {D M : Type 0} (past_of : D → DevicePast) (run : Run) where
     pub made : handed ≤ end_of run
     pub small : handed ≤ LAST_NUMBER
     pub within : w.synced + count ≤ handed
-    pub waits : w.waiting.items ≡ records_between run w.synced handed
+    pub waits : w.waiting ≡ records_between run w.synced handed
     pub store : IsStore run.geometry w.halves.current (past_of w.device).disk.content
     pub has : HalfHas run.geometry w.halves.current (past_of w.device).disk.content (w.synced + count)
         (cells_at run (w.synced + count))
@@ -202,21 +202,21 @@ IsLogFull w = w.log.open_slots ≡ w.halves.geometry.slots
 pub record HasGroupMore {D M : Type 0} (old new : Writer D M) : Type 0 where
   pub halves-are : new.halves ≡ old.halves
   pub log-is : new.log ≡ record old.log { open_slots = old.log.open_slots + 1 }
-  pub waiting-are : new.waiting.items ≡ drop (new.synced - old.synced) old.waiting.items
+  pub waiting-are : new.waiting ≡ drop (new.synced - old.synced) old.waiting
 
 -- more records are synced, as many of those that waited as fill a group; or none waited; or every slot is open
 abbrev pub IsFlushReply : {D M : Type 0} → FlushReply → Writer D M → Writer D M → Type 0
-IsFlushReply (Flushed n) old new = (n ≡ new.synced) × (old.synced < n) × FillsGroup old.waiting.items (n - old.synced)
+IsFlushReply (Flushed n) old new = (n ≡ new.synced) × (old.synced < n) × FillsGroup old.waiting (n - old.synced)
     × HasGroupMore old new
-IsFlushReply Nothing old new = (new ≡ old) × (old.waiting.items ≡ [])
-IsFlushReply LogFull old new = (new ≡ old) × IsLogFull old × (old.waiting.items ≢ [])
+IsFlushReply Nothing old new = (new ≡ old) × (old.waiting ≡ [])
+IsFlushReply LogFull old new = (new ≡ old) × IsLogFull old × (old.waiting ≢ [])
 
 -- Why nothing was flushed: there was no memory for a group of the records that wait, though a slot is closed; or the
 -- device failed, now or earlier, and is left alone from then on.
 abbrev pub IsNotFlushed : {D M : Type 0} → (D → ℕ) → Error → Writer D M → Writer D M → Type 0
 IsNotFlushed failures e old new =
-    ((e ≡ NoMemory) × (old.failed ≡ false) × (old.waiting.items ≢ []) × (¬ IsLogFull old) × (new ≡ old))
-    ⊎ ((e ≡ DeviceFailed) × (new.failed ≡ true) × (old.failed ≡ false → (old.waiting.items ≢ [])
+    ((e ≡ NoMemory) × (old.failed ≡ false) × (old.waiting ≢ []) × (¬ IsLogFull old) × (new ≡ old))
+    ⊎ ((e ≡ DeviceFailed) × (new.failed ≡ true) × (old.failed ≡ false → (old.waiting ≢ [])
     × Rises (failures old.device) (failures new.device)) × (old.failed ≡ true → new ≡ old))
 
 -- What becomes of the image, whatever the answer is, after the first `count` waiting records were added to the current
@@ -229,9 +229,9 @@ pub record HasCarriedOn {D M : Type 0} (past_of : D → DevicePast) (failures : 
   pub flushed : IfOk result (λ reply. (reply ≡ Flushed new.synced) × (new.synced ≡ old.synced + count)
       × (new.failed ≡ old.failed))
   pub rest : OnOk result ((new.halves ≡ old.halves) × (new.log ≡ old.log)
-      × (new.waiting.items ≡ drop count old.waiting.items))
+      × (new.waiting ≡ drop count old.waiting))
   pub image : OnOk result ((run : Run) (handed slots : ℕ) → HasAppended past_of run handed count old
-      → slots ≡ run.geometry.slots → 0 < count → IsPlan old.image slots old.synced (take count old.waiting.items) plan
+      → slots ≡ run.geometry.slots → 0 < count → IsPlan old.image slots old.synced (take count old.waiting) plan
       → BecomesImage slots old.synced count old.image new.image)
   pub err : IfErr result (λ e. (e ≡ DeviceFailed) × (new.failed ≡ true) × (new.synced ≡ old.synced)
       × Rises (failures old.device) (failures new.device))
@@ -255,7 +255,7 @@ pub record HasFlushed {D M : Type 0} (past_of : D → DevicePast) (failures : D 
   pub copying-is : new.copying ≡ old.copying
   pub known-is : new.known ≡ old.known
   pub sound : OnOk result ((old.failed ≡ false) × (new.failed ≡ false))
-  pub full : old.failed ≡ false → old.waiting.items ≢ [] → IsLogFull old → result ≡ Ok LogFull
+  pub full : old.failed ≡ false → old.waiting ≢ [] → IsLogFull old → result ≡ Ok LogFull
   pub err : IfErr result (λ e. IsNotFlushed failures e old new)
   pub kept : OnErr result (new.synced ≡ old.synced)
   pub quiet : OnOk result (failures new.device ≡ failures old.device)
@@ -416,7 +416,7 @@ CanFlip handed w = (image : NewImage) × (w.image ≡ Some image) × (image.stag
 pub record HasFlipped {D M : Type 0} (old new : Writer D M) : Type 0 where
   pub halves-are : new.halves ≡ record { geometry = old.halves.geometry; current = other old.halves.current }
   pub log-is : (image : NewImage) → old.image ≡ Some image → new.log ≡ image.log
-  pub waiting-are : new.waiting.items ≡ drop (new.synced - old.synced) old.waiting.items
+  pub waiting-are : new.waiting ≡ drop (new.synced - old.synced) old.waiting
   pub copying-is : new.copying ≡ Idle
 
 -- the image is current, or there is none that can be

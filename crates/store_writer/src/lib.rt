@@ -19,6 +19,7 @@ mod known;
 mod laws;
 mod page;
 mod store;
+mod waiting;
 mod writer;
 
 pub use copying::Copying;

@@ -24,6 +24,7 @@ ghost use Rattle.store_writer.specs.Known.{KnowsAsBefore, KnowsBehind, KnowsTurn
 
 use crate::image::Stage;
 use crate::known::KnownPages;
+use crate::waiting::Waiting;
 use crate::writer::Writer;
 use crate::{Copying, FlipReply, FlushReply, StepReply};
 use flip_image::Halves;
@@ -89,7 +90,7 @@ impl<D: Device, A: Allocator + Copy> StoreWriter<D, A> {
             device,
             halves,
             log,
-            waiting: Vec::new(alloc),
+            waiting: Waiting::new(alloc),
             synced,
             image: None,
             copying: Copying::Idle,
@@ -151,7 +152,9 @@ impl<D: Device, A: Allocator + Copy> StoreWriter<D, A> {
             Ok(()) => {}
             Err(_) => return Err(records),
         }
-        self.writer.known.note(&self.writer.waiting[before..]);
+        self.writer
+            .known
+            .note(&self.writer.waiting.as_slice()[before..]);
         Ok(())
     }
 
@@ -319,7 +322,7 @@ impl<D: Device, A: Allocator + Copy> StoreWriter<D, A> {
         }
         self.writer
             .waiting
-            .drain(..(reached - self.writer.synced) as usize);
+            .take_first((reached - self.writer.synced) as usize);
         self.writer.log = image.log;
         self.writer.image = None;
         self.writer.copying = Copying::Idle;

@@ -19,10 +19,11 @@ use crate::image::{
 };
 use crate::known::KnownPages;
 use crate::page::write_rows;
+use crate::waiting::Waiting;
 use flip_image::Halves;
 use gate_log::{Appended, LogArea, group_len, spell};
 use model::{CellMaps, Life, ListMap};
-use records::{Error, Geometry, Mark, Pair, Record};
+use records::{Error, Geometry, Mark, Pair};
 use sector_device::Device;
 use std::alloc::Allocator;
 use store_image_model::{CopyPlace, PageRows, Piece};
@@ -67,7 +68,7 @@ pub(crate) struct Writer<D, A: Allocator> {
     // The log of the current half.
     pub(crate) log: LogArea,
     // The records that were handed in and are not synced yet, in order.
-    pub(crate) waiting: Vec<Record, A>,
+    pub(crate) waiting: Waiting<A>,
     // The number of the last synced record.
     pub(crate) synced: u64,
     // The image in the half that isn't current, if one is under way.
@@ -109,14 +110,15 @@ impl<D: Device, A: Allocator + Copy> Writer<D, A> {
         if self.failed {
             return Err(Error::DeviceFailed);
         }
-        let count = group_len(&self.waiting);
+        let waiting = self.waiting.as_slice();
+        let count = group_len(waiting);
         if count == 0 {
             return Ok(FlushReply::Nothing);
         }
         if is_full(self.log, self.halves.geometry()) {
             return Ok(FlushReply::LogFull);
         }
-        let group = &self.waiting[..count];
+        let group = &waiting[..count];
         let body = spell(alloc, group)?;
         let plan = plan_for(
             alloc,
@@ -140,7 +142,7 @@ impl<D: Device, A: Allocator + Copy> Writer<D, A> {
     pub(crate) fn carry_on(&mut self, count: usize, plan: Plan<A>) -> Result<FlushReply, Error>
         requires appended { (run : Run) × (handed : ℕ) × HasAppended D.past_of run handed count self.old }
         requires planned { IsPlan self.old.image self.old.halves.geometry.slots self.old.synced
-            (take count self.old.waiting.items) plan }
+            (take count self.old.waiting) plan }
         requires sound { self.old.failed ≡ false }
         ensures { HasCarriedOn D.past_of D.failures count plan self.old self.new result }
     {
@@ -148,7 +150,7 @@ impl<D: Device, A: Allocator + Copy> Writer<D, A> {
             Ok(image) => {
                 self.image = image;
                 self.synced += count as u64;
-                self.waiting.drain(..count);
+                self.waiting.take_first(count);
                 Ok(FlushReply::Flushed(self.synced))
             }
             Err(_) => {
@@ -288,7 +290,7 @@ impl<D: Device, A: Allocator + Copy> Writer<D, A> {
             self.old.device self.new.device }
         ensures left { OnErr result (IsAsBefore self.old self.new) }
     {
-        let alloc = *self.waiting.allocator();
+        let alloc = self.waiting.allocator();
         let handed = self.handed();
         let cells = lists_alone(alloc, life, lists);
         match write_first(&mut self.device, self.halves, &cells) {

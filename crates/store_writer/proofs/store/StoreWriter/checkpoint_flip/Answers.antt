@@ -1,4 +1,4 @@
-use Rattle.std.proofs.Common.{true, ◌≡◌, ◌≤◌, ◌-◌, drop, ℕ, List, Vec, None, Some, refl, sym, ap, subst, ◌∙◌, arith}
+use Rattle.std.proofs.Common.{true, ◌≡◌, ◌≤◌, ◌-◌, drop, ℕ, Vec, None, Some, refl, sym, ap, subst, ◌∙◌, arith}
 use Rattle.std.proofs.lemmas.Bool.{false≢true}
 use Rattle.sector_device.specs.Disk.{sector}
 use Rattle.sector_device.proofs.Moments.{started}
@@ -12,7 +12,6 @@ use Rattle.store_writer.specs.Contents.{LeftBy}
 use Rattle.store_writer.specs.Image.{reach}
 use Rattle.store_writer.specs.Writer.{IsWriter}
 use Rattle.store_image_model.specs.Run.{Run}
-use Rattle.records.specs.RecordValue.{RecordValue}
 use Rattle.sector_device.specs.DevicePast.{LeavesOnly}
 use Rattle.store_writer.proofs.Writing.{carried_on}
 use Rattle.store_writer.proofs.Idle.{from_ok, from_err}
@@ -178,7 +177,7 @@ returns g c =
       device = c.flip.new.device;
       halves = c.flip.new.self;
       log = image.log;
-      waiting = c.drop-drain.new.self.0;
+      waiting = c.take_first.new.self;
       synced = c.max-reached.result;
       image = None;
       copying = Idle;
@@ -191,12 +190,11 @@ returns g c =
     let halves_is : c.flip.new.self ≡ record { geometry = old.halves.geometry; current = other old.halves.current } = from_ok _ _ good c.flip.ensures.flipped in
     let named : Names (sector (past_of new.device).disk.content 1) (other old.halves.current) =
     subst (λ (h : HalvesValue). Names (sector (past_of new.device).disk.content 1) h.current) halves_is (from_ok _ _ good c.flip.ensures.named) in
-    let waits : new.waiting.items ≡ drop (c.max-reached.result - old.synced) old.waiting.items =
-    ◌∙◌ {A = List RecordValue} {c = drop (c.max-reached.result - old.synced) old.waiting.items} c.drop-drain.ensures.items c.drain.ensures.kept in
+    let waits : new.waiting ≡ drop (c.max-reached.result - old.synced) old.waiting = c.take_first.ensures in
     record {
       writer = λ run handed is. flipped_one past_of run handed old is c.if-self.false image
           (there_at past_of run handed old is c.if-self.false image c.in-Some.is) whole reaches (within run handed is) new halves_is refl c.max-reached.ensures
-          (waits ∙ ap (λ (k : ℕ). drop (k - old.synced) old.waiting.items) c.max-reached.ensures) refl refl c.turn.ensures.changed c.turn.ensures.current
+          (waits ∙ ap (λ (k : ℕ). drop (k - old.synced) old.waiting) c.max-reached.ensures) refl refl c.turn.ensures.changed c.turn.ensures.current
           c.turn.ensures.other c.flip.ensures.outside named
           (from_ok _ _ good c.flip.ensures.synced);
       images = λ run handed is. leaves_flipping past_of run handed old is c.if-self.false image
@@ -229,6 +227,12 @@ returns g c =
         λ t it. let same : image ≡ t = cc (c.in-Some.is, it) in c.turn.ensures.current ∙ ap (λ (x : NewImage). Some x.base) same,
       );
     })
+
+pub take_first-requires : goal.take_first-requires
+take_first-requires g c =
+    let (run, handed, is) = c.self.invariant in
+    let there = there_at g.D.Device.past_of run handed c.self.inside.writer is c.if-self.false c.in-Some.image c.in-Some.is in
+    omega (arith, there.rise, c.max-reached.ensures, c.if-handed-image.false, c.len.ensures)
 
 pub invariant_of-self : goal.invariant_of-self
 invariant_of-self g c =

@@ -19,7 +19,7 @@ returns-then-is_empty g c =
       writer = λ run handed is next.
           let same : handed ≡ handed + length c.args.records.items = omega (arith, ap length none) in
           subst (λ (n : ℕ). IsWriter g.D.Device.past_of run n old) same is;
-      waits = sym (ap (λ (l : List RecordValue). old.waiting.items ++ l) none ∙ append-nil old.waiting.items);
+      waits = sym (ap (λ (l : List RecordValue). old.waiting ++ l) none ∙ append-nil old.waiting);
       unchanged = tt;
       still = tt;
       back = tt;
@@ -132,18 +132,18 @@ returns g c =
       failed = old.failed;
     } in
     let kept : KnownPages g.row.A.Denot = c.note.new.self in
-    let slice : take (length c.deref.result.now - c.len-before.result) (drop c.len-before.result c.deref.result.now) ≡ c.args.records.items =
-    rest_is c.len-before.result c.deref.result.now
-    ∙ ap (drop c.len-before.result) (c.deref.ensures.value ∙ c.in-Ok.ensures.items)
-    ∙ ap (λ (n : ℕ). drop n (old.waiting.items ++ c.args.records.items)) (c.len-before.ensures ∙ old.waiting.ok.0)
-    ∙ drop-append_seam old.waiting.items c.args.records.items in
+    let slice : take (length c.as_slice.result.now - c.len-before.result) (drop c.len-before.result c.as_slice.result.now) ≡ c.args.records.items =
+    rest_is c.len-before.result c.as_slice.result.now
+    ∙ ap (drop c.len-before.result) (c.as_slice.ensures ∙ c.in-Ok.ensures.items)
+    ∙ ap (λ (n : ℕ). drop n (old.waiting ++ c.args.records.items)) c.len-before.ensures
+    ∙ drop-append_seam old.waiting c.args.records.items in
     let changed : kept.changed.items ≡ with_changes old.known.changed.items c.args.records.items =
     c.note.ensures.changed ∙ ap (with_changes old.known.changed.items) slice in
     let noted : old.failed ≡ false → (run : Run) (handed : ℕ) → IsWriter g.D.Device.past_of run handed old → AreNext run handed c.args.records.items
-    → KnowsPages run old.halves.current (g.D.Device.past_of old.device).disk.content (old.synced + length c.append.new.self.items) kept.changed.items
+    → KnowsPages run old.halves.current (g.D.Device.past_of old.device).disk.content (old.synced + length c.append.new.self) kept.changed.items
     kept.current kept.other = λ sound run handed is next.
     known_noted run old.halves.current (g.D.Device.past_of old.device).disk.content _ _ _ _ _ _ _ _
-    (omega (arith, ap length c.in-Ok.ensures.items, length-append old.waiting.items c.args.records.items)) changed c.note.ensures.current c.note.ensures.other
+    (omega (arith, ap length c.in-Ok.ensures.items, length-append old.waiting c.args.records.items)) changed c.note.ensures.current c.note.ensures.other
     (known_handed g.D.Device.past_of run handed old is sound c.args.records.items next) in
     let holds : old.failed ≡ false → (run : Run) (handed : ℕ) → IsWriter g.D.Device.past_of run handed old → AreNext run handed c.args.records.items
     → StandsFor g.D.Device.past_of run new = λ sound run handed is next.
@@ -194,18 +194,18 @@ invariant_of-self-2 g c =
       failed = old.failed;
     } in
     let kept : KnownPages g.row.A.Denot = c.note.new.self in
-    let slice : take (length c.deref.result.now - c.len-before.result) (drop c.len-before.result c.deref.result.now) ≡ c.args.records.items =
-    rest_is c.len-before.result c.deref.result.now
-    ∙ ap (drop c.len-before.result) (c.deref.ensures.value ∙ c.in-Ok.ensures.items)
-    ∙ ap (λ (n : ℕ). drop n (old.waiting.items ++ c.args.records.items)) (c.len-before.ensures ∙ old.waiting.ok.0)
-    ∙ drop-append_seam old.waiting.items c.args.records.items in
+    let slice : take (length c.as_slice.result.now - c.len-before.result) (drop c.len-before.result c.as_slice.result.now) ≡ c.args.records.items =
+    rest_is c.len-before.result c.as_slice.result.now
+    ∙ ap (drop c.len-before.result) (c.as_slice.ensures ∙ c.in-Ok.ensures.items)
+    ∙ ap (λ (n : ℕ). drop n (old.waiting ++ c.args.records.items)) c.len-before.ensures
+    ∙ drop-append_seam old.waiting c.args.records.items in
     let changed : kept.changed.items ≡ with_changes old.known.changed.items c.args.records.items =
     c.note.ensures.changed ∙ ap (with_changes old.known.changed.items) slice in
     let noted : old.failed ≡ false → (run : Run) (handed : ℕ) → IsWriter g.D.Device.past_of run handed old → AreNext run handed c.args.records.items
-    → KnowsPages run old.halves.current (g.D.Device.past_of old.device).disk.content (old.synced + length c.append.new.self.items) kept.changed.items
+    → KnowsPages run old.halves.current (g.D.Device.past_of old.device).disk.content (old.synced + length c.append.new.self) kept.changed.items
     kept.current kept.other = λ sound run handed is next.
     known_noted run old.halves.current (g.D.Device.past_of old.device).disk.content _ _ _ _ _ _ _ _
-    (omega (arith, ap length c.in-Ok.ensures.items, length-append old.waiting.items c.args.records.items)) changed c.note.ensures.current c.note.ensures.other
+    (omega (arith, ap length c.in-Ok.ensures.items, length-append old.waiting c.args.records.items)) changed c.note.ensures.current c.note.ensures.other
     (known_handed g.D.Device.past_of run handed old is sound c.args.records.items next) in
     let holds : old.failed ≡ false → (run : Run) (handed : ℕ) → IsWriter g.D.Device.past_of run handed old → AreNext run handed c.args.records.items
     → StandsFor g.D.Device.past_of run new = λ sound run handed is next.

@@ -18,7 +18,7 @@ returns-clause-writer g c = λ cells is.
       known = c.new-2.result;
       failed = false;
     } in
-    opened_writer g.D.Device.past_of cells w is c.new.ensures.items refl refl c.new-2.ensures.changed c.new-2.ensures.current c.new-2.ensures.other
+    opened_writer g.D.Device.past_of cells w is c.new.ensures refl refl c.new-2.ensures.changed c.new-2.ensures.current c.new-2.ensures.other
 
 pub invariant_of-result : goal.invariant_of-result
 invariant_of-result g c = let (cells, is) = c.requires in (opened_run c.args.halves c.args.synced cells, c.args.synced, returns-clause-writer g c cells is)

@@ -1,4 +1,4 @@
-use Rattle.std.proofs.Common.{◌≡◌, true, ◌+◌, Option, Some, IfSome, List, length, take, drop, refl, ap, subst, ◌∙◌, arith}
+use Rattle.std.proofs.Common.{◌≡◌, true, ◌+◌, Option, Some, IfSome, List, length, take, drop, length-take, refl, ap, subst, arith}
 use Rattle.record_values.specs.GeometryValue.{GeometryValue}
 use Rattle.records.specs.RecordValue.{RecordValue}
 use Rattle.flip_image.specs.Layout.{other}
@@ -18,33 +18,39 @@ carry-requires g c =
     let there : (i : NewImage) → w.image ≡ Some i → IsUnderway run (other w.halves.current) content w.synced i = λ i it.
     subst (λ (t : Option NewImage). IfSome t (IsUnderway run (other w.halves.current) content w.synced)) it is.image in
     record {
-      planned = (w.halves.geometry.slots, w.synced, take c.args.count w.waiting.items, c.requires.planned);
+      planned = (w.halves.geometry.slots, w.synced, take c.args.count w.waiting, c.requires.planned);
       inside = λ i it. new_log_room run (other w.halves.current) content w.synced i (there i it) is.store.room;
       room = λ i it. new_log_open run (other w.halves.current) content w.synced i (there i it);
       synced = is.all_synced;
       stands = λ i it. ((there i it).groups, (there i it).stands);
     }
 
+pub take_first-requires : goal.take_first-requires
+take_first-requires g c =
+    let w = c.args.self.now in
+    let (run, handed, is) = c.requires.appended in
+    omega (arith, long g.D.Device.past_of run handed c.args.count w is, length-take c.args.count w.waiting)
+
 pub returns-in-Ok : goal.returns-in-Ok
 returns-in-Ok g c =
     let past_of = g.D.Device.past_of in
     let w = c.args.self.now in
     let count = c.args.count in
-    let group : List RecordValue = take count w.waiting.items in
+    let group : List RecordValue = take count w.waiting in
     let now = (past_of c.carry.new.device).disk.content in
     let new : Writer g.row.D.Denot g.row.A.Denot = record {
       device = c.carry.new.device;
       halves = w.halves;
       log = w.log;
-      waiting = c.drop-drain.new.self.0;
+      waiting = c.take_first.new.self;
       synced = w.synced + count;
       image = c.in-Ok.image;
       copying = w.copying;
       known = w.known;
       failed = w.failed;
     } in
-    let kept : new.waiting.items ≡ drop count w.waiting.items =
-    ◌∙◌ {A = List RecordValue} {c = drop count w.waiting.items} c.drop-drain.ensures.items c.drain.ensures.kept in
+    let kept : new.waiting ≡ drop count w.waiting =
+    c.take_first.ensures in
     record {
       writer = λ run handed is.
           let image : IfSome c.in-Ok.image (IsUnderway run (other w.halves.current) now (w.synced + length group)) =
