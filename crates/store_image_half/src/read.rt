@@ -18,6 +18,7 @@ use crate::page::{page_at, read_bytes};
 use crate::parts::{entry_in, has_edges, header_in, heads_in, is_above, item_in, row_in};
 use crate::pieces::{entry_place, item_place, load, piece_in};
 use crate::sink::CellSink;
+use model::ROWS_PER_PAGE;
 use records::{
     CHANGES_MAX, Change, Error, Geometry, HEADER_SECTORS, Rid, Row, SLOTS_PER_PAGE, Version,
 };
@@ -240,7 +241,7 @@ fn read_pages<D: Device, S: CellSink, A: Allocator + Copy>(
     ensures told { IfErr result (λ e. e ≢ Error.DeviceFailed → D.failures device.new ≡ D.failures device.old) }
     ensures later { D.failures device.old ≤ D.failures device.new }
 {
-    let mut rows = Vec::new(alloc);
+    let mut rows = Vec::with_capacity(alloc, geometry.pages as usize * ROWS_PER_PAGE)?;
     for page in 0..geometry.pages {
         read_page(alloc, version, device, geometry, first, page, &mut rows)?;
     }

@@ -20,7 +20,7 @@ loop-page-init g c =
     let content = (h c.args.device.now).disk.content in
     record {
       held = subst (λ (rows : List (Place × Row)). HoldsPages c.args.version c.args.geometry c.args.first content 0 (table_of rows))
-          (sym c.new-rows.ensures.items) (no_pages c.args.version c.args.geometry c.args.first content);
+          (sym c.in_ok-rows.ensures.items) (no_pages c.args.version c.args.geometry c.args.first content);
       reads = reads_none (h c.args.device.now);
       quiet = refl;
     }
@@ -46,6 +46,19 @@ loop-page-preserved g c =
       quiet = c.in_ok-read_page.ensures.quiet ∙ so_far.quiet;
     }
 
+pub returns-in_err-rows : goal.returns-in_err-rows
+returns-in_err-rows g c =
+    let p = err_from_is_err_and c.from_residual.result c.from_residual.ensures.1 in
+    rw p.1 (record {
+      held = tt;
+      rest = tt;
+      refused = inl (inl p.2);
+      reads = reads_none (g.D.Device.past_of c.args.device.now);
+      quiet = tt;
+      told = λ _. refl;
+      later = omega arith;
+    })
+
 pub returns-in_err-read_page : goal.returns-in_err-read_page
 returns-in_err-read_page g c =
     let h = g.D.Device.past_of in
@@ -53,7 +66,7 @@ returns-in_err-read_page g c =
     let so_far = c.loop-page.invariant in
     let below : c.loop-page.page < c.args.geometry.pages =
     subst (λ k. c.loop-page.page < k) (ap (λ (x : GeometryValue). x.pages) c.geometry.view_is) c.loop-page-test.true in
-    let p = err_from_is_err_and c.from_residual.result c.from_residual.ensures.1 in
+    let p = err_from_is_err_and c.from_residual-in_err-read_page.result c.from_residual-in_err-read_page.ensures.1 in
     rw (p.1 ∙ ap Err p.2) (record {
       held = tt;
       rest = tt;
