@@ -1,10 +1,8 @@
 //! The parts of a copy: lists, rows and entries.
-ghost use Rattle.std.specs.Prelude.{◌≡◌, ◌≤◌, ℕ, [], length, None, IsSome, OnOk, IfOk, IfErr};
+ghost use Rattle.std.specs.Prelude.{◌≡◌, ◌≤◌, ℕ, length, None, IsSome, OnOk, IfOk, IfErr};
 ghost use Rattle.std.specs.FinMap as map;
 ghost use Rattle.record_values.specs.Maps.{set_at};
 ghost use Rattle.record_values.specs.Values.{Place};
-ghost use Rattle.btree_node.specs.Above.{IsLeastAbove};
-ghost use Rattle.btree_node.specs.Runs.{IsRunAbove};
 ghost use Rattle.heap_pages.specs.Pages.{IsPlaceInside};
 ghost use Rattle.core_parts.specs.Moves.{txn_shown};
 ghost use Rattle.nsf_core.specs.Value.{value_of};
@@ -128,23 +126,6 @@ pub(crate) fn all_rows<A: Allocator + Copy>(alloc: A, core: &Core<A>) -> Result<
     Ok(rows)
 }
 
-// What is left of a run of entries above the pair, or the next run where nothing is left.
-fn left_or_next<'a, A: Allocator + Copy>(
-    core: &'a Core<A>,
-    run: &'a [Entry],
-    above: Option<Pair>,
-) -> &'a [Entry]
-    requires run { IsRunAbove (value_of core.now).index.entries above run.now }
-    ensures run { IsRunAbove (value_of core.now).index.entries above result.now }
-    ensures none { result.now ≡ [] → IsLeastAbove (value_of core.now).index.entries above None }
-{
-    if run.is_empty() {
-        core.run_above(above.as_ref())
-    } else {
-        run
-    }
-}
-
 /// All entries.
 pub(crate) fn all_entries<A: Allocator + Copy>(
     alloc: A,
@@ -156,7 +137,7 @@ pub(crate) fn all_entries<A: Allocator + Copy>(
     let mut listed = Vec::new(alloc);
     let mut last = None;
     let mut run: &[Entry] = &[];
-    while let Some((entry, rest)) = left_or_next(core, run, last).split_first() {
+    while let Some((entry, rest)) = core.left_or_next(run, last).split_first() {
         last = Some(entry.pair);
         run = rest;
         listed.push((entry.pair, entry.mark))?;
@@ -181,7 +162,7 @@ pub(crate) fn next_entries<A: Allocator + Copy>(
     let mut last = above;
     let mut run: &[Entry] = &[];
     while entries.len() < CHUNK_ENTRIES {
-        let Some((entry, rest)) = left_or_next(core, run, last).split_first() else {
+        let Some((entry, rest)) = core.left_or_next(run, last).split_first() else {
             return Ok(entries);
         };
         last = Some(entry.pair);

@@ -1,7 +1,6 @@
 //! A walk over the visible pairs of a range.
 ghost use Rattle.std.specs.Prelude.{◌≡◌, ◌&&◌, [], ◌∷◌, None, Some, IfSome};
 ghost use Rattle.std.specs.Option.{option_copied};
-ghost use Rattle.btree_node.specs.Above.{IsLeastAbove};
 ghost use Rattle.btree_node.specs.Runs.{IsRunAbove};
 ghost use Rattle.record_values.specs.declared.pair.Pair.{Pair};
 ghost use Rattle.model.specs.Table.{Index};
@@ -14,23 +13,6 @@ use btree_node::Entry;
 use nsf_core::Core;
 use records::{Pair, compare_pairs};
 use std::alloc::Allocator;
-
-// What is left of a run of entries above the pair, or the next run where nothing is left.
-fn left_or_next<'a, A: Allocator + Copy>(
-    core: &'a Core<A>,
-    run: &'a [Entry],
-    above: Option<Pair>,
-) -> &'a [Entry]
-    requires run { IsRunAbove (value_of core.now).index.entries above run.now }
-    ensures run { IsRunAbove (value_of core.now).index.entries above result.now }
-    ensures none { result.now ≡ [] → IsLeastAbove (value_of core.now).index.entries above None }
-{
-    if run.is_empty() {
-        core.run_above(above.as_ref())
-    } else {
-        run
-    }
-}
 
 /// The entry of the next visible pair of the range behind this one, with the entries above it that were read with it.
 pub(crate) fn next_visible<'a, A: Allocator + Copy>(
@@ -48,7 +30,7 @@ pub(crate) fn next_visible<'a, A: Allocator + Copy>(
 {
     let mut last = after;
     let mut unseen = run;
-    while let Some((entry, rest)) = left_or_next(core, unseen, last).split_first() {
+    while let Some((entry, rest)) = core.left_or_next(unseen, last).split_first() {
         if range.shows(entry) {
             return Some((entry, rest));
         }

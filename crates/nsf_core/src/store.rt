@@ -231,6 +231,20 @@ impl<A: Allocator + Copy> Core<A> {
         self.parts.index.run_above(pair)
     }
 
+    /// What is left of a run of entries above the pair, or the next run where nothing is left. There is none only where
+    /// none is above.
+    pub fn left_or_next<'a>(&'a self, run: &'a [Entry], above: Option<Pair>) -> &'a [Entry]
+        requires run { IsRunAbove (value_of self.now).index.entries above run.now }
+        ensures run { IsRunAbove (value_of self.now).index.entries above result.now }
+        ensures none { result.now ≡ [] → IsLeastAbove (value_of self.now).index.entries above None }
+    {
+        if run.is_empty() {
+            self.run_above(above.as_ref())
+        } else {
+            run
+        }
+    }
+
     /// Whether the transaction has begun, and neither committed nor ended.
     pub fn is_active(&self, txn: Txn) -> bool
         ensures { result ≡ is_some (txn_shown (value_of self.now) txn) }
