@@ -216,14 +216,6 @@ impl<D: Device, A: Allocator + Copy> Engine<D, A> {
         ensures survives { KeepsRun D.past_of self result }
     {
         let Engine { parts } = self;
-        let EngineParts {
-            core,
-            writer,
-            outgoing,
-            ..
-        } = parts;
-        drop(core);
-        drop(outgoing);
-        writer.into_device()
+        parts.into_writer().into_device()
     }
 }

@@ -98,4 +98,19 @@ impl<D: Device, A: Allocator + Copy> EngineParts<D, A> {
             Err(error) => Reply::Refused(error),
         }
     }
+
+    // The writer alone. The core, and the records that the writer doesn't have, are let go.
+    pub(crate) fn into_writer(self) -> StoreWriter<D, A>
+        ensures { result ≡ self.writer }
+    {
+        let EngineParts {
+            core,
+            writer,
+            outgoing,
+            ..
+        } = self;
+        drop(core);
+        drop(outgoing);
+        writer
+    }
 }

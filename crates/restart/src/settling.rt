@@ -81,17 +81,7 @@ impl<D: Device, A: Allocator + Copy> Engine<D, A> {
         let Engine { mut parts } = self;
         parts.core.stands();
         match parts.copy_anew() {
-            Reply::Flipped(_) => {
-                let EngineParts {
-                    core,
-                    writer,
-                    outgoing,
-                    ..
-                } = parts;
-                drop(core);
-                drop(outgoing);
-                Ok(writer)
-            }
+            Reply::Flipped(_) => Ok(parts.into_writer()),
             Reply::Refused(error) => Err((error, Engine { parts })),
             _ => unreachable!(),
         }

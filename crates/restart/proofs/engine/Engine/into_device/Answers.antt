@@ -5,7 +5,7 @@ use Rattle.restart.proofs.Stories.{crash_since}
 use Rattle.restart.proofs.engine.Engine.into_device.Goals as goal
 
 pub returns-clause-device : goal.returns-clause-device
-returns-clause-device g c = c.into_device.ensures.device ∙ ap (λ parts. device_of parts) c.self.view_is
+returns-clause-device g c = c.into_device.ensures.device ∙ ap (λ w. w.device) c.into_writer.ensures ∙ ap (λ parts. device_of parts) c.self.view_is
 
 pub returns-clause-survives : goal.returns-clause-survives
 returns-clause-survives g c past image is crash =

@@ -16,7 +16,7 @@ pub returns-in-Flipped-clause-written : goal.returns-in-Flipped-clause-written
 returns-in-Flipped-clause-written g c =
     let quiet : IsQuiet (core_of c.self.inside.parts) =
     subst (λ (parts : EngineParts g.row.D.Denot g.row.A.Denot). IsQuiet (core_of parts)) (sym c.self.view_is) c.requires in
-    rw (← c.self.view_is) (
+    rw (c.into_writer.ensures, ← c.self.view_is) (
     written_whole g.D.Device.past_of g.D.Device.failures c.copy_anew.result _ c.self.inside.parts c.copy_anew.new.self c.in-Flipped.is
     c.copy_anew.ensures.copies
     c.copy_anew.ensures.can_run quiet c.stands.ensures.sound c.each_list.ensures.shown c.one_copy.ensures)
