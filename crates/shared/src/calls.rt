@@ -85,7 +85,7 @@ impl<B: Group, A: Memory> Shared<B, A> {
         let created = locked.create_index(&self.registry, &mut seat.part);
         locked.push_outbox(rt, &self.queue);
         MutexGuard::unlock(locked);
-        self.wake_flusher();
+        self.ring_flusher();
         self.board.waits().resting.ring();
         created
     }
@@ -109,7 +109,7 @@ impl<B: Group, A: Memory> Shared<B, A> {
         let dropped = locked.drop_index(&self.registry, &mut seat.part);
         locked.push_outbox(rt, &self.queue);
         MutexGuard::unlock(locked);
-        self.wake_flusher();
+        self.ring_flusher();
         self.board.waits().resting.ring();
         Ok(dropped?.ticket)
     }

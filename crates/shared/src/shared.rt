@@ -23,7 +23,7 @@ const LOCK_LOOKS: u32 = 4_000;
 const LOOKS_A_YIELD: u32 = 200;
 
 // So often the builder and the cleaner look whether those that go first have the lock.
-const LOOKS_BEHIND_OTHERS: u32 = 400;
+const LOOKS_BEHIND_OTHERS: u32 = 150;
 
 /// A core that several threads share by a `&`, each with its seat.
 #[derive(Drop)]
@@ -124,9 +124,14 @@ impl<B: Group, A: Memory> Shared<B, A> {
         self.locked.lock(rt)
     }
 
-    // Wakes the flusher, for which records may wait, and who waits until no transaction is active: one may have ended.
-    pub(crate) fn wake_flusher(&self) {
+    // Wakes the flusher, for which records may wait.
+    pub(crate) fn ring_flusher(&self) {
         self.board.waits().pushed.ring();
+    }
+
+    // Wakes the flusher, and who waits until no transaction is active: one may have ended.
+    pub(crate) fn wake_flusher(&self) {
+        self.ring_flusher();
         self.quiet.look_again();
     }
 
