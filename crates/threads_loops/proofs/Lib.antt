@@ -4,3 +4,4 @@ mod Steps
 mod Through
 mod Running
 pub mod Crosses
+mod Passing

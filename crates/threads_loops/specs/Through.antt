@@ -15,6 +15,7 @@ use Rattle.store_writer.specs.declared.copying.Copying.TheVariants.{GivenUp, Idl
 use Rattle.threads_flusher.specs.Going.{GoesOn, LeavesImage, TakesIn}
 use Rattle.threads_flusher.specs.Images.{IsHalfFull}
 use Rattle.threads_flusher.specs.Part.{FlushValue, FlushLeaves, Publishes, last_handed, run_of}
+use Rattle.threads_loops.specs.Copying.{IsCopied, IsDue}
 
 -- One group was flushed, with this answer of the writer.
 pub record IsFlush {D A : Type 0} (failures : D → ℕ) (old new : FlushValue D A) : Type 0 where
@@ -76,6 +77,14 @@ pub record PassesThrough {D A : Type 0} (past_of : D → DevicePast) (marks : �
     → ℕ) (o : Opened) (old new : FlushValue D A) : Type 0 where
   pub states : List (FlushValue D A)
   pub steps : GoesThrough past_of marks failures o old states new
+
+-- Pages of an image under way were passed over, and nothing was written. (No public clause cites this.)
+pub record HasPassedPages {D A : Type 0} (past_of : D → DevicePast) (marks : ℕ → ℕ → Type 0) (failures : D
+    → ℕ) (o : Opened) (old new : FlushValue D A) : Type 0 where
+  pub through : PassesThrough past_of marks failures o old new
+  pub late : IsDue new
+  pub copied : IsCopied old new
+  pub device : device_of new.writer ≡ device_of old.writer
 
 -- the flusher, whose image, if one was under way, is forgotten
 abbrev pub forgotten : {D A : Type 0} → FlushValue D A → FlushValue D A

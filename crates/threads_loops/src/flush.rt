@@ -1,6 +1,6 @@
 //! The loop that writes the records and takes images.
 ghost use Rattle.std.specs.Prelude.{◌≡◌, ◌≢◌, ◌↔◌, ◌<◌, ◌≤◌, ◌-◌, ◌*◌, ◌/◌, true, false, None, Some, IsSome};
-ghost use Rattle.std.specs.Prelude.{IfErr, IfOk, IsTrue, OnOk};
+ghost use Rattle.std.specs.Prelude.{IfErr, IfOk, IsFalse, IsTrue, OnOk};
 ghost use Rattle.record_values.specs.declared.error.Error.TheVariants.{DeviceFailed};
 ghost use Rattle.store_image_model.specs.Places.{place_behind};
 ghost use Rattle.store_writer.specs.Copying.{next_place, steps_of_image};
@@ -10,7 +10,7 @@ ghost use Rattle.threads_flusher.specs.Going.{GoesOn, TakesIn};
 ghost use Rattle.store_writer.specs.declared.copying.Copying.TheVariants.{Idle, Steps};
 ghost use Rattle.threads_flusher.specs.Part.{last_handed, run_of};
 ghost use Rattle.threads_loops.specs.Copying.{HasImage, IsCopied, IsDue, IsWanted, StandsBy};
-ghost use Rattle.threads_loops.specs.Through.{PassesThrough, RunsThrough};
+ghost use Rattle.threads_loops.specs.Through.{HasPassedPages, PassesThrough, RunsThrough};
 
 use crate::gate::{Gate, Point};
 use crate::rest::{Found, has_ended, rest_flusher};
@@ -30,8 +30,8 @@ const LOOK_EVERY: u32 = 32;
 /// Pops the records that wait, hands them in under the lock, writes them in groups, and publishes behind each group how
 /// far they are synced. Now and then it looks under the lock for records that the queue refused. As half the slots of
 /// the log are open it begins an image (`wants_image`), copies each chunk of it under the lock anew, some of them
-/// behind each group, and makes it current. It passes over pages that the image's half has. Where nothing waits it
-/// sleeps until records are made, or for a short while. After want of memory it tries again.
+/// behind each group, and makes it current. It passes over pages that the image's half has, many at once. Where nothing
+/// waits it sleeps until records are made, or for a short while. After want of memory it tries again.
 ///
 /// It ends where the stop flag is read, or with `DeviceFailed` where the device failed, now or earlier, stop flag or
 /// not. What is held or waits then is not written. A crash at any moment leaves all records that were synced as the
@@ -264,8 +264,8 @@ fn copy<B: Group, D: Device, R: Wait, G: Gate, A: Memory>(
     }
 }
 
-// Passes over the piece of this place, and writes nothing, if it is a page that the image's half has; or copies it, and
-// takes it.
+// Passes over the next pages that the image's half has, and writes nothing. Where the piece of this place isn't such a
+// page, it is copied, and taken.
 fn pass_or_copy<B: Group, D: Device, R: Wait, G: Gate, A: Memory>(
     rt: &R,
     shared: &Shared<B, A>,
@@ -280,10 +280,44 @@ fn pass_or_copy<B: Group, D: Device, R: Wait, G: Gate, A: Memory>(
     ensures image { OnOk result (IsCopied part.old part.new) }
     ensures spares { MayPass part.old.writer → device_of part.new.writer ≡ device_of part.old.writer }
 {
-    if part.pass_page(shared.board()) {
+    if pass_pages(shared, part) {
         return Ok(());
     }
     copy_piece(rt, shared, part, place, gate)
+}
+
+// Passes over the next pages of the image that its half has, as many as stand together: whether there is one.
+fn pass_pages<B: Group, D: Device, A: Memory>(
+    shared: &Shared<B, A>,
+    part: &mut FlushPart<B, D, A>,
+) -> bool
+    requires late { IsDue part.old }
+    ensures passed { IsTrue result → HasPassedPages D.past_of D.marks D.failures B.site.opened part.old part.new }
+    ensures still { IsFalse result → part.new ≡ part.old }
+    ensures some { MayPass part.old.writer → IsTrue result }
+{
+    if !pass_one(shared, part) {
+        return false;
+    }
+    for _ in 1..part.geometry().pages {
+        if !pass_one(shared, part) {
+            return true;
+        }
+    }
+    true
+}
+
+// Passes over the next page of the image, if its half has it.
+fn pass_one<B: Group, D: Device, A: Memory>(
+    shared: &Shared<B, A>,
+    part: &mut FlushPart<B, D, A>,
+) -> bool
+    requires late { IsDue part.old }
+    ensures passed { IsTrue result → HasPassedPages D.past_of D.marks D.failures B.site.opened part.old part.new }
+    ensures still { IsFalse result → part.new ≡ part.old }
+    ensures some { MayPass part.old.writer → IsTrue result }
+{
+    part.pass_page(shared.board())
 }
 
 // Copies the piece of this place under the lock, and takes it.
