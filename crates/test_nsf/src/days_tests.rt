@@ -7,9 +7,14 @@ use sector_device::{Device, MemDisk};
 use std::alloc::Global;
 use std::test::Fail;
 
-// A day on which a row with this key is committed, and then this is asked for.
-fn day(alloc: Global, key: &[u8], last: &[Event], within: bool) -> Result<Day<Global>, Fail> {
-    let txn = Txn::new(1).ok_or("a transaction")?;
+/// A day on which a row with this key is committed, and then this is asked for.
+pub(crate) fn day(
+    alloc: Global,
+    key: &[u8],
+    last: &[Event],
+    within: bool,
+) -> Result<Day<Global>, Error> {
+    let txn = Txn::new(1).ok_or(Error::NoSuchTxn)?;
     let key = Key::new(key)?;
     let body = Body::new(b"")?;
     let mut requests = Vec::new(alloc);

@@ -248,7 +248,7 @@ const SECOND: &str = "build\nbegin\ndelete 1 0.1\nstep 1\nflush\ncommit 1\nbuild
 const FAILING: Trouble = Trouble { calls: 70, ..NONE };
 
 const REFUSING: Trouble = Trouble {
-    allocations: 54,
+    allocations: 58,
     ..NONE
 };
 

@@ -1,35 +1,16 @@
 //! A store that lives through a day of requests and a day of clients.
+use crate::days_tests::day;
 use crate::many_threads::{Put, clients_of};
 use crate::one_thread::find_each;
 use crate::recorded::{RecordedDisk, Stop};
 use headline::{Day, End, LivedBeside, SharedDay, live_beside};
-use nsf::{Body, Error, Event, Geometry, Key, Life, OpenError, Rid, Txn};
+use nsf::{Error, Event, Geometry, Life, OpenError, Rid};
 use std::alloc::Global;
 use std::sync::Wait;
 use std::thread::Threads;
 
 /// The keys of the rows that are put.
 const KEYS: [&[u8]; 3] = [b"ant", b"bee", b"cat"];
-
-// A day on which a row is committed, the index is created, and all is written.
-fn first_day(alloc: Global) -> Result<Day<Global>, Error> {
-    let txn = Txn::new(1).ok_or(Error::NoSuchTxn)?;
-    let key = Key::new(KEYS[0])?;
-    let body = Body::new(b"")?;
-    let mut requests = Vec::new(alloc);
-    requests.extend_from_slice(&[
-        Event::Begin,
-        Event::Insert { txn, key, body },
-        Event::Step { txn },
-        Event::Commit { txn },
-        Event::Create,
-        Event::Flush,
-    ])?;
-    Ok(Day {
-        requests,
-        within: false,
-    })
-}
 
 // A client for each of the other rows.
 fn second_day(alloc: Global, end: End) -> Result<SharedDay<Put>, Error> {
@@ -91,10 +72,10 @@ pub fn live<R: Threads + Wait + Sync>(
     stop: Stop,
 ) -> Result<(Life, Vec<Vec<Rid>>, bool), OpenError> {
     let geometry = Geometry::new(1, 64, 4)?;
-    let days = [first_day(alloc)?];
-    let day = second_day(alloc, end)?;
+    let days = [day(alloc, KEYS[0], &[Event::Create, Event::Flush], false)?];
+    let last = second_day(alloc, end)?;
     let disk = new_disk(alloc, geometry, stop)?;
-    match live_beside(rt, alloc, disk, geometry, &days, day, true) {
+    match live_beside(rt, alloc, disk, geometry, &days, last, true) {
         Ok(lived) => {
             let (found, is_last) = taken_apart(alloc, lived);
             let (life, rids) = found?;
