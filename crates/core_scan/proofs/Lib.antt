@@ -1,8 +1,8 @@
-mod Filtered
+pub mod Filtered
 mod KeyOrder
-mod Stepped
+pub mod Stepped
 mod Listed
-mod Paged
+pub mod Paged
 mod ReadOver
 mod Counted
-mod Unread
+pub mod Unread

@@ -14,6 +14,9 @@
 //! `IsPageOf` and `IsCountOf` say of an answer what the two calls do, for whoever hands it on.
 //!
 //! Neither: that a page is answered where there is memory, how many entries are looked at, and time.
+//!
+//! Lemmas about its public words that crates above may cite, in `proofs`: `Filtered`, `Stepped`, `Paged` and
+//! `Unread`.
 #![tactic(auto)]
 
 mod laws;
@@ -24,3 +27,4 @@ mod walk;
 pub use laws::{each_page, each_reading, each_visible};
 pub use range::KeyRange;
 pub use reading::{Page, count, scan};
+pub use walk::start_of;

@@ -107,7 +107,7 @@ impl KeyRange {
     }
 
     /// Whether the key comes after all of the range.
-    pub(crate) fn is_past(&self, key: &Key) -> bool
+    pub fn is_past(&self, key: &Key) -> bool
         ensures { result ≡ is_past_end (slice_cmp nat_cmp) self.now.to key.now }
     {
         match &self.to {

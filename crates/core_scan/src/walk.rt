@@ -61,7 +61,7 @@ fn later(one: Option<Pair>, other: Option<Pair>) -> Option<Pair>
 }
 
 /// The pair above which a walk over what is left of the range behind a pair begins.
-pub(crate) fn start_of(range: &KeyRange, after: Option<&Pair>) -> Option<Pair>
+pub fn start_of(range: &KeyRange, after: Option<&Pair>) -> Option<Pair>
     ensures { (entries : Index) → left_of entries range.now result
         ≡ left_of entries range.now (option_copied after.entry) }
 {

@@ -1,0 +1,6 @@
+mod Reverted
+mod Marks
+mod Entered
+mod Held
+mod Told
+mod Places

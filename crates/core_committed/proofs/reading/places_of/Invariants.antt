@@ -1,0 +1,16 @@
+use Rattle.std.proofs.Common.{length, ◌++◌, ◌≡◌}
+use Rattle.btree_node.specs.Runs.{IsRunAbove}
+use Rattle.nsf_core.specs.Value.{value_of}
+use Rattle.core_scan.specs.Visible.{left_of, visible}
+use Rattle.core_committed.specs.Committed.{committed_index}
+use Rattle.core_committed.proofs.Places.{rids_of}
+use Rattle.core_committed.proofs.reading.places_of.Given as goal
+
+abbrev pub invariant-loop-entry : goal.invariant-loop-entry
+invariant-loop-entry g l = record {
+  listed : rids_of (visible (committed_index (value_of l.core)) l.range) ≡ l.rids.items ++ rids_of (left_of (committed_index (value_of l.core)) l.range l.last);
+  run : IsRunAbove (value_of l.core).index.entries l.last l.run;
+}
+
+abbrev pub decreases-loop-entry : goal.decreases-loop-entry
+decreases-loop-entry g l = length (left_of (committed_index (value_of l.core)) l.range l.last)
