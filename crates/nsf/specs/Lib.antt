@@ -1,4 +1,5 @@
 pub mod Serving
+pub mod Files
 pub use Rattle.sector_device.specs.Disk
 pub use Rattle.sector_device.specs.DevicePast
 pub use Rattle.sector_device.specs.MemDisk

@@ -34,6 +34,9 @@
 //! }
 //! ```
 //!
+//! The device of a file comes by `open_or_create(rt, alloc, path, geometry)`, which opens it, or makes a store in a new
+//! one; `create_store` makes it a new one alone.
+//!
 //! What `restart`, `run`, `serve`, `build_to_end` and `flush_all` promise is in their contracts. `granted` is the
 //! program's own: it makes an error of a reply that tells that nothing was done (`Refused`, `Skipped`, `LogFull`).
 //!
@@ -51,6 +54,10 @@
 //!
 //! A page's `next` is the pair behind which the next page begins, and none where nothing is left of the range. The laws
 //! `each_page` and `each_reading` say what pages have together.
+//!
+//! Rows are read as they are now, also before their transaction's commit. `get_committed`, `find_committed` and
+//! `scan_committed` read them as if no transaction were active; the law `each_committed` says that this is what the
+//! history tells. Calls of these names read so of what is shared.
 //!
 //! # Many threads
 //!
@@ -176,16 +183,19 @@
 #![tactic(auto)]
 
 mod clients;
+mod files;
 
 pub use clients::{Client, Served, serve, serve_and_see};
+pub use core_committed::{each_committed, find_committed, get_committed, scan_committed};
 pub use core_scan::{KeyRange, Page, count, each_page, each_reading, each_visible, scan};
+pub use files::{FileError, create_store, open_or_create};
 pub use model::Life;
 pub use nsf_core::{BuildReply, CleanReply, Core, Ticket};
 pub use records::{
     BODY_MAX, Body, Error, Geometry, KEY_MAX, Key, Mark, Pair, Rid, Row, SLOTS_PER_PAGE, Txn,
 };
 pub use restart::{Engine, Event, MigrateError, Reply, every_story, migrate, restart};
-pub use sector_device::{Device, Failed, Fate, FaultDisk, MemDisk, Which};
+pub use sector_device::{Device, Failed, Fate, FaultDisk, MemDisk, SECTOR_SIZE, Which};
 pub use shared::{
     Ack, BuildPart, Change, CleanPart, Group, GroupView, Keeping, Kept as KeptCommits, LoopParts,
     Placed, Refusal, Seat, Shared, Told as ToldCommits, each_refusal,

@@ -6,6 +6,9 @@
 //! allocation is refused. What is found is what a plain program makes of the replies. And a day of clients that is
 //! stopped at each moment since its opening began, or while the rest is written out.
 //!
+//! Stores in files: one that is made and opened again, and files that are refused. And what is committed of a store
+//! while a transaction changes it.
+//!
 //! Proved: the clauses of `Device` and `Mortal` for that disk; of the tests safety, and that the contracts suffice for
 //! such a caller.
 #![tactic(auto)]
@@ -13,7 +16,11 @@
 #[cfg(test)]
 mod busy;
 #[cfg(test)]
+mod committed_tests;
+#[cfg(test)]
 mod days_tests;
+#[cfg(test)]
+mod files_tests;
 #[cfg(test)]
 mod found;
 #[cfg(test)]

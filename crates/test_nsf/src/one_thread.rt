@@ -4,8 +4,8 @@ use nsf::{
 };
 use std::alloc::Global;
 
-// The reply, unless it tells that nothing was done. (What is asked for below is never `Skipped`, nor is the log full.)
-fn granted(reply: Reply<Global>) -> Result<Reply<Global>, Error> {
+/// The reply, unless it tells that nothing was done. (What is asked for below is never `Skipped`, nor is the log full.)
+pub fn granted(reply: Reply<Global>) -> Result<Reply<Global>, Error> {
     match reply {
         Reply::Refused(error) => Err(error),
         Reply::Skipped | Reply::LogFull => Err(Error::NoSuchTxn),
