@@ -2,6 +2,7 @@
 use crate::trouble::Trouble;
 use sector_device::SECTOR_SIZE;
 use std::io;
+use std::io::ErrorKind;
 
 /// Takes what is written to a disk.
 pub trait Backing {
@@ -36,6 +37,17 @@ impl Backing for Detached {
     }
 
     fn sync(&mut self) -> io::Result<()> {
+        Ok(())
+    }
+}
+
+/// What was never written can't be read.
+impl Stored for Detached {
+    fn get_run(&mut self, _first: u64, _run: &mut [[u8; SECTOR_SIZE]]) -> io::Result<()> {
+        Err(io::Error::from(ErrorKind::Unsupported))
+    }
+
+    fn put_run(&mut self, _first: u64, _run: &[[u8; SECTOR_SIZE]]) -> io::Result<()> {
         Ok(())
     }
 }

@@ -24,6 +24,6 @@ pub use error::OpenError;
 pub use host::{Held, HostFile, StoreFile};
 pub use mirror::FileDisk;
 pub use names::{FileNumber, number_at};
-pub use opening::{hold, open, read};
+pub use opening::{Taken, hold, open, read, share, take};
 pub use past::Past;
 pub use trouble::{Trouble, Troubled};

@@ -91,7 +91,7 @@ impl<F: Drop, A: Allocator> FileDisk<F, A> {
     }
 
     /// The same disk over this in place of what is below.
-    pub(crate) fn with_below<G: Drop>(self, below: G) -> FileDisk<G, A>
+    pub fn with_below<G: Drop>(self, below: G) -> FileDisk<G, A>
         ensures disk { (past_of result).disk ≡ (past_of self).disk }
         ensures failures { failures_of result ≡ failures_of self }
         ensures failed { has_failed_of result ≡ has_failed_of self }

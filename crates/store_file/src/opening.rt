@@ -34,12 +34,69 @@ fn remove_draft<R: Files, A: Allocator>(rt: &R, alloc: &A, path: &str) -> Result
     Ok(())
 }
 
-/// A disk over the file at the path, which holds what the file does, all of it safe: what was read is written back, and
-/// synced, as the file may show what no device holds, after a sync that failed. The file is locked until the disk is
-/// dropped: an advisory lock, which goes with the process.
+/// A file that was taken, and how many sectors it has. None of them was read or written.
+#[derive(Drop)]
+pub struct Taken<F> {
+    /// The file, as what is below a disk.
+    pub below: F,
+    /// How many sectors it has.
+    pub sectors: u64,
+}
+
+/// Takes the file at the path: it is locked until it is dropped, and looked at. It is an advisory lock, which goes with
+/// the process. No sector is read or written.
 ///
 /// `Busy` where another process has it open, `NotAFile` and `Linked` where the path names no regular file, a link, or
 /// one of several names of a file, `BadLength` where its length is no number of sectors from 1 to 2^20.
+pub fn take<R: Files, A: Allocator>(
+    rt: &R,
+    alloc: &A,
+    path: &str,
+) -> Result<Taken<HostFile<R::File>>, OpenError>
+where
+    R::File: StoreFile,
+    ensures sectors { IfOk result (λ t. (0 < t.sectors) × (t.sectors < SECTORS_MAX + 1)) }
+{
+    refuse_other(rt, path)?;
+    let opened = OpenOptions::new().read(true).write(true).open(rt, path)?;
+    let file = opened.apart()?;
+    file.try_lock()?;
+    if has_both(rt, alloc, &file, path)? {
+        remove_draft(rt, alloc, path)?;
+    }
+    let length = file.metadata()?.len();
+    let below = HostFile {
+        file,
+        length,
+        trouble: None,
+    };
+    let sectors = sectors_in(length)?;
+    Ok(Taken { below, sectors })
+}
+
+/// Takes the file at the path to read it alone: what is written to it never reaches it. Other processes may read it at
+/// the same time. The refusals are those of [`take`].
+pub fn share<R: Files, A: Allocator>(
+    rt: &R,
+    alloc: &A,
+    path: &str,
+) -> Result<Taken<Held<R::File>>, OpenError>
+where
+    R::File: StoreFile,
+    ensures sectors { IfOk result (λ t. (0 < t.sectors) × (t.sectors < SECTORS_MAX + 1)) }
+{
+    refuse_other(rt, path)?;
+    let file = fs::open(rt, path)?.apart()?;
+    file.try_lock_shared()?;
+    has_both(rt, alloc, &file, path)?;
+    let sectors = sectors_in(file.metadata()?.len())?;
+    let below = Held { file };
+    Ok(Taken { below, sectors })
+}
+
+/// A disk over the file at the path, which holds what the file does, all of it safe: what was read is written back, and
+/// synced, as the file may show what no device holds, after a sync that failed. The file is locked until the disk is
+/// dropped. The refusals are those of [`take`], and want of memory.
 pub fn open<R: Files, A: Allocator>(
     rt: &R,
     alloc: A,
@@ -53,20 +110,8 @@ where
     ensures sectors { IfOk result (λ d. (0 < length (past_of d).disk.content)
         × (length (past_of d).disk.content < SECTORS_MAX + 1)) }
 {
-    refuse_other(rt, path)?;
-    let opened = OpenOptions::new().read(true).write(true).open(rt, path)?;
-    let file = opened.apart()?;
-    file.try_lock()?;
-    if has_both(rt, &alloc, &file, path)? {
-        remove_draft(rt, &alloc, path)?;
-    }
-    let length = file.metadata()?.len();
-    let below = HostFile {
-        file,
-        length,
-        trouble: None,
-    };
-    FileDisk::over(alloc, below, sectors_in(length)? as usize)
+    let taken = take(rt, &alloc, path)?;
+    FileDisk::over(alloc, taken.below, taken.sectors as usize)
 }
 
 /// A disk in memory that holds what the file at the path does. What is written to it never reaches the file, which is
@@ -86,12 +131,8 @@ where
     ensures sectors { IfOk result (λ d. (0 < length (past_of d).disk.content)
         × (length (past_of d).disk.content < SECTORS_MAX + 1)) }
 {
-    refuse_other(rt, path)?;
-    let file = fs::open(rt, path)?.apart()?;
-    file.try_lock_shared()?;
-    has_both(rt, &alloc, &file, path)?;
-    let sectors = sectors_in(file.metadata()?.len())?;
-    FileDisk::over(alloc, Held { file }, sectors as usize)
+    let taken = share(rt, &alloc, path)?;
+    FileDisk::over(alloc, taken.below, taken.sectors as usize)
 }
 
 /// The same, with no lock once the file is read.
