@@ -136,3 +136,17 @@ module _ {A : Type 0} (b n : Gathered A) (whole : IsBuffer b) where
     count = omega (arith, size, count, whole.count);
     fitting = λ k below. absurd (omega (arith, below, count, none));
   }
+
+-- all that another buffer has was taken over
+pub copied_buffer : {A : Type 0} (o n : Gathered A) → IsBuffer o → n.area.items ≡ o.area.items → n.places ≡ o.places → n.digests ≡ o.digests
+    → n.count ≡ o.count → IsBuffer n
+copied_buffer o n whole area places digests count = record {
+  places = ap length places ∙ whole.places;
+  digests = ap length digests ∙ whole.digests;
+  few = omega (arith, ap length area, whole.few);
+  count = omega (arith, ap length area, count, whole.count);
+  fitting = λ k below.
+      let now : block_digest (slice_index n.places k) (block n.area.items (1 + k)) ≡ block_digest (slice_index o.places k) (block o.area.items (1 + k)) =
+      λ j. block_digest (slice_index (places j) k) (block (area j) (1 + k)) in
+      ap (λ (d : List ℕ). slice_index d k) digests ∙ whole.fitting k (omega (arith, below, count)) ∙ sym now;
+}

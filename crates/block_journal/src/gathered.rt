@@ -154,6 +154,20 @@ impl<A: Allocator + Copy> Gathered<A> {
         digest
     }
 
+    /// Takes over what is gathered in another one, whose area is as long.
+    pub(crate) fn copy_from(&mut self, other: &Self)
+        requires other { IsBuffer other.now }
+        requires size { length self.old.area.items ≡ length other.now.area.items }
+        ensures entries { entries_of self.new ≡ entries_of other.now }
+        ensures buffer { IsBuffer self.new }
+        ensures size { length self.new.area.items ≡ length self.old.area.items }
+    {
+        self.area.copy_from_slice(&other.area);
+        self.places = other.places;
+        self.digests = other.digests;
+        self.count = other.count;
+    }
+
     /// Makes a batch of them, of this number.
     pub(crate) fn seal(&mut self, number: u64)
         requires { IsBuffer self.old }

@@ -7,8 +7,8 @@ ghost use Rattle.block_batch.specs.Batch.{Batch, block_digest, replayed};
 ghost use Rattle.block_journal.specs.Layout.{IsHonest, IsInside, found, kept_of, recovered};
 ghost use Rattle.block_journal.specs.Journal.{AreInAreas, IsPending, KeepsAreas, KeepsBatch, LeavesBefore};
 ghost use Rattle.block_journal.specs.Journal.{NeedsNoArea, OnlyReads, StaysRecovered};
-ghost use Rattle.block_journal.specs.Value.{LeavesEither, Offers, content_of, failures_of, next_batch, room_of};
-ghost use Rattle.block_journal.specs.Value.{settled_of};
+ghost use Rattle.block_journal.specs.Value.{CanCommit, LeavesEither, Offers, content_of, failures_of, next_batch};
+ghost use Rattle.block_journal.specs.Value.{room_of, settled_of};
 
 use crate::gathered::buffers;
 use crate::parts::JournalParts;
@@ -150,8 +150,17 @@ impl<B: Blocks, A: Allocator + Copy> Journal<B, A> {
         self.parts.next.put(place, bytes)
     }
 
+    /// Gathers the blocks of the last batch once more, in place of those that are gathered. A commit of them changes
+    /// nothing, and hands them on to the area that the last batch doesn't have.
+    pub fn gather_last(&mut self)
+        ensures { self.new ≡ record self.old { next = self.old.last.entries } }
+    {
+        self.parts.next.copy_from(&self.parts.last);
+    }
+
     /// Commits what is gathered: all of it or, where it fails, all or nothing of it, which the next opening decides. It
-    /// fails where the file does, once the journal has failed, and at the last number of 64 bits.
+    /// fails where the file does, once the journal has failed, and at the last number of 64 bits. Where it can't be
+    /// made (`can`), the file is left alone (`untouched`).
     ///
     /// A crash at any moment of it leaves, under the premise, the blocks as they were settled, or with those that were
     /// gathered (`any_moment`). It leaves the last batch in its area too, so that an opening finds one (`holds`). Once
@@ -179,6 +188,8 @@ impl<B: Blocks, A: Allocator + Copy> Journal<B, A> {
         ensures holds { self.old.has_failed ≡ false
             → KeepsBatch self.old.shape self.old.last (B.past_of self.old.below) (B.past_of self.new.below) }
         ensures refused { self.old.has_failed ≡ true → self.new ≡ record self.old { refused = self.new.refused } }
+        ensures can { OnOk result (CanCommit self.old) }
+        ensures untouched { ¬ CanCommit self.old → self.new.below ≡ self.old.below }
         ensures shape { self.new.shape ≡ self.old.shape }
         ensures fails { OnErr result ((self.old.has_failed ≡ true) ⊎ (self.old.last.number ≡ 2 ^ 64 - 1)
             ⊎ Rises (B.failures self.old.below) (B.failures self.new.below)) }
@@ -218,6 +229,8 @@ impl<B: Blocks, A: Allocator + Copy> Journal<B, A> {
         ensures holds { self.old.has_failed ≡ false
             → KeepsBatch self.old.shape self.old.last (B.past_of self.old.below) (B.past_of self.new.below) }
         ensures refused { self.old.has_failed ≡ true → self.new ≡ record self.old { refused = self.new.refused } }
+        ensures can { OnOk result (CanCommit self.old) }
+        ensures untouched { ¬ CanCommit self.old → self.new.below ≡ self.old.below }
         ensures shape { self.new.shape ≡ self.old.shape }
         ensures fails { OnErr result ((self.old.has_failed ≡ true) ⊎ (self.old.last.number ≡ 2 ^ 64 - 1)
             ⊎ Rises (B.failures self.old.below) (B.failures self.new.below)) }

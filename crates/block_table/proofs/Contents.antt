@@ -5,7 +5,7 @@ use Rattle.block_device.specs.Blocks.{CrashFile, BlockFile, IsCrashFile}
 use Rattle.block_device.specs.BlocksPast.{BlocksPast}
 use Rattle.block_device.proofs.Moments.{at_end, goes_on}
 use Rattle.block_batch.specs.Batch.{Entry, replayed}
-use Rattle.block_batch.proofs.Replay.{length-replayed}
+use Rattle.block_batch.proofs.Replay.{again, length-replayed}
 use Rattle.block_journal.specs.declared.shape.Shape.{Shape}
 use Rattle.block_journal.specs.Layout.{IsInside, kept_of, recovered}
 use Rattle.block_journal.specs.Journal.{OnlyReads, StaysRecovered}
@@ -37,6 +37,12 @@ module _ {B : Type 0} (past_of : B → BlocksPast) where
   content_put v n place bytes is puts =
       let same : settled_of past_of n ≡ settled_of past_of v = ap (λ (w : JournalValue B). settled_of past_of w) is in
       ap (replayed n.next) same ∙ puts (settled_of past_of v)
+
+  -- the blocks of the last batch are gathered once more
+  pub content_gathered : (v n : JournalValue B) → n ≡ record v { next = v.last.entries } → content_of past_of n ≡ settled_of past_of v
+  content_gathered v n is =
+      ap (λ (w : JournalValue B). content_of past_of w) is
+      ∙ again v.last.entries (kept_of v.shape (past_of v.below).file.content)
 
   -- a commit, done or failed
   pub content_commit : {E : Type 0} (v n : JournalValue B) (r : Result Unit E) → OnOk r (settled_of past_of n ≡ content_of past_of v) → OnOk r (n.next ≡ [])

@@ -7,7 +7,7 @@ ghost use Rattle.block_journal.specs.Layout.{IsHonest, IsInside, found, kept_of,
 ghost use Rattle.block_journal.specs.Journal.{AreInAreas, IsPending, KeepsAreas, KeepsBatch, LeavesBefore};
 ghost use Rattle.block_journal.specs.Journal.{NeedsNoArea, OnlyReads, StaysRecovered};
 ghost use Rattle.block_batch.specs.Batch.{Batch};
-ghost use Rattle.block_journal.specs.Value.{LeavesEither, Offers, failures_of, next_batch, room_of};
+ghost use Rattle.block_journal.specs.Value.{CanCommit, LeavesEither, Offers, failures_of, next_batch, room_of};
 ghost use Rattle.block_table.specs.Table.{IsFirstUnfit, IsFit, kept_count};
 
 use crate::rows::{digest_at, read_rows, set_digest};
@@ -202,6 +202,18 @@ impl<B: Blocks, A: Allocator + Copy> CheckedBlocks<B, A> {
         self.journal.put(n / 512, &row);
     }
 
+    /// Gathers the blocks of the last batch once more, as a journal does: a commit of them changes nothing. Nothing was
+    /// put since that batch.
+    pub fn gather_last(&mut self)
+        requires { self.old.journal.next ≡ [] }
+        ensures rest { self.new ≡ record self.old {
+          journal = record self.old.journal { next = self.old.journal.last.entries };
+        } }
+        ensures same { kept_table B.past_of self.new ≡ settled_table B.past_of self.old }
+    {
+        self.journal.gather_last();
+    }
+
     /// Commits what was put: all of it or, where it fails, all or nothing of it, as a journal does.
     pub fn commit(&mut self) -> Result<(), Failed>
         ensures ok { OnOk result (settled_table B.past_of self.new ≡ kept_table B.past_of self.old) }
@@ -224,6 +236,8 @@ impl<B: Blocks, A: Allocator + Copy> CheckedBlocks<B, A> {
         ensures refused { self.old.journal.has_failed ≡ true → self.new.journal ≡ record self.old.journal {
           refused = self.new.journal.refused;
         } }
+        ensures can { OnOk result (CanCommit self.old.journal) }
+        ensures untouched { ¬ CanCommit self.old.journal → self.new.journal.below ≡ self.old.journal.below }
         ensures shape { self.new.journal.shape ≡ self.old.journal.shape }
         ensures blocks { self.new.blocks ≡ self.old.blocks }
         ensures fails { OnErr result ((self.old.journal.has_failed ≡ true) ⊎ (self.old.journal.last.number ≡ 2 ^ 64 - 1)
@@ -260,6 +274,8 @@ impl<B: Blocks, A: Allocator + Copy> CheckedBlocks<B, A> {
         ensures refused { self.old.journal.has_failed ≡ true → self.new.journal ≡ record self.old.journal {
           refused = self.new.journal.refused;
         } }
+        ensures can { OnOk result (CanCommit self.old.journal) }
+        ensures untouched { ¬ CanCommit self.old.journal → self.new.journal.below ≡ self.old.journal.below }
         ensures shape { self.new.journal.shape ≡ self.old.journal.shape }
         ensures blocks { self.new.blocks ≡ self.old.blocks }
         ensures fails { OnErr result ((self.old.journal.has_failed ≡ true) ⊎ (self.old.journal.last.number ≡ 2 ^ 64 - 1)
@@ -299,6 +315,13 @@ impl<B: Blocks, A: Allocator + Copy> CheckedBlocks<B, A> {
         ensures { result ≡ self.now.blocks }
     {
         self.blocks
+    }
+
+    /// The file as it is now.
+    pub fn file(&self) -> &B
+        ensures { result.now ≡ self.now.journal.below }
+    {
+        self.journal.file()
     }
 
     /// The file as it is now. What was put since the last commit is lost.

@@ -7,7 +7,7 @@ use Rattle.block_journal.proofs.Keeping.{keeps_batch, none_batch}
 use Rattle.block_journal.specs.JournalParts.{value_of}
 use Rattle.block_journal.proofs.Closing.{empty_commit}
 use Rattle.block_journal.proofs.Committing.{either_left, nothing_left}
-use Rattle.block_journal.proofs.Results.{counts_refused, counts_with, either_result, on_err, on_ok, on_ok_both}
+use Rattle.block_journal.proofs.Results.{counts_refused, counts_with, either_result, on_err, on_ok, on_ok_always, on_ok_both}
 use Rattle.block_journal.proofs.journal.Journal.commit.Goals as goal
 
 pub commit-requires : goal.commit-requires
@@ -63,6 +63,8 @@ returns-then-can_commit g c =
           (not_by_commit p.shape ((p.number + 1) % 2) old.last.entries) done.within;
       holds = λ _. keeps_batch p.shape old.last (settled_of past_of old) (past_of p.below) (past_of new.below) ready.stands done.within;
       refused = λ was. absurd (false≢true (sym good ∙ was));
+      can = on_ok_always _ r (c.if-can_commit.ensures.can refl);
+      untouched = λ not. absurd (not (c.if-can_commit.ensures.can refl));
       shape = shape;
       fails = on_err _ _ r (λ rises. inr (inr rises)) done.counts.failed;
       counts = counts_with _ _ _ _ r done.counts refused;
@@ -98,6 +100,8 @@ returns-else-can_commit g c =
           let ready = c.self.invariant.ready good in
           none_batch p.shape (value_of p).last (past_of p.below) ready.stands.inside ready.stands.here ready.synced;
       refused = λ was. ap (λ (b : Bool). record (value_of p) { has_failed = b; refused = c.saturating_add-self-inside.result }) (sym was);
+      can = tt;
+      untouched = λ _. refl;
       shape = refl;
       fails = ⊎_elim (λ was. inl was) (λ most. inr (inl most)) (c.if-can_commit.ensures.cannot refl);
       counts = counts_refused (g.B.Blocks.failures p.below) p.refused c.saturating_add-self-inside.result _ (omega arith) c.saturating_add-self-inside.ensures;
