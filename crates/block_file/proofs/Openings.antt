@@ -28,6 +28,14 @@ pub if_ok : {T E : Type 0} (r : Result T E) (P Q S : T → Type 0) → ((x : T) 
 if_ok (Ok x) P Q S so p q = so x p q
 if_ok (Err e) P Q S so p q = tt
 
+pub if_ok3 : {T E : Type 0} (r : Result T E) (P Q R S : T → Type 0) → ((x : T) → P x → Q x → R x → S x) → IfOk r P → IfOk r Q → IfOk r R → IfOk r S
+if_ok3 (Ok x) P Q R S so p q r = so x p q r
+if_ok3 (Err e) P Q R S so p q r = tt
+
+pub if_err2 : {T E : Type 0} (r : Result T E) (P Q S : E → Type 0) → ((e : E) → P e → Q e → S e) → IfErr r P → IfErr r Q → IfErr r S
+if_err2 (Ok x) P Q S so p q = tt
+if_err2 (Err e) P Q S so p q = so e p q
+
 -- calls that only read a file with no loose block
 pub reads_recovered : (g : Shape) (old new : BlocksPast) → ((n : ℕ) → old.file.loose n ≡ false) → OnlyReads old new → StaysRecovered g old new
 reads_recovered g old new synced reads = one_call old new (λ c. recovered g c ≡ recovered g old.file.content) reads.time here

@@ -24,7 +24,7 @@ use Rattle.block_file.proofs.Openings.{same_plan}
 use Rattle.block_file.proofs.Pushing.{first_same}
 
 -- a file with a batch in an area isn't without one
-has_batch : (p : Plan) (image : CrashFile) → plan_told image ≡ Some p
+pub has_batch : (p : Plan) (image : CrashFile) → plan_told image ≡ Some p
     → ((found p.shape image 0 ≡ None) × (found p.shape image 1 ≡ None) → ⊥) → ¬ HasNoBatch image
 has_batch p image told some none = some (subst (λ (q : Plan). (found q.shape image 0 ≡ None) × (found q.shape image 1 ≡ None))
     (same_plan (plan_told image) none.0 p none.1 told) (none.3, none.4))
@@ -70,10 +70,10 @@ reopens_then p old mid new synced reads before stays areas can = joined old mid 
 
 -- ---- what a crash leaves now
 
-is_either : (k : ℕ) → (k % 2 ≡ 0 → ⊥) → (k % 2 ≡ 1 → ⊥) → ⊥
+pub is_either : (k : ℕ) → (k % 2 ≡ 0 → ⊥) → (k % 2 ≡ 1 → ⊥) → ⊥
 is_either k even odd = ⊎_elim even (λ other. odd (omega (arith, other))) (cases_eq (k % 2) 0)
 
-never_both : (o : Option Batch) (b : Batch) → o ≡ Some b → o ≡ None → ⊥
+pub never_both : (o : Option Batch) (b : Batch) → o ≡ Some b → o ≡ None → ⊥
 never_both o b some none = differ (sym some ∙ none)
   where
     differ : Path (Option Batch) (Some b) None → ⊥

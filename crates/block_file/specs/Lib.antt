@@ -7,3 +7,4 @@ pub mod Making
 pub mod Moves
 pub mod Plans
 pub mod Sectors
+pub mod Settling

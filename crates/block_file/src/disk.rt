@@ -50,7 +50,7 @@ impl<B: Blocks, A: Allocator + Copy> BlockDisk<B, A> {
     ghost use Rattle.block_file.specs.Disks.{TellsStill, disk_blocks, disk_failed, disk_failures, disk_file};
     ghost use Rattle.block_file.specs.Disks.{disk_journal, disk_number, disk_past, disk_plan, disk_state, disk_table};
     ghost use Rattle.block_file.specs.Disks.{disk_settled, first_content};
-    ghost use Rattle.block_file.specs.Good.{IsGood, OpensNow};
+    ghost use Rattle.block_file.specs.Good.{IsGood, OpensMeanwhile, OpensNow};
 
     /// The device whose sectors these blocks hold, which were just opened: all of them synced.
     pub fn over(checked: CheckedBlocks<B, A>, plan: Plan) -> Self
@@ -111,7 +111,8 @@ impl<B: Blocks, A: Allocator + Copy> BlockDisk<B, A> {
 
     /// Ends the use of the file: syncs all sectors, and puts all blocks in their places. Then the file stands for the
     /// device, whatever batches the areas of its journal lose (`alone`). It fails where the file does, once a commit
-    /// has failed, and at the last numbers of 64 bits (`failed`).
+    /// has failed, and at the last numbers of 64 bits (`failed`). A crash meanwhile leaves a file that can be opened
+    /// (`opens`).
     pub fn close(&mut self) -> Result<(), Failed>
         ensures content { (disk_past B.past_of self.new).disk.content ≡ (disk_past B.past_of self.old).disk.content }
         ensures synced { OnOk result (IsSynced (disk_past B.past_of self.new).disk) }
@@ -124,6 +125,7 @@ impl<B: Blocks, A: Allocator + Copy> BlockDisk<B, A> {
         ensures broken { OnErr result (disk_failed self.new ≡ true) }
         ensures settled { OnOk result (disk_settled B.past_of self.new ≡ disk_table B.past_of self.old) }
         ensures good { IsGood B.past_of self.old → disk_failed self.new ≡ false → IsGood B.past_of self.new }
+        ensures opens { IsGood B.past_of self.old → OpensMeanwhile B.past_of self.old self.new }
         ensures left_alone { disk_failed self.old ≡ true → disk_file self.new ≡ disk_file self.old }
         ensures table { disk_table B.past_of self.new ≡ disk_table B.past_of self.old }
         ensures quiet { OnOk result (B.failures (disk_file self.new) ≡ B.failures (disk_file self.old)) }
@@ -155,6 +157,13 @@ impl<B: Blocks, A: Allocator + Copy> BlockDisk<B, A> {
         ensures counts { CountsFailure (disk_failures B.failures self.old) (disk_failures B.failures self.new) result }
     {
         self.parts.check(from)
+    }
+
+    /// The file as it is now.
+    pub fn file(&self) -> &B
+        ensures { result.now ≡ disk_file self.now }
+    {
+        self.parts.now.checked.file()
     }
 
     /// The blocks, with what was gathered since the last sync.

@@ -1,13 +1,14 @@
 //! A file of blocks is opened.
-ghost use Rattle.std.specs.Prelude.{◌≡◌, ◌≢◌, ◌⊎◌, ◌<◌, ℕ, [], false, true, length, None, Some, IfErr, IfOk, IfSome};
+ghost use Rattle.std.specs.Prelude.{◌≡◌, ◌≢◌, ◌⊎◌, ◌-◌, ◌^◌, ◌<◌, ◌≤◌, ℕ, [], false, true, length, None, Some, IfErr};
+ghost use Rattle.std.specs.Prelude.{IfOk, IfSome};
 ghost use Rattle.sector_device.specs.Disk.{IsSynced};
 ghost use Rattle.sector_device.specs.DevicePast.{Rises};
-ghost use Rattle.block_device.specs.BlocksPast.{LeavesOnly};
 ghost use Rattle.block_journal.specs.Layout.{IsHonest, IsInside, recovered};
-ghost use Rattle.block_journal.specs.Journal.{AreInAreas, LeavesBefore, OnlyReads, StaysRecovered};
+ghost use Rattle.block_journal.specs.Journal.{LeavesBefore, OnlyReads};
 ghost use Rattle.block_journal.specs.Value.{failures_of};
 ghost use Rattle.block_table.specs.Checked.{settled_data, settled_table};
 ghost use Rattle.block_table.specs.Table.{EachFits, IsFirstUnfit};
+ghost use Rattle.block_file.specs.Closing.{StandsAlone};
 ghost use Rattle.block_file.specs.Damage.{CanBeOpened, IsDamagedAt};
 ghost use Rattle.block_file.specs.Disks.{disk_failed, disk_failures, disk_file, disk_journal, disk_past, disk_plan};
 ghost use Rattle.block_file.specs.Disks.{disk_settled, disk_table, first_content};
@@ -15,8 +16,11 @@ ghost use Rattle.block_file.specs.Good.{IsGood};
 ghost use Rattle.block_file.specs.Header.{HasNoBatch, HasNoPlan, IsCut, first_of, plan_told};
 ghost use Rattle.block_file.specs.Plans.{IsPlan, disk_image};
 ghost use Rattle.block_file.specs.Sectors.{sectors_of};
+ghost use Rattle.block_file.specs.Settling.{AreHandedOn, HasLastNumber, IsHandingOn, IsLeft, IsRefusedBehind};
+ghost use Rattle.block_file.specs.Settling.{OpensUnder, StaysUnder, handed_on};
 
 use crate::header::{AREA_MAX, read_header};
+use crate::settling::settle;
 use crate::{BlockDisk, Plan};
 use block_device::{BLOCK_SIZE, Blocks};
 use block_journal::OpenError;
@@ -81,8 +85,8 @@ fn first_told(first: Option<Plan>, second: Option<Plan>) -> Option<Plan>
     }
 }
 
-// The plan that a file tells.
-fn read_plan<B: Blocks>(below: &mut B) -> Result<Plan, FileError>
+/// The plan that a file tells.
+pub fn read_plan<B: Blocks>(below: &mut B) -> Result<Plan, FileError>
     ensures told { IfOk result (λ p. plan_told (B.past_of below.old).file.content ≡ Some p) }
     ensures plan { IfOk result IsPlan }
     ensures none { IfErr result (λ e. e ≡ FileError.NoHeader
@@ -124,6 +128,45 @@ pub fn has_room<B: Blocks>(below: &B, plan: Plan) -> bool
     2 * shape.area <= blocks - shape.first && shape.kept <= blocks - shape.first - 2 * shape.area
 }
 
+// The device of checked blocks that were just opened, each of which fits, once all of them are in their places.
+fn settled<B: Blocks, A: Allocator + Copy>(
+    checked: CheckedBlocks<B, A>,
+    plan: Plan,
+) -> Result<BlockDisk<B, A>, Refused<B>>
+    requires plan { IsPlan plan }
+    requires shape { checked.journal.shape ≡ plan.shape }
+    requires blocks { checked.blocks ≡ plan.blocks }
+    requires none { checked.journal.next ≡ [] }
+    requires good { checked.journal.has_failed ≡ false }
+    ensures plan { IfOk result (λ d. disk_plan d ≡ plan) }
+    ensures content { IfOk result (λ d. (disk_past B.past_of d).disk.content
+        ≡ sectors_of plan.lead plan.sectors (settled_data B.past_of checked)) }
+    ensures synced { IfOk result (λ d. IsSynced (disk_past B.past_of d).disk) }
+    ensures alone { IfOk result (λ d. StandsAlone plan (B.past_of (disk_file d)).file.content
+        (disk_past B.past_of d).disk.content) }
+    ensures first { IfOk result (λ d. first_content B.past_of d ≡ (B.past_of (disk_file d)).file.content) }
+    ensures failures { IfOk result (λ d. disk_failures B.failures d ≡ failures_of B.failures checked.journal) }
+    ensures offered { IfOk result (λ d. (disk_journal d).offered
+        ≡ handed_on checked.journal.offered checked.journal.last) }
+    ensures sound { IfOk result (λ d. disk_failed d ≡ false) }
+    ensures table { IfOk result (λ d. disk_table B.past_of d ≡ settled_table B.past_of checked) }
+    ensures committed { IfOk result (λ d. disk_settled B.past_of d ≡ disk_table B.past_of d) }
+    ensures hands { IfOk result (λ d. IsHandingOn B.past_of checked.journal (B.past_of (disk_file d))) }
+    ensures refused { IfErr result (λ e. IsHandingOn B.past_of checked.journal (B.past_of e.file)) }
+    ensures why { IfErr result (λ e. e.error ≡ FileError.FileFailed) }
+    ensures failed { IfErr result (λ e. (2 ^ 64 - 2 ≤ checked.journal.last.number)
+        ⊎ Rises (B.failures checked.journal.below) (B.failures e.file)) }
+{
+    let mut checked = checked;
+    match settle(&mut checked) {
+        Ok(()) => Ok(BlockDisk::over(checked, plan)),
+        Err(_) => Err(Refused {
+            file: checked.into_file(),
+            error: FileError::FileFailed,
+        }),
+    }
+}
+
 // The device of checked blocks that were just opened, if each of them fits its digest.
 fn compared<B: Blocks, A: Allocator + Copy>(
     checked: CheckedBlocks<B, A>,
@@ -138,26 +181,30 @@ fn compared<B: Blocks, A: Allocator + Copy>(
     ensures content { IfOk result (λ d. (disk_past B.past_of d).disk.content
         ≡ sectors_of plan.lead plan.sectors (settled_data B.past_of checked)) }
     ensures synced { IfOk result (λ d. IsSynced (disk_past B.past_of d).disk) }
+    ensures alone { IfOk result (λ d. StandsAlone plan (B.past_of (disk_file d)).file.content
+        (disk_past B.past_of d).disk.content) }
     ensures fits { IfOk result (λ d. EachFits plan.blocks (settled_table B.past_of checked)) }
-    ensures first { IfOk result (λ d. first_content B.past_of d ≡ (B.past_of checked.journal.below).file.content) }
+    ensures first { IfOk result (λ d. first_content B.past_of d ≡ (B.past_of (disk_file d)).file.content) }
     ensures failures { IfOk result (λ d. disk_failures B.failures d ≡ failures_of B.failures checked.journal) }
-    ensures offered { IfOk result (λ d. (disk_journal d).offered ≡ checked.journal.offered) }
+    ensures offered { IfOk result (λ d. (disk_journal d).offered
+        ≡ handed_on checked.journal.offered checked.journal.last) }
     ensures sound { IfOk result (λ d. disk_failed d ≡ false) }
     ensures each { IfOk result (λ d. EachFits plan.blocks (disk_table B.past_of d)) }
     ensures committed { IfOk result (λ d. disk_settled B.past_of d ≡ disk_table B.past_of d) }
-    ensures read { IfOk result (λ d. OnlyReads (B.past_of checked.journal.below) (B.past_of (disk_file d))) }
-    ensures refused { IfErr result (λ e. OnlyReads (B.past_of checked.journal.below) (B.past_of e.file)) }
+    ensures hands { IfOk result (λ d. IsHandingOn B.past_of checked.journal (B.past_of (disk_file d))) }
+    ensures refused { IfErr result (λ e. IsRefusedBehind B.past_of checked.journal e.error (B.past_of e.file)) }
     ensures damaged { IfErr result (λ e. (n : ℕ) → e.error ≡ FileError.Damaged n
         → IsFirstUnfit plan.blocks (settled_table B.past_of checked) 0 n) }
     ensures header { IfErr result (λ e. e.error ≢ FileError.NoHeader) }
     ensures short { IfErr result (λ e. e.error ≢ FileError.TooShort) }
     ensures batch { IfErr result (λ e. e.error ≢ FileError.NoBatch) }
     ensures failed { IfErr result (λ e. e.error ≡ FileError.FileFailed
-        → Rises (B.failures checked.journal.below) (B.failures e.file)) }
+        → (2 ^ 64 - 2 ≤ checked.journal.last.number)
+        ⊎ Rises (B.failures checked.journal.below) (B.failures e.file)) }
 {
     let mut checked = checked;
     match checked.check(0) {
-        Ok(None) => Ok(BlockDisk::over(checked, plan)),
+        Ok(None) => settled(checked, plan),
         Ok(Some(n)) => Err(Refused {
             file: checked.into_file(),
             error: FileError::Damaged(n),
@@ -173,10 +220,16 @@ fn compared<B: Blocks, A: Allocator + Copy>(
 /// data is compared with its digest. No block of the file is loose. So each sector can be read, where the file
 /// doesn't fail (`good`).
 ///
-/// Whatever it answers, a crash at any moment of it leaves what stands for the same blocks (`any_moment`, `refused`),
-/// behind the same headers (`headers`, `headers_refused`). Where the file has no plan that it has room for, nothing is
-/// written (`left_alone`). One that can be opened is refused for want of memory, or as the file failed (`only`), and a
-/// crash meanwhile leaves one that can be opened (`again`, `again_refused`).
+/// The blocks of the batch before the last one are put in their places; what was read is not written back. Once each
+/// block fits, the last batch is handed on as one of its own, and then all blocks are put in their places: no area of
+/// the journal is needed (`alone`, `handed`). So what was acknowledged is not in the journal alone. Behind the last
+/// numbers of 64 bits none can be handed on (`failed`).
+///
+/// Whatever it answers, a crash at any moment of it leaves, under the premise, what stands for the same blocks
+/// (`any_moment`, `refused`), behind the same headers (`headers`, `headers_refused`). The premise is needed only once
+/// batches are handed on. Where the file has no plan that it has room for, nothing is written (`left_alone`). One that
+/// can be opened is refused for want of memory, or as the file failed (`only`), and a crash meanwhile leaves one that
+/// can be opened (`again`, `refused`).
 pub fn open<B: Blocks, A: Allocator + Copy>(
     alloc: A,
     below: B,
@@ -193,9 +246,11 @@ pub fn open<B: Blocks, A: Allocator + Copy>(
     ensures failures { IfOk result (λ d. disk_failures B.failures d ≡ B.failures below) }
     ensures honest { IfOk result (λ d. IsHonest (disk_journal d).offered (disk_plan d).shape
         (B.past_of below).file.content) }
-    ensures found { IfOk result (λ d. AreInAreas (disk_plan d).shape (B.past_of below).file.content
+    ensures handed { IfOk result (λ d. AreHandedOn (disk_plan d).shape (B.past_of below).file.content
         (disk_journal d).offered) }
-    ensures any_moment { IfOk result (λ d. StaysRecovered (disk_plan d).shape (B.past_of below)
+    ensures alone { IfOk result (λ d. StandsAlone (disk_plan d) (B.past_of (disk_file d)).file.content
+        (disk_past B.past_of d).disk.content) }
+    ensures any_moment { IfOk result (λ d. StaysUnder (disk_journal d).offered (disk_plan d).shape (B.past_of below)
         (B.past_of (disk_file d))) }
     ensures headers { IfOk result (λ d. LeavesBefore (disk_plan d).shape (B.past_of below)
         (B.past_of (disk_file d))) }
@@ -205,7 +260,7 @@ pub fn open<B: Blocks, A: Allocator + Copy>(
         → LeavesBefore p.shape (B.past_of below) (B.past_of e.file)) }
     ensures refused { IfErr result (λ e. (p : Plan) → plan_told (B.past_of below).file.content ≡ Some p
         → IsInside p.shape (B.past_of below).file.content
-        → StaysRecovered p.shape (B.past_of below) (B.past_of e.file)) }
+        → IsLeft p e.error (B.past_of below) (B.past_of e.file)) }
     ensures damaged { IfErr result (λ e. (n : ℕ) → e.error ≡ FileError.Damaged n
         → IsDamagedAt n (B.past_of below).file.content) }
     ensures no_header { IfErr result (λ e. e.error ≡ FileError.NoHeader
@@ -213,13 +268,11 @@ pub fn open<B: Blocks, A: Allocator + Copy>(
     ensures too_short { IfErr result (λ e. e.error ≡ FileError.TooShort
         → (length (B.past_of below).file.content < 2) ⊎ IsCut (B.past_of below).file.content) }
     ensures failed { IfErr result (λ e. e.error ≡ FileError.FileFailed
-        → Rises (B.failures below) (B.failures e.file)) }
+        → HasLastNumber (B.past_of below).file.content ⊎ Rises (B.failures below) (B.failures e.file)) }
     ensures no_batch { IfErr result (λ e. e.error ≡ FileError.NoBatch
         → HasNoBatch (B.past_of below).file.content) }
     ensures again { IfOk result (λ d. CanBeOpened (disk_plan d) (B.past_of below).file.content
-        → LeavesOnly (B.past_of below) (B.past_of (disk_file d)) (CanBeOpened (disk_plan d))) }
-    ensures again_refused { IfErr result (λ e. (p : Plan) → CanBeOpened p (B.past_of below).file.content
-        → LeavesOnly (B.past_of below) (B.past_of e.file) (CanBeOpened p)) }
+        → OpensUnder (disk_journal d).offered (disk_plan d) (B.past_of below) (B.past_of (disk_file d))) }
     ensures only { IfErr result (λ e. (p : Plan) → CanBeOpened p (B.past_of below).file.content
         → (e.error ≡ FileError.NoMemory) ⊎ (e.error ≡ FileError.FileFailed)) }
 {
@@ -235,7 +288,10 @@ pub fn open<B: Blocks, A: Allocator + Copy>(
         });
     }
     match CheckedBlocks::open(alloc, below, plan.shape, plan.blocks) {
-        Ok(checked) => compared(checked, plan),
+        Ok(checked) => {
+            checked.stands();
+            compared(checked, plan)
+        }
         Err(refused) => Err(Refused {
             file: refused.file,
             error: error_of(refused.error),

@@ -3,6 +3,7 @@ ghost use Rattle.std.specs.Prelude.{◌≡◌, ◌⊎◌, ◌+◌, ◌-◌, ◌^
 ghost use Rattle.std.specs.Prelude.{OnErr, OnOk};
 ghost use Rattle.sector_device.specs.Disk.{IsFailedWrite, IsSynced, after_sync, after_write, sector};
 ghost use Rattle.sector_device.specs.DevicePast.{CountsFailure, Elapses, Rises};
+ghost use Rattle.block_journal.specs.Journal.{KeepsBatch};
 ghost use Rattle.block_journal.specs.Value.{LeavesEither};
 ghost use Rattle.block_table.specs.Checked.{CountsRead};
 
@@ -52,8 +53,9 @@ fn count(damaged: &mut u64, done: Result<(), ReadError>) -> Result<(), Failed>
 impl<B: Blocks, A: Allocator + Copy> DiskParts<B, A> {
     ghost use Rattle.block_file.specs.Closing.{StandsAlone};
     ghost use Rattle.block_file.specs.Damage.{FitsAsBefore, IsFirstDamaged, IsSectorFit};
-    ghost use Rattle.block_file.specs.Disks.{ReadsAlone, disk_failed, disk_failures, disk_file, disk_journal};
-    ghost use Rattle.block_file.specs.Disks.{disk_number, disk_past, disk_plan, disk_settled, disk_table};
+    ghost use Rattle.block_file.specs.Disks.{OffersOne, ReadsAlone, disk_failed, disk_failures, disk_file};
+    ghost use Rattle.block_file.specs.Disks.{disk_journal, disk_number, disk_past, disk_plan, disk_settled};
+    ghost use Rattle.block_file.specs.Disks.{disk_table};
     ghost use Rattle.block_file.specs.Good.{IsGood, OpensMeanwhile};
     ghost use Rattle.block_file.specs.Moves.{IsSound};
 
@@ -136,6 +138,9 @@ impl<B: Blocks, A: Allocator + Copy> DiskParts<B, A> {
             → LeavesEither B.past_of (disk_journal self.old) (disk_journal self.new) }
         ensures good { IsGood B.past_of self.old → disk_failed self.new ≡ false → IsGood B.past_of self.new }
         ensures opens { IsGood B.past_of self.old → OpensMeanwhile B.past_of self.old self.new }
+        ensures holds { disk_failed self.old ≡ false → KeepsBatch (disk_journal self.old).shape
+            (disk_journal self.old).last (B.past_of (disk_file self.old)) (B.past_of (disk_file self.new)) }
+        ensures offers { OffersOne (disk_journal self.old) (disk_journal self.new) }
         ensures left_alone { disk_failed self.old ≡ true → disk_file self.new ≡ disk_file self.old }
         ensures table { disk_table B.past_of self.new ≡ disk_table B.past_of self.old }
         ensures last { OnOk result (disk_number self.new ≡ disk_number self.old + 1) }
@@ -162,6 +167,8 @@ impl<B: Blocks, A: Allocator + Copy> DiskParts<B, A> {
         ensures broken { OnErr result (disk_failed self.new ≡ true) }
         ensures settled { OnOk result (disk_settled B.past_of self.new ≡ disk_table B.past_of self.old) }
         ensures good { IsGood B.past_of self.old → disk_failed self.new ≡ false → IsGood B.past_of self.new }
+        ensures opens { IsGood B.past_of self.old → OpensMeanwhile B.past_of self.old self.new }
+        ensures offers { OffersOne (disk_journal self.old) (disk_journal self.new) }
         ensures left_alone { disk_failed self.old ≡ true → disk_file self.new ≡ disk_file self.old }
         ensures table { disk_table B.past_of self.new ≡ disk_table B.past_of self.old }
         ensures quiet { OnOk result (B.failures (disk_file self.new) ≡ B.failures (disk_file self.old)) }
@@ -194,6 +201,7 @@ impl<B: Blocks, A: Allocator + Copy> DiskParts<B, A> {
         ensures broken { OnErr result (disk_failed self.new ≡ true) }
         ensures settled { OnOk result (disk_settled B.past_of self.new ≡ disk_table B.past_of self.old) }
         ensures good { IsGood B.past_of self.old → disk_failed self.new ≡ false → IsGood B.past_of self.new }
+        ensures opens { IsGood B.past_of self.old → OpensMeanwhile B.past_of self.old self.new }
         ensures left_alone { disk_failed self.old ≡ true → disk_file self.new ≡ disk_file self.old }
         ensures table { disk_table B.past_of self.new ≡ disk_table B.past_of self.old }
         ensures quiet { OnOk result (B.failures (disk_file self.new) ≡ B.failures (disk_file self.old)) }
@@ -202,6 +210,7 @@ impl<B: Blocks, A: Allocator + Copy> DiskParts<B, A> {
         ensures counts { CountsFailure (disk_failures B.failures self.old) (disk_failures B.failures self.new) result }
         ensures sound { IsSound B.past_of self.new }
     {
+        self.now.checked.stands();
         self.sync()?;
         self.settle()
     }

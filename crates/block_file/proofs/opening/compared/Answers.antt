@@ -1,19 +1,23 @@
-use Rattle.std.proofs.Common.{◌≡◌, ⊎_elim, ℕ, List, sym, ◌∙◌, ap, subst, arith}
+use Rattle.std.proofs.Common.{◌≡◌, ◌⊎◌, inl, inr, ⊎_elim, ℕ, ◌-◌, List, sym, ◌∙◌, ap, subst, arith}
 use Rattle.std.proofs.lemmas.Bool.{false≢true}
+use Rattle.std.proofs.lemmas.Result.{IfErr-weaker, IfOk-weaker}
 use Rattle.sector_device.specs.DevicePast.{Rises}
-use Rattle.block_device.specs.Blocks.{BlockFile, CrashFile}
+use Rattle.block_device.specs.Blocks.{CrashFile}
 use Rattle.block_batch.specs.Batch.{Entry, replayed}
 use Rattle.block_journal.specs.Journal.{OnlyReads}
-use Rattle.block_journal.specs.Value.{JournalValue, content_of, settled_of}
+use Rattle.block_journal.specs.Value.{JournalValue}
 use Rattle.block_table.specs.Checked.{CheckedValue, kept_table, settled_table}
 use Rattle.block_table.specs.Table.{EachFits, IsFirstUnfit, IsFit, data_of}
-use Rattle.block_table.proofs.Contents.{settled_read, table_read}
+use Rattle.block_table.proofs.Contents.{settled_read}
 use Rattle.block_file.specs.Sectors.{sectors_of}
 use Rattle.block_file.specs.Disks.{journal_in}
+use Rattle.block_file.specs.Settling.{handed_on}
+use Rattle.block_file.proofs.Openings.{if_err2}
+use Rattle.block_file.proofs.HandingOn.{hands_read}
 use Rattle.block_file.proofs.opening.compared.Goals as goal
 
-pub over-requires : goal.over-requires
-over-requires g c =
+pub settled-requires : goal.settled-requires
+settled-requires g c =
     let rest = c.check.ensures.rest in
     let journal = ap (λ (x : CheckedValue g.row.B.Denot). x.journal) rest in
     record {
@@ -27,6 +31,7 @@ over-requires g c =
 pub returns-in-Ok-None : goal.returns-in-Ok-None
 returns-in-Ok-None g c =
     let h = g.B.Blocks.past_of in
+    let F = g.B.Blocks.failures in
     let plan = c.args.plan in
     let old : CheckedValue g.row.B.Denot = c.args.checked in
     let new : CheckedValue g.row.B.Denot = c.check.new.self in
@@ -36,32 +41,32 @@ returns-in-Ok-None g c =
     let table : kept_table h old ≡ settled_table h old = ap (λ (l : List Entry). replayed l (settled_table h old)) c.requires.none in
     let settled : settled_table h new ≡ settled_table h old = settled_read h old.journal new.journal journal done.reads in
     let sound = rw c.in-Ok-None.field-0-is at c.in-Ok-None.ensures.sound in
+    let fits : EachFits plan.blocks (settled_table h old) = λ n below. subst (λ (l : CrashFile). IsFit plan.blocks l n) table
+    (subst (λ (b : ℕ). IsFit b (kept_table h old) n) c.requires.blocks (sound n (omega arith) (omega (arith, below, c.requires.blocks)))) in
+    let quiet : F new.journal.below ≡ F old.journal.below = c.in-Ok-None.ensures.quiet in
+    let number : new.journal.last.number ≡ old.journal.last.number = ap (λ (v : JournalValue g.row.B.Denot). v.last.number) journal in
+    let made = c.settled.ensures in
+    let r = c.settled.result in
     record {
-      plan = c.over.ensures.plan;
-      content = c.over.ensures.content ∙ (λ i. sectors_of plan.lead plan.sectors (data_of (blocks i) (settled i)));
-      synced = c.over.ensures.synced;
-      first = c.over.ensures.first ∙ ap (λ (f : BlockFile). f.content) done.reads.file;
-      fits = λ n below. subst (λ (l : CrashFile). IsFit plan.blocks l n) table
-          (subst (λ (b : ℕ). IsFit b (kept_table h old) n) c.requires.blocks (sound n (omega arith) (omega (arith, below, c.requires.blocks))));
-      failures = c.over.ensures.failures ∙ c.in-Ok-None.ensures.counts.none;
-      offered = ap (λ (v : JournalValue g.row.B.Denot). v.offered) c.over.ensures.journal
-          ∙ ap (λ (v : JournalValue g.row.B.Denot). v.offered) journal;
-      sound = ap (λ (v : JournalValue g.row.B.Denot). v.has_failed) c.over.ensures.journal
-          ∙ ap (λ (v : JournalValue g.row.B.Denot). v.has_failed) journal ∙ c.requires.good;
-      each = subst (λ (l : CrashFile). EachFits plan.blocks l)
-          (sym (ap (λ (v : JournalValue g.row.B.Denot). content_of h v) c.over.ensures.journal ∙ table_read h old new done.rest done.reads))
-          (λ n low. subst (λ (b : ℕ). IsFit b (kept_table h old) n) c.requires.blocks (sound n (omega arith) (omega (arith, low, c.requires.blocks))));
-      committed =
-          let none = ap (λ (v : JournalValue g.row.B.Denot). v.next) c.over.ensures.journal
-          ∙ ap (λ (v : JournalValue g.row.B.Denot). v.next) journal ∙ c.requires.none in
-          sym (ap (λ (l : List Entry). replayed l (settled_of h (journal_in c.over.result.now))) none);
-      read = subst (λ (v : JournalValue g.row.B.Denot). OnlyReads (h old.journal.below) (h v.below)) (sym c.over.ensures.journal) done.reads;
-      refused = tt;
-      damaged = tt;
-      header = tt;
-      short = tt;
-      batch = tt;
-      failed = tt;
+      plan = made.plan;
+      content = IfOk-weaker r _ _ (λ d is. is ∙ (λ i. sectors_of plan.lead plan.sectors (data_of (blocks i) (settled i)))) made.content;
+      synced = made.synced;
+      alone = made.alone;
+      fits = IfOk-weaker r _ _ (λ d _. fits) made.plan;
+      first = made.first;
+      failures = IfOk-weaker r _ _ (λ d is. is ∙ c.in-Ok-None.ensures.counts.none) made.failures;
+      offered = IfOk-weaker r _ _ (λ d is. is ∙ ap (λ (v : JournalValue g.row.B.Denot). handed_on v.offered v.last) journal) made.offered;
+      sound = made.sound;
+      each = IfOk-weaker r _ _ (λ d is. subst (EachFits plan.blocks) (sym (is ∙ settled)) fits) made.table;
+      committed = made.committed;
+      hands = IfOk-weaker r _ _ (λ d hands. hands_read h old.journal new.journal (h (journal_in d.now).below) journal done.reads hands) made.hands;
+      refused = if_err2 r _ _ _ (λ e why hands. inr (why, hands_read h old.journal new.journal (h e.file) journal done.reads hands)) made.why made.refused;
+      damaged = IfErr-weaker r _ _ (λ e why n is. absurd (cc)) made.why;
+      header = IfErr-weaker r _ _ (λ e why is. absurd (cc)) made.why;
+      short = IfErr-weaker r _ _ (λ e why is. absurd (cc)) made.why;
+      batch = IfErr-weaker r _ _ (λ e why is. absurd (cc)) made.why;
+      failed = IfErr-weaker r _ _ (λ e failed _. ⊎_elim (λ most. inl (omega (arith, most, number)))
+          (λ up. inr (subst (λ (a : ℕ). Rises a (F e.file)) quiet up)) failed) made.failed;
     }
 
 pub returns-in-Ok-Some : goal.returns-in-Ok-Some
@@ -76,6 +81,7 @@ returns-in-Ok-Some g c =
       plan = tt;
       content = tt;
       synced = tt;
+      alone = tt;
       fits = tt;
       first = tt;
       failures = tt;
@@ -83,8 +89,8 @@ returns-in-Ok-Some g c =
       sound = tt;
       each = tt;
       committed = tt;
-      read = tt;
-      refused = subst (λ (b : g.row.B.Denot). OnlyReads (h old.journal.below) (h b)) (sym c.into_file.ensures) done.reads;
+      hands = tt;
+      refused = inl (subst (λ (b : g.row.B.Denot). OnlyReads (h old.journal.below) (h b)) (sym c.into_file.ensures) done.reads);
       damaged = λ n is.
           let same : c.in-Ok-Some.n ≡ n = cc in
           subst (IsFirstUnfit plan.blocks (settled_table h old) 0) same
@@ -103,6 +109,7 @@ returns-in-Err g c =
       plan = tt;
       content = tt;
       synced = tt;
+      alone = tt;
       fits = tt;
       first = tt;
       failures = tt;
@@ -110,14 +117,14 @@ returns-in-Err g c =
       sound = tt;
       each = tt;
       committed = tt;
-      read = tt;
-      refused = subst (λ (b : g.row.B.Denot). OnlyReads (h c.args.checked.journal.below) (h b)) (sym c.into_file-in-Err.ensures)
-          c.check.ensures.reads;
+      hands = tt;
+      refused = inl (subst (λ (b : g.row.B.Denot). OnlyReads (h c.args.checked.journal.below) (h b)) (sym c.into_file-in-Err.ensures)
+          c.check.ensures.reads);
       damaged = λ n is. absurd (cc);
       header = λ is. absurd (cc);
       short = λ is. absurd (cc);
       batch = λ is. absurd (cc);
-      failed = λ _. subst (λ (b : g.row.B.Denot). Rises (g.B.Blocks.failures c.args.checked.journal.below) (g.B.Blocks.failures b))
+      failed = λ _. inr (subst (λ (b : g.row.B.Denot). Rises (g.B.Blocks.failures c.args.checked.journal.below) (g.B.Blocks.failures b))
           (sym c.into_file-in-Err.ensures)
-          (⊎_elim (λ was. absurd (false≢true (sym c.requires.good ∙ was))) (λ up. up) c.in-Err.ensures.failed);
+          (⊎_elim (λ was. absurd (false≢true (sym c.requires.good ∙ was))) (λ up. up) c.in-Err.ensures.failed));
     }

@@ -1,33 +1,37 @@
-use Rattle.std.proofs.Common.{◌≡◌, inl, inr, ℕ, ◌<◌, List, None, Some, sym, ◌∙◌, ap, subst, arith}
+use Rattle.std.proofs.Common.{◌≡◌, inl, inr, ⊎_elim, ℕ, List, None, Some, refl, sym, ◌∙◌, ap, subst, arith}
 use Rattle.std.proofs.lemmas.Result.{IfErr-weaker}
 use Rattle.sector_device.specs.DevicePast.{Rises}
-use Rattle.block_device.specs.Blocks.{CrashFile, BlockFile, block}
-use Rattle.block_device.proofs.CrashFiles.{content_is_image}
-use Rattle.block_device.proofs.Moments.{at_end}
-use Rattle.block_device.specs.BlocksPast.{BlocksPast, LeavesOnly}
+use Rattle.block_device.specs.Blocks.{CrashFile, BlockFile}
+use Rattle.block_device.specs.BlocksPast.{BlocksPast}
 use Rattle.block_batch.specs.Batch.{Batch}
 use Rattle.block_journal.specs.Layout.{IsHonest, IsInside, found, recovered}
-use Rattle.block_journal.specs.Journal.{AreInAreas, LeavesBefore, StaysRecovered}
+use Rattle.block_journal.specs.Journal.{AreInAreas, LeavesBefore}
 use Rattle.block_journal.proofs.Before.{before_read}
 use Rattle.block_journal.proofs.Keeping.{areas_read}
 use Rattle.block_table.specs.Checked.{CheckedValue, settled_table}
 use Rattle.block_table.specs.Table.{EachFits, IsFirstUnfit, data_of}
 use Rattle.block_table.proofs.Contents.{stays_read}
 use Rattle.block_file.specs.declared.plan.Plan.{Plan}
+use Rattle.block_file.specs.Closing.{StandsAlone}
 use Rattle.block_file.specs.Damage.{CanBeOpened}
 use Rattle.block_file.specs.Plans.{disk_image}
 use Rattle.block_file.specs.Disks.{disk_past, first_content, journal_in}
 use Rattle.block_file.specs.Header.{plan_told}
-use Rattle.block_file.proofs.Heading.{still_told}
 use Rattle.block_file.specs.Sectors.{sectors_of}
-use Rattle.block_file.proofs.Openings.{before_then, if_err4, if_ok, if_ok5, reads_before, reads_recovered, same_plan, stays_then, why_refused}
+use Rattle.block_file.specs.Settling.{AreHandedOn, IsLeft, OpensUnder, StaysUnder, handed_on}
+use Rattle.block_file.proofs.Openings.{before_then, if_err4, if_ok, if_ok3, if_ok5, reads_before, reads_recovered, same_plan, stays_then, why_refused}
 use Rattle.block_file.proofs.Reopening.{good_opened, reads_reopen, reopens_then}
+use Rattle.block_file.proofs.HandingOn.{before_under, honest_handed, opens_under, stays_under, told_end}
 use Rattle.block_file.proofs.opening.open.Goals as goal
 
 pub returns-then-not-has_room-clause-refused : goal.returns-then-not-has_room-clause-refused
-returns-then-not-has_room-clause-refused g c = λ p told inside.
+returns-then-not-has_room-clause-refused g c =
+    λ p told inside.
     let h = g.B.Blocks.past_of in
-    reads_recovered p.shape (h c.args.below) (h c.read_plan.new.below) c.requires c.in-Ok.ensures.reads
+    inl (record {
+      stays = reads_recovered p.shape (h c.args.below) (h c.read_plan.new.below) c.requires c.in-Ok.ensures.reads;
+      opens = λ can. reads_reopen p (h c.args.below) (h c.read_plan.new.below) c.requires can c.in-Ok.ensures.reads;
+    })
 
 pub returns-in-Ok-open-clause-content : goal.returns-in-Ok-open-clause-content
 returns-in-Ok-open-clause-content g c =
@@ -63,13 +67,18 @@ returns-in-Ok-open-clause-any_moment g c =
     let checked : CheckedValue g.row.B.Denot = c.in-Ok-open.checked in
     let old : BlocksPast = h c.args.below in
     let mid : BlocksPast = h c.read_plan.new.below in
+    let end : BlocksPast = h checked.journal.below in
     let reads = c.in-Ok.ensures.reads in
-    let first = reads_recovered plan.shape old mid c.requires reads in
-    if_ok c.compared.result _ _ _
-    (λ d is read. subst (λ (p : Plan). StaysRecovered p.shape old (h (journal_in d.now).below)) (sym is)
-    (stays_then plan.shape old mid (h (journal_in d.now).below) reads.file first
-    (stays_read plan.shape mid (h checked.journal.below) (h (journal_in d.now).below) c.in-Ok-open.ensures.any_moment read)))
-    c.compared.ensures.plan c.compared.ensures.read
+    let opened = c.in-Ok-open.ensures in
+    let table : settled_table h checked ≡ recovered plan.shape old.file.content =
+    opened.settled ∙ ap (λ (f : BlockFile). recovered plan.shape f.content) reads.file in
+    let stays = stays_then plan.shape old mid end reads.file (reads_recovered plan.shape old mid c.requires reads) opened.any_moment in
+    let before = before_then plan.shape old mid end reads.file (reads_before plan.shape old mid c.requires reads) opened.before in
+    if_ok3 c.compared.result _ _ _ _
+    (λ d is same hands. subst (λ (p : Plan). StaysUnder (journal_in d.now).offered p.shape old (h (journal_in d.now).below)) (sym is)
+    (subst (λ (l : List Batch). StaysUnder l plan.shape old (h (journal_in d.now).below)) (sym same)
+    (stays_under h plan old checked.journal (h (journal_in d.now).below) opened.shape table stays before hands)))
+    c.compared.ensures.plan c.compared.ensures.offered c.compared.ensures.hands
 
 pub returns-in-Ok-open-clause-refused : goal.returns-in-Ok-open-clause-refused
 returns-in-Ok-open-clause-refused g c =
@@ -78,12 +87,41 @@ returns-in-Ok-open-clause-refused g c =
     let checked : CheckedValue g.row.B.Denot = c.in-Ok-open.checked in
     let old : BlocksPast = h c.args.below in
     let mid : BlocksPast = h c.read_plan.new.below in
+    let end : BlocksPast = h checked.journal.below in
     let reads = c.in-Ok.ensures.reads in
-    let first = reads_recovered plan.shape old mid c.requires reads in
+    let opened = c.in-Ok-open.ensures in
+    let table : settled_table h checked ≡ recovered plan.shape old.file.content =
+    opened.settled ∙ ap (λ (f : BlockFile). recovered plan.shape f.content) reads.file in
+    let stays = stays_then plan.shape old mid end reads.file (reads_recovered plan.shape old mid c.requires reads) opened.any_moment in
+    let before = before_then plan.shape old mid end reads.file (reads_before plan.shape old mid c.requires reads) opened.before in
+    let first = reopens_then plan old mid end c.requires reads opened.before opened.any_moment opened.batches in
     IfErr-weaker c.compared.result _ _
-    (λ e read p told inside. subst (λ (q : Plan). StaysRecovered q.shape old (h e.file)) (same_plan _ plan p c.in-Ok.ensures.told told)
-    (stays_then plan.shape old mid (h e.file) reads.file first
-    (stays_read plan.shape mid (h checked.journal.below) (h e.file) c.in-Ok-open.ensures.any_moment read)))
+    (λ e left p told inside. subst (λ (q : Plan). IsLeft q e.error old (h e.file)) (same_plan _ plan p c.in-Ok.ensures.told told)
+    (⊎_elim
+    (λ read. inl (record {
+      stays = stays_read plan.shape old end (h e.file) stays read;
+      opens = λ can. reopens_then plan old mid (h e.file) c.requires reads
+          (before_read plan.shape mid end (h e.file) opened.before read)
+          (stays_read plan.shape mid end (h e.file) opened.any_moment read)
+          (areas_read plan.shape mid end (h e.file) opened.batches read) can;
+    }))
+    (λ both. inr (
+      both.0,
+      record {
+        offered = handed_on checked.journal.offered checked.journal.last;
+        handed = record {
+          batches = checked.journal.offered;
+          last = checked.journal.last;
+          in_areas = subst (λ (f : BlockFile). AreInAreas plan.shape f.content checked.journal.offered) reads.file opened.found;
+          all = subst (λ (f : BlockFile). IsHonest checked.journal.offered plan.shape f.content) reads.file opened.honest;
+          has_last = c.stands.ensures.last opened.sound;
+          latest = c.stands.ensures.latest opened.sound;
+          behind = refl;
+        };
+        stays = stays_under h plan old checked.journal (h e.file) opened.shape table stays before both.1;
+        opens = λ can. opens_under h plan old checked.journal (h e.file) opened.shape table stays before both.1 (first can) can;
+      },
+    )) left))
     c.compared.ensures.refused
 
 pub returns-in-Ok-open-clause-damaged : goal.returns-in-Ok-open-clause-damaged
@@ -106,15 +144,20 @@ returns-in-Ok-open-clause-damaged g c =
     c.compared.ensures.damaged
 
 pub returns-in-Err-open-clause-refused : goal.returns-in-Err-open-clause-refused
-returns-in-Err-open-clause-refused g c = λ p told inside.
+returns-in-Err-open-clause-refused g c =
+    λ p told inside.
     let h = g.B.Blocks.past_of in
     let plan : Plan = c.in-Ok.plan in
     let old : BlocksPast = h c.args.below in
     let mid : BlocksPast = h c.read_plan.new.below in
     let reads = c.in-Ok.ensures.reads in
     let new : BlocksPast = h c.in-Err-open.refused.file in
-    subst (λ (q : Plan). StaysRecovered q.shape old new) (same_plan _ plan p c.in-Ok.ensures.told told)
-    (stays_then plan.shape old mid new reads.file (reads_recovered plan.shape old mid c.requires reads) c.in-Err-open.ensures.refused)
+    let opened = c.in-Err-open.ensures in
+    subst (λ (q : Plan). IsLeft q c.error_of.result old new) (same_plan _ plan p c.in-Ok.ensures.told told)
+    (inl (record {
+      stays = stays_then plan.shape old mid new reads.file (reads_recovered plan.shape old mid c.requires reads) opened.refused;
+      opens = reopens_then plan old mid new c.requires reads opened.before_refused opened.refused opened.batches_refused;
+    }))
 
 pub returns-in-Err-open-clause-damaged : goal.returns-in-Err-open-clause-damaged
 returns-in-Err-open-clause-damaged g c = λ n is. absurd (c.error_of.ensures.undamaged n is)
@@ -130,20 +173,23 @@ returns-in-Err g c =
       fits = tt;
       failures = tt;
       honest = tt;
-      found = tt;
+      handed = tt;
+      alone = tt;
       any_moment = tt;
       headers = tt;
       again = tt;
       good = tt;
       left_alone = λ _. c.in-Err.ensures.reads;
       headers_refused = λ p told. reads_before p.shape (h c.args.below) (h c.read_plan.new.below) c.requires c.in-Err.ensures.reads;
-      refused = λ p told inside. reads_recovered p.shape (h c.args.below) (h c.read_plan.new.below) c.requires c.in-Err.ensures.reads;
+      refused = λ p told inside. inl (record {
+        stays = reads_recovered p.shape (h c.args.below) (h c.read_plan.new.below) c.requires c.in-Err.ensures.reads;
+        opens = λ can. reads_reopen p (h c.args.below) (h c.read_plan.new.below) c.requires can c.in-Err.ensures.reads;
+      });
       damaged = λ n is. absurd (c.in-Err.ensures.undamaged n is);
       no_header = c.in-Err.ensures.none;
       too_short = λ is. inl (c.in-Err.ensures.short is);
-      failed = c.in-Err.ensures.failed;
+      failed = λ is. inr (c.in-Err.ensures.failed is);
       no_batch = λ is. absurd (c.in-Err.ensures.batch is);
-      again_refused = λ p can. reads_reopen p (h c.args.below) (h c.read_plan.new.below) c.requires can c.in-Err.ensures.reads;
       only = λ p can. why_refused c.in-Err.error (g.B.Blocks.past_of c.args.below).file.content p can c.in-Err.ensures.none
           (λ is. inl (c.in-Err.ensures.short is)) (λ is. absurd (c.in-Err.ensures.batch is)) (λ n is. absurd (c.in-Err.ensures.undamaged n is));
     }
@@ -185,29 +231,40 @@ returns-in-Ok-open-clause-still g c =
     let h = g.B.Blocks.past_of in
     let plan : Plan = c.in-Ok.plan in
     let checked : CheckedValue g.row.B.Denot = c.in-Ok-open.checked in
+    let old : BlocksPast = h c.args.below in
     let mid : BlocksPast = h c.read_plan.new.below in
     let end : BlocksPast = h checked.journal.below in
-    let told : plan_told mid.file.content ≡ Some plan = ap (λ (f : BlockFile). plan_told f.content) c.in-Ok.ensures.reads.file ∙ c.in-Ok.ensures.told in
-    let stays = at_end mid end (λ image. (n : ℕ) → n < plan.shape.first → block image n ≡ block mid.file.content n) c.in-Ok-open.ensures.before
-    end.file.content (content_is_image end.file end.whole) in
-    let now : plan_told end.file.content ≡ Some plan = still_told end.file.content mid.file.content plan told stays in
-    if_ok c.compared.result _ _ _
-    (λ d is first. subst (λ (p : Plan). plan_told (first_content h d) ≡ Some p) (sym is) (ap plan_told first ∙ now))
-    c.compared.ensures.plan c.compared.ensures.first
+    let reads = c.in-Ok.ensures.reads in
+    let opened = c.in-Ok-open.ensures in
+    let table : settled_table h checked ≡ recovered plan.shape old.file.content =
+    opened.settled ∙ ap (λ (f : BlockFile). recovered plan.shape f.content) reads.file in
+    let stays = stays_then plan.shape old mid end reads.file (reads_recovered plan.shape old mid c.requires reads) opened.any_moment in
+    let before = before_then plan.shape old mid end reads.file (reads_before plan.shape old mid c.requires reads) opened.before in
+    if_ok3 c.compared.result _ _ _ _
+    (λ d is first hands. subst (λ (p : Plan). plan_told (first_content h d) ≡ Some p) (sym is)
+    (ap plan_told first ∙ told_end plan old (h (journal_in d.now).below) c.in-Ok.ensures.told
+    (before_under h plan old checked.journal (h (journal_in d.now).below) opened.shape table stays before hands)))
+    c.compared.ensures.plan c.compared.ensures.first c.compared.ensures.hands
 
 pub returns-in-Ok-open-clause-failed : goal.returns-in-Ok-open-clause-failed
 returns-in-Ok-open-clause-failed g c =
     let F = g.B.Blocks.failures in
+    let plan : Plan = c.in-Ok.plan in
     let checked : CheckedValue g.row.B.Denot = c.in-Ok-open.checked in
-    let quiet : F checked.journal.below ≡ F c.args.below = c.in-Ok-open.ensures.quiet ∙ c.in-Ok.ensures.quiet in
-    IfErr-weaker c.compared.result _ _ (λ e rises is. subst (λ (a : ℕ). Rises a (F e.file)) quiet (rises is)) c.compared.ensures.failed
+    let opened = c.in-Ok-open.ensures in
+    let reads = c.in-Ok.ensures.reads in
+    let quiet : F checked.journal.below ≡ F c.args.below = opened.quiet ∙ c.in-Ok.ensures.quiet in
+    let known = subst (λ (f : BlockFile). AreInAreas plan.shape f.content checked.journal.offered) reads.file opened.found in
+    IfErr-weaker c.compared.result _ _
+    (λ e failed is. ⊎_elim
+    (λ most. inl (plan, c.in-Ok.ensures.told, (checked.journal.last, known checked.journal.last (c.stands.ensures.last opened.sound), most)))
+    (λ up. inr (subst (λ (a : ℕ). Rises a (F e.file)) quiet up)) (failed is))
+    c.compared.ensures.failed
 
 pub returns-in-Err-open-clause-failed : goal.returns-in-Err-open-clause-failed
-returns-in-Err-open-clause-failed g c = λ is.
-    subst (λ (a : ℕ). Rises a (g.B.Blocks.failures c.in-Err-open.refused.file)) c.in-Ok.ensures.quiet
-    (c.in-Err-open.ensures.failed (c.error_of.ensures.failed is))
-
--- ---- the headers, and a file without a plan
+returns-in-Err-open-clause-failed g c =
+    λ is. inr (subst (λ (a : ℕ). Rises a (g.B.Blocks.failures c.in-Err-open.refused.file)) c.in-Ok.ensures.quiet
+    (c.in-Err-open.ensures.failed (c.error_of.ensures.failed is)))
 
 pub returns-then-not-has_room-clause-headers_refused : goal.returns-then-not-has_room-clause-headers_refused
 returns-then-not-has_room-clause-headers_refused g c = λ p told.
@@ -223,13 +280,17 @@ returns-in-Ok-open-clause-headers g c =
     let checked : CheckedValue g.row.B.Denot = c.in-Ok-open.checked in
     let old : BlocksPast = h c.args.below in
     let mid : BlocksPast = h c.read_plan.new.below in
+    let end : BlocksPast = h checked.journal.below in
     let reads = c.in-Ok.ensures.reads in
-    let first = reads_before plan.shape old mid c.requires reads in
+    let opened = c.in-Ok-open.ensures in
+    let table : settled_table h checked ≡ recovered plan.shape old.file.content =
+    opened.settled ∙ ap (λ (f : BlockFile). recovered plan.shape f.content) reads.file in
+    let stays = stays_then plan.shape old mid end reads.file (reads_recovered plan.shape old mid c.requires reads) opened.any_moment in
+    let before = before_then plan.shape old mid end reads.file (reads_before plan.shape old mid c.requires reads) opened.before in
     if_ok c.compared.result _ _ _
-    (λ d is read. subst (λ (p : Plan). LeavesBefore p.shape old (h (journal_in d.now).below)) (sym is)
-    (before_then plan.shape old mid (h (journal_in d.now).below) reads.file first
-    (before_read plan.shape mid (h checked.journal.below) (h (journal_in d.now).below) c.in-Ok-open.ensures.before read)))
-    c.compared.ensures.plan c.compared.ensures.read
+    (λ d is hands. subst (λ (p : Plan). LeavesBefore p.shape old (h (journal_in d.now).below)) (sym is)
+    (before_under h plan old checked.journal (h (journal_in d.now).below) opened.shape table stays before hands))
+    c.compared.ensures.plan c.compared.ensures.hands
 
 pub returns-in-Ok-open-clause-headers_refused : goal.returns-in-Ok-open-clause-headers_refused
 returns-in-Ok-open-clause-headers_refused g c =
@@ -238,12 +299,17 @@ returns-in-Ok-open-clause-headers_refused g c =
     let checked : CheckedValue g.row.B.Denot = c.in-Ok-open.checked in
     let old : BlocksPast = h c.args.below in
     let mid : BlocksPast = h c.read_plan.new.below in
+    let end : BlocksPast = h checked.journal.below in
     let reads = c.in-Ok.ensures.reads in
-    let first = reads_before plan.shape old mid c.requires reads in
+    let opened = c.in-Ok-open.ensures in
+    let table : settled_table h checked ≡ recovered plan.shape old.file.content =
+    opened.settled ∙ ap (λ (f : BlockFile). recovered plan.shape f.content) reads.file in
+    let stays = stays_then plan.shape old mid end reads.file (reads_recovered plan.shape old mid c.requires reads) opened.any_moment in
+    let before = before_then plan.shape old mid end reads.file (reads_before plan.shape old mid c.requires reads) opened.before in
     IfErr-weaker c.compared.result _ _
-    (λ e read p told. subst (λ (q : Plan). LeavesBefore q.shape old (h e.file)) (same_plan _ plan p c.in-Ok.ensures.told told)
-    (before_then plan.shape old mid (h e.file) reads.file first
-    (before_read plan.shape mid (h checked.journal.below) (h e.file) c.in-Ok-open.ensures.before read)))
+    (λ e left p told. subst (λ (q : Plan). LeavesBefore q.shape old (h e.file)) (same_plan _ plan p c.in-Ok.ensures.told told)
+    (⊎_elim (λ read. before_read plan.shape old end (h e.file) before read)
+    (λ both. before_under h plan old checked.journal (h e.file) opened.shape table stays before both.1) left))
     c.compared.ensures.refused
 
 pub returns-in-Err-open-clause-headers_refused : goal.returns-in-Err-open-clause-headers_refused
@@ -290,39 +356,30 @@ returns-in-Ok-open-clause-honest g c =
     c.in-Ok-open.ensures.honest in
     if_ok c.compared.result _ _ _
     (λ d is same. subst (λ (p : Plan). IsHonest (journal_in d.now).offered p.shape old) (sym is)
-    (subst (λ (l : List Batch). IsHonest l plan.shape old) (sym same) honest))
+    (subst (λ (l : List Batch). IsHonest l plan.shape old) (sym same) (honest_handed checked.journal.offered checked.journal.last plan.shape old honest)))
     c.compared.ensures.plan c.compared.ensures.offered
-
-pub returns-in-Ok-open-clause-found : goal.returns-in-Ok-open-clause-found
-returns-in-Ok-open-clause-found g c =
-    let plan : Plan = c.in-Ok.plan in
-    let checked : CheckedValue g.row.B.Denot = c.in-Ok-open.checked in
-    let old : CrashFile = (g.B.Blocks.past_of c.args.below).file.content in
-    let known = subst (λ (f : BlockFile). AreInAreas plan.shape f.content checked.journal.offered) c.in-Ok.ensures.reads.file
-    c.in-Ok-open.ensures.found in
-    if_ok c.compared.result _ _ _
-    (λ d is same. subst (λ (p : Plan). AreInAreas p.shape old (journal_in d.now).offered) (sym is)
-    (subst (λ (l : List Batch). AreInAreas plan.shape old l) (sym same) known))
-    c.compared.ensures.plan c.compared.ensures.offered
-
--- ---- each sector can be read
 
 pub returns-in-Ok-open-clause-good : goal.returns-in-Ok-open-clause-good
 returns-in-Ok-open-clause-good g c =
     let h = g.B.Blocks.past_of in
     let plan : Plan = c.in-Ok.plan in
     let checked : CheckedValue g.row.B.Denot = c.in-Ok-open.checked in
+    let old : BlocksPast = h c.args.below in
     let mid : BlocksPast = h c.read_plan.new.below in
     let end : BlocksPast = h checked.journal.below in
-    let told : plan_told mid.file.content ≡ Some plan = ap (λ (f : BlockFile). plan_told f.content) c.in-Ok.ensures.reads.file ∙ c.in-Ok.ensures.told in
-    let stays = at_end mid end (λ image. (n : ℕ) → n < plan.shape.first → block image n ≡ block mid.file.content n) c.in-Ok-open.ensures.before
-    end.file.content (content_is_image end.file end.whole) in
-    let now : plan_told end.file.content ≡ Some plan = still_told end.file.content mid.file.content plan told stays in
+    let reads = c.in-Ok.ensures.reads in
+    let opened = c.in-Ok-open.ensures in
+    let table : settled_table h checked ≡ recovered plan.shape old.file.content =
+    opened.settled ∙ ap (λ (f : BlockFile). recovered plan.shape f.content) reads.file in
+    let stays = stays_then plan.shape old mid end reads.file (reads_recovered plan.shape old mid c.requires reads) opened.any_moment in
+    let before = before_then plan.shape old mid end reads.file (reads_before plan.shape old mid c.requires reads) opened.before in
+    let told = if_ok c.compared.result _ _ (λ d. plan_told (first_content h d) ≡ Some plan)
+    (λ d first hands. ap plan_told first ∙ told_end plan old (h (journal_in d.now).below) c.in-Ok.ensures.told
+    (before_under h plan old checked.journal (h (journal_in d.now).below) opened.shape table stays before hands))
+    c.compared.ensures.first c.compared.ensures.hands in
     if_ok5 c.compared.result _ _ _ _ _ _
-    (λ d is first sound each committed. good_opened h d plan is (ap plan_told first ∙ now) sound each committed)
-    c.compared.ensures.plan c.compared.ensures.first c.compared.ensures.sound c.compared.ensures.each c.compared.ensures.committed
-
--- ---- a file that can be opened
+    (λ d is still sound each committed. good_opened h d plan is still sound each committed)
+    c.compared.ensures.plan told c.compared.ensures.sound c.compared.ensures.each c.compared.ensures.committed
 
 pub returns-then-not-has_room-clause-only : goal.returns-then-not-has_room-clause-only
 returns-then-not-has_room-clause-only g c = λ p can.
@@ -363,10 +420,6 @@ returns-in-Err-open-clause-only g c = λ p can.
       subst (λ (f : BlockFile). found plan.shape f.content 1 ≡ None) same (c.in-Err-open.ensures.no_batch (kind.batch is)).1,
     )) (λ n is. absurd (kind.undamaged n is))
 
-pub returns-then-not-has_room-clause-again_refused : goal.returns-then-not-has_room-clause-again_refused
-returns-then-not-has_room-clause-again_refused g c = λ p can.
-    reads_reopen p (g.B.Blocks.past_of c.args.below) (g.B.Blocks.past_of c.read_plan.new.below) c.requires can c.in-Ok.ensures.reads
-
 pub returns-in-Ok-open-clause-again : goal.returns-in-Ok-open-clause-again
 returns-in-Ok-open-clause-again g c =
     let h = g.B.Blocks.past_of in
@@ -374,39 +427,44 @@ returns-in-Ok-open-clause-again g c =
     let checked : CheckedValue g.row.B.Denot = c.in-Ok-open.checked in
     let old : BlocksPast = h c.args.below in
     let mid : BlocksPast = h c.read_plan.new.below in
+    let end : BlocksPast = h checked.journal.below in
+    let reads = c.in-Ok.ensures.reads in
     let opened = c.in-Ok-open.ensures in
-    if_ok c.compared.result _ _ _
-    (λ d is read. subst (λ (p : Plan). CanBeOpened p old.file.content → LeavesOnly old (h (journal_in d.now).below) (CanBeOpened p)) (sym is)
-    (reopens_then plan old mid (h (journal_in d.now).below) c.requires c.in-Ok.ensures.reads
-    (before_read plan.shape mid (h checked.journal.below) (h (journal_in d.now).below) opened.before read)
-    (stays_read plan.shape mid (h checked.journal.below) (h (journal_in d.now).below) opened.any_moment read)
-    (areas_read plan.shape mid (h checked.journal.below) (h (journal_in d.now).below) opened.batches read)))
-    c.compared.ensures.plan c.compared.ensures.read
+    let table : settled_table h checked ≡ recovered plan.shape old.file.content =
+    opened.settled ∙ ap (λ (f : BlockFile). recovered plan.shape f.content) reads.file in
+    let stays = stays_then plan.shape old mid end reads.file (reads_recovered plan.shape old mid c.requires reads) opened.any_moment in
+    let before = before_then plan.shape old mid end reads.file (reads_before plan.shape old mid c.requires reads) opened.before in
+    let first = reopens_then plan old mid end c.requires reads opened.before opened.any_moment opened.batches in
+    if_ok3 c.compared.result _ _ _ _
+    (λ d is same hands. subst (λ (p : Plan). CanBeOpened p old.file.content → OpensUnder (journal_in d.now).offered p old (h (journal_in d.now).below)) (sym is)
+    (subst (λ (l : List Batch). CanBeOpened plan old.file.content → OpensUnder l plan old (h (journal_in d.now).below)) (sym same)
+    (λ can. opens_under h plan old checked.journal (h (journal_in d.now).below) opened.shape table stays before hands (first can) can)))
+    c.compared.ensures.plan c.compared.ensures.offered c.compared.ensures.hands
 
-pub returns-in-Ok-open-clause-again_refused : goal.returns-in-Ok-open-clause-again_refused
-returns-in-Ok-open-clause-again_refused g c =
-    let h = g.B.Blocks.past_of in
+pub returns-in-Ok-open-clause-handed : goal.returns-in-Ok-open-clause-handed
+returns-in-Ok-open-clause-handed g c =
     let plan : Plan = c.in-Ok.plan in
     let checked : CheckedValue g.row.B.Denot = c.in-Ok-open.checked in
-    let old : BlocksPast = h c.args.below in
-    let mid : BlocksPast = h c.read_plan.new.below in
+    let old : CrashFile = (g.B.Blocks.past_of c.args.below).file.content in
     let opened = c.in-Ok-open.ensures in
-    IfErr-weaker c.compared.result _ _
-    (λ e read p can. subst (λ (q : Plan). CanBeOpened q old.file.content → LeavesOnly old (h e.file) (CanBeOpened q))
-    (same_plan _ plan p c.in-Ok.ensures.told can.told)
-    (reopens_then plan old mid (h e.file) c.requires c.in-Ok.ensures.reads
-    (before_read plan.shape mid (h checked.journal.below) (h e.file) opened.before read)
-    (stays_read plan.shape mid (h checked.journal.below) (h e.file) opened.any_moment read)
-    (areas_read plan.shape mid (h checked.journal.below) (h e.file) opened.batches read)) can)
-    c.compared.ensures.refused
+    let reads = c.in-Ok.ensures.reads in
+    let known = subst (λ (f : BlockFile). AreInAreas plan.shape f.content checked.journal.offered) reads.file opened.found in
+    let honest = subst (λ (f : BlockFile). IsHonest checked.journal.offered plan.shape f.content) reads.file opened.honest in
+    if_ok c.compared.result _ _ _
+    (λ d is same. subst (λ (p : Plan). AreHandedOn p.shape old (journal_in d.now).offered) (sym is) (record {
+      batches = checked.journal.offered;
+      last = checked.journal.last;
+      in_areas = known;
+      all = honest;
+      has_last = c.stands.ensures.last opened.sound;
+      latest = c.stands.ensures.latest opened.sound;
+      behind = same;
+    }))
+    c.compared.ensures.plan c.compared.ensures.offered
 
-pub returns-in-Err-open-clause-again_refused : goal.returns-in-Err-open-clause-again_refused
-returns-in-Err-open-clause-again_refused g c = λ p can.
+pub returns-in-Ok-open-clause-alone : goal.returns-in-Ok-open-clause-alone
+returns-in-Ok-open-clause-alone g c =
     let h = g.B.Blocks.past_of in
-    let plan : Plan = c.in-Ok.plan in
-    let old : BlocksPast = h c.args.below in
-    let mid : BlocksPast = h c.read_plan.new.below in
-    let new : BlocksPast = h c.in-Err-open.refused.file in
-    let opened = c.in-Err-open.ensures in
-    subst (λ (q : Plan). CanBeOpened q old.file.content → LeavesOnly old new (CanBeOpened q)) (same_plan _ plan p c.in-Ok.ensures.told can.told)
-    (reopens_then plan old mid new c.requires c.in-Ok.ensures.reads opened.before_refused opened.refused opened.batches_refused) can
+    if_ok c.compared.result _ _ _
+    (λ d is alone. subst (λ (p : Plan). StandsAlone p (h (journal_in d.now).below).file.content (disk_past h d).disk.content) (sym is) alone)
+    c.compared.ensures.plan c.compared.ensures.alone

@@ -17,6 +17,7 @@ returns g c =
       broken = done.broken;
       settled = done.settled;
       good = done.good;
+      opens = done.opens;
       left_alone = done.left_alone;
       table = done.table;
       quiet = done.quiet;

@@ -1,16 +1,23 @@
-use Rattle.std.proofs.Common.{◌≡◌, inl, inr, ⊎_elim, ℕ, Err, sym, ◌∙◌, ap, subst, arith}
+use Rattle.std.proofs.Common.{◌≡◌, inl, inr, ⊎_elim, ℕ, Err, List, [], ◌∷◌, Contains, sym, ◌∙◌, ap, subst, arith}
 use Rattle.std.proofs.lemmas.Bool.{false≢true}
+use Rattle.std.proofs.lemmas.List.Elements.{Contains-append_left}
 use Rattle.std.proofs.lemmas.Result.{err_from_is_err_and}
 use Rattle.sector_device.specs.Disk.{CrashState, Disk, IsSynced, after_sync}
 use Rattle.sector_device.proofs.Counts.{counts_later}
 use Rattle.block_device.specs.Blocks.{CrashFile}
 use Rattle.sector_device.specs.DevicePast.{Rises}
+use Rattle.block_batch.specs.Batch.{Batch}
+use Rattle.block_journal.specs.declared.shape.Shape.{Shape}
+use Rattle.block_journal.specs.Journal.{KeepsBatch}
+use Rattle.block_journal.specs.Value.{JournalValue, next_batch}
 use Rattle.block_journal.proofs.Results.{on_err, on_ok, on_ok_always}
 use Rattle.block_file.specs.declared.parts.DiskParts.{DiskParts}
 use Rattle.block_file.specs.declared.plan.Plan.{Plan}
 use Rattle.block_file.specs.Closing.{StandsAlone}
 use Rattle.block_file.specs.Disks.{disk_past, journal_in}
+use Rattle.block_file.specs.Settling.{OpensUnder}
 use Rattle.block_file.proofs.Ending.{elapses_then}
+use Rattle.block_file.proofs.HandingOn.{opens_then}
 use Rattle.block_file.proofs.parts.DiskParts.close.Goals as goal
 
 pub sync-requires : goal.sync-requires
@@ -33,6 +40,7 @@ returns-in_err-sync g c =
       broken = done.broken;
       settled = tt;
       good = c.sync.ensures.good;
+      opens = c.sync.ensures.opens;
       left_alone = c.sync.ensures.left_alone;
       table = c.sync.ensures.table;
       quiet = tt;
@@ -67,6 +75,21 @@ returns g c =
       broken = second.broken;
       settled = on_ok _ _ r (λ is. is ∙ c.sync.ensures.table) second.settled;
       good = λ good kept. second.good (c.sync.ensures.good good first.working.1) kept;
+      opens = λ good.
+          let v : JournalValue g.row.B.Denot = journal_in old.now in
+          let m : JournalValue g.row.B.Denot = journal_in mid.now in
+          let n : JournalValue g.row.B.Denot = journal_in new.now in
+          let keeps = subst (λ (s : Shape). KeepsBatch s v.last (h v.below) (h m.below)) c.requires.sound.kept.shape
+          (c.sync.ensures.holds first.working.0) in
+          let has : Contains m.offered v.last = ⊎_elim
+          (λ same. subst (λ (l : List Batch). Contains l v.last) (sym same) (c.stands.ensures.last first.working.0))
+          (λ more. subst (λ (l : List Batch). Contains l v.last) (sym more)
+          (Contains-append_left v.offered (next_batch v ∷ []) v.last (c.stands.ensures.last first.working.0)))
+          c.sync.ensures.offers in
+          opens_then old.plan (h v.below) (h m.below) (h n.below) v.last m.offered n.offered (next_batch m) keeps has (omega (arith, first.last))
+          second.offers (c.sync.ensures.opens good)
+          (subst (λ (p : Plan). OpensUnder n.offered p (h m.below) (h n.below)) c.sync.ensures.plan
+          (second.opens (c.sync.ensures.good good first.working.1)));
       left_alone = λ was. absurd (false≢true (sym first.working.0 ∙ was));
       table = second.table ∙ c.sync.ensures.table;
       quiet = on_ok _ _ r (λ same. same ∙ first.quiet) second.quiet;

@@ -15,7 +15,7 @@ use Rattle.block_file.proofs.Heading.{first_moved}
 use Rattle.block_file.proofs.Keeping.{comes_kept, comes_moved}
 use Rattle.block_file.proofs.Moving.{moves_commit}
 use Rattle.block_file.proofs.Pushing.{disk_elapses, sound_pushed}
-use Rattle.block_file.proofs.Reopening.{good_same}
+use Rattle.block_file.proofs.Reopening.{good_same, moves_reopen}
 use Rattle.block_file.proofs.parts.DiskParts.settle.Goals as goal
 
 pub close-requires : goal.close-requires
@@ -51,6 +51,8 @@ returns g c =
       broken = all.failed;
       settled = on_ok_always _ r committed;
       good = λ good kept. good_same h d n refl c.and-self.ensures good kept moves.settled table;
+      opens = λ good. moves_reopen h d new sound moves good;
+      offers = moves.offers;
       left_alone = λ was. ap (λ (v : JournalValue g.row.B.Denot). v.below) (all.refused was);
       table = table;
       quiet = all.quiet;
