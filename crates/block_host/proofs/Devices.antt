@@ -3,14 +3,15 @@ use Rattle.std.proofs.Common.{◌≡◌, ◌≢◌, ◌⊎◌, inl, inr, ℕ, �
 use Rattle.std.proofs.lemmas.Bool.{and_parts, ltb-true}
 use Rattle.std.proofs.Math.ListN.{length-replicate}
 use Rattle.block_device.specs.Blocks.{BlockFile, CrashFile, block, zero_block}
-use Rattle.block_device.specs.BlocksPast.{LeavesOnly}
-use Rattle.block_journal.specs.Journal.{LeavesBefore, StaysRecovered}
+use Rattle.block_journal.specs.Journal.{LeavesBefore}
 use Rattle.block_journal.specs.Layout.{IsInside, kept_start, recovered}
 use Rattle.block_table.specs.Table.{EachFits}
+use Rattle.block_file.specs.Closing.{StandsAlone}
 use Rattle.block_file.specs.Damage.{CanBeOpened}
 use Rattle.block_file.specs.Disks.{disk_past, journal_in}
 use Rattle.block_file.specs.Header.{CanBeTold, plan_told}
 use Rattle.block_file.specs.Plans.{disk_image}
+use Rattle.block_file.specs.Settling.{AreHandedOn, OpensUnder, StaysUnder}
 use Rattle.block_file.specs.declared.opening.FileError.{FileError}
 use Rattle.block_file.specs.declared.opening.FileError.TheVariants.{Damaged, FileFailed, NoBatch, NoHeader, NoMemory, TooShort}
 use Rattle.block_file.specs.declared.parts.DiskParts.{DiskParts}
@@ -18,12 +19,13 @@ use Rattle.block_file.specs.declared.plan.Plan.{Plan}
 use Rattle.block_host.specs.FileBlocks.{past_of}
 use Rattle.block_host.specs.Opened.{IsOpened, first_read}
 use Rattle.block_host.specs.declared.error.DiskError.{DiskError}
+use Rattle.block_host.specs.declared.error.DiskError.TheVariants as disk
 use Rattle.block_host.specs.declared.error.DiskError.TheVariants.{File, Open}
 use Rattle.block_host.specs.declared.mirror.FileBlocks.{FileBlocks}
 
 -- a device that was opened in a file which was just read
 module _ {F A : Type 0} (b : FileBlocks F A) (d : DiskParts (FileBlocks F A) A) (none : (past_of b).moment ≡ 0)
-    (stays : StaysRecovered d.plan.shape (past_of b) (past_of (journal_in d.now).below))
+    (stays : StaysUnder (journal_in d.now).offered d.plan.shape (past_of b) (past_of (journal_in d.now).below))
     (before : LeavesBefore d.plan.shape (past_of b) (past_of (journal_in d.now).below)) where
   as_read : first_read d ≡ (past_of b).file.content
   as_read = ap (λ (f : BlockFile). f.content)
@@ -31,14 +33,20 @@ module _ {F A : Type 0} (b : FileBlocks F A) (d : DiskParts (FileBlocks F A) A) 
 
   pub opened : plan_told (past_of b).file.content ≡ Some d.plan → (disk_past past_of d).disk.content ≡ disk_image d.plan (past_of b).file.content
       → EachFits d.plan.blocks (recovered d.plan.shape (past_of b).file.content)
-      → (CanBeOpened d.plan (past_of b).file.content → LeavesOnly (past_of b) (past_of (journal_in d.now).below) (CanBeOpened d.plan)) → IsOpened d
-  opened told content fits again = record {
+      → AreHandedOn d.plan.shape (past_of b).file.content (journal_in d.now).offered
+      → (CanBeOpened d.plan (past_of b).file.content
+      → OpensUnder (journal_in d.now).offered d.plan (past_of b) (past_of (journal_in d.now).below))
+      → StandsAlone d.plan (past_of (journal_in d.now).below).file.content (disk_past past_of d).disk.content → IsOpened d
+  opened told content fits handed again alone = record {
     told = ap plan_told as_read ∙ told;
     content = content ∙ ap (disk_image d.plan) (sym as_read);
     fits = subst (λ (l : CrashFile). EachFits d.plan.blocks (recovered d.plan.shape l)) (sym as_read) fits;
-    any_moment = λ t c from to crash. stays.each t c (omega (arith, none)) to crash ∙ ap (recovered d.plan.shape) (sym as_read);
+    handed = subst (λ (l : CrashFile). AreHandedOn d.plan.shape l (journal_in d.now).offered) (sym as_read) handed;
+    any_moment = λ t c from to crash honest.
+        stays.each t c (omega (arith, none)) to crash honest ∙ ap (recovered d.plan.shape) (sym as_read);
     opens = λ can t c from to crash. (again (subst (CanBeOpened d.plan) as_read can)).each t c (omega (arith, none)) to crash;
     headers = λ t c from to crash n below. before.each t c (omega (arith, none)) to crash n below ∙ ap (λ (l : CrashFile). block l n) (sym as_read);
+    alone = alone;
   }
 
 -- a file of zeros that has as many blocks as a plan asks for
@@ -58,6 +66,7 @@ has_room p image blocks told count zeros =
 abbrev error_in : FileError → DiskError → FileError
 error_in other (File e) = e
 error_in other (Open e) = other
+error_in other (disk.Damaged n) = other
 
 not_made : (e : FileError) → e ≢ NoHeader → e ≢ TooShort → e ≢ NoBatch → ((n : ℕ) → e ≢ Damaged n) → (e ≡ NoMemory) ⊎ (e ≡ FileFailed)
 not_made NoMemory header short batch damaged = inl refl

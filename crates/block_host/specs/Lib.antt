@@ -1,2 +1,3 @@
 pub mod FileBlocks
+pub mod Kinds
 pub mod Opened

@@ -14,6 +14,9 @@ pub enum DiskError {
     /// There is no device in it, or none that is whole.
     #[error(transparent)]
     File(FileError),
+    /// This sector of the device, the first of such, is in a block that doesn't fit its digest.
+    #[error("sector {0} is damaged")]
+    Damaged(u64),
 }
 
 impl From<OpenError> for DiskError {

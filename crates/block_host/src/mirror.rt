@@ -30,10 +30,11 @@ pub struct FileBlocks<F, A: Allocator> {
     has_failed: bool,
 }
 
-// Reads all that is below.
+// Reads all that is below, once that is synced.
 fn load<F: Stored, A: Allocator>(below: &mut F, held: &mut Held<A>) -> io::Result<()>
     ensures { length (file_of held.new).content ≡ length (file_of held.old).content }
 {
+    below.sync()?;
     let blocks = held.content.len();
     let mut buffer = [[0; BLOCK_SIZE]; RUN];
     for k in 0..blocks {
@@ -97,6 +98,22 @@ impl<F: Drop, A: Allocator> FileBlocks<F, A> {
         self.below
     }
 
+    /// The same file over this in place of what is below.
+    pub fn with_below<G: Drop>(self, below: G) -> FileBlocks<G, A>
+        ensures past { past_of result ≡ past_of self }
+        ensures failures { failures_of result ≡ failures_of self }
+        ensures failed { has_failed_of result ≡ has_failed_of self }
+        ensures below { below_of result ≡ below }
+    {
+        FileBlocks {
+            below,
+            held: self.held,
+            past: self.past,
+            failures: self.failures,
+            has_failed: self.has_failed,
+        }
+    }
+
     // Counts a failure, behind which nothing is written any more.
     fn refuse(&mut self)
         ensures held { self.new.held ≡ self.old.held }
@@ -114,7 +131,8 @@ impl<F: Drop, A: Allocator> FileBlocks<F, A> {
 impl<F: Stored + Drop, A: Allocator> FileBlocks<F, A> {
     ghost use Rattle.block_host.specs.FileBlocks.{past_of, failures_of, has_failed_of, below_of};
 
-    /// A file of blocks over what is below, which holds so many blocks, as that does, all of them to be safe. (That it
+    /// A file of blocks over what is below, which holds so many blocks, as that does, all of them to be safe. That is
+    /// synced before it is read, as a process that was killed may have written to it. Nothing is written. (That it
     /// holds what is below, no clause says.)
     pub fn over(alloc: A, below: F, blocks: usize) -> Result<Self, OpenError>
         ensures blocks { IfOk result (λ b. length (past_of b).file.content ≡ blocks) }

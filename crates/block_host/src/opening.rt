@@ -15,18 +15,17 @@ ghost use Rattle.store_file.specs.declared.draft.TheConstants.{SECTORS_MAX};
 use crate::error::DiskError;
 use crate::mirror::FileBlocks;
 use crate::passing::SECTORS;
-use block_file::{BlockDisk, Plan};
-use sector_device::Device;
+use block_file::{BlockDisk, FileError, Plan, Refused, read_plan};
 use std::alloc::Allocator;
 use std::rt::Files;
-use store_file::{HostFile, OpenError, StoreFile};
+use store_file::{HostFile, OpenError, StoreFile, Stored, Troubled};
 
 /// A device in a file of the system.
 pub type HostDisk<H, A> = BlockDisk<FileBlocks<HostFile<H>, A>, A>;
 
-/// Opens the file at the path as one of blocks, which are to be safe: what was read is written back, and synced. The
-/// refusals are those of [`store_file::open`], and so is the lock. Sectors behind the last whole block are written back
-/// too, and belong to no block. (No clause says what is read or written.)
+/// Opens the file at the path as one of blocks, which are to be safe: it is synced, and read. The refusals are those of
+/// [`store_file::take`], and so is the lock. Sectors behind the last whole block belong to none. (No clause says what
+/// is read.)
 pub fn open<R: Files, A: Allocator + Copy>(
     rt: &R,
     alloc: A,
@@ -40,9 +39,9 @@ where
     ensures failures { IfOk result (λ b. failures_of b ≡ 0) }
     ensures sound { IfOk result (λ b. has_failed_of b ≡ false) }
 {
-    let disk = store_file::open(rt, alloc, path)?;
-    let blocks = disk.sectors() / SECTORS;
-    FileBlocks::over(alloc, disk.into_below(), blocks as usize)
+    let taken = store_file::take(rt, &alloc, path)?;
+    let blocks = taken.sectors / SECTORS;
+    FileBlocks::over(alloc, taken.below, blocks as usize)
 }
 
 /// Makes a file of so many blocks of zeros, all of them safe, under the name `PATH.new`: [`store_file::publish`] gives
@@ -66,8 +65,47 @@ where
     Ok(FileBlocks::new(alloc, disk.into_below(), blocks as usize)?)
 }
 
+/// Why there is no device in a file. A block that doesn't fit its digest is told by its first sector, and a failure of
+/// the file by what was its trouble.
+pub(crate) fn refusal_of<F: Stored + Drop, A: Allocator>(
+    refused: Refused<FileBlocks<F, A>>,
+) -> DiskError {
+    let mut file = refused.file;
+    match refused.error {
+        FileError::Damaged(n) => match read_plan(&mut file) {
+            Ok(plan) if n < 1 << 61 => DiskError::Damaged(plan.first_sector(n)),
+            _ => DiskError::File(FileError::Damaged(n)),
+        },
+        FileError::FileFailed => match file.trouble() {
+            Some(trouble) => DiskError::Open(OpenError::Io(trouble)),
+            None => DiskError::File(FileError::FileFailed),
+        },
+        error => DiskError::File(error),
+    }
+}
+
+/// The device in a file of blocks that was just read: the one that the file told then.
+pub(crate) fn disk_in<F: Stored + Drop, A: Allocator + Copy>(
+    alloc: A,
+    below: FileBlocks<F, A>,
+) -> Result<BlockDisk<FileBlocks<F, A>, A>, DiskError>
+    requires synced { IsFileSynced below }
+    requires moment { (past_of below).moment ≡ 0 }
+    requires failures { failures_of below ≡ 0 }
+    ensures opened { IfOk result (λ d. IsOpened d) }
+    ensures still { IfOk result (λ d. plan_told (first_content past_of d) ≡ Some (disk_plan d)) }
+    ensures synced { IfOk result (λ d. IsSynced (disk_past past_of d).disk) }
+    ensures good { IfOk result (λ d. IsGood past_of d) }
+    ensures failures { IfOk result (λ d. disk_failures failures_of d ≡ 0) }
+{
+    match block_file::open(alloc, below) {
+        Ok(disk) => Ok(disk),
+        Err(refused) => Err(refusal_of(refused)),
+    }
+}
+
 /// Opens the device in the file at the path, as [`block_file::open`] does. It is the one that the file told as it was
-/// read (`opened`). The refusals are those of [`open`] and of that.
+/// read, and needs no area of its journal (`opened`). The refusals are those of [`open`] and of that.
 pub fn open_disk<R: Files, A: Allocator + Copy>(
     rt: &R,
     alloc: A,
@@ -81,11 +119,7 @@ where
     ensures good { IfOk result (λ d. IsGood past_of d) }
     ensures failures { IfOk result (λ d. disk_failures failures_of d ≡ 0) }
 {
-    let below = open(rt, alloc, path)?;
-    match block_file::open(alloc, below) {
-        Ok(disk) => Ok(disk),
-        Err(refused) => Err(DiskError::File(refused.error)),
-    }
+    disk_in(alloc, open(rt, alloc, path)?)
 }
 
 /// Makes a file, as [`create`] does, and in it a device of zeros. Where it is refused, no file is left, if that can be

@@ -1,0 +1,16 @@
+use Rattle.std.proofs.Common.{◌∙◌, ap}
+use Rattle.sector_device.specs.Disk.{Disk}
+use Rattle.block_device.specs.BlocksPast.{BlocksPast}
+use Rattle.block_host.specs.Kinds.{are_blocks}
+use Rattle.block_host.proofs.kinds.read_device.Goals as goal
+
+pub returns-then-not-branch-clause-synced : goal.returns-then-not-branch-clause-synced
+returns-then-not-branch-clause-synced g c =
+    λ k. ap (λ (d : Disk). d.unsynced k) c.with_below-read.ensures.disk ∙ c.in_ok-disk.ensures.synced k
+
+pub returns-then-not-branch-clause-told : goal.returns-then-not-branch-clause-told
+returns-then-not-branch-clause-told g c =
+    ap (λ (d : Disk). are_blocks d.content) c.with_below-read.ensures.disk ∙ c.in_ok-disk.ensures.told
+
+pub uncompared_in-requires-clause-synced : goal.uncompared_in-requires-clause-synced
+uncompared_in-requires-clause-synced g c = λ n. ap (λ (p : BlocksPast). p.file.loose n) c.with_below-below.ensures.past ∙ c.in_ok-file.ensures.synced n

@@ -1,0 +1,8 @@
+use Rattle.block_host.proofs.Devices.{opened}
+use Rattle.block_host.proofs.opening.disk_in.Goals as goal
+
+pub returns-in-Ok-clause-opened : goal.returns-in-Ok-clause-opened
+returns-in-Ok-clause-opened g c =
+    let done = c.in-Ok.ensures in
+    opened c.args.below c.in-Ok.disk c.requires.moment done.any_moment done.headers done.told done.content done.fits done.handed
+    done.again done.alone
