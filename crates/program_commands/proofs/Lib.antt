@@ -1,3 +1,4 @@
 mod Entries
 mod Made
 mod PairLines
+mod Refusing

@@ -4,6 +4,7 @@ pub mod Answers
 pub mod Dump
 pub mod Guarded
 pub mod Outcomes
+pub mod Refusing
 pub mod Requested
 pub mod Pages
 pub mod Keyed

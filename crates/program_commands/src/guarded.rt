@@ -46,6 +46,13 @@ impl<D: Device> GuardedStore<D> {
         &self.store
     }
 
+    /// The store, which is not guarded any more.
+    pub fn into_store(self) -> Store<D>
+        ensures { result ≡ store_of self }
+    {
+        self.store
+    }
+
     // Notes whether the reply tells that the device has failed.
     fn note(&mut self, reply: &Reply<Global>)
         ensures same { store_of self.new ≡ store_of self.old }
