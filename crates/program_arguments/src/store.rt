@@ -32,11 +32,12 @@ pub struct Serving {
 /// What is to be done with the file.
 #[derive(Clone, Copy)]
 pub enum Verb {
-    /// A store of this geometry is made in it.
+    /// A store of this geometry is made in it, a file of blocks where that is wanted.
     New {
         pages: u32,
         entries: u32,
         slots: u32,
+        has_blocks: bool,
     },
     /// The commands of the input are served.
     Run(Serving),
@@ -54,11 +55,21 @@ pub enum Verb {
 #[derive(Drop)]
 pub enum Asked {
     /// Something is done with the file of this path.
-    Of { path: String, verb: Verb },
+    Of {
+        path: String,
+        verb: Verb,
+    },
     /// A range of the index in the file of this path is shown.
-    Scan { path: String, asked: ScanArguments },
-    /// The store of version 1 in a file is moved to a new file.
-    Migrate { old: String, new: String },
+    Scan {
+        path: String,
+        asked: ScanArguments,
+    },
+    /// The store in a file is moved to a new file, a file of blocks where that is wanted.
+    Migrate {
+        old: String,
+        new: String,
+        has_blocks: bool,
+    },
 }
 
 const ABOUT: &str =
@@ -83,7 +94,7 @@ const STAT_ABOUT: &str = "Prints what the store is and how far it has come";
 const BUILD_ABOUT: &str = "Builds the index to its end";
 
 const MIGRATE_ABOUT: &str =
-    "Moves a store of version 1 to a new file, and prints what `stat` does of it. The old file is only read";
+    "Moves a store of version 1, or of either kind of file to the other, to a new file, and prints what `stat` does of it. The old file is only read";
 
 const PAGES_HELP: &str = "Pages of the table, 1 to 256 [default: 16]";
 
@@ -91,6 +102,9 @@ const ENTRIES_HELP: &str =
     "Places for entries of the index, 64 to 65536 [default: four for each row that the pages hold]";
 
 const SLOTS_HELP: &str = "Slots of each log, 4 to 256 [default: 16]";
+
+const BLOCKS_HELP: &str =
+    "Makes a file of blocks of 4096 bytes, each with a digest, which a journal keeps whole: torn blocks are mended, and damage is told";
 
 const DURABLE_HELP: &str =
     "Flushes each commit before its ticket is answered, and its horizon behind that: no kill loses a commit that was answered";
@@ -167,7 +181,8 @@ fn new_verb<'a>(alloc: Global) -> Result<Command<'a>, AllocError> {
     let entries = number_arg(alloc, "entries", ENTRIES_MIN, ENTRIES_MAX, ENTRIES_HELP);
     let verb = with_arg(verb, entries);
     let slots = number_arg(alloc, "slots", LOG_SLOTS_MIN, LOG_SLOTS_MAX, SLOTS_HELP);
-    with_arg(verb, slots)
+    let verb = with_arg(verb, slots);
+    with_arg(verb, flag_arg(alloc, "blocks", BLOCKS_HELP))
 }
 
 fn run_verb<'a>(alloc: Global) -> Result<Command<'a>, AllocError> {
@@ -188,9 +203,10 @@ fn build_verb<'a>(alloc: Global) -> Result<Command<'a>, AllocError> {
 
 fn migrate_verb<'a>(alloc: Global) -> Result<Command<'a>, AllocError> {
     let verb = Ok(bare_verb(alloc, "migrate", MIGRATE_ABOUT));
-    let old = path_arg(alloc, "OLD", "The file of the store of version 1");
+    let old = path_arg(alloc, "OLD", "The store's file");
     let verb = with_arg(verb, old);
-    with_arg(verb, path_arg(alloc, "NEW", "The file that is made"))
+    let verb = with_arg(verb, path_arg(alloc, "NEW", "The file that is made"));
+    with_arg(verb, flag_arg(alloc, "blocks", BLOCKS_HELP))
 }
 
 fn command<'a>(alloc: Global) -> Result<Command<'a>, AllocError> {
@@ -222,6 +238,7 @@ fn new_of(matches: &ArgMatches<'_>) -> Verb {
         pages,
         entries: number_in(matches, "entries", entries_for(pages)),
         slots: number_in(matches, "slots", 16),
+        has_blocks: matches.get_flag("blocks"),
     }
 }
 
@@ -262,6 +279,7 @@ fn asked_by(alloc: Global, name: &str, matches: &ArgMatches<'_>) -> Result<Asked
         return Ok(Asked::Migrate {
             old: path_in(alloc, matches, "OLD")?,
             new: path_in(alloc, matches, "NEW")?,
+            has_blocks: matches.get_flag("blocks"),
         });
     }
     if name == "scan" {

@@ -1,13 +1,15 @@
 //! The verbs of the program.
 use crate::building::build_index;
+use crate::damage::{refuse_damaged, write_damaged};
+use crate::making::{end, make};
 use crate::migration::{NotMoved, migrate_file};
 use crate::name::OpenName;
 use crate::refused::Refused;
 use crate::scan::{Shown, show_range, shown_by};
 use crate::serve::Service;
-use crate::show::{Stored, write_stat};
+use crate::show::{Stored, read_disk, write_stat};
 use crate::tally::Ended;
-use flip_image::Halves;
+use block_host::{InFile, open_device, read_device};
 use program_arguments::{Asked, Build, ScanArguments, Serving, Verb, read_asked};
 use program_commands::Store;
 use records::Geometry;
@@ -19,7 +21,6 @@ use std::io;
 use std::io::{BufRead, Write};
 use std::rt::Files;
 use store_file::Troubled;
-use store_reader::read_store;
 
 // A store on the disk, opened.
 fn open<D: Device + Troubled + Drop>(alloc: Global, disk: D) -> Result<Store<D>, Refused> {
@@ -33,18 +34,6 @@ fn open<D: Device + Troubled + Drop>(alloc: Global, disk: D) -> Result<Store<D>,
     }
 }
 
-// What the disk itself says.
-fn read_disk<D: Device>(alloc: Global, disk: &mut D) -> Result<Stored, Refused> {
-    let found = read_store(alloc, disk)?;
-    let open_slots = found.log.open_slots();
-    let restored = found.restored;
-    Ok(Stored {
-        geometry: restored.geometry,
-        open_slots,
-        last: restored.last,
-    })
-}
-
 // What the disk itself says, and its store.
 fn read_and_open<D: Device + Troubled + Drop>(
     alloc: Global,
@@ -54,40 +43,20 @@ fn read_and_open<D: Device + Troubled + Drop>(
     Ok((stored, open(alloc, disk)?))
 }
 
-// Makes the disk a store, and gives its file its name.
-fn finish<R: Files<File = File> + AllocGlobal, D: Device + Troubled + Drop>(
-    rt: &R,
-    path: &str,
-    geometry: Geometry,
+// The same of a disk of which no sector is damaged.
+fn read_whole<D: Device + Troubled + InFile + Drop>(
+    alloc: Global,
     mut disk: D,
-) -> Result<(), Refused> {
-    if let Err(error) = Halves::format(&mut disk, geometry) {
-        return Err(Refused::Store(error).because(&disk));
-    }
-    store_file::publish(rt, path)?;
-    Ok(())
-}
-
-// Makes a store of this geometry in a new file. Where that is refused before the file has its name, no file is left, if
-// the draft can be removed.
-fn make<R: Files<File = File> + AllocGlobal>(
-    rt: &R,
-    path: &str,
-    geometry: Geometry,
-) -> Result<(), Refused> {
-    let disk = store_file::create(rt, rt.alloc(), path, geometry.sectors())?;
-    let made = finish(rt, path, geometry, disk);
-    if made.is_err() {
-        let _ = store_file::discard(rt, path);
-    }
-    made
+) -> Result<(Stored, Store<D>), Refused> {
+    refuse_damaged(&mut disk)?;
+    read_and_open(alloc, disk)
 }
 
 // What follows does one verb on a disk, and then on that of a file: what a file is, is behind none of the store's own
 // calls.
 
 // Builds the index of the store to its end.
-fn build<D: Device + Troubled + Drop, W: Write, E: Write>(
+fn build<D: Device + Troubled + InFile + Drop, W: Write, E: Write>(
     store: &mut Store<D>,
     build: Build,
     output: &mut W,
@@ -102,7 +71,7 @@ fn build<D: Device + Troubled + Drop, W: Write, E: Write>(
 }
 
 // Builds the index on the disk to its end.
-fn build_disk<D: Device + Troubled + Drop, W: Write, E: Write>(
+fn build_disk<D: Device + Troubled + InFile + Drop, W: Write, E: Write>(
     alloc: Global,
     disk: D,
     asked: Build,
@@ -111,8 +80,11 @@ fn build_disk<D: Device + Troubled + Drop, W: Write, E: Write>(
 ) -> Result<(), Refused> {
     let mut store = open(alloc, disk)?;
     let built = build(&mut store, asked, output, errors);
-    drop(store);
-    built
+    let mut disk = store.into_device();
+    let ended = end(&mut disk);
+    drop(disk);
+    built?;
+    ended
 }
 
 fn build_file<R: Files<File = File>, W: Write, E: Write>(
@@ -123,7 +95,7 @@ fn build_file<R: Files<File = File>, W: Write, E: Write>(
     output: &mut W,
     errors: &mut E,
 ) -> Result<(), Refused> {
-    let disk = store_file::open(rt, alloc, path)?;
+    let disk = open_device(rt, alloc, path)?;
     build_disk(alloc, disk, build, output, errors)
 }
 
@@ -137,11 +109,12 @@ fn check<D: Device + Drop, W: Write>(store: &Store<D>, output: &mut W) -> Result
 }
 
 // Says whether the disk holds a store, whose index fits its rows.
-fn check_disk<D: Device + Troubled + Drop, W: Write>(
+fn check_disk<D: Device + Troubled + InFile + Drop, W: Write>(
     alloc: Global,
-    disk: D,
+    mut disk: D,
     output: &mut W,
 ) -> Result<(), Refused> {
+    write_damaged(&mut disk, output)?;
     let (_, store) = read_and_open(alloc, disk)?;
     let checked = check(&store, output);
     drop(store);
@@ -154,16 +127,16 @@ fn check_file<R: Files<File = File>, W: Write>(
     path: &str,
     output: &mut W,
 ) -> Result<(), Refused> {
-    check_disk(alloc, store_file::read(rt, alloc, path)?, output)
+    check_disk(alloc, read_device(rt, alloc, path)?, output)
 }
 
 // Prints what the store on the disk holds.
-fn dump_disk<D: Device + Troubled + Drop, W: Write>(
+fn dump_disk<D: Device + Troubled + InFile + Drop, W: Write>(
     alloc: Global,
     disk: D,
     output: &mut W,
 ) -> Result<(), Refused> {
-    let (_, store) = read_and_open(alloc, disk)?;
+    let (_, store) = read_whole(alloc, disk)?;
     let dumped = store.dump(output);
     drop(store);
     Ok(dumped?)
@@ -175,16 +148,16 @@ fn dump_file<R: Files<File = File>, W: Write>(
     path: &str,
     output: &mut W,
 ) -> Result<(), Refused> {
-    dump_disk(alloc, store_file::read(rt, alloc, path)?, output)
+    dump_disk(alloc, read_device(rt, alloc, path)?, output)
 }
 
 // Prints what the store on the disk is, and how far it has come.
-fn stat_disk<D: Device + Troubled + Drop, W: Write>(
+fn stat_disk<D: Device + Troubled + InFile + Drop, W: Write>(
     alloc: Global,
     disk: D,
     output: &mut W,
 ) -> Result<(), Refused> {
-    let (stored, store) = read_and_open(alloc, disk)?;
+    let (stored, store) = read_whole(alloc, disk)?;
     let written = write_stat(&stored, store.core(), output);
     drop(store);
     Ok(written?)
@@ -196,17 +169,17 @@ fn stat_file<R: Files<File = File>, W: Write>(
     path: &str,
     output: &mut W,
 ) -> Result<(), Refused> {
-    stat_disk(alloc, store_file::read(rt, alloc, path)?, output)
+    stat_disk(alloc, read_device(rt, alloc, path)?, output)
 }
 
 // Shows a range of the index of the store on the disk.
-fn scan_disk<D: Device + Troubled + Drop, W: Write>(
+fn scan_disk<D: Device + Troubled + InFile + Drop, W: Write>(
     alloc: Global,
     disk: D,
     shown: &Shown,
     output: &mut W,
 ) -> Result<(), Refused> {
-    let (_, store) = read_and_open(alloc, disk)?;
+    let (_, store) = read_whole(alloc, disk)?;
     let done = show_range(alloc, &store, shown, output);
     drop(store);
     done
@@ -219,12 +192,12 @@ fn scan_file<R: Files<File = File>, W: Write>(
     shown: &Shown,
     output: &mut W,
 ) -> Result<(), Refused> {
-    scan_disk(alloc, store_file::read(rt, alloc, path)?, shown, output)
+    scan_disk(alloc, read_device(rt, alloc, path)?, shown, output)
 }
 
 // Serves the input over the store on the disk, and tells how it ended. Behind the last line what is not flushed yet is
-// flushed.
-fn run_disk<R: Files, D: Device + Troubled + Drop, I: BufRead, W: Write, E: Write>(
+// flushed, and the use of the disk ended.
+fn run_disk<R: Files, D: Device + Troubled + InFile + Drop, I: BufRead, W: Write, E: Write>(
     alloc: Global,
     disk: D,
     name: &OpenName<'_, R>,
@@ -238,9 +211,12 @@ fn run_disk<R: Files, D: Device + Troubled + Drop, I: BufRead, W: Write, E: Writ
     let flushed = service.flush();
     service.tell(name, errors);
     let ended = service.sum_up(errors);
-    drop(service);
+    let mut disk = service.into_device();
+    let closed = end(&mut disk);
+    drop(disk);
     flushed?;
     served?;
+    closed?;
     Ok(ended)
 }
 
@@ -253,7 +229,7 @@ fn run_file<R: Files<File = File>, I: BufRead, W: Write, E: Write>(
     output: &mut W,
     errors: &mut E,
 ) -> Result<Ended, Refused> {
-    let disk = store_file::open(rt, alloc, path)?;
+    let disk = open_device(rt, alloc, path)?;
     let name = OpenName::new(rt, path);
     run_disk(alloc, disk, &name, serving, input, output, errors)
 }
@@ -273,7 +249,8 @@ fn act<R: Files<File = File> + AllocGlobal, I: BufRead, W: Write, E: Write>(
             pages,
             entries,
             slots,
-        } => make(rt, path, Geometry::new(pages, entries, slots)?)?,
+            has_blocks,
+        } => make(rt, path, Geometry::new(pages, entries, slots)?, has_blocks)?,
         Verb::Run(serving) => {
             return run_file(rt, alloc, path, serving, input, output, errors);
         }
@@ -290,9 +267,10 @@ fn move_and_stat<R: Files<File = File> + AllocGlobal, W: Write>(
     rt: &R,
     old: &str,
     new: &str,
+    has_blocks: bool,
     output: &mut W,
 ) -> Result<(), NotMoved> {
-    migrate_file(rt, old, new)?;
+    migrate_file(rt, old, new, has_blocks)?;
     match stat_file(rt, rt.alloc(), new, output) {
         Ok(()) => Ok(()),
         Err(refused) => Err(NotMoved::New(refused)),
@@ -341,8 +319,12 @@ fn answer<R: Files<File = File> + AllocGlobal, I: BufRead, W: Write, E: Write>(
             Err(refused) => tell(path.as_str(), &refused, errors),
         },
         Asked::Scan { path, asked } => scan(rt, path.as_str(), asked, output, errors),
-        Asked::Migrate { old, new } => {
-            match move_and_stat(rt, old.as_str(), new.as_str(), output) {
+        Asked::Migrate {
+            old,
+            new,
+            has_blocks,
+        } => {
+            match move_and_stat(rt, old.as_str(), new.as_str(), *has_blocks, output) {
                 Ok(()) => 0,
                 Err(NotMoved::Old(refused)) => tell(old.as_str(), &refused, errors),
                 Err(NotMoved::New(refused)) => tell(new.as_str(), &refused, errors),

@@ -1,4 +1,11 @@
 //! Why a verb was refused.
+ghost use Rattle.std.specs.Prelude.{◌≡◌, ◌≢◌};
+ghost use Rattle.record_values.specs.declared.error.Error.TheVariants.{NoMemory};
+ghost use Rattle.program_shell.specs.Refusals.{refusal_of};
+ghost use Rattle.program_shell.specs.declared.refused.Refused.TheVariants.{File, Store, Stream};
+
+use block_file::FileError;
+use block_host::DiskError;
 use records::Error;
 use restart::Reply;
 use std::alloc::{AllocError, Global};
@@ -13,6 +20,8 @@ pub enum Refused {
     File(OpenError),
     /// What the file holds can't be opened as a store, or the store refused.
     Store(Error),
+    /// The file is one of blocks that has no device which is whole.
+    Blocks(FileError),
     /// The device failed, and this is why.
     Device(Trouble),
     /// There is no index.
@@ -35,7 +44,9 @@ pub enum Refused {
 
 impl Refused {
     /// The same; where the device failed, with the reason that it tells.
-    pub fn because<D: Troubled>(self, device: &D) -> Refused {
+    pub fn because<D: Troubled>(self, device: &D) -> Refused
+        ensures { self ≢ Refused.Store Error.DeviceFailed → result ≡ self }
+    {
         match (&self, device.trouble()) {
             (Refused::Store(Error::DeviceFailed), Some(trouble)) => Refused::Device(trouble),
             _ => self,
@@ -44,24 +55,47 @@ impl Refused {
 }
 
 impl From<OpenError> for Refused {
+    ghost from_gives = { λ error result. result ≡ File error };
+
     fn from(error: OpenError) -> Refused {
         Refused::File(error)
     }
 }
 
+impl From<DiskError> for Refused {
+    ghost from_gives = { λ error result. result ≡ refusal_of error };
+
+    fn from(error: DiskError) -> Refused {
+        match error {
+            DiskError::Open(error) => Refused::File(error),
+            DiskError::Damaged(sector) => Refused::Store(Error::Damaged { sector }),
+            DiskError::File(FileError::NoMemory) => Refused::Store(Error::NoMemory),
+            DiskError::File(FileError::FileFailed) => Refused::Store(Error::DeviceFailed),
+            DiskError::File(FileError::TooShort) => Refused::Store(Error::DeviceTooSmall),
+            DiskError::File(error) => Refused::Blocks(error),
+        }
+    }
+}
+
 impl From<Error> for Refused {
+    ghost from_gives = { λ error result. result ≡ Store error };
+
     fn from(error: Error) -> Refused {
         Refused::Store(error)
     }
 }
 
 impl From<io::Error> for Refused {
+    ghost from_gives = { λ error result. result ≡ Stream error };
+
     fn from(error: io::Error) -> Refused {
         Refused::Stream(error)
     }
 }
 
 impl From<AllocError> for Refused {
+    ghost from_gives = { λ _ result. result ≡ Store NoMemory };
+
     fn from(_error: AllocError) -> Refused {
         Refused::Store(Error::NoMemory)
     }
@@ -97,11 +131,21 @@ fn write_error<W: fmt::Write>(error: Error, f: &mut fmt::Formatter<W>) -> fmt::R
     }
 }
 
+// What is said of a file of blocks.
+fn write_file_error<W: fmt::Write>(error: FileError, f: &mut fmt::Formatter<W>) -> fmt::Result {
+    match error {
+        FileError::NoHeader => f.write_str("both of its headers are damaged"),
+        FileError::NoBatch => f.write_str("both areas of its journal are damaged"),
+        error => write!(f, "{error}"),
+    }
+}
+
 impl fmt::Display for Refused {
     fn fmt<W: fmt::Write>(&self, f: &mut fmt::Formatter<W>) -> fmt::Result {
         match self {
             Refused::File(error) => write!(f, "{error}"),
             Refused::Store(error) => write_error(*error, f),
+            Refused::Blocks(error) => write_file_error(*error, f),
             Refused::Device(trouble) => write!(f, "{trouble}"),
             Refused::Unsound => f.write_str("it opens, but its index isn't that of its rows"),
             Refused::Newer => f.write_str("it holds a store of version 2, which needs no move"),

@@ -335,6 +335,11 @@ impl<D: Device + Troubled> Service<D> {
         self.tally.ended(self.serving.stops_on_refusal)
     }
 
+    /// The device of the store.
+    pub(crate) fn into_device(self) -> D {
+        self.guarded.into_store().into_device()
+    }
+
     /// Flushes what is not flushed yet.
     pub(crate) fn flush(&mut self) -> Result<(), Refused> {
         match granted(self.guarded.flush()) {

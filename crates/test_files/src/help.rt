@@ -15,7 +15,7 @@ Commands:
   scan     Prints the index's pairs from a key to a key in order, and then `end` or `more`. The file is only read
   stat     Prints what the store is and how far it has come
   build    Builds the index to its end
-  migrate  Moves a store of version 1 to a new file, and prints what `stat` does of it. The old file is only read
+  migrate  Moves a store of version 1, or of either kind of file to the other, to a new file, and prints what `stat` does of it. The old file is only read
   help     Print this message or the help of the given subcommand(s)
 
 Options:

@@ -2,7 +2,7 @@
 //!
 //! Of files: names, locks and refusals; what is written, synced and named, and in which order; and calls that fail. Of
 //! disks over them: what a backing that fails, drops or tears leaves. Then the verbs of `nsf-store`, one behind the
-//! other on a real file, also of version 1.
+//! other on a real file, also of version 1, and on a file of blocks, whole and harmed.
 //!
 //! Proved of them is safety. Outside the gate, `tools/kill_store.py` kills the program at random moments.
 #![tactic(auto)]
@@ -11,6 +11,8 @@
 mod answers;
 #[cfg(test)]
 mod backing;
+#[cfg(test)]
+mod block_tests;
 #[cfg(test)]
 mod claims;
 #[cfg(test)]

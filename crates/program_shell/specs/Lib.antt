@@ -1,0 +1,2 @@
+pub mod Copied
+pub mod Refusals
