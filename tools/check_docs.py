@@ -7,7 +7,7 @@ names stands what the row is about, and a block of code behind such a place begi
 somewhere. A row with functions and a file names functions of that file. A line of src or specs has at most 120 columns, one of
 proofs 160, strings aside. Of another crate's proofs only the lemma files are cited that the head of its lib.rt names, and each of
 these is. The crate that a launcher `nsf-..` names, and the text of help in its tests, are there. It prints how many words each page
-has, and ends with status 1 where something is missing or too wide.
+has, each with a letter or a digit, and ends with status 1 where something is missing or too wide.
 
 With --run it also runs each block of `sh` behind which a block of `text` follows, where `rt` is there: in a copy of the checkout, in
 which no store is yet, a page's blocks one after another. Each ends with status 0, and prints that text. Programs which are built for
@@ -160,7 +160,7 @@ def main():
     pages = [TOP / "README.md", TOP / "CHANGELOG.md", *sorted((TOP / "docs").glob("*.md"))]
     wrong, total = 0, 0
     for page in pages:
-        count = len(page.read_text().split())
+        count = sum(1 for word in page.read_text().split() if re.search(r"\w", word))
         total += count
         print(f"{count:6} {page.relative_to(TOP)}")
         for fault in (*faults(page, words, ends), *(shown_runs(page) if runs else ())):

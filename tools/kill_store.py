@@ -1,12 +1,13 @@
 #!/usr/bin/env python3
 """Kills `nsf-store run` at random moments, and asks the next process for every commit that was acknowledged.
 
-Usage: tools/kill_store.py PROGRAM FOLDER [KILLS [SEED]]
+Usage: tools/kill_store.py [--blocks] PROGRAM FOLDER [KILLS [SEED]]
 
 PROGRAM is the built program (crates/nsf_store/out/nsf_store, which `rt run -- --help` in crates/nsf_store makes), FOLDER an empty
 folder for the stores. Each process begins transactions, puts and deletes rows, commits, builds, cleans, takes images and flushes,
 until it is killed with SIGKILL; some are killed while they open the store, and some flush behind each commit (`--durable`). What the
-next one finds must be a prefix of the commits with all that a flush acknowledged, and each live entry must name its row.
+next one finds must be a prefix of the commits with all that a flush acknowledged, and each live entry must name its row. With --blocks the
+stores are in files of blocks.
 
 A killed process leaves what the kernel holds of its file: this tries the program, not a loss of power.
 """
@@ -163,16 +164,18 @@ def look(program, file, run):
 
 
 def main():
-    program, folder = os.path.abspath(sys.argv[1]), os.path.abspath(sys.argv[2])
-    kills = int(sys.argv[3]) if len(sys.argv) > 3 else 100
-    random.seed(int(sys.argv[4]) if len(sys.argv) > 4 else 1)
+    words = [word for word in sys.argv[1:] if word != "--blocks"]
+    blocks = [word for word in sys.argv[1:] if word == "--blocks"]
+    program, folder = os.path.abspath(words[0]), os.path.abspath(words[1])
+    kills = int(words[2]) if len(words) > 2 else 100
+    random.seed(int(words[3]) if len(words) > 3 else 1)
     counts = {"kills": 0, "early": 0, "commits": 0, "acknowledged": 0, "building": 0, "complete": 0, "rows": 0}
     file, run = None, None
     for kill in range(kills):
         if kill % 15 == 0:
             look(program, file, run)
             file, run = f"{folder}/store{kill}", None
-            subprocess.run([program, "new", file, "--pages", "16", "--entries", "1024", "--slots", "8"], check=True)
+            subprocess.run([program, "new", file, "--pages", "16", "--entries", "1024", "--slots", "8", *blocks], check=True)
         elif random.random() < 0.3:
             early = Store(program, file)
             time.sleep(random.random() * 0.02)

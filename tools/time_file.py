@@ -1,11 +1,11 @@
 #!/usr/bin/env python3
 """Commits a second on a store in a file, beside SQLite (WAL, synchronous=FULL) in the same folder.
 
-Usage: tools/time_file.py PROGRAM FOLDER [ROUNDS [SECONDS]]
+Usage: tools/time_file.py [--blocks] PROGRAM FOLDER [ROUNDS [SECONDS]]
 
 PROGRAM is the benchmark that `scripts/bench threads` built (.kept/bench_threads-..), FOLDER an empty folder on the disk in question. Each round lets one writer and then
 eight commit, of either: a transaction puts a row in a table with an index, or deletes the one before. SQLite's eight are processes. A line
-a round, and then the medians with their ratios.
+a round, and then the medians with their ratios. With --blocks the store's file is one of blocks.
 """
 import multiprocessing, os, re, sqlite3, statistics, subprocess, sys, time
 
@@ -43,20 +43,22 @@ def sqlite_rate(path, writers, seconds):
     return total / seconds
 
 
-def store_rates(program, path):
-    printed = subprocess.run([program, "file", path], check=True, capture_output=True, text=True).stdout
+def store_rates(program, kind, path):
+    printed = subprocess.run([program, kind, path], check=True, capture_output=True, text=True).stdout
     rates = {int(writers): int(rate) for writers, rate in re.findall(r"^(\d+) writers, in a file: (\d+) commits", printed, re.M)}
     openings = [int(took) for took in re.findall(r"^opened in (\d+) microseconds", printed, re.M)]
     return rates, openings
 
 
 def main():
-    program, folder = os.path.abspath(sys.argv[1]), os.path.abspath(sys.argv[2])
-    rounds = int(sys.argv[3]) if len(sys.argv) > 3 else 5
-    seconds = float(sys.argv[4]) if len(sys.argv) > 4 else 3
+    words = [word for word in sys.argv[1:] if word != "--blocks"]
+    kind = "blocks" if "--blocks" in sys.argv else "file"
+    program, folder = os.path.abspath(words[0]), os.path.abspath(words[1])
+    rounds = int(words[2]) if len(words) > 2 else 5
+    seconds = float(words[3]) if len(words) > 3 else 3
     ours, theirs, openings = {1: [], 8: []}, {1: [], 8: []}, []
     for number in range(rounds):
-        rates, opened = store_rates(program, f"{folder}/store{number}")
+        rates, opened = store_rates(program, kind, f"{folder}/store{number}")
         openings += opened
         for writers in (1, 8):
             ours[writers].append(rates[writers])
