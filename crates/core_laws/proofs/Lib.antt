@@ -6,4 +6,5 @@ mod Ordered
 mod Deciding
 mod Checked
 mod Answered
+mod Further
 pub mod Laws

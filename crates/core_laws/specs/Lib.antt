@@ -3,3 +3,4 @@ pub mod Openings
 pub mod Holds
 pub mod Granted
 pub mod Alike
+pub mod Further

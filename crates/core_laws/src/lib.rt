@@ -8,12 +8,12 @@
 //! With a complete index and no transaction active, the visible entries are the pairs of the rows (`complete`).
 //! Wherever the records stop, a prefix of the history is recovered of them (`recovers`). `one_reply` and `one_answer`:
 //! but for want of memory, a state and an event leave one reply and one value. A check says what the call then answers
-//! (`one_check`).
+//! (`one_check`). A change has two further steps at the most (`each_further_step`).
 //!
 //! Lemmas about its public words that crates above may cite, in `proofs`: `Laws`.
 #![tactic(auto)]
 
-ghost use Rattle.std.specs.Prelude.{◌≡◌, ◌≢◌, ◌≤◌, ◌+◌, ◌++◌, [], ◌∷◌, ℕ, List, Option, length, take};
+ghost use Rattle.std.specs.Prelude.{◌≡◌, ◌≢◌, ◌<◌, ◌≤◌, ◌+◌, ◌++◌, [], ◌∷◌, ℕ, List, Option, length, take};
 ghost use Rattle.std.specs.FinMap.{len};
 ghost use Rattle.record_values.specs.GeometryValue.{GeometryValue};
 ghost use Rattle.records.specs.RecordValue.{RecordValue};
@@ -25,11 +25,11 @@ ghost use Rattle.model.specs.declared.life.Life.TheVariants.{Complete};
 ghost use Rattle.core_model.specs.States.{State};
 ghost use Rattle.core_model.specs.Steps.{MachineStep};
 ghost use Rattle.core_model.specs.Histories.{CanOpen, Opened, no_writes};
-ghost use Rattle.core_model.specs.Events.{Event, Refused, Reply, Standing};
+ghost use Rattle.core_model.specs.Events.{Event, Refused, Reply, Skipped, Standing, Stepped};
 ghost use Rattle.core_model.specs.Replies.{IsAllowed, WantsMemory};
 ghost use Rattle.core_model.specs.Served.{HasStanding, items_of};
 ghost use Rattle.core_copies.specs.Loaded.{holding};
-ghost use Rattle.core_parts.specs.Moves.{fresh};
+ghost use Rattle.core_parts.specs.Moves.{fresh, txn_shown};
 ghost use Rattle.nsf_core.specs.Outbox.{HandsOn};
 ghost use Rattle.core_parts.specs.Asked.{IsFine, IsRefused};
 ghost use Rattle.core_parts.specs.View.{CoreValue, IsSafe, Serves};
@@ -37,7 +37,9 @@ ghost use Rattle.core_laws.specs.Alike.{AreAlike};
 ghost use Rattle.core_laws.specs.Calls.{BeginsWith, Calls, HasReplied};
 ghost use Rattle.core_laws.specs.Openings.{empty_after, store_with};
 ghost use Rattle.core_laws.specs.Holds.{HoldsHistory, ShowsRows};
+ghost use Rattle.core_laws.specs.Further.{steps_owed};
 ghost use Rattle.core_laws.specs.Granted.{IsGranted};
+ghost use Rattle.txn_table.specs.Table.{TxnState};
 
 /// A law: a core that was loaded with what fits its store begins with that, and one that was just made with nothing,
 /// which is something to begin with.
@@ -126,4 +128,14 @@ pub fn one_check()
         → Serves v e reply new → reply ≡ Refused error }
     ensures fine { (v new : CoreValue) (e : Event) (reply : Reply) → IsSafe v → IsFine v e → Serves v e reply new
         → reply ≢ Refused Error.NoMemory → IsGranted reply }
+{}
+
+/// A law: a change has two further steps at the most. Each that is made is one of those that its transaction owed
+/// (`fewer`), and where one is skipped none was owed (`none`).
+pub fn each_further_step()
+    ensures fewer { (old new : CoreValue) (txn : ℕ) → IsSafe old → Serves old (Event.Step txn) Stepped new
+        → steps_owed (txn_shown new txn) < steps_owed (txn_shown old txn) }
+    ensures none { (old new : CoreValue) (txn : ℕ) → IsSafe old → Serves old (Event.Step txn) Skipped new
+        → steps_owed (txn_shown old txn) ≡ 0 }
+    ensures two { (of_txn : Option TxnState) → steps_owed of_txn ≤ 2 }
 {}
