@@ -71,13 +71,23 @@ impl Quiet {
         }
     }
 
-    fn want(&self) {
+    fn want(&self) -> Wanted<'_> {
         self.wanted.fetch_add(1, Ordering::SeqCst);
+        Wanted { quiet: self }
     }
+}
 
-    fn leave(&self) {
-        self.wanted.fetch_sub(1, Ordering::SeqCst);
-        self.ring();
+// That a call waits. It can't be dropped: who wants quiet leaves, or doesn't compile.
+struct Wanted<'q> {
+    quiet: &'q Quiet,
+}
+
+impl Wanted<'_> {
+    // The others go on.
+    fn leave(self) {
+        let Wanted { quiet } = self;
+        quiet.wanted.fetch_sub(1, Ordering::SeqCst);
+        quiet.ring();
     }
 }
 
@@ -125,9 +135,12 @@ impl<B: Group, A: Memory> Shared<B, A> {
         }
     }
 
-    /// Creates the index as soon as no transaction is active. From the call on other seats wait before they begin one,
-    /// and begin it when this call has ended; a seat that has a transaction may begin more. It waits for some
-    /// milliseconds at the most, about as many as given. (No clause says any of this.)
+    /// Creates the index as soon as no transaction is active. From the call on a seat without a transaction waits in
+    /// `begin`, and begins it when this call has ended; a seat that has one may begin more. `put`, `remove` and
+    /// `replace` don't wait, since they leave none active.
+    ///
+    /// It sleeps so often as given, for a millisecond each at the most. Sixty-four sleeps that were cut short count as
+    /// one: where others end transactions all the while, it may wait so much longer. (No clause says any of this.)
     ///
     /// The refusals are those of `create_index`: `TxnsActive` where a transaction was active to the end. After a
     /// refusal the seat is as before.
@@ -143,9 +156,9 @@ impl<B: Group, A: Memory> Shared<B, A> {
             { session = with_turn seat.old.session (Created ticket.«record») }) }
         ensures refused { OnErr result (seat.new ≡ seat.old) }
     {
-        self.quiet.want();
+        let wanted = self.quiet.want();
         let created = self.create_patiently(rt, seat, millis);
-        self.quiet.leave();
+        wanted.leave();
         created
     }
 
@@ -191,9 +204,9 @@ impl<B: Group, A: Memory> Shared<B, A> {
             { session = with_turn seat.old.session (Dropped ticket.«record») }) }
         ensures refused { OnErr result (seat.new ≡ seat.old) }
     {
-        self.quiet.want();
+        let wanted = self.quiet.want();
         let dropped = self.drop_patiently(rt, seat, millis);
-        self.quiet.leave();
+        wanted.leave();
         dropped
     }
 
