@@ -144,6 +144,7 @@ fn settled<B: Blocks, A: Allocator + Copy>(
     ensures synced { IfOk result (λ d. IsSynced (disk_past B.past_of d).disk) }
     ensures alone { IfOk result (λ d. StandsAlone plan (B.past_of (disk_file d)).file.content
         (disk_past B.past_of d).disk.content) }
+    ensures safe { IfOk result (λ d. (n : ℕ) → (B.past_of (disk_file d)).file.loose n ≡ false) }
     ensures first { IfOk result (λ d. first_content B.past_of d ≡ (B.past_of (disk_file d)).file.content) }
     ensures failures { IfOk result (λ d. disk_failures B.failures d ≡ failures_of B.failures checked.journal) }
     ensures offered { IfOk result (λ d. (disk_journal d).offered
@@ -184,6 +185,7 @@ fn compared<B: Blocks, A: Allocator + Copy>(
     ensures alone { IfOk result (λ d. StandsAlone plan (B.past_of (disk_file d)).file.content
         (disk_past B.past_of d).disk.content) }
     ensures fits { IfOk result (λ d. EachFits plan.blocks (settled_table B.past_of checked)) }
+    ensures safe { IfOk result (λ d. (n : ℕ) → (B.past_of (disk_file d)).file.loose n ≡ false) }
     ensures first { IfOk result (λ d. first_content B.past_of d ≡ (B.past_of (disk_file d)).file.content) }
     ensures failures { IfOk result (λ d. disk_failures B.failures d ≡ failures_of B.failures checked.journal) }
     ensures offered { IfOk result (λ d. (disk_journal d).offered
@@ -222,8 +224,8 @@ fn compared<B: Blocks, A: Allocator + Copy>(
 ///
 /// The blocks of the batch before the last one are put in their places; what was read is not written back. Once each
 /// block fits, the last batch is handed on as one of its own, and then all blocks are put in their places: no area of
-/// the journal is needed (`alone`, `handed`). So what was acknowledged is not in the journal alone. Behind the last
-/// numbers of 64 bits none can be handed on (`failed`).
+/// the journal is needed, and no block is loose (`alone`, `safe`, `handed`). So what was acknowledged is not in the
+/// journal alone. Behind the last numbers of 64 bits none can be handed on (`failed`).
 ///
 /// Whatever it answers, a crash at any moment of it leaves, under the premise, what stands for the same blocks
 /// (`any_moment`, `refused`), behind the same headers (`headers`, `headers_refused`). The premise is needed only once
@@ -250,6 +252,7 @@ pub fn open<B: Blocks, A: Allocator + Copy>(
         (disk_journal d).offered) }
     ensures alone { IfOk result (λ d. StandsAlone (disk_plan d) (B.past_of (disk_file d)).file.content
         (disk_past B.past_of d).disk.content) }
+    ensures safe { IfOk result (λ d. (n : ℕ) → (B.past_of (disk_file d)).file.loose n ≡ false) }
     ensures any_moment { IfOk result (λ d. StaysUnder (disk_journal d).offered (disk_plan d).shape (B.past_of below)
         (B.past_of (disk_file d))) }
     ensures headers { IfOk result (λ d. LeavesBefore (disk_plan d).shape (B.past_of below)

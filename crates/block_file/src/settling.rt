@@ -1,6 +1,7 @@
 // Behind an opening all blocks are put in their places.
 ghost use Rattle.std.specs.Prelude.{◌≡◌, ◌⊎◌, ◌-◌, ◌^◌, ◌≤◌, [], false, OnErr, OnOk};
 ghost use Rattle.sector_device.specs.DevicePast.{Rises};
+ghost use Rattle.block_device.specs.Blocks.{IsSynced};
 ghost use Rattle.block_journal.specs.Journal.{NeedsNoArea};
 ghost use Rattle.block_journal.specs.Value.{failures_of};
 ghost use Rattle.block_table.specs.Checked.{settled_table};
@@ -24,6 +25,7 @@ pub(crate) fn settle<B: Blocks, A: Allocator + Copy>(
     ensures sound { OnOk result (checked.new.journal.has_failed ≡ false) }
     ensures areas { OnOk result (NeedsNoArea checked.old.journal.shape
         (B.past_of checked.new.journal.below).file.content (settled_table B.past_of checked.old)) }
+    ensures safe { OnOk result (IsSynced (B.past_of checked.new.journal.below).file) }
     ensures offered { OnOk result (checked.new.journal.offered
         ≡ handed_on checked.old.journal.offered checked.old.journal.last) }
     ensures counted { OnOk result (failures_of B.failures checked.new.journal

@@ -175,6 +175,7 @@ returns-in-Err g c =
       honest = tt;
       handed = tt;
       alone = tt;
+      safe = tt;
       any_moment = tt;
       headers = tt;
       again = tt;
@@ -468,3 +469,6 @@ returns-in-Ok-open-clause-alone g c =
     if_ok c.compared.result _ _ _
     (λ d is alone. subst (λ (p : Plan). StandsAlone p (h (journal_in d.now).below).file.content (disk_past h d).disk.content) (sym is) alone)
     c.compared.ensures.plan c.compared.ensures.alone
+
+pub returns-in-Ok-open-clause-safe : goal.returns-in-Ok-open-clause-safe
+returns-in-Ok-open-clause-safe g c = c.compared.ensures.safe

@@ -43,6 +43,7 @@ returns-in-Ok g c =
       synced = made.synced;
       alone = subst (λ (v : JournalValue g.row.B.Denot). StandsAlone plan (h v.below).file.content (disk_past h c.over.result).disk.content) (sym made.journal)
           (subst (λ (s : CrashState). StandsAlone plan (h new.journal.below).file.content s) (sym content) alone);
+      safe = λ n. ap (λ (v : JournalValue g.row.B.Denot). (h v.below).file.loose n) made.journal ∙ done.safe n;
       first = made.first ∙ sym (ap (λ (v : JournalValue g.row.B.Denot). (h v.below).file.content) made.journal);
       failures = made.failures ∙ done.counted;
       offered = ap (λ (v : JournalValue g.row.B.Denot). v.offered) made.journal ∙ done.offered;
@@ -66,6 +67,7 @@ returns-in-Err g c =
       content = tt;
       synced = tt;
       alone = tt;
+      safe = tt;
       first = tt;
       failures = tt;
       offered = tt;

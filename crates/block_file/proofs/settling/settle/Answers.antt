@@ -44,6 +44,7 @@ returns-in_err-commit g c =
       none = tt;
       sound = tt;
       areas = tt;
+      safe = tt;
       offered = tt;
       counted = tt;
       fails = ⊎_elim (λ was. absurd (false≢true (sym good ∙ was))) (⊎_elim (λ most. inl (omega (arith, most))) (λ up. inr up))
@@ -97,6 +98,7 @@ returns g c =
       sound = on_ok _ _ r (λ both. both.1) ends.sound;
       areas = on_ok _ _ r (λ needs. subst (λ (l : CrashFile). NeedsNoArea v.shape (h n.below).file.content l) settled
           (subst (λ (s : Shape). NeedsNoArea s (h n.below).file.content (settled_of h w)) shape needs)) ends.areas;
+      safe = ends.synced;
       offered = on_ok _ _ r (λ may. all_handed h v w n can offers last done.none ends.offered may) ends.can;
       counted = on_ok _ _ r (λ same. same ∙ done.counts.none ∙ ap (λ (j : JournalValue g.row.B.Denot). failures_of F j) is) ends.counts.none;
       fails = on_err _ _ r (⊎_elim (λ was. absurd (false≢true (sym good_then ∙ was)))
