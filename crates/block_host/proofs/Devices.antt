@@ -1,5 +1,5 @@
 -- Devices in files of the system.
-use Rattle.std.proofs.Common.{◌≡◌, ◌≢◌, ◌⊎◌, inl, inr, ℕ, ◌+◌, ◌^◌, Some, length, nat_lt, replicate, refl, sym, ◌∙◌, ap, subst, arith, ◌&&◌}
+use Rattle.std.proofs.Common.{◌≡◌, ◌≢◌, ◌⊎◌, inl, inr, ℕ, ◌+◌, ◌^◌, false, Some, length, nat_lt, replicate, refl, sym, ◌∙◌, ap, subst, arith, ◌&&◌}
 use Rattle.std.proofs.lemmas.Bool.{and_parts, ltb-true}
 use Rattle.std.proofs.Math.ListN.{length-replicate}
 use Rattle.block_device.specs.Blocks.{BlockFile, CrashFile, block, zero_block}
@@ -8,7 +8,7 @@ use Rattle.block_journal.specs.Layout.{IsInside, kept_start, recovered}
 use Rattle.block_table.specs.Table.{EachFits}
 use Rattle.block_file.specs.Closing.{StandsAlone}
 use Rattle.block_file.specs.Damage.{CanBeOpened}
-use Rattle.block_file.specs.Disks.{disk_past, journal_in}
+use Rattle.block_file.specs.Disks.{disk_failed, disk_past, journal_in}
 use Rattle.block_file.specs.Header.{CanBeTold, plan_told}
 use Rattle.block_file.specs.Plans.{disk_image}
 use Rattle.block_file.specs.Settling.{AreHandedOn, OpensUnder, StaysUnder}
@@ -17,27 +17,33 @@ use Rattle.block_file.specs.declared.opening.FileError.TheVariants.{Damaged, Fil
 use Rattle.block_file.specs.declared.parts.DiskParts.{DiskParts}
 use Rattle.block_file.specs.declared.plan.Plan.{Plan}
 use Rattle.block_host.specs.FileBlocks.{past_of}
-use Rattle.block_host.specs.Opened.{IsOpened, first_read}
+use Rattle.block_host.specs.Opened.{IsOpened, IsRead, first_read}
 use Rattle.block_host.specs.declared.error.DiskError.{DiskError}
 use Rattle.block_host.specs.declared.error.DiskError.TheVariants as disk
 use Rattle.block_host.specs.declared.error.DiskError.TheVariants.{File, Open}
 use Rattle.block_host.specs.declared.mirror.FileBlocks.{FileBlocks}
+
+-- what the file of a device held first is what it held as it was just read
+as_first : {F A : Type 0} (b : FileBlocks F A) (d : DiskParts (FileBlocks F A) A) → (past_of b).moment ≡ 0
+    → LeavesBefore d.plan.shape (past_of b) (past_of (journal_in d.now).below) → first_read d ≡ (past_of b).file.content
+as_first b d none before = ap (λ (f : BlockFile). f.content)
+    (before.kept 0 (omega arith) ∙ subst (λ (t : ℕ). (past_of b).file_at t ≡ (past_of b).file) none (past_of b).now)
 
 -- a device that was opened in a file which was just read
 module _ {F A : Type 0} (b : FileBlocks F A) (d : DiskParts (FileBlocks F A) A) (none : (past_of b).moment ≡ 0)
     (stays : StaysUnder (journal_in d.now).offered d.plan.shape (past_of b) (past_of (journal_in d.now).below))
     (before : LeavesBefore d.plan.shape (past_of b) (past_of (journal_in d.now).below)) where
   as_read : first_read d ≡ (past_of b).file.content
-  as_read = ap (λ (f : BlockFile). f.content)
-      (stays.kept 0 (omega arith) ∙ subst (λ (t : ℕ). (past_of b).file_at t ≡ (past_of b).file) none (past_of b).now)
+  as_read = as_first b d none before
 
   pub opened : plan_told (past_of b).file.content ≡ Some d.plan → (disk_past past_of d).disk.content ≡ disk_image d.plan (past_of b).file.content
       → EachFits d.plan.blocks (recovered d.plan.shape (past_of b).file.content)
       → AreHandedOn d.plan.shape (past_of b).file.content (journal_in d.now).offered
       → (CanBeOpened d.plan (past_of b).file.content
       → OpensUnder (journal_in d.now).offered d.plan (past_of b) (past_of (journal_in d.now).below))
-      → StandsAlone d.plan (past_of (journal_in d.now).below).file.content (disk_past past_of d).disk.content → IsOpened d
-  opened told content fits handed again alone = record {
+      → StandsAlone d.plan (past_of (journal_in d.now).below).file.content (disk_past past_of d).disk.content
+      → ((n : ℕ) → (past_of (journal_in d.now).below).file.loose n ≡ false) → IsOpened d
+  opened told content fits handed again alone safe = record {
     told = ap plan_told as_read ∙ told;
     content = content ∙ ap (disk_image d.plan) (sym as_read);
     fits = subst (λ (l : CrashFile). EachFits d.plan.blocks (recovered d.plan.shape l)) (sym as_read) fits;
@@ -47,7 +53,18 @@ module _ {F A : Type 0} (b : FileBlocks F A) (d : DiskParts (FileBlocks F A) A) 
     opens = λ can t c from to crash. (again (subst (CanBeOpened d.plan) as_read can)).each t c (omega (arith, none)) to crash;
     headers = λ t c from to crash n below. before.each t c (omega (arith, none)) to crash n below ∙ ap (λ (l : CrashFile). block l n) (sym as_read);
     alone = alone;
+    safe = safe;
   }
+
+-- one that is read alone
+pub is_read : {F A : Type 0} (b : FileBlocks F A) (d : DiskParts (FileBlocks F A) A) → (past_of b).moment ≡ 0
+    → LeavesBefore d.plan.shape (past_of b) (past_of (journal_in d.now).below) → plan_told (past_of b).file.content ≡ Some d.plan
+    → (disk_past past_of d).disk.content ≡ disk_image d.plan (past_of b).file.content → disk_failed d ≡ false → IsRead d
+is_read b d none before told content sound = record {
+  told = ap plan_told (as_first b d none before) ∙ told;
+  content = content ∙ ap (disk_image d.plan) (sym (as_first b d none before));
+  sound = sound;
+}
 
 -- a file of zeros that has as many blocks as a plan asks for
 pub has_room : (p : Plan) (image : CrashFile) (blocks : ℕ) → CanBeTold p → blocks ≡ kept_start p.shape + p.shape.kept → image ≡ replicate blocks zero_block

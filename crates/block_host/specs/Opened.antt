@@ -1,12 +1,12 @@
 -- A device that was opened in a file of the system.
-use Rattle.std.specs.Prelude.{◌≡◌, ℕ, ◌<◌, Some}
+use Rattle.std.specs.Prelude.{◌≡◌, ℕ, ◌<◌, false, Some}
 use Rattle.block_device.specs.Blocks.{CrashFile, block}
 use Rattle.block_device.specs.BlocksPast.{Between, BlocksPast}
 use Rattle.block_journal.specs.Layout.{IsHonest, recovered}
 use Rattle.block_table.specs.Table.{EachFits}
 use Rattle.block_file.specs.Closing.{StandsAlone}
 use Rattle.block_file.specs.Damage.{CanBeOpened}
-use Rattle.block_file.specs.Disks.{disk_file, disk_journal, disk_past, disk_plan}
+use Rattle.block_file.specs.Disks.{disk_failed, disk_file, disk_journal, disk_past, disk_plan}
 use Rattle.block_file.specs.Header.{plan_told}
 use Rattle.block_file.specs.Plans.{disk_image}
 use Rattle.block_file.specs.Settling.{AreHandedOn}
@@ -33,7 +33,7 @@ module _ {F A : Type 0} where
 
   -- As it was read, the file told this device, and each block of data fitted its digest. Under the premise, whatever a
   -- crash leaves since then stands for the same blocks, behind the same headers, and can be opened if the file could.
-  -- Now the file stands for the device, whatever batches the areas of its journal lose.
+  -- Now the file stands for the device, whatever batches the areas of its journal lose, and no block is loose.
   pub record IsOpened (d : DiskParts (FileBlocks F A) A) : Type 0 where
     pub told : plan_told (first_read d) ≡ Some (disk_plan d)
     pub content : (disk_past past_of d).disk.content ≡ disk_image (disk_plan d) (first_read d)
@@ -45,3 +45,10 @@ module _ {F A : Type 0} where
         → SinceRead d (λ c. IsPremise d c → CanBeOpened (disk_plan d) c)
     pub headers : SinceRead d (λ c. (n : ℕ) → n < (disk_plan d).shape.first → block c n ≡ block (first_read d) n)
     pub alone : StandsAlone (disk_plan d) (file_past d).file.content (disk_past past_of d).disk.content
+    pub safe : (n : ℕ) → (file_past d).file.loose n ≡ false
+
+  -- As it was read, the file told this device, which holds what the file stood for. No commit has failed.
+  pub record IsRead (d : DiskParts (FileBlocks F A) A) : Type 0 where
+    pub told : plan_told (first_read d) ≡ Some (disk_plan d)
+    pub content : (disk_past past_of d).disk.content ≡ disk_image (disk_plan d) (first_read d)
+    pub sound : disk_failed d ≡ false

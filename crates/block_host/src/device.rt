@@ -1,5 +1,5 @@
 //! A device in a file of either kind.
-ghost use Rattle.std.specs.Prelude.{◌≡◌, ◌⊎◌, ◌-◌, ◌^◌, ◌<◌, ◌≤◌, ℕ, true, None, Ok, IfNone, IfOk, IfSome, IsOk};
+ghost use Rattle.std.specs.Prelude.{◌≡◌, ◌⊎◌, ◌-◌, ◌^◌, ◌<◌, ◌≤◌, ℕ, false, true, None, Ok, IfNone, IfOk, IfSome, IsOk};
 ghost use Rattle.std.specs.Prelude.{OnErr, OnOk};
 ghost use Rattle.sector_device.specs.Disk.{IsSynced};
 ghost use Rattle.sector_device.specs.DevicePast.{CountsFailure, Rises};
@@ -79,7 +79,7 @@ impl<P, F: Stored + Drop, A: Allocator + Copy> InFile
     ghost use Rattle.block_file.specs.Damage.{IsFirstDamaged, IsSectorFit};
     ghost use Rattle.block_file.specs.Disks.{ReadsAlone, disk_failed, disk_failures, disk_file, disk_number, disk_past};
     ghost use Rattle.block_file.specs.Disks.{disk_plan, disk_settled, disk_table};
-    ghost use Rattle.block_file.specs.Good.{IsGood};
+    ghost use Rattle.block_file.specs.Good.{IsGood, OpensMeanwhile};
     ghost use Rattle.block_host.specs.FileBlocks.{failures_of, past_of};
 
     /// Of a file of blocks the first sector whose block doesn't fit its digest (`damaged`, `fit`), and of a plain file
@@ -108,8 +108,9 @@ impl<P, F: Stored + Drop, A: Allocator + Copy> InFile
     }
 
     /// Ends its use. A file of blocks is synced, and all its blocks are put in their places: then it stands for the
-    /// device, whatever batches the areas of its journal lose (`alone`). A plain file needs no end (`plain`), and stays
-    /// as it is (`content`).
+    /// device, whatever batches the areas of its journal lose (`alone`), and no block is loose (`safe`). A crash
+    /// meanwhile leaves a file that can be opened (`opens`). A plain file needs no end (`plain`), and stays as it is
+    /// (`content`).
     fn end(&mut self) -> Result<(), Failed>
         ensures plain { IsInPlain self.old (λ _. IsOk result) }
         ensures content { StaysPlain (λ old new. (disk_past past_of new).disk.content
@@ -117,8 +118,13 @@ impl<P, F: Stored + Drop, A: Allocator + Copy> InFile
         ensures synced { InBlocks (λ old new. OnOk result (IsSynced (disk_past past_of new).disk)) self.old self.new }
         ensures alone { InBlocks (λ old new. OnOk result (StandsAlone (disk_plan old)
             (past_of (disk_file new)).file.content (disk_past past_of old).disk.content)) self.old self.new }
+        ensures safe { InBlocks (λ old new. OnOk result ((n : ℕ) → (past_of (disk_file new)).file.loose n ≡ false))
+            self.old self.new }
         ensures settled { InBlocks (λ old new. OnOk result (disk_settled past_of new ≡ disk_table past_of old))
             self.old self.new }
+        ensures good { InBlocks (λ old new. IsGood past_of old → disk_failed new ≡ false → IsGood past_of new)
+            self.old self.new }
+        ensures opens { InBlocks (λ old new. IsGood past_of old → OpensMeanwhile past_of old new) self.old self.new }
         ensures failed { InBlocks (λ old new. OnErr result ((disk_failed old ≡ true) ⊎ (2 ^ 64 - 2 ≤ disk_number old)
             ⊎ Rises (failures_of (disk_file old)) (failures_of (disk_file new)))) self.old self.new }
         ensures left_alone { InBlocks (λ old new. disk_failed old ≡ true → disk_file new ≡ disk_file old)

@@ -6,7 +6,7 @@ ghost use Rattle.block_file.specs.Good.{IsGood};
 ghost use Rattle.block_file.specs.Header.{plan_told};
 ghost use Rattle.block_host.specs.FileBlocks as blocks;
 ghost use Rattle.block_host.specs.Kinds.{IsInBlocks, IsInPlain, are_blocks, begins, failures_by, past_by};
-ghost use Rattle.block_host.specs.Opened.{IsOpened};
+ghost use Rattle.block_host.specs.Opened.{IsOpened, IsRead};
 ghost use Rattle.store_file.specs.FileDisk as plain;
 
 use crate::device::FileDevice;
@@ -100,7 +100,9 @@ fn uncompared_in<F: Stored + Drop, A: Allocator + Copy>(
     below: FileBlocks<F, A>,
 ) -> Result<BlockDisk<FileBlocks<F, A>, A>, DiskError>
     requires synced { blocks.IsFileSynced below }
+    requires moment { (blocks.past_of below).moment ≡ 0 }
     requires failures { blocks.failures_of below ≡ 0 }
+    ensures read { IfOk result (λ d. IsRead d) }
     ensures told { IfOk result (λ d. plan_told (first_content blocks.past_of d) ≡ Some (disk_plan d)) }
     ensures synced { IfOk result (λ d. IsSynced (disk_past blocks.past_of d).disk) }
     ensures failures { IfOk result (λ d. disk_failures blocks.failures_of d ≡ 0) }
@@ -111,9 +113,30 @@ fn uncompared_in<F: Stored + Drop, A: Allocator + Copy>(
     }
 }
 
-/// Opens the device in the file at the path, whichever kind that is (`told`): a plain file doesn't show a file of
-/// blocks, and a file of blocks tells this device (`opened`). The refusals are those of [`store_file::open`], and of
-/// [`crate::open_disk`].
+/// The device in a file that was taken, whichever kind that is (`told`): a plain file doesn't show a file of blocks,
+/// and a file of blocks tells this device (`opened`). What is below is read, and written to from then on. The refusals
+/// are those of [`FileDisk::over`], and of [`crate::open_disk`].
+pub fn device_in<F: Stored + Drop, A: Allocator + Copy>(
+    alloc: A,
+    taken: Taken<F>,
+) -> Result<FileDevice<FileDisk<F, A>, BlockDisk<FileBlocks<F, A>, A>>, DiskError>
+    ensures told { IfOk result (λ d. IsInPlain d (λ disk. are_blocks (plain.past_of disk).disk.content ≡ false)) }
+    ensures opened { IfOk result (λ d. IsInBlocks d (λ disk. IsOpened disk)) }
+    ensures good { IfOk result (λ d. IsInBlocks d (λ disk. IsGood blocks.past_of disk)) }
+    ensures sound { IfOk result (λ d. IsInPlain d (λ disk. plain.has_failed_of disk ≡ false)) }
+    ensures synced { IfOk result (λ d. IsSynced (past_by plain.past_of (disk_past blocks.past_of) d).disk) }
+    ensures failures { IfOk result (λ d. failures_by plain.failures_of (disk_failures blocks.failures_of) d ≡ 0) }
+{
+    let mut taken = taken;
+    if !shows_blocks(&mut taken.below, taken.sectors)? {
+        return Ok(FileDevice::Plain(plain_in(alloc, taken)?));
+    }
+    let below = blocks_in(alloc, taken)?;
+    Ok(FileDevice::Blocks(disk_in(alloc, below)?))
+}
+
+/// Opens the device in the file at the path, which is taken as by [`store_file::take`], as [`device_in`] does. The
+/// refusals are those of both.
 pub fn open_device<R: Files, A: Allocator + Copy>(
     rt: &R,
     alloc: A,
@@ -128,17 +151,14 @@ where
     ensures synced { IfOk result (λ d. IsSynced (past_by plain.past_of (disk_past blocks.past_of) d).disk) }
     ensures failures { IfOk result (λ d. failures_by plain.failures_of (disk_failures blocks.failures_of) d ≡ 0) }
 {
-    let mut taken = store_file::take(rt, &alloc, path)?;
-    if !shows_blocks(&mut taken.below, taken.sectors)? {
-        return Ok(FileDevice::Plain(plain_in(alloc, taken)?));
-    }
-    let below = blocks_in(alloc, taken)?;
-    Ok(FileDevice::Blocks(disk_in(alloc, below)?))
+    let taken = store_file::take(rt, &alloc, path)?;
+    device_in(alloc, taken)
 }
 
 /// The device in the file at the path, whichever kind that is (`told`), which is only read, and locked until the device
-/// is dropped: what is written to this stays in memory. No block is compared with its digest before it is read. The
-/// refusals are those of [`open_device`], but for a block that doesn't fit.
+/// is dropped: what is written to this stays in memory. A file of blocks tells this device, which holds what the file
+/// stood for (`read`). No block is compared with its digest before it is read. The refusals are those of
+/// [`open_device`], but for a block that doesn't fit.
 pub fn hold_device<R: Files, A: Allocator + Copy>(
     rt: &R,
     alloc: A,
@@ -147,8 +167,10 @@ pub fn hold_device<R: Files, A: Allocator + Copy>(
 where
     R::File: StoreFile,
     ensures told { IfOk result (λ d. IsInPlain d (λ disk. are_blocks (plain.past_of disk).disk.content ≡ false)) }
+    ensures read { IfOk result (λ d. IsInBlocks d (λ disk. IsRead disk)) }
     ensures plan { IfOk result (λ d. IsInBlocks d (λ disk. plan_told (first_content blocks.past_of disk)
         ≡ Some (disk_plan disk))) }
+    ensures sound { IfOk result (λ d. IsInPlain d (λ disk. plain.has_failed_of disk ≡ false)) }
     ensures synced { IfOk result (λ d. IsSynced (past_by plain.past_of (disk_past blocks.past_of) d).disk) }
     ensures failures { IfOk result (λ d. failures_by plain.failures_of (disk_failures blocks.failures_of) d ≡ 0) }
 {
@@ -169,8 +191,10 @@ pub fn read_device<R: Files, A: Allocator + Copy>(
 where
     R::File: StoreFile,
     ensures told { IfOk result (λ d. IsInPlain d (λ disk. are_blocks (plain.past_of disk).disk.content ≡ false)) }
+    ensures read { IfOk result (λ d. IsInBlocks d (λ disk. IsRead disk)) }
     ensures plan { IfOk result (λ d. IsInBlocks d (λ disk. plan_told (first_content blocks.past_of disk)
         ≡ Some (disk_plan disk))) }
+    ensures sound { IfOk result (λ d. IsInPlain d (λ disk. plain.has_failed_of disk ≡ false)) }
     ensures synced { IfOk result (λ d. IsSynced (past_by plain.past_of (disk_past blocks.past_of) d).disk) }
     ensures failures { IfOk result (λ d. failures_by plain.failures_of (disk_failures blocks.failures_of) d ≡ 0) }
 {

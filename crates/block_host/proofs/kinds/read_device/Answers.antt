@@ -14,3 +14,9 @@ returns-then-not-branch-clause-told g c =
 
 pub uncompared_in-requires-clause-synced : goal.uncompared_in-requires-clause-synced
 uncompared_in-requires-clause-synced g c = λ n. ap (λ (p : BlocksPast). p.file.loose n) c.with_below-below.ensures.past ∙ c.in_ok-file.ensures.synced n
+
+pub uncompared_in-requires-clause-moment : goal.uncompared_in-requires-clause-moment
+uncompared_in-requires-clause-moment g c = ap (λ (p : BlocksPast). p.moment) c.with_below-below.ensures.past ∙ c.in_ok-file.ensures.moment
+
+pub returns-then-not-branch-clause-sound : goal.returns-then-not-branch-clause-sound
+returns-then-not-branch-clause-sound g c = c.with_below-read.ensures.failed ∙ c.in_ok-disk.ensures.sound

@@ -5,4 +5,4 @@ pub returns-in-Ok-clause-opened : goal.returns-in-Ok-clause-opened
 returns-in-Ok-clause-opened g c =
     let done = c.in-Ok.ensures in
     opened c.args.below c.in-Ok.disk c.requires.moment done.any_moment done.headers done.told done.content done.fits done.handed
-    done.again done.alone
+    done.again done.alone done.safe
