@@ -1,0 +1,67 @@
+use Rattle.std.proofs.Common.{◌≡◌, ◌⊎◌, inl, ℕ, ◌+◌, ◌≤◌, List, length, refl, sym, ◌∙◌, ap, subst, arith}
+use Rattle.sector_device.specs.Disk.{CrashState, Disk, sector}
+use Rattle.sector_device.specs.DevicePast.{Rises}
+use Rattle.sector_device.proofs.Within.{reads_none, reads_then}
+use Rattle.store_salvage.specs.Copied.{AreCopiedBut}
+use Rattle.store_salvage.proofs.CopiedSectors.{copied_more, rest_more, same_here, still_unread, unread_more, unread_now, was_not_read, was_read}
+use Rattle.store_salvage.proofs.copying.copy_readable.Goals as goal
+
+pub loop-n-init : goal.loop-n-init
+loop-n-init g c = record {
+  copied = λ k below. absurd (omega (arith, below));
+  unread = inl c.new-unread.ensures.items;
+  rest = same_here _ _;
+  reads = reads_none _;
+  later = omega arith;
+  quiet = refl;
+}
+
+-- a sector that was read
+pub loop-n-preserved-then-is_read : goal.loop-n-preserved-then-is_read
+loop-n-preserved-then-is_read g c =
+    let o = g.O.Device.past_of in
+    let w = g.N.Device.past_of in
+    let so_far = c.loop-n.invariant in
+    let n = c.loop-n.n in
+    let unread : List ℕ = c.loop-n.unread.items in
+    let from : CrashState = (o c.args.from.now).disk.content in
+    let there : CrashState = (o c.loop-n.from).disk.content in
+    let now : CrashState = (w c.loop-n.to).disk.content in
+    let next : CrashState = (w c.copy_sector.new.to).disk.content in
+    let done = c.in-Ok.ensures in
+    record {
+      copied = copied_more unread n from now next so_far.copied c.copy_sector.ensures.others
+          (was_read c.in-Ok.is_read there next n c.if-is_read.true done.copied ∙ ap (λ (d : Disk). sector d.content n) so_far.reads.disk);
+      unread = still_unread _ _ _ _ _ c.copy_sector.ensures.later so_far.unread;
+      rest = rest_more n c.args.sectors (w c.args.to.now).disk.content now next c.loop-n-test.true so_far.rest c.copy_sector.ensures.others;
+      reads = reads_then _ _ _ so_far.reads c.copy_sector.ensures.kept;
+      later = omega (arith, so_far.later, c.copy_sector.ensures.later);
+      quiet = done.counts.none ∙ so_far.quiet;
+    }
+
+pub loop-n-preserved : goal.loop-n-preserved
+loop-n-preserved g c =
+    let o = g.O.Device.past_of in
+    let w = g.N.Device.past_of in
+    let f = g.O.Device.failures in
+    let so_far = c.loop-n.invariant in
+    let n = c.loop-n.n in
+    let unread : List ℕ = c.loop-n.unread.items in
+    let from : CrashState = (o c.args.from.now).disk.content in
+    let there : CrashState = (o c.loop-n.from).disk.content in
+    let now : CrashState = (w c.loop-n.to).disk.content in
+    let next : CrashState = (w c.copy_sector.new.to).disk.content in
+    let long : length there ≡ length from = ap (λ (d : Disk). length d.content) so_far.reads.disk in
+    let done = c.in-Ok.ensures in
+    record {
+      copied = subst (λ (l : List ℕ). AreCopiedBut l (n + 1) from next) (sym c.in_ok-push.ensures.items)
+          (unread_more unread n from now next so_far.copied c.copy_sector.ensures.others
+          (was_not_read c.in-Ok.is_read there next n c.if-is_read.false done.copied));
+      unread = unread_now _ (f c.args.from.now) (f c.loop-n.from) (f c.copy_sector.new.from) (length from) c.args.sectors n c.loop-n-test.true so_far.later
+          c.copy_sector.ensures.later
+          (subst (λ (m : ℕ). (m ≤ n) ⊎ Rises (f c.loop-n.from) (f c.copy_sector.new.from)) long (done.unread c.if-is_read.false));
+      rest = rest_more n c.args.sectors (w c.args.to.now).disk.content now next c.loop-n-test.true so_far.rest c.copy_sector.ensures.others;
+      reads = reads_then _ _ _ so_far.reads c.copy_sector.ensures.kept;
+      later = omega (arith, so_far.later, c.copy_sector.ensures.later);
+      quiet = done.counts.none ∙ so_far.quiet;
+    }

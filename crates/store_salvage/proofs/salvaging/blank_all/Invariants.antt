@@ -1,0 +1,13 @@
+use Rattle.std.proofs.Common.{◌≡◌}
+use Rattle.flip_image.specs.Store.{IsStore}
+use Rattle.store_salvage.specs.Salvage.{AreBlanked}
+use Rattle.store_salvage.proofs.salvaging.blank_all.Given as goal
+
+abbrev pub invariant-loop : goal.invariant-loop
+invariant-loop g l =
+    let h = g.D.Device.past_of in
+    record {
+      blanked : AreBlanked l.halves.geometry l.halves.current l.lost.items (h l.initial.device).disk.content (h l.device).disk.content;
+      store : IsStore l.halves.geometry l.halves.current (h l.device).disk.content;
+      quiet : g.D.Device.failures l.device ≡ g.D.Device.failures l.initial.device;
+    }

@@ -1,0 +1,78 @@
+//! The entries of an index are left out.
+ghost use Rattle.std.specs.Prelude.{◌≡◌, ◌<◌, ◌≤◌, ◌↔◌, IsTrue, Some, length, IfErr, IfOk, IfSome, OnOk};
+ghost use Rattle.sector_device.specs.Disk.{sector};
+ghost use Rattle.sector_device.specs.DevicePast.{OnlyReads};
+ghost use Rattle.record_values.specs.GeometryValue.{sectors_of};
+ghost use Rattle.record_values.specs.declared.pair.Pair.{Pair};
+ghost use Rattle.store_image_half.specs.Image.{IsHeader};
+ghost use Rattle.store_salvage.specs.Salvage.{IsStopped, IsUnindexed};
+
+use flip_image::Halves;
+use model::Life;
+use records::{Error, Geometry, Version};
+use sector_device::{Device, SECTOR_SIZE, zero_sector};
+use store_image_half::write_header;
+use store_image_parts::{Header, read_header};
+
+// Whether a highest pair names a row of the store's pages, where there is one.
+fn is_inside(geometry: Geometry, life: Life) -> bool
+    ensures { IsTrue result ↔ ((p : Pair) → life ≡ Life.Building (Some p) → p.rid.page < geometry.pages) }
+{
+    match life {
+        Life::Building {
+            highest: Some(pair),
+        } => pair.rid.page < geometry.pages,
+        _ => true,
+    }
+}
+
+// What the sector of a header says. `None` where it says nothing.
+fn header_in(geometry: Geometry, bytes: &[u8; SECTOR_SIZE]) -> Option<Header>
+    ensures { IfSome result (IsHeader geometry bytes.now) }
+{
+    let header = read_header(bytes)?;
+    if geometry.entries < header.entries {
+        return None;
+    }
+    if is_inside(geometry, header.life) {
+        Some(header)
+    } else {
+        None
+    }
+}
+
+// What the header in a sector says. `Damaged` where it says nothing.
+fn header_at<D: Device>(device: &mut D, geometry: Geometry, first: u64) -> Result<Header, Error>
+    requires inside { first < length (D.past_of device.old).disk.content }
+    ensures said { IfOk result (IsHeader geometry (sector (D.past_of device.old).disk.content first)) }
+    ensures refused { IfErr result (IsStopped (D.failures device.old) (D.failures device.new)) }
+    ensures reads { OnlyReads (D.past_of device.old) (D.past_of device.new) }
+    ensures quiet { OnOk result (D.failures device.new ≡ D.failures device.old) }
+{
+    let mut bytes = zero_sector();
+    if device.read(first, &mut bytes).is_err() {
+        return Err(Error::DeviceFailed);
+    }
+    header_in(geometry, &bytes).ok_or(Error::Damaged { sector: first })
+}
+
+/// Writes the header of the current half's image anew, without entries. `Damaged` where it says nothing.
+pub(crate) fn leave_entries<D: Device>(device: &mut D, halves: &Halves) -> Result<(), Error>
+    requires room { sectors_of halves.now.geometry ≤ length (D.past_of device.old).disk.content }
+    ensures done { OnOk result (IsUnindexed halves.now.geometry halves.now.current (D.past_of device.old).disk.content
+        (D.past_of device.new).disk.content) }
+    ensures refused { IfErr result (IsStopped (D.failures device.old) (D.failures device.new)) }
+    ensures quiet { OnOk result (D.failures device.new ≡ D.failures device.old) }
+{
+    let first = halves.header_sector_in(Version::Two);
+    let found = header_at(device, halves.geometry(), first)?;
+    let header = Header {
+        life: found.life,
+        base: found.base,
+        entries: 0,
+    };
+    if write_header(device, halves.geometry(), first, &header).is_err() {
+        return Err(Error::DeviceFailed);
+    }
+    Ok(())
+}

@@ -1,0 +1,21 @@
+//! What can still be read of a damaged store, page by page.
+//!
+//! Proved: `salvage` leaves a content that gives something (`salvaged`). It is the old one without the entries of its
+//! index, and with some parts of its current half blank: pages, which have no row then, or the log from a slot on.
+//! Each was blanked as a reader refused what was left with a sector of it (`AreBlanked`); the other sectors stay. So
+//! each row that is given is one that a whole page has, set over by the records that the log still has, with every
+//! unfinished transaction taken back: the reader's own words say so (`Gives`). `copy_readable` copies what can be read
+//! of a disk. It tells the other sectors, and fills them with bytes that say nothing (`copied`, `unread`).
+//!
+//! Neither: that as little is lost as can be; and which damage of a half's header, heads or lists of changes ends it.
+#![tactic(auto)]
+
+mod blank;
+mod copying;
+mod entries;
+mod part;
+mod salvaging;
+
+pub use copying::copy_readable;
+pub use part::Part;
+pub use salvaging::{Salvaged, salvage};
