@@ -1,7 +1,7 @@
-mod Rounds
+pub mod Rounds
 mod Moments
 mod Steps
-mod Through
-mod Running
+pub mod Through
+pub mod Running
 pub mod Crosses
 mod Passing

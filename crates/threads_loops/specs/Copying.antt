@@ -1,4 +1,4 @@
--- When an image of the flush loop begins (no public clause cites these).
+-- When an image of the flush loop begins. (A public clause cites `StandsBy` alone.)
 use Rattle.std.specs.Prelude.{◌≡◌, ◌≢◌, ◌⊎◌, false}
 use Rattle.flip_image.specs.Layout.{other}
 use Rattle.threads_flusher.specs.Images.{IsHalfFull}

@@ -95,11 +95,16 @@ abbrev pub RunsThrough : {D A : Type 0} → (D → DevicePast) → (marks : ℕ 
     → FlushValue D A → FlushValue D A → Type 0
 RunsThrough past_of marks failures o old new = PassesThrough past_of marks failures o (forgotten old) new
 
--- A loop has gone on so, and ended with `Ok` where its device has not failed, or else with `DeviceFailed`. (No public
--- clause cites this.)
+-- A loop has gone on so, and ended with `Ok` where its device has not failed, or else with `DeviceFailed`.
 pub record HasFlushed {D A : Type 0} (past_of : D → DevicePast) (marks : ℕ → ℕ → Type 0) (failures : D
     → ℕ) (o : Opened) (old new : FlushValue D A) (ended : Result (Unit {0}) Error) : Type 0 where
   pub goes_on : GoesOn past_of failures o old new
   pub through : RunsThrough past_of marks failures o old new
   pub sound : OnOk ended (has_failed new.writer ≡ false)
   pub failed : IfErr ended (λ e. (e ≡ DeviceFailed) × (has_failed new.writer ≡ true))
+
+-- a loop that may leave this has gone on so
+abbrev pub FlushesSo : {D A : Type 0} → (D → DevicePast) → (marks : ℕ → ℕ → Type 0) → (D → ℕ) → Opened
+    → (leaves : FlushValue D A → FlushValue D A → Result (Unit {0}) Error → Type 0) → Type 0
+FlushesSo {D} {A} past_of marks failures o leaves = (old new : FlushValue D A) (ended : Result (Unit {0}) Error)
+    → leaves old new ended → HasFlushed past_of marks failures o old new ended

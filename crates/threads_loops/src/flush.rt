@@ -68,9 +68,8 @@ pub(crate) fn flush_until<B: Group, D: Device, R: Wait, G: Gate, A: Memory>(
     part.stands();
     let bell = &shared.board().waits().pushed;
     part.forget_image();
-    let mut rounds: u32 = 0;
+    let mut rounds = RoundsMade::new();
     let mut quiet = 0;
-    let mut taken = 0;
     for _ in rt.forever() {
         if part.has_failed() {
             return Err(Error::DeviceFailed);
@@ -82,19 +81,61 @@ pub(crate) fn flush_until<B: Group, D: Device, R: Wait, G: Gate, A: Memory>(
         if part.stopped(shared.board()) {
             return Ok(());
         }
-        rounds = rounds.wrapping_add(1);
-        let synced = part.synced();
-        let handed = part.last_handed();
-        let looks = rounds % LOOK_EVERY == 0;
-        let takes = looks || rings != taken || is_idle(part.copying());
-        if synced == handed && takes {
-            taken = rings;
-        }
-        let went = round(rt, shared, part, takes, looks, gate).is_ok();
-        let seen = found(part, synced, handed, went);
+        let seen = flush_round(rt, shared, part, &mut rounds, rings, gate);
         quiet = rest_flusher(rt, bell, rings, seen, quiet);
     }
     unreachable!()
+}
+
+/// How many rounds were made, and how often the bell had rung as records were taken last. A loop has one, and no
+/// contract rests on it.
+#[derive(Clone, Copy)]
+pub struct RoundsMade {
+    made: u32,
+    taken: u64,
+}
+
+impl RoundsMade {
+    /// None was made.
+    pub fn new() -> RoundsMade {
+        RoundsMade { made: 0, taken: 0 }
+    }
+
+    // One more is made, for which the bell has rung so often: whether it looks under the lock.
+    fn next(&mut self) -> bool {
+        self.made = self.made.wrapping_add(1);
+        self.made % LOOK_EVERY == 0
+    }
+}
+
+/// One round of `flush_loop`, for which the bell `pushed` of the board has rung so often: the records that wait are
+/// taken, a group of them is written and published, and some steps of an image are made where they are due. What the
+/// device or memory refuses ends the round early, and the part tells it (`has_failed`). Answers what there is to do
+/// next.
+///
+/// An image is copied only where half the log's slots are open, before the round and behind it (`copying`). (No clause
+/// says that a round takes or writes anything.)
+pub fn flush_round<B: Group, D: Device, R: Wait, G: Gate, A: Memory>(
+    rt: &R,
+    shared: &Shared<B, A>,
+    part: &mut FlushPart<B, D, A>,
+    rounds: &mut RoundsMade,
+    rings: u64,
+    gate: &G,
+) -> Found
+    requires copying { StandsBy part.old }
+    ensures through { PassesThrough D.past_of D.marks D.failures B.site.opened part.old part.new }
+    ensures copying { StandsBy part.new }
+{
+    let looks = rounds.next();
+    let synced = part.synced();
+    let handed = part.last_handed();
+    let takes = looks || rings != rounds.taken || is_idle(part.copying());
+    if synced == handed && takes {
+        rounds.taken = rings;
+    }
+    let went = round(rt, shared, part, takes, looks, gate).is_ok();
+    found(part, synced, handed, went)
 }
 
 // What was found in a round, before which so much was synced, and so much had been handed in, and which went well or

@@ -51,9 +51,9 @@ impl Rest {
     }
 }
 
-/// What the flusher found in a round.
+/// What the flusher found in a round. No contract rests on it.
 #[derive(Clone, Copy)]
-pub(crate) enum Found {
+pub enum Found {
     /// There is more to write or to copy at once.
     More,
     /// A group was written, and nothing waits.

@@ -5,13 +5,14 @@ ghost use Rattle.store_writer.specs.Parts.{has_failed};
 ghost use Rattle.threads_flusher.specs.Going.{GoesOn};
 ghost use Rattle.threads_loops.specs.Building.{BuildsOn, HasBuilt, reason_of};
 ghost use Rattle.threads_loops.specs.Telling.{IsToldBy};
-ghost use Rattle.threads_loops.specs.Through.{HasFlushed, RunsThrough};
+ghost use Rattle.threads_loops.specs.Through.{FlushesSo, HasFlushed, RunsThrough};
 
 use crate::builder_end::BuilderEnd;
+use crate::flushing::{FlushLoop, Flushed, Flushing};
 use crate::gate::Gate;
 use crate::reason::Told;
 use crate::start::{Run, called_off, ran};
-use crate::threads::{Building, Flushed, NoThread, start_builder, start_cleaner, start_flusher};
+use crate::threads::{Building, NoThread, start_builder, start_cleaner, start_flusher};
 use nsf_core::Ticket;
 use records::Error;
 use sector_device::Device;
@@ -97,7 +98,52 @@ pub fn run_beside<
     ensures told { IfOk result (λ r. IsToldBy told.now r.1) }
     ensures reason { IfOk result (λ r. r.1.error ≡ reason_of r.0.built) }
 {
-    match run_loops(rt, shared, flush, build, clean, told, gate, clients) {
+    run_with(
+        rt, shared, flush, build, clean, told, &FlushLoop, gate, clients,
+    )
+}
+
+/// As `run_beside`, of which each clause stands here too. But the flusher's thread does with the part what `flushing`
+/// does: which has to take it (`takes`), and to leave it as `flush_loop` does (`flushes`).
+pub fn run_with<
+    't,
+    B: Group + Send + Sync,
+    D: Device + Send + Drop,
+    R: Threads + Wait + Sync,
+    G: Gate + Sync,
+    W: Flushing<Shared<B>, FlushPart<B, D>> + Sync,
+    X,
+    F: FnOnce() -> X,
+>(
+    rt: &R,
+    shared: &Shared<B>,
+    flush: FlushPart<B, D>,
+    build: BuildPart<B>,
+    clean: CleanPart<B>,
+    told: &'t BuilderEnd<B>,
+    flushing: &W,
+    gate: &G,
+    clients: F,
+) -> Result<(Ended<B, D, X>, Told<'t, B>), NotRun<B, D, F>>
+    requires clients { F.pre clients }
+    requires takes { W.takes flushing.now flush }
+    requires flushes { FlushesSo D.past_of D.marks D.failures B.site.opened W.leaves }
+    ensures not_run { IfErr result (λ n. (n.flush ≡ flush) × (n.build ≡ build) × (n.clean ≡ clean)
+        × (n.clients ≡ clients)) }
+    ensures clients { IfOk result (λ r. F.post clients r.0.clients) }
+    ensures goes_on { IfOk result (λ r. GoesOn D.past_of D.failures B.site.opened flush r.0.flush) }
+    ensures through { IfOk result (λ r. RunsThrough D.past_of D.marks D.failures B.site.opened flush r.0.flush) }
+    ensures sound { IfOk result (λ r. OnOk r.0.flushed (has_failed r.0.flush.writer ≡ false)) }
+    ensures failed { IfOk result (λ r. IfErr r.0.flushed (λ error.
+        (error ≡ DeviceFailed) × (has_failed r.0.flush.writer ≡ true))) }
+    ensures builder { IfOk result (λ r. BuildsOn B.site.opened build r.0.built r.0.build) }
+    ensures cleaner { IfOk result (λ r. r.0.clean ≡ record clean { stopped = r.0.clean.stopped }) }
+    ensures told { IfOk result (λ r. IsToldBy told.now r.1) }
+    ensures reason { IfOk result (λ r. r.1.error ≡ reason_of r.0.built) }
+{
+    match run_loops(
+        rt, shared, flush, build, clean, told, flushing, gate, clients,
+    ) {
         Ok(ran) => {
             let told = told.tell(rt, Error::Stopped);
             Ok((ended_by(ran, told.error), told))
@@ -168,6 +214,7 @@ fn run_loops<
     D: Device + Send + Drop,
     R: Threads + Wait + Sync,
     G: Gate + Sync,
+    W: Flushing<Shared<B>, FlushPart<B, D>> + Sync,
     X,
     F: FnOnce() -> X,
 >(
@@ -177,10 +224,13 @@ fn run_loops<
     build: BuildPart<B>,
     clean: CleanPart<B>,
     told: &BuilderEnd<B>,
+    flushing: &W,
     gate: &G,
     clients: F,
 ) -> Result<Ran<B, D, X>, NotRun<B, D, F>>
     requires clients { F.pre clients }
+    requires takes { W.takes flushing.now flush }
+    requires flushes { FlushesSo D.past_of D.marks D.failures B.site.opened W.leaves }
     ensures not_run { IfErr result (λ n. (n.flush ≡ flush) × (n.build ≡ build) × (n.clean ≡ clean)
         × (n.clients ≡ clients)) }
     ensures clients { IfOk result (λ r. F.post clients r.clients) }
@@ -195,7 +245,9 @@ fn run_loops<
         scope_env(),
         rt,
         move |scope| -> Result<Ran<B, D, X>, NotRun<B, D, F>>
-            requires { F.pre clients }
+            requires clients { F.pre clients }
+            requires takes { W.takes flushing.now flush }
+            requires flushes { FlushesSo D.past_of D.marks D.failures B.site.opened W.leaves }
             ensures not_run { IfErr result (λ n. (n.flush ≡ flush) × (n.build ≡ build) × (n.clean ≡ clean)
                 × (n.clients ≡ clients)) }
             ensures clients { IfOk result (λ r. F.post clients r.clients) }
@@ -205,7 +257,7 @@ fn run_loops<
             ensures cleaner { IfOk result (λ r. r.clean ≡ record clean { stopped = r.clean.stopped }) }
         {
             flush_beside(
-                rt, scope, shared, flush, build, clean, told, gate, run, clients,
+                rt, scope, shared, flush, build, clean, told, flushing, gate, run, clients,
             )
         },
     )
@@ -221,6 +273,7 @@ fn flush_beside<
     D: Device + Send + Drop + 'e,
     R: Threads + Wait + Sync,
     G: Gate + Sync,
+    W: Flushing<Shared<B>, FlushPart<B, D>> + Sync,
     X,
     F: FnOnce() -> X,
 >(
@@ -231,11 +284,14 @@ fn flush_beside<
     build: BuildPart<B>,
     clean: CleanPart<B>,
     told: &'e BuilderEnd<B>,
+    flushing: &'e W,
     gate: &'e G,
     run: &'e Run,
     clients: F,
 ) -> Result<Ran<B, D, X>, NotRun<B, D, F>>
     requires clients { F.pre clients }
+    requires takes { W.takes flushing.now flush }
+    requires flushes { FlushesSo D.past_of D.marks D.failures B.site.opened W.leaves }
     ensures not_run { IfErr result (λ n. (n.flush ≡ flush) × (n.build ≡ build) × (n.clean ≡ clean)
         × (n.clients ≡ clients)) }
     ensures clients { IfOk result (λ r. F.post clients r.clients) }
@@ -244,12 +300,12 @@ fn flush_beside<
     ensures builder { IfOk result (λ r. HasBuilt B.site.opened build r.completed r.build) }
     ensures cleaner { IfOk result (λ r. r.clean ≡ record clean { stopped = r.clean.stopped }) }
 {
-    match start_flusher(rt, scope, shared, flush, gate, run) {
-        Ok(flushing) => {
+    match start_flusher(rt, scope, shared, flush, flushing, gate, run) {
+        Ok(thread) => {
             match clean_beside(rt, scope, shared, build, clean, told, gate, run, clients) {
-                Ok(beside) => Ok(all_ran(ran(rt, flushing.join(rt)), beside)),
+                Ok(beside) => Ok(all_ran(ran(rt, thread.join(rt)), beside)),
                 Err((build, clean, clients, want)) => Err(NotRun {
-                    flush: called_off(rt, flushing.join(rt)),
+                    flush: called_off(rt, thread.join(rt)),
                     build,
                     clean,
                     clients,
@@ -267,7 +323,10 @@ fn flush_beside<
     }
 }
 
-fn all_ran<B: Group, D: Device, X>(flushed: Flushed<B, D>, beside: Beside<B, X>) -> Ran<B, D, X>
+fn all_ran<B: Group, D: Device, X>(
+    flushed: Flushed<FlushPart<B, D>>,
+    beside: Beside<B, X>,
+) -> Ran<B, D, X>
     ensures { result ≡ record {
       clients = beside.clients;
       flush = flushed.flush;

@@ -1,12 +1,12 @@
 //! The threads of a run, each of which waits for the word, and what each of them does then.
 ghost use Rattle.std.specs.Prelude.{◌≡◌, IfErr, IfOk};
 ghost use Rattle.threads_loops.specs.Building.{HasBuilt};
-ghost use Rattle.threads_loops.specs.Through.{HasFlushed};
+ghost use Rattle.threads_loops.specs.Through.{FlushesSo, HasFlushed};
 
 use crate::build::build_until;
 use crate::builder_end::BuilderEnd;
 use crate::clean::clean_until;
-use crate::flush::flush_until;
+use crate::flushing::{Flushed, Flushing};
 use crate::gate::Gate;
 use crate::start::{Run, called_off};
 use nsf_core::Ticket;
@@ -26,18 +26,12 @@ pub struct NoThread(());
 
 // ---- the flusher
 
-/// How the flusher ended.
-#[derive(Drop)]
-pub(crate) struct Flushed<B: Group, D: Device> {
-    pub(crate) flush: FlushPart<B, D>,
-    pub(crate) ended: Result<(), Error>,
-}
-
 /// What the flusher's thread gives back.
 #[derive(Drop)]
 pub(crate) struct FlushesOn<B: Group, D: Device>(Snapshot<FlushPart<B, D>>);
 
-impl<B: Group, D: Device> Promise<Result<Flushed<B, D>, FlushPart<B, D>>> for FlushesOn<B, D> {
+impl<B: Group, D: Device> Promise<Result<Flushed<FlushPart<B, D>>, FlushPart<B, D>>>
+    for FlushesOn<B, D> {
     ghost use Rattle.std.specs.Prelude.{◌≡◌, IfErr, IfOk};
     ghost use Rattle.threads_loops.specs.Through.{HasFlushed};
 
@@ -47,25 +41,30 @@ impl<B: Group, D: Device> Promise<Result<Flushed<B, D>, FlushPart<B, D>>> for Fl
 }
 
 // What the flusher does in its thread: nothing, where the run was called off.
-fn flush_in_run<B: Group, D: Device, R: Wait, G: Gate>(
+fn flush_in_run<B: Group, D: Device, R: Wait, G: Gate, W: Flushing<Shared<B>, FlushPart<B, D>>>(
     rt: &R,
     shared: &Shared<B>,
-    mut flush: FlushPart<B, D>,
+    flush: FlushPart<B, D>,
+    flushing: &W,
     gate: &G,
     run: &Run,
-) -> Result<Flushed<B, D>, FlushPart<B, D>>
+) -> Result<Flushed<FlushPart<B, D>>, FlushPart<B, D>>
+    requires takes { W.takes flushing.now flush }
+    requires flushes { FlushesSo D.past_of D.marks D.failures B.site.opened W.leaves }
     ensures called_off { IfErr result (λ part. part ≡ flush) }
     ensures ran { IfOk result (λ f. HasFlushed D.past_of D.marks D.failures B.site.opened flush f.flush f.ended) }
 {
     if !run.begins(rt) {
         return Err(flush);
     }
-    let ended = flush_until(rt, shared, &mut flush, gate, true, &run.ended);
-    Ok(Flushed { flush, ended })
+    Ok(flushing.flush(rt, shared, flush, gate, &run.ended))
 }
 
 // The flusher's thread.
-type FlushThread<B, D> = PromisedHandle<Result<Flushed<B, D>, FlushPart<B, D>>, FlushesOn<B, D>>;
+type FlushThread<B, D> = PromisedHandle<
+    Result<Flushed<FlushPart<B, D>>, FlushPart<B, D>>,
+    FlushesOn<B, D>,
+>;
 
 /// Starts the flusher's thread. Where it can't be made, the run is called off, and the part comes back.
 pub(crate) fn start_flusher<
@@ -75,20 +74,25 @@ pub(crate) fn start_flusher<
     D: Device + Send + Drop + 'e,
     R: Threads + Wait + Sync,
     G: Gate + Sync,
+    W: Flushing<Shared<B>, FlushPart<B, D>> + Sync,
 >(
     rt: &'e R,
     scope: &'s Scope<'s, &'e ()>,
     shared: &'e Shared<B>,
     flush: FlushPart<B, D>,
+    flushing: &'e W,
     gate: &'e G,
     run: &'e Run,
 ) -> Result<FlushThread<B, D>, (FlushPart<B, D>, NoThread)>
+    requires takes { W.takes flushing.now flush }
+    requires flushes { FlushesSo D.past_of D.marks D.failures B.site.opened W.leaves }
     ensures started { IfOk result (λ h. h.promise.0.value ≡ flush) }
     ensures back { IfErr result (λ r. r.0 ≡ flush) }
 {
     let promise = FlushesOn(Snapshot::of(&flush));
-    match scope.spawn_with(promise, move || flush_in_run(rt, shared, flush, gate, run)) {
-        Ok(flushing) => Ok(flushing),
+    let work = move || flush_in_run(rt, shared, flush, flushing, gate, run);
+    match scope.spawn_with(promise, work) {
+        Ok(thread) => Ok(thread),
         Err(refused) => {
             run.call_off();
             Err((called_off(rt, (refused.value)()), NoThread(())))

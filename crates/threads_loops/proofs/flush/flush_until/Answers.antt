@@ -10,8 +10,8 @@ use Rattle.threads_loops.proofs.Running.{goes_by_running}
 use Rattle.threads_loops.proofs.Through.{through_forgetting, through_taking, through_then}
 use Rattle.threads_loops.proofs.flush.flush_until.Goals as goal
 
-pub round-requires : goal.round-requires
-round-requires g c =
+pub flush_round-seen-requires : goal.flush_round-seen-requires
+flush_round-seen-requires g c =
     let was = c.loop.part in
     let mid = c.stopped.new.self in
     record { copying = stands_by_taking was mid (took_look was mid c.stopped.ensures.looks) c.loop.invariant.copying }
@@ -34,8 +34,8 @@ loop-preserved g c =
     let through : RunsThrough past_of g.D.Device.marks failures o c.args.part.now mid = through_then past_of failures o _ was mid c.loop.invariant.through
     (through_taking past_of failures o was mid takes) in
     record {
-      through = through_then past_of failures o _ mid c.round.new.part through c.round.ensures.through;
-      copying = c.round.ensures.copying;
+      through = through_then past_of failures o _ mid c.flush_round-seen.new.part through c.flush_round-seen.ensures.through;
+      copying = c.flush_round-seen.ensures.copying;
     }
 
 pub returns-then-has_failed : goal.returns-then-has_failed

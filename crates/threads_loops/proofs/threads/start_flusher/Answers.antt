@@ -10,4 +10,5 @@ spawn_with-requires-send-F g c κs within =
     let q = c.type_bounds.sync-G in
     let s = shared_sync (param 0 g.row.B) g.B.Group in
     let d = c.type_bounds.send-D in
+    let w = c.type_bounds.sync-W in
     search (flush_send, sendable, crosses) depth 20

@@ -1,5 +1,5 @@
 use Rattle.threads_loops.proofs.Steps.{built_on, stopped_ends, told_reason}
-use Rattle.threads_loops.proofs.run.run_beside.Goals as goal
+use Rattle.threads_loops.proofs.run.run_with.Goals as goal
 
 pub tell-told-requires : goal.tell-told-requires
 tell-told-requires g c = stopped_ends g.B.Group.site.opened
