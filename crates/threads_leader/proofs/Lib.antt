@@ -1,0 +1,2 @@
+mod Leading
+mod Waiting

@@ -1,0 +1,108 @@
+//! The flusher's part, as it lies on a desk.
+ghost use Rattle.std.specs.Prelude.{◌≡◌, Some};
+ghost use Rattle.threads_leader.specs.Led.{IsLed};
+
+use crate::course::Course;
+use sector_device::Device;
+use shared::{Group, Memory, Shared};
+use std::alloc::Global;
+use std::marker::{Model, PhantomData};
+use std::sync::Wait;
+use threads_flusher::FlushPart;
+use threads_loops::{Found, Gate, RoundsMade, flush_round};
+
+/// What came of it that a thread was to make a round.
+#[derive(Clone, Copy)]
+pub(crate) enum Led {
+    /// One was made, and this was found in it.
+    Round(Found),
+    /// Another thread makes one.
+    Busy,
+    /// None is to be made: the stop flag was read, the device has failed, or no part lies there.
+    Over,
+}
+
+impl Led {
+    /// Whether none is to be made.
+    pub(crate) fn is_over(self) -> bool {
+        match self {
+            Led::Over => true,
+            Led::Round(_) | Led::Busy => false,
+        }
+    }
+}
+
+/// The flusher's part between two rounds, which any thread may make. To a contract it has no value. Its type keeps that
+/// the part has gone on from the one that began, as `flush_loop` goes on.
+#[derive(Drop)]
+pub(crate) struct Turn<C: Course<D, A>, B: Group, D: Device, A: Memory = Global> {
+    part: FlushPart<B, D, A>,
+    rounds: RoundsMade,
+    course: PhantomData<C>,
+}
+
+impl<C: Course<D, A>, B: Group, D: Device, A: Memory> Model for Turn<C, B, D, A> {
+    ghost use Rattle.std.specs.Prelude.{⊤};
+    ghost use Rattle.threads_leader.specs.Led.{IsLed};
+
+    ghost Value = { ⊤ };
+
+    ghost view = { λ _. tt };
+
+    ghost invariant = { λ t. IsLed D.past_of D.marks D.failures B.site.opened C.begun t.part };
+}
+
+impl<C: Course<D, A>, B: Group, D: Device, A: Memory> Turn<C, B, D, A> {
+    /// The part as it begins. An image of an earlier run is forgotten.
+    pub(crate) fn new(mut part: FlushPart<B, D, A>) -> Turn<C, B, D, A>
+        requires { C.begun ≡ Some part }
+    {
+        part.forget_image();
+        Turn {
+            part,
+            rounds: RoundsMade::new(),
+            course: PhantomData,
+        }
+    }
+
+    // Whether all threads are asked to stop.
+    fn stops(&mut self, shared: &Shared<B, A>) -> bool {
+        self.part.stopped(shared.board())
+    }
+
+    // Whether the device has failed.
+    fn has_failed(&self) -> bool {
+        self.part.has_failed()
+    }
+
+    // Makes a round.
+    fn go_on<R: Wait, G: Gate>(&mut self, rt: &R, shared: &Shared<B, A>, gate: &G) -> Found {
+        let rings = shared.board().waits().pushed.rings();
+        flush_round(rt, shared, &mut self.part, &mut self.rounds, rings, gate)
+    }
+
+    /// Makes a round, if one is to be made.
+    pub(crate) fn lead<R: Wait, G: Gate>(
+        &mut self,
+        rt: &R,
+        shared: &Shared<B, A>,
+        gate: &G,
+    ) -> Led {
+        if self.stops(shared) || self.has_failed() {
+            return Led::Over;
+        }
+        Led::Round(self.go_on(rt, shared, gate))
+    }
+
+    /// The part as it is now.
+    pub(crate) fn into_part(self) -> FlushPart<B, D, A>
+        ensures { IsLed D.past_of D.marks D.failures B.site.opened C.begun result }
+    {
+        let Turn {
+            part,
+            rounds: _,
+            course: _,
+        } = self;
+        part
+    }
+}
