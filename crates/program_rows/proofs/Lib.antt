@@ -1,0 +1,2 @@
+mod PairRecords
+mod RowLemmas

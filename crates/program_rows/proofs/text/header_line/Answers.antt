@@ -1,0 +1,7 @@
+use Rattle.std.proofs.Common.{◌≡◌, IfOk, List, ℕ, subst}
+use Rattle.csv.specs.Writing.{default_writer, row_text}
+use Rattle.program_rows.proofs.text.header_line.Goals as goal
+
+pub returns : goal.returns
+returns c = subst (λ (fields : List (List ℕ)). IfOk c.line_of.result (λ text. text.items ≡ row_text default_writer fields)) c.in_ok-fields.ensures
+    c.line_of.ensures

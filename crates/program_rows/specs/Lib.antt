@@ -1,0 +1,4 @@
+pub mod Exported
+pub mod Headers
+pub mod Loaded
+pub mod Rows

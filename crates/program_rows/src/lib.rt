@@ -1,0 +1,36 @@
+//! Rows as comma-separated fields: what a program loads from such a text into a store, and exports from it.
+//!
+//! Proved: which row a record gives, or why none (`row_of`, and `row_under` beneath a header of so many fields); the
+//! record of a row (`record_of`), and the lines of both (`line_of`, `row_line`). So are the columns of names, the first
+//! of each (`column_named`, `columns_named`), or `key` and `body`, or the first two (`default_columns`). An export
+//! prints just the rows, in the order of their places (`export_by_place`) or of the visible pairs (`export_by_key`). A
+//! `Loader` counts rows whose transaction is committed and safe (`commit`).
+//!
+//! Laws: the record of a row gives the row, and a record of two fields is that of the row which it gives (`each_row`).
+//! What a writer writes of a row's record, a reader reads (`each_line`).
+//!
+//! Only tested: that a `RowReader` reads the records of a text one behind another, and the lines in which they begin;
+//! which rows a `Loader` inserts.
+//!
+//! A field has the bytes of its key or body as they are. A text that begins with such a record, whose key begins with a
+//! byte order mark, is read without that: so an export begins with a header. A quote that nothing closes takes all that
+//! follows into its field.
+#![tactic(auto)]
+
+mod columns;
+mod error;
+mod exporting;
+mod laws;
+mod loading;
+mod reading;
+mod rows;
+mod text;
+
+pub use columns::{HeaderError, column_named, columns_named, default_columns, header};
+pub use error::{RowsError, TextError};
+pub use exporting::{export_by_key, export_by_place};
+pub use laws::{each_line, each_row};
+pub use loading::{Loader, Taken};
+pub use reading::{ColumnNames, RowReader};
+pub use rows::{Columns, RowError, record_of, row_of, row_under};
+pub use text::{header_line, line_of, row_line};

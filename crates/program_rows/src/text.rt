@@ -1,0 +1,40 @@
+//! The text of a record.
+ghost use Rattle.std.specs.Prelude.{◌≡◌, IfOk};
+ghost use Rattle.csv.specs.Records.{fields_of};
+ghost use Rattle.csv.specs.Writing.{default_writer, row_text};
+ghost use Rattle.program_rows.specs.Rows.{line_of_row, own_header};
+
+use crate::columns::header;
+use crate::error::TextError;
+use crate::rows::record_of;
+use csv::{ByteRecord, WriterBuilder};
+use records::Row;
+use std::alloc::Global;
+
+/// The line of the record, as a writer writes it. The error is that memory was refused (no clause says so).
+pub fn line_of(alloc: Global, record: &ByteRecord) -> Result<Vec<u8>, TextError>
+    ensures { IfOk result (λ text. text.items ≡ row_text default_writer (fields_of record.now)) }
+{
+    let mut writer = WriterBuilder::new().from_writer(Vec::new(alloc));
+    writer.write_byte_record(record)?;
+    match writer.into_inner() {
+        Ok(text) => Ok(text),
+        Err(error) => Err(TextError::from(error.into_error())),
+    }
+}
+
+/// The line of the row's record.
+pub fn row_line(alloc: Global, row: &Row) -> Result<Vec<u8>, TextError>
+    ensures { IfOk result (λ text. text.items ≡ line_of_row row.now) }
+{
+    let fields = record_of(alloc, row)?;
+    line_of(alloc, &fields)
+}
+
+/// The line of the header of exported rows.
+pub fn header_line(alloc: Global) -> Result<Vec<u8>, TextError>
+    ensures { IfOk result (λ text. text.items ≡ own_header) }
+{
+    let fields = header(alloc)?;
+    line_of(alloc, &fields)
+}

@@ -1,0 +1,5 @@
+//! Tests of rows as comma-separated fields.
+#![tactic(auto)]
+
+#[cfg(test)]
+mod tests;
