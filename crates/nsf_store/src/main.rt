@@ -3,13 +3,25 @@
 //! All that it does is in `program_shell`.
 #![tactic(auto)]
 
-use std::io::BufReader;
+use std::io::{BufReader, IsTerminal};
 use std::process::ExitCode;
 use std::{env, io};
 
+// Where `run` reads a terminal, a prompt is asked for.
+fn add_prompt(rt: &HostRuntime, words: &mut Vec<String>) -> io::Result<()> {
+    let runs = words.get(1).is_some_and(|word| word.as_str() == "run");
+    let is_asked = words.iter().any(|word| word.as_str() == "--prompt");
+    if runs && !is_asked && rt.stdin().is_terminal() {
+        words.push(String::from_str(rt.alloc(), "--prompt")?)?;
+    }
+    Ok(())
+}
+
 // The words that the program was given.
 fn words(rt: &HostRuntime) -> io::Result<Vec<String>> {
-    Ok(env::args(rt)?.collect(rt.alloc())?)
+    let mut words = env::args(rt)?.collect(rt.alloc())?;
+    add_prompt(rt, &mut words)?;
+    Ok(words)
 }
 
 fn main(rt: HostRuntime) -> io::Result<ExitCode> {

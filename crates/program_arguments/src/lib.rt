@@ -6,6 +6,7 @@
 #![tactic(auto)]
 
 mod args;
+mod load;
 mod scan;
 mod store;
 mod threads;
@@ -19,6 +20,7 @@ use crate::args::program_named;
 use clap::builder::ValueParser;
 use clap::error::ErrorKind;
 use clap::{Arg, ArgMatches, Command, Error, value_parser};
+pub use load::LoadArguments;
 use program_values::{Arguments, FATES, Options, fate_named};
 use records::{ENTRIES_MAX, ENTRIES_MIN, LOG_SLOTS_MAX, LOG_SLOTS_MIN, PAGES_MAX};
 pub use scan::ScanArguments;
@@ -26,7 +28,7 @@ use sector_device::Fate;
 use std::alloc::{AllocError, Global};
 use std::convert::AsStr;
 use std::io::Write;
-pub use store::{Asked, Build, Serving, Verb, read_asked};
+pub use store::{Asked, Build, Order, Serving, Verb, read_asked};
 pub use threads::{ThreadsArguments, read_threads};
 
 /// The version of the programs.

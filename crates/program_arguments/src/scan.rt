@@ -72,8 +72,8 @@ pub(crate) fn with_scan_args<'a>(
     with_arg(verb, flag_arg(alloc, "count", COUNT_HELP))
 }
 
-// The word that was given under this name, if one was.
-fn word_in(
+/// The word that was given under this name, if one was.
+pub(crate) fn word_in(
     alloc: Global,
     matches: &ArgMatches<'_>,
     name: &str,

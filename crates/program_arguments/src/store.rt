@@ -1,7 +1,9 @@
 //! What the words of the program `nsf-store` ask for.
 use crate::args::{flag_arg, program_named, with_arg};
+use crate::load::{LoadArguments, load_of, with_load_args};
 use crate::scan::{ScanArguments, scan_of, with_scan_args};
 use crate::{option_named, tell};
+use clap::builder::ValueParser;
 use clap::{Arg, ArgMatches, Command, Error, value_parser};
 use records::{ENTRIES_MAX, ENTRIES_MIN, LOG_SLOTS_MAX, LOG_SLOTS_MIN, PAGES_MAX, SLOTS_PER_PAGE};
 use std::alloc::{AllocError, Global};
@@ -18,6 +20,8 @@ pub struct Build {
     pub is_anew: bool,
     /// Whether the count of attempts is shown.
     pub shows_progress: bool,
+    /// How many seconds it waits for a file that another process has open.
+    pub wait: u32,
 }
 
 /// How the commands of the input are to be served.
@@ -27,6 +31,19 @@ pub struct Serving {
     pub is_durable: bool,
     /// Whether the input ends at the first command that is refused.
     pub stops_on_refusal: bool,
+    /// Whether a prompt is printed before each line.
+    pub prompts: bool,
+    /// How many seconds it waits for a file that another process has open.
+    pub wait: u32,
+}
+
+/// In which order rows are exported.
+#[derive(Clone, Copy)]
+pub enum Order {
+    /// That of their places.
+    Place,
+    /// That of the index.
+    Key,
 }
 
 /// What is to be done with the file.
@@ -49,6 +66,8 @@ pub enum Verb {
     Stat,
     /// The index is built to its end, or dropped, created and built anew.
     Build(Build),
+    /// Its rows are printed as comma-separated fields.
+    Export(Order),
 }
 
 /// What is asked for of `nsf-store`.
@@ -64,6 +83,23 @@ pub enum Asked {
         path: String,
         asked: ScanArguments,
     },
+    /// Rows of another file are loaded into the store in the file of this path.
+    Load {
+        path: String,
+        asked: LoadArguments,
+    },
+    /// What can still be read of the rows of a damaged store is put into a new file, a file of blocks where that is
+    /// wanted.
+    Salvage {
+        old: String,
+        new: String,
+        has_blocks: bool,
+    },
+    /// The store in a file is copied to a new file of the same kind.
+    Backup {
+        old: String,
+        new: String,
+    },
     /// The store in a file is moved to a new file, a file of blocks where that is wanted.
     Migrate {
         old: String,
@@ -75,7 +111,7 @@ pub enum Asked {
 const ABOUT: &str =
     "Keeps a table with an index in a file. The index is built while the table is written
 
-Exit status: 0 where it was done, refused commands included; 1 where the file or the store was refused, told on the error stream, or a line was no command, told in its place; 2 for bad words; 3 where a command was refused, with --stop-on-refusal";
+Exit status: 0 where it was done, refused commands included; 1 where the file or the store was refused, told on the error stream, or a line was no command, told in its place; 2 for bad words; 3 where a command was refused, with --stop-on-refusal, or a row by `load`";
 
 const NEW_ABOUT: &str = "Makes a store in a new file";
 
@@ -93,8 +129,20 @@ const STAT_ABOUT: &str = "Prints what the store is and how far it has come";
 
 const BUILD_ABOUT: &str = "Builds the index to its end";
 
+const LOAD_ABOUT: &str =
+    "Loads rows from a file of comma-separated fields under a header, 64 a transaction, and prints how many are safe and how many were refused; the error stream says why, by line";
+
+const EXPORT_ABOUT: &str =
+    "Prints the rows as comma-separated fields under a header, as `load` reads them. The file is only read";
+
+const BACKUP_ABOUT: &str =
+    "Copies the store to a new file of the same kind, and prints what `stat` does of it. The old file is only read";
+
 const MIGRATE_ABOUT: &str =
     "Moves a store of version 1, or of either kind of file to the other, to a new file, and prints what `stat` does of it. The old file is only read";
+
+const SALVAGE_ABOUT: &str =
+    "Puts the rows that can still be read of a damaged store into a new file, without an index, and prints what is lost. The old file is only read";
 
 const PAGES_HELP: &str = "Pages of the table, 1 to 256 [default: 16]";
 
@@ -111,11 +159,25 @@ const DURABLE_HELP: &str =
 
 const STOP_HELP: &str = "Ends the input at the first command that is refused or line that is none";
 
+const PROMPT_HELP: &str =
+    "Prints a prompt before each line; so it is where the input is a terminal";
+
+const WAIT_HELP: &str =
+    "Waits so many seconds for a file that another process has open, 0 to 86400 [default: 0]";
+
+// A day.
+const WAIT_MAX: u32 = 86_400;
+
 const AGAIN_HELP: &str =
     "Drops the index before, if there is one, and creates it anew: the way out where it is full";
 
 const PROGRESS_HELP: &str =
     "Shows on the error stream how many pairs were attempted, also where that is no terminal";
+
+const ORDER_HELP: &str = "By `place`, or by `key`, which needs a complete index [default: place]";
+
+// The names of the orders, as arguments.
+static ORDERS: [&str; 2] = ["place", "key"];
 
 // Each of these hands on one call alone, so that what follows has no more to read than it needs. What falls by the way
 // is let go of by a call.
@@ -188,7 +250,9 @@ fn new_verb<'a>(alloc: Global) -> Result<Command<'a>, AllocError> {
 fn run_verb<'a>(alloc: Global) -> Result<Command<'a>, AllocError> {
     let verb = verb_with_file(alloc, "run", RUN_ABOUT);
     let verb = with_arg(verb, flag_arg(alloc, "durable", DURABLE_HELP));
-    with_arg(verb, flag_arg(alloc, "stop-on-refusal", STOP_HELP))
+    let verb = with_arg(verb, flag_arg(alloc, "stop-on-refusal", STOP_HELP));
+    let verb = with_arg(verb, flag_arg(alloc, "prompt", PROMPT_HELP));
+    with_arg(verb, number_arg(alloc, "wait", 0, WAIT_MAX, WAIT_HELP))
 }
 
 fn scan_verb<'a>(alloc: Global) -> Result<Command<'a>, AllocError> {
@@ -198,14 +262,40 @@ fn scan_verb<'a>(alloc: Global) -> Result<Command<'a>, AllocError> {
 fn build_verb<'a>(alloc: Global) -> Result<Command<'a>, AllocError> {
     let verb = verb_with_file(alloc, "build", BUILD_ABOUT);
     let verb = with_arg(verb, flag_arg(alloc, "again", AGAIN_HELP));
-    with_arg(verb, flag_arg(alloc, "progress", PROGRESS_HELP))
+    let verb = with_arg(verb, flag_arg(alloc, "progress", PROGRESS_HELP));
+    with_arg(verb, number_arg(alloc, "wait", 0, WAIT_MAX, WAIT_HELP))
 }
 
-fn migrate_verb<'a>(alloc: Global) -> Result<Command<'a>, AllocError> {
-    let verb = Ok(bare_verb(alloc, "migrate", MIGRATE_ABOUT));
+fn load_verb<'a>(alloc: Global) -> Result<Command<'a>, AllocError> {
+    let verb = verb_with_file(alloc, "load", LOAD_ABOUT);
+    let verb = with_arg(verb, path_arg(alloc, "ROWS", "The file that has the rows"));
+    with_load_args(alloc, verb)
+}
+
+fn export_verb<'a>(alloc: Global) -> Result<Command<'a>, AllocError> {
+    let orders = ValueParser::from(ORDERS.as_slice());
+    let order = option_named(alloc, "order", "ORDER", orders, ORDER_HELP);
+    with_arg(verb_with_file(alloc, "export", EXPORT_ABOUT), order)
+}
+
+// A verb with an old file and a new one.
+fn verb_with_files<'a>(
+    alloc: Global,
+    name: &'a str,
+    about: &'a str,
+) -> Result<Command<'a>, AllocError> {
     let old = path_arg(alloc, "OLD", "The store's file");
-    let verb = with_arg(verb, old);
-    let verb = with_arg(verb, path_arg(alloc, "NEW", "The file that is made"));
+    let verb = with_arg(Ok(bare_verb(alloc, name, about)), old);
+    with_arg(verb, path_arg(alloc, "NEW", "The file that is made"))
+}
+
+// The same, where the new file may be one of blocks.
+fn verb_with_kind<'a>(
+    alloc: Global,
+    name: &'a str,
+    about: &'a str,
+) -> Result<Command<'a>, AllocError> {
+    let verb = verb_with_files(alloc, name, about);
     with_arg(verb, flag_arg(alloc, "blocks", BLOCKS_HELP))
 }
 
@@ -217,7 +307,11 @@ fn command<'a>(alloc: Global) -> Result<Command<'a>, AllocError> {
     let all = with_verb(all, scan_verb(alloc));
     let all = with_verb(all, verb_with_file(alloc, "stat", STAT_ABOUT));
     let all = with_verb(all, build_verb(alloc));
-    with_verb(all, migrate_verb(alloc))
+    let all = with_verb(all, load_verb(alloc));
+    let all = with_verb(all, export_verb(alloc));
+    let all = with_verb(all, verb_with_files(alloc, "backup", BACKUP_ABOUT));
+    let all = with_verb(all, verb_with_kind(alloc, "migrate", MIGRATE_ABOUT));
+    with_verb(all, verb_with_kind(alloc, "salvage", SALVAGE_ABOUT))
 }
 
 fn number_in(matches: &ArgMatches<'_>, name: &str, default: u32) -> u32 {
@@ -246,6 +340,8 @@ fn run_of(matches: &ArgMatches<'_>) -> Verb {
     Verb::Run(Serving {
         is_durable: matches.get_flag("durable"),
         stops_on_refusal: matches.get_flag("stop-on-refusal"),
+        prompts: matches.get_flag("prompt"),
+        wait: number_in(matches, "wait", 0),
     })
 }
 
@@ -253,7 +349,15 @@ fn build_of(matches: &ArgMatches<'_>) -> Verb {
     Verb::Build(Build {
         is_anew: matches.get_flag("again"),
         shows_progress: matches.get_flag("progress"),
+        wait: number_in(matches, "wait", 0),
     })
+}
+
+fn export_of(matches: &ArgMatches<'_>) -> Verb {
+    match matches.get_str("order") {
+        Some("key") => Verb::Export(Order::Key),
+        _ => Verb::Export(Order::Place),
+    }
 }
 
 // The verb of this name; each but the last has a name of its own.
@@ -264,6 +368,7 @@ fn verb_of(name: &str, matches: &ArgMatches<'_>) -> Verb {
         "check" => Verb::Check,
         "dump" => Verb::Dump,
         "stat" => Verb::Stat,
+        "export" => export_of(matches),
         _ => build_of(matches),
     }
 }
@@ -273,25 +378,56 @@ fn path_in(alloc: Global, matches: &ArgMatches<'_>, name: &str) -> Result<String
     String::from_str(alloc, matches.get_str(name).unwrap_or(""))
 }
 
+fn migration_of(alloc: Global, matches: &ArgMatches<'_>) -> Result<Asked, AllocError> {
+    Ok(Asked::Migrate {
+        old: path_in(alloc, matches, "OLD")?,
+        new: path_in(alloc, matches, "NEW")?,
+        has_blocks: matches.get_flag("blocks"),
+    })
+}
+
+fn salvage_of(alloc: Global, matches: &ArgMatches<'_>) -> Result<Asked, AllocError> {
+    Ok(Asked::Salvage {
+        old: path_in(alloc, matches, "OLD")?,
+        new: path_in(alloc, matches, "NEW")?,
+        has_blocks: matches.get_flag("blocks"),
+    })
+}
+
+fn backup_of(alloc: Global, matches: &ArgMatches<'_>) -> Result<Asked, AllocError> {
+    Ok(Asked::Backup {
+        old: path_in(alloc, matches, "OLD")?,
+        new: path_in(alloc, matches, "NEW")?,
+    })
+}
+
+fn showing_of(alloc: Global, matches: &ArgMatches<'_>) -> Result<Asked, AllocError> {
+    Ok(Asked::Scan {
+        path: path_in(alloc, matches, "FILE")?,
+        asked: scan_of(alloc, matches)?,
+    })
+}
+
+fn loading_of(alloc: Global, matches: &ArgMatches<'_>) -> Result<Asked, AllocError> {
+    Ok(Asked::Load {
+        path: path_in(alloc, matches, "FILE")?,
+        asked: load_of(alloc, matches)?,
+    })
+}
+
 // What is asked for by the verb of this name.
 fn asked_by(alloc: Global, name: &str, matches: &ArgMatches<'_>) -> Result<Asked, AllocError> {
-    if name == "migrate" {
-        return Ok(Asked::Migrate {
-            old: path_in(alloc, matches, "OLD")?,
-            new: path_in(alloc, matches, "NEW")?,
-            has_blocks: matches.get_flag("blocks"),
-        });
-    }
-    if name == "scan" {
-        return Ok(Asked::Scan {
+    match name {
+        "migrate" => migration_of(alloc, matches),
+        "salvage" => salvage_of(alloc, matches),
+        "backup" => backup_of(alloc, matches),
+        "scan" => showing_of(alloc, matches),
+        "load" => loading_of(alloc, matches),
+        _ => Ok(Asked::Of {
             path: path_in(alloc, matches, "FILE")?,
-            asked: scan_of(alloc, matches)?,
-        });
+            verb: verb_of(name, matches),
+        }),
     }
-    Ok(Asked::Of {
-        path: path_in(alloc, matches, "FILE")?,
-        verb: verb_of(name, matches),
-    })
 }
 
 // What was found in the words.

@@ -79,7 +79,8 @@ module _ {D : Type 0} (past_of : D → DevicePast) (failures : D → ℕ) where
       ((is_stepped before ≡ true) × ServesGuarded past_of failures (event.Step txn) after old new)
       ⊎ ((is_stepped before ≡ false) × (after ≡ before) × (new ≡ old))
 
-  -- the steps that a change still owes were made, up to a reply that tells of none: no change owes more than two
+  -- The steps that a change still owes were made, up to a reply that tells of none: no change owes more than two (the
+  -- law `each_further_step` of core_laws).
   pub record Settles (txn : ℕ) (final : Reply Global) (old new : GuardedStore D) : Type 0 where
     pub first : Reply Global
     pub second : Reply Global

@@ -134,9 +134,9 @@ impl<D: Device> Store<D> {
         scan(alloc, self.core(), &asked.range, None, asked.limit)
     }
 
-    /// Prints the first page of the range that is asked for: a line for each pair, in order, and then `end`, or `more`
-    /// and the last of these pairs where more is left of the range. Or it prints why there is none: `NoIndex`,
-    /// `NotBuilt` or `NoMemory`. It tells what came of it.
+    /// Prints the first page of the range that is asked for: a line for each pair, in order, and then `end`, or (with
+    /// a limit above 0) `more` and the last of these pairs where more is left of the range. Or it prints why there is
+    /// none: `NoIndex`, `NotBuilt` or `NoMemory`. It tells what came of it.
     pub fn print_page<W: Write>(
         &self,
         alloc: Global,

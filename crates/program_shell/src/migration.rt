@@ -1,10 +1,11 @@
 //! A store in a file is moved to a new file: one of version 1, or of version 2 from either kind of file to the other.
+//! One of version 2 is copied to a new file of the same kind.
 use crate::copying::copy_disk;
 use crate::damage::refuse_damaged;
 use crate::making::{create_device, publish};
 use crate::refused::Refused;
 use crate::show::read_disk;
-use block_host::{FileDevice, InFile, hold_device};
+use block_host::{FileDevice, HeldDevice, InFile, hold_device};
 use records::{Error, Geometry};
 use restart::MigrateError;
 use sector_device::Device;
@@ -104,8 +105,8 @@ fn geometry_of<O: Device>(alloc: Global, old: &mut O) -> Result<Geometry, NotMov
     }
 }
 
-// Copies the store of version 2 on the old disk to a new file.
-fn copy_to<R: Files<File = File> + AllocGlobal, O: Device>(
+/// Copies the store of version 2 on the old disk to a new file.
+pub(crate) fn copy_to<R: Files<File = File> + AllocGlobal, O: Device>(
     rt: &R,
     old: &mut O,
     path: &str,
@@ -146,6 +147,21 @@ fn migrate_disk<R: Files<File = File> + AllocGlobal, O: Device>(
     }
 }
 
+// The device in the old file, which is only read, and locked until the device is dropped. No sector of it is damaged.
+fn hold_whole<R: Files<File = File> + AllocGlobal>(
+    rt: &R,
+    path: &str,
+) -> Result<HeldDevice<File, Global>, NotMoved> {
+    let mut disk = match hold_device(rt, rt.alloc(), path) {
+        Ok(disk) => disk,
+        Err(error) => return Err(NotMoved::Old(Refused::from(error))),
+    };
+    match refuse_damaged(&mut disk) {
+        Ok(()) => Ok(disk),
+        Err(refused) => Err(NotMoved::Old(refused)),
+    }
+}
+
 /// Moves the store in the old file, which is only read and locked to the end, to a new file, which is one of blocks
 /// where that is wanted. Where that is refused before the new file has its name, no file is left, if the draft can be
 /// removed. What is wrong with the old file is told before what is wrong with the new one.
@@ -155,13 +171,18 @@ pub(crate) fn migrate_file<R: Files<File = File> + AllocGlobal>(
     new: &str,
     has_blocks: bool,
 ) -> Result<(), NotMoved> {
-    let mut disk = match hold_device(rt, rt.alloc(), old) {
-        Ok(disk) => disk,
-        Err(error) => return Err(NotMoved::Old(Refused::from(error))),
-    };
-    if let Err(refused) = refuse_damaged(&mut disk) {
-        return Err(NotMoved::Old(refused));
-    }
+    let mut disk = hold_whole(rt, old)?;
     let is_same_kind = has_blocks == matches!(disk, FileDevice::Blocks(_));
     migrate_disk(rt, &mut disk, new, has_blocks, is_same_kind)
+}
+
+/// Copies the store of version 2 in the old file to a new file of the same kind, in the same way.
+pub(crate) fn backup_file<R: Files<File = File> + AllocGlobal>(
+    rt: &R,
+    old: &str,
+    new: &str,
+) -> Result<(), NotMoved> {
+    let mut disk = hold_whole(rt, old)?;
+    let has_blocks = matches!(disk, FileDevice::Blocks(_));
+    copy_to(rt, &mut disk, new, has_blocks)
 }

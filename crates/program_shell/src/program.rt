@@ -1,17 +1,23 @@
 //! The verbs of the program.
 use crate::building::build_index;
-use crate::damage::{refuse_damaged, write_damaged};
+use crate::damage::write_damaged;
+use crate::loading::{NotLoaded, load_file};
 use crate::making::{end, make};
-use crate::migration::{NotMoved, migrate_file};
+use crate::migration::{NotMoved, backup_file, migrate_file};
 use crate::name::OpenName;
+use crate::opening::{open, read_and_open, read_whole};
 use crate::refused::Refused;
-use crate::scan::{Shown, show_range, shown_by};
+use crate::salvaging::salvage_file;
+use crate::scan::{Shown, refuse_incomplete, show_range, shown_by};
 use crate::serve::Service;
-use crate::show::{Stored, read_disk, write_stat};
+use crate::show::write_stat;
 use crate::tally::Ended;
-use block_host::{InFile, open_device, read_device};
-use program_arguments::{Asked, Build, ScanArguments, Serving, Verb, read_asked};
+use block_host::{InFile, OpenDevice, device_in, read_device, take_within};
+use program_arguments::{
+    Asked, Build, LoadArguments, Order, ScanArguments, Serving, Verb, read_asked,
+};
 use program_commands::Store;
+use program_rows::{export_by_key, export_by_place};
 use records::Geometry;
 use sector_device::Device;
 use std::alloc::Global;
@@ -19,38 +25,8 @@ use std::convert::AsStr;
 use std::fs::File;
 use std::io;
 use std::io::{BufRead, Write};
-use std::rt::Files;
+use std::rt::{Clock, Files};
 use store_file::Troubled;
-
-// A store on the disk, opened.
-fn open<D: Device + Troubled + Drop>(alloc: Global, disk: D) -> Result<Store<D>, Refused> {
-    match Store::open(alloc, disk) {
-        Ok(store) => Ok(store),
-        Err((error, disk)) => {
-            let refused = Refused::Store(error).because(&disk);
-            drop(disk);
-            Err(refused)
-        }
-    }
-}
-
-// What the disk itself says, and its store.
-fn read_and_open<D: Device + Troubled + Drop>(
-    alloc: Global,
-    mut disk: D,
-) -> Result<(Stored, Store<D>), Refused> {
-    let stored = read_disk(alloc, &mut disk)?;
-    Ok((stored, open(alloc, disk)?))
-}
-
-// The same of a disk of which no sector is damaged.
-fn read_whole<D: Device + Troubled + InFile + Drop>(
-    alloc: Global,
-    mut disk: D,
-) -> Result<(Stored, Store<D>), Refused> {
-    refuse_damaged(&mut disk)?;
-    read_and_open(alloc, disk)
-}
 
 // What follows does one verb on a disk, and then on that of a file: what a file is, is behind none of the store's own
 // calls.
@@ -87,7 +63,18 @@ fn build_disk<D: Device + Troubled + InFile + Drop, W: Write, E: Write>(
     ended
 }
 
-fn build_file<R: Files<File = File>, W: Write, E: Write>(
+// The device in the file, which is waited for so many seconds where another process has it open.
+fn open_within<R: Files<File = File> + Clock>(
+    rt: &R,
+    alloc: Global,
+    path: &str,
+    seconds: u32,
+) -> Result<OpenDevice<File, Global>, Refused> {
+    let taken = take_within(rt, &alloc, path, seconds)?;
+    Ok(device_in(alloc, taken)?)
+}
+
+fn build_file<R: Files<File = File> + Clock, W: Write, E: Write>(
     rt: &R,
     alloc: Global,
     path: &str,
@@ -95,7 +82,7 @@ fn build_file<R: Files<File = File>, W: Write, E: Write>(
     output: &mut W,
     errors: &mut E,
 ) -> Result<(), Refused> {
-    let disk = open_device(rt, alloc, path)?;
+    let disk = open_within(rt, alloc, path, build.wait)?;
     build_disk(alloc, disk, build, output, errors)
 }
 
@@ -195,6 +182,45 @@ fn scan_file<R: Files<File = File>, W: Write>(
     scan_disk(alloc, read_device(rt, alloc, path)?, shown, output)
 }
 
+// Prints the rows of the store in this order.
+fn export<D: Device, W: Write>(
+    alloc: Global,
+    store: &Store<D>,
+    order: Order,
+    output: &mut W,
+) -> Result<(), Refused> {
+    match order {
+        Order::Place => Ok(export_by_place(alloc, store.core(), output)?),
+        Order::Key => {
+            refuse_incomplete(store.life())?;
+            Ok(export_by_key(alloc, store.core(), output)?)
+        }
+    }
+}
+
+// Prints the rows of the store on the disk.
+fn export_disk<D: Device + Troubled + InFile + Drop, W: Write>(
+    alloc: Global,
+    disk: D,
+    order: Order,
+    output: &mut W,
+) -> Result<(), Refused> {
+    let (_, store) = read_whole(alloc, disk)?;
+    let done = export(alloc, &store, order, output);
+    drop(store);
+    done
+}
+
+fn export_file<R: Files<File = File>, W: Write>(
+    rt: &R,
+    alloc: Global,
+    path: &str,
+    order: Order,
+    output: &mut W,
+) -> Result<(), Refused> {
+    export_disk(alloc, read_device(rt, alloc, path)?, order, output)
+}
+
 // Serves the input over the store on the disk, and tells how it ended. Behind the last line what is not flushed yet is
 // flushed, and the use of the disk ended.
 fn run_disk<R: Files, D: Device + Troubled + InFile + Drop, I: BufRead, W: Write, E: Write>(
@@ -220,7 +246,7 @@ fn run_disk<R: Files, D: Device + Troubled + InFile + Drop, I: BufRead, W: Write
     Ok(ended)
 }
 
-fn run_file<R: Files<File = File>, I: BufRead, W: Write, E: Write>(
+fn run_file<R: Files<File = File> + Clock, I: BufRead, W: Write, E: Write>(
     rt: &R,
     alloc: Global,
     path: &str,
@@ -229,13 +255,13 @@ fn run_file<R: Files<File = File>, I: BufRead, W: Write, E: Write>(
     output: &mut W,
     errors: &mut E,
 ) -> Result<Ended, Refused> {
-    let disk = open_device(rt, alloc, path)?;
+    let disk = open_within(rt, alloc, path, serving.wait)?;
     let name = OpenName::new(rt, path);
     run_disk(alloc, disk, &name, serving, input, output, errors)
 }
 
 // Does what is asked for, and tells how the input ended.
-fn act<R: Files<File = File> + AllocGlobal, I: BufRead, W: Write, E: Write>(
+fn act<R: Files<File = File> + Clock + AllocGlobal, I: BufRead, W: Write, E: Write>(
     rt: &R,
     path: &str,
     verb: Verb,
@@ -258,19 +284,19 @@ fn act<R: Files<File = File> + AllocGlobal, I: BufRead, W: Write, E: Write>(
         Verb::Dump => dump_file(rt, alloc, path, output)?,
         Verb::Stat => stat_file(rt, alloc, path, output)?,
         Verb::Build(build) => build_file(rt, alloc, path, build, output, errors)?,
+        Verb::Export(order) => export_file(rt, alloc, path, order, output)?,
     }
     Ok(Ended::Well)
 }
 
-// Moves the store in the old file to the new one, and prints what that is.
-fn move_and_stat<R: Files<File = File> + AllocGlobal, W: Write>(
+// Prints what the store in a new file is, if it was made.
+fn stat_new<R: Files<File = File> + AllocGlobal, W: Write>(
     rt: &R,
-    old: &str,
     new: &str,
-    has_blocks: bool,
+    made: Result<(), NotMoved>,
     output: &mut W,
 ) -> Result<(), NotMoved> {
-    migrate_file(rt, old, new, has_blocks)?;
+    made?;
     match stat_file(rt, rt.alloc(), new, output) {
         Ok(()) => Ok(()),
         Err(refused) => Err(NotMoved::New(refused)),
@@ -303,8 +329,56 @@ fn scan<R: Files<File = File> + AllocGlobal, W: Write, E: Write>(
     }
 }
 
+// Loads rows into the store in the file, and answers the exit status.
+fn load<R: Files<File = File> + AllocGlobal, W: Write, E: Write>(
+    rt: &R,
+    path: &str,
+    asked: &LoadArguments,
+    output: &mut W,
+    errors: &mut E,
+) -> u8 {
+    match load_file(rt, path, asked, output, errors) {
+        Ok(Ended::WithRefusal) => 3,
+        Ok(_) => 0,
+        Err(NotLoaded::Rows(refused)) => tell(asked.rows.as_str(), &refused, errors),
+        Err(NotLoaded::Store(refused)) => tell(path, &refused, errors),
+    }
+}
+
+// Tells of the new file what was made, and answers the exit status.
+fn tell_new<R: Files<File = File> + AllocGlobal, W: Write, E: Write>(
+    rt: &R,
+    (old, new): (&str, &str),
+    made: Result<(), NotMoved>,
+    output: &mut W,
+    errors: &mut E,
+) -> u8 {
+    match stat_new(rt, new, made, output) {
+        Ok(()) => 0,
+        Err(NotMoved::Old(refused)) => tell(old, &refused, errors),
+        Err(NotMoved::New(refused)) => tell(new, &refused, errors),
+    }
+}
+
+// Does what is asked for with a file alone, and answers the exit status.
+fn answer_verb<R: Files<File = File> + Clock + AllocGlobal, I: BufRead, W: Write, E: Write>(
+    rt: &R,
+    path: &str,
+    verb: Verb,
+    input: &mut I,
+    output: &mut W,
+    errors: &mut E,
+) -> u8 {
+    match act(rt, path, verb, input, output, errors) {
+        Ok(Ended::Well) => 0,
+        Ok(Ended::WithBadLine) => 1,
+        Ok(Ended::WithRefusal) => 3,
+        Err(refused) => tell(path, &refused, errors),
+    }
+}
+
 // Does what is asked for, and answers the exit status.
-fn answer<R: Files<File = File> + AllocGlobal, I: BufRead, W: Write, E: Write>(
+fn answer<R: Files<File = File> + Clock + AllocGlobal, I: BufRead, W: Write, E: Write>(
     rt: &R,
     asked: &Asked,
     input: &mut I,
@@ -312,23 +386,28 @@ fn answer<R: Files<File = File> + AllocGlobal, I: BufRead, W: Write, E: Write>(
     errors: &mut E,
 ) -> u8 {
     match asked {
-        Asked::Of { path, verb } => match act(rt, path.as_str(), *verb, input, output, errors) {
-            Ok(Ended::Well) => 0,
-            Ok(Ended::WithBadLine) => 1,
-            Ok(Ended::WithRefusal) => 3,
-            Err(refused) => tell(path.as_str(), &refused, errors),
-        },
+        Asked::Of { path, verb } => answer_verb(rt, path.as_str(), *verb, input, output, errors),
         Asked::Scan { path, asked } => scan(rt, path.as_str(), asked, output, errors),
+        Asked::Load { path, asked } => load(rt, path.as_str(), asked, output, errors),
+        Asked::Backup { old, new } => {
+            let made = backup_file(rt, old.as_str(), new.as_str());
+            tell_new(rt, (old.as_str(), new.as_str()), made, output, errors)
+        }
+        Asked::Salvage {
+            old,
+            new,
+            has_blocks,
+        } => {
+            let made = salvage_file(rt, old.as_str(), new.as_str(), *has_blocks, output);
+            tell_new(rt, (old.as_str(), new.as_str()), made, output, errors)
+        }
         Asked::Migrate {
             old,
             new,
             has_blocks,
         } => {
-            match move_and_stat(rt, old.as_str(), new.as_str(), *has_blocks, output) {
-                Ok(()) => 0,
-                Err(NotMoved::Old(refused)) => tell(old.as_str(), &refused, errors),
-                Err(NotMoved::New(refused)) => tell(new.as_str(), &refused, errors),
-            }
+            let made = migrate_file(rt, old.as_str(), new.as_str(), *has_blocks);
+            tell_new(rt, (old.as_str(), new.as_str()), made, output, errors)
         }
     }
 }
@@ -336,8 +415,8 @@ fn answer<R: Files<File = File> + AllocGlobal, I: BufRead, W: Write, E: Write>(
 /// Runs the program on these words, the first of which is its own name, and answers its exit status: 0 where what they
 /// ask for was done, refused commands included; 1 where the file or the store was refused, of which the error stream
 /// says why, or a line of the input was no command; 2 for bad words; 3 where the input was to end with a command that
-/// is refused, and one was.
-pub fn run<R: Files<File = File> + AllocGlobal, S: AsStr, I: BufRead, W: Write, E: Write>(
+/// is refused, and one was, or where a row that was to be loaded is none.
+pub fn run<R: Files<File = File> + Clock + AllocGlobal, S: AsStr, I: BufRead, W: Write, E: Write>(
     rt: &R,
     words: &[S],
     input: &mut I,

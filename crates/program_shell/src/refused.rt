@@ -6,6 +6,7 @@ ghost use Rattle.program_shell.specs.declared.refused.Refused.TheVariants.{File,
 
 use block_file::FileError;
 use block_host::DiskError;
+use program_rows::{HeaderError, RowsError, TextError};
 use records::Error;
 use restart::Reply;
 use std::alloc::{AllocError, Global};
@@ -38,6 +39,8 @@ pub enum Refused {
     Unsound,
     /// The store that is to be moved is of version 2 already.
     Newer,
+    /// The header of rows isn't there, or doesn't name their columns.
+    Header(HeaderError),
     /// The input can't be read, or the output can't be written.
     Stream(io::Error),
 }
@@ -101,6 +104,28 @@ impl From<AllocError> for Refused {
     }
 }
 
+impl From<TextError> for Refused {
+    // Of rows that were to be read.
+    fn from(error: TextError) -> Refused {
+        match error {
+            TextError::Header(error) => Refused::Header(error),
+            TextError::Io(error) => Refused::Device(Trouble::of(error)),
+            TextError::NoMemory => Refused::Store(Error::NoMemory),
+        }
+    }
+}
+
+impl From<RowsError> for Refused {
+    // Of rows that were exported.
+    fn from(error: RowsError) -> Refused {
+        match error {
+            RowsError::Text(TextError::Io(error)) => Refused::Stream(error),
+            RowsError::Text(error) => Refused::from(error),
+            RowsError::Store(error) => Refused::Store(error),
+        }
+    }
+}
+
 /// The refusal that a reply tells, if it is one.
 pub(crate) fn granted(reply: Reply<Global>) -> Result<(), Refused> {
     match reply {
@@ -127,6 +152,7 @@ fn write_error<W: fmt::Write>(error: Error, f: &mut fmt::Formatter<W>) -> fmt::R
         Error::Damaged { sector } => write!(f, "it is damaged at sector {sector}"),
         Error::DeviceFailed => f.write_str("its device failed"),
         Error::NoMemory => f.write_str("out of memory"),
+        Error::HeapFull => f.write_str("its table is full"),
         error => write!(f, "refused {error}"),
     }
 }
@@ -161,6 +187,7 @@ impl fmt::Display for Refused {
             Refused::NoKey => f.write_str(
                 "a key is `=` and graphic bytes, as `=ant`, or `:` and hexadecimal digits, as `:616e74`",
             ),
+            Refused::Header(error) => write!(f, "{error}"),
             Refused::NoIndex => f.write_str("it has no index; `create` in `run` begins one"),
             Refused::Stream(error) => write!(f, "input or output failed: {error}"),
         }

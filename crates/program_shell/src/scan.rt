@@ -73,6 +73,15 @@ fn print<D: Device, W: Write>(
     Ok(outcome)
 }
 
+/// Refused where the index isn't complete.
+pub(crate) fn refuse_incomplete(life: Life) -> Result<(), Refused> {
+    match life {
+        Life::Absent => Err(Refused::NoIndex),
+        Life::Building { .. } => Err(Refused::NotBuilt),
+        Life::Complete => Ok(()),
+    }
+}
+
 /// Prints what is to be shown of the store's index, which has to be complete.
 pub(crate) fn show_range<D: Device, W: Write>(
     alloc: Global,
@@ -80,11 +89,7 @@ pub(crate) fn show_range<D: Device, W: Write>(
     shown: &Shown,
     output: &mut W,
 ) -> Result<(), Refused> {
-    match store.life() {
-        Life::Absent => return Err(Refused::NoIndex),
-        Life::Building { .. } => return Err(Refused::NotBuilt),
-        Life::Complete => {}
-    }
+    refuse_incomplete(store.life())?;
     match print(alloc, store, shown, output)? {
         Outcome::Refused(error) => Err(Refused::Store(error)),
         _ => Ok(()),

@@ -278,6 +278,31 @@ impl<D: Device + Troubled> Service<D> {
         came == Came::Quit || (self.serving.stops_on_refusal && came != Came::Served)
     }
 
+    // Prints the prompt, or what ends its line, where there is one.
+    fn prompt<W: Write>(&self, text: &str, output: &mut W) -> io::Result<()> {
+        if !self.serving.prompts {
+            return Ok(());
+        }
+        output.write_all(text.as_bytes())?;
+        output.flush()
+    }
+
+    // Reads a line, and tells whether there was one.
+    fn read_line<I: BufRead, W: Write>(
+        &self,
+        input: &mut I,
+        line: &mut Vec<u8>,
+        output: &mut W,
+    ) -> io::Result<bool> {
+        self.prompt("> ", output)?;
+        line.clear();
+        if input.read_until(b'\n', line)? == 0 {
+            self.prompt("\n", output)?;
+            return Ok(false);
+        }
+        Ok(true)
+    }
+
     /// Serves the lines of the input until its end, each of which is answered before the next is read. A line that is
     /// none of those that are served is answered with its number, and the error stream says why.
     ///
@@ -293,8 +318,7 @@ impl<D: Device + Troubled> Service<D> {
     ) -> io::Result<()> {
         let mut line = Vec::new(alloc);
         for number in 1..u64::MAX {
-            line.clear();
-            if input.read_until(b'\n', &mut line)? == 0 {
+            if !self.read_line(input, &mut line, output)? {
                 break;
             }
             let came = self.serve_line(alloc, line.as_slice(), number, output)?;

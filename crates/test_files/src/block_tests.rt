@@ -5,7 +5,7 @@ use crate::program::{Deed, ProgramRun, take_all};
 use crate::steps::Act;
 use std::fs::File;
 use std::process::Abort;
-use std::rt::Files;
+use std::rt::{Clock, Files};
 use std::{fs, io};
 
 const NEW: &[&str] = &[
@@ -112,9 +112,14 @@ static MOVED: [Deed; 8] = [
 
 static REMOVED: [Deed; 1] = [Deed::Act("b", Act::Remove)];
 
+// A store is made in a file of blocks, served, built and shown.
+fn show<R: Abort + Files<File = File> + Clock + AllocGlobal>(rt: &R) {
+    take_all(rt, &SHOWN);
+}
+
 #[test]
 fn a_store_in_blocks_is_made_served_built_shown_and_moved(rt: HostRuntime) {
-    take_all(&rt, &SHOWN);
+    show(&rt);
     take_all(&rt, &MOVED);
     take_all(&rt, &REMOVED);
 }
@@ -149,7 +154,7 @@ fn flip<R: Files<File = File> + AllocGlobal>(
 }
 
 // While a bit of each of these bytes is flipped, this is so.
-fn take_flipped<R: Abort + Files<File = File> + AllocGlobal>(
+fn take_flipped<R: Abort + Files<File = File> + Clock + AllocGlobal>(
     rt: &R,
     places: &[usize],
     deeds: &[Deed],
@@ -199,16 +204,18 @@ static NO_JOURNAL: [Deed; 1] = [Deed::Call(
     "nsf-store: b: both areas of its journal are damaged\n",
 )];
 
+// A bit of one of these bytes changes nothing: in the first header, in the second one, and in each area of the journal.
+static MENDED: [usize; 4] = [0, SECOND_HEADER + LAST, AREA, SECOND_AREA];
+
 #[test]
 fn damage_of_a_file_of_blocks_is_told_or_changes_nothing(rt: HostRuntime) {
-    take_all(&rt, &SHOWN);
+    show(&rt);
     take_flipped(&rt, &[DATA + 2_100], &DAMAGED);
-    take_flipped(&rt, &[0], &STILL_SOUND);
-    take_flipped(&rt, &[SECOND_HEADER + LAST], &STILL_SOUND);
     take_flipped(&rt, &[9, SECOND_HEADER + LAST], &NO_HEADER);
-    take_flipped(&rt, &[AREA], &STILL_SOUND);
-    take_flipped(&rt, &[SECOND_AREA], &STILL_SOUND);
     take_flipped(&rt, &[AREA, SECOND_AREA], &NO_JOURNAL);
+    for place in &MENDED {
+        take_flipped(&rt, &[*place], &STILL_SOUND);
+    }
     take_all(&rt, &STILL_SOUND);
     take_all(&rt, &REMOVED);
 }

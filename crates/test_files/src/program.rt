@@ -5,7 +5,7 @@ use crate::steps::{Act, holds, name_of_done, told_of_act};
 use std::alloc::{AllocError, Global};
 use std::fs::File;
 use std::process::Abort;
-use std::rt::Files;
+use std::rt::{Clock, Files};
 use std::{fs, io};
 use test_store::{Edit, sector_with};
 
@@ -32,6 +32,8 @@ pub(crate) enum Deed {
     Serve(ProgramRun),
     /// The program is run: its words and its input, the status that it ends with, and what it prints and says.
     Feed(&'static [&'static str], &'static str, u8, &'static str, &'static str),
+    /// The file of this name gets this text.
+    Write(&'static str, &'static str),
     /// The file of this name gets these parts.
     Lay(&'static str, Parts),
     /// It has just these.
@@ -63,7 +65,7 @@ fn is_printed(text: &[u8], run: &ProgramRun) -> bool {
 }
 
 // Runs the program, and keeps what it prints and says. Its status.
-fn serve<R: Files<File = File> + AllocGlobal>(
+fn serve<R: Files<File = File> + Clock + AllocGlobal>(
     rt: &R,
     run: &ProgramRun,
     answers: &mut Answers<'_, R>,
@@ -73,8 +75,26 @@ fn serve<R: Files<File = File> + AllocGlobal>(
     program_shell::run(rt, run.words, &mut input, answers, said)
 }
 
+// What came otherwise than is wanted.
+fn told_of_run(is_printed: bool, is_said: bool, ends_so: bool, is_looked: bool) -> &'static str {
+    if !is_printed {
+        return "prints otherwise";
+    }
+    if !is_said {
+        return "says otherwise";
+    }
+    if !ends_so {
+        return "ends otherwise";
+    }
+    if is_looked {
+        "done"
+    } else {
+        "the file, or an answer by itself"
+    }
+}
+
 // Runs the program, and tells what came otherwise than is wanted.
-fn run<R: Files<File = File> + AllocGlobal>(rt: &R, run: &ProgramRun) -> &'static str {
+fn run<R: Files<File = File> + Clock + AllocGlobal>(rt: &R, run: &ProgramRun) -> &'static str {
     let mut answers = Answers::new(rt, run.look);
     let mut said = Vec::new(rt.alloc());
     let status = serve(rt, run, &mut answers, &mut said);
@@ -83,17 +103,11 @@ fn run<R: Files<File = File> + AllocGlobal>(rt: &R, run: &ProgramRun) -> &'stati
     let is_said = said.as_slice() == run.said.as_bytes();
     drop(answers);
     drop(said);
-    match (is_printed, is_said, status == run.status, is_looked) {
-        (true, true, true, true) => "done",
-        (false, ..) => "prints otherwise",
-        (_, false, ..) => "says otherwise",
-        (_, _, false, _) => "ends otherwise",
-        _ => "the file, or an answer by itself",
-    }
+    told_of_run(is_printed, is_said, status == run.status, is_looked)
 }
 
 // Runs the program on this input, which is to end with a status, and to print and say this.
-fn feed<R: Files<File = File> + AllocGlobal>(
+fn feed<R: Files<File = File> + Clock + AllocGlobal>(
     rt: &R,
     words: &'static [&'static str],
     input: &'static str,
@@ -137,13 +151,16 @@ fn lay<R: Files<File = File> + AllocGlobal>(
 }
 
 // What a step comes to.
-fn take<R: Files<File = File> + AllocGlobal>(rt: &R, deed: &Deed) -> &'static str {
+fn take<R: Files<File = File> + Clock + AllocGlobal>(rt: &R, deed: &Deed) -> &'static str {
     match *deed {
         Deed::Call(words, status, printed, said) => feed(rt, words, "", (status, printed, said)),
         Deed::Feed(words, input, status, printed, said) => {
             feed(rt, words, input, (status, printed, said))
         }
         Deed::Serve(served) => run(rt, &served),
+        Deed::Write(path, text) => {
+            name_of_done(fs::write(rt, path, text.as_bytes()).map(|()| true))
+        }
         Deed::Lay(path, parts) => name_of_done(lay(rt, path, parts, false)),
         Deed::Keep(path, parts) => name_of_done(lay(rt, path, parts, true)),
         Deed::Act(path, act) => told_of_act(rt, path, act),
@@ -151,7 +168,10 @@ fn take<R: Files<File = File> + AllocGlobal>(rt: &R, deed: &Deed) -> &'static st
 }
 
 /// Takes steps, one behind the other, each of which comes to what is wanted. Else it is told which came to what.
-pub(crate) fn take_all<R: Abort + Files<File = File> + AllocGlobal>(rt: &R, deeds: &[Deed]) {
+pub(crate) fn take_all<R: Abort + Files<File = File> + Clock + AllocGlobal>(
+    rt: &R,
+    deeds: &[Deed],
+) {
     let mut number: u64 = 0;
     for deed in deeds {
         number = number.saturating_add(1);

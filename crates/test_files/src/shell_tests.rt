@@ -1,7 +1,11 @@
 // What is served beside the commands of a script, and what the error stream says of an input.
 use crate::answers::Look;
+use crate::claims::claim;
 use crate::program::{Deed, ProgramRun, take_all};
 use crate::steps::Act;
+use std::fs::File;
+use std::process::Abort;
+use std::rt::{Clock, Files};
 
 const NEW: Deed = Deed::Call(&["nsf-store", "new", "r", "--pages", "1"], 0, "", "");
 
@@ -231,7 +235,7 @@ fn the_one_row_with_a_key_is_changed(rt: HostRuntime) {
     take_all(&rt, &KEYED);
 }
 
-static STOPPED: [Deed; 6] = [
+static STOPPED: [Deed; 7] = [
     NEW,
     Deed::Feed(
         STOPPING,
@@ -263,12 +267,61 @@ static STOPPED: [Deed; 6] = [
         "txn 1\nticket 3\n",
         "",
     ),
+    Deed::Feed(
+        &["nsf-store", "run", "r", "--prompt"],
+        "begin\ncommit 1\n",
+        0,
+        "> txn 1\n> ticket 4\n> \n",
+        "",
+    ),
     REMOVE,
 ];
 
 #[test]
 fn an_input_may_end_with_a_refusal(rt: HostRuntime) {
     take_all(&rt, &STOPPED);
+}
+
+static IN_USE: [Deed; 2] = [
+    Deed::Call(
+        &["nsf-store", "run", "r", "--wait", "1"],
+        1,
+        "",
+        "nsf-store: r: another process has it open\n",
+    ),
+    Deed::Call(
+        &["nsf-store", "build", "r"],
+        1,
+        "",
+        "nsf-store: r: another process has it open\n",
+    ),
+];
+
+// While the file is open.
+fn take_beside<R: Abort + Files<File = File> + Clock + AllocGlobal>(rt: &R, deeds: &[Deed]) {
+    let held = store_file::open(rt, rt.alloc(), "r");
+    claim(rt, held.is_ok(), "the file is open");
+    take_all(rt, deeds);
+    drop(held);
+}
+
+#[test]
+fn a_file_in_use_is_waited_for(rt: HostRuntime) {
+    take_all(&rt, &[NEW]);
+    take_beside(&rt, &IN_USE);
+    take_all(
+        &rt,
+        &[
+            Deed::Feed(
+                &["nsf-store", "run", "r", "--wait", "1"],
+                "begin\n",
+                0,
+                "txn 1\n",
+                "nsf-store: transactions open at the end, of which nothing is kept: 1\n",
+            ),
+            REMOVE,
+        ],
+    );
 }
 
 const FAULTS: &str = "instert 1 =a =

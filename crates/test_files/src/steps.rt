@@ -207,21 +207,33 @@ fn holds_halves<R: Files<File = File> + AllocGlobal>(
     holds(rt, path, &wanted[..length])
 }
 
+// It is so, unless what was to make it so failed.
+fn is_done(made: io::Result<()>) -> io::Result<bool> {
+    match made {
+        Ok(()) => Ok(true),
+        Err(error) => Err(error),
+    }
+}
+
+fn misses<R: Files<File = File>>(rt: &R, path: &str) -> io::Result<bool> {
+    match fs::exists(rt, path) {
+        Ok(is_there) => Ok(!is_there),
+        Err(error) => Err(error),
+    }
+}
+
 fn act_on<R: Files<File = File> + AllocGlobal>(rt: &R, path: &str, act: Act) -> io::Result<bool> {
     match act {
-        Act::Put(byte, length) => put(rt, path, byte, length)?,
-        Act::Hold(first, second, length) => {
-            return holds_halves(rt, path, (first, second), length);
-        }
-        Act::MakeFolder => fs::create_dir(rt, path)?,
-        Act::LinkTo(name) => symlink(rt, name, path)?,
-        Act::NameToo(name) => fs::hard_link(rt, path, name)?,
-        Act::Rename(name) => fs::rename(rt, path, name)?,
-        Act::Remove => fs::remove_file(rt, path)?,
-        Act::RemoveFolder => fs::remove_dir_all(rt, path)?,
-        Act::Miss => return Ok(!fs::exists(rt, path)?),
+        Act::Put(byte, length) => is_done(put(rt, path, byte, length)),
+        Act::Hold(first, second, length) => holds_halves(rt, path, (first, second), length),
+        Act::MakeFolder => is_done(fs::create_dir(rt, path)),
+        Act::LinkTo(name) => is_done(symlink(rt, name, path)),
+        Act::NameToo(name) => is_done(fs::hard_link(rt, path, name)),
+        Act::Rename(name) => is_done(fs::rename(rt, path, name)),
+        Act::Remove => is_done(fs::remove_file(rt, path)),
+        Act::RemoveFolder => is_done(fs::remove_dir_all(rt, path)),
+        Act::Miss => misses(rt, path),
     }
-    Ok(true)
 }
 
 /// What came of something that can fail.

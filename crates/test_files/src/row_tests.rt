@@ -1,0 +1,243 @@
+// Rows that are loaded, exported and loaded again, and backups, on files of either kind.
+use crate::program::{Deed, take_all};
+use crate::steps::Act;
+
+const NEW: Deed = Deed::Call(&["nsf-store", "new", "l", "--pages", "1"], 0, "", "");
+
+const NEW_BLOCKS: Deed = Deed::Call(
+    &["nsf-store", "new", "l", "--pages", "1", "--blocks"],
+    0,
+    "",
+    "",
+);
+
+const REMOVE: Deed = Deed::Act("l", Act::Remove);
+
+const REMOVE_ROWS: Deed = Deed::Act("rows", Act::Remove);
+
+const LOAD: &[&str] = &["nsf-store", "load", "l", "rows"];
+
+const EXPORT: &[&str] = &["nsf-store", "export", "l"];
+
+const BY_KEY: &[&str] = &["nsf-store", "export", "--order", "key", "l"];
+
+const SOUND: Deed = Deed::Call(&["nsf-store", "check", "l"], 0, "sound\n", "");
+
+// The third record has a line feed in its body, so that the one behind it begins in line 6. One key and one body are
+// too long.
+const ROWS: &str = "body,id,key
+1,x,cow
+,,
+\"say
+\"\"hi\"\"\",2,\"b,c\"
+lonely
+3,,kkkkkkkkkkkkkkkkkkkkkkkkkkkkkkkkkkkkkkkkkkkkkkkkkkkkkkkkk
+bbbbbbbbbbbbbbbbbbbbbbbbbbbbbbbbbbbbbbbbbbbbbbbbbbbbbbbbbbbbbbbbbbbbbb,,bee
+4,,ant
+";
+
+const REFUSED: &str = "nsf-store: line 6: the header has 3 fields, and it 1
+nsf-store: line 7: the key is longer than 56 bytes
+nsf-store: line 8: the body is longer than 69 bytes
+";
+
+const EXPORTED: &str = "key,body
+cow,1
+,
+\"b,c\",\"say
+\"\"hi\"\"\"
+ant,4
+";
+
+const IN_ORDER: &str = "key,body
+,
+ant,4
+\"b,c\",\"say
+\"\"hi\"\"\"
+cow,1
+";
+
+// What is exported is loaded again, into a store with an index.
+static LOADED: [Deed; 12] = [
+    Deed::Write("rows", ROWS),
+    Deed::Call(LOAD, 3, "loaded 4\nrefused 3\n", REFUSED),
+    Deed::Call(EXPORT, 0, EXPORTED, ""),
+    Deed::Call(
+        BY_KEY,
+        1,
+        "",
+        "nsf-store: l: it has no index; `create` in `run` begins one\n",
+    ),
+    Deed::Feed(
+        &["nsf-store", "run", "l"],
+        "begin\ndelete 1 0.0\ndelete 1 0.1\ndelete 1 0.2\ndelete 1 0.3\ncommit 1\ncreate\nbuild\nbuild\n",
+        0,
+        "txn 1\nok\nok\nok\nok\nticket 10\nticket 11\nscanned 0\ndone ticket 12\n",
+        "",
+    ),
+    Deed::Write("rows", EXPORTED),
+    Deed::Call(LOAD, 0, "loaded 4\nrefused 0\n", ""),
+    Deed::Call(EXPORT, 0, EXPORTED, ""),
+    Deed::Call(BY_KEY, 0, IN_ORDER, ""),
+    SOUND,
+    REMOVE,
+    REMOVE_ROWS,
+];
+
+#[test]
+fn rows_are_loaded_and_exported(rt: HostRuntime) {
+    take_all(&rt, &[NEW]);
+    take_all(&rt, &LOADED);
+    take_all(&rt, &[NEW_BLOCKS]);
+    take_all(&rt, &LOADED);
+}
+
+// What is wrong with the rows is told before what is wrong with the store. Lines may end with a carriage return too.
+static HEADERS: [Deed; 12] = [
+    Deed::Call(
+        LOAD,
+        1,
+        "",
+        "nsf-store: rows: No such file or directory (os error 2)\n",
+    ),
+    Deed::Write("rows", ""),
+    Deed::Call(LOAD, 1, "", "nsf-store: rows: it has no header\n"),
+    Deed::Write("rows", "key\r\nant\r\n"),
+    Deed::Call(
+        LOAD,
+        1,
+        "",
+        "nsf-store: rows: its header has one column, and a row needs two\n",
+    ),
+    Deed::Write("rows", "a,b\r\nant,1\r\nbee\r\n"),
+    Deed::Call(
+        &["nsf-store", "load", "l", "rows", "--key", "c"],
+        1,
+        "",
+        "nsf-store: rows: its header has no column with the key's name\n",
+    ),
+    Deed::Call(
+        &["nsf-store", "load", "l", "rows", "--key", "b"],
+        1,
+        "",
+        "nsf-store: rows: its header has no column with the body's name\n",
+    ),
+    Deed::Call(
+        LOAD,
+        1,
+        "",
+        "nsf-store: l: No such file or directory (os error 2)\n",
+    ),
+    NEW,
+    Deed::Call(
+        &[
+            "nsf-store",
+            "load",
+            "l",
+            "rows",
+            "--key",
+            "b",
+            "--body",
+            "a",
+        ],
+        3,
+        "loaded 1\nrefused 1\n",
+        "nsf-store: line 3: the header has 2 fields, and it 1\n",
+    ),
+    Deed::Call(EXPORT, 0, "key,body\n1,ant\n", ""),
+];
+
+#[test]
+fn columns_are_named(rt: HostRuntime) {
+    take_all(&rt, &HEADERS);
+    take_all(&rt, &[REMOVE, REMOVE_ROWS]);
+}
+
+// 66 rows. A page has room for 63.
+const MANY: &str = "key,body\n\
+    ,\n,\n,\n,\n,\n,\n,\n,\n,\n,\n,\n,\n,\n,\n,\n,\n,\n,\n,\n,\n\
+    ,\n,\n,\n,\n,\n,\n,\n,\n,\n,\n,\n,\n,\n,\n,\n,\n,\n,\n,\n,\n\
+    ,\n,\n,\n,\n,\n,\n,\n,\n,\n,\n,\n,\n,\n,\n,\n,\n,\n,\n,\n,\n\
+    a,\nb,\nc,\nd,\ne,\nf,\n";
+
+static FULL: [Deed; 9] = [
+    Deed::Write("rows", MANY),
+    Deed::Call(&["nsf-store", "new", "l", "--pages", "2"], 0, "", ""),
+    Deed::Call(
+        &["nsf-store", "load", "l", "rows", "--progress"],
+        0,
+        "loaded 66\nrefused 0\n",
+        "rows loaded: 64\rrows loaded: 66\r\n",
+    ),
+    REMOVE,
+    NEW,
+    Deed::Call(
+        LOAD,
+        1,
+        "loaded 63\nrefused 0\n",
+        "nsf-store: no row behind line 64 is loaded\nnsf-store: l: its table is full\n",
+    ),
+    SOUND,
+    REMOVE,
+    REMOVE_ROWS,
+];
+
+#[test]
+fn a_full_table_ends_a_load(rt: HostRuntime) {
+    take_all(&rt, &FULL);
+}
+
+const STAT: &str = "format 2
+pages 1
+entries 252
+slots 16
+slots in use 1
+last record 2
+life none
+rows 1
+live 0
+marked 0
+reserved 0
+free 252
+";
+
+const BACKUP: &[&str] = &["nsf-store", "backup", "l", "copy"];
+
+// A backup is of the same kind, so that it is moved to the other one alone.
+static BACKED_UP: [Deed; 8] = [
+    Deed::Write("rows", "key,body\nant,1\n"),
+    Deed::Call(LOAD, 0, "loaded 1\nrefused 0\n", ""),
+    Deed::Call(BACKUP, 0, STAT, ""),
+    Deed::Call(BACKUP, 1, "", "nsf-store: copy: it is there already\n"),
+    Deed::Call(&["nsf-store", "export", "copy"], 0, "key,body\nant,1\n", ""),
+    REMOVE,
+    Deed::Call(
+        BACKUP,
+        1,
+        "",
+        "nsf-store: l: No such file or directory (os error 2)\n",
+    ),
+    REMOVE_ROWS,
+];
+
+const NO_MOVE: &str = "nsf-store: copy: it holds a store of version 2, which needs no move\n";
+
+const REMOVE_COPY: Deed = Deed::Act("copy", Act::Remove);
+
+const IS_PLAIN: Deed = Deed::Call(&["nsf-store", "migrate", "copy", "l"], 1, "", NO_MOVE);
+
+const IS_IN_BLOCKS: Deed = Deed::Call(
+    &["nsf-store", "migrate", "copy", "l", "--blocks"],
+    1,
+    "",
+    NO_MOVE,
+);
+
+#[test]
+fn a_store_is_backed_up(rt: HostRuntime) {
+    take_all(&rt, &[NEW]);
+    take_all(&rt, &BACKED_UP);
+    take_all(&rt, &[IS_PLAIN, REMOVE_COPY, NEW_BLOCKS]);
+    take_all(&rt, &BACKED_UP);
+    take_all(&rt, &[IS_IN_BLOCKS, REMOVE_COPY]);
+}
