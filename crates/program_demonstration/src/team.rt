@@ -25,7 +25,7 @@ use std::marker::Brand;
 use std::rt::Clock;
 use std::sync::Wait;
 use std::thread::{Threads, for_each_mut, join};
-use threads_lifetime::{Closed, OpenError, OpenStore, Parts, finish, open_store};
+use threads_lifetime::{OpenError, OpenStore, Parts, finish, let_go, open_store};
 use threads_loops::{BuilderEnd, Ended, Gate, NotRun, run_beside};
 
 // No more writers than this run side by side.
@@ -282,6 +282,7 @@ fn gather<B: Group>(
 // refused before.
 fn given_up<B: Group, D: Device>(
     alloc: Global,
+    shared: Shared<B>,
     loops: LoopParts<B, D>,
     before: Refusals,
     error: Error,
@@ -293,10 +294,9 @@ fn given_up<B: Group, D: Device>(
         build,
         clean,
     } = loops;
-    let (device, popper) = flush.into_parts();
-    drop(popper);
     drop(build);
     drop(clean);
+    let device = let_go(shared, flush);
     let mut refusals = before;
     refusals.end = Some(error);
     Worked {
@@ -321,17 +321,7 @@ fn close<B: Group, D: Device, R: Wait>(
     ensures acked { All (λ a. a.ticket.«record» ≤ synced_of parts.flush.writer) acks.items }
 {
     match finish(rt, alloc, shared, parts, acks) {
-        Ok(closed) => {
-            let Closed {
-                device,
-                core,
-                commits,
-                ..
-            } = closed;
-            drop(core);
-            drop(commits);
-            (device, None)
-        }
+        Ok(closed) => (closed.into_device(), None),
         Err((error, device)) => (device, Some(error)),
     }
 }
@@ -351,8 +341,7 @@ fn take_back<B: Group, D: Device + Drop, R: Wait>(
     ensures { KeepsAll D.past_of B.site.opened result.device result.acknowledged.items }
 {
     let Ok(gathered) = gather(alloc, writers, last) else {
-        drop(shared);
-        return given_up(alloc, loops, before, Error::NoMemory);
+        return given_up(alloc, shared, loops, before, Error::NoMemory);
     };
     let Gathered {
         seats,
@@ -539,9 +528,8 @@ fn work_staffed<
     match ran {
         Ok(ended) => end(rt, alloc, shared, ended, last),
         Err(loops) => {
-            drop(shared);
             drop(last);
-            given_up(alloc, loops, Refusals::none(), Error::NoMemory)
+            given_up(alloc, shared, loops, Refusals::none(), Error::NoMemory)
         }
     }
 }
@@ -564,8 +552,7 @@ fn work_together<
         Ok(staff) => work_staffed(team, shared, staff, loops),
         Err(error) => {
             drop(team);
-            drop(shared);
-            given_up(alloc, loops, Refusals::none(), error)
+            given_up(alloc, shared, loops, Refusals::none(), error)
         }
     }
 }

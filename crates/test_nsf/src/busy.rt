@@ -1,9 +1,11 @@
 //! An index is created and dropped beside seats that have a transaction nearly all the time.
 ghost use Rattle.std.specs.Prelude.{◌≡◌};
 
+use crate::many_threads::serve_on;
+use crate::one_thread::formatted;
 use nsf::{
-    Body, BuilderEnd, Change, Client, Error, Geometry, Group, Key, Life, MemDisk, OpenError, Rid,
-    Seat, Served, Shared, format_store, serve,
+    Body, BuilderEnd, Change, Client, Error, Geometry, Group, Key, Life, OpenError, Rid, Seat,
+    Served, Shared,
 };
 use std::alloc::Global;
 use std::sync::Wait;
@@ -110,14 +112,6 @@ fn all_clients(alloc: Global) -> Result<Vec<Busy>, Error> {
     Ok(clients)
 }
 
-// A disk in memory with a new store of two pages.
-fn formatted(alloc: Global) -> Result<MemDisk<Global>, Error> {
-    let geometry = Geometry::new(2, 1_024, 64)?;
-    let mut disk = MemDisk::new(alloc, geometry.sectors(), 10_000)?;
-    format_store(&mut disk, geometry)?;
-    Ok(disk)
-}
-
 // The fewest turns that a writer made before it had seen both, if all went well.
 fn fewest<D>(served: &Served<Busy, D>) -> Result<u32, Error> {
     served.written?;
@@ -133,9 +127,8 @@ fn fewest<D>(served: &Served<Busy, D>) -> Result<u32, Error> {
 
 /// How many turns each writer made at least, while the index was created and dropped.
 pub fn serve_the_busy<R: Threads + Wait + Sync>(rt: &R, alloc: Global) -> Result<u32, OpenError> {
+    let disk = formatted(alloc, Geometry::new(2, 1_024, 64)?)?;
     let clients = all_clients(alloc)?;
-    match serve(rt, alloc, formatted(alloc)?, clients) {
-        Ok(served) => Ok(fewest(&served)?),
-        Err((error, _)) => Err(error),
-    }
+    let served = serve_on(rt, alloc, disk, clients)?;
+    Ok(fewest(&served)?)
 }

@@ -1,132 +1,124 @@
 // A store that lives through days.
-use headline::{Day, Mortal, live_through};
+use crate::claims::claim;
+use crate::one_thread::device_of;
+use headline::{Day, Lived, Mortal, NotLived, live_through};
 use model::Life;
-use records::{Body, Error, Geometry, Key, Rid, Txn};
-use restart::{Engine, Event};
-use sector_device::{Device, MemDisk};
-use std::alloc::Global;
-use std::test::Fail;
+use nsf_core::Core;
+use records::{Error, Geometry, Key, Rid};
+use sector_device::MemDisk;
+use std::alloc::{Allocator, Global};
+use test_store::requests;
 
-/// A day on which a row with this key is committed, and then this is asked for.
-pub(crate) fn day(
-    alloc: Global,
-    key: &[u8],
-    last: &[Event],
-    within: bool,
-) -> Result<Day<Global>, Error> {
-    let txn = Txn::new(1).ok_or(Error::NoSuchTxn)?;
-    let key = Key::new(key)?;
-    let body = Body::new(b"")?;
-    let mut requests = Vec::new(alloc);
-    requests.extend_from_slice(&[
-        Event::Begin,
-        Event::Insert { txn, key, body },
-        Event::Step { txn },
-        Event::Commit { txn },
-    ])?;
-    requests.extend_from_slice(last)?;
-    Ok(Day { requests, within })
+/// A day on which the requests of this script are made.
+pub(crate) fn day(alloc: Global, script: &str, within: bool) -> Result<Day<Global>, Error> {
+    let events = requests(alloc, script)?;
+    Ok(Day {
+        requests: events,
+        within,
+    })
 }
 
-// The store that is there behind the days, its index built.
-fn lived<D: Mortal>(
+/// Lives through the days: the one call of `live_through`, which promises much.
+pub(crate) fn live_days<D: Mortal, A: Allocator + Copy>(
+    alloc: A,
+    device: D,
+    geometry: Geometry,
+    days: &[Day<A>],
+    build: bool,
+) -> Result<Lived<D, A>, NotLived<Error, D, A>> {
+    live_through(alloc, device, geometry, days, build)
+}
+
+// What is asked for on each day, and whether it ends within. The first day's commit is flushed, the second day's isn't,
+// and the third day puts its row there. The last one ends within its opening.
+static DAYS: [(&str, bool); 4] = [
+    (
+        "begin\ninsert 1 =ant =\nstep 1\ncommit 1\ncreate\nflush\n",
+        false,
+    ),
+    ("begin\ninsert 1 =bee =\nstep 1\ncommit 1\n", true),
+    ("begin\ninsert 1 =cat =\nstep 1\ncommit 1\nflush\n", false),
+    ("", true),
+];
+
+// A key, and the slot of its row on the only page behind them, if there is one.
+type Place = (&'static [u8], Option<u16>);
+
+static PLACES: [Place; 3] = [(b"ant", Some(0)), (b"bee", None), (b"cat", Some(1))];
+
+fn days_of(alloc: Global, scripts: &[(&str, bool)]) -> Result<Vec<Day<Global>>, Error> {
+    let mut days = Vec::new(alloc);
+    for (script, within) in scripts {
+        days.push(day(alloc, *script, *within)?)?;
+    }
+    Ok(days)
+}
+
+// The slot of the one place, on the only page; none where there is no place. More places are told as a slot that no
+// page has.
+fn slot_of(places: &[Rid]) -> Option<u16> {
+    match places {
+        [] => None,
+        [rid] => Some(rid.slot),
+        _ => Some(u16::MAX),
+    }
+}
+
+fn is_placed(core: &Core<Global>, key: &[u8], slot: Option<u16>) -> Result<bool, Error> {
+    let places = core.find(Key::new(key)?)?;
+    let is_so = slot_of(&places) == slot;
+    drop(places);
+    Ok(is_so)
+}
+
+// Whether the index is complete, and the rows lie in their places.
+fn are_placed(core: &Core<Global>) -> Result<bool, Error> {
+    for (key, slot) in &PLACES {
+        if !is_placed(core, *key, *slot)? {
+            return Ok(false);
+        }
+    }
+    Ok(core.life() == Life::Complete)
+}
+
+// Whether they do so behind the days, once the index is built.
+fn are_found<D: Mortal>(
     alloc: Global,
     device: D,
     geometry: Geometry,
     days: &[Day<Global>],
-) -> Result<Engine<D, Global>, Error> {
-    match live_through(alloc, device, geometry, days, true) {
-        Ok(lived) => match lived.unbuilt {
-            Some(error) => Err(error),
-            None => Ok(lived.engine),
-        },
+) -> Result<bool, Error> {
+    match live_days(alloc, device, geometry, days, true) {
+        Ok(lived) => {
+            let Lived {
+                answers,
+                engine,
+                unbuilt,
+            } = lived;
+            drop(answers);
+            let are_placed = are_placed(engine.core());
+            drop(device_of(engine));
+            Ok(are_placed? && unbuilt.is_none())
+        }
         Err(refusal) => Err(refusal.error),
     }
 }
 
-// Where the rows with this key lie.
-fn places<D: Device>(engine: &Engine<D, Global>, key: Key) -> Result<Vec<Rid>, Error> {
-    engine.core().find(key)
-}
-
-// How far the index is behind the days, and where the rows with each of the keys lie.
-fn found_behind<D: Mortal>(
-    alloc: Global,
-    device: D,
-    geometry: Geometry,
-    days: &[Day<Global>],
-    keys: &[Key],
-) -> Result<(Life, Vec<(Key, Rid)>), Error> {
-    let engine = lived(alloc, device, geometry, days)?;
-    let mut found = Vec::new(alloc);
-    for key in keys {
-        for rid in &places(&engine, *key)? {
-            found.push((*key, *rid))?;
-        }
-    }
-    Ok((engine.core().life(), found))
-}
-
-// The first day's commit is flushed, the second day's isn't, and the third day puts its row there. The index that is
-// built in the end has the pairs of both rows.
-#[test]
-fn three_days_and_a_build(rt: HostRuntime) -> Result<(), Fail> {
-    let alloc = rt.alloc();
+// Whether they do so on a disk in memory.
+fn are_found_in_memory(alloc: Global) -> Result<bool, Error> {
     let geometry = Geometry::new(1, 64, 4)?;
+    let days = days_of(alloc, &DAYS)?;
     let disk = MemDisk::new(alloc, geometry.sectors(), 4_096)?;
-    let days = [
-        day(alloc, b"ant", &[Event::Create, Event::Flush], false)?,
-        day(alloc, b"bee", &[], true)?,
-        day(alloc, b"cat", &[Event::Flush], false)?,
-    ];
-    let keys = [Key::new(b"ant")?, Key::new(b"bee")?, Key::new(b"cat")?];
-    let (life, found) = found_behind(alloc, disk, geometry, &days, &keys)?;
-    assert!(rt; life == Life::Complete);
-    let wanted = [
-        (keys[0], Rid { page: 0, slot: 0 }),
-        (keys[2], Rid { page: 0, slot: 1 }),
-    ];
-    assert_eq!(rt; found.as_slice(), wanted.as_slice());
-    Ok(())
+    let found = are_found(alloc, disk, geometry, &days);
+    drop(days);
+    found
 }
 
-// A device that is too small is told, and given back.
+// The index that is built in the end has the pairs of both rows that were kept. Of a day that ends within its opening
+// nothing is answered, and nothing changes.
 #[test]
-fn a_device_that_is_too_small(rt: HostRuntime) -> Result<(), Fail> {
-    let alloc = rt.alloc();
-    let geometry = Geometry::new(1, 64, 4)?;
-    let few = geometry.sectors() - 1;
-    let disk = MemDisk::new(alloc, few, 16)?;
-    let days: [Day<Global>; 0] = [];
-    match live_through(alloc, disk, geometry, &days, false) {
-        Ok(_) => Err("a store on too small a device".into()),
-        Err(refusal) => {
-            assert!(rt; refusal.error == Error::DeviceTooSmall);
-            assert!(rt; refusal.answers.is_empty());
-            assert!(rt; refusal.device.sectors() == few);
-            Ok(())
-        }
-    }
-}
-
-// Of a day that ends within its opening nothing is answered, and nothing changes.
-#[test]
-fn a_day_within_its_opening(rt: HostRuntime) -> Result<(), Fail> {
-    let alloc = rt.alloc();
-    let geometry = Geometry::new(1, 64, 4)?;
-    let disk = MemDisk::new(alloc, geometry.sectors(), 4_096)?;
-    let idle = Day {
-        requests: Vec::new(alloc),
-        within: true,
-    };
-    let days = [
-        day(alloc, b"ant", &[Event::Create, Event::Flush], false)?,
-        idle,
-    ];
-    let keys = [Key::new(b"ant")?];
-    let (life, found) = found_behind(alloc, disk, geometry, &days, &keys)?;
-    assert!(rt; life == Life::Complete);
-    let wanted = [(keys[0], Rid { page: 0, slot: 0 })];
-    assert_eq!(rt; found.as_slice(), wanted.as_slice());
+fn four_days_and_a_build(rt: HostRuntime) -> Result<(), Error> {
+    let found = are_found_in_memory(rt.alloc())?;
+    claim(&rt, found, "what is found behind four days");
     Ok(())
 }

@@ -1,9 +1,9 @@
 //! Stores in files: one is made, and opened again; and what is refused stays as it is.
-use crate::one_thread::granted;
+use crate::one_thread::{ask, device_of, granted, opened};
 use nsf::file::{OpenError, Trouble};
 use nsf::{
     Body, Device, Engine, Error, Event, FileError, Geometry, Key, Reply, Rid, SECTOR_SIZE,
-    SLOTS_PER_PAGE, open_or_create, restart,
+    SLOTS_PER_PAGE, open_or_create,
 };
 use std::alloc::Global;
 use std::fs::File;
@@ -23,12 +23,12 @@ fn rows_in<D: Device>(engine: &Engine<D, Global>) -> u16 {
 
 // Puts a row, and writes all to the device. How many rows there are then.
 fn put<D: Device>(engine: &mut Engine<D, Global>, key: Key) -> Result<u16, Error> {
-    let Reply::Txn(txn) = granted(engine.serve(Event::Begin))? else {
+    let Reply::Txn(txn) = ask(engine, Event::Begin)? else {
         return Err(Error::NoSuchTxn);
     };
     let body = Body::new(b"1")?;
-    granted(engine.serve(Event::Insert { txn, key, body }))?;
-    granted(engine.serve(Event::Commit { txn }))?;
+    ask(engine, Event::Insert { txn, key, body })?;
+    ask(engine, Event::Commit { txn })?;
     granted(engine.flush_all())?;
     Ok(rows_in(engine))
 }
@@ -37,10 +37,10 @@ fn put<D: Device>(engine: &mut Engine<D, Global>, key: Key) -> Result<u16, Error
 fn put_in<R: Files<File = File> + AllocGlobal>(rt: &R, path: &str) -> Result<u16, FileError> {
     let key = Key::new(b"ant")?;
     let disk = open_or_create(rt, rt.alloc(), path, Geometry::new(1, 64, 4)?)?;
-    match restart(rt.alloc(), disk) {
+    match opened(rt.alloc(), disk) {
         Ok(mut engine) => {
             let rows = put(&mut engine, key);
-            drop(engine.into_device());
+            drop(device_of(engine));
             Ok(rows?)
         }
         Err((error, disk)) => {
@@ -102,21 +102,24 @@ fn a_store_is_made_in_a_file_and_opened_again(rt: HostRuntime) {
     claim(&rt, two_are_put(&rt));
 }
 
+// No store.
+const JUNK: &[u8] = &[7; 2 * SECTOR_SIZE];
+
+// A file, and its bytes; the file into whose store a row is put then; and what that comes to.
+static REFUSED: [(&str, &[u8], &str, &str); 6] = [
+    ("text", b"not a store", "text", "BadLength 11"),
+    ("junk", JUNK, "junk", "NotFormatted"),
+    ("left.new", b"half", "left", "DraftExists"),
+    ("left.new", b"", "left", "DraftEmpty"),
+    ("text", b"", ".", "NotAFile"),
+    ("text", b"", "none/store", "System 2"),
+];
+
 // What isn't a store is refused, be it no device or one with something else; so is a file that can't be made, or is
 // made by another.
 #[test]
 fn a_file_that_is_refused_stays_as_it_is(rt: HostRuntime) {
-    let junk = [7; 2 * SECTOR_SIZE];
-    claim(
-        &rt,
-        comes_to(&rt, "text", b"not a store", "text", "BadLength 11"),
-    );
-    claim(&rt, comes_to(&rt, "junk", &junk, "junk", "NotFormatted"));
-    claim(
-        &rt,
-        comes_to(&rt, "left.new", b"half", "left", "DraftExists"),
-    );
-    claim(&rt, comes_to(&rt, "left.new", b"", "left", "DraftEmpty"));
-    claim(&rt, comes_to(&rt, "text", b"", ".", "NotAFile"));
-    claim(&rt, comes_to(&rt, "text", b"", "none/store", "System 2"));
+    for (there, bytes, path, wanted) in &REFUSED {
+        claim(&rt, comes_to(&rt, *there, *bytes, *path, *wanted));
+    }
 }

@@ -64,14 +64,19 @@ fn is_told<A: Allocator + Copy>(core: &Core<A>, told: &Told) -> bool {
     told.safe <= core.last() && told.life == core.life() && has_rows(core, told) && is_indexed(core)
 }
 
+// Makes steps of the builder up to the end of the build.
+fn build<D: Device, A: Allocator + Copy>(engine: &mut Engine<D, A>) -> Result<u64, Error> {
+    engine.build_to_end()
+}
+
 // Whether the build comes to its end, where there is an index, and has the pair of each row then. Where memory is
 // refused it goes on.
 fn is_built<D: Device, A: Allocator + Copy>(engine: &mut Engine<D, A>) -> bool {
     if engine.core().life() == Life::Absent {
         return true;
     }
-    let built = match engine.build_to_end() {
-        Err(Error::NoMemory) => engine.build_to_end(),
+    let built = match build(engine) {
+        Err(Error::NoMemory) => build(engine),
         built => built,
     };
     built.is_ok() && engine.core().life() == Life::Complete && is_indexed(engine.core())

@@ -1,11 +1,9 @@
 //! An index that has too few places, under a client that waits for it.
 ghost use Rattle.std.specs.Prelude.{◌≡◌};
 
-use crate::many_threads::Put;
-use nsf::{
-    BuilderEnd, Client, Error, Geometry, Group, Key, MemDisk, OpenError, Seat, Served, Shared,
-    Ticket, format_store, serve,
-};
+use crate::many_threads::{Put, serve_on};
+use crate::one_thread::formatted;
+use nsf::{BuilderEnd, Client, Error, Geometry, Group, Key, OpenError, Seat, Served, Shared};
 use std::alloc::Global;
 use std::sync::Wait;
 use std::thread::{Parker, Threads};
@@ -72,14 +70,6 @@ fn one_client(alloc: Global) -> Result<Vec<Crowd>, Error> {
     Ok(clients)
 }
 
-// A disk in memory with a new store of two pages.
-fn formatted(alloc: Global) -> Result<MemDisk<Global>, Error> {
-    let geometry = Geometry::new(2, u32::from(PLACES), 16)?;
-    let mut disk = MemDisk::new(alloc, geometry.sectors(), 10_000)?;
-    format_store(&mut disk, geometry)?;
-    Ok(disk)
-}
-
 // What the client was told, if all was written out.
 fn told_to<D>(served: &Served<Crowd, D>) -> Result<Option<Error>, Error> {
     served.written?;
@@ -90,14 +80,13 @@ fn told_to<D>(served: &Served<Crowd, D>) -> Result<Option<Error>, Error> {
     Ok(told)
 }
 
-/// Why the builder has ended, as the client was told, and as the run tells it behind that.
+/// Why the builder has ended, as the client was told, and as the run tells it behind that, if it does.
 pub fn serve_a_crowd<R: Threads + Wait + Sync>(
     rt: &R,
     alloc: Global,
-) -> Result<(Option<Error>, Result<Ticket, Error>), OpenError> {
+) -> Result<(Option<Error>, Option<Error>), OpenError> {
+    let disk = formatted(alloc, Geometry::new(2, u32::from(PLACES), 16)?)?;
     let clients = one_client(alloc)?;
-    match serve(rt, alloc, formatted(alloc)?, clients) {
-        Ok(served) => Ok((told_to(&served)?, served.built)),
-        Err((error, _)) => Err(error),
-    }
+    let served = serve_on(rt, alloc, disk, clients)?;
+    Ok((told_to(&served)?, served.built.err()))
 }

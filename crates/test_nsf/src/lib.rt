@@ -1,7 +1,7 @@
 //! The examples of README and of `nsf`, run: one thread makes a store, and many go on with it. And tests of the crate
 //! `headline`, over disks in memory.
 //!
-//! Three days and a build; and a day that is stopped at each moment of each of its requests, and of its opening, over a
+//! Four days and a build; and a day that is stopped at each moment of each of its requests, and of its opening, over a
 //! disk that loses what was done later. That is done once more where a call of the device fails, and where an
 //! allocation is refused. What is found is what a plain program makes of the replies. And a day of clients that is
 //! stopped at each moment since its opening began, or while the rest is written out.
@@ -15,6 +15,8 @@
 
 #[cfg(test)]
 mod busy;
+#[cfg(test)]
+mod claims;
 #[cfg(test)]
 mod committed_tests;
 #[cfg(test)]

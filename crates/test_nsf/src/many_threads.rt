@@ -114,6 +114,19 @@ fn each_put<D>(served: &Served<Put, D>) -> Result<(), Error> {
     Ok(())
 }
 
+/// Lets the clients work over the store on the disk: the one call of `serve`, which promises much.
+pub fn serve_on<C: Client + Send + Drop, R: Threads + Wait + Sync>(
+    rt: &R,
+    alloc: Global,
+    disk: MemDisk<Global>,
+    clients: Vec<C>,
+) -> Result<Served<C, MemDisk<Global>>, OpenError> {
+    match serve(rt, alloc, disk, clients) {
+        Ok(served) => Ok(served),
+        Err((error, _)) => Err(error),
+    }
+}
+
 /// Puts two rows side by side in the store on the disk.
 pub fn put_two<R: Threads + Wait + Sync>(
     rt: &R,
@@ -121,11 +134,7 @@ pub fn put_two<R: Threads + Wait + Sync>(
     disk: MemDisk<Global>,
 ) -> Result<MemDisk<Global>, OpenError> {
     let clients = clients_of(alloc, &[b"bee", b"cat"])?;
-    match serve(rt, alloc, disk, clients) {
-        Ok(served) => {
-            each_put(&served)?;
-            Ok(served.device)
-        }
-        Err((error, _)) => Err(error),
-    }
+    let served = serve_on(rt, alloc, disk, clients)?;
+    each_put(&served)?;
+    Ok(served.device)
 }

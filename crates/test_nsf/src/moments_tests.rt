@@ -1,14 +1,16 @@
 // A store is stopped at each moment of each request of a day, and of the day's opening.
+use crate::claims::claim_at;
+use crate::days_tests::live_days;
 use crate::found::is_found;
+use crate::one_thread::{device_of, opened};
 use crate::recorded::{RecordedDisk, Stop};
 use crate::told::Told;
-use headline::{Answer, Day, Mortal, NotLived, live_through};
+use headline::{Answer, Day, Mortal, NotLived};
 use records::{Error, Geometry};
-use restart::{Engine, Event, Reply, restart};
+use restart::{Engine, Event, Reply};
 use sector_device::Fate;
 use std::alloc::{AllocError, Allocator, Global};
 use std::process::Abort;
-use std::test::Fail;
 use test_memory::Refusing;
 use test_store::requests;
 
@@ -16,7 +18,7 @@ use test_store::requests;
 const MANY: u64 = 1_000;
 
 // What becomes in turn of the sectors that are unsynced at a stop.
-const FATES: [[Fate; 2]; 5] = [
+static FATES: [[Fate; 2]; 5] = [
     [Fate::New, Fate::Old],
     [Fate::Old, Fate::New],
     [Fate::Zero, Fate::New],
@@ -29,7 +31,7 @@ const DISK_ALLOCATIONS: u64 = 5;
 
 // What befalls a store. So many writes and syncs are recorded since a stop, and then one fails. So many allocations
 // come since the first day began, and then one is refused.
-#[derive(Clone, Copy, Debug)]
+#[derive(Clone, Copy)]
 struct Trouble {
     calls: usize,
     allocations: u64,
@@ -105,7 +107,7 @@ fn lived<D: Mortal, A: Allocator + Copy>(
     geometry: Geometry,
     days: &[Day<A>],
 ) -> Result<(Vec<Answer<A>, A>, Engine<D, A>), Error> {
-    match live_through(memory, disk, geometry, days, false) {
+    match live_days(memory, disk, geometry, days, false) {
         Ok(lived) => Ok((lived.answers, lived.engine)),
         Err(refusal) => {
             let NotLived {
@@ -113,7 +115,7 @@ fn lived<D: Mortal, A: Allocator + Copy>(
                 device,
                 ..
             } = refusal;
-            match restart(memory, device) {
+            match opened(memory, device) {
                 Ok(engine) => Ok((answers, engine)),
                 Err((error, device)) => {
                     drop(device);
@@ -134,7 +136,7 @@ fn live<D: Mortal, A: Allocator + Copy>(
     let (answers, mut engine) = lived(memory, disk, geometry, days)?;
     let seen = look(alloc, days, &answers, &mut engine);
     drop(answers);
-    let disk = engine.into_device();
+    let disk = device_of(engine);
     match seen {
         Ok(seen) => Ok((seen, disk)),
         Err(_) => {
@@ -170,7 +172,7 @@ fn play(alloc: Global, plan: Plan<'_>, stop: Stop) -> Result<(Seen, bool), Error
 }
 
 // How many moments there were, how many lives, and in how many of these a failure or a refusal was told.
-#[derive(Clone, Copy, Debug)]
+#[derive(Clone, Copy)]
 struct Met {
     moments: u64,
     lives: u64,
@@ -187,32 +189,46 @@ fn one_more(met: Met, seen: Seen) -> Met {
     }
 }
 
-// Stops at each moment of the last request, or of the opening where there is none, each time with each of these fates.
+// Plays lives that are stopped there, each with one of these fates. What was met with them, and whether that was the
+// last moment.
+fn stop_with_each(
+    rt: &impl Abort,
+    alloc: Global,
+    (plan, fates): (Plan<'_>, &[[Fate; 2]]),
+    behind: u64,
+    mut met: Met,
+) -> Result<(Met, bool), Error> {
+    let mut is_last = true;
+    for fates in fates {
+        let stop = Stop {
+            behind,
+            fates: *fates,
+        };
+        let (seen, last) = play(alloc, plan, stop)?;
+        claim_at(rt, seen.agrees, "what is found behind moment", behind);
+        met = one_more(met, seen);
+        is_last = last;
+    }
+    Ok((met, is_last))
+}
+
+// Stops at each moment of the last request, or of the opening where there is none.
 fn stop_at_each(
     rt: &impl Abort,
     alloc: Global,
     (plan, fates): (Plan<'_>, &[[Fate; 2]]),
-    mut met: Met,
-) -> Result<Met, Fail> {
-    let (count, trouble) = (plan.second.len(), plan.trouble);
+    met: Met,
+) -> Result<Met, Error> {
+    let mut all = met;
     for behind in 0..MANY {
-        let mut is_last = true;
-        for fates in fates {
-            let stop = Stop {
-                behind,
-                fates: *fates,
-            };
-            let (seen, last) = play(alloc, plan, stop)?;
-            assert!(rt; seen.agrees, "{count} requests, {stop:?}, {trouble:?}");
-            met = one_more(met, seen);
-            is_last = last;
-        }
-        met.moments = met.moments.saturating_add(1);
+        let (met, is_last) = stop_with_each(rt, alloc, (plan, fates), behind, all)?;
+        all = met;
+        all.moments = all.moments.saturating_add(1);
         if is_last {
-            return Ok(met);
+            return Ok(all);
         }
     }
-    Err("fewer moments")?
+    rt.panic("fewer moments")
 }
 
 // Stops at each moment of the second day's opening, and of each of its requests.
@@ -220,7 +236,7 @@ fn stop_everywhere(
     rt: &impl Abort,
     alloc: Global,
     (plan, fates): (Plan<'_>, &[[Fate; 2]]),
-) -> Result<Met, Fail> {
+) -> Result<Met, Error> {
     let mut met = Met {
         moments: 0,
         lives: 0,
@@ -252,29 +268,43 @@ const REFUSING: Trouble = Trouble {
     ..NONE
 };
 
-// Each case has what befalls the store, how many of the fates there are at a stop, and how many moments at least; and
-// in how many lives at least a failure is told, and a refusal.
+// What befalls the store; whether each of the fates is played at a stop, or the first one alone; and how many moments
+// there are at least, and lives in which a failure and a refusal are told.
+type Case = (Trouble, bool, (u64, u64, u64));
+
+static CASES: [Case; 3] = [
+    (NONE, true, (139, 0, 0)),
+    (FAILING, false, (80, 8, 0)),
+    (REFUSING, false, (90, 0, 30)),
+];
+
+// Plays a case over these requests of two days.
+fn play_case<'a>(
+    rt: &impl Abort,
+    alloc: Global,
+    (first, second): (&'a [Event], &'a [Event]),
+    case: &Case,
+) -> Result<(), Error> {
+    let (trouble, has_each, (moments, failed, refused)) = *case;
+    let plan = Plan {
+        first,
+        second,
+        trouble,
+    };
+    let fates = if has_each { &FATES[..] } else { &FATES[..1] };
+    let met = stop_everywhere(rt, alloc, (plan, fates))?;
+    claim_at(rt, moments <= met.moments, "moments:", met.moments);
+    claim_at(rt, failed <= met.failed, "failures:", met.failed);
+    claim_at(rt, refused <= met.refused, "refusals:", met.refused);
+    Ok(())
+}
+
 #[test]
-fn each_moment(rt: HostRuntime) -> Result<(), Fail> {
-    let alloc = rt.alloc();
-    let first = requests(alloc, FIRST)?;
-    let second = requests(alloc, SECOND)?;
-    let cases = [
-        (NONE, &FATES[..], (139, 0, 0)),
-        (FAILING, &FATES[..1], (80, 8, 0)),
-        (REFUSING, &FATES[..1], (90, 0, 30)),
-    ];
-    for (trouble, fates, (moments, failed, refused)) in cases {
-        let plan = Plan {
-            first: &first,
-            second: &second,
-            trouble,
-        };
-        let met = stop_everywhere(&rt, alloc, (plan, fates))?;
-        assert!(rt;
-            moments <= met.moments && failed <= met.failed && refused <= met.refused,
-            "{met:?}"
-        );
+fn each_moment(rt: HostRuntime) -> Result<(), Error> {
+    let first = requests(rt.alloc(), FIRST)?;
+    let second = requests(rt.alloc(), SECOND)?;
+    for case in &CASES {
+        play_case(&rt, rt.alloc(), (first.as_slice(), second.as_slice()), case)?;
     }
     Ok(())
 }

@@ -1,8 +1,38 @@
 //! A store under one thread.
 use nsf::{
-    Body, Device, Engine, Error, Event, Geometry, Key, MemDisk, Reply, Rid, format_store, restart,
+    Body, Device, Engine, Error, Event, Geometry, Key, MemDisk, Reply, format_store, restart,
 };
-use std::alloc::Global;
+use std::alloc::{Allocator, Global};
+
+// The calls of an engine, each once: they promise nothing, so that who makes them has no more to read than it needs.
+
+/// Opens the store on the device.
+pub fn opened<D: Device, A: Allocator + Copy>(
+    alloc: A,
+    device: D,
+) -> Result<Engine<D, A>, (Error, D)> {
+    restart(alloc, device)
+}
+
+/// The device, with what was written to it.
+pub fn device_of<D: Device, A: Allocator + Copy>(engine: Engine<D, A>) -> D {
+    engine.into_device()
+}
+
+/// Serves a request: the reply, unless it tells that nothing was done.
+pub fn ask<D: Device>(
+    engine: &mut Engine<D, Global>,
+    event: Event,
+) -> Result<Reply<Global>, Error> {
+    granted(engine.serve(event))
+}
+
+/// A disk in memory with a new store of this shape.
+pub fn formatted(alloc: Global, geometry: Geometry) -> Result<MemDisk<Global>, Error> {
+    let mut disk = MemDisk::new(alloc, geometry.sectors(), 10_000)?;
+    format_store(&mut disk, geometry)?;
+    Ok(disk)
+}
 
 /// The reply, unless it tells that nothing was done. (What is asked for below is never `Skipped`, nor is the log full.)
 pub fn granted(reply: Reply<Global>) -> Result<Reply<Global>, Error> {
@@ -53,26 +83,30 @@ pub fn filled(alloc: Global) -> Result<MemDisk<Global>, Error> {
     fill(alloc, disk, geometry)
 }
 
-/// Where the rows with each of the keys lie, by the index of the store.
-pub fn find_each<D: Device>(
-    alloc: Global,
+/// Whether just one row has each of the keys, by the index of the store; where it may be lacking, one or none.
+pub fn has_each<D: Device>(
     engine: &Engine<D, Global>,
     keys: &[&[u8]],
-) -> Result<Vec<Vec<Rid>>, Error> {
-    let mut found = Vec::new(alloc);
-    for key in keys {
-        found.push(engine.core().find(Key::new(key)?)?)?;
+    may_lack: &[bool],
+) -> Result<bool, Error> {
+    for (key, may_lack) in keys.iter().zip(may_lack) {
+        let places = engine.core().find(Key::new(key)?)?;
+        let count = places.len();
+        drop(places);
+        if count > 1 || (count == 0 && !*may_lack) {
+            return Ok(false);
+        }
     }
-    Ok(found)
+    Ok(true)
 }
 
-/// The same, by the index of the store on the disk.
-pub fn find(alloc: Global, disk: MemDisk<Global>, keys: &[&[u8]]) -> Result<Vec<Vec<Rid>>, Error> {
-    match restart(alloc, disk) {
+/// Whether just one row has each of the keys, by the index of the store on the disk.
+pub fn holds_each(alloc: Global, disk: MemDisk<Global>, keys: &[&[u8]; 3]) -> Result<bool, Error> {
+    match opened(alloc, disk) {
         Ok(engine) => {
-            let found = find_each(alloc, &engine, keys);
-            drop(engine.into_device());
-            found
+            let has = has_each(&engine, keys, &[false; 3]);
+            drop(device_of(engine));
+            has
         }
         Err((error, _)) => Err(error),
     }

@@ -8,7 +8,7 @@ use std::alloc::{AllocError, Allocator};
 
 /// At which moment a disk stops: so many behind the marked one, where there are so many, else where it is. And what
 /// becomes in turn of the sectors that are unsynced then.
-#[derive(Clone, Copy, Debug)]
+#[derive(Clone, Copy)]
 pub(crate) struct Stop {
     pub(crate) behind: u64,
     pub(crate) fates: [Fate; 2],

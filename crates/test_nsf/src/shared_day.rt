@@ -1,16 +1,19 @@
 //! A store that lives through a day of requests and a day of clients.
 use crate::days_tests::day;
 use crate::many_threads::{Put, clients_of};
-use crate::one_thread::find_each;
+use crate::one_thread::{device_of, has_each};
 use crate::recorded::{RecordedDisk, Stop};
-use headline::{Day, End, LivedBeside, SharedDay, live_beside};
-use nsf::{Error, Event, Geometry, Life, OpenError, Rid};
+use headline::{End, LivedBeside, SharedDay, live_beside};
+use nsf::{Error, Geometry, Life, OpenError};
 use std::alloc::Global;
 use std::sync::Wait;
 use std::thread::Threads;
 
 /// The keys of the rows that are put.
-const KEYS: [&[u8]; 3] = [b"ant", b"bee", b"cat"];
+pub const KEYS: [&[u8]; 3] = [b"ant", b"bee", b"cat"];
+
+// What is asked for on the first day.
+const FIRST: &str = "begin\ninsert 1 =ant =\nstep 1\ncommit 1\ncreate\nflush\n";
 
 // A client for each of the other rows.
 fn second_day(alloc: Global, end: End) -> Result<SharedDay<Put>, Error> {
@@ -24,30 +27,40 @@ fn new_disk(alloc: Global, geometry: Geometry, stop: Stop) -> Result<RecordedDis
     Ok(RecordedDisk::new(alloc, geometry.sectors(), 4_096, stop)?)
 }
 
-// How far the index is, and where the rows with the keys lie, if each client has put its row and all was written.
-fn found_in(
-    alloc: Global,
+// Whether the row of each key may be lacking, as the day ends so: the first is from the day before, and the others were
+// each put by a client.
+fn may_lack(end: End) -> [bool; 3] {
+    match end {
+        End::Behind | End::Closing => [false, false, false],
+        End::Since(client) => [false, client != 0, client != 1],
+        End::Opening => [false, true, true],
+    }
+}
+
+// Whether the index is complete and each row is found, if each client has put its row and all was written.
+fn is_found(
     lived: &LivedBeside<Put, RecordedDisk<Global>>,
-) -> Result<(Life, Vec<Vec<Rid>>), OpenError> {
+    may_lack: &[bool],
+) -> Result<bool, OpenError> {
     lived.shared.written?;
     for client in &lived.shared.clients {
         client.done?;
     }
     match lived.unbuilt {
         Some(error) => Err(OpenError::Refused(error)),
-        None => Ok((
-            lived.engine.core().life(),
-            find_each(alloc, &lived.engine, &KEYS)?,
-        )),
+        None => {
+            let is_complete = lived.engine.core().life() == Life::Complete;
+            Ok(is_complete && has_each(&lived.engine, &KEYS, may_lack)?)
+        }
     }
 }
 
-// What is found, and whether the disk stopped at the last of its moments.
+// Whether each row is found, and whether the disk stopped at the last of its moments.
 fn taken_apart(
-    alloc: Global,
     lived: LivedBeside<Put, RecordedDisk<Global>>,
-) -> (Result<(Life, Vec<Vec<Rid>>), OpenError>, bool) {
-    let found = found_in(alloc, &lived);
+    end: End,
+) -> (Result<bool, OpenError>, bool) {
+    let found = is_found(&lived, &may_lack(end));
     let LivedBeside {
         answers,
         shared,
@@ -56,30 +69,29 @@ fn taken_apart(
     } = lived;
     drop(answers);
     drop(shared);
-    let disk = engine.into_device();
+    let disk = device_of(engine);
     let is_last = disk.is_last;
     drop(disk);
     (found, is_last)
 }
 
-/// What is found behind a day of requests and a day of two clients that await their acknowledgements, once the index is
-/// built to its end: how far the index is, and where the rows lie. And whether the disk stopped at the last of its
-/// moments.
+/// Whether each row is found once behind a day of requests and a day of two clients that await their acknowledgements,
+/// once the index is built to its end; or no more than once, where the clients may not have put it. And whether the
+/// disk stopped at the last of its moments.
 pub fn live<R: Threads + Wait + Sync>(
     rt: &R,
     alloc: Global,
     end: End,
     stop: Stop,
-) -> Result<(Life, Vec<Vec<Rid>>, bool), OpenError> {
+) -> Result<(bool, bool), OpenError> {
     let geometry = Geometry::new(1, 64, 4)?;
-    let days = [day(alloc, KEYS[0], &[Event::Create, Event::Flush], false)?];
+    let days = [day(alloc, FIRST, false)?];
     let last = second_day(alloc, end)?;
     let disk = new_disk(alloc, geometry, stop)?;
     match live_beside(rt, alloc, disk, geometry, &days, last, true) {
         Ok(lived) => {
-            let (found, is_last) = taken_apart(alloc, lived);
-            let (life, rids) = found?;
-            Ok((life, rids, is_last))
+            let (found, is_last) = taken_apart(lived, end);
+            Ok((found?, is_last))
         }
         Err(refusal) => Err(refusal.error),
     }

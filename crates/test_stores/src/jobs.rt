@@ -2,7 +2,6 @@
 use crate::store::StoreMemory;
 use crate::{
     build_tests, byte_tests, crash_tests, damage_tests, image_tests, memory_tests, migration_tests,
-    row_tests,
 };
 use records::Error;
 use restart::Event;
@@ -16,8 +15,6 @@ use test_store::{Script, requests_of};
 pub(crate) enum Job<'a> {
     /// An index is built over each place.
     BuildIndex,
-    /// Rows of each length are put in each slot.
-    FillSlots,
     /// Stores that were harmed are opened.
     OpenHarmed,
     /// An index that has no record is built to its end.
@@ -53,7 +50,6 @@ fn do_over<M: StoreMemory>(
 ) -> Result<(), Error> {
     match job {
         Job::BuildIndex => build_tests::fill_and_build_over(rt, memory, alloc),
-        Job::FillSlots => row_tests::fill_and_check_all(rt, memory, alloc),
         Job::OpenHarmed => damage_tests::open_harmed(rt, memory, alloc),
         Job::CompleteIndex => damage_tests::complete_index(rt, memory, alloc),
         Job::Move => migration_tests::move_each(rt, memory, alloc),

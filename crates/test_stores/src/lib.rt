@@ -2,7 +2,7 @@
 //!
 //! Each allocation is refused in turn, and each call of the device fails in turn, with each fate; damaged stores are
 //! refused by name. Images are taken, and an index is built over every place. Stores of version 1, written by the
-//! format's text, are moved, harmed and hindered. In version 2 rows of each length lie in each slot.
+//! format's text, are moved, harmed and hindered.
 //!
 //! Proved of them is safety. `test_files` has the tests of stores in files.
 #![tactic(auto)]
@@ -33,7 +33,5 @@ mod memory_tests;
 mod migration_tests;
 #[cfg(test)]
 mod opened;
-#[cfg(test)]
-mod row_tests;
 #[cfg(test)]
 mod store;

@@ -7,7 +7,7 @@ use crate::calls::Calls;
 use crate::chairs::Player;
 use crate::keyed::set_up;
 use crate::soloist::take_last;
-use crate::store::{open, start};
+use crate::store::{give_up, open, start};
 use records::Error;
 use sector_device::Device;
 use shared::{BuildPart, Group, GroupView, Kept, Parts, Shared};
@@ -152,7 +152,7 @@ fn build_with<B: Group, D: Device, R: Wait>(
     })
 }
 
-// The same in the store, of which nothing is let go.
+// The same in the store.
 fn build_in<B: Group, D: Device + Drop, R: Wait>(
     rt: &R,
     store: OpenStore<D>,
@@ -162,8 +162,9 @@ fn build_in<B: Group, D: Device + Drop, R: Wait>(
     match start::<B, D, Global>(store) {
         Ok((shared, mut parts)) => {
             let built = build_with(rt, &shared, &mut parts);
-            forget(shared);
-            forget(parts);
+            let (seats, loops) = parts.split();
+            drop(seats);
+            give_up(shared, loops);
             Ok(built)
         }
         Err((error, device)) => {

@@ -5,13 +5,12 @@ ghost use Rattle.shared.specs.Seats.{AreNewSeats};
 use crate::at_seat::let_play;
 use crate::chairs::{Chair, Player, THREADS_MAX, chairs_of, parted};
 use crate::runs::{Ran, run};
-use crate::store::{start, take_back};
+use crate::store::{give_up, start, take_back};
 use records::Error;
 use sector_device::Device;
 use shared::{Group, Kept, LoopParts, Shared};
 use std::alloc::Global;
 use std::marker::Brand;
-use std::mem::forget;
 use std::sync::Wait;
 use std::thread::{Threads, for_each_mut};
 use threads_lifetime::{OpenStore, Parts};
@@ -43,7 +42,7 @@ fn play_each<B: Group + Send + Sync, P: Player + Send, R: Threads + Wait + Sync>
     chairs
 }
 
-// Lets all play beside the loops.
+// Lets all play beside the loops. Where there is no thread for one, their parts come back.
 fn run_chairs<
     B: Group + Send + Sync,
     P: Player + Send + Drop,
@@ -56,7 +55,7 @@ fn run_chairs<
     chairs: Vec<Chair<B, P>>,
     loops: LoopParts<B, D>,
     gate: &G,
-) -> Result<Ran<B, D, Vec<Chair<B, P>>>, Error> {
+) -> Result<Ran<B, D, Vec<Chair<B, P>>>, LoopParts<B, D>> {
     let clients = move || play_each(rt, shared, chairs);
     run(rt, shared, loops, gate, clients)
 }
@@ -74,7 +73,7 @@ fn run_twice<
     chairs: Vec<Chair<B, P>>,
     loops: LoopParts<B, D>,
     gate: &G,
-) -> Result<Ran<B, D, Vec<Chair<B, P>>>, Error> {
+) -> Result<Ran<B, D, Vec<Chair<B, P>>>, LoopParts<B, D>> {
     let Ran {
         clients,
         loops,
@@ -106,16 +105,13 @@ fn play_parts<
     parts: Parts<B, D, Global, Kept>,
     players: Vec<P>,
     gate: &G,
-) -> Result<Ran<B, D, Vec<Chair<B, P>>>, Error>
+) -> Result<Ran<B, D, Vec<Chair<B, P>>>, LoopParts<B, D>>
     requires { AreNewSeats B.site.board B.site.seats parts.seats.items }
 {
     let (seats, loops) = parts.split();
     match chairs_of(alloc, seats, players) {
         Ok(chairs) => run_twice(rt, shared, chairs, loops, gate),
-        Err(_) => {
-            forget(loops);
-            Err(Error::NoMemory)
-        }
+        Err(_) => Err(loops),
     }
 }
 
@@ -145,8 +141,7 @@ fn end<B: Group, P: Drop, D: Device + Drop, R: Wait>(
             })
         }
         Err(_) => {
-            forget(shared);
-            forget(loops);
+            give_up(shared, loops);
             Err(Error::NoMemory)
         }
     }
@@ -172,9 +167,9 @@ fn play_with<
     let count = parts.seats.len();
     match play_parts(rt, alloc, &shared, parts, players, gate) {
         Ok(ran) => end(rt, alloc, shared, ran, count),
-        Err(error) => {
-            forget(shared);
-            Err(error)
+        Err(loops) => {
+            give_up(shared, loops);
+            Err(Error::NoMemory)
         }
     }
 }

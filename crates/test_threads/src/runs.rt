@@ -2,10 +2,9 @@
 use records::Error;
 use sector_device::Device;
 use shared::{Group, LoopParts, Shared};
-use std::mem::forget;
 use std::sync::Wait;
 use std::thread::Threads;
-use threads_loops::{BuilderEnd, Ended, Gate, run_beside};
+use threads_loops::{BuilderEnd, Ended, Gate, NotRun, run_beside};
 
 /// What is left of the loops, what the clients returned, and how the flusher ended.
 #[derive(Drop)]
@@ -15,7 +14,7 @@ pub(crate) struct Ran<B: Group, D: Device, X> {
     pub flushed: Result<(), Error>,
 }
 
-/// Runs the clients beside the loops. `NoMemory` where there is no thread for a loop; what was given is lost then.
+/// Runs the clients beside the loops. Where there is no thread for a loop, the parts of the loops come back.
 pub(crate) fn run<
     B: Group + Send + Sync,
     D: Device + Send + Drop,
@@ -29,7 +28,7 @@ pub(crate) fn run<
     loops: LoopParts<B, D>,
     gate: &G,
     clients: F,
-) -> Result<Ran<B, D, X>, Error>
+) -> Result<Ran<B, D, X>, LoopParts<B, D>>
     requires { F.pre clients }
 {
     let LoopParts {
@@ -60,8 +59,17 @@ pub(crate) fn run<
             })
         }
         Err(not_run) => {
-            forget(not_run);
-            Err(Error::NoMemory)
+            let NotRun {
+                flush,
+                build,
+                clean,
+                ..
+            } = not_run;
+            Err(LoopParts {
+                flush,
+                build,
+                clean,
+            })
         }
     }
 }

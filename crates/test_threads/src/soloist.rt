@@ -8,7 +8,7 @@ use crate::calls::Calls;
 use crate::chairs::Player;
 use crate::looks::QueueEnd;
 use crate::play::{Solo, Turn};
-use crate::store::{open, start, take_back};
+use crate::store::{give_up, open, start, take_back};
 use records::Error;
 use sector_device::Device;
 use shared::{Group, Kept, Memory, Seat, Shared};
@@ -148,8 +148,9 @@ fn play_with<B: Group, D: Device + Drop, A: Memory, R: Wait>(
     match play_at_last(rt, &shared, &mut parts.seats, &mut parts.flush, solo) {
         Ok(()) => Ok(take_back(rt, alloc, shared, parts)),
         Err(error) => {
-            forget(shared);
-            forget(parts);
+            let (seats, loops) = parts.split();
+            drop(seats);
+            give_up(shared, loops);
             Err((error, None))
         }
     }

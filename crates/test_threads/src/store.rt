@@ -5,9 +5,9 @@ ghost use Rattle.shared.specs.Seats.{AreNewSeats};
 
 use records::Error;
 use sector_device::Device;
-use shared::{Group, Kept, Memory, Shared};
+use shared::{Group, Kept, LoopParts, Memory, Shared};
 use std::sync::Wait;
-use threads_lifetime::{OpenError, OpenStore, Parts, finish, open_store};
+use threads_lifetime::{OpenError, OpenStore, Parts, finish, let_go, open_store};
 
 /// Opens the store on the device, for so many seats. `Stopped` where what the device holds is not sound.
 pub(crate) fn open<D: Device, A: Memory>(
@@ -45,4 +45,19 @@ pub(crate) fn take_back<B: Group, D: Device, A: Memory, R: Wait>(
         Ok(closed) => (closed.into_device(), None),
         Err((error, device)) => (device, Some(error)),
     }
+}
+
+/// Lets go of what is left, where nothing more is to be written.
+pub(crate) fn give_up<B: Group, D: Device + Drop, A: Memory>(
+    shared: Shared<B, A>,
+    loops: LoopParts<B, D, A>,
+) {
+    let LoopParts {
+        flush,
+        build,
+        clean,
+    } = loops;
+    drop(build);
+    drop(clean);
+    drop(let_go(shared, flush));
 }
