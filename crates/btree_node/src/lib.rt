@@ -45,10 +45,16 @@ use std::marker::Model;
 use walk::{above_in, first_in};
 
 /// The most entries that a tree can have.
-pub const ENTRIES_MAX: usize = records::ENTRIES_MAX as usize;
+pub const ENTRIES_MAX: usize = records::LARGE_ENTRIES_MAX as usize;
 
 /// The most levels of a tree.
-pub const LEVELS_MAX: usize = 4;
+pub const LEVELS_MAX: usize = 6;
+
+/// How many entries take four levels at the most.
+pub const SMALL_ENTRIES_MAX: usize = records::ENTRIES_MAX as usize;
+
+/// The most levels of a tree of so few entries.
+pub const SMALL_LEVELS_MAX: usize = 4;
 
 /// A pair with its way down a tree, found in one walk: how many nodes the pair's insertion takes, its mark if it has an
 /// entry, and how many nodes were visited.
@@ -75,7 +81,7 @@ impl Model for Way {
       visits = w.visits;
     } };
 
-    ghost invariant = { λ w. w.path.capacity ≡ 4 };
+    ghost invariant = { λ w. w.path.capacity ≡ 6 };
 }
 
 impl Way {
@@ -110,7 +116,7 @@ impl<A: Allocator> Model for Plan<A> {
 
     ghost view = { λ p. record { pair = p.pair; path = p.path.items; spares = p.spares } };
 
-    ghost invariant = { λ p. p.path.capacity ≡ 4 };
+    ghost invariant = { λ p. p.path.capacity ≡ 6 };
 }
 
 /// A map from pair to mark, in the order of pairs. Contracts see the nodes as plain data, of which `contents` is the
@@ -183,10 +189,12 @@ impl<A: Allocator + Clone> BTree<A> {
         self.len == 0
     }
 
-    /// How many levels of nodes there are: none in an empty tree, and never more than four.
+    /// How many levels of nodes there are: none in an empty tree, and never more than six. Up to 65,536 entries
+    /// take four at the most.
     pub fn height(&self) -> u32
         ensures height { result ≡ height_of self.now }
         ensures low { result ≤ LEVELS_MAX }
+        ensures small { map.len (contents self.now) ≤ SMALL_ENTRIES_MAX → result ≤ SMALL_LEVELS_MAX }
         ensures empty { (result ≡ 0) ↔ (contents self.now ≡ map.empty) }
     {
         match &self.root {
@@ -200,6 +208,7 @@ impl<A: Allocator + Clone> BTree<A> {
         ensures found { result.0 ≡ map.get (contents self.now) pair.now }
         ensures visited { result.1 ≡ height_of self.now }
         ensures few_visited { result.1 ≤ LEVELS_MAX }
+        ensures small { map.len (contents self.now) ≤ SMALL_ENTRIES_MAX → result.1 ≤ SMALL_LEVELS_MAX }
     {
         match &self.root {
             None => (None, 0),

@@ -152,7 +152,7 @@ fn reserve<A: Allocator + Copy>(
 )
     requires room { indexed ≡ true
         → map.len index.old.entries + index.old.pledged + PLACES_PER_CHANGE ≤ index.old.capacity }
-    requires few { reserved ≤ 65536 }
+    requires few { reserved ≤ 8388608 }
     ensures index { index.new ≡ record index.old { pledged = index.old.pledged + places_of indexed } }
     ensures txns { txns.new ≡ record txns.old {
       active = table.with_state
@@ -231,7 +231,7 @@ impl<A: Allocator + Copy> CoreParts<A> {
     pub(crate) fn reserved(&self, txn: Txn) -> usize
         requires { ∥ IsSafe (parts_of self.now) ∥₁ }
         ensures number { result ≡ reserved_of (txn_shown (parts_of self.now) txn) }
-        ensures few { result ≤ 65536 }
+        ensures few { result ≤ 8388608 }
         ensures within { result ≤ (parts_of self.now).index.pledged }
     {
         self.index.stands();

@@ -1,17 +1,18 @@
 -- Superblocks: how they are written and read, and that one is of one geometry.
-use Rattle.std.proofs.Common.{◌≡◌, ℕ, ◌+◌, ◌-◌, ◌^◌, ◌<◌, ◌≤◌, List, [], ◌++◌, length, take, drop, All, refl, sym, ap, subst, ◌∙◌, arith, append_assoc}
+use Rattle.std.proofs.Common.{◌≡◌, Bool, true, false, cond, ℕ, ◌+◌, ◌-◌, ◌^◌, ◌<◌, ◌≤◌, List}
+use Rattle.std.proofs.Common.{[], ◌++◌, length, take, drop, All, refl, sym, ap, subst, ◌∙◌, arith, append_assoc}
 use Rattle.std.proofs.Common.{length-append}
 use Rattle.std.proofs.lemmas.List.{take_at, drop_at, drop-drop, length-drop, append-nil, nil_from_length, take_all}
 use borrow.Rule.Slice.PartMut.{put_mid}
 use Rattle.byteorder.specs.Endian.{big_number}
-use Rattle.record_values.specs.GeometryValue.{GeometryValue, IsGeometry}
+use Rattle.record_values.specs.GeometryValue.{GeometryValue, IsGeometry, is_small}
 use Rattle.records.specs.Spelling.{u32, u64, IsBytes}
 use Rattle.records.proofs.Numbers.{IsBytes-drop, length-u32, length-u64, u32_front, u64_front, u32_once, u64_once}
 use Rattle.flip_image.specs.declared.superblock.TheConstants.{TITLE}
 use Rattle.record_values.specs.declared.version.Version.{Version}
 use Rattle.record_values.specs.declared.version.Version.TheVariants.{One, Two}
 use Rattle.flip_image.specs.Steps.{IsOlderNumber}
-use Rattle.flip_image.specs.Store.{title, number_of, superblock_in, IsSuperblockIn, HasOlderNumber}
+use Rattle.flip_image.specs.Store.{title, number_of, CanBeIn, superblock_in, IsSuperblockIn, HasOlderNumber}
 
 -- the title is this number
 pub title-is : u64 TITLE ≡ title
@@ -20,14 +21,14 @@ title-is = refl
 
 -- a superblock, and some bytes, as numbers
 pub superblock-is : (v : Version) (g : GeometryValue) (rest : List ℕ)
-    → superblock_in v g ++ rest ≡ u64 TITLE ++ (u32 (number_of v) ++ (u32 g.pages ++ (u32 g.entries ++ (u32 g.slots ++ rest))))
+    → superblock_in v g ++ rest ≡ u64 TITLE ++ (u32 (number_of v g) ++ (u32 g.pages ++ (u32 g.entries ++ (u32 g.slots ++ rest))))
 unfolding superblock_in
 superblock-is v g rest =
-    append_assoc title (u32 (number_of v) ++ (u32 g.pages ++ (u32 g.entries ++ u32 g.slots))) rest
-    ∙ ap (λ (t : List ℕ). title ++ t) (append_assoc (u32 (number_of v)) (u32 g.pages ++ (u32 g.entries ++ u32 g.slots)) rest)
-    ∙ ap (λ (t : List ℕ). title ++ (u32 (number_of v) ++ t)) (append_assoc (u32 g.pages) (u32 g.entries ++ u32 g.slots) rest)
-    ∙ ap (λ (t : List ℕ). title ++ (u32 (number_of v) ++ (u32 g.pages ++ t))) (append_assoc (u32 g.entries) (u32 g.slots) rest)
-    ∙ ap (λ (t : List ℕ). t ++ (u32 (number_of v) ++ (u32 g.pages ++ (u32 g.entries ++ (u32 g.slots ++ rest))))) (sym title-is)
+    append_assoc title (u32 (number_of v g) ++ (u32 g.pages ++ (u32 g.entries ++ u32 g.slots))) rest
+    ∙ ap (λ (t : List ℕ). title ++ t) (append_assoc (u32 (number_of v g)) (u32 g.pages ++ (u32 g.entries ++ u32 g.slots)) rest)
+    ∙ ap (λ (t : List ℕ). title ++ (u32 (number_of v g) ++ t)) (append_assoc (u32 g.pages) (u32 g.entries ++ u32 g.slots) rest)
+    ∙ ap (λ (t : List ℕ). title ++ (u32 (number_of v g) ++ (u32 g.pages ++ t))) (append_assoc (u32 g.entries) (u32 g.slots) rest)
+    ∙ ap (λ (t : List ℕ). t ++ (u32 (number_of v g) ++ (u32 g.pages ++ (u32 g.entries ++ (u32 g.slots ++ rest))))) (sym title-is)
 
 length-title : length title ≡ 8
 length-title = ap length (sym title-is) ∙ length-u64 TITLE
@@ -37,22 +38,27 @@ unfolding superblock_in
 length-superblock v g = omega (
   arith,
   length-title,
-  length-append {A = ℕ} title (u32 (number_of v) ++ (u32 g.pages ++ (u32 g.entries ++ u32 g.slots))),
-  length-append {A = ℕ} (u32 (number_of v)) (u32 g.pages ++ (u32 g.entries ++ u32 g.slots)),
+  length-append {A = ℕ} title (u32 (number_of v g) ++ (u32 g.pages ++ (u32 g.entries ++ u32 g.slots))),
+  length-append {A = ℕ} (u32 (number_of v g)) (u32 g.pages ++ (u32 g.entries ++ u32 g.slots)),
   length-append {A = ℕ} (u32 g.pages) (u32 g.entries ++ u32 g.slots),
   length-append {A = ℕ} (u32 g.entries) (u32 g.slots),
-  length-u32 (number_of v),
+  length-u32 (number_of v g),
   length-u32 g.pages,
   length-u32 g.entries,
   length-u32 g.slots,
 )
 
 -- bytes that begin with a superblock, with zeros behind it
-pub superblock_filled : (v : Version) (g : GeometryValue) (bytes rest : List ℕ) → bytes ≡ superblock_in v g ++ rest → All (λ b. b ≡ 0) rest
+pub superblock_filled : (v : Version) (g : GeometryValue) (bytes rest : List ℕ) → CanBeIn v g → bytes ≡ superblock_in v g ++ rest
+    → All (λ b. b ≡ 0) rest
     → IsSuperblockIn v g bytes
-superblock_filled v g bytes rest is zeros =
+superblock_filled v g bytes rest can is zeros =
     let behind : drop 24 bytes ≡ rest = ap (drop 24) is ∙ drop_at (superblock_in v g) rest 24 (length-superblock v g) in
-    record { spelled = is ∙ ap (λ (t : List ℕ). superblock_in v g ++ t) (sym behind); rest = subst (All (λ b. b ≡ 0)) (sym behind) zeros }
+    record {
+      can = can;
+      spelled = is ∙ ap (λ (t : List ℕ). superblock_in v g ++ t) (sym behind);
+      rest = subst (All (λ b. b ≡ 0)) (sym behind) zeros;
+    }
 
 four : (bytes behind : List ℕ) (k n : ℕ) → IsBytes bytes → k + 4 ≤ length bytes → behind ≡ drop k bytes → n ≡ big_number 4 behind
     → drop k bytes ≡ u32 n ++ drop (k + 4) bytes
@@ -93,14 +99,18 @@ titled v g bytes is = title_there bytes _ TITLE refl (is.spelled ∙ superblock-
 
 -- the numbers in front of some bytes are those of a version and a geometry
 pub record AreNumbers (v : Version) (g : GeometryValue) (n p e s : ℕ) : Type 0 where
-  pub version : n ≡ number_of v
+  pub version : n ≡ number_of v g
   pub pages : p ≡ g.pages
   pub entries : e ≡ g.entries
   pub slots : s ≡ g.slots
 
-number_fits : (v : Version) → number_of v < 2 ^ 32
-number_fits One = omega arith
-number_fits Two = omega arith
+two_or_three : (b : Bool) → cond b 2 3 < 2 ^ 32
+two_or_three true = omega arith
+two_or_three false = omega arith
+
+number_fits : (v : Version) (g : GeometryValue) → number_of v g < 2 ^ 32
+number_fits One g = omega arith
+number_fits Two g = two_or_three (is_small g)
 
 -- the numbers that are read in a superblock are its geometry's
 pub numbers_told : (v : Version) (g : GeometryValue) (bytes rest : List ℕ) (t n p e s : ℕ) → t < 2 ^ 64 → n < 2 ^ 32 → p < 2 ^ 32 → e < 2 ^ 32 → s < 2 ^ 32
@@ -108,7 +118,7 @@ pub numbers_told : (v : Version) (g : GeometryValue) (bytes rest : List ℕ) (t 
 numbers_told v g bytes rest t n p e s ft fn fp fe fs is limits spelled =
     let both = sym is ∙ spelled.spelled ∙ superblock-is v g (drop 24 bytes) in
     let first = u64_once t TITLE _ _ ft (omega arith) both in
-    let second = u32_once n (number_of v) _ _ fn (number_fits v) first.1 in
+    let second = u32_once n (number_of v g) _ _ fn (number_fits v g) first.1 in
     let third = u32_once p g.pages _ _ fp (omega (arith, limits.most_pages)) second.1 in
     let fourth = u32_once e g.entries _ _ fe (omega (arith, limits.most_entries)) third.1 in
     let fifth = u32_once s g.slots _ _ fs (omega (arith, limits.most_slots)) fourth.1 in
@@ -125,28 +135,33 @@ same_limits v g n p e s are limits = record {
   most_slots = omega (arith, are.slots, limits.most_slots);
 }
 
+same_numbers : (g h : GeometryValue) → g.pages ≡ h.pages → g.entries ≡ h.entries → g.slots ≡ h.slots → g ≡ h
+same_numbers g h p e s = ap (λ (n : ℕ). record { pages = n; entries = g.entries; slots = g.slots }) p
+    ∙ ap (λ (n : ℕ). record { pages = h.pages; entries = n; slots = g.slots }) e
+    ∙ ap (λ (n : ℕ). record { pages = h.pages; entries = h.entries; slots = n }) s
+
+-- the numbers that were read are those of the geometry
+pub geometry_is : (v : Version) (g : GeometryValue) (n p e s : ℕ) → AreNumbers v g n p e s → record { pages = p; entries = e; slots = s } ≡ g
+geometry_is v g n p e s are = same_numbers (record { pages = p; entries = e; slots = s }) g are.pages are.entries are.slots
+
 -- bytes are a superblock of one geometry at most
 pub one_geometry : (v : Version) (g h : GeometryValue) (bytes : List ℕ) → IsGeometry g → IsGeometry h → IsSuperblockIn v g bytes → IsSuperblockIn v h bytes
     → g ≡ h
 one_geometry v g h bytes lg lh is_g is_h =
-    let are = numbers_told v h bytes (drop 24 bytes) TITLE (number_of v) g.pages g.entries g.slots (omega arith) (number_fits v) (omega (arith, lg.most_pages))
+    let are = numbers_told v h bytes (drop 24 bytes) TITLE (number_of v g) g.pages g.entries g.slots (omega arith) (number_fits v g)
+    (omega (arith, lg.most_pages))
     (omega (arith, lg.most_entries)) (omega (arith, lg.most_slots))
     (is_g.spelled ∙ superblock-is v g (drop 24 bytes)) lh is_h in
-    same are.pages are.entries are.slots
-  where
-    same : g.pages ≡ h.pages → g.entries ≡ h.entries → g.slots ≡ h.slots → g ≡ h
-    same p e s = ap (λ (n : ℕ). record { pages = n; entries = g.entries; slots = g.slots }) p
-        ∙ ap (λ (n : ℕ). record { pages = h.pages; entries = n; slots = g.slots }) e
-        ∙ ap (λ (n : ℕ). record { pages = h.pages; entries = h.entries; slots = n }) s
+    same_numbers g h are.pages are.entries are.slots
 
 -- numbers that were read, with zeros behind them, are a superblock
 pub superblock_read : (v : Version) (bytes : List ℕ) (t n p e s : ℕ) (g : GeometryValue)
-    → bytes ≡ u64 t ++ (u32 n ++ (u32 p ++ (u32 e ++ (u32 s ++ drop 24 bytes)))) → t ≡ TITLE → n ≡ number_of v
+    → bytes ≡ u64 t ++ (u32 n ++ (u32 p ++ (u32 e ++ (u32 s ++ drop 24 bytes)))) → t ≡ TITLE → n ≡ number_of v g → CanBeIn v g
     → g ≡ record { pages = p; entries = e; slots = s } → All (λ b. b ≡ 0) (drop 24 bytes) → IsSuperblockIn v g bytes
-superblock_read v bytes t n p e s g is same one geometry zeros = superblock_filled v g bytes (drop 24 bytes) (
+superblock_read v bytes t n p e s g is same one can geometry zeros = superblock_filled v g bytes (drop 24 bytes) can (
     is
     ∙ ap (λ (m : ℕ). u64 m ++ (u32 n ++ (u32 p ++ (u32 e ++ (u32 s ++ drop 24 bytes))))) same
-    ∙ ap (λ (m : ℕ). u64 TITLE ++ (u32 m ++ (u32 p ++ (u32 e ++ (u32 s ++ drop 24 bytes))))) one
+    ∙ ap (λ (m : ℕ). u64 TITLE ++ (u32 m ++ (u32 p ++ (u32 e ++ (u32 s ++ drop 24 bytes))))) (one ∙ ap (number_of v) geometry)
     ∙ sym (superblock-is v (record { pages = p; entries = e; slots = s }) (drop 24 bytes))
     ∙ ap (λ (x : GeometryValue). superblock_in v x ++ drop 24 bytes) (sym geometry)) zeros
 
@@ -167,13 +182,19 @@ older_told One bytes rest t n fits is older = older
 older_told Two bytes rest t n fits is older =
     (u32_once n 1 [] [] fits (omega arith) (ap (λ (x : List ℕ). x ++ []) (sym (number_there bytes rest t n is) ∙ older))).0
 
+above_one : (b : Bool) → 1 < cond b 2 3
+above_one true = omega arith
+above_one false = omega arith
+
 -- a superblock is of no older version
 pub not_older : (v : Version) (g : GeometryValue) (bytes : List ℕ) → IsSuperblockIn v g bytes → ¬ HasOlderNumber v bytes
 not_older One g bytes is older = older
 not_older Two g bytes is older =
-    let same : 2 ≡ 1 = older_told Two bytes (u32 g.pages ++ (u32 g.entries ++ (u32 g.slots ++ drop 24 bytes))) TITLE 2 (omega arith) (is.spelled
-    ∙ superblock-is Two g (drop 24 bytes)) older in
-    omega (arith, same)
+    let number : ℕ = number_of Two g in
+    let same : number ≡ 1 = older_told Two bytes (u32 g.pages ++ (u32 g.entries ++ (u32 g.slots ++ drop 24 bytes))) TITLE number
+    (number_fits Two g) (is.spelled ∙ superblock-is Two g (drop 24 bytes)) older in
+    let above : 1 < number = above_one (is_small g) in
+    omega (arith, same, above)
 
 -- one of version 1 is older than version 2
 pub old_is_older : (g : GeometryValue) (bytes : List ℕ) → IsSuperblockIn One g bytes → HasOlderNumber Two bytes
@@ -188,29 +209,30 @@ behind_changed a k xs ys front old is long room =
     ∙ ap (λ (t : List ℕ). front ++ t) (append-nil ys)
 
 -- the version and the geometry, as two pairs of numbers
-pub numbers_written : (p e s k : ℕ) (old one two : List ℕ) → one ≡ u32 2 ++ (u32 p ++ drop 8 old) → two ≡ u32 e ++ (u32 s ++ drop 8 (take k (drop 8 one)))
+pub numbers_written : (v p e s k : ℕ) (old one two : List ℕ) → one ≡ u32 v ++ (u32 p ++ drop 8 old) → two ≡ u32 e ++ (u32 s ++ drop 8 (take k (drop 8 one)))
     → k ≡ length one - 8
-    → put_mid 8 k one two ≡ u32 2 ++ (u32 p ++ (u32 e ++ (u32 s ++ drop 16 old)))
-numbers_written p e s k old one two is_one is_two room =
-    let front : List ℕ = u32 2 ++ u32 p in
-    let long : length front ≡ 8 = omega (arith, length-append {A = ℕ} (u32 2) (u32 p), length-u32 2, length-u32 p) in
-    let one-is : one ≡ front ++ drop 8 old = is_one ∙ sym (append_assoc (u32 2) (u32 p) (drop 8 old)) in
+    → put_mid 8 k one two ≡ u32 v ++ (u32 p ++ (u32 e ++ (u32 s ++ drop 16 old)))
+numbers_written v p e s k old one two is_one is_two room =
+    let front : List ℕ = u32 v ++ u32 p in
+    let long : length front ≡ 8 = omega (arith, length-append {A = ℕ} (u32 v) (u32 p), length-u32 v, length-u32 p) in
+    let one-is : one ≡ front ++ drop 8 old = is_one ∙ sym (append_assoc (u32 v) (u32 p) (drop 8 old)) in
     let rest : drop 8 (take k (drop 8 one)) ≡ drop 16 old =
     ap (drop 8) (take_all k (drop 8 one) (omega (arith, length-drop 8 one, room)) ∙ ap (drop 8) one-is ∙ drop_at front (drop 8 old) 8 long)
     ∙ drop-drop 8 8 old in
     behind_changed 8 k one two front (drop 8 old) one-is long room
-    ∙ append_assoc (u32 2) (u32 p) two
-    ∙ ap (λ (t : List ℕ). u32 2 ++ (u32 p ++ t)) (is_two ∙ ap (λ (t : List ℕ). u32 e ++ (u32 s ++ t)) rest)
+    ∙ append_assoc (u32 v) (u32 p) two
+    ∙ ap (λ (t : List ℕ). u32 v ++ (u32 p ++ t)) (is_two ∙ ap (λ (t : List ℕ). u32 e ++ (u32 s ++ t)) rest)
 
 -- the title in front of them
-pub front_written : (g : GeometryValue) (k : ℕ) (old one two : List ℕ) → one ≡ u64 TITLE ++ drop 8 old
-    → two ≡ u32 2 ++ (u32 g.pages ++ (u32 g.entries ++ (u32 g.slots ++ drop 16 (take k (drop 8 one))))) → k ≡ length one - 8
+pub front_written : (g : GeometryValue) (v k : ℕ) (old one two : List ℕ) → v ≡ number_of Two g → one ≡ u64 TITLE ++ drop 8 old
+    → two ≡ u32 v ++ (u32 g.pages ++ (u32 g.entries ++ (u32 g.slots ++ drop 16 (take k (drop 8 one))))) → k ≡ length one - 8
     → put_mid 8 k one two ≡ superblock_in Two g ++ drop 24 old
-front_written g k old one two is_one is_two room =
+front_written g v k old one two is_v is_one is_two room =
     let long : length (u64 TITLE) ≡ 8 = length-u64 TITLE in
     let rest : drop 16 (take k (drop 8 one)) ≡ drop 24 old =
     ap (drop 16) (take_all k (drop 8 one) (omega (arith, length-drop 8 one, room)) ∙ ap (drop 8) is_one ∙ drop_at (u64 TITLE) (drop 8 old) 8 long)
     ∙ drop-drop 16 8 old in
     behind_changed 8 k one two (u64 TITLE) (drop 8 old) is_one long room
-    ∙ ap (λ (t : List ℕ). u64 TITLE ++ t) (is_two ∙ ap (λ (t : List ℕ). u32 2 ++ (u32 g.pages ++ (u32 g.entries ++ (u32 g.slots ++ t)))) rest)
+    ∙ ap (λ (t : List ℕ). u64 TITLE ++ t) (is_two ∙ ap (λ (t : List ℕ). u32 v ++ (u32 g.pages ++ (u32 g.entries ++ (u32 g.slots ++ t)))) rest)
+    ∙ ap (λ (n : ℕ). u64 TITLE ++ (u32 n ++ (u32 g.pages ++ (u32 g.entries ++ (u32 g.slots ++ drop 24 old))))) is_v
     ∙ sym (superblock-is Two g (drop 24 old))

@@ -1,5 +1,5 @@
 -- What a store holds where it begins, and what a reader refuses.
-use Rattle.std.specs.Prelude.{◌≡◌, ◌⊎◌, true, ℕ, ◌+◌, ◌<◌, ◌≤◌, List, ◌++◌, length, take, drop, All, codes}
+use Rattle.std.specs.Prelude.{◌≡◌, ◌⊎◌, true, cond, ℕ, ◌+◌, ◌<◌, ◌≤◌, List, ◌++◌, length, take, drop, All, codes}
 use Rattle.sector_device.specs.Disk.{CrashState, Disk, sector, SameOutside}
 use Rattle.sector_device.specs.DevicePast.{Rises}
 use Rattle.sector_device.specs.Values.{zero_sector, marked_sector, IsMarked}
@@ -8,7 +8,7 @@ use Rattle.record_values.specs.declared.geometry.TheConstants.{PAGE_SECTORS}
 use Rattle.record_values.specs.declared.error.Error.{Error}
 use Rattle.record_values.specs.declared.error.Error.TheVariants.{DeviceFailed, NotFormatted, Damaged, DeviceTooSmall}
 use Rattle.record_values.specs.declared.error.Error.TheVariants.{OldVersion}
-use Rattle.record_values.specs.GeometryValue.{GeometryValue, IsGeometry, sectors_in}
+use Rattle.record_values.specs.GeometryValue.{GeometryValue, IsGeometry, is_small, sectors_in}
 use Rattle.record_values.specs.declared.version.Version.{Version}
 use Rattle.record_values.specs.declared.version.Version.TheVariants.{One, Two}
 use Rattle.records.specs.Spelling.{u32}
@@ -18,7 +18,7 @@ use Rattle.flip_image.specs.declared.half.Half.{Half}
 use Rattle.flip_image.specs.declared.half.Half.TheVariants.{A, B}
 use Rattle.flip_image.specs.declared.half.TheConstants.{FLIP_SECTOR}
 use Rattle.flip_image.specs.declared.superblock.TheConstants.{SUPERBLOCK_SECTOR, SUPERBLOCK_SIZE, TITLE_SIZE, VERSION}
-use Rattle.flip_image.specs.declared.superblock.TheConstants.{OLD_VERSION}
+use Rattle.flip_image.specs.declared.superblock.TheConstants.{OLD_VERSION, LARGE_VERSION}
 use Rattle.flip_image.specs.Layout.{header_sector_in, header_sector, heads_sector, pages_first, entries_first}
 use Rattle.flip_image.specs.Layout.{undo_first, page_sector, gate_sector, IsLogGate}
 
@@ -27,17 +27,24 @@ use Rattle.flip_image.specs.Layout.{undo_first, page_sector, gate_sector, IsLogG
 unfoldable pub title : List ℕ
 title = codes "NSFINDEX"
 
--- the number of a version
-abbrev pub number_of : Version → ℕ
-number_of One = OLD_VERSION
-number_of Two = VERSION
+-- The number of a version in the superblock of a store of this geometry. Version 2 with a geometry past its limits has
+-- a number of its own, 3.
+abbrev pub number_of : Version → GeometryValue → ℕ
+number_of One g = OLD_VERSION
+number_of Two g = cond (is_small g) VERSION LARGE_VERSION
+
+-- in version 1 all stores are small
+abbrev pub CanBeIn : Version → GeometryValue → Type 0
+CanBeIn One g = is_small g ≡ true
+CanBeIn Two g = Unit {0}
 
 -- the title, the version, and the three numbers of the geometry
 unfoldable pub superblock_in : Version → GeometryValue → List ℕ
-superblock_in v g = title ++ (u32 (number_of v) ++ (u32 g.pages ++ (u32 g.entries ++ u32 g.slots)))
+superblock_in v g = title ++ (u32 (number_of v g) ++ (u32 g.pages ++ (u32 g.entries ++ u32 g.slots)))
 
--- the bytes begin with that, and are zero behind it
+-- the version has such stores, and the bytes begin with that, and are zero behind it
 pub record IsSuperblockIn (v : Version) (g : GeometryValue) (bytes : List ℕ) : Type 0 where
+  pub can : CanBeIn v g
   pub spelled : bytes ≡ superblock_in v g ++ drop SUPERBLOCK_SIZE bytes
   pub rest : All (λ b. b ≡ 0) (drop SUPERBLOCK_SIZE bytes)
 

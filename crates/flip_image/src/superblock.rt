@@ -1,8 +1,9 @@
 //! The superblock: which format a device has, and for which geometry.
-ghost use Rattle.std.specs.Prelude.{◌≡◌, ◌⊎◌, ◌↔◌, ◌≤◌, ◌++◌, length, take, drop, All, IsTrue, IfOk, IfErr};
-ghost use Rattle.record_values.specs.GeometryValue.{GeometryValue, IsGeometry};
+ghost use Rattle.std.specs.Prelude.{◌≡◌, ◌⊎◌, ◌↔◌, ◌≤◌, ◌++◌, true, length, take, drop, All, IsTrue, IfOk, IfErr};
+ghost use Rattle.record_values.specs.GeometryValue.{GeometryValue, IsGeometry, is_small};
 ghost use Rattle.records.specs.Spelling.{u32, u64};
 ghost use Rattle.flip_image.specs.Store.{title, number_of, superblock_in, IsSuperblock, IsSuperblockIn, HasOlderNumber};
+ghost use Rattle.flip_image.specs.Store.{CanBeIn};
 ghost use Rattle.flip_image.specs.Steps.{IsOlderNumber};
 ghost use Rattle.record_values.specs.declared.version.Version.TheVariants.{Two};
 
@@ -13,8 +14,11 @@ use sector_device::{SECTOR_SIZE, are_zeros};
 /// The sector of the superblock (the format document, "Device").
 pub const SUPERBLOCK_SECTOR: u64 = 0;
 
-/// The version of the format that is written.
+/// The version of the format that is written, for a small store.
 pub const VERSION: u32 = 2;
+
+/// The version that a store has which isn't small: version 2 but for this number.
+pub const LARGE_VERSION: u32 = 3;
 
 /// The version before it, which is only read.
 pub const OLD_VERSION: u32 = 1;
@@ -39,12 +43,12 @@ fn write_pair(bytes: &mut [u8], first: u32, second: u32)
 }
 
 // Writes the version and the geometry at the front.
-fn write_numbers(bytes: &mut [u8], geometry: Geometry)
+fn write_numbers(bytes: &mut [u8], version: u32, geometry: Geometry)
     requires { 16 ≤ length bytes.old }
-    ensures { bytes.new ≡ u32 VERSION ++ (u32 geometry.pages
+    ensures { bytes.new ≡ u32 version ++ (u32 geometry.pages
         ++ (u32 geometry.entries ++ (u32 geometry.slots ++ drop 16 bytes.old))) }
 {
-    write_pair(bytes, VERSION, geometry.pages);
+    write_pair(bytes, version, geometry.pages);
     write_pair(&mut bytes[8..], geometry.entries, geometry.slots);
 }
 
@@ -55,7 +59,8 @@ fn write_front(bytes: &mut [u8], geometry: Geometry)
     ensures { bytes.new ≡ superblock_in Two geometry ++ drop SUPERBLOCK_SIZE bytes.old }
 {
     BigEndian::write_u64(bytes, TITLE);
-    write_numbers(&mut bytes[TITLE_SIZE..], geometry);
+    let version = number_of(Version::Two, geometry);
+    write_numbers(&mut bytes[TITLE_SIZE..], version, geometry);
 }
 
 /// The superblock of a store of this geometry.
@@ -86,21 +91,33 @@ fn read_front(bytes: &[u8]) -> (u64, u32, u32, u32, u32)
     )
 }
 
-// The number of a version.
-fn number_of(version: Version) -> u32
-    ensures { result ≡ number_of version }
+// The number of a version in the superblock of a store of this geometry.
+fn number_of(version: Version, geometry: Geometry) -> u32
+    ensures { result ≡ number_of version geometry }
 {
     match version {
         Version::One => OLD_VERSION,
-        Version::Two => VERSION,
+        Version::Two if geometry.is_small() => VERSION,
+        Version::Two => LARGE_VERSION,
     }
 }
 
-// Whether it is the number of this version, with nothing but zeros behind the numbers.
-fn is_supported(version: Version, number: u32, rest: &[u8]) -> bool
-    ensures { IsTrue result ↔ ((number ≡ number_of version) × All (λ b. b ≡ 0) rest.now) }
+// Whether the version has stores of this geometry.
+fn can_be_in(version: Version, geometry: Geometry) -> bool
+    ensures { IsTrue result ↔ CanBeIn version geometry }
 {
-    number == number_of(version) && are_zeros(rest)
+    match version {
+        Version::One => geometry.is_small(),
+        Version::Two => true,
+    }
+}
+
+// Whether it is the number of this version for a geometry that it has, with nothing but zeros behind the numbers.
+fn is_supported(version: Version, number: u32, geometry: Geometry, rest: &[u8]) -> bool
+    ensures { IsTrue result ↔ (((number ≡ number_of version geometry) × CanBeIn version geometry)
+        × All (λ b. b ≡ 0) rest.now) }
+{
+    number == number_of(version, geometry) && can_be_in(version, geometry) && are_zeros(rest)
 }
 
 // Whether it is the number of an older version.
@@ -136,11 +153,11 @@ pub(crate) fn geometry_of(version: Version, bytes: &[u8]) -> Result<Geometry, Er
     let damaged = Error::Damaged {
         sector: SUPERBLOCK_SECTOR,
     };
-    if !is_supported(version, number, rest) {
-        return Err(damaged);
-    }
-    let Ok(geometry) = Geometry::new(pages, entries, slots) else {
+    let Ok(geometry) = Geometry::large(pages, entries, slots) else {
         return Err(damaged);
     };
+    if !is_supported(version, number, geometry, rest) {
+        return Err(damaged);
+    }
     Ok(geometry)
 }

@@ -35,6 +35,20 @@ root_at_least h (branch f) b k =
     let two : 16 ^ (h - 1) * 2 ≤ 16 ^ (h - 1) * length (trees_of f) = mul-le-mul_left (16 ^ (h - 1)) b.1 in
     omega (arith, all, two)
 
+-- a number of levels, and the entries that one more would have
+seven_levels : (h : ℕ) (t : Tree) → IsRoot h t → 7 ≤ h → 33554432 ≤ length (entries t)
+seven_levels h t b m =
+    let six : 6 ≤ h - 1 = omega arith in
+    let pow : 16 ^ 6 ≤ 16 ^ (h - 1) = pow-le-pow_right {n = 16} (lit< tt) six in
+    let two : 2 * 16 ^ (h - 1) ≤ length (entries t) = root_at_least h t b (omega arith) in
+    omega (arith, pow, two)
+
+-- up to 8,388,608 entries give at most six levels
+pub at_most_six : (h : ℕ) (t : Tree) → IsRoot h t → length (entries t) ≤ 8388608 → h ≤ 6
+at_most_six h t b k =
+    let big : 7 ≤ h → 33554432 ≤ length (entries t) = λ m. seven_levels h t b m in
+    grind (arith, big)
+
 five_levels : (h : ℕ) (t : Tree) → IsRoot h t → 5 ≤ h → 131072 ≤ length (entries t)
 five_levels h t b m =
     let four : 4 ≤ h - 1 = omega arith in

@@ -199,7 +199,7 @@ typedef struct nsf_status {
     uint32_t life;     /* NSF_ABSENT to NSF_COMPLETE */
 } nsf_status;
 
-/* How many sectors of 512 bytes a store of 1 to 256 pages, 64 to 65536 entries and 4 to 256 slots needs; 0 for any other numbers. */
+/* How many sectors of 512 bytes a store of 1 to 65536 pages, 64 to 8388608 entries and 4 to 16384 slots needs; 0 for any other numbers. */
 uint64_t nsf_sectors(uint32_t pages, uint32_t entries, uint32_t slots);
 
 /* Makes a store of this geometry, with no row and no index, and opens it.

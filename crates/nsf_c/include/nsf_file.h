@@ -22,7 +22,7 @@
 #include <sys/stat.h>
 #include <unistd.h>
 
-/* The system refused a call: errno says why. EINVAL where the length of the file is no number of sectors from 1 to 2^20. */
+/* The system refused a call: errno says why. EINVAL where the length of the file is no number of sectors from 1 to 2^23. */
 enum { NSF_SYSTEM = 100 };
 
 typedef struct nsf_file {
@@ -147,7 +147,7 @@ static inline bool nsf_file_clear(nsf_file *f, const char *path, uint64_t sector
 }
 
 /* Makes a store in a new file and opens it. Until it is made, the file has the name with .new behind it, so that a crash meanwhile
- * leaves no half of a store. `f` stays where it is until nsf_file_close. */
+ * leaves no half of a store; one that has the name by then is left alone (EEXIST). `f` stays where it is until nsf_file_close. */
 static inline uint32_t nsf_file_create(nsf_file *f, const char *path, uint32_t pages, uint32_t entries, uint32_t slots)
 {
     const nsf_handle vacant = NSF_VACANT;
@@ -166,7 +166,7 @@ static inline uint32_t nsf_file_create(nsf_file *f, const char *path, uint32_t p
     } else if (nsf_file_clear(f, draft, sectors)) {
         if (nsf_file_start(f)) {
             refused = nsf_create(&f->handle, f->line[0], pages, entries, slots);
-            if (!refused && (rename(draft, path) != 0 || !nsf_sync_folder(path))) {
+            if (!refused && (link(draft, path) != 0 || unlink(draft) != 0 || !nsf_sync_folder(path))) {
                 nsf_close(&f->handle);
                 refused = NSF_SYSTEM;
             }
@@ -196,7 +196,7 @@ static inline uint8_t *nsf_file_read(nsf_file *f, const char *path, size_t *leng
     if (f->file < 0)
         return NULL;
     if (flock(f->file, LOCK_EX | LOCK_NB) == 0 && fstat(f->file, &found) == 0) {
-        if (!S_ISREG(found.st_mode) || found.st_size < NSF_SECTOR || found.st_size % NSF_SECTOR || found.st_size > (off_t)NSF_SECTOR << 20) {
+        if (!S_ISREG(found.st_mode) || found.st_size < NSF_SECTOR || found.st_size % NSF_SECTOR || found.st_size > (off_t)NSF_SECTOR << 23) {
             errno = EINVAL;
         } else if (fsync(f->file) == 0) { /* what an earlier process wrote may not be safe yet */
             *length = (size_t)found.st_size;

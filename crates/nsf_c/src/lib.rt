@@ -4,7 +4,8 @@
 //! answered from memory; and what C asks for is one event, or none for one reason (the law `one_event`). Trusted: what
 //! `include/nsf.h` asks of who calls, and that the other end of a line does what it is asked before it says so. One
 //! thread at a time is in a call of a handle, and all calls of a handle are of one thread. By hand: five functions of
-//! `handle.rt` and `loose.rt`, by which a pointer is a box again. Neither proved nor built by `rt ci`: what is C.
+//! `handle.rt` and `loose.rt`, between a box and the pointer that C keeps. Neither proved nor built by `rt ci`: what
+//! is C.
 #![tactic(auto)]
 
 mod asked;

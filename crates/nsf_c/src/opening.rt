@@ -31,7 +31,7 @@ fn below(line: i32) -> Below {
 pub extern "C" fn nsf_sectors(pages: u32, entries: u32, slots: u32) -> u64
     ensures { IsNeeded (record { pages = pages; entries = entries; slots = slots }) result }
 {
-    match Geometry::new(pages, entries, slots) {
+    match Geometry::large(pages, entries, slots) {
         Ok(geometry) => geometry.sectors(),
         Err(_) => 0,
     }
@@ -104,7 +104,7 @@ pub extern "C" fn nsf_create(
     ensures refused { result ≢ 0 → IsVacant handle.new
         × IsNotMade (record { pages = pages; entries = entries; slots = slots }) result }
 {
-    match Geometry::new(pages, entries, slots) {
+    match Geometry::large(pages, entries, slots) {
         Ok(geometry) => put_opened(handle, make(alloc, line, geometry)),
         Err(error) => u32::from(error.number()),
     }

@@ -1,9 +1,9 @@
 -- What becomes of a whole script: what is printed, and the status of the program.
-use Rattle.std.specs.Prelude.{◌≡◌, ◌⊎◌, ◌≤◌, ◌<◌, ◌+◌, ◌-◌, ◌^◌, ℕ, length, min, Option, Some, None, IfSome, List}
+use Rattle.std.specs.Prelude.{◌≡◌, ◌⊎◌, ◌≤◌, ◌<◌, ◌+◌, ◌-◌, ◌^◌, ℕ, length, min, Option, Some, None, IfSome, List, true}
 use Rattle.std.specs.Prelude.{Result, Ok, Err}
 use Rattle.std.specs.Io.KnownBytes.{Appends}
 use Rattle.std.specs.declared.alloc.Global.{Global}
-use Rattle.record_values.specs.GeometryValue.{GeometryValue, IsGeometry, sectors_of}
+use Rattle.record_values.specs.GeometryValue.{GeometryValue, IsGeometry, is_small, sectors_of}
 use Rattle.record_values.specs.declared.error.Error.{Error}
 use Rattle.record_values.specs.declared.error.Error.TheVariants.{NoMemory, DeviceFailed, DeviceTooSmall, BadGeometry}
 use Rattle.record_values.specs.declared.error.Error.TheVariants.{BadScript}
@@ -67,15 +67,19 @@ StartsFor arguments session =
     (geometry_of arguments) arguments.stop fails_at
     × Starts (sectors_asked arguments.sectors (geometry_of arguments)) (geometry_of arguments) fails_at session
 
--- Why no command was run, the first that fits: the text is no script, the arguments give no geometry, or no store of it
--- was made and opened. There may be no memory at each.
+-- it is a geometry of a small store
+abbrev pub IsSmallGeometry : GeometryValue → Type 0
+IsSmallGeometry g = IsGeometry g × (is_small g ≡ true)
+
+-- Why no command was run, the first that fits: the text is no script, the arguments give no geometry of a small store,
+-- or no store of it was made and opened. There may be no memory at each.
 abbrev pub IsFault : Arguments → List ℕ → Error → Type 0
 IsFault arguments text e =
     (e ≡ NoMemory)
     ⊎ ((index : ℕ) × (e ≡ BadScript (index + 1)) × IsFirstFault (lines text) index)
     ⊎ ((commands : List Command) × IsScript (lines text) commands
-    × (((e ≡ BadGeometry) × ¬ IsGeometry (geometry_of arguments))
-    ⊎ (IsGeometry (geometry_of arguments)
+    × (((e ≡ BadGeometry) × ¬ IsSmallGeometry (geometry_of arguments))
+    ⊎ (IsSmallGeometry (geometry_of arguments)
     × IsNoStart (sectors_asked arguments.sectors (geometry_of arguments)) (geometry_of arguments) e)))
 
 -- the text is all that the input has, where that is known

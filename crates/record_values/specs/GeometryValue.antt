@@ -1,6 +1,7 @@
 -- How large a store is, and how many sectors that takes.
-use Rattle.std.specs.Prelude.{ℕ, ◌≤◌, ◌+◌, ◌*◌, ◌/◌, ◌-◌}
+use Rattle.std.specs.Prelude.{ℕ, ◌≤◌, ◌+◌, ◌*◌, ◌/◌, ◌-◌, Bool, ◌&&◌, nat_le}
 use Rattle.record_values.specs.declared.geometry.TheConstants.{PAGES_MAX, ENTRIES_MIN, ENTRIES_MAX, LOG_SLOTS_MIN}
+use Rattle.record_values.specs.declared.geometry.TheConstants.{LARGE_PAGES_MAX, LARGE_ENTRIES_MAX, LARGE_LOG_SLOTS_MAX}
 use Rattle.record_values.specs.declared.geometry.TheConstants.{LOG_SLOTS_MAX, FRONT_SECTORS, HEADER_SECTORS}
 use Rattle.record_values.specs.declared.geometry.TheConstants.{HEADS_SECTORS}
 use Rattle.record_values.specs.declared.geometry.TheConstants.{SLOT_SECTORS}
@@ -17,11 +18,15 @@ pub record GeometryValue : Type 0 where
 -- each number is within its limits
 pub record IsGeometry (g : GeometryValue) : Type 0 where
   pub some_page : 1 ≤ g.pages
-  pub most_pages : g.pages ≤ PAGES_MAX
+  pub most_pages : g.pages ≤ LARGE_PAGES_MAX
   pub least_entries : ENTRIES_MIN ≤ g.entries
-  pub most_entries : g.entries ≤ ENTRIES_MAX
+  pub most_entries : g.entries ≤ LARGE_ENTRIES_MAX
   pub least_slots : LOG_SLOTS_MIN ≤ g.slots
-  pub most_slots : g.slots ≤ LOG_SLOTS_MAX
+  pub most_slots : g.slots ≤ LARGE_LOG_SLOTS_MAX
+
+-- no number is above the limits of a small store, which are those of versions 1 and 2 of the format
+abbrev pub is_small : GeometryValue → Bool
+is_small g = nat_le g.pages PAGES_MAX && (nat_le g.entries ENTRIES_MAX && nat_le g.slots LOG_SLOTS_MAX)
 
 -- n things, so many to a sector
 abbrev pub sectors_for : ℕ → ℕ → ℕ

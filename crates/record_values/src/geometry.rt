@@ -1,6 +1,6 @@
 //! How large a store is.
-ghost use Rattle.std.specs.Prelude.{◌≡◌, ◌<◌, ◌↔◌, IsTrue, IsOk, IfOk, IfErr};
-ghost use Rattle.record_values.specs.GeometryValue.{IsGeometry, half_sectors_in, sectors_in, half_sectors_of};
+ghost use Rattle.std.specs.Prelude.{◌≡◌, ◌<◌, ◌↔◌, true, IsTrue, IsOk, IfOk, IfErr};
+ghost use Rattle.record_values.specs.GeometryValue.{IsGeometry, is_small, half_sectors_in, sectors_in, half_sectors_of};
 ghost use Rattle.record_values.specs.GeometryValue.{sectors_of};
 
 use crate::error::Error;
@@ -8,20 +8,29 @@ use crate::rid::Rid;
 use crate::version::Version;
 use std::marker::Model;
 
-/// The most pages of rows.
+/// The most pages of rows of a small store.
 pub const PAGES_MAX: u32 = 256;
+
+/// The most pages of rows.
+pub const LARGE_PAGES_MAX: u32 = 65_536;
 
 /// The least room of an index, in entries.
 pub const ENTRIES_MIN: u32 = 64;
 
-/// The greatest room of an index, in entries.
+/// The greatest room of an index of a small store, in entries.
 pub const ENTRIES_MAX: u32 = 65_536;
+
+/// The greatest room of an index, in entries.
+pub const LARGE_ENTRIES_MAX: u32 = 8_388_608;
 
 /// The fewest slots of a log.
 pub const LOG_SLOTS_MIN: u32 = 4;
 
-/// The most slots of a log.
+/// The most slots of a log of a small store.
 pub const LOG_SLOTS_MAX: u32 = 256;
+
+/// The most slots of a log.
+pub const LARGE_LOG_SLOTS_MAX: u32 = 16_384;
 
 /// The sectors before the two halves: the superblock and the flip sector.
 pub const FRONT_SECTORS: u64 = 2;
@@ -45,14 +54,15 @@ pub const ENTRIES_PER_SECTOR: u64 = 8;
 pub const SLOT_SECTORS: u64 = 8;
 
 /// How large a store is: its pages of rows, the room of its index in entries,
-/// and the slots of its log. Each number is within its limits.
+/// and the slots of its log. Each number is within its limits. A store that is
+/// within the lower limits, those of the formats of versions 1 and 2, is small.
 #[derive(Clone, Copy, Debug, PartialEq, Eq)]
 pub struct Geometry {
-    /// Pages of rows, 1 to 256.
+    /// Pages of rows, 1 to 65,536; 256 at most in a small store.
     pub pages: u32,
-    /// Entries of the index, 64 to 65,536.
+    /// Entries of the index, 64 to 8,388,608; 65,536 at most in a small store.
     pub entries: u32,
-    /// Slots of the log of a half, 4 to 256.
+    /// Slots of the log of a half, 4 to 16,384; 256 at most in a small store.
     pub slots: u32,
 }
 
@@ -69,19 +79,33 @@ impl Model for Geometry {
 }
 
 impl Geometry {
+    /// The geometry of a small store of these numbers. `BadGeometry` where one
+    /// of them is outside the limits of a small store.
+    pub fn new(pages: u32, entries: u32, slots: u32) -> Result<Self, Error>
+        ensures within { IsOk result ↔ (IsGeometry (record { pages = pages; entries = entries; slots = slots })
+            × (is_small (record { pages = pages; entries = entries; slots = slots }) ≡ true)) }
+        ensures ok { IfOk result (λ g. g ≡ record { pages = pages; entries = entries; slots = slots }) }
+        ensures bad { IfErr result (λ e. e ≡ Error.BadGeometry) }
+    {
+        if pages > PAGES_MAX || entries > ENTRIES_MAX || slots > LOG_SLOTS_MAX {
+            return Err(Error::BadGeometry);
+        }
+        Self::large(pages, entries, slots)
+    }
+
     /// The geometry of these numbers. `BadGeometry` where one of them is
     /// outside its limits.
-    pub fn new(pages: u32, entries: u32, slots: u32) -> Result<Self, Error>
+    pub fn large(pages: u32, entries: u32, slots: u32) -> Result<Self, Error>
         ensures within { IsOk result ↔ IsGeometry (record { pages = pages; entries = entries; slots = slots }) }
         ensures ok { IfOk result (λ g. g ≡ record { pages = pages; entries = entries; slots = slots }) }
         ensures bad { IfErr result (λ e. e ≡ Error.BadGeometry) }
     {
         if pages < 1
-            || pages > PAGES_MAX
+            || pages > LARGE_PAGES_MAX
             || entries < ENTRIES_MIN
-            || entries > ENTRIES_MAX
+            || entries > LARGE_ENTRIES_MAX
             || slots < LOG_SLOTS_MIN
-            || slots > LOG_SLOTS_MAX
+            || slots > LARGE_LOG_SLOTS_MAX
         {
             return Err(Error::BadGeometry);
         }
@@ -90,6 +114,14 @@ impl Geometry {
             entries,
             slots,
         })
+    }
+
+    /// Whether a store of this geometry is small: within the limits of
+    /// versions 1 and 2 of the format.
+    pub fn is_small(self) -> bool
+        ensures { result ≡ is_small self }
+    {
+        self.pages <= PAGES_MAX && self.entries <= ENTRIES_MAX && self.slots <= LOG_SLOTS_MAX
     }
 
     /// The sectors of one half in a version: header, transaction heads, undo

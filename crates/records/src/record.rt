@@ -113,13 +113,13 @@ impl Model for Record {
     ghost inverse = { λ r. record { number = r.number; action = r.action } };
 }
 
-/// No spelling begins another, and a spelling is of one record.
+/// A law: no spelling begins another, and a spelling is of one record.
 pub fn one_spelling()
     ensures { (a b : RecordValue) (x y : List ℕ) → Fits a → Fits b → spelling a ++ x ≡ spelling b ++ y → (a ≡ b)
         × (x ≡ y) }
 {}
 
-/// Each record within the limits has a spelling, of 17 to 281 bytes.
+/// A law: each record within the limits has a spelling, of 17 to 281 bytes.
 pub fn each_has_a_spelling()
     ensures least { (r : RecordValue) → RECORD_MIN ≤ length (spelling r) }
     ensures most { (r : RecordValue) → Fits r → length (spelling r) ≤ RECORD_MAX }

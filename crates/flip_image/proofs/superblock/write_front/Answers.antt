@@ -5,4 +5,5 @@ use Rattle.flip_image.proofs.superblock.write_front.Goals as goal
 
 pub returns : goal.returns
 unfolding u64
-returns c = front_written c.args.geometry _ c.args.bytes.now c.write_u64.new.buf c.write_numbers.new.bytes c.write_u64.ensures c.write_numbers.ensures refl
+returns c = front_written c.args.geometry _ _ c.args.bytes.now c.write_u64.new.buf c.write_numbers.new.bytes c.number_of-version.ensures c.write_u64.ensures
+    c.write_numbers.ensures refl

@@ -1,5 +1,5 @@
 use Rattle.std.proofs.Common.{rules}
-use Rattle.record_values.proofs.geometry.Geometry.new.Goals as goal
+use Rattle.record_values.proofs.geometry.Geometry.large.Goals as goal
 
 pub invariant_of-result : goal.invariant_of-result
 invariant_of-result c = search rules
