@@ -44,30 +44,31 @@ ghost use Rattle.core_model.specs.Invariants.{Invariant, IsOneBuild, IsWellForme
 ghost use Rattle.core_model.specs.Histories.{Opened, CanOpen, FitsStore, opened, AreItemsOf, IsFaithful};
 ghost use Rattle.core_model.specs.Histories.{ShowsJustTheRows, history};
 
-/// One enabled step, whichever it is, keeps a core well formed over whatever fits its store, and keeps the invariant.
+/// A law: one enabled step, whichever it is, keeps a core well formed over whatever fits its store, and keeps the
+/// invariant.
 pub fn each_step()
     ensures begins { (o : Opened) → FitsStore o → IsWellFormed (opened o) }
     ensures fit { (s : State) (e : MachineStep) → IsWellFormed s → IsEnabled s e → IsWellFormed (after s e) }
     ensures invariant { (s : State) (e : MachineStep) → Invariant s → IsEnabled s e → Invariant (after s e) }
 {}
 
-/// After any steps in any order the rows without the active transactions are the table of the
-/// history, each live entry names a live row with its key, each row is in the index as far as that
-/// is built, and the entries with the reserved places fit the geometry.
+/// A law: after any steps in any order the rows without the active transactions are the table of the history, each
+/// live entry names a live row with its key, each row is in the index as far as that is built, and the entries with
+/// the reserved places fit the geometry.
 pub fn every_order()
     ensures { (o : Opened) → CanOpen o → (steps : List MachineStep) (s : State) → Runs (opened o) steps s
         → (items : List Item) → AreItemsOf items steps → IsFaithful s (table_after o.given.table items)
         × (s.life ≡ life_after o.given.life items) }
 {}
 
-/// With a complete index and no transaction, the live entries are just the pairs of the rows.
+/// A law: with a complete index and no transaction, the live entries are just the pairs of the rows.
 pub fn complete_index()
     ensures { (o : Opened) → CanOpen o → (steps : List MachineStep) (s : State) → Runs (opened o) steps s
         → s.life ≡ Complete → ((t : ℕ) → s.txns t ≡ None) → ShowsJustTheRows s }
 {}
 
-/// The builder attempts pairs in rising order, above the one that was checkpointed last, in this run or, as long as the
-/// index is not dropped, before the core was opened.
+/// A law: the builder attempts pairs in rising order, above the one that was checkpointed last, in this run or, as
+/// long as the index is not dropped, before the core was opened.
 pub fn rising_attempts()
     ensures rising { (s : State) (p : Pair) → IsEnabled s (Attempt p) → is_above s.bound p ≡ true }
     ensures checkpointed { (s : State) (p : Pair) → Invariant s → (highest : Option Pair) → s.life ≡ Building highest
@@ -77,8 +78,8 @@ pub fn rising_attempts()
         → IsEnabled s (Attempt p) → is_above highest p ≡ true }
 {}
 
-/// Wherever a run stops, what is recovered of its cells, every unfinished transaction taken back whichever of its steps
-/// were made, is the table and the index's life of the history, and a core may begin with it.
+/// A law: wherever a run stops, what is recovered of its cells, every unfinished transaction taken back whichever of
+/// its steps were made, is the table and the index's life of the history, and a core may begin with it.
 pub fn any_stop()
     ensures { (o : Opened) → CanOpen o → (steps : List MachineStep) (s : State) → Runs (opened o) steps s
         → (items : List Item) → AreItemsOf items steps → (cells : Cells) → HasCells s cells → (last : ℕ)
@@ -87,8 +88,7 @@ pub fn any_stop()
         × CanOpen (record o { given = recovered cells last }) }
 {}
 
-/// A step sets the cell that its record names, and no other; and the record is of a part that its
-/// change has.
+/// A law: a step sets the cell that its record names, and no other; and the record is of a part that its change has.
 pub fn each_record()
     ensures cells { (s : State) (e : MachineStep) (cells : Cells) → IsWellFormed s → IsEnabled s e → HasCells s cells
         → HasCells (after s e) (set_by_any cells (action_of s e)) }
@@ -96,22 +96,22 @@ pub fn each_record()
         → action_of s e ≡ Some action → IsTrue (has_rows action) }
 {}
 
-/// What is recovered of the records of a run, wherever they stop, is the table and the index's life of the history up
-/// to the last of them; each live entry names a row with its key; and a core may begin with it.
+/// A law: what is recovered of the records of a run, wherever they stop, is the table and the index's life of the
+/// history up to the last of them; each live entry names a row with its key; and a core may begin with it.
 pub fn any_record()
     ensures { (o : Opened) → CanOpen o → (steps : List MachineStep) (s : State) → Runs (opened o) steps s → (n : ℕ)
         → n ≤ length (records_over o steps) → RecoversPrefix o steps n }
 {}
 
-/// A step's record can follow the records before it, where at most 16 transactions are active.
+/// A law: a step's record can follow the records before it, where at most 16 transactions are active.
 pub fn each_record_follows()
     ensures { (s : State) (e : MachineStep) (cells : Cells) (last : ℕ) (action : Action) → IsWellFormed s
         → IsEnabled s e → HasCells s cells → len s.pledges ≤ TXNS_MAX → action_of s e ≡ Some action
         → CanFollow s.pages last cells (record { number = last + 1; action = action }) }
 {}
 
-/// The core and its log, step by step: what a core has made since it was opened sets what it holds, and each beginning
-/// of it gives a beginning of the history, with which a core may begin.
+/// A law: the core and its log, step by step: what a core has made since it was opened sets what it holds, and each
+/// beginning of it gives a beginning of the history, with which a core may begin.
 pub fn each_log()
     ensures begins { (o : Opened) → HasMade o [] [] no_writes (opened o) }
     ensures goes_on { (o : Opened) → CanOpen o → (made : List RecordValue) (items : List Item) (writes : ℕ
@@ -140,8 +140,8 @@ pub fn each_half()
         → IsLogOf s.pages base cells (log ++ one_record (base + length log) (action_of s e)) (after s e) }
 {}
 
-/// An image that was copied piece by piece while the run went on gives, with the records since it was begun, such a
-/// beginning too, once all records up to the last copied piece are among them.
+/// A law: an image that was copied piece by piece while the run went on gives, with the records since it was begun,
+/// such a beginning too, once all records up to the last copied piece are among them.
 pub fn any_image()
     ensures { (o : Opened) → CanOpen o → (before : List RecordValue) (items : List Item) (writes : ℕ
         → List Write) (s : State) → HasMade o before items writes s → (cells : Cells) → HasCells s cells
@@ -158,8 +158,8 @@ pub fn any_image()
         }) }
 {}
 
-/// An insertion is undone while the index is built, after the builder took its page: the builder's
-/// insertion of the pair is rejected, and the entry stays marked.
+/// A law: an insertion is undone while the index is built, after the builder took its page: the builder's insertion
+/// of the pair is rejected, and the entry stays marked.
 pub fn undone_insertion_is_rejected()
     ensures opens { CanOpen opening }
     ensures run { Runs (opened opening) steps last }

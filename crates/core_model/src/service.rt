@@ -15,14 +15,15 @@ ghost use Rattle.core_model.specs.Steps.{MachineStep, after};
 ghost use Rattle.core_model.specs.Invariants.{IsWellFormed};
 ghost use Rattle.core_model.specs.Histories.{Opened, CanOpen, opened, IsFaithful, history, no_writes};
 
-/// An event that gets an allowed reply is one enabled step, or none, and makes at most one record,
-/// as the reply says.
+/// A law: an event that gets an allowed reply is one enabled step, or none, and makes at most one record, as the
+/// reply says.
 pub fn each_reply()
     ensures { (s : State) (k : Standing) (e : Event) (reply : Reply) (step : Option MachineStep) → IsWellFormed s
         → HasStanding s k → IsAllowed s k e reply step → IsMove s k step (standing_after k reply) }
 {}
 
-/// From what was opened on: each event with its reply adds its record, if it makes one, and its item to the history.
+/// A law: from what was opened on: each event with its reply adds its record, if it makes one, and its item to the
+/// history.
 pub fn each_service()
     ensures begins { (o : Opened) → o.given.last ≤ LAST_NUMBER
         → HasServed o [] [] (opened o) (standing_at o.given.last) }
@@ -61,8 +62,8 @@ pub fn all_replies()
         → ServesAll (opened o) (standing_at last) pairs s k → AreRising last (items_of no_writes pairs) }
 {}
 
-/// An insertion is undone while the index is built, after the builder took its page: each reply is
-/// allowed, and the builder's insertion of the pair is rejected.
+/// A law: an insertion is undone while the index is built, after the builder took its page: each reply is allowed,
+/// and the builder's insertion of the pair is rejected.
 pub fn undone_insertion_is_served()
     ensures { ServesAll (opened opening) (standing_at 0) script last standing }
 {}

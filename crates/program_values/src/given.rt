@@ -74,7 +74,7 @@ pub fn fate_named(name: &str) -> Option<Fate>
     }
 }
 
-/// The names in `FATES` are those of the five fates, in this order, and no other text names a fate.
+/// A law: the names in `FATES` are those of the five fates, in this order, and no other text names a fate.
 pub fn each_fate_has_a_name()
     ensures names { map (λ name. fate_of_name name.now) FATES
         ≡ Some Fate.Old ∷ Some Fate.New ∷ Some Fate.Zero ∷ Some Fate.Gate ∷ Some Fate.Junk ∷ [] }

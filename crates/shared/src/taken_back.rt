@@ -8,7 +8,7 @@ use locked_core::{Group, Locked, Memory};
 use threads_sessions::{Keeping, Registry, Session};
 
 impl<B: Group, A: Memory, K: Keeping> Seat<B, A, K> {
-    /// Compares the seat's session with the one under the lock: they are the same. Nothing changes.
+    /// A look of `finish`, once it has all seats: the seat's session is the one under the lock. Nothing changes.
     pub fn compare(&mut self, registry: &Registry<A>, locked: &mut Locked<B, A>)
         requires { registry.now ≡ B.site.table }
         ensures before { slice_get (locked_of locked.old).book self.old.number ≡ Some self.old.session }
