@@ -10,3 +10,4 @@ mod Skipping
 mod Refusing
 mod Steps
 pub mod Offered
+mod Noted

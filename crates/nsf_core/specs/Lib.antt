@@ -2,3 +2,4 @@ pub mod Value
 pub mod Loading
 pub mod Outbox
 pub mod Steps
+pub mod Opening

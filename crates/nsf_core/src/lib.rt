@@ -13,6 +13,7 @@
 #![tactic(auto)]
 
 mod laws;
+mod opening;
 mod store;
 
 pub use btree_node::Cleared;

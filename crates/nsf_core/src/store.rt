@@ -58,7 +58,7 @@ fn highest_of(life: &Life) -> Option<Pair>
 /// wait.
 #[derive(Drop)]
 pub struct Core<A: Allocator> {
-    parts: CoreParts<A>,
+    pub(crate) parts: CoreParts<A>,
     ghost safe: { ∥ IsSafe (parts_of parts) ∥₁ },
 }
 
@@ -177,10 +177,15 @@ impl<A: Allocator + Copy> Core<A> {
     /// an entry is owed once a row is set, and stays marked once its row was. With none active it is what a restart
     /// would begin with.
     ///
-    /// It takes no memory, and goes over every entry and every row once (no clause says so).
+    /// It goes over every entry and every row once. With a complete index it takes a byte for each place of a row
+    /// meanwhile. Where that is refused, and with another index, it looks for each row in the index. (No clause says
+    /// so.)
     pub fn can_open(&self) -> bool
         ensures { IsTrue result ↔ CanOpen (opened_of (value_of self.now)) }
     {
+        if self.is_seen_to_fit() {
+            return true;
+        }
         self.parts.entries_may_stand() && self.parts.rows_are_shown()
     }
 
