@@ -1,13 +1,14 @@
 -- What a copy of a disk of which not all can be read comes to, sector by sector.
-use Rattle.std.proofs.Common.{◌≡◌, ◌⊎◌, inl, inr, ⊎_elim, ℕ, ◌+◌, ◌<◌, ◌≤◌, Bool, true, false, List, [], ◌∷◌, ◌++◌}
+use Rattle.std.proofs.Common.{◌≡◌, ◌⊎◌, inl, inr, ⊎_elim, ℕ, ◌+◌, ◌<◌, ◌≤◌, Bool, true, false, List, [], ◌∷◌, ◌++◌, length}
 use Rattle.std.proofs.Common.{refl, sym, ◌∙◌, ap, subst, arith}
 use Rattle.std.specs.Prelude.{Contains}
 use Rattle.std.proofs.lemmas.Bool.{cases_eq}
-use Rattle.std.proofs.lemmas.List.Elements.{Contains-append_left, Contains-push}
+use Rattle.std.proofs.lemmas.List.Elements.{All-push, All-weaker, Contains-append_left, Contains-push}
+use Rattle.std.proofs.lemmas.List.Quantifiers.{all_pairs_push}
 use Rattle.sector_device.specs.Disk.{CrashState, sector, SameOutside}
 use Rattle.sector_device.specs.DevicePast.{Rises}
 use Rattle.sector_device.proofs.Counts.{rises_later}
-use Rattle.store_salvage.specs.Copied.{AreCopiedBut, IsCopiedOr, unread_sector}
+use Rattle.store_salvage.specs.Copied.{AreCopiedBut, AreUnread, IsCopiedOr, IsUnread, unread_sector}
 
 -- nothing was written
 pub same_here : (S : ℕ → Type 0) (image : CrashState) → SameOutside S image image
@@ -54,13 +55,44 @@ was_not_read read from to n is copied = subst (λ (r : Bool). IsCopiedOr r from 
 
 -- ---- why sectors can't be read
 
--- what was so stays so
-pub still_unread : (P Q : Type 0) (a b c : ℕ) → b ≤ c → P ⊎ Q ⊎ Rises a b → P ⊎ Q ⊎ Rises a c
-still_unread P Q a b c later (inl p) = inl p
-still_unread P Q a b c later (inr (inl q)) = inr (inl q)
-still_unread P Q a b c later (inr (inr rises)) = inr (inr (λ below. let up : a < b = rises below in omega (arith, up, later)))
+-- no sector was copied yet
+pub none_unread : (from to : CrashState) (before : ℕ) → AreUnread [] 0 from to before before
+none_unread from to before = record {
+  rising = λ i j d rises within. absurd (omega (arith, within));
+  each = λ k d within. absurd (omega (arith, within));
+}
 
--- one more can't be
-pub unread_now : (P : Type 0) (a b c : ℕ) (long sectors n : ℕ) → n < sectors → a ≤ b → b ≤ c → (long ≤ n) ⊎ Rises b c → P ⊎ (long < sectors) ⊎ Rises a c
-unread_now P a b c long sectors n below le later (inl past) = inr (inl (omega (arith, below, past)))
-unread_now P a b c long sectors n below le later (inr rises) = inr (inr (rises_later a b c le later rises))
+-- what was so stays so
+still_why : (P : Type 0) (a b c : ℕ) → b ≤ c → P ⊎ Rises a b → P ⊎ Rises a c
+still_why P a b c later (inl p) = inl p
+still_why P a b c later (inr rises) = inr (λ below. let up : a < b = rises below in omega (arith, up, later))
+
+why_now : (P : Type 0) (a b c : ℕ) → a ≤ b → b ≤ c → P ⊎ Rises b c → P ⊎ Rises a c
+why_now P a b c le later (inl p) = inl p
+why_now P a b c le later (inr rises) = inr (rises_later a b c le later rises)
+
+module _ (unread : List ℕ) (n : ℕ) (from now next : CrashState) (a b c : ℕ) (so_far : AreUnread unread n from now a b)
+    (others : SameOutside (λ k. k ≡ n) now next) (later : b ≤ c) where
+  -- one sector more was copied
+  pub still_unread : AreUnread unread (n + 1) from next a c
+  still_unread = record {
+    rising = so_far.rising;
+    each = All-weaker (IsUnread n from now a b) (IsUnread (n + 1) from next a c)
+        (λ k is. (omega (arith, is.0), others.same k (λ same. omega (arith, same, is.0)) ∙ is.1, still_why _ a b c later is.2))
+        unread so_far.each;
+  }
+
+  -- and can't be read
+  pub unread_next : a ≤ b → sector next n ≡ unread_sector → (length from ≤ n) ⊎ Rises b c → AreUnread (unread ++ n ∷ []) (n + 1) from next a c
+  unread_next le this why = record {
+    rising = all_pairs_push (λ k m. k < m) unread n so_far.rising (λ k d within. (so_far.each k d within).0);
+    each = All-push (IsUnread (n + 1) from next a c) unread n still_unread.each (omega arith, this, why_now _ a b c le later why);
+  }
+
+-- of all sectors
+pub unread_all : (unread : List ℕ) (n sectors : ℕ) (from to : CrashState) (a b : ℕ) → n ≤ sectors → AreUnread unread n from to a b
+    → AreUnread unread sectors from to a b
+unread_all unread n sectors from to a b le so_far = record {
+  rising = so_far.rising;
+  each = All-weaker (IsUnread n from to a b) (IsUnread sectors from to a b) (λ k is. (omega (arith, is.0, le), is.1, is.2)) unread so_far.each;
+}

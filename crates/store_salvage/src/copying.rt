@@ -1,8 +1,8 @@
 //! What can be read of a disk is copied.
-ghost use Rattle.std.specs.Prelude.{◌≡◌, ◌⊎◌, ◌<◌, ◌≤◌, [], false, length, IfErr, IfNone, IfOk, IfSome, OnOk};
+ghost use Rattle.std.specs.Prelude.{◌≡◌, ◌⊎◌, ◌<◌, ◌≤◌, false, length, IfErr, IfNone, IfOk, IfSome, OnOk};
 ghost use Rattle.sector_device.specs.Disk.{SameOutside, sector};
 ghost use Rattle.sector_device.specs.DevicePast.{CountsFailure, OnlyReads, Rises};
-ghost use Rattle.store_salvage.specs.Copied.{AreCopiedBut, IsCopiedOr, unread_sector};
+ghost use Rattle.store_salvage.specs.Copied.{AreCopiedBut, AreUnread, IsCopiedOr, unread_sector};
 
 use records::Error;
 use sector_device::{Device, Failed, SECTOR_SIZE, zero_sector};
@@ -58,8 +58,9 @@ fn copy_sector<O: Device, N: Device>(from: &mut O, to: &mut N, n: u64) -> Result
 }
 
 /// Copies the first sectors of a disk to another one, and answers the numbers of those that can't be read, in whose
-/// place the other one has bytes that say nothing (`copied`). There are such ones only where the disk ends before, or
-/// failed (`unread`). It is only read (`kept`), and nothing of the other one is changed behind them (`rest`).
+/// place the other one has bytes that say nothing (`copied`). The numbers rise, and each is of a sector that the disk
+/// doesn't have, unless that failed meanwhile (`unread`). It is only read (`kept`), and nothing of the other one is
+/// changed behind them (`rest`).
 ///
 /// `DeviceFailed` where the other disk failed (`refused`), or `NoMemory`.
 pub fn copy_readable<O: Device, N: Device, A: Allocator>(
@@ -71,8 +72,8 @@ pub fn copy_readable<O: Device, N: Device, A: Allocator>(
     requires room { sectors ≤ length (N.past_of to.old).disk.content }
     ensures copied { IfOk result (λ unread. AreCopiedBut unread.items sectors (O.past_of from.old).disk.content
         (N.past_of to.new).disk.content) }
-    ensures unread { IfOk result (λ unread. (unread.items ≡ []) ⊎ (length (O.past_of from.old).disk.content < sectors)
-        ⊎ Rises (O.failures from.old) (O.failures from.new)) }
+    ensures unread { IfOk result (λ unread. AreUnread unread.items sectors (O.past_of from.old).disk.content
+        (N.past_of to.new).disk.content (O.failures from.old) (O.failures from.new)) }
     ensures rest { SameOutside (λ n. n < sectors) (N.past_of to.old).disk.content (N.past_of to.new).disk.content }
     ensures kept { OnlyReads (O.past_of from.old) (O.past_of from.new) }
     ensures refused { IfErr result (λ e. (e ≡ Error.NoMemory)

@@ -1,11 +1,14 @@
 //! The entries of an index are left out.
-ghost use Rattle.std.specs.Prelude.{◌≡◌, ◌<◌, ◌≤◌, ◌↔◌, IsTrue, Some, length, IfErr, IfOk, IfSome, OnOk};
+ghost use Rattle.std.specs.Prelude.{◌≡◌, ◌⊎◌, ◌<◌, ◌≤◌, ◌↔◌, IsTrue, Some, length, IfErr, IfOk, IfSome, OnOk};
 ghost use Rattle.sector_device.specs.Disk.{sector};
 ghost use Rattle.sector_device.specs.DevicePast.{OnlyReads};
 ghost use Rattle.record_values.specs.GeometryValue.{sectors_of};
 ghost use Rattle.record_values.specs.declared.pair.Pair.{Pair};
 ghost use Rattle.store_image_half.specs.Image.{IsHeader};
-ghost use Rattle.store_salvage.specs.Salvage.{IsStopped, IsUnindexed};
+ghost use Rattle.gate_log.specs.Area.{Refuses};
+ghost use Rattle.store_image_parts.specs.declared.header.Header.{Header};
+ghost use Rattle.flip_image.specs.Layout.{header_sector};
+ghost use Rattle.store_salvage.specs.Salvage.{HasNoHeader, IsUnindexed};
 
 use flip_image::Halves;
 use model::Life;
@@ -28,7 +31,8 @@ fn is_inside(geometry: Geometry, life: Life) -> bool
 
 // What the sector of a header says. `None` where it says nothing.
 fn header_in(geometry: Geometry, bytes: &[u8; SECTOR_SIZE]) -> Option<Header>
-    ensures { IfSome result (IsHeader geometry bytes.now) }
+    ensures found { IfSome result (IsHeader geometry bytes.now) }
+    ensures again { (h : Header) → IsHeader geometry bytes.now h → result ≡ Some h }
 {
     let header = read_header(bytes)?;
     if geometry.entries < header.entries {
@@ -41,11 +45,13 @@ fn header_in(geometry: Geometry, bytes: &[u8; SECTOR_SIZE]) -> Option<Header>
     }
 }
 
-// What the header in a sector says. `Damaged` where it says nothing.
+// What the header in a sector says. `Damaged` with the sector where it says nothing.
 fn header_at<D: Device>(device: &mut D, geometry: Geometry, first: u64) -> Result<Header, Error>
     requires inside { first < length (D.past_of device.old).disk.content }
     ensures said { IfOk result (IsHeader geometry (sector (D.past_of device.old).disk.content first)) }
-    ensures refused { IfErr result (IsStopped (D.failures device.old) (D.failures device.new)) }
+    ensures refused { IfErr result (λ e. Refuses (D.failures device.old) (D.failures device.new) e
+        ⊎ ((e ≡ Error.Damaged first)
+        × ((h : Header) → ¬ IsHeader geometry (sector (D.past_of device.old).disk.content first) h))) }
     ensures reads { OnlyReads (D.past_of device.old) (D.past_of device.new) }
     ensures quiet { OnOk result (D.failures device.new ≡ D.failures device.old) }
 {
@@ -56,12 +62,15 @@ fn header_at<D: Device>(device: &mut D, geometry: Geometry, first: u64) -> Resul
     header_in(geometry, &bytes).ok_or(Error::Damaged { sector: first })
 }
 
-/// Writes the header of the current half's image anew, without entries. `Damaged` where it says nothing.
+/// Writes the header of the current half's image anew, without entries. `Damaged` with its sector where that says
+/// nothing.
 pub(crate) fn leave_entries<D: Device>(device: &mut D, halves: &Halves) -> Result<(), Error>
     requires room { sectors_of halves.now.geometry ≤ length (D.past_of device.old).disk.content }
     ensures done { OnOk result (IsUnindexed halves.now.geometry halves.now.current (D.past_of device.old).disk.content
         (D.past_of device.new).disk.content) }
-    ensures refused { IfErr result (IsStopped (D.failures device.old) (D.failures device.new)) }
+    ensures refused { IfErr result (λ e. Refuses (D.failures device.old) (D.failures device.new) e
+        ⊎ ((e ≡ Error.Damaged (header_sector halves.now.geometry halves.now.current))
+        × HasNoHeader halves.now.geometry halves.now.current (D.past_of device.old).disk.content)) }
     ensures quiet { OnOk result (D.failures device.new ≡ D.failures device.old) }
 {
     let first = halves.header_sector_in(Version::Two);

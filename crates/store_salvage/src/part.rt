@@ -1,8 +1,8 @@
 //! The parts of a half that may be lost.
-ghost use Rattle.std.specs.Prelude.{◌≡◌, ◌+◌, ◌-◌, ◌*◌, ◌^◌, ◌<◌, ◌≤◌, IfSome};
+ghost use Rattle.std.specs.Prelude.{◌≡◌, ◌≢◌, ℕ, ◌+◌, ◌-◌, ◌*◌, ◌^◌, ◌<◌, ◌≤◌, IfNone, IfSome};
 ghost use Rattle.record_values.specs.GeometryValue.{sectors_of};
 ghost use Rattle.flip_image.specs.Layout.{gate_sector, page_sector, pages_first};
-ghost use Rattle.store_salvage.specs.Salvage.{InPart, IsPartOf};
+ghost use Rattle.store_salvage.specs.Salvage.{IsNamedBy, IsPartOf, NamesNone};
 
 use flip_image::Halves;
 use records::{HEADER_SECTORS, HEADS_SECTORS, PAGE_SECTORS, SLOT_SECTORS, UNDO_SECTORS, Version};
@@ -50,7 +50,9 @@ pub(crate) fn gate_of(halves: &Halves, slot: u32) -> u64
 // The page that has a sector.
 fn page_at(halves: &Halves, sector: u64) -> Option<Part>
     ensures of { IfSome result (IsPartOf halves.now.geometry) }
-    ensures within { IfSome result (λ part. InPart halves.now.geometry halves.now.current part sector) }
+    ensures named { IfSome result (λ part. IsNamedBy halves.now.geometry halves.now.current part sector) }
+    ensures none { IfNone result ((page : ℕ) → page < halves.now.geometry.pages
+        → ¬ IsNamedBy halves.now.geometry halves.now.current (Part.Page page) sector) }
 {
     let first = pages_of(halves);
     if sector < first {
@@ -66,7 +68,9 @@ fn page_at(halves: &Halves, sector: u64) -> Option<Part>
 // The log from the slot on whose gate is a sector.
 fn log_at(halves: &Halves, sector: u64) -> Option<Part>
     ensures of { IfSome result (IsPartOf halves.now.geometry) }
-    ensures within { IfSome result (λ part. InPart halves.now.geometry halves.now.current part sector) }
+    ensures named { IfSome result (λ part. IsNamedBy halves.now.geometry halves.now.current part sector) }
+    ensures none { IfNone result ((slot : ℕ) → slot < halves.now.geometry.slots
+        → sector ≢ gate_sector halves.now.geometry halves.now.current slot) }
 {
     let first = halves.log_first();
     if sector < first || (sector - first) % SLOT_SECTORS != 0 {
@@ -82,7 +86,8 @@ fn log_at(halves: &Halves, sector: u64) -> Option<Part>
 /// The part that a reader names by this sector, if one of a page or a gate.
 pub(crate) fn part_at(halves: &Halves, sector: u64) -> Option<Part>
     ensures of { IfSome result (IsPartOf halves.now.geometry) }
-    ensures within { IfSome result (λ part. InPart halves.now.geometry halves.now.current part sector) }
+    ensures named { IfSome result (λ part. IsNamedBy halves.now.geometry halves.now.current part sector) }
+    ensures none { IfNone result (NamesNone halves.now.geometry halves.now.current sector) }
 {
     match page_at(halves, sector) {
         Some(part) => Some(part),

@@ -1,15 +1,17 @@
-use Rattle.std.proofs.Common.{◌≡◌, ◌⊎◌, inl, ℕ, ◌+◌, ◌≤◌, List, length, refl, sym, ◌∙◌, ap, subst, arith}
+use Rattle.std.proofs.Common.{◌≡◌, ◌⊎◌, ℕ, ◌+◌, ◌≤◌, List, length, refl, sym, ◌∙◌, ap, subst, arith}
 use Rattle.sector_device.specs.Disk.{CrashState, Disk, sector}
 use Rattle.sector_device.specs.DevicePast.{Rises}
 use Rattle.sector_device.proofs.Within.{reads_none, reads_then}
-use Rattle.store_salvage.specs.Copied.{AreCopiedBut}
-use Rattle.store_salvage.proofs.CopiedSectors.{copied_more, rest_more, same_here, still_unread, unread_more, unread_now, was_not_read, was_read}
+use Rattle.store_salvage.specs.Copied.{AreCopiedBut, AreUnread}
+use Rattle.store_salvage.proofs.CopiedSectors.{copied_more, none_unread, rest_more, same_here, still_unread, unread_all, unread_more, unread_next}
+use Rattle.store_salvage.proofs.CopiedSectors.{was_not_read, was_read}
 use Rattle.store_salvage.proofs.copying.copy_readable.Goals as goal
 
 pub loop-n-init : goal.loop-n-init
 loop-n-init g c = record {
   copied = λ k below. absurd (omega (arith, below));
-  unread = inl c.new-unread.ensures.items;
+  unread = subst (λ (l : List ℕ). AreUnread l 0 (g.O.Device.past_of c.args.from.now).disk.content (g.N.Device.past_of c.args.to.now).disk.content
+      (g.O.Device.failures c.args.from.now) (g.O.Device.failures c.args.from.now)) (sym c.new-unread.ensures.items) (none_unread _ _ _);
   rest = same_here _ _;
   reads = reads_none _;
   later = omega arith;
@@ -32,7 +34,7 @@ loop-n-preserved-then-is_read g c =
     record {
       copied = copied_more unread n from now next so_far.copied c.copy_sector.ensures.others
           (was_read c.in-Ok.is_read there next n c.if-is_read.true done.copied ∙ ap (λ (d : Disk). sector d.content n) so_far.reads.disk);
-      unread = still_unread _ _ _ _ _ c.copy_sector.ensures.later so_far.unread;
+      unread = still_unread unread n from now next _ _ _ so_far.unread c.copy_sector.ensures.others c.copy_sector.ensures.later;
       rest = rest_more n c.args.sectors (w c.args.to.now).disk.content now next c.loop-n-test.true so_far.rest c.copy_sector.ensures.others;
       reads = reads_then _ _ _ so_far.reads c.copy_sector.ensures.kept;
       later = omega (arith, so_far.later, c.copy_sector.ensures.later);
@@ -57,11 +59,16 @@ loop-n-preserved g c =
       copied = subst (λ (l : List ℕ). AreCopiedBut l (n + 1) from next) (sym c.in_ok-push.ensures.items)
           (unread_more unread n from now next so_far.copied c.copy_sector.ensures.others
           (was_not_read c.in-Ok.is_read there next n c.if-is_read.false done.copied));
-      unread = unread_now _ (f c.args.from.now) (f c.loop-n.from) (f c.copy_sector.new.from) (length from) c.args.sectors n c.loop-n-test.true so_far.later
-          c.copy_sector.ensures.later
-          (subst (λ (m : ℕ). (m ≤ n) ⊎ Rises (f c.loop-n.from) (f c.copy_sector.new.from)) long (done.unread c.if-is_read.false));
+      unread = subst (λ (l : List ℕ). AreUnread l (n + 1) from next (f c.args.from.now) (f c.copy_sector.new.from)) (sym c.in_ok-push.ensures.items)
+          (unread_next unread n from now next (f c.args.from.now) (f c.loop-n.from) (f c.copy_sector.new.from) so_far.unread
+          c.copy_sector.ensures.others c.copy_sector.ensures.later so_far.later
+          (was_not_read c.in-Ok.is_read there next n c.if-is_read.false done.copied)
+          (subst (λ (m : ℕ). (m ≤ n) ⊎ Rises (f c.loop-n.from) (f c.copy_sector.new.from)) long (done.unread c.if-is_read.false)));
       rest = rest_more n c.args.sectors (w c.args.to.now).disk.content now next c.loop-n-test.true so_far.rest c.copy_sector.ensures.others;
       reads = reads_then _ _ _ so_far.reads c.copy_sector.ensures.kept;
       later = omega (arith, so_far.later, c.copy_sector.ensures.later);
       quiet = done.counts.none ∙ so_far.quiet;
     }
+
+pub returns-clause-unread : goal.returns-clause-unread
+returns-clause-unread g c = unread_all _ _ _ _ _ _ _ (omega (arith, c.loop-n.auto.n-end)) c.loop-n.invariant.unread
