@@ -1,9 +1,8 @@
 -- A batch of blocks, and how it stands in an area of a journal.
 use Rattle.std.specs.Prelude.{◌≡◌, ◌⊎◌, ℕ, zero, suc, ◌+◌, ◌*◌, nat_le, nat_lt, Bool, true, ◌&&◌, ◌==◌, List, [], ◌∷◌}
-use Rattle.std.specs.Prelude.{◌++◌, length, take, map, slice_set}
+use Rattle.std.specs.Prelude.{length, take, map, slice_set}
 use Rattle.std.specs.List.{range_with_len}
-use Rattle.byteorder.specs.Endian.{big_bytes}
-use Rattle.block_digest.specs.Digest.{digest}
+use Rattle.block_digest.specs.Digest.{digest, digest_from}
 use Rattle.block_device.specs.Blocks.{CrashFile, block}
 use Rattle.block_words.specs.Words.{word}
 use Rattle.block_batch.specs.declared.head.TheConstants.{TEXT, PLACES_MAX}
@@ -33,9 +32,9 @@ place_in area i = word (block area 0) (3 + 2 * i)
 abbrev pub digest_in : CrashFile → ℕ → ℕ
 digest_in area i = word (block area 0) (4 + 2 * i)
 
--- the digest of a block in its place
+-- the digest of a block in its place, which is the seed
 abbrev pub block_digest : ℕ → List ℕ → ℕ
-block_digest place bytes = digest (big_bytes 8 place ++ bytes)
+block_digest place bytes = digest_from place bytes
 
 -- the digest of the numbers of a head
 abbrev pub head_digest : CrashFile → ℕ

@@ -4,7 +4,7 @@ ghost use Rattle.block_device.specs.Blocks.{block};
 ghost use Rattle.block_batch.specs.Batch.{is_batch, number_in, count_in, place_in, block_digest};
 
 use block_device::BLOCK_SIZE;
-use block_digest::{Digester, digest};
+use block_digest::{digest, digest_from};
 use block_words::{WORDS, spell_words};
 
 /// The most blocks that a batch has.
@@ -54,10 +54,7 @@ impl Head {
 pub fn block_digest(place: u64, bytes: &[u8; BLOCK_SIZE]) -> u64
     ensures { result ≡ block_digest place bytes.now }
 {
-    let mut digester = Digester::new();
-    digester.update(&place.to_be_bytes());
-    digester.update(bytes);
-    digester.finish()
+    digest_from(place, bytes)
 }
 
 // The numbers of a head, but for the digest of them.

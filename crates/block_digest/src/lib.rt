@@ -1,50 +1,30 @@
-//! The digest of bytes: SipHash-1-3 with both keys 0, a hash of 64 bits. It is what std's `DefaultHasher` computes.
+//! The digest of bytes: xxHash64, a hash of 64 bits.
 //!
-//! Proved: `digest` gives it, and a `Digester` gives that of all the bytes that it took, in whatever pieces. Tested by
-//! `test_blocks`: what another program's hash of the same bytes is.
+//! Proved: `digest` gives it with the seed 0, and `digest_from` with any seed. Tested by `test_blocks`: what another
+//! program's hash of the same bytes is.
 #![tactic(auto)]
 
-ghost use Rattle.std.specs.Prelude.{◌≡◌, ℕ, List, [], ◌++◌};
-ghost use Rattle.block_digest.specs.Digest.{digest, Holds};
+ghost use Rattle.std.specs.Prelude.{◌≡◌};
+ghost use Rattle.block_digest.specs.Digest.{digest, digest_from};
 
-use std::hash::{DefaultHasher, Hasher};
+use crate::steps::{begun, mixed, with_bytes, with_half, with_words};
 
-/// The digest of bytes that come in pieces: `new`, an `update` for each piece, and `finish`.
-#[derive(Clone, Copy)]
-pub struct Digester {
-    hasher: DefaultHasher,
+mod steps;
+
+/// The digest of these bytes, with a seed.
+pub fn digest_from(seed: u64, bytes: &[u8]) -> u64
+    ensures { result ≡ digest_from seed bytes.now }
+{
+    let size = bytes.len();
+    let sum = begun(seed, bytes).wrapping_add(size as u64);
+    let words = with_words(bytes, size / 32 * 32, sum, size % 32 / 8);
+    let halves = with_half(bytes, words);
+    mixed(with_bytes(bytes, size / 4 * 4, halves, size % 4))
 }
 
-impl Digester {
-    /// It has taken no byte.
-    pub fn new() -> Digester
-        ensures { Holds result [] }
-    {
-        Digester {
-            hasher: DefaultHasher::new(),
-        }
-    }
-
-    /// Takes more bytes, behind the others.
-    pub fn update(&mut self, bytes: &[u8])
-        ensures { (taken : List ℕ) → Holds self.old taken → Holds self.new (taken ++ bytes.now) }
-    {
-        self.hasher.write(bytes);
-    }
-
-    /// The digest of all that it has taken.
-    pub fn finish(&self) -> u64
-        ensures { (taken : List ℕ) → Holds self.now taken → result ≡ digest taken }
-    {
-        self.hasher.finish()
-    }
-}
-
-/// The digest of these bytes.
+/// The digest of these bytes, with the seed 0.
 pub fn digest(bytes: &[u8]) -> u64
     ensures { result ≡ digest bytes.now }
 {
-    let mut digester = Digester::new();
-    digester.update(bytes);
-    digester.finish()
+    digest_from(0, bytes)
 }
