@@ -128,6 +128,7 @@ impl<B: Blocks, A: Allocator + Copy> BlockDisk<B, A> {
         ensures opens { IsGood B.past_of self.old → OpensMeanwhile B.past_of self.old self.new }
         ensures left_alone { disk_failed self.old ≡ true → disk_file self.new ≡ disk_file self.old }
         ensures table { disk_table B.past_of self.new ≡ disk_table B.past_of self.old }
+        ensures number { OnOk result (disk_number self.new ≡ disk_number self.old + 2) }
         ensures quiet { OnOk result (B.failures (disk_file self.new) ≡ B.failures (disk_file self.old)) }
         ensures plan { disk_plan self.new ≡ disk_plan self.old }
         ensures time { Elapses (disk_past B.past_of self.old) (disk_past B.past_of self.new) }

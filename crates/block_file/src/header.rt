@@ -14,7 +14,7 @@ use block_words::{WORDS, spell_words, words_of};
 // The text `NSFBLOCK` as a number.
 pub(crate) const TEXT: u64 = 0x4E53_4642_4C4F_434B;
 
-pub(crate) const VERSION: u64 = 1;
+pub(crate) const VERSION: u64 = 2;
 
 // How many bytes the digest of a header is of.
 const DIGESTED: usize = BLOCK_SIZE - 8;

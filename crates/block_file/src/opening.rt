@@ -85,7 +85,7 @@ fn first_told(first: Option<Plan>, second: Option<Plan>) -> Option<Plan>
     }
 }
 
-/// The plan that a file tells.
+/// The plan that a file tells. (It takes no memory; that it is never refused for want of it, no clause says.)
 pub fn read_plan<B: Blocks>(below: &mut B) -> Result<Plan, FileError>
     ensures told { IfOk result (λ p. plan_told (B.past_of below.old).file.content ≡ Some p) }
     ensures plan { IfOk result IsPlan }
@@ -226,6 +226,7 @@ fn compared<B: Blocks, A: Allocator + Copy>(
 /// block fits, the last batch is handed on as one of its own, and then all blocks are put in their places: no area of
 /// the journal is needed, and no block is loose (`alone`, `safe`, `handed`). So what was acknowledged is not in the
 /// journal alone. Behind the last numbers of 64 bits none can be handed on (`failed`).
+/// (That the last batch is handed on before its blocks come to their places, no clause says.)
 ///
 /// Whatever it answers, a crash at any moment of it leaves, under the premise, what stands for the same blocks
 /// (`any_moment`, `refused`), behind the same headers (`headers`, `headers_refused`). The premise is needed only once

@@ -171,6 +171,7 @@ impl<B: Blocks, A: Allocator + Copy> DiskParts<B, A> {
         ensures offers { OffersOne (disk_journal self.old) (disk_journal self.new) }
         ensures left_alone { disk_failed self.old ≡ true → disk_file self.new ≡ disk_file self.old }
         ensures table { disk_table B.past_of self.new ≡ disk_table B.past_of self.old }
+        ensures last { OnOk result (disk_number self.new ≡ disk_number self.old + 1) }
         ensures quiet { OnOk result (B.failures (disk_file self.new) ≡ B.failures (disk_file self.old)) }
         ensures fails { OnErr result ((disk_failed self.old ≡ true) ⊎ (disk_number self.old ≡ 2 ^ 64 - 1)
             ⊎ Rises (B.failures (disk_file self.old)) (B.failures (disk_file self.new))) }
@@ -204,6 +205,7 @@ impl<B: Blocks, A: Allocator + Copy> DiskParts<B, A> {
         ensures opens { IsGood B.past_of self.old → OpensMeanwhile B.past_of self.old self.new }
         ensures left_alone { disk_failed self.old ≡ true → disk_file self.new ≡ disk_file self.old }
         ensures table { disk_table B.past_of self.new ≡ disk_table B.past_of self.old }
+        ensures number { OnOk result (disk_number self.new ≡ disk_number self.old + 2) }
         ensures quiet { OnOk result (B.failures (disk_file self.new) ≡ B.failures (disk_file self.old)) }
         ensures plan { disk_plan self.new ≡ disk_plan self.old }
         ensures time { Elapses (disk_past B.past_of self.old) (disk_past B.past_of self.new) }

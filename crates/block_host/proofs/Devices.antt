@@ -24,7 +24,7 @@ use Rattle.block_host.specs.declared.error.DiskError.TheVariants.{File, Open}
 use Rattle.block_host.specs.declared.mirror.FileBlocks.{FileBlocks}
 
 -- what the file of a device held first is what it held as it was just read
-as_first : {F A : Type 0} (b : FileBlocks F A) (d : DiskParts (FileBlocks F A) A) → (past_of b).moment ≡ 0
+pub as_first : {F A : Type 0} (b : FileBlocks F A) (d : DiskParts (FileBlocks F A) A) → (past_of b).moment ≡ 0
     → LeavesBefore d.plan.shape (past_of b) (past_of (journal_in d.now).below) → first_read d ≡ (past_of b).file.content
 as_first b d none before = ap (λ (f : BlockFile). f.content)
     (before.kept 0 (omega arith) ∙ subst (λ (t : ℕ). (past_of b).file_at t ≡ (past_of b).file) none (past_of b).now)

@@ -3,6 +3,7 @@ use Rattle.std.specs.Prelude.{ℕ, Bool, ◌&&◌, ◌||◌, not, nat_eq, nat_lt
 use Rattle.std.specs.List.{starts_with}
 use Rattle.sector_device.specs.Disk.{CrashState, sector}
 use Rattle.sector_device.specs.DevicePast.{DevicePast}
+use Rattle.block_device.specs.Blocks.{CrashFile}
 use Rattle.block_host.specs.declared.device.FileDevice.{FileDevice}
 use Rattle.block_host.specs.declared.device.FileDevice.TheVariants.{Plain, Blocks}
 
@@ -22,6 +23,10 @@ begins sectors n text = nat_lt n (length sectors) && starts_with nat_eq (sector 
 -- in a plain file does, the second one.
 abbrev pub are_blocks : CrashState → Bool
 are_blocks sectors = begins sectors 0 blocks_text || (begins sectors 8 blocks_text && not (begins sectors 0 plain_text))
+
+-- so are blocks, read as blocks
+abbrev pub show_blocks : CrashFile → Bool
+show_blocks blocks = begins blocks 0 blocks_text || (begins blocks 1 blocks_text && not (begins blocks 0 plain_text))
 
 module _ {P B : Type 0} where
   -- its past, by that of a device of each kind

@@ -1,12 +1,12 @@
 //! Devices are opened in files of either kind.
-ghost use Rattle.std.specs.Prelude.{◌≡◌, false, Some, IfOk};
+ghost use Rattle.std.specs.Prelude.{◌≡◌, false, true, Some, IfOk};
 ghost use Rattle.sector_device.specs.Disk.{IsSynced};
 ghost use Rattle.block_file.specs.Disks.{disk_failures, disk_past, disk_plan, first_content};
 ghost use Rattle.block_file.specs.Good.{IsGood};
 ghost use Rattle.block_file.specs.Header.{plan_told};
 ghost use Rattle.block_host.specs.FileBlocks as blocks;
-ghost use Rattle.block_host.specs.Kinds.{IsInBlocks, IsInPlain, are_blocks, begins, failures_by, past_by};
-ghost use Rattle.block_host.specs.Opened.{IsOpened, IsRead};
+ghost use Rattle.block_host.specs.Kinds.{IsInBlocks, IsInPlain, are_blocks, begins, failures_by, past_by, show_blocks};
+ghost use Rattle.block_host.specs.Opened.{IsOpened, IsRead, first_read};
 ghost use Rattle.store_file.specs.FileDisk as plain;
 
 use crate::device::FileDevice;
@@ -14,6 +14,7 @@ use crate::error::DiskError;
 use crate::mirror::FileBlocks;
 use crate::opening::{HostDisk, disk_in, refusal_of};
 use crate::passing::SECTORS;
+use block_device::BLOCK_SIZE;
 use block_file::{BlockDisk, FileError, open_uncompared};
 use sector_device::SECTOR_SIZE;
 use std::alloc::Allocator;
@@ -53,6 +54,21 @@ fn are_blocks(content: &[[u8; SECTOR_SIZE]]) -> bool
         || (begins(content, SECTORS as usize, BLOCKS) && !begins(content, 0, PLAIN))
 }
 
+// Whether the block of this number begins with a text.
+fn block_begins(content: &[[u8; BLOCK_SIZE]], n: usize, text: &[u8]) -> bool
+    ensures { result ≡ begins content.now n text.now }
+{
+    n < content.len() && content[n].starts_with(text)
+}
+
+// The same of the blocks of a file.
+fn show_blocks(content: &[[u8; BLOCK_SIZE]]) -> bool
+    ensures { result ≡ show_blocks content.now }
+{
+    block_begins(content, 0, BLOCKS)
+        || (block_begins(content, 1, BLOCKS) && !block_begins(content, 0, PLAIN))
+}
+
 // Whether a file that was taken shows a file of blocks. (What it reads, no clause says: the kind that was taken is told
 // by the file as it is opened.)
 fn shows_blocks<F: Stored>(below: &mut F, sectors: u64) -> Result<bool, OpenError> {
@@ -80,17 +96,22 @@ fn plain_in<F: Stored + Drop, A: Allocator + Copy>(
     Ok(disk)
 }
 
-// The file of blocks that was taken, as it is read.
+// The file of blocks that was taken, as it is read. One that shows none now has failed, since it did before.
 fn blocks_in<F: Stored + Drop, A: Allocator + Copy>(
     alloc: A,
     taken: Taken<F>,
-) -> Result<FileBlocks<F, A>, OpenError>
+) -> Result<FileBlocks<F, A>, DiskError>
+    ensures shown { IfOk result (λ b. show_blocks (blocks.past_of b).file.content ≡ true) }
     ensures synced { IfOk result (λ b. blocks.IsFileSynced b) }
     ensures moment { IfOk result (λ b. (blocks.past_of b).moment ≡ 0) }
     ensures failures { IfOk result (λ b. blocks.failures_of b ≡ 0) }
 {
     let count = taken.sectors / SECTORS;
-    FileBlocks::over(alloc, taken.below, count as usize)
+    let file = FileBlocks::over(alloc, taken.below, count as usize)?;
+    if !show_blocks(file.content()) {
+        return Err(DiskError::File(FileError::FileFailed));
+    }
+    Ok(file)
 }
 
 // The device in a file of blocks that was just read. No block is compared with its digest, and none is put in its place
@@ -102,6 +123,7 @@ fn uncompared_in<F: Stored + Drop, A: Allocator + Copy>(
     requires synced { blocks.IsFileSynced below }
     requires moment { (blocks.past_of below).moment ≡ 0 }
     requires failures { blocks.failures_of below ≡ 0 }
+    ensures first { IfOk result (λ d. first_read d ≡ (blocks.past_of below).file.content) }
     ensures read { IfOk result (λ d. IsRead d) }
     ensures told { IfOk result (λ d. plan_told (first_content blocks.past_of d) ≡ Some (disk_plan d)) }
     ensures synced { IfOk result (λ d. IsSynced (disk_past blocks.past_of d).disk) }
@@ -113,14 +135,15 @@ fn uncompared_in<F: Stored + Drop, A: Allocator + Copy>(
     }
 }
 
-/// The device in a file that was taken, whichever kind that is (`told`): a plain file doesn't show a file of blocks,
-/// and a file of blocks tells this device (`opened`). What is below is read, and written to from then on. The refusals
-/// are those of [`FileDisk::over`], and of [`crate::open_disk`].
+/// The device in a file that was taken, whichever kind that is: a plain file doesn't show a file of blocks (`told`),
+/// and one that does (`shown`) tells this device (`opened`). What is below is read, and written to from then on. The
+/// refusals are those of [`FileDisk::over`], and of [`crate::open_disk`].
 pub fn device_in<F: Stored + Drop, A: Allocator + Copy>(
     alloc: A,
     taken: Taken<F>,
 ) -> Result<FileDevice<FileDisk<F, A>, BlockDisk<FileBlocks<F, A>, A>>, DiskError>
     ensures told { IfOk result (λ d. IsInPlain d (λ disk. are_blocks (plain.past_of disk).disk.content ≡ false)) }
+    ensures shown { IfOk result (λ d. IsInBlocks d (λ disk. show_blocks (first_read disk) ≡ true)) }
     ensures opened { IfOk result (λ d. IsInBlocks d (λ disk. IsOpened disk)) }
     ensures good { IfOk result (λ d. IsInBlocks d (λ disk. IsGood blocks.past_of disk)) }
     ensures sound { IfOk result (λ d. IsInPlain d (λ disk. plain.has_failed_of disk ≡ false)) }
@@ -145,6 +168,7 @@ pub fn open_device<R: Files, A: Allocator + Copy>(
 where
     R::File: StoreFile,
     ensures told { IfOk result (λ d. IsInPlain d (λ disk. are_blocks (plain.past_of disk).disk.content ≡ false)) }
+    ensures shown { IfOk result (λ d. IsInBlocks d (λ disk. show_blocks (first_read disk) ≡ true)) }
     ensures opened { IfOk result (λ d. IsInBlocks d (λ disk. IsOpened disk)) }
     ensures good { IfOk result (λ d. IsInBlocks d (λ disk. IsGood blocks.past_of disk)) }
     ensures sound { IfOk result (λ d. IsInPlain d (λ disk. plain.has_failed_of disk ≡ false)) }
@@ -155,9 +179,9 @@ where
     device_in(alloc, taken)
 }
 
-/// The device in the file at the path, whichever kind that is (`told`), which is only read, and locked until the device
-/// is dropped: what is written to this stays in memory. A file of blocks tells this device, which holds what the file
-/// stood for (`read`). No block is compared with its digest before it is read. The refusals are those of
+/// The device in the file at the path, whichever kind that is (`told`, `shown`), which is only read, and locked until
+/// the device is dropped: what is written to this stays in memory. A file of blocks tells this device, which holds what
+/// the file stood for (`read`). No block is compared with its digest before it is read. The refusals are those of
 /// [`open_device`], but for a block that doesn't fit.
 pub fn hold_device<R: Files, A: Allocator + Copy>(
     rt: &R,
@@ -167,6 +191,7 @@ pub fn hold_device<R: Files, A: Allocator + Copy>(
 where
     R::File: StoreFile,
     ensures told { IfOk result (λ d. IsInPlain d (λ disk. are_blocks (plain.past_of disk).disk.content ≡ false)) }
+    ensures shown { IfOk result (λ d. IsInBlocks d (λ disk. show_blocks (first_read disk) ≡ true)) }
     ensures read { IfOk result (λ d. IsInBlocks d (λ disk. IsRead disk)) }
     ensures plan { IfOk result (λ d. IsInBlocks d (λ disk. plan_told (first_content blocks.past_of disk)
         ≡ Some (disk_plan disk))) }
@@ -191,6 +216,7 @@ pub fn read_device<R: Files, A: Allocator + Copy>(
 where
     R::File: StoreFile,
     ensures told { IfOk result (λ d. IsInPlain d (λ disk. are_blocks (plain.past_of disk).disk.content ≡ false)) }
+    ensures shown { IfOk result (λ d. IsInBlocks d (λ disk. show_blocks (first_read disk) ≡ true)) }
     ensures read { IfOk result (λ d. IsInBlocks d (λ disk. IsRead disk)) }
     ensures plan { IfOk result (λ d. IsInBlocks d (λ disk. plan_told (first_content blocks.past_of disk)
         ≡ Some (disk_plan disk))) }

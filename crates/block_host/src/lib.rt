@@ -5,16 +5,17 @@
 //! file: it has the sectors that were asked for, of zeros, all of them synced (`create_disk`). Proved of one that is
 //! opened: it is the one that the file told as it was read, each block of it fitted its digest, and no area of its
 //! journal is needed (`open_disk`). Proved of a device in a file of either kind (`FileDevice`): it is that device (the
-//! clauses of `Device`); a plain file doesn't show a file of blocks (`told`), and one of blocks told the device
-//! (`opened`), which holds what the file stood for, also where it is only read (`read`). Of a file of blocks the first
-//! damaged sector is told, and only such a one (`check`); its use is ended as the device's (`end`). One that is opened
-//! or read is synced.
+//! clauses of `Device`); a plain file doesn't show a file of blocks (`told`), and one of blocks shows one (`shown`) and
+//! told the device (`opened`), which holds what the file stood for, also where it is only read (`read`). Of a file of
+//! blocks the first damaged sector is told, and only such a one (`check`); its use is ended as the device's (`end`).
+//! One that is opened or read is synced.
 //!
 //! Trusted: that a file holds what was written and synced; that writing a block harms no other one. No clause says that
 //! the mirror holds what is below, that a write or a sync is passed on to that, or that nothing reaches it behind a
 //! failure. Nor that a file of blocks is synced before it is read, that a new file's name was free, or that a refused
-//! one is removed. Nor that what is read alone is not written, why an opening is refused, or when a file that is in use
-//! is tried again. Only tested (`test_files`): the verbs of `nsf-store` on such files, whole and harmed.
+//! one is removed. Nor that what is read alone is not written, why an opening is refused, which file is opened, taken
+//! or made (that it has the path's name), or when a file that is in use is tried again. Only tested (`test_files`): the
+//! verbs of `nsf-store` on such files, whole and harmed.
 #![tactic(auto)]
 
 mod device;

@@ -8,7 +8,7 @@ use block_file::Plan;
 const AREA: u64 = 64;
 
 /// Where a new file has a device of so many sectors, in which the sector of this number is the first one of a block.
-/// `None` where there can't be such a device.
+/// `None` where there can't be such a device (no clause says that there can't; nor how large an area is).
 pub fn plan_with(sectors: u64, first: u64) -> Option<Plan>
     ensures told { IfSome result CanBeTold }
     ensures sectors { IfSome result (λ p. p.sectors ≡ sectors) }

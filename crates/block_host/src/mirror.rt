@@ -91,6 +91,13 @@ impl<F: Drop, A: Allocator> FileBlocks<F, A> {
         Ok(FileBlocks::holding(below, held))
     }
 
+    /// The blocks as they are now.
+    pub(crate) fn content(&self) -> &[[u8; BLOCK_SIZE]]
+        ensures { result.now ≡ (past_of self.now).file.content }
+    {
+        &self.held.content
+    }
+
     /// What is below.
     pub fn into_below(self) -> F
         ensures { result ≡ below_of self }

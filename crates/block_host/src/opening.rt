@@ -9,7 +9,7 @@ ghost use Rattle.block_file.specs.Header.{CanBeTold, TellTwice, plan_told};
 ghost use Rattle.block_file.specs.declared.opening.FileError.{FileError};
 ghost use Rattle.block_file.specs.declared.opening.FileError.TheVariants.{FileFailed, NoMemory};
 ghost use Rattle.block_host.specs.FileBlocks.{past_of, failures_of, has_failed_of, IsFileSynced};
-ghost use Rattle.block_host.specs.Opened.{IsOpened};
+ghost use Rattle.block_host.specs.Opened.{IsOpened, first_read};
 ghost use Rattle.store_file.specs.declared.draft.TheConstants.{SECTORS_MAX};
 
 use crate::error::DiskError;
@@ -84,7 +84,7 @@ pub(crate) fn refusal_of<F: Stored + Drop, A: Allocator>(
     }
 }
 
-/// The device in a file of blocks that was just read: the one that the file told then.
+/// The device in a file of blocks that was just read (`first`): the one that the file told then.
 pub(crate) fn disk_in<F: Stored + Drop, A: Allocator + Copy>(
     alloc: A,
     below: FileBlocks<F, A>,
@@ -92,6 +92,7 @@ pub(crate) fn disk_in<F: Stored + Drop, A: Allocator + Copy>(
     requires synced { IsFileSynced below }
     requires moment { (past_of below).moment ≡ 0 }
     requires failures { failures_of below ≡ 0 }
+    ensures first { IfOk result (λ d. first_read d ≡ (past_of below).file.content) }
     ensures opened { IfOk result (λ d. IsOpened d) }
     ensures still { IfOk result (λ d. plan_told (first_content past_of d) ≡ Some (disk_plan d)) }
     ensures synced { IfOk result (λ d. IsSynced (disk_past past_of d).disk) }
@@ -124,7 +125,7 @@ where
 
 /// Makes a file, as [`create`] does, and in it a device of zeros. Where it is refused, no file is left, if that can be
 /// removed (no clause says so). The refusals are those of [`create`], and of a device want of memory, or that the file
-/// failed (`refused`).
+/// failed (`refused`; that a new file isn't told as damaged, no clause says).
 pub fn create_disk<R: Files + AllocGlobal, A: Allocator + Copy>(
     rt: &R,
     alloc: A,

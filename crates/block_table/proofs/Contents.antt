@@ -11,7 +11,7 @@ use Rattle.block_journal.specs.Layout.{IsInside, kept_of, recovered}
 use Rattle.block_journal.specs.Journal.{OnlyReads, StaysRecovered}
 use Rattle.block_journal.specs.Value.{JournalValue, content_of, settled_of}
 use Rattle.block_journal.proofs.Placing.{length-kept}
-use Rattle.block_table.specs.Table.{kept_count, table_count}
+use Rattle.block_table.specs.Table.{IsFit, kept_count, table_count}
 use Rattle.block_table.specs.Checked.{CheckedValue, data_now, kept_table}
 use Rattle.block_table.specs.Rows.{AreNumbers, IsInStep}
 
@@ -62,13 +62,15 @@ module _ {B : Type 0} (past_of : B → BlocksPast) where
   length-data c inside kept = omega (arith, length-drop (table_count c.blocks) (kept_table past_of c), length-content c.journal inside, kept)
 
   -- the rows stay in step with what stays
-  pub step_same : (v n : JournalValue B) (rows : List (List ℕ)) (blocks : ℕ) → IsInStep past_of v rows blocks → n.shape ≡ v.shape
-      → content_of past_of n ≡ content_of past_of v → IsInStep past_of n rows blocks
-  step_same v n rows blocks step shape same = record {
+  pub step_same : (v n : JournalValue B) (rows : List (List ℕ)) (known blocks : ℕ) → IsInStep past_of v rows known blocks → n.shape ≡ v.shape
+      → content_of past_of n ≡ content_of past_of v → IsInStep past_of n rows known blocks
+  step_same v n rows known blocks step shape same = record {
     kept = ap (λ (g : Shape). g.kept) shape ∙ step.kept;
     small = step.small;
     count = step.count;
     numbers = subst (λ (image : CrashFile). AreNumbers image rows (table_count blocks)) (sym same) step.numbers;
+    low = step.low;
+    fitting = λ k below. subst (λ (image : CrashFile). IsFit blocks image k) (sym same) (step.fitting k below);
   }
 
 -- what a crash leaves stays, behind a read

@@ -10,8 +10,7 @@ ghost use Rattle.block_batch.specs.Batch.{Batch};
 ghost use Rattle.block_journal.specs.Value.{CanCommit, LeavesEither, Offers, failures_of, next_batch, room_of};
 ghost use Rattle.block_table.specs.Table.{IsFirstUnfit, IsFit, kept_count};
 
-use crate::rows::{digest_at, read_rows, set_digest};
-use block_batch::block_digest;
+use crate::rows::{is_fit, known_with, read_rows, set_digest};
 use block_device::{BLOCK_SIZE, Blocks, few_blocks};
 use block_journal::{Journal, OpenError, Shape, Unopened};
 use block_words::WORDS;
@@ -30,13 +29,15 @@ pub enum ReadError {
     Damaged,
 }
 
-/// Blocks of data, kept by a journal with a table of their digests. Each block that is read is compared with its
-/// digest, and one that doesn't fit is told.
+/// Blocks of data, kept by a journal with a table of their digests. Each block that is read fits its digest, with which
+/// it was compared as it was read first, and one that doesn't fit is told.
 #[derive(Drop)]
 pub struct CheckedBlocks<B: Blocks, A: Allocator> {
     journal: Journal<B, A>,
     // the numbers of each block of the table
     rows: Vec<[u64; WORDS], A>,
+    // how many of the first blocks are known to fit their digests: these aren't compared again
+    known: u64,
     blocks: u64,
 }
 
@@ -51,7 +52,7 @@ impl<B: Blocks, A: Allocator> Model for CheckedBlocks<B, A> {
 
     ghost view = { λ c. record { journal = c.journal; blocks = c.blocks } };
 
-    ghost invariant = { λ c. IsInStep B.past_of c.journal c.rows.items c.blocks };
+    ghost invariant = { λ c. IsInStep B.past_of c.journal c.rows.items c.known c.blocks };
 }
 
 impl<B: Blocks, A: Allocator + Copy> CheckedBlocks<B, A> {
@@ -92,6 +93,7 @@ impl<B: Blocks, A: Allocator + Copy> CheckedBlocks<B, A> {
             Ok(rows) => Ok(CheckedBlocks {
                 journal,
                 rows,
+                known: 0,
                 blocks,
             }),
             Err(error) => Err(Unopened {
@@ -140,11 +142,10 @@ impl<B: Blocks, A: Allocator + Copy> CheckedBlocks<B, A> {
         if self.journal.read(place, &mut block).is_err() {
             return Err(ReadError::FileFailed);
         }
-        let told = digest_at(&self.rows, n);
-        let found = block_digest(place, &block);
-        if told != found {
+        if !is_fit(&self.rows, self.known, n, place, &block) {
             return Err(ReadError::Damaged);
         }
+        self.known = known_with(self.known, n);
         *bytes = block;
         Ok(())
     }

@@ -1,14 +1,16 @@
 // The numbers of a table of digests, as they are kept in memory.
-ghost use Rattle.std.specs.Prelude.{◌≡◌, ◌≢◌, ◌/◌, ◌%◌, ◌≤◌, ◌<◌, ℕ, [], false, length, slice_index, slice_index_or};
-ghost use Rattle.std.specs.Prelude.{IfErr, IfOk};
+ghost use Rattle.std.specs.Prelude.{◌≡◌, ◌≢◌, ◌⊎◌, ◌/◌, ◌%◌, ◌≤◌, ◌<◌, ℕ, [], false, true, length, slice_index};
+ghost use Rattle.std.specs.Prelude.{slice_index_or, IfErr, IfOk};
 ghost use Rattle.sector_device.specs.DevicePast.{CountsFailure, Rises};
 ghost use Rattle.block_device.specs.Blocks.{block};
+ghost use Rattle.block_batch.specs.Batch.{block_digest};
 ghost use Rattle.block_words.specs.Words.{word};
 ghost use Rattle.block_journal.specs.Journal.{OnlyReads};
 ghost use Rattle.block_journal.specs.Value.{content_of};
-ghost use Rattle.block_table.specs.Rows.{AreNumbers};
+ghost use Rattle.block_table.specs.Rows.{AreNumbers, digest_in};
 ghost use Rattle.block_table.specs.Table.{table_count};
 
+use block_batch::block_digest;
 use block_device::{BLOCK_SIZE, Blocks};
 use block_journal::{Journal, OpenError};
 use block_words::{WORDS, spell_words, words_of};
@@ -22,12 +24,40 @@ pub fn table_count(blocks: u64) -> u64
     blocks.div_ceil(WORDS as u64)
 }
 
-/// The digest that the rows have for a block of data.
-pub(crate) fn digest_at(rows: &[[u64; WORDS]], n: u64) -> u64
+// The digest that the rows have for a block of data.
+fn digest_at(rows: &[[u64; WORDS]], n: u64) -> u64
     requires { n / 512 < length rows.now }
-    ensures { result ≡ slice_index (slice_index_or rows.now (n / 512) []) (n % 512) }
+    ensures { result ≡ digest_in rows.now n }
 {
     rows[(n / 512) as usize][(n % 512) as usize]
+}
+
+/// Whether a block of data, with these bytes in this place, fits its digest. One of the first, so many as are known to
+/// fit, isn't compared.
+pub(crate) fn is_fit(
+    rows: &[[u64; WORDS]],
+    known: u64,
+    n: u64,
+    place: u64,
+    bytes: &[u8; BLOCK_SIZE],
+) -> bool
+    requires row { n / 512 < length rows.now }
+    requires known { n < known → digest_in rows.now n ≡ block_digest place bytes.now }
+    ensures fits { result ≡ true → digest_in rows.now n ≡ block_digest place bytes.now }
+    ensures unfit { result ≡ false → digest_in rows.now n ≢ block_digest place bytes.now }
+{
+    n < known || digest_at(rows, n) == block_digest(place, bytes)
+}
+
+/// How many of the first blocks are known to fit, once this one is.
+pub(crate) fn known_with(known: u64, n: u64) -> u64
+    ensures each { (m : ℕ) → m < result → (m < known) ⊎ (m ≡ n) }
+    ensures low { (limit : ℕ) → known ≤ limit → n < limit → result ≤ limit }
+{
+    if n == known {
+        return known.saturating_add(1);
+    }
+    known
 }
 
 /// Sets the digest of a block of data. The block of the table that has it.

@@ -1,7 +1,7 @@
 use Rattle.std.proofs.Common.{◌∙◌, ap}
 use Rattle.sector_device.specs.Disk.{Disk}
 use Rattle.block_device.specs.BlocksPast.{BlocksPast}
-use Rattle.block_host.specs.Kinds.{are_blocks}
+use Rattle.block_host.specs.Kinds.{are_blocks, show_blocks}
 use Rattle.block_host.proofs.kinds.read_device.Goals as goal
 
 pub returns-then-not-branch-clause-synced : goal.returns-then-not-branch-clause-synced
@@ -20,3 +20,8 @@ uncompared_in-requires-clause-moment g c = ap (λ (p : BlocksPast). p.moment) c.
 
 pub returns-then-not-branch-clause-sound : goal.returns-then-not-branch-clause-sound
 returns-then-not-branch-clause-sound g c = c.with_below-read.ensures.failed ∙ c.in_ok-disk.ensures.sound
+
+pub returns-clause-shown : goal.returns-clause-shown
+returns-clause-shown g c =
+    ap show_blocks (c.in_ok-uncompared_in.ensures.first ∙ ap (λ (p : BlocksPast). p.file.content) c.with_below-below.ensures.past)
+    ∙ c.in_ok-file.ensures.shown

@@ -20,6 +20,7 @@ returns g c =
       opens = done.opens;
       left_alone = done.left_alone;
       table = done.table;
+      number = done.number;
       quiet = done.quiet;
       plan = done.plan;
       time = done.time;

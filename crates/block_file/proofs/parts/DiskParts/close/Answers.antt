@@ -43,6 +43,7 @@ returns-in_err-sync g c =
       opens = c.sync.ensures.opens;
       left_alone = c.sync.ensures.left_alone;
       table = c.sync.ensures.table;
+      number = tt;
       quiet = tt;
       plan = c.sync.ensures.plan;
       time = c.sync.ensures.time;
@@ -92,6 +93,7 @@ returns g c =
           (second.opens (c.sync.ensures.good good first.working.1)));
       left_alone = λ was. absurd (false≢true (sym first.working.0 ∙ was));
       table = second.table ∙ c.sync.ensures.table;
+      number = on_ok _ _ r (λ is. omega (arith, is, first.last)) second.last;
       quiet = on_ok _ _ r (λ same. same ∙ first.quiet) second.quiet;
       plan = second.plan ∙ c.sync.ensures.plan;
       time = elapses_then (disk_past h old) (disk_past h mid) (disk_past h new) c.sync.ensures.time second.time second.disk;

@@ -1,6 +1,6 @@
 use Rattle.std.proofs.Common.{◌≡◌, List, refl, sym, ◌∙◌, ap, subst}
 use Rattle.sector_device.specs.Disk.{Disk, IsCrashState}
-use Rattle.block_batch.specs.Batch.{Entry, replayed}
+use Rattle.block_batch.specs.Batch.{Batch, Entry, replayed}
 use Rattle.block_journal.specs.Journal.{NeedsNoArea}
 use Rattle.block_journal.specs.Value.{JournalValue}
 use Rattle.block_journal.proofs.Results.{counts_with, on_ok, on_ok_always}
@@ -55,6 +55,7 @@ returns g c =
       offers = moves.offers;
       left_alone = λ was. ap (λ (v : JournalValue g.row.B.Denot). v.below) (all.refused was);
       table = table;
+      last = on_ok _ _ r (λ is. ap (λ (b : Batch). b.number) is) all.last;
       quiet = all.quiet;
       disk = disk;
       alone = on_ok (NeedsNoArea old.journal.shape (h new.journal.below).file.content (settled_table h old))

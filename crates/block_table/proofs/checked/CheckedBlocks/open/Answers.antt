@@ -55,6 +55,8 @@ invariant_of-result g c =
       count = rows.count ∙ count;
       numbers = rw (content_read h v m (as_read v m c.read_rows.ensures.rest) c.read_rows.ensures.reads)
           (subst (AreNumbers (content_of h v) c.in-Ok.rows.items) count rows.numbers);
+      low = omega arith;
+      fitting = λ k below. absurd (omega (arith, below));
     }
 
 pub returns-in-Ok : goal.returns-in-Ok

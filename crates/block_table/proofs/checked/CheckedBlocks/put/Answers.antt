@@ -1,5 +1,6 @@
 use Rattle.std.proofs.Common.{◌≡◌, ◌≢◌, ℕ, ◌+◌, ◌/◌, ◌%◌, ◌<◌, List, [], ◌++◌, length, take, drop, slice_index, slice_index_or, slice_set}
-use Rattle.std.proofs.Common.{sym, ◌∙◌, ap, subst, arith}
+use Rattle.std.proofs.Common.{inl, inr, sym, ◌∙◌, ap, subst, arith}
+use Rattle.std.proofs.lemmas.Bool.{cases_eq}
 use Rattle.block_device.specs.Blocks.{CrashFile}
 use Rattle.block_device.proofs.CrashFiles.{written_back}
 use Rattle.block_batch.specs.Batch.{block_digest}
@@ -80,15 +81,25 @@ invariant_of-self g c =
     let others : (i : ℕ) → i < 512 → i ≢ n % 512 → word row i ≡ slice_index (slice_index_or rows (n / 512) []) i =
     λ i below apart. set.others i below apart ∙ ap (λ (l : List (List ℕ)). slice_index (slice_index_or l (n / 512) []) i) value in
     let long : length new ≡ length rows = set.size ∙ ap length value in
+    let digest = c.put-digest.result in
+    let is : digest ≡ block_digest (place_of blocks n) bytes = c.put-digest.ensures.digest ∙ ap (λ (k : ℕ). block_digest k bytes) place in
     let back : take c.self.inside.rows.len (new ++ drop (length new) rows) ≡ new = written_back new rows c.self.inside.rows.len long c.self.inside.rows.ok.0 in
     let numbers : AreNumbers (content_of h now) new (table_count blocks) =
     subst (λ (l : CrashFile). AreNumbers l new (table_count blocks)) (sym at)
-    (put_numbers blocks (content_of h v) n bytes row c.put-digest.result rows low size step.numbers set.digest others
-    (c.put-digest.ensures.digest ∙ ap (λ (k : ℕ). block_digest k bytes) place) new set.row
+    (put_numbers blocks (content_of h v) n bytes row digest rows low size step.numbers set.digest others is new set.row
     (λ t apart. set.rest t apart ∙ ap (λ (l : List (List ℕ)). slice_index_or l t []) value)) in
     record {
       kept = ap (λ (w : JournalValue g.row.B.Denot). w.shape.kept) (two_puts v m now c.put-digest.ensures.rest c.put.ensures.rest) ∙ step.kept;
       small = step.small;
       count = ap length back ∙ long ∙ step.count;
       numbers = subst (λ (l : List (List ℕ)). AreNumbers (content_of h now) l (table_count blocks)) (sym back) numbers;
+      low = step.low;
+      fitting = λ k below. subst (λ (l : CrashFile). IsFit blocks l k) (sym at) (elim (cases_eq k n) [
+        | inl same ↦
+            subst (IsFit blocks (after_put blocks (content_of h v) n bytes row)) (sym same)
+            (put_fits blocks (content_of h v) n bytes row digest rows low size step.numbers set.digest others is)
+        | inr apart ↦
+            fits_after blocks (content_of h v) n bytes row digest rows low size step.numbers set.digest others is k
+            (omega (arith, below, step.low)) apart (step.fitting k below)
+      ]);
     }
