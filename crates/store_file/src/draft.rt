@@ -17,7 +17,7 @@ use std::rt::Files;
 use std::{fs, io};
 
 /// The most sectors that a file may have.
-pub const SECTORS_MAX: u64 = 1 << 20;
+pub const SECTORS_MAX: u64 = 1 << 23;
 
 // What the system says where a file system gives no second name: that it isn't permitted, or isn't supported.
 const NO_LINKS: [i32; 2] = [1, 95];
@@ -95,7 +95,7 @@ fn lock<H: StoreFile>(draft: &H) -> Result<(), TryLockError> {
 
 // Fills the file with this many sectors of zeros.
 fn clear<H: StoreFile>(file: &H, sectors: u64) -> io::Result<()>
-    requires { sectors < 2 ^ 20 + 1 }
+    requires { sectors < SECTORS_MAX + 1 }
 {
     for n in 0..sectors {
         file.write_all_at(&zero_sector(), n * SECTOR_SIZE as u64)?;
@@ -113,7 +113,7 @@ fn fill<R: Files, A: Allocator>(
 ) -> Result<FileDisk<HostFile<R::File>, A>, OpenError>
 where
     R::File: StoreFile,
-    requires { sectors < 2 ^ 20 + 1 }
+    requires { sectors < SECTORS_MAX + 1 }
     ensures zeros { IfOk result (λ d. (past_of d).disk.content ≡ replicate sectors zero_sector) }
     ensures synced { IfOk result (λ d. IsSynced (past_of d).disk) }
     ensures failures { IfOk result (λ d. failures_of d ≡ 0) }
@@ -126,6 +126,7 @@ where
     let below = HostFile {
         file,
         length: sectors * SECTOR_SIZE as u64,
+        is_seen: false,
         trouble: None,
     };
     Ok(FileDisk::new(alloc, below, sectors as usize)?)
@@ -146,7 +147,7 @@ where
 ///
 /// `Exists` where something has the name `PATH`. Where something has the name `PATH.new`, `DraftInUse` if another
 /// process makes it now, `DraftExists` if one was cut off as it did, and `DraftEmpty` where it is empty, which tells
-/// neither. `BadLength` for no sector or more than 2^20.
+/// neither. `BadLength` for no sector or more than 2^23.
 pub fn create<R: Files + AllocGlobal, A: Allocator>(
     rt: &R,
     alloc: A,

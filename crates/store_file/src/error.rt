@@ -28,7 +28,7 @@ pub enum OpenError {
     NotAFile,
     /// It is a link, or has more than one name.
     Linked,
-    /// Its length, in bytes, is no number of sectors from 1 to 2^20.
+    /// Its length, in bytes, is no number of sectors from 1 to 2^23.
     BadLength(u64),
 }
 
@@ -77,7 +77,7 @@ impl fmt::Display for OpenError {
             OpenError::BadLength(length) => {
                 write!(
                     f,
-                    "its length of {length} bytes is no number of sectors from 1 to 1048576"
+                    "its length of {length} bytes is no number of sectors from 1 to 8388608"
                 )
             }
         }

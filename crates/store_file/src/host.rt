@@ -61,6 +61,8 @@ pub struct HostFile<H = File> {
     pub(crate) file: H,
     // how many bytes it has
     pub(crate) length: u64,
+    // whether it was looked at since its last sync
+    pub(crate) is_seen: bool,
     pub(crate) trouble: Option<Trouble>,
 }
 
@@ -77,12 +79,17 @@ impl<H: StoreFile> HostFile<H> {
         Ok(())
     }
 
-    fn write(&self, n: u64, bytes: &[u8]) -> Result<(), Trouble> {
-        self.look()?;
+    // The first write behind a sync looks at it: one that was cut off before may get its length again by later ones.
+    fn write(&mut self, n: u64, bytes: &[u8]) -> Result<(), Trouble> {
+        if !self.is_seen {
+            self.look()?;
+            self.is_seen = true;
+        }
         Ok(self.file.write_all_at(bytes, place_of(n)?)?)
     }
 
-    fn sync_all(&self) -> Result<(), Trouble> {
+    fn sync_all(&mut self) -> Result<(), Trouble> {
+        self.is_seen = false;
         self.file.sync_data()?;
         self.look()
     }

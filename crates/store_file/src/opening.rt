@@ -47,7 +47,7 @@ pub struct Taken<F> {
 /// the process. No sector is read or written.
 ///
 /// `Busy` where another process has it open, `NotAFile` and `Linked` where the path names no regular file, a link, or
-/// one of several names of a file, `BadLength` where its length is no number of sectors from 1 to 2^20.
+/// one of several names of a file, `BadLength` where its length is no number of sectors from 1 to 2^23.
 pub fn take<R: Files, A: Allocator>(
     rt: &R,
     alloc: &A,
@@ -68,6 +68,7 @@ where
     let below = HostFile {
         file,
         length,
+        is_seen: false,
         trouble: None,
     };
     let sectors = sectors_in(length)?;
