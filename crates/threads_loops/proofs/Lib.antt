@@ -5,3 +5,4 @@ pub mod Through
 pub mod Running
 pub mod Crosses
 mod Passing
+pub use Rattle.threads_flusher.proofs.Taking

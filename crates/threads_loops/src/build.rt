@@ -10,7 +10,7 @@ ghost use Rattle.shared.specs.Served.{WasServed};
 ghost use Rattle.threads_loops.specs.Building.{EndsRun, HasAttempted, HasPublished, HasRefused, HasStepped, IsOutcome};
 
 use crate::gate::{Gate, Point};
-use crate::rest::{Rest, has_ended, leave_room};
+use crate::rest::{Pace, Rest, bytes_built, has_ended};
 use nsf_core::{BuildReply, Ticket};
 use records::Error;
 use shared::{BuildPart, Group, Memory, Shared};
@@ -57,7 +57,8 @@ pub fn build_loop<B: Group, R: Wait, G: Gate, A: Memory>(
 }
 
 /// The same, until the run ends, if it is in one. Then it also waits for an index where there is none; and for room in
-/// a full one where a transaction is active, whose end may give places back.
+/// a full one where a transaction is active, whose end may give places back. Where a few groups of its records are on
+/// their way to the device it waits until some are written there, but not for long.
 pub(crate) fn build_until<B: Group, R: Wait, G: Gate, A: Memory>(
     rt: &R,
     shared: &Shared<B, A>,
@@ -74,9 +75,10 @@ pub(crate) fn build_until<B: Group, R: Wait, G: Gate, A: Memory>(
     ensures rises { build.old.progress ≤ build.new.progress }
     ensures attempted { build.old.progress < build.new.progress → ∥ HasAttempted B.site.opened build.new.progress ∥₁ }
 {
-    let bell = &shared.board().waits().resting;
+    let waits = shared.board().waits();
+    let bell = &waits.resting;
     let mut rest = Rest::new();
-    let mut steps = 0;
+    let mut pace = Pace::new(waits);
     for _ in rt.forever() {
         let rings = bell.rings();
         if has_ended(in_run, ended) {
@@ -86,6 +88,7 @@ pub(crate) fn build_until<B: Group, R: Wait, G: Gate, A: Memory>(
             return Err(Error::Stopped);
         }
         let (step, attempts, is_quiet) = build_step(rt, shared, build);
+        let bytes = bytes_built(&step, in_run);
         match outcome_of(step, in_run, is_quiet) {
             Outcome::Done(ticket) => {
                 build.raise_progress(shared, attempts);
@@ -94,12 +97,12 @@ pub(crate) fn build_until<B: Group, R: Wait, G: Gate, A: Memory>(
             Outcome::Refused(error) => return Err(error),
             Outcome::Scanned => {
                 gate.at(Point::BuildScanned);
-                steps = leave_room(rt, shared, rings, steps);
+                pace.leave_room(rt, waits, rings, bytes);
             }
             Outcome::Attempted => {
                 build.raise_progress(shared, attempts);
                 gate.at(Point::BuildAttempt);
-                steps = leave_room(rt, shared, rings, steps);
+                pace.leave_room(rt, waits, rings, bytes);
             }
             Outcome::Marked => {}
             Outcome::Nothing => rest.sleep(rt, bell, rings),

@@ -6,7 +6,7 @@ ghost use Rattle.core_parts.specs.Replies.{reply_by};
 ghost use Rattle.shared.specs.Served.{WasServed};
 
 use crate::gate::{Gate, Point};
-use crate::rest::{Rest, has_ended, pause_cleaner};
+use crate::rest::{Rest, Sweep, has_ended, pause_cleaner};
 use nsf_core::CleanReply;
 use records::Error;
 use shared::{CleanPart, Group, Memory, Shared};
@@ -15,7 +15,8 @@ use std::sync::{MutexGuard, Wait};
 
 /// Makes steps of the cleaner, each under the lock anew, until the stop flag is read. What is refused it passes over.
 /// After some steps that removed nothing it leaves room for the others by a pause, and behind a round through the index
-/// that removed nothing it sleeps, longer each time.
+/// that removed nothing it sleeps, longer each time. Behind a round in which no record was made it makes no step until
+/// one is: nothing more can be taken out before.
 pub fn clean_loop<B: Group, R: Wait, G: Gate, A: Memory>(
     rt: &R,
     shared: &Shared<B, A>,
@@ -42,6 +43,7 @@ pub(crate) fn clean_until<B: Group, R: Wait, G: Gate, A: Memory>(
     let bell = &shared.board().waits().resting;
     let mut rest = Rest::new();
     let mut steps = 0;
+    let mut sweep = Sweep::new();
     for _ in rt.forever() {
         let rings = bell.rings();
         if has_ended(in_run, ended) {
@@ -52,13 +54,42 @@ pub(crate) fn clean_until<B: Group, R: Wait, G: Gate, A: Memory>(
             return;
         }
         gate.at(Point::CleanStep);
-        match clean_step(rt, shared, part) {
+        match clean_on(rt, shared, part, &mut sweep) {
             Ok(CleanReply::Cleaned(_)) => rest = Rest::new(),
             Ok(CleanReply::Kept(_)) => steps = pause_cleaner(rt, bell, rings, steps),
             Ok(CleanReply::Wrapped) | Err(_) => rest.sleep(rt, bell, rings),
         }
     }
     unreachable!()
+}
+
+// One step of the cleaner, if it may find something: else the answer is as behind a round.
+fn clean_on<B: Group, R: Wait, A: Memory>(
+    rt: &R,
+    shared: &Shared<B, A>,
+    part: &CleanPart<B>,
+    sweep: &mut Sweep,
+) -> Result<CleanReply, Error> {
+    if sweep.found_nothing() && !sweep.go_round(records_made(rt, shared, part)) {
+        return Ok(CleanReply::Wrapped);
+    }
+    let reply = clean_step(rt, shared, part)?;
+    if let CleanReply::Wrapped = reply {
+        sweep.go_round(records_made(rt, shared, part));
+    }
+    Ok(reply)
+}
+
+// The number of the last record made.
+fn records_made<B: Group, R: Wait, A: Memory>(
+    rt: &R,
+    shared: &Shared<B, A>,
+    part: &CleanPart<B>,
+) -> u64 {
+    let locked = shared.hold_to_clean(rt, part);
+    let made = locked.core().last();
+    MutexGuard::unlock(locked);
+    made
 }
 
 // One step of the cleaner.

@@ -109,12 +109,12 @@ impl RoundsMade {
 }
 
 /// One round of `flush_loop`, for which the bell `pushed` of the board has rung so often: the records that wait are
-/// taken, a group of them is written and published, and some steps of an image are made where they are due. What the
-/// device or memory refuses ends the round early, and the part tells it (`has_failed`). Answers what there is to do
-/// next.
+/// taken, a group of them is written and published, and some steps of an image are made where they are due. What memory
+/// or the device refuses ends the round early; of the device the part tells it (`has_failed`). Answers what there is to
+/// do next.
 ///
 /// An image is copied only where half the log's slots are open, before the round and behind it (`copying`). (No clause
-/// says that a round takes or writes anything.)
+/// says that a round takes or writes anything, or what it answers.)
 pub fn flush_round<B: Group, D: Device, R: Wait, G: Gate, A: Memory>(
     rt: &R,
     shared: &Shared<B, A>,

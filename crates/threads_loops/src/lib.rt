@@ -16,11 +16,12 @@
 //! thread is wanting (`not_run`), with a `NoThread`; the reason that `BuilderEnd::reason` tells is the one that the run
 //! ends with (`told`, `reason`, `one_reason`), and a refusal that some such core gives. Neither: that a thread is
 //! started or a call returns, that `threads` makes a `NoThread` where a start was refused alone (no other module can
-//! make one), that the builder or the cleaner makes a step, that the flusher looks, writes or takes an image, that
-//! progress is told before the end of a build, that a refusal ends the builder or is told in time, that a run lasts as
-//! long as its clients, and that a gate is called.
+//! make one), that the builder or the cleaner makes a step, that the builder waits for the flusher, or how long,
+//! that the flusher looks, writes or takes an image, that progress is told before the end of a build, that a refusal
+//! ends the builder or is told in time, that a run lasts as long as its clients, and that a gate is called.
 //!
-//! Lemmas about its public words that crates above may cite, in `proofs`: `Crosses`, `Rounds`, `Running` and `Through`.
+//! Lemmas about its public words that crates above may cite, in `proofs`: `Crosses`, `Rounds`, `Running`, `Taking` (of
+//! `threads_flusher`) and `Through`. With this crate comes what `threads_leader` needs of the two below it.
 #![tactic(auto)]
 
 mod build;
@@ -44,4 +45,6 @@ pub use gate::{Gate, NoGate, Point};
 pub use reason::Told;
 pub use rest::Found;
 pub use run::{Ended, NotRun, run_beside, run_with};
+pub use shared::{Ack, BuildPart, CleanPart, Group, Keeping, Memory, Seat, Shared};
 pub use threads::NoThread;
+pub use threads_flusher::FlushPart;

@@ -64,8 +64,8 @@ pub struct NotRun<B: Group, D: Device, F> {
 ///
 /// Not proved: that a loop makes a step and that the call returns; that a build under way is carried on, and each that
 /// a client begins, also where it dropped an index that was complete; that the builder waits where the index is
-/// complete or there is none; and that another refusal than those ends it, so that what is to be built then waits for
-/// the next run.
+/// complete or there is none, and while a few groups of its records are on their way to the device; and that another
+/// refusal than those ends it, so that what is to be built then waits for the next run.
 pub fn run_beside<
     't,
     B: Group + Send + Sync,
@@ -104,7 +104,8 @@ pub fn run_beside<
 }
 
 /// As `run_beside`, of which each clause stands here too. But the flusher's thread does with the part what `flushing`
-/// does: which has to take it (`takes`), and to leave it as `flush_loop` does (`flushes`).
+/// does: which has to take it (`takes`), and to leave it as `flush_loop` does (`flushes`). (That it is asked to, no
+/// clause says.)
 pub fn run_with<
     't,
     B: Group + Send + Sync,
