@@ -6,13 +6,13 @@ use Rattle.std.specs.Prelude.{slice_get}
 use Rattle.core_model.specs.Histories.{Opened}
 use Rattle.core_parts.specs.View.{CoreValue}
 use Rattle.records.specs.RecordValue.{RecordValue}
-use Rattle.shared.specs.Seats.{SeatValue}
+use Rattle.nsf.specs.Seats.{SeatValue}
 use Rattle.threads_register.specs.History.{AreRisingTo}
 use Rattle.threads_register.specs.Register.{AreBySeats, AreNumbered, Commits, made_by}
 use Rattle.threads_sessions.specs.Values.{CommitValue}
-use Rattle.threads_lifetime.specs.Closing.{IsCoreOf, up_to}
-use Rattle.threads_lifetime.specs.Gathered.{AreCommitsOf, sessions_of}
-use Rattle.threads_lifetime.proofs.Orders.{some_at}
+use Rattle.nsf.specs.Closing.{IsCoreOf, up_to}
+use Rattle.nsf.specs.Gathered.{AreCommitsOf, sessions_of}
+use Rattle.nsf.proofs.SeatOrders.{some_at}
 
 some_is : (a b : ℕ) → Some a ≡ Some b → a ≡ b
 some_is a b e = cc

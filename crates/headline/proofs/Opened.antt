@@ -16,10 +16,10 @@ use Rattle.sector_device.proofs.Counts.{rises_later}
 use Rattle.sector_device.proofs.Sectors.{content_is_image}
 use Rattle.gate_log.specs.Area.{Refuses}
 use Rattle.store_reader.specs.Contents.{Gives, IsUnreadable}
-use Rattle.shared.specs.Seats.{AckValue, SeatValue}
+use Rattle.nsf.specs.Seats.{AckValue, SeatValue}
 use Rattle.model.specs.Table.{Table}
 use Rattle.threads_sessions.specs.Values.{CommitValue}
-use Rattle.threads_lifetime.specs.Closing.{GivesSome, IsClosed, table_with, up_to}
+use Rattle.nsf.specs.Closing.{GivesSome, IsClosed, table_with, up_to}
 use Rattle.restart.specs.declared.parts.EngineParts.{EngineParts}
 use Rattle.restart.specs.Parts.{core_of}
 use Rattle.restart.specs.Reopening.{IsNotOpened, IsOpened}

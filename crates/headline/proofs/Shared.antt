@@ -21,16 +21,16 @@ use Rattle.sector_device.specs.DevicePast.{DevicePast, LeavesOnly}
 use Rattle.sector_device.proofs.Moments.{content_at_end}
 use Rattle.sector_device.proofs.Sectors.{content_is_image}
 use Rattle.store_reader.specs.Contents.{Gives}
-use Rattle.shared.specs.Seats.{SeatValue}
-use Rattle.threads_flusher.specs.Part.{IsKeptSince, IsSafeSince, Publication}
+use Rattle.nsf.specs.Seats.{SeatValue}
+use Rattle.nsf.specs.Part.{IsKeptSince, IsSafeSince, Publication}
 use Rattle.std.proofs.lemmas.List.Elements.{All-contains}
 use Rattle.std.proofs.lemmas.Option.{get_or_from_slice_get, slice_get_within}
 use Rattle.threads_sessions.specs.Values.{CommitValue}
-use Rattle.threads_lifetime.specs.Closing.{GivesAll, GivesSome, IsCoreOf, table_with, up_to}
-use Rattle.threads_lifetime.specs.Gathered.{AreCommitsOf}
-use Rattle.threads_lifetime.specs.Openings.{IsNotShared, Opens}
-use Rattle.threads_lifetime.specs.declared.refusal.OpenError.{OpenError}
-use Rattle.threads_lifetime.specs.declared.refusal.OpenError.TheVariants.{Refused, Unsound}
+use Rattle.nsf.specs.Closing.{GivesAll, GivesSome, IsCoreOf, table_with, up_to}
+use Rattle.nsf.specs.Gathered.{AreCommitsOf}
+use Rattle.nsf.specs.Openings.{IsNotShared, Opens}
+use Rattle.nsf.specs.OpenErrors.{OpenError}
+use Rattle.nsf.specs.OpenErrors.TheVariants.{Refused, Unsound}
 use Rattle.nsf.specs.Serving.{HadEnded, HoldsAll, WhyUnwritten, LeavesWork, TellsBuild}
 use Rattle.restart.specs.declared.parts.EngineParts.{EngineParts}
 use Rattle.restart.specs.Building.{BuildsWhole, HasCome}

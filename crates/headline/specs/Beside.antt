@@ -10,11 +10,11 @@ use Rattle.sector_device.specs.DevicePast.{Rises}
 use Rattle.core_parts.specs.View.{CoreValue}
 use Rattle.threads_sessions.specs.Values.{CommitValue}
 use Rattle.locked_core.specs.Names.{IsShared}
-use Rattle.threads_lifetime.specs.Closing.{IsCoreOf, table_with, up_to}
-use Rattle.threads_lifetime.specs.Gathered.{AreCommitsOf, sessions_of}
-use Rattle.threads_lifetime.specs.declared.refusal.OpenError.{OpenError}
-use Rattle.threads_lifetime.specs.declared.refusal.OpenError.TheVariants.{Refused}
-use Rattle.shared.specs.Seats.{SeatValue}
+use Rattle.nsf.specs.Closing.{IsCoreOf, table_with, up_to}
+use Rattle.nsf.specs.Gathered.{AreCommitsOf, sessions_of}
+use Rattle.nsf.specs.OpenErrors.{OpenError}
+use Rattle.nsf.specs.OpenErrors.TheVariants.{Refused}
+use Rattle.nsf.specs.Seats.{SeatValue}
 use Rattle.nsf.specs.Serving.{HaveWorked, TellsBuild}
 use Rattle.restart.specs.Store.{over}
 use Rattle.headline.specs.declared.day.Day.{Day}

@@ -18,7 +18,7 @@ use Rattle.restart.specs.Lawful.{AreLawful, IsLawful}
 use Rattle.restart.specs.Parts.{device_of}
 use Rattle.restart.specs.Reopening.{IsEmptied, IsOpened}
 use Rattle.restart.specs.Store.{IsAt, Past, RunsOn, ServesOn, and_then, over}
-use Rattle.shared.specs.Seats.{SeatValue}
+use Rattle.nsf.specs.Seats.{SeatValue}
 use Rattle.headline.specs.Beside.{HasLivedBeside}
 use Rattle.headline.specs.declared.day.Day.{Day}
 use Rattle.headline.specs.declared.shared_day.SharedAnswer.{SharedAnswer}

@@ -14,9 +14,9 @@ use Rattle.sector_device.specs.DevicePast.{Rises}
 use Rattle.core_parts.specs.View.{CoreValue}
 use Rattle.store_reader.specs.Contents.{Gives}
 use Rattle.threads_sessions.specs.Values.{CommitValue}
-use Rattle.shared.specs.Seats.{AckValue, SeatValue}
-use Rattle.threads_lifetime.specs.Closing.{table_with, up_to}
-use Rattle.threads_lifetime.specs.Gathered.{AreCommitsOf, sessions_of}
+use Rattle.nsf.specs.Seats.{AckValue, SeatValue}
+use Rattle.nsf.specs.Closing.{table_with, up_to}
+use Rattle.nsf.specs.Gathered.{AreCommitsOf, sessions_of}
 use Rattle.headline.specs.Fitting.{IsIndexOf}
 use Rattle.headline.specs.Held.{IsQuiet}
 

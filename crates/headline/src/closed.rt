@@ -3,20 +3,19 @@ ghost use Rattle.std.specs.Prelude.{◌≡◌, ◌≤◌, All, None, IfErr, IfOk
 ghost use Rattle.sector_device.specs.Disk.{CrashState, IsCrashState};
 ghost use Rattle.gate_log.specs.Area.{Refuses};
 ghost use Rattle.store_writer.specs.Parts.{device_of, halves_of, has_failed, synced_of};
-ghost use Rattle.threads_flusher.specs.Part.{popped_by};
-ghost use Rattle.threads_lifetime.specs.Closing.{GivesSome};
-ghost use Rattle.threads_lifetime.specs.Gathered.{AreAllSeats};
+ghost use Rattle.nsf.specs.Part.{popped_by};
+ghost use Rattle.nsf.specs.Closing.{GivesSome};
+ghost use Rattle.nsf.specs.Gathered.{AreAllSeats};
 ghost use Rattle.restart.specs.Parts as engines;
 ghost use Rattle.headline.specs.Seats.{GivesAllSeats, HoldsAllSeats, HoldsSeats, IsUnwritten};
 
 use crate::Mortal;
+use nsf::{Ack, Group, Keeping, Memory, Parts, Shared, finish};
 use records::Error;
 use restart::{Engine, restart};
 use sector_device::Device;
-use shared::{Ack, Group, Keeping, Memory, Parts, Shared};
 use std::sync::Wait;
 use store_reader::one_answer;
-use threads_lifetime::finish;
 
 /// A store that was opened again behind its threads. Where not all that they made had been written out before, why.
 #[derive(Drop)]

@@ -1,4 +1,6 @@
 mod Orders
 mod Refusals
-pub use Rattle.threads_loops.proofs.Crosses
+pub use Rattle.threads_leader.proofs.Crosses
 mod Published
+mod Connecting
+pub use Rattle.threads_lifetime.proofs.Orders as SeatOrders

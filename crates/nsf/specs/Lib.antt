@@ -1,5 +1,6 @@
 pub mod Serving
 pub mod Files
+pub mod Connected
 pub use Rattle.sector_device.specs.Disk
 pub use Rattle.sector_device.specs.DevicePast
 pub use Rattle.sector_device.specs.MemDisk
@@ -13,15 +14,17 @@ pub use Rattle.restart.specs.Reopening
 pub use Rattle.restart.specs.Store
 pub use Rattle.restart.specs.Story
 pub use Rattle.store_moving.specs.Moved
+pub use Rattle.shared.specs.AtOnce
 pub use Rattle.shared.specs.Changed
 pub use Rattle.shared.specs.Seats
 pub use Rattle.shared.specs.Served
 pub use Rattle.shared.specs.Waits
 pub use Rattle.threads_flusher.specs.Going
 pub use Rattle.threads_flusher.specs.Part
-pub use Rattle.threads_loops.specs.Building as Builds
-pub use Rattle.threads_loops.specs.Telling
-pub use Rattle.threads_loops.specs.Through
+pub use Rattle.threads_leader.specs.Building as Builds
+pub use Rattle.threads_leader.specs.Telling
+pub use Rattle.threads_leader.specs.Through
 pub use Rattle.threads_lifetime.specs.Closing
 pub use Rattle.threads_lifetime.specs.Gathered
 pub use Rattle.threads_lifetime.specs.Openings
+pub use Rattle.threads_lifetime.specs.declared.refusal.OpenError as OpenErrors

@@ -19,7 +19,7 @@ use Rattle.threads_sessions.specs.Values.{CommitValue}
 use Rattle.shared.specs.Seats.{SeatValue}
 use Rattle.shared.specs.Served.{WasServed}
 use Rattle.threads_flusher.specs.Part.{IsKeptSince, IsNewest, IsSafeSince, Publication}
-use Rattle.threads_loops.specs.Building.{EndsBuilder}
+use Rattle.threads_leader.specs.Building.{EndsBuilder}
 use Rattle.threads_lifetime.specs.Closing.{GivesAll, GivesSome, IsCoreOf}
 use Rattle.threads_lifetime.specs.Gathered.{AreCommitsOf}
 

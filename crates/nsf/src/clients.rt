@@ -26,8 +26,8 @@ use std::marker::Brand;
 use std::sync::Wait;
 use std::thread::{Threads, for_each_mut};
 use threads_flusher::FlushPart;
+use threads_leader::{BuilderEnd, Ended, NoGate, NotRun, run_beside};
 use threads_lifetime::{OpenError, OpenStore, Parts, finish, let_go, open_store};
-use threads_loops::{BuilderEnd, Ended, NoGate, NotRun, run_beside};
 
 /// Something that uses a store beside others, in a thread of its own with a seat of its own.
 pub trait Client {
@@ -177,39 +177,39 @@ fn begin<
     }
 }
 
-// A client with its seat.
+/// A client with its seat.
 #[derive(Drop)]
-struct Desk<B: Group, C> {
-    client: C,
-    seat: Seat<B>,
+pub(crate) struct Chair<B: Group, C> {
+    pub(crate) client: C,
+    pub(crate) seat: Seat<B>,
 }
 
 // Each client with a seat, both in their order.
-fn desks_of<B: Group, C: Drop>(
+fn chairs_of<B: Group, C: Drop>(
     alloc: Global,
     seats: Vec<Seat<B>>,
     clients: Vec<C>,
-) -> Result<Vec<Desk<B, C>>, AllocError>
-    ensures seats { IfOk result (λ desks. map (λ d. d.seat) desks.items ≡ seats.items) }
-    ensures clients { IfOk result (λ desks. map (λ d. d.client) desks.items ≡ clients.items) }
+) -> Result<Vec<Chair<B, C>>, AllocError>
+    ensures seats { IfOk result (λ chairs. map (λ d. d.seat) chairs.items ≡ seats.items) }
+    ensures clients { IfOk result (λ chairs. map (λ d. d.client) chairs.items ≡ clients.items) }
 {
     if seats.len() != clients.len() {
         return Err(AllocError);
     }
-    let mut desks = Vec::with_capacity(alloc, seats.len())?;
+    let mut chairs = Vec::with_capacity(alloc, seats.len())?;
     let mut waiting = clients.into_iter();
     for seat in seats {
         let Some(client) = waiting.next() else {
             unreachable!()
         };
-        desks.push_reserved(Desk { client, seat });
+        chairs.push_reserved(Chair { client, seat });
     }
-    Ok(desks)
+    Ok(chairs)
 }
 
-// Where clients and seats are put when the work is done, so that no memory is wanted then.
+/// Where clients and seats are put when the work is done, so that no memory is wanted then.
 #[derive(Drop)]
-struct Room<B: Group, C> {
+pub(crate) struct Room<B: Group, C> {
     clients: Vec<C>,
     seats: Vec<Seat<B>>,
     marks: Vec<u64>,
@@ -230,22 +230,22 @@ fn room_for<B: Group, C: Drop>(alloc: Global, count: usize) -> Result<Room<B, C>
     })
 }
 
-// The clients of these desks, their seats, and the marks that these have read.
-fn parted<B: Group, C: Drop>(desks: Vec<Desk<B, C>>, room: Room<B, C>) -> Room<B, C>
-    requires clients { HasRoom room.clients (vec_len desks) }
-    requires seats { HasRoom room.seats (vec_len desks) }
-    requires marks { HasRoom room.marks (vec_len desks) }
-    ensures clients { result.clients.items ≡ map (λ d. d.client) desks.items }
-    ensures seats { result.seats.items ≡ map (λ d. d.seat) desks.items }
-    ensures marks { result.marks.items ≡ map (λ d. d.seat.sight.mark) desks.items }
+// The clients of these chairs, their seats, and the marks that these have read.
+fn parted<B: Group, C: Drop>(chairs: Vec<Chair<B, C>>, room: Room<B, C>) -> Room<B, C>
+    requires clients { HasRoom room.clients (vec_len chairs) }
+    requires seats { HasRoom room.seats (vec_len chairs) }
+    requires marks { HasRoom room.marks (vec_len chairs) }
+    ensures clients { result.clients.items ≡ map (λ d. d.client) chairs.items }
+    ensures seats { result.seats.items ≡ map (λ d. d.seat) chairs.items }
+    ensures marks { result.marks.items ≡ map (λ d. d.seat.sight.mark) chairs.items }
 {
     let Room {
         mut clients,
         mut seats,
         mut marks,
     } = room;
-    for desk in desks {
-        let Desk { client, seat } = desk;
+    for chair in chairs {
+        let Chair { client, seat } = chair;
         marks.push_reserved(seat.last_mark());
         clients.push_reserved(client);
         seats.push_reserved(seat);
@@ -261,36 +261,36 @@ fn parted<B: Group, C: Drop>(desks: Vec<Desk<B, C>>, room: Room<B, C>) -> Room<B
 fn work_all<B: Group + Send + Sync, C: Client + Send, R: Threads + Wait + Sync>(
     rt: &R,
     shared: &Shared<B>,
-    mut desks: Vec<Desk<B, C>>,
+    mut chairs: Vec<Chair<B, C>>,
     builder: &BuilderEnd<B>,
-) -> Vec<Desk<B, C>>
-    ensures len { vec_len result ≡ vec_len desks }
-    ensures seats { (k : ℕ) (d : _) → k < vec_len desks
-        → KeepsSeat (slice_index_or desks.items k d).seat (slice_index_or result.items k d).seat }
-    ensures worked { (k : ℕ) (d : _) → k < vec_len desks
-        → C.works (slice_index_or desks.items k d).client (slice_index_or result.items k d).client
-        (slice_index_or desks.items k d).seat (slice_index_or result.items k d).seat }
+) -> Vec<Chair<B, C>>
+    ensures len { vec_len result ≡ vec_len chairs }
+    ensures seats { (k : ℕ) (d : _) → k < vec_len chairs
+        → KeepsSeat (slice_index_or chairs.items k d).seat (slice_index_or result.items k d).seat }
+    ensures worked { (k : ℕ) (d : _) → k < vec_len chairs
+        → C.works (slice_index_or chairs.items k d).client (slice_index_or result.items k d).client
+        (slice_index_or chairs.items k d).seat (slice_index_or result.items k d).seat }
 {
-    let threads = desks.len().max(1);
+    let threads = chairs.len().max(1);
     for_each_mut(
         rt,
-        &mut desks,
+        &mut chairs,
         threads,
-        &|_: usize, desk: &mut Desk<B, C>| work_at(rt, shared, desk, builder),
+        &|_: usize, chair: &mut Chair<B, C>| work_at(rt, shared, chair, builder),
     );
-    desks
+    chairs
 }
 
 fn work_at<B: Group, C: Client, R: Wait>(
     rt: &R,
     shared: &Shared<B>,
-    desk: &mut Desk<B, C>,
+    chair: &mut Chair<B, C>,
     builder: &BuilderEnd<B>,
 )
-    ensures seat { KeepsSeat desk.old.seat desk.new.seat }
-    ensures worked { C.works desk.old.client desk.new.client desk.old.seat desk.new.seat }
+    ensures seat { KeepsSeat chair.old.seat chair.new.seat }
+    ensures worked { C.works chair.old.client chair.new.client chair.old.seat chair.new.seat }
 {
-    desk.client.work(rt, shared, &mut desk.seat, builder);
+    chair.client.work(rt, shared, &mut chair.seat, builder);
 }
 
 // Runs the clients and the three loops, each in a thread. Where a thread is wanting, the flusher's part comes back as
@@ -303,17 +303,17 @@ fn run_all<
 >(
     rt: &R,
     shared: &Shared<B>,
-    desks: Vec<Desk<B, C>>,
+    chairs: Vec<Chair<B, C>>,
     flush: FlushPart<B, D>,
     build: BuildPart<B>,
     clean: CleanPart<B>,
-) -> Result<Ended<B, D, Vec<Desk<B, C>>>, FlushPart<B, D>>
-    ensures len { IfOk result (λ e. vec_len e.clients ≡ vec_len desks) }
-    ensures seats { IfOk result (λ e. (k : ℕ) (d : _) → k < vec_len desks
-        → KeepsSeat (slice_index_or desks.items k d).seat (slice_index_or e.clients.items k d).seat) }
-    ensures worked { IfOk result (λ e. (k : ℕ) (d : _) → k < vec_len desks
-        → C.works (slice_index_or desks.items k d).client (slice_index_or e.clients.items k d).client
-        (slice_index_or desks.items k d).seat (slice_index_or e.clients.items k d).seat) }
+) -> Result<Ended<B, D, Vec<Chair<B, C>>>, FlushPart<B, D>>
+    ensures len { IfOk result (λ e. vec_len e.clients ≡ vec_len chairs) }
+    ensures seats { IfOk result (λ e. (k : ℕ) (d : _) → k < vec_len chairs
+        → KeepsSeat (slice_index_or chairs.items k d).seat (slice_index_or e.clients.items k d).seat) }
+    ensures worked { IfOk result (λ e. (k : ℕ) (d : _) → k < vec_len chairs
+        → C.works (slice_index_or chairs.items k d).client (slice_index_or e.clients.items k d).client
+        (slice_index_or chairs.items k d).seat (slice_index_or e.clients.items k d).seat) }
     ensures going { IfOk result (λ e. GoesOn D.past_of D.failures B.site.opened flush e.flush) }
     ensures told { IfOk result (λ e. TellsBuild B.site.opened e.built) }
     ensures back { IfErr result (λ part. part ≡ flush) }
@@ -328,14 +328,14 @@ fn run_all<
         clean,
         builder,
         &NoGate,
-        move || -> Vec<Desk<B, C>>
-            ensures len { vec_len result ≡ vec_len desks }
-            ensures seats { (k : ℕ) (d : _) → k < vec_len desks
-                → KeepsSeat (slice_index_or desks.items k d).seat (slice_index_or result.items k d).seat }
-            ensures worked { (k : ℕ) (d : _) → k < vec_len desks
-                → C.works (slice_index_or desks.items k d).client (slice_index_or result.items k d).client
-                (slice_index_or desks.items k d).seat (slice_index_or result.items k d).seat }
-        { work_all(rt, shared, desks, builder) },
+        move || -> Vec<Chair<B, C>>
+            ensures len { vec_len result ≡ vec_len chairs }
+            ensures seats { (k : ℕ) (d : _) → k < vec_len chairs
+                → KeepsSeat (slice_index_or chairs.items k d).seat (slice_index_or result.items k d).seat }
+            ensures worked { (k : ℕ) (d : _) → k < vec_len chairs
+                → C.works (slice_index_or chairs.items k d).client (slice_index_or result.items k d).client
+                (slice_index_or chairs.items k d).seat (slice_index_or result.items k d).seat }
+        { work_all(rt, shared, chairs, builder) },
     );
     match ran {
         Ok((ended, _)) => Ok(ended),
@@ -370,51 +370,51 @@ fn close<B: Group, D: Device, R: Wait>(
 
 // No horizon that a seat has read is above the last that was published, and the mark that it has read is of a moment at
 // which the horizon was published that it had seen. Nothing changes but the names of the seats' views.
-fn settle_desk<B: Group, C, D: Device>(
+fn settle_chair<B: Group, C, D: Device>(
     shared: &Shared<B>,
-    desk: &mut Desk<B, C>,
+    chair: &mut Chair<B, C>,
     flush: &mut FlushPart<B, D>,
 )
     ensures same { flush.new ≡ flush.old }
-    ensures client { desk.new.client ≡ desk.old.client }
-    ensures number { desk.new.seat.number ≡ desk.old.seat.number }
-    ensures seat { unnamed desk.new.seat ≡ unnamed desk.old.seat }
-    ensures seen { desk.old.seat.sight.horizon ≤ flush.old.published.horizon }
-    ensures marked { IsSafeSince D.marks flush.old.publications desk.old.seat.sight.safe desk.old.seat.sight.mark }
+    ensures client { chair.new.client ≡ chair.old.client }
+    ensures number { chair.new.seat.number ≡ chair.old.seat.number }
+    ensures seat { unnamed chair.new.seat ≡ unnamed chair.old.seat }
+    ensures seen { chair.old.seat.sight.horizon ≤ flush.old.published.horizon }
+    ensures marked { IsSafeSince D.marks flush.old.publications chair.old.seat.sight.safe chair.old.seat.sight.mark }
 {
-    let mut view = shared.another_view(&mut desk.seat);
+    let mut view = shared.another_view(&mut chair.seat);
     view.settle(shared, flush);
 }
 
 // So it is of each seat.
-fn settle_desks<B: Group, C, D: Device>(
+fn settle_chairs<B: Group, C, D: Device>(
     shared: &Shared<B>,
-    desks: &mut Vec<Desk<B, C>>,
+    chairs: &mut Vec<Chair<B, C>>,
     flush: &mut FlushPart<B, D>,
 )
     ensures same { flush.new ≡ flush.old }
-    ensures len { vec_len desks.new ≡ vec_len desks.old }
-    ensures clients { map (λ d. d.client) desks.new.items ≡ map (λ d. d.client) desks.old.items }
-    ensures seats { map (λ d. unnamed d.seat) desks.new.items ≡ map (λ d. unnamed d.seat) desks.old.items }
-    ensures all { (count : ℕ) → AreAllSeats count (map (λ d. d.seat) desks.old.items)
-        → AreAllSeats count (map (λ d. d.seat) desks.new.items) }
-    ensures seen { (k : ℕ) (d : _) → slice_get desks.old.items k ≡ Some d
+    ensures len { vec_len chairs.new ≡ vec_len chairs.old }
+    ensures clients { map (λ d. d.client) chairs.new.items ≡ map (λ d. d.client) chairs.old.items }
+    ensures seats { map (λ d. unnamed d.seat) chairs.new.items ≡ map (λ d. unnamed d.seat) chairs.old.items }
+    ensures all { (count : ℕ) → AreAllSeats count (map (λ d. d.seat) chairs.old.items)
+        → AreAllSeats count (map (λ d. d.seat) chairs.new.items) }
+    ensures seen { (k : ℕ) (d : _) → slice_get chairs.old.items k ≡ Some d
         → d.seat.sight.horizon ≤ flush.old.published.horizon }
-    ensures marked { (k : ℕ) (d : _) → slice_get desks.old.items k ≡ Some d
+    ensures marked { (k : ℕ) (d : _) → slice_get chairs.old.items k ≡ Some d
         → IsSafeSince D.marks flush.old.publications d.seat.sight.safe d.seat.sight.mark }
 {
-    for k in 0..desks.len() {
-        let desk = &mut desks[k];
-        settle_desk(shared, desk, flush);
+    for k in 0..chairs.len() {
+        let chair = &mut chairs[k];
+        settle_chair(shared, chair, flush);
     }
 }
 
-// What is left once clients and loops have ended.
-fn end<B: Group, C: Drop, D: Device, R: Wait>(
+/// What is left once clients and loops have ended.
+pub(crate) fn end<B: Group, C: Drop, D: Device, R: Wait>(
     rt: &R,
     alloc: Global,
     shared: Shared<B>,
-    ended: Ended<B, D, Vec<Desk<B, C>>>,
+    ended: Ended<B, D, Vec<Chair<B, C>>>,
     room: Room<B, C>,
 ) -> Served<C, D>
     requires seats { AreAllSeats B.site.seats (map (λ d. d.seat) ended.clients.items) }
@@ -440,15 +440,15 @@ fn end<B: Group, C: Drop, D: Device, R: Wait>(
     ensures order { result.clients.items ≡ map (λ d. d.client) ended.clients.items }
 {
     let Ended {
-        clients: mut desks,
+        clients: mut chairs,
         mut flush,
         build,
         clean,
         built,
         ..
     } = ended;
-    settle_desks(&shared, &mut desks, &mut flush);
-    let room = parted(desks, room);
+    settle_chairs(&shared, &mut chairs, &mut flush);
+    let room = parted(chairs, room);
     let Room {
         clients,
         seats,
@@ -470,12 +470,12 @@ fn end<B: Group, C: Drop, D: Device, R: Wait>(
     }
 }
 
-// Gives each client a seat, and makes room for both, if there is memory.
-fn seated<B: Group, C: Drop>(
+/// Gives each client a seat, and makes room for both, if there is memory.
+pub(crate) fn seated<B: Group, C: Drop>(
     alloc: Global,
     seats: Vec<Seat<B>>,
     clients: Vec<C>,
-) -> Result<(Vec<Desk<B, C>>, Room<B, C>), AllocError>
+) -> Result<(Vec<Chair<B, C>>, Room<B, C>), AllocError>
     ensures seats { IfOk result (λ r. map (λ d. d.seat) r.0.items ≡ seats.items) }
     ensures clients { IfOk result (λ r. vec_len r.0 ≡ vec_len clients) }
     ensures order { IfOk result (λ r. map (λ d. d.client) r.0.items ≡ clients.items) }
@@ -483,9 +483,9 @@ fn seated<B: Group, C: Drop>(
     ensures places { IfOk result (λ r. HasRoom r.1.seats (vec_len r.0)) }
     ensures marks { IfOk result (λ r. HasRoom r.1.marks (vec_len r.0)) }
 {
-    let desks = desks_of(alloc, seats, clients)?;
-    let room = room_for(alloc, desks.len())?;
-    Ok((desks, room))
+    let chairs = chairs_of(alloc, seats, clients)?;
+    let room = room_for(alloc, chairs.len())?;
+    Ok((chairs, room))
 }
 
 // Seats the clients, and lets them work.
@@ -526,7 +526,7 @@ fn seat_all<
         clean,
     } = parts;
     match seated(alloc, seats, clients) {
-        Ok((desks, room)) => match run_all(rt, &shared, desks, flush, build, clean) {
+        Ok((chairs, room)) => match run_all(rt, &shared, chairs, flush, build, clean) {
             Ok(ended) => {
                 ended.flush.stands();
                 let seen = see(ended.flush.device());

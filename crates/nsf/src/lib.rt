@@ -62,7 +62,30 @@
 //! # Many threads
 //!
 //! Each client has a thread of its own and a seat of its own; other threads build the index, clean it and write to the
-//! device.
+//! device. Where clients commit and wait for that, `serve_led` is the call: each writes what it waits for itself, while
+//! nobody else writes. A client's calls are then those of its connection, and for all else those of what is shared.
+//!
+//! ```
+//! impl LedClient for Put {
+//!     fn work<B: Group, R: Wait, W: Waiting<B>>(
+//!         &mut self,
+//!         connection: &Connection<'_, B, R, W>,
+//!         seat: &mut Seat<B>,
+//!     ) {
+//!         self.refused = connection.put(seat, self.key, self.body).err();
+//!     }
+//! }
+//!
+//! match serve_led(rt, alloc, disk, clients) {
+//!     Ok(served) => ..,
+//!     Err((error, disk)) => ..,
+//! }
+//! ```
+//!
+//! A refusal of `put` and `commit` tells whether nothing was committed, or what is committed may be lost.
+//!
+//! Clients that seldom wait are better served by `serve`. There a thread of its own writes as soon as there is
+//! something, and clients wait by `await_ack` of what is shared. This one makes a transaction of several steps.
 //!
 //! ```
 //! impl Put {
@@ -135,14 +158,14 @@
 //! }
 //! ```
 //!
-//! A client may say by a ghost member `works` what its work makes of it, where it finds its seat so and leaves it so;
-//! this one says nothing. One that keeps a number as `safe` says `after.safe ≤ last.sight.horizon`: then that record
-//! isn't lost. One that says `after.safe ≤ last.sight.safe` keeps it at any moment since the mark that its seat has
-//! read last.
+//! A client of either kind may say by a ghost member `works` what its work makes of it, where it finds its seat so and
+//! leaves it so; these say nothing. One that keeps a number as `safe` says `after.safe ≤ last.sight.horizon`: then that
+//! record isn't lost. One that says `after.safe ≤ last.sight.safe` keeps it at any moment since the mark that its seat
+//! has read last.
 //!
-//! A client's crate needs no proof of its own for the types that threads share: `serve` picks the group, and starts the
-//! threads. Where a client calls in a loop, the loop's invariant says that the seat is the same one, in a file
-//! `Invariants.antt` of the function:
+//! A client's crate needs no proof of its own for the types that threads share: `serve` and `serve_led` pick the group,
+//! and start the threads. Where a client calls in a loop, the loop's invariant says that the seat is the same one, in a
+//! file `Invariants.antt` of the function:
 //!
 //! ```antt
 //! abbrev pub invariant-loop-key : goal.invariant-loop-key
@@ -173,42 +196,121 @@
 //!
 //! Of one thread: the contracts of `restart`, and above them `live_through` and `live_on` of `headline`.
 //!
-//! Of many: all clients of `serve` have worked, each with a new seat of its own. Then a crash leaves what was opened
-//! with the commits of these seats set over it, up to some record. That isn't before any horizon that one of the seats
-//! has read; and where nothing was refused, it has all (`leaves`). Nor is it before one at any moment since `see` was
-//! called, once clients and loops had ended (`leaves` of `serve_and_see`). At any moment since the one that a mark is
-//! of which a seat has read, it isn't before the horizon that this seat had seen then (`marked`). What was left may be
-//! opened again (the law `left_by_threads`). Why not all was written is told (`why`), and how the builder ended. Above
-//! it stands `live_beside` of `headline`. Only tested (`test_nsf`): `fill`, and `Put`.
+//! Of many: all clients of `serve` or `serve_led` have worked, each with a new seat of its own. Then a crash leaves
+//! what was opened with the commits of these seats set over it, up to some record. That isn't before any horizon that
+//! one of the seats has read; and where nothing was refused, it has all (`leaves`). Nor is it before one at any
+//! moment since `see` was called, once clients and loops had ended (`leaves` of `serve_and_see`). At any moment since
+//! the one that a mark is of which a seat has read, it isn't before the horizon that this seat had seen then
+//! (`marked`). What was left may be opened again (the law `left_by_threads`). Why not all was written is told
+//! (`why`), and how the builder ended. Above `serve` stands `live_beside` of `headline`. Only tested (`test_nsf`):
+//! `fill`, and both kinds of `Put`.
+//!
+//! Lemmas that crates above may cite, in `proofs`: `SeatOrders` (of `threads_lifetime`).
 #![tactic(auto)]
 
 mod clients;
+mod connection;
 mod files;
+mod led;
 
-pub use clients::{Client, Served, serve, serve_and_see};
-pub use core_committed::{each_committed, find_committed, get_committed, scan_committed};
-pub use core_scan::{KeyRange, Page, count, each_page, each_reading, each_visible, scan};
-pub use files::{FileError, create_store, open_or_create};
+pub use clients::Client;
+pub use clients::Served;
+pub use clients::serve;
+pub use clients::serve_and_see;
+pub use connection::CommitError;
+pub use connection::Connection;
+pub use connection::PutError;
+pub use connection::Waiting;
+pub use core_committed::each_committed;
+pub use core_committed::find_committed;
+pub use core_committed::get_committed;
+pub use core_committed::scan_committed;
+pub use core_scan::KeyRange;
+pub use core_scan::Page;
+pub use core_scan::count;
+pub use core_scan::each_page;
+pub use core_scan::each_reading;
+pub use core_scan::each_visible;
+pub use core_scan::scan;
+pub use files::FileError;
+pub use files::create_store;
+pub use files::open_or_create;
+pub use led::LedClient;
+pub use led::serve_led;
 pub use model::Life;
-pub use nsf_core::{BuildReply, CleanReply, Core, Ticket};
-pub use records::{
-    BODY_MAX, Body, Error, Geometry, KEY_MAX, Key, Mark, Pair, Rid, Row, SLOTS_PER_PAGE, Txn,
-};
-pub use restart::{Engine, Event, MigrateError, Reply, every_story, migrate, restart};
-pub use sector_device::{Device, Failed, Fate, FaultDisk, MemDisk, SECTOR_SIZE, Which};
-pub use shared::{
-    Ack, BuildPart, Change, CleanPart, Group, GroupView, Keeping, Kept as KeptCommits, LoopParts,
-    Placed, Refusal, Seat, Shared, Told as ToldCommits, each_refusal,
-};
+pub use nsf_core::BuildReply;
+pub use nsf_core::CleanReply;
+pub use nsf_core::Core;
+pub use nsf_core::Ticket;
+pub use records::BODY_MAX;
+pub use records::Body;
+pub use records::Error;
+pub use records::Geometry;
+pub use records::KEY_MAX;
+pub use records::Key;
+pub use records::Mark;
+pub use records::Pair;
+pub use records::Rid;
+pub use records::Row;
+pub use records::SLOTS_PER_PAGE;
+pub use records::Txn;
+pub use restart::Engine;
+pub use restart::Event;
+pub use restart::MigrateError;
+pub use restart::Reply;
+pub use restart::every_story;
+pub use restart::migrate;
+pub use restart::restart;
+pub use sector_device::Device;
+pub use sector_device::Failed;
+pub use sector_device::Fate;
+pub use sector_device::FaultDisk;
+pub use sector_device::MemDisk;
+pub use sector_device::SECTOR_SIZE;
+pub use sector_device::Which;
+pub use shared::Ack;
+pub use shared::BuildPart;
+pub use shared::Change;
+pub use shared::CleanPart;
+pub use shared::Group;
+pub use shared::GroupView;
+pub use shared::Keeping;
+pub use shared::Kept as KeptCommits;
+pub use shared::LoopParts;
+pub use shared::Memory;
+pub use shared::Placed;
+pub use shared::Refusal;
+pub use shared::Seat;
+pub use shared::Shared;
+pub use shared::Told as ToldCommits;
+pub use shared::each_refusal;
 pub use store_file as file;
-pub use store_moving::{NotVersionOne, old_geometry};
+pub use store_moving::NotVersionOne;
+pub use store_moving::old_geometry;
 pub use threads_flusher::FlushPart;
-pub use threads_lifetime::{
-    Closed, OpenError, OpenStore, Parts, finish, format_store, left_by_a_run, left_by_an_opening,
-    left_by_threads, let_go, open_engine, open_store, sound_or_not,
-};
-pub use threads_loops::{
-    BuilderEnd, Ended, Gate, NoGate, NoThread, NotRun, Point, Told, build_loop, clean_loop,
-    flush_loop, run_beside,
-};
+pub use threads_leader::BuilderEnd;
+pub use threads_leader::Ended;
+pub use threads_leader::Gate;
+pub use threads_leader::NoGate;
+pub use threads_leader::NoThread;
+pub use threads_leader::NotRun;
+pub use threads_leader::Point;
+pub use threads_leader::Told;
+pub use threads_leader::build_loop;
+pub use threads_leader::clean_loop;
+pub use threads_leader::flush_loop;
+pub use threads_leader::run_beside;
+pub use threads_lifetime::Closed;
+pub use threads_lifetime::OpenError;
+pub use threads_lifetime::OpenStore;
+pub use threads_lifetime::Parts;
+pub use threads_lifetime::finish;
+pub use threads_lifetime::format_store;
+pub use threads_lifetime::left_by_a_run;
+pub use threads_lifetime::left_by_an_opening;
+pub use threads_lifetime::left_by_threads;
+pub use threads_lifetime::let_go;
+pub use threads_lifetime::open_engine;
+pub use threads_lifetime::open_store;
+pub use threads_lifetime::sound_or_not;
 pub use threads_sessions::Commit;

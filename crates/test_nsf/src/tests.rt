@@ -2,6 +2,7 @@
 use crate::busy::serve_the_busy;
 use crate::claims::{claim, claim_at};
 use crate::full_index::serve_a_crowd;
+use crate::led::put_led;
 use crate::many_threads::put_two;
 use crate::one_thread::{filled, holds_each};
 use crate::recorded::Stop;
@@ -25,6 +26,21 @@ fn is_each_found<R: Threads + Wait + Sync>(rt: &R, alloc: Global) -> Result<bool
 #[test]
 fn threads_go_on_with_what_one_thread_left(rt: HostRuntime) -> Result<(), OpenError> {
     let found = is_each_found(&rt, rt.alloc())?;
+    claim(&rt, found, "each row once");
+    Ok(())
+}
+
+// Threads write what they wait for themselves, over a store with a row. Whether each row is found once behind a crash.
+fn is_each_found_led<R: Threads + Wait + Sync>(rt: &R, alloc: Global) -> Result<bool, OpenError> {
+    let disk = filled(alloc)?;
+    let mut disk = put_led(rt, alloc, disk, &[b"bee", b"cat"])?;
+    disk.crash(&[Fate::Junk]);
+    Ok(holds_each(alloc, disk, &KEYS)?)
+}
+
+#[test]
+fn threads_write_what_they_wait_for(rt: HostRuntime) -> Result<(), OpenError> {
+    let found = is_each_found_led(&rt, rt.alloc())?;
     claim(&rt, found, "each row once");
     Ok(())
 }

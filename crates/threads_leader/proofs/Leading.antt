@@ -7,9 +7,9 @@ use Rattle.core_model.specs.Histories.{Opened}
 use Rattle.sector_device.specs.DevicePast.{DevicePast}
 use Rattle.store_writer.specs.Parts.{copying_of, has_failed}
 use Rattle.store_writer.specs.declared.copying.Copying.TheVariants.{Idle}
-use Rattle.threads_flusher.specs.Going.{LeavesImage}
-use Rattle.threads_flusher.specs.Part.{FlushValue, IsFlusher, LooksForStop}
-use Rattle.threads_flusher.proofs.Taking.{took_look}
+use Rattle.threads_loops.specs.Going.{LeavesImage}
+use Rattle.threads_loops.specs.Part.{FlushValue, IsFlusher, LooksForStop}
+use Rattle.threads_loops.proofs.Taking.{took_look}
 use Rattle.threads_loops.specs.Copying.{StandsBy}
 use Rattle.threads_loops.specs.Through.{HasFlushed, PassesThrough, RunsThrough}
 use Rattle.threads_loops.proofs.Rounds.{stands_by_taking}

@@ -3,8 +3,8 @@ use Rattle.std.proofs.Common.{◌≡◌, true, false, inl, inr, sym, ap, ◌∙�
 use Rattle.board.specs.Views.{leaves_as, stays_as}
 use Rattle.core_parts.specs.declared.parts.Ticket.{Ticket}
 use Rattle.record_values.specs.declared.error.Error.{Error}
-use Rattle.shared.specs.Seats.{AckValue, SeatValue}
-use Rattle.shared.specs.Waits.{HasReadWhy, IsAcked, IsNotAcked}
+use Rattle.threads_loops.specs.Seats.{AckValue, SeatValue}
+use Rattle.threads_loops.specs.Waits.{HasReadWhy, IsAcked, IsNotAcked}
 
 -- nothing but a horizon was seen, and whether the failed flag was read behind it
 abbrev pub HasLooked : (before after : SeatValue) → Type 0

@@ -2,7 +2,7 @@
 use Rattle.std.specs.Prelude.{◌≡◌, ℕ, Option, Some}
 use Rattle.core_model.specs.Histories.{Opened}
 use Rattle.sector_device.specs.DevicePast.{DevicePast}
-use Rattle.threads_flusher.specs.Part.{FlushValue}
+use Rattle.threads_loops.specs.Part.{FlushValue}
 use Rattle.threads_loops.specs.Copying.{StandsBy}
 use Rattle.threads_loops.specs.Through.{RunsThrough}
 

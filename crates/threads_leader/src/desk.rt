@@ -2,7 +2,7 @@
 ghost use Rattle.std.specs.Prelude.{◌≡◌, ◌≤◌, IfErr, IfOk, OnOk, Some, false, true};
 ghost use Rattle.record_values.specs.declared.error.Error.TheVariants.{DeviceFailed};
 ghost use Rattle.store_writer.specs.Parts.{has_failed};
-ghost use Rattle.shared.specs.Waits.{IsAcked, IsNotAcked};
+ghost use Rattle.threads_loops.specs.Waits.{IsAcked, IsNotAcked};
 ghost use Rattle.threads_loops.specs.Through.{HasFlushed};
 ghost use Rattle.threads_leader.specs.Led.{IsLed};
 
@@ -12,13 +12,13 @@ use crate::turn::{Led, Turn};
 use nsf_core::Ticket;
 use records::Error;
 use sector_device::Device;
-use shared::{Ack, Group, Keeping, Memory, Seat, Shared};
 use std::alloc::Global;
 use std::mem::forget;
 use std::sync::atomic::{AtomicU64, Ordering};
 use std::sync::{Mutex, MutexGuard, Wait};
-use threads_flusher::FlushPart;
-use threads_loops::{Flushed, Flushing, Gate, NoGate};
+use threads_loops::{
+    Ack, FlushPart, Flushed, Flushing, Gate, Group, Keeping, Memory, NoGate, Seat, Shared,
+};
 
 /// Where the flusher's part of a run lies, under a lock of its own, from its beginning to its end. A thread that has
 /// the lock may make a round with it, as the flusher's thread does; so a seat that waits for its commit need not wait

@@ -10,6 +10,9 @@
 //! `DeviceFailed` where it has (`sound`, `failed`). `Desk::await_ack` answers as `Shared::await_ack` does (`acked`,
 //! `refused`). Neither: that a seat or a thread makes a round, that what nobody waits for is written in some time, and
 //! that a call returns.
+//!
+//! Lemmas that crates above may cite, in `proofs`: `BuilderEnds` and `Crosses`, both of `threads_loops`. What they need
+//! of that crate comes with this one.
 #![tactic(auto)]
 
 mod course;
@@ -21,3 +24,7 @@ mod turn;
 pub use course::Course;
 pub use desk::Desk;
 pub use run::run_led;
+pub use threads_loops::{
+    BuilderEnd, Ended, Gate, NoGate, NoThread, NotRun, Point, Told, build_loop, clean_loop,
+    flush_loop, run_beside,
+};

@@ -2,7 +2,7 @@
 ghost use Rattle.std.specs.Prelude.{◌≡◌, Some, IfErr, IfOk, OnOk, false, true};
 ghost use Rattle.record_values.specs.declared.error.Error.TheVariants.{DeviceFailed};
 ghost use Rattle.store_writer.specs.Parts.{has_failed};
-ghost use Rattle.threads_flusher.specs.Going.{GoesOn};
+ghost use Rattle.threads_loops.specs.Going.{GoesOn};
 ghost use Rattle.threads_loops.specs.Building.{BuildsOn, reason_of};
 ghost use Rattle.threads_loops.specs.Telling.{IsToldBy};
 ghost use Rattle.threads_loops.specs.Through.{RunsThrough};
@@ -10,12 +10,12 @@ ghost use Rattle.threads_loops.specs.Through.{RunsThrough};
 use crate::course::Course;
 use crate::desk::Desk;
 use sector_device::Device;
-use shared::{BuildPart, CleanPart, Group, Shared};
 use std::alloc::Global;
 use std::sync::Wait;
 use std::thread::Threads;
-use threads_flusher::FlushPart;
-use threads_loops::{BuilderEnd, Ended, Gate, NotRun, Told, run_with};
+use threads_loops::{
+    BuildPart, BuilderEnd, CleanPart, Ended, FlushPart, Gate, Group, NotRun, Shared, Told, run_with,
+};
 
 /// As `run_beside` of `threads_loops`, of which each clause stands here too, word for word. But the flusher's part lies
 /// on a desk, where a seat that waits by `Desk::await_ack` writes itself while nobody else does. The flusher's thread

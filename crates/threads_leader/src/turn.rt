@@ -4,12 +4,10 @@ ghost use Rattle.threads_leader.specs.Led.{IsLed};
 
 use crate::course::Course;
 use sector_device::Device;
-use shared::{Group, Memory, Shared};
 use std::alloc::Global;
 use std::marker::{Model, PhantomData};
 use std::sync::Wait;
-use threads_flusher::FlushPart;
-use threads_loops::{Found, Gate, RoundsMade, flush_round};
+use threads_loops::{FlushPart, Found, Gate, Group, Memory, RoundsMade, Shared, flush_round};
 
 /// What came of it that a thread was to make a round.
 #[derive(Clone, Copy)]

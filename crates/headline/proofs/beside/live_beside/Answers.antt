@@ -3,7 +3,7 @@ use Rattle.record_values.specs.GeometryValue.{sectors_of}
 use Rattle.record_values.specs.declared.error.Error.TheVariants.{DeviceTooSmall, TooManyTxns}
 use Rattle.model.specs.Given.{nothing}
 use Rattle.sector_device.specs.DevicePast.{Rises}
-use Rattle.threads_lifetime.specs.declared.refusal.OpenError.TheVariants.{Refused}
+use Rattle.nsf.specs.OpenErrors.TheVariants.{Refused}
 use Rattle.headline.specs.AtRest.{resting}
 use Rattle.headline.proofs.Holding.{at_once, err_at, neither, none_lived, ok_at, unopened_small}
 use Rattle.headline.proofs.Shared.{never, not_lived, unopened_many}

@@ -1,6 +1,6 @@
 use Rattle.std.proofs.Common.{arith, sym, subst, ◌∙◌, ◌≤◌, ℕ, IfSome}
 use Rattle.store_writer.specs.Parts.{device_of, halves_of, has_failed, synced_of}
-use Rattle.threads_flusher.specs.Part.{popped_by}
+use Rattle.nsf.specs.Part.{popped_by}
 use Rattle.headline.specs.Seats.{IsUnwritten}
 use Rattle.headline.proofs.Opened.{held, held_all, refused_so}
 use Rattle.headline.proofs.closed.finish_and_open.Goals as goal

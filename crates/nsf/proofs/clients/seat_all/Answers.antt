@@ -16,7 +16,7 @@ use Rattle.nsf.proofs.clients.seat_all.Goals as goal
 pub end-requires-clause-seats : goal.end-requires-clause-seats
 end-requires-clause-seats g c =
     let z = g.B.Group.site in
-    all_left (λ d. d.seat) z.seats c.in-Ok.desks c.in-Ok-run_all.ended.clients
+    all_left (λ d. d.seat) z.seats c.in-Ok.chairs c.in-Ok-run_all.ended.clients
     (subst (λ (items : List SeatValue). AreAllSeats z.seats items) (sym c.in-Ok.ensures.seats)
     (all_new z.board z.seats c.args.parts.seats.items c.requires.seats))
     c.in-Ok-run_all.ensures.len (λ k d within. (c.in-Ok-run_all.ensures.seats k d within).number)
@@ -62,10 +62,10 @@ returns-in-Ok-run_all-clause-leaves g c =
             publications leaves.published before c.end.ensures.goes);
         worked =
             subst (λ (clients : List _). HaveWorked works floor clients c.end.result.clients.items left.0) c.in-Ok.ensures.order
-            (subst (λ (after : List _). HaveWorked works floor (map (λ d. d.client) c.in-Ok.desks.items) after left.0) (sym c.end.ensures.order)
-            (all_worked (λ d. d.client) (λ d. d.seat) works floor c.in-Ok.desks c.in-Ok-run_all.ended.clients left.0 c.in-Ok-run_all.ensures.len
-            left.1 (new_session (λ d. d.seat) z.board z.seats c.args.parts.seats.items c.in-Ok.desks.items c.in-Ok.ensures.seats c.requires.seats)
-            (new_unused (λ d. d.seat) z.board z.seats c.args.parts.seats.items c.in-Ok.desks.items c.in-Ok.ensures.seats c.requires.seats)
+            (subst (λ (after : List _). HaveWorked works floor (map (λ d. d.client) c.in-Ok.chairs.items) after left.0) (sym c.end.ensures.order)
+            (all_worked (λ d. d.client) (λ d. d.seat) works floor c.in-Ok.chairs c.in-Ok-run_all.ended.clients left.0 c.in-Ok-run_all.ensures.len
+            left.1 (new_session (λ d. d.seat) z.board z.seats c.args.parts.seats.items c.in-Ok.chairs.items c.in-Ok.ensures.seats c.requires.seats)
+            (new_unused (λ d. d.seat) z.board z.seats c.args.parts.seats.items c.in-Ok.chairs.items c.in-Ok.ensures.seats c.requires.seats)
             c.in-Ok-run_all.ensures.worked c.end.ensures.seen));
         behind = behind_first (synced_of w) (past_of (device_of w)).moment mid.publications going.since publications going.behind;
         marked = each_left (λ d. d.seat) (IsSafeSince g.D.Device.marks mid.publications) c.in-Ok-run_all.ended.clients.items left.0 left.1 c.end.ensures.marked;

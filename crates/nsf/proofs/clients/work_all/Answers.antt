@@ -1,8 +1,8 @@
 use denote.Param.{param}
 use denote.Param.Send.{sendable}
 use Rattle.std.proofs.Crossing.{crosses}
-use Rattle.threads_loops.proofs.Crosses.{shared_sync}
-use Rattle.threads_loops.proofs.builder_end.BuilderEnd.TheSendSync as builder_end
+use Rattle.threads_leader.proofs.Crosses.{shared_sync}
+use Rattle.threads_leader.proofs.BuilderEnds as builder_end
 use Rattle.nsf.proofs.clients.work_all.Goals as goal
 
 pub for_each_mut-requires-sync-F : goal.for_each_mut-requires-sync-F
