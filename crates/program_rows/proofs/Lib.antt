@@ -1,2 +1,4 @@
+mod Outcomes
 mod PairRecords
+mod ReadLemmas
 mod RowLemmas

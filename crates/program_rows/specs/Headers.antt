@@ -4,7 +4,7 @@ use Rattle.std.specs.Prelude.{ℕ, ◌<◌, ◌≡◌, ◌≢◌, ◌⊎◌}
 use Rattle.csv.specs.Records.{field_at}
 use Rattle.program_rows.specs.Rows.{own_columns}
 use Rattle.program_rows.specs.declared.columns.HeaderError.{HeaderError}
-use Rattle.program_rows.specs.declared.columns.HeaderError.TheVariants.{Missing, NoBody, NoKey, OneColumn}
+use Rattle.program_rows.specs.declared.columns.HeaderError.TheVariants.{Missing, NoBody, NoKey, OneColumn, OpenQuote}
 use Rattle.program_rows.specs.declared.rows.Columns.{Columns}
 
 -- the first field with this name is in this column
@@ -27,6 +27,7 @@ IsLacking fields key body NoKey = HasNone fields key
 IsLacking fields key body NoBody = HasNone fields body
 IsLacking fields key body Missing = ⊥
 IsLacking fields key body OneColumn = ⊥
+IsLacking fields key body OpenQuote = ⊥
 
 -- one of the two names is in no column
 abbrev pub LacksOne : List (List ℕ) → Type 0

@@ -23,6 +23,9 @@ pub enum HeaderError {
     /// It has fewer than two fields.
     #[error("its header has one column, and a row needs two")]
     OneColumn,
+    /// The text ends within it, inside a quote.
+    #[error("a quote in its header isn't closed")]
+    OpenQuote,
 }
 
 /// The header of exported rows: `key` and `body`. The error is that memory was refused.

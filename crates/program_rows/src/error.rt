@@ -1,4 +1,6 @@
 //! Why rows aren't read, written, loaded or exported.
+ghost use Rattle.program_rows.specs.Reading.{IsReadError};
+
 use crate::columns::HeaderError;
 use csv::ErrorKind;
 use records::Error;
@@ -28,13 +30,19 @@ impl From<AllocError> for TextError {
     }
 }
 
+/// What an error of records of bytes, of any length, tells: there are no others but these two.
+pub(crate) fn error_of_text(error: csv::Error) -> TextError
+    ensures { IsReadError result }
+{
+    match error.into_kind() {
+        ErrorKind::Io(error) => TextError::Io(error),
+        _ => TextError::NoMemory,
+    }
+}
+
 impl From<csv::Error> for TextError {
-    // Records of bytes and of any length have no errors but these two.
     fn from(error: csv::Error) -> TextError {
-        match error.into_kind() {
-            ErrorKind::Io(error) => TextError::Io(error),
-            _ => TextError::NoMemory,
-        }
+        error_of_text(error)
     }
 }
 

@@ -10,6 +10,7 @@ ghost use Rattle.program_rows.specs.Rows.{own_header};
 use crate::error::{RowsError, TextError};
 use crate::text::{header_line, row_line};
 use core_scan::{KeyRange, scan};
+use model::Life;
 use nsf_core::Core;
 use records::{Pair, Rid, SLOTS_PER_PAGE};
 use std::alloc::Global;
@@ -94,7 +95,7 @@ fn print_pages<W: Write>(
 
 /// Prints a header and the record of each row, in the order of their places.
 ///
-/// The error is the output's, or that memory was refused: then a part is printed.
+/// The error is the output's, or that memory was refused: then a part is printed (which, no clause says).
 pub fn export_by_place<W: Write>(
     alloc: Global,
     core: &Core<Global>,
@@ -161,6 +162,7 @@ fn print_next<W: Write>(
         (take PAIRS (left_of (value_of core.now).index.entries all_keys last)))) }
     ensures next { IfOk result (λ next. next ≡ next_after last PAIRS
         (left_of (value_of core.now).index.entries all_keys last)) }
+    ensures complete { OnOk result ((value_of core.now).life ≡ Life.Complete) }
 {
     let page = scan(alloc, core, &all_keys(), last.as_ref(), PAIRS)?;
     print_pairs_at_once(alloc, core, page.pairs.as_slice(), output)?;
@@ -169,14 +171,16 @@ fn print_next<W: Write>(
 
 /// Prints a header and the record of each row, in the order of the index.
 ///
-/// `NoIndex`, `NotBuilt` while the index is built, and `NoMemory`: then a part is printed, or none.
+/// `NoIndex`, `NotBuilt` while the index is built, and `NoMemory`: then a part is printed, or none (what, no clause
+/// says).
 pub fn export_by_key<W: Write>(
     alloc: Global,
     core: &Core<Global>,
     output: &mut W,
 ) -> Result<(), RowsError>
-    ensures { OnOk result (Appends (W.contents output.old) (W.contents output.new)
+    ensures printed { OnOk result (Appends (W.contents output.old) (W.contents output.new)
         (text_by_key (value_of core.now))) }
+    ensures complete { OnOk result ((value_of core.now).life ≡ Life.Complete) }
 {
     print_header(alloc, output)?;
     let mut last = print_next(alloc, core, None, output)?;

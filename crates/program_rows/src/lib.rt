@@ -3,18 +3,22 @@
 //! Proved: which row a record gives, or why none (`row_of`, and `row_under` beneath a header of so many fields); the
 //! record of a row (`record_of`), and the lines of both (`line_of`, `row_line`). So are the columns of names, the first
 //! of each (`column_named`, `columns_named`), or `key` and `body`, or the first two (`default_columns`). An export
-//! prints just the rows, in the order of their places (`export_by_place`) or of the visible pairs (`export_by_key`). A
-//! `Loader` counts rows whose transaction is committed and safe (`commit`).
+//! prints just the rows, in the order of their places (`export_by_place`) or of the visible pairs (`export_by_key`).
+//!
+//! A `RowReader` begins behind the header of its text, the first record (`begins`), and gives what the records behind
+//! that give, one behind the other (`gives`); so where the bytes of the source are known, those of the text are the
+//! ones that it reads. A `Loader` inserts just the row of the record that it takes, and counts a record without one
+//! (`taken`). It counts rows whose transaction is committed and safe (`commit`), and tells what the store refused
+//! (`refused`).
 //!
 //! Laws: the record of a row gives the row, and a record of two fields is that of the row which it gives (`each_row`).
 //! What a writer writes of a row's record, a reader reads (`each_line`).
 //!
-//! Only tested: that a `RowReader` reads the records of a text one behind another, and the lines in which they begin;
-//! which rows a `Loader` inserts.
+//! Only tested: the lines in which records begin, and that a record which ends with the text inside a quote is
+//! refused. The source is watched for that: where it has ended inside a quote is proved of what was read of it.
 //!
 //! A field has the bytes of its key or body as they are. A text that begins with such a record, whose key begins with a
-//! byte order mark, is read without that: so an export begins with a header. A quote that nothing closes takes all that
-//! follows into its field.
+//! byte order mark, is read without that: so an export begins with a header.
 #![tactic(auto)]
 
 mod columns;
@@ -24,6 +28,7 @@ mod laws;
 mod loading;
 mod reading;
 mod rows;
+mod source;
 mod text;
 
 pub use columns::{HeaderError, column_named, columns_named, default_columns, header};

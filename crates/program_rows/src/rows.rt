@@ -42,6 +42,9 @@ pub enum RowError {
     /// It has another number of fields than the header.
     #[error("the header has {wanted} fields, and it {found}")]
     OtherFields { found: usize, wanted: usize },
+    /// The text ends within it, inside a quote.
+    #[error("a quote isn't closed")]
+    OpenQuote,
 }
 
 // The row with these bytes as its key and its body.

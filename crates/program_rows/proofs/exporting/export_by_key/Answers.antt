@@ -48,8 +48,8 @@ loop-last-smaller g c =
     let entries = (value_of c.args.core.now).index.entries in
     rw c.in-Some.is (fewer_left entries all_keys c.in-Some.pair PAIRS c.in_ok-last-2.last (omega arith) c.in_ok-last-2.ensures.next)
 
-pub returns : goal.returns
-returns g c =
+pub returns-clause-printed : goal.returns-clause-printed
+returns-clause-printed g c =
     let contents = g.W.Write.contents in
     let so_far = c.loop-last.invariant in
     let whole = rw c.in_default.is at so_far.2 in

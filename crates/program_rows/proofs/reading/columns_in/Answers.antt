@@ -1,0 +1,7 @@
+use Rattle.program_rows.proofs.Outcomes.{match_of}
+use Rattle.program_rows.proofs.reading.columns_in.Goals as goal
+
+pub returns-in-Some : goal.returns-in-Some
+returns-in-Some c =
+    let found = match_of c.columns_named.result _ _ c.columns_named.ensures.found c.columns_named.ensures.lacking in
+    rw c.in-Some.is (rw (c.as_bytes.ensures.value, c.as_bytes-in-Some.ensures.value) at found)
