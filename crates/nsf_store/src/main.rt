@@ -9,10 +9,25 @@ use std::{env, io};
 
 // Where `run` reads a terminal, a prompt is asked for.
 fn add_prompt(rt: &HostRuntime, words: &mut Vec<String>) -> io::Result<()> {
-    let runs = words.get(1).is_some_and(|word| word.as_str() == "run");
+    let runs = is_to(words.as_slice(), "run");
     let is_asked = words.iter().any(|word| word.as_str() == "--prompt");
     if runs && !is_asked && rt.stdin().is_terminal() {
         words.push(String::from_str(rt.alloc(), "--prompt")?)?;
+    }
+    Ok(())
+}
+
+// Whether the program is to do this.
+fn is_to(words: &[String], verb: &str) -> bool {
+    words.get(1).is_some_and(|word| word.as_str() == verb)
+}
+
+// Where `build` or `load` tells a terminal of it, progress is asked for.
+fn add_progress(rt: &HostRuntime, words: &mut Vec<String>) -> io::Result<()> {
+    let shows = is_to(words.as_slice(), "build") || is_to(words.as_slice(), "load");
+    let is_asked = words.iter().any(|word| word.as_str() == "--progress");
+    if shows && !is_asked && rt.stderr().is_terminal() {
+        words.push(String::from_str(rt.alloc(), "--progress")?)?;
     }
     Ok(())
 }
@@ -21,6 +36,7 @@ fn add_prompt(rt: &HostRuntime, words: &mut Vec<String>) -> io::Result<()> {
 fn words(rt: &HostRuntime) -> io::Result<Vec<String>> {
     let mut words = env::args(rt)?.collect(rt.alloc())?;
     add_prompt(rt, &mut words)?;
+    add_progress(rt, &mut words)?;
     Ok(words)
 }
 

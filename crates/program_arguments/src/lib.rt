@@ -8,6 +8,7 @@
 mod args;
 mod load;
 mod scan;
+mod size;
 mod store;
 mod threads;
 
@@ -32,7 +33,7 @@ pub use store::{Asked, Build, Order, Serving, Verb, read_asked};
 pub use threads::{ThreadsArguments, read_threads};
 
 /// The version of the programs.
-pub const VERSION: &str = "0.1.0";
+pub const VERSION: &str = "0.2.0";
 
 /// The most sectors that a disk may be given.
 pub const SECTORS_MAX: u32 = 100_000;

@@ -46,8 +46,8 @@ fn limit_arg<'a>(alloc: Global) -> Arg<'a> {
     option_named(alloc, "limit", "N", range, LIMIT_HELP)
 }
 
-// The verb with one argument more, if both are there.
-fn with_made_arg<'a>(
+/// The verb with one argument more, if both are there.
+pub(crate) fn with_made_arg<'a>(
     verb: Result<Command<'a>, AllocError>,
     arg: Result<Arg<'a>, AllocError>,
 ) -> Result<Command<'a>, AllocError> {

@@ -1,17 +1,17 @@
 //! What the words of the program `nsf-store` ask for.
 use crate::args::{flag_arg, program_named, with_arg};
 use crate::load::{LoadArguments, load_of, with_load_args};
-use crate::scan::{ScanArguments, scan_of, with_scan_args};
+use crate::scan::{ScanArguments, scan_of, with_made_arg, with_scan_args};
+use crate::size::{PAGES, ROWS_MAX, entries_for, pages_for, slots_for};
 use crate::{option_named, tell};
 use clap::builder::ValueParser;
 use clap::{Arg, ArgMatches, Command, Error, value_parser};
-use records::{ENTRIES_MAX, ENTRIES_MIN, LOG_SLOTS_MAX, LOG_SLOTS_MIN, PAGES_MAX, SLOTS_PER_PAGE};
+use records::{
+    ENTRIES_MIN, LARGE_ENTRIES_MAX, LARGE_LOG_SLOTS_MAX, LARGE_PAGES_MAX, LOG_SLOTS_MIN,
+};
 use std::alloc::{AllocError, Global};
 use std::convert::AsStr;
 use std::io::Write;
-
-// How many places for entries there are for each row, where nothing else is asked for.
-const ENTRIES_PER_ROW: u32 = 4;
 
 /// How an index is to be built.
 #[derive(Clone, Copy)]
@@ -144,12 +144,15 @@ const MIGRATE_ABOUT: &str =
 const SALVAGE_ABOUT: &str =
     "Puts the rows that can still be read of a damaged store into a new file, without an index, and prints what is lost. The old file is only read";
 
-const PAGES_HELP: &str = "Pages of the table, 1 to 256 [default: 16]";
+const ROWS_HELP: &str = "Makes room for so many rows, 1 to 4128768, in place of a number of pages";
+
+const PAGES_HELP: &str = "Pages of the table, each with room for 63 rows, 1 to 65536 [default: 16]";
 
 const ENTRIES_HELP: &str =
-    "Places for entries of the index, 64 to 65536 [default: four for each row that the pages hold]";
+    "Places for entries of the index, 64 to 8388608 [default: four for each row that the pages hold, if there can be so many]";
 
-const SLOTS_HELP: &str = "Slots of each log, 4 to 256 [default: 16]";
+const SLOTS_HELP: &str =
+    "Slots of each log, 4 to 16384 [default: 16, and for more than 256 pages 16 for each 1000 rows that they hold]";
 
 const BLOCKS_HELP: &str =
     "Makes a file of blocks of 4096 bytes, each with a digest, which a journal keeps whole: torn blocks are mended, and damage is told";
@@ -236,14 +239,37 @@ fn verb_with_file<'a>(
     with_arg(Ok(bare_verb(alloc, name, about)), file)
 }
 
+fn rows_arg<'a>(alloc: Global) -> Result<Arg<'a>, AllocError> {
+    number_arg(alloc, "rows", 1, ROWS_MAX, ROWS_HELP).conflicts_with("pages")
+}
+
+fn entries_arg<'a>(alloc: Global) -> Arg<'a> {
+    number_arg(
+        alloc,
+        "entries",
+        ENTRIES_MIN,
+        LARGE_ENTRIES_MAX,
+        ENTRIES_HELP,
+    )
+}
+
+fn slots_arg<'a>(alloc: Global) -> Arg<'a> {
+    number_arg(
+        alloc,
+        "slots",
+        LOG_SLOTS_MIN,
+        LARGE_LOG_SLOTS_MAX,
+        SLOTS_HELP,
+    )
+}
+
 fn new_verb<'a>(alloc: Global) -> Result<Command<'a>, AllocError> {
     let verb = verb_with_file(alloc, "new", NEW_ABOUT);
-    let pages = number_arg(alloc, "pages", 1, PAGES_MAX, PAGES_HELP);
+    let verb = with_made_arg(verb, rows_arg(alloc));
+    let pages = number_arg(alloc, "pages", 1, LARGE_PAGES_MAX, PAGES_HELP);
     let verb = with_arg(verb, pages);
-    let entries = number_arg(alloc, "entries", ENTRIES_MIN, ENTRIES_MAX, ENTRIES_HELP);
-    let verb = with_arg(verb, entries);
-    let slots = number_arg(alloc, "slots", LOG_SLOTS_MIN, LOG_SLOTS_MAX, SLOTS_HELP);
-    let verb = with_arg(verb, slots);
+    let verb = with_arg(verb, entries_arg(alloc));
+    let verb = with_arg(verb, slots_arg(alloc));
     with_arg(verb, flag_arg(alloc, "blocks", BLOCKS_HELP))
 }
 
@@ -318,20 +344,20 @@ fn number_in(matches: &ArgMatches<'_>, name: &str, default: u32) -> u32 {
     matches.get_one::<u32>(name).unwrap_or(default)
 }
 
-// As many entries as a store of so many pages is given where nothing else is asked for.
-fn entries_for(pages: u32) -> u32 {
-    pages
-        .saturating_mul(u32::from(SLOTS_PER_PAGE))
-        .saturating_mul(ENTRIES_PER_ROW)
-        .clamp(ENTRIES_MIN, ENTRIES_MAX)
+// The pages that are asked for, or those for the rows that are.
+fn pages_in(matches: &ArgMatches<'_>) -> u32 {
+    match matches.get_one::<u32>("rows") {
+        Some(rows) => pages_for(rows),
+        None => number_in(matches, "pages", PAGES),
+    }
 }
 
 fn new_of(matches: &ArgMatches<'_>) -> Verb {
-    let pages = number_in(matches, "pages", 16);
+    let pages = pages_in(matches);
     Verb::New {
         pages,
         entries: number_in(matches, "entries", entries_for(pages)),
-        slots: number_in(matches, "slots", 16),
+        slots: number_in(matches, "slots", slots_for(pages)),
         has_blocks: matches.get_flag("blocks"),
     }
 }

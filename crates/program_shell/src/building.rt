@@ -1,12 +1,13 @@
 //! The index of a store is built to its end, or anew.
 use crate::refused::{Refused, granted};
 use model::Life;
-use nsf_core::BuildReply;
+use nsf_core::{BuildReply, Core};
 use program_arguments::Build;
 use program_commands::Store;
-use records::Error;
+use records::{Error, Pair, Rid, Row, SLOTS_PER_PAGE, compare_pairs};
 use restart::{Event, Reply};
 use sector_device::Device;
+use std::alloc::Global;
 use std::io::Write;
 
 // How many steps of the builder lie between two flushes.
@@ -48,9 +49,44 @@ fn build_some<D: Device>(store: &mut Store<D>) -> Result<(bool, u64), Refused> {
     Ok((false, attempts))
 }
 
-// Shows how many pairs were attempted, over the line before, where that can be.
-fn show<E: Write>(attempts: u64, errors: &mut E) {
-    let _ = write!(errors, "\rpairs attempted: {attempts}");
+// Whether the builder has still to attempt the pair of a row at a place, behind the highest that it checkpointed.
+fn is_left(row: &Row, rid: Rid, highest: Option<&Pair>) -> bool {
+    match highest {
+        Some(highest) => {
+            let pair = Pair { key: row.key, rid };
+            compare_pairs(highest, &pair).is_lt()
+        }
+        None => true,
+    }
+}
+
+// How many pairs the builder has still to attempt in a page.
+fn left_in_page(core: &Core<Global>, page: u32, highest: Option<&Pair>) -> u64 {
+    let mut left: u64 = 0;
+    for slot in 0..SLOTS_PER_PAGE {
+        let rid = Rid { page, slot };
+        if let Some(row) = core.get(rid) {
+            left = left.saturating_add(u64::from(is_left(&row, rid, highest)));
+        }
+    }
+    left
+}
+
+// How many pairs the builder has still to attempt.
+fn left_in(core: &Core<Global>) -> u64 {
+    let Life::Building { highest } = core.life() else {
+        return 0;
+    };
+    let mut left: u64 = 0;
+    for page in 0..core.pages() {
+        left = left.saturating_add(left_in_page(core, page, highest.as_ref()));
+    }
+    left
+}
+
+// Shows how many pairs were attempted of how many, over the line before, where that can be.
+fn show<E: Write>(attempts: u64, total: u64, errors: &mut E) {
+    let _ = write!(errors, "\rpairs attempted: {attempts} of {total}");
 }
 
 // Builds the index to its end, flushing as it goes, and shows the count of attempts where that is wanted.
@@ -59,13 +95,14 @@ fn build_on<D: Device, E: Write>(
     shows_progress: bool,
     errors: &mut E,
 ) -> Result<u64, Refused> {
+    let total = left_in(store.core());
     let mut attempts: u64 = 0;
     for _ in 0..u64::MAX {
         let (is_complete, more) = build_some(store)?;
         attempts = attempts.saturating_add(more);
         granted(store.flush())?;
         if shows_progress {
-            show(attempts, errors);
+            show(attempts, total, errors);
         }
         if is_complete {
             break;

@@ -43,10 +43,30 @@ fn why_not<D: Troubled>(error: RowsError, device: &D) -> NotLoaded {
     }
 }
 
-// Shows how many rows are safe, where that is wanted. What is written next takes the place of that.
-fn show<E: Write>(loaded: u64, shows_progress: bool, errors: &mut E) {
-    if shows_progress {
-        let _ = write!(errors, "rows loaded: {loaded}\r");
+// What is shown of how far a load is.
+#[derive(Clone, Copy)]
+struct Progress {
+    is_shown: bool,
+    // How many bytes the text has.
+    length: u64,
+}
+
+// How many hundredths of the text so many bytes are.
+fn percent_of(bytes: u64, length: u64) -> u64 {
+    if length == 0 {
+        return 100;
+    }
+    bytes.min(length).saturating_mul(100) / length
+}
+
+impl Progress {
+    // Shows how many rows are safe, and how much of the text is read, where that is wanted. What is written next takes
+    // the place of that.
+    fn show<E: Write>(self, loaded: u64, bytes: u64, errors: &mut E) {
+        if self.is_shown {
+            let percent = percent_of(bytes, self.length);
+            let _ = write!(errors, "rows loaded: {loaded} ({percent} %)\r");
+        }
     }
 }
 
@@ -58,15 +78,15 @@ fn tell_line<E: Write>(line: u64, error: RowError, errors: &mut E) {
 fn load_next<D: Device, R: Read + Drop, E: Write>(
     loader: &mut Loader<D>,
     rows: &mut RowReader<R>,
-    shows_progress: bool,
+    progress: Progress,
     errors: &mut E,
 ) -> Result<bool, RowsError> {
     match loader.take(rows)? {
         Taken::Row => {}
-        Taken::Batch => show(loader.loaded(), shows_progress, errors),
+        Taken::Batch => progress.show(loader.loaded(), rows.bytes_read(), errors),
         Taken::Refused(error) => tell_line(rows.line(), error, errors),
         Taken::End => {
-            show(loader.loaded(), shows_progress, errors);
+            progress.show(loader.loaded(), rows.bytes_read(), errors);
             return Ok(true);
         }
     }
@@ -77,11 +97,11 @@ fn load_next<D: Device, R: Read + Drop, E: Write>(
 fn load_all<D: Device, R: Read + Drop, E: Write>(
     loader: &mut Loader<D>,
     rows: &mut RowReader<R>,
-    shows_progress: bool,
+    progress: Progress,
     errors: &mut E,
 ) -> Result<(), RowsError> {
     for _ in 0..u64::MAX {
-        if load_next(loader, rows, shows_progress, errors)? {
+        if load_next(loader, rows, progress, errors)? {
             break;
         }
     }
@@ -92,11 +112,11 @@ fn load_all<D: Device, R: Read + Drop, E: Write>(
 fn load<D: Device + Troubled, R: Read + Drop, E: Write>(
     loader: &mut Loader<D>,
     rows: &mut RowReader<R>,
-    shows_progress: bool,
+    progress: Progress,
     errors: &mut E,
 ) -> Result<(), NotLoaded> {
-    let loaded = load_all(loader, rows, shows_progress, errors);
-    if shows_progress {
+    let loaded = load_all(loader, rows, progress, errors);
+    if progress.is_shown {
         let _ = writeln!(errors);
     }
     match loaded {
@@ -131,12 +151,12 @@ fn load_disk<D: Device + Troubled + InFile + Drop, R: Read + Drop, W: Write, E: 
     alloc: Global,
     disk: D,
     rows: &mut RowReader<R>,
-    shows_progress: bool,
+    progress: Progress,
     output: &mut W,
     errors: &mut E,
 ) -> Result<Ended, NotLoaded> {
     let mut loader = Loader::new(open(alloc, disk)?, rows.line());
-    let loaded = load(&mut loader, rows, shows_progress, errors);
+    let loaded = load(&mut loader, rows, progress, errors);
     let told = sum_up(&loader, output);
     let ended = ended(&loader);
     let mut disk = loader.into_store().into_device();
@@ -161,15 +181,28 @@ fn names_in(asked: &LoadArguments) -> Option<ColumnNames<'_>> {
     Some(ColumnNames { key, body })
 }
 
-// The rows that are to be loaded.
+// The file of the rows that are to be loaded, and how many bytes it has.
+fn open_text<R: Files<File = File>>(rt: &R, path: &str) -> io::Result<(File, u64)> {
+    let file = fs::open(rt, path)?;
+    let length = file.metadata()?.len();
+    Ok((file, length))
+}
+
+// The rows that are to be loaded, and what is shown of that.
 fn open_rows<R: Files<File = File> + AllocGlobal>(
     rt: &R,
     asked: &LoadArguments,
-) -> Result<RowReader<File>, TextError> {
-    match fs::open(rt, asked.rows.as_str()) {
-        Ok(file) => RowReader::new(rt.alloc(), file, names_in(asked)),
-        Err(error) => Err(TextError::Io(error)),
-    }
+) -> Result<(RowReader<File>, Progress), TextError> {
+    let (file, length) = match open_text(rt, asked.rows.as_str()) {
+        Ok(opened) => opened,
+        Err(error) => return Err(TextError::Io(error)),
+    };
+    let rows = RowReader::new(rt.alloc(), file, names_in(asked))?;
+    let progress = Progress {
+        is_shown: asked.shows_progress,
+        length,
+    };
+    Ok((rows, progress))
 }
 
 /// Loads rows into the store in the file at the path, in transactions of 64 rows, and prints how many are safe and how
@@ -183,10 +216,9 @@ pub(crate) fn load_file<R: Files<File = File> + AllocGlobal, W: Write, E: Write>
     output: &mut W,
     errors: &mut E,
 ) -> Result<Ended, NotLoaded> {
-    let mut rows = open_rows(rt, asked)?;
-    let shows = asked.shows_progress;
+    let (mut rows, progress) = open_rows(rt, asked)?;
     match open_device(rt, rt.alloc(), path) {
-        Ok(disk) => load_disk(rt.alloc(), disk, &mut rows, shows, output, errors),
+        Ok(disk) => load_disk(rt.alloc(), disk, &mut rows, progress, output, errors),
         Err(error) => Err(NotLoaded::Store(Refused::from(error))),
     }
 }

@@ -1,5 +1,5 @@
-//! A store in a file is moved to a new file: one of version 1, or of version 2 from either kind of file to the other.
-//! One of version 2 is copied to a new file of the same kind.
+//! A store in a file is moved to a new file: one of version 1, or of version 2 or 3 from either kind of file to the
+//! other. One of version 2 or 3 is copied to a new file of the same kind.
 use crate::copying::copy_disk;
 use crate::damage::refuse_damaged;
 use crate::making::{create_device, publish};

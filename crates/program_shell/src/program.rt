@@ -276,7 +276,12 @@ fn act<R: Files<File = File> + Clock + AllocGlobal, I: BufRead, W: Write, E: Wri
             entries,
             slots,
             has_blocks,
-        } => make(rt, path, Geometry::new(pages, entries, slots)?, has_blocks)?,
+        } => make(
+            rt,
+            path,
+            Geometry::large(pages, entries, slots)?,
+            has_blocks,
+        )?,
         Verb::Run(serving) => {
             return run_file(rt, alloc, path, serving, input, output, errors);
         }

@@ -37,7 +37,7 @@ pub enum Refused {
     SmallIndex,
     /// The store opens, but its index doesn't fit its rows.
     Unsound,
-    /// The store that is to be moved is of version 2 already.
+    /// The store that is to be moved is of version 2 or 3 already.
     Newer,
     /// The header of rows isn't there, or doesn't name their columns.
     Header(HeaderError),

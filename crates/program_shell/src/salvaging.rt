@@ -16,8 +16,13 @@ use std::rt::Files;
 use store_file::{Detached, FileDisk};
 use store_salvage::{Part, Salvaged, copy_readable, salvage};
 
-// The sectors of the largest store.
-const MOST_SECTORS: u64 = 30_726;
+// The sectors of the largest small store, and of the largest store.
+const FEW_SECTORS: u64 = 30_726;
+
+const MOST_SECTORS: u64 = 4_458_502;
+
+// More sizes than are tried, each four times the one before.
+const SIZES: u32 = 8;
 
 // A disk in memory.
 type Memory = FileDisk<Detached, Global>;
@@ -45,13 +50,19 @@ fn turn<D: Device>(disk: &mut D) -> Result<(), Error> {
     halves.flip(disk)
 }
 
-// What can be salvaged of the current half, or of the other one.
-fn salvage_half<O: Device>(alloc: Global, old: &mut O, is_older: bool) -> Result<Found, Error> {
-    let mut disk = FileDisk::new(alloc, Detached, MOST_SECTORS as usize)?;
-    if disk.sectors() < MOST_SECTORS {
+// What can be salvaged of the current half, or of the other one, on a disk of so many sectors. `DeviceTooSmall` where
+// the store has more.
+fn salvage_on<O: Device>(
+    alloc: Global,
+    old: &mut O,
+    sectors: u64,
+    is_older: bool,
+) -> Result<Found, Error> {
+    let mut disk = FileDisk::new(alloc, Detached, sectors as usize)?;
+    if disk.sectors() < sectors {
         return Err(Error::DeviceTooSmall);
     }
-    let unread = copy_readable(alloc, old, &mut disk, MOST_SECTORS)?;
+    let unread = copy_readable(alloc, old, &mut disk, sectors)?;
     if is_older {
         turn(&mut disk)?;
     }
@@ -64,11 +75,32 @@ fn salvage_half<O: Device>(alloc: Global, old: &mut O, is_older: bool) -> Result
     })
 }
 
+// The same, on a disk that the store fits on. How large that is, its first sector says, which may be damaged: so larger
+// disks are tried, one behind the other.
+fn salvage_half<O: Device>(alloc: Global, old: &mut O, is_older: bool) -> Result<Found, Error> {
+    let mut sectors = FEW_SECTORS;
+    for _ in 0..SIZES {
+        match salvage_on(alloc, old, sectors, is_older) {
+            Err(Error::DeviceTooSmall) => sectors = sectors.saturating_mul(4).min(MOST_SECTORS),
+            found => return found,
+        }
+    }
+    Err(Error::DeviceTooSmall)
+}
+
+// What can be salvaged of the other half. Where nothing can, the current one is refused so.
+fn salvage_older<O: Device>(alloc: Global, old: &mut O, refused: Error) -> Result<Found, Error> {
+    match salvage_half(alloc, old, true) {
+        Ok(found) => Ok(found),
+        Err(_) => Err(refused),
+    }
+}
+
 // What can be salvaged of the current half; of the other one, where the image of that is damaged.
 fn salvage_newest<O: Device>(alloc: Global, old: &mut O) -> Result<Found, Error> {
     match salvage_half(alloc, old, false) {
         Err(Error::Damaged { sector }) if sector != SUPERBLOCK_SECTOR => {
-            salvage_half(alloc, old, true)
+            salvage_older(alloc, old, Error::Damaged { sector })
         }
         found => found,
     }

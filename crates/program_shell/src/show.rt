@@ -11,6 +11,9 @@ use std::io;
 use std::io::Write;
 use store_reader::read_store;
 
+// The version of a store that isn't small.
+const LARGE_VERSION: u32 = VERSION + 1;
+
 /// What the file itself says, before the store is opened.
 #[derive(Clone, Copy, Debug, PartialEq, Eq)]
 pub(crate) struct Stored {
@@ -33,8 +36,8 @@ pub(crate) fn read_disk<D: Device>(alloc: Global, disk: &mut D) -> Result<Stored
     })
 }
 
-// How many rows there are.
-fn rows_in(core: &Core<Global>) -> u64 {
+/// How many rows there are.
+pub(crate) fn rows_in(core: &Core<Global>) -> u64 {
     let mut rows: u64 = 0;
     for page in 0..core.pages() {
         for slot in 0..SLOTS_PER_PAGE {
@@ -68,6 +71,15 @@ fn write_life<W: Write>(life: Life, output: &mut W) -> io::Result<()> {
     writeln!(output, "{answer}")
 }
 
+// The version of the format that has a store of this size.
+fn version_of(geometry: Geometry) -> u32 {
+    if geometry.is_small() {
+        VERSION
+    } else {
+        LARGE_VERSION
+    }
+}
+
 // Prints how large the store is.
 fn write_geometry<W: Write>(geometry: Geometry, output: &mut W) -> io::Result<()> {
     let Geometry {
@@ -75,24 +87,34 @@ fn write_geometry<W: Write>(geometry: Geometry, output: &mut W) -> io::Result<()
         entries,
         slots,
     } = geometry;
-    let version = VERSION;
-    writeln!(output, "format {version}")?;
+    writeln!(output, "format {}", version_of(geometry))?;
     writeln!(output, "pages {pages}")?;
     writeln!(output, "entries {entries}")?;
     writeln!(output, "slots {slots}")
 }
 
-// Prints how many rows and entries there are, and how many of the index's places are free. No transaction is active
-// behind an opening, so none is reserved.
-fn write_counts<W: Write>(core: &Core<Global>, places: u32, output: &mut W) -> io::Result<()> {
-    let rows = rows_in(core);
+// Prints how many entries there are, and how many of the index's places are free. No transaction is active behind an
+// opening, so none is reserved.
+fn write_entries<W: Write>(core: &Core<Global>, places: u32, output: &mut W) -> io::Result<()> {
     let (live, marked) = entries_in(core);
     let free = u64::from(places).saturating_sub(live.saturating_add(marked));
-    writeln!(output, "rows {rows}")?;
     writeln!(output, "live {live}")?;
     writeln!(output, "marked {marked}")?;
     writeln!(output, "reserved 0")?;
     writeln!(output, "free {free}")
+}
+
+// Prints how many rows and entries there are, and how many more there is room for.
+fn write_counts<W: Write>(
+    core: &Core<Global>,
+    geometry: Geometry,
+    output: &mut W,
+) -> io::Result<()> {
+    let rows = rows_in(core);
+    let room = u64::from(geometry.pages).saturating_mul(u64::from(SLOTS_PER_PAGE));
+    writeln!(output, "rows {rows}")?;
+    write_entries(core, geometry.entries, output)?;
+    writeln!(output, "rows free {}", room.saturating_sub(rows))
 }
 
 /// Prints what is told of the store, a line each.
@@ -105,5 +127,5 @@ pub(crate) fn write_stat<W: Write>(
     writeln!(output, "slots in use {}", stored.open_slots)?;
     writeln!(output, "last record {}", stored.last)?;
     write_life(core.life(), output)?;
-    write_counts(core, stored.geometry.entries, output)
+    write_counts(core, stored.geometry, output)
 }

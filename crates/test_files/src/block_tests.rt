@@ -33,6 +33,7 @@ live 0
 marked 0
 reserved 0
 free 64
+rows free 61
 ";
 
 const DUMP: &str = "row 0.0 :61 :
@@ -86,6 +87,7 @@ live 2
 marked 0
 reserved 0
 free 62
+rows free 61
 ";
 
 // From either kind of file to the other. One of the same kind needs no move.

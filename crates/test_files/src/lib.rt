@@ -2,8 +2,8 @@
 //!
 //! Of files: names, locks and refusals; what is written, synced and named, and in which order; and calls that fail. Of
 //! disks over them: what a backing that fails, drops or tears leaves. Then the verbs of `nsf-store`, one behind the
-//! other on a real file, also of version 1, and on a file of blocks, whole and harmed; and rows that are loaded and
-//! exported on either.
+//! other on a real file, also of version 1, and on a file of blocks, whole and harmed; rows that are loaded and
+//! exported on either; and what is salvaged of a harmed one.
 //!
 //! Proved of them is safety. Outside the gate, `tools/kill_store.py` kills the program at random moments.
 #![tactic(auto)]
@@ -28,6 +28,8 @@ mod program;
 mod program_tests;
 #[cfg(test)]
 mod row_tests;
+#[cfg(test)]
+mod salvage_tests;
 #[cfg(test)]
 mod scenes;
 #[cfg(test)]

@@ -57,6 +57,7 @@ live 0
 marked 0
 reserved 0
 free 64
+rows free 61
 ";
 
 const DUMP: &str = "row 0.0 :61 :
@@ -130,7 +131,7 @@ static OTHER_KINDS: [Deed; 5] = [
         &["nsf-store", "stat", "t"],
         1,
         "",
-        "nsf-store: t: its length of 1000 bytes is no number of sectors from 1 to 1048576\n",
+        "nsf-store: t: its length of 1000 bytes is no number of sectors from 1 to 8388608\n",
     ),
     Deed::Act("t", Act::Remove),
 ];
@@ -309,6 +310,7 @@ live 0
 marked 0
 reserved 0
 free 64
+rows free 62
 ";
 
 const BUILDING_STAT: &str = "format 2
@@ -323,6 +325,7 @@ live 1
 marked 1
 reserved 0
 free 62
+rows free 62
 ";
 
 const OLD: Deed = Deed::Call(

@@ -153,6 +153,36 @@ fn columns_are_named(rt: HostRuntime) {
     take_all(&rt, &[REMOVE, REMOVE_ROWS]);
 }
 
+// The last record begins in line 6, behind an empty line. Its quote isn't closed, and so it is no row.
+const OPEN: &str = "key,body\nant,1\n\"b\"\"\",\"2\n\"\n\ncow,\"3\n";
+
+static OPEN_QUOTES: [Deed; 9] = [
+    NEW,
+    Deed::Write("rows", "key,\"body"),
+    Deed::Call(
+        LOAD,
+        1,
+        "",
+        "nsf-store: rows: a quote in its header isn't closed\n",
+    ),
+    Deed::Write("rows", OPEN),
+    Deed::Call(
+        LOAD,
+        3,
+        "loaded 2\nrefused 1\n",
+        "nsf-store: line 6: a quote isn't closed\n",
+    ),
+    Deed::Call(EXPORT, 0, "key,body\nant,1\n\"b\"\"\",\"2\n\"\n", ""),
+    SOUND,
+    REMOVE,
+    REMOVE_ROWS,
+];
+
+#[test]
+fn a_quote_that_nothing_closes_is_told(rt: HostRuntime) {
+    take_all(&rt, &OPEN_QUOTES);
+}
+
 // 66 rows. A page has room for 63.
 const MANY: &str = "key,body\n\
     ,\n,\n,\n,\n,\n,\n,\n,\n,\n,\n,\n,\n,\n,\n,\n,\n,\n,\n,\n,\n\
@@ -167,7 +197,7 @@ static FULL: [Deed; 9] = [
         &["nsf-store", "load", "l", "rows", "--progress"],
         0,
         "loaded 66\nrefused 0\n",
-        "rows loaded: 64\rrows loaded: 66\r\n",
+        "rows loaded: 64 (100 %)\rrows loaded: 66 (100 %)\r\n",
     ),
     REMOVE,
     NEW,
@@ -199,6 +229,7 @@ live 0
 marked 0
 reserved 0
 free 252
+rows free 62
 ";
 
 const BACKUP: &[&str] = &["nsf-store", "backup", "l", "copy"];
