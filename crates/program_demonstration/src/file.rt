@@ -11,8 +11,8 @@ use std::rt::{Clock, Files};
 use std::sync::Wait;
 use std::thread::Threads;
 use store_file::Troubled;
+use threads_leader::Gate;
 use threads_lifetime::OpenError;
-use threads_loops::Gate;
 
 // Why the threads were refused, with the reason that the disk tells.
 fn refused_over<D: Troubled>(error: OpenError, disk: &D) -> Refused {

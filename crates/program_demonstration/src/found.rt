@@ -1,6 +1,6 @@
 //! What is found behind the crash.
 use nsf_core::Core;
-use records::{ENTRIES_MAX, Error, Mark, Pair, Rid, SLOTS_PER_PAGE};
+use records::{Error, LARGE_ENTRIES_MAX, Mark, Pair, Rid, SLOTS_PER_PAGE};
 use restart::{Engine, Reply, restart};
 use sector_device::Device;
 use std::alloc::Global;
@@ -37,7 +37,7 @@ fn count_shown(core: &Core<Global>) -> (u32, u32) {
     let mut shown: u32 = 0;
     let mut fitting: u32 = 0;
     let mut next = core.above(None);
-    for _ in 0..=ENTRIES_MAX {
+    for _ in 0..=LARGE_ENTRIES_MAX {
         let Some((pair, mark)) = next else {
             return (shown, fitting);
         };

@@ -15,6 +15,7 @@ mod program;
 mod progress;
 mod rows;
 mod team;
+mod waiting;
 mod writer;
 
 pub use beginning::Beginning;

@@ -17,8 +17,8 @@ use std::io::Write;
 use std::rt::{Clock, Files};
 use std::sync::Wait;
 use std::thread::Threads;
+use threads_leader::{Gate, NoGate};
 use threads_lifetime::{OpenError, format_store};
-use threads_loops::{Gate, NoGate};
 
 const PAGES: u32 = 8;
 

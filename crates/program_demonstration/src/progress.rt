@@ -6,7 +6,7 @@ use std::rt::Clock;
 use std::sync::Wait;
 use std::time::Duration;
 use std::{io, thread};
-use threads_loops::BuilderEnd;
+use threads_leader::BuilderEnd;
 
 // How many milliseconds it is from one look at the builder to the next.
 const BETWEEN_LOOKS: u64 = 1;

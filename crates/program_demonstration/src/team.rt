@@ -1,5 +1,5 @@
 //! The threads of the program.
-ghost use Rattle.std.specs.Prelude.{◌≡◌, ◌≤◌, ◌<◌, ◌++◌, ◌∷◌, [], ℕ, All, IfOk, OnOk, flat_map, map, slice_get};
+ghost use Rattle.std.specs.Prelude.{◌≡◌, ◌≤◌, ◌<◌, ◌++◌, ◌∷◌, [], ℕ, All, IfOk, OnOk, Some, flat_map, map, slice_get};
 ghost use Rattle.std.specs.Prelude.{slice_index_or, vec_len};
 ghost use Rattle.store_writer.specs.Parts.{halves_of, synced_of};
 ghost use Rattle.threads_flusher.specs.Part.{popped_by};
@@ -15,6 +15,7 @@ ghost use Rattle.program_demonstration.specs.Private.{AllTell, GoesOn};
 use crate::beginning::{Beginning, prepare};
 use crate::listener::Listener;
 use crate::progress::{Progress, watch};
+use crate::waiting::Waiting;
 use crate::writer::{Acknowledged, Writer, write};
 use records::Error;
 use sector_device::Device;
@@ -25,8 +26,8 @@ use std::marker::Brand;
 use std::rt::Clock;
 use std::sync::Wait;
 use std::thread::{Threads, for_each_mut, join};
+use threads_leader::{BuilderEnd, Course, Desk, Ended, Gate, NotRun, run_led};
 use threads_lifetime::{OpenError, OpenStore, Parts, finish, let_go, open_store};
-use threads_loops::{BuilderEnd, Ended, Gate, NotRun, run_beside};
 
 // No more writers than this run side by side.
 const THREADS_MAX: usize = 64;
@@ -132,9 +133,15 @@ fn writers_of<B: Group>(
 }
 
 // Runs all writers, each in a thread.
-fn write_all<B: Group + Send + Sync, R: Threads + Wait + Sync, L: Listener + Sync>(
+fn write_all<
+    B: Group + Send + Sync,
+    R: Threads + Wait + Sync,
+    W: Waiting<B> + Sync,
+    L: Listener + Sync,
+>(
     rt: &R,
     shared: &Shared<B>,
+    desk: &W,
     mut writers: Vec<Writer<B>>,
     changes: u16,
     listener: &L,
@@ -149,7 +156,7 @@ fn write_all<B: Group + Send + Sync, R: Threads + Wait + Sync, L: Listener + Syn
         rt,
         &mut writers,
         THREADS_MAX,
-        &|_: usize, writer: &mut Writer<B>| write(rt, shared, writer, changes, listener),
+        &|_: usize, writer: &mut Writer<B>| write(rt, shared, desk, writer, changes, listener),
     );
     writers
 }
@@ -172,11 +179,13 @@ fn show_progress<B: Group, R: Wait + Clock, E: Write + Drop>(
 fn write_and_watch<
     B: Group + Send + Sync,
     R: Threads + Wait + Clock + Sync,
+    W: Waiting<B> + Sync,
     L: Listener + Sync,
     E: Write + Send + Drop,
 >(
     rt: &R,
     shared: &Shared<B>,
+    desk: &W,
     writers: Vec<Writer<B>>,
     changes: u16,
     listener: &L,
@@ -191,12 +200,12 @@ fn write_and_watch<
         (slice_index_or result.items k w).acks.items (slice_index_or result.items k w).acknowledged.items }
 {
     match progress {
-        None => write_all(rt, shared, writers, changes, listener),
+        None => write_all(rt, shared, desk, writers, changes, listener),
         Some(progress) => {
             let ((), written) = join(
                 rt,
                 move || show_progress(rt, shared, view, builder, progress),
-                move || write_all(rt, shared, writers, changes, listener),
+                move || write_all(rt, shared, desk, writers, changes, listener),
             );
             written
         }
@@ -413,8 +422,10 @@ fn parts_back<B: Group, D: Device, F: Drop>(not_run: NotRun<B, D, F>) -> LoopPar
     }
 }
 
-// Runs the writers and the three loops, each in a thread. Where a thread is wanting, the parts of the loops come back.
+// Runs the writers and the three loops, each in a thread. The flusher's part lies on a desk, where a writer writes what
+// it waits for. Where a thread is wanting, the parts of the loops come back.
 fn run_all<
+    K: Course<D, Global> + Send + Sync,
     B: Group + Send + Sync,
     D: Device + Send + Drop,
     R: Threads + Wait + Clock + Sync,
@@ -429,6 +440,7 @@ fn run_all<
     last: &mut Seat<B, Global, Kept>,
     loops: LoopParts<B, D>,
 ) -> Result<Ended<B, D, Vec<Writer<B>>>, LoopParts<B, D>>
+    requires begun { K.begun ≡ Some loops.flush }
     ensures len { IfOk result (λ e. vec_len e.clients ≡ vec_len writers) }
     ensures wrote { IfOk result (λ e. (k : ℕ) (w : _) → k < vec_len writers
         → GoesOn (slice_index_or writers.items k w).seat (slice_index_or writers.items k w).acks.items
@@ -450,10 +462,12 @@ fn run_all<
         clean,
     } = loops;
     let view = shared.another_view(last);
+    let desk: Desk<K, B, D> = Desk::new();
+    let lent = &desk;
     let write = move || write_and_watch(
-        rt, shared, writers, changes, listener, view, builder, progress,
+        rt, shared, lent, writers, changes, listener, view, builder, progress,
     );
-    match run_beside(rt, shared, flush, build, clean, builder, gate, write) {
+    match run_led(rt, shared, flush, build, clean, builder, lent, gate, write) {
         Ok((ended, reason)) => {
             drop(reason);
             Ok(ended)
@@ -523,7 +537,7 @@ fn work_staffed<
     let alloc = team.alloc;
     let Staff { writers, mut last } = staff;
     let told = BuilderEnd::new();
-    let ran = run_all(team, &shared, &told, writers, &mut last, loops);
+    let ran = run_all::<Brand, B, D, R, G, L, E>(team, &shared, &told, writers, &mut last, loops);
     drop(told);
     match ran {
         Ok(ended) => end(rt, alloc, shared, ended, last),

@@ -4,6 +4,7 @@ ghost use Rattle.program_demonstration.specs.Private.{Adds, Commits, GoesOn, Has
 
 use crate::listener::{Listener, Turn};
 use crate::rows::{abort, begin, commit, delete, insert};
+use crate::waiting::Waiting;
 use nsf_core::Ticket;
 use records::{Error, Rid, Txn};
 use shared::{Ack, Group, Kept, Seat, Shared};
@@ -46,9 +47,10 @@ fn delete_row<B: Group, R: Wait>(
 }
 
 // Commits a transaction, and waits until that is safe.
-fn commit_safely<B: Group, R: Wait>(
+fn commit_safely<B: Group, R: Wait, W: Waiting<B>>(
     rt: &R,
     shared: &Shared<B>,
+    desk: &W,
     seat: &mut Seat<B, Global, Kept>,
     txn: Txn,
 ) -> Result<(Ticket, Ack<B>), Error>
@@ -57,7 +59,7 @@ fn commit_safely<B: Group, R: Wait>(
 {
     let ticket = commit(rt, shared, seat, txn)?;
     let waited = &ticket;
-    let ack = shared.await_ack(rt, seat, *waited)?;
+    let ack = desk.await_ack(rt, shared, seat, *waited)?;
     Ok((ticket, ack))
 }
 
@@ -85,9 +87,10 @@ fn deleted_by(number: u16, before: Option<Rid>) -> Option<Rid> {
 
 // One transaction: the deletion of the row at the place, if there is one, and an insertion. Each fourth is taken back,
 // and the others are committed.
-fn change<B: Group, R: Wait>(
+fn change<B: Group, R: Wait, W: Waiting<B>>(
     rt: &R,
     shared: &Shared<B>,
+    desk: &W,
     seat: &mut Seat<B, Global, Kept>,
     writer: u16,
     number: u16,
@@ -102,7 +105,7 @@ fn change<B: Group, R: Wait>(
         abort(rt, shared, seat, txn)?;
         return Ok((rid, None));
     }
-    let told = commit_safely(rt, shared, seat, txn)?;
+    let told = commit_safely(rt, shared, desk, seat, txn)?;
     Ok((rid, Some(told)))
 }
 
@@ -143,9 +146,10 @@ fn turn_of(writer: u16, change: u16, rid: &Rid, deleted: &Option<Rid>) -> Turn {
 }
 
 // The transactions of a writer, in order.
-fn change_all<B: Group, R: Wait, L: Listener>(
+fn change_all<B: Group, R: Wait, W: Waiting<B>, L: Listener>(
     rt: &R,
     shared: &Shared<B>,
+    desk: &W,
     writer: &mut Writer<B>,
     changes: u16,
     listener: &L,
@@ -157,7 +161,15 @@ fn change_all<B: Group, R: Wait, L: Listener>(
     let mut before = None;
     for number in 0..changes {
         let deleted = deleted_by(number, before);
-        let (rid, told) = change(rt, shared, &mut writer.seat, writer.number, number, deleted)?;
+        let (rid, told) = change(
+            rt,
+            shared,
+            desk,
+            &mut writer.seat,
+            writer.number,
+            number,
+            deleted,
+        )?;
         let turn = turn_of(writer.number, number, &rid, &deleted);
         before = Some(rid);
         note(writer, listener, turn, told)?;
@@ -167,9 +179,10 @@ fn change_all<B: Group, R: Wait, L: Listener>(
 
 /// Makes so many transactions, each with a key of this writer and of its own number, waits until each commit is safe,
 /// and tells the listener of it.
-pub(crate) fn write<B: Group, R: Wait, L: Listener>(
+pub(crate) fn write<B: Group, R: Wait, W: Waiting<B>, L: Listener>(
     rt: &R,
     shared: &Shared<B>,
+    desk: &W,
     writer: &mut Writer<B>,
     changes: u16,
     listener: &L,
@@ -177,5 +190,5 @@ pub(crate) fn write<B: Group, R: Wait, L: Listener>(
     ensures { GoesOn writer.old.seat writer.old.acks.items writer.old.acknowledged.items writer.new.seat
         writer.new.acks.items writer.new.acknowledged.items }
 {
-    writer.refused = change_all(rt, shared, writer, changes, listener).err();
+    writer.refused = change_all(rt, shared, desk, writer, changes, listener).err();
 }
