@@ -1,33 +1,47 @@
-//! Tests of the crates `block_digest` and `block_words`.
+//! Tests of the crate `block_digest`.
 use block_device::BLOCK_SIZE;
-use block_digest::{Digester, digest};
-use block_words::{spell_words, words_of};
+use block_digest::{digest, digest_from};
 
-// The digest of bytes that come in pieces.
-fn in_pieces(pieces: &[&[u8]]) -> u64 {
-    let mut digester = Digester::new();
-    for piece in pieces {
-        digester.update(piece);
+// What the library libxxhash 0.8.1 answers for `XXH64` of these bytes. Each step is in one of them: stripes, words,
+// half a word, and bytes.
+static DIGESTS: [(&[u8], u64); 5] = [
+    (b"", 0xEF46_DB37_51D8_E999),
+    (b"a", 0xD24E_C4F1_A98C_6E5B),
+    (b"abc", 0x44BC_2CF5_AD77_0999),
+    (b"0123456", 0x97EE_4FE4_A0FF_4DFA),
+    (
+        b"Nobody inspects the spammish repetition",
+        0xFBCE_A83C_8A37_8BF1,
+    ),
+];
+
+// The same with a seed.
+static SEEDED: [(u64, &[u8], u64); 2] = [
+    (20141025, b"xxhash", 13067679811253438005),
+    (1, &[0; BLOCK_SIZE], 9428967588016603102),
+];
+
+// Whether the digests are those.
+fn are_digests() -> bool {
+    for (bytes, wanted) in &DIGESTS {
+        if digest(*bytes) != *wanted {
+            return false;
+        }
     }
-    digester.finish()
+    true
 }
 
-// What CPython 3.11 answers for `hash` of these bytes, with PYTHONHASHSEED=0.
+// Whether those with a seed are.
+fn are_seeded() -> bool {
+    for (seed, bytes, wanted) in &SEEDED {
+        if digest_from(*seed, *bytes) != *wanted {
+            return false;
+        }
+    }
+    true
+}
+
 #[test]
 fn digests_of_known_bytes(rt: HostRuntime) {
-    assert_eq!(rt; digest(b"a"), 4644417185603328019);
-    assert_eq!(rt; digest(b"abc"), 13851880170939887858);
-    assert_eq!(rt; digest(b"0123456"), 9298437322660316025);
-    assert_eq!(rt; in_pieces(&[b"01", b"", b"23456"]), 9298437322660316025);
-}
-
-#[test]
-fn words_spelled_and_read(rt: HostRuntime) {
-    let mut words = [0; 512];
-    words[0] = 0x4E53_4642_4154_4348;
-    words[511] = 258;
-    let bytes = spell_words(&words);
-    assert_eq!(rt; &bytes[..8], b"NSFBATCH".as_slice());
-    assert_eq!(rt; &bytes[BLOCK_SIZE - 3..], [0, 1, 2].as_slice());
-    assert!(rt; words_of(&bytes) == words);
+    assert!(rt; are_digests() && are_seeded());
 }

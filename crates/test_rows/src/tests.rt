@@ -4,11 +4,6 @@ use program_rows::{
 };
 use records::Row;
 use std::alloc::Global;
-use std::process::Abort;
-
-// What each record comes to; the columns are found by their names. A record has two lines, and an empty one is before
-// the last.
-const TEXT: &[u8] = b"body,other,key\n1,x,ant\n\"say\n\"\"hi\"\"\",,\"b,c\"\nlonely\n\n2,y,bee\n";
 
 // More than the records of a text.
 const MOST: usize = 9;
@@ -45,30 +40,109 @@ impl Given {
     }
 }
 
+// A reader of the rows of a text.
+type Rows<'a> = RowReader<&'a [u8]>;
+
+// The calls of a reader. None says anything before it runs.
+
+fn opened<'a>(
+    alloc: Global,
+    text: &'a [u8],
+    names: Option<ColumnNames<'_>>,
+) -> Result<Rows<'a>, TextError> {
+    RowReader::new(alloc, text, names)
+}
+
+fn next(rows: &mut Rows<'_>) -> Result<Option<Result<Row, RowError>>, TextError> {
+    rows.next_row()
+}
+
+fn line(rows: &Rows<'_>) -> u64 {
+    rows.line()
+}
+
+// What is given before the first row.
+fn begun(alloc: Global, lines: u64) -> Result<Given, TextError> {
+    let text = line_of(alloc, &header(alloc)?)?;
+    Ok(Given {
+        text,
+        lines,
+        refused: 0,
+    })
+}
+
+// Takes the rows that are left.
+fn take_all(alloc: Global, rows: &mut Rows<'_>, given: &mut Given) -> Result<(), TextError> {
+    for _ in 0..MOST {
+        let Some(found) = next(rows)? else {
+            return Ok(());
+        };
+        given.take(alloc, found, line(rows))?;
+    }
+    Ok(())
+}
+
+// What the rows of a reader give.
+fn given_by(alloc: Global, rows: &mut Rows<'_>) -> Result<Given, TextError> {
+    let mut given = begun(alloc, line(rows))?;
+    match take_all(alloc, rows, &mut given) {
+        Ok(()) => Ok(given),
+        Err(error) => {
+            drop(given);
+            Err(error)
+        }
+    }
+}
+
 // What a text gives.
 fn read_all(
     alloc: Global,
     text: &[u8],
     names: Option<ColumnNames<'_>>,
 ) -> Result<Given, TextError> {
-    let mut rows = RowReader::new(alloc, text, names)?;
-    let header = header(alloc)?;
-    let mut given = Given {
-        text: line_of(alloc, &header)?,
-        lines: rows.line(),
-        refused: 0,
-    };
-    for _ in 0..MOST {
-        let Some(found) = rows.next_row()? else {
-            break;
-        };
-        given.take(alloc, found, rows.line())?;
-    }
-    Ok(given)
+    let mut rows = opened(alloc, text, names)?;
+    let read = given_by(alloc, &mut rows);
+    drop(rows);
+    read
 }
 
-// Whether a text comes to this one, with records in these lines, and refused ones in those.
-fn comes_to(alloc: Global, text: &[u8], wanted: &[u8], lines: u64, refused: u64) -> bool {
+// A text, the text that its rows are exported to, and as digits the lines of its records, and of those without a row.
+type Case = (&'static [u8], &'static [u8], u64, u64);
+
+static CASES: [Case; 8] = [
+    // the columns are found by their names; a record has two lines, and an empty one is before the last
+    (
+        b"body,other,key\n1,x,ant\n\"say\n\"\"hi\"\"\",,\"b,c\"\nlonely\n\n2,y,bee\n",
+        b"key,body\nant,1\n\"b,c\",\"say\n\"\"hi\"\"\"\nbee,2\n",
+        12357,
+        5,
+    ),
+    // what is exported is loaded
+    (
+        b"key,body\n,\n\"\r\",\"\n\"\n",
+        b"key,body\n,\n\"\r\",\"\n\"\n",
+        123,
+        0,
+    ),
+    // lines may end with a carriage return too
+    (
+        b"a,b\r\nant,1\r\nx\r\n\r\n\"b\r\nc\",2\r\nbee,3",
+        b"key,body\nant,1\n\"b\r\nc\",2\nbee,3\n",
+        12357,
+        3,
+    ),
+    // a quote opens only at the start of a field, and a byte order mark is before that; a last record whose quote isn't
+    // closed has no row
+    (b"\xef\xbb\xbf\"a\",b\n\n\nx,\"y\n", b"key,body\n", 14, 4),
+    (b"a,b\nx,\"", b"key,body\n", 12, 2),
+    (b"a,b\nx,\"y\"\"", b"key,body\n", 12, 2),
+    (b"a,b\nx,\"y\"\"\"", b"key,body\nx,\"y\"\"\"\n", 12, 0),
+    (b"a,b\n\nx,y\"", b"key,body\nx,\"y\"\"\"\n", 13, 0),
+];
+
+// Whether a text comes to that.
+fn comes_to(alloc: Global, case: &Case) -> bool {
+    let (text, wanted, lines, refused) = *case;
     match read_all(alloc, text, None) {
         Ok(given) => {
             given.text.as_slice() == wanted && given.lines == lines && given.refused == refused
@@ -78,22 +152,10 @@ fn comes_to(alloc: Global, text: &[u8], wanted: &[u8], lines: u64, refused: u64)
 }
 
 #[test]
-fn rows_are_loaded_by_the_names_of_columns_and_exported(rt: HostRuntime) {
-    let wanted = b"key,body\nant,1\n\"b,c\",\"say\n\"\"hi\"\"\"\nbee,2\n";
-    assert!(&rt; comes_to(rt.alloc(), TEXT, wanted, 12357, 5));
-}
-
-#[test]
-fn what_is_exported_is_loaded(rt: HostRuntime) {
-    let text = b"key,body\n,\n\"\r\",\"\n\"\n";
-    assert!(&rt; comes_to(rt.alloc(), text, text, 123, 0));
-}
-
-#[test]
-fn lines_may_end_with_a_carriage_return_too(rt: HostRuntime) {
-    let text = b"a,b\r\nant,1\r\nx\r\n\r\n\"b\r\nc\",2\r\nbee,3";
-    let wanted = b"key,body\nant,1\n\"b\r\nc\",2\nbee,3\n";
-    assert!(&rt; comes_to(rt.alloc(), text, wanted, 12357, 3));
+fn rows_are_loaded_and_exported(rt: HostRuntime) {
+    for case in &CASES {
+        assert!(&rt; comes_to(rt.alloc(), case));
+    }
 }
 
 // Why the header of a text is refused.
@@ -104,17 +166,31 @@ fn fault_of(alloc: Global, text: &[u8], names: Option<ColumnNames<'_>>) -> Optio
     }
 }
 
-const NAMES: Option<ColumnNames<'_>> = Some(ColumnNames {
-    key: "a",
-    body: "c",
-});
+// Texts, whether the columns are named, and what their headers lack.
+static LACKING: [(&[u8], bool, Option<HeaderError>); 6] = [
+    (b"", false, Some(HeaderError::Missing)),
+    (b"key\nant\n", false, Some(HeaderError::OneColumn)),
+    (b"b,c\n", true, Some(HeaderError::NoKey)),
+    (b"a,b\n", true, Some(HeaderError::NoBody)),
+    (b"c,a\n", true, None),
+    (b"a,\"c\n", false, Some(HeaderError::OpenQuote)),
+];
+
+// The names of the columns, where they are named.
+fn names(are_named: bool) -> Option<ColumnNames<'static>> {
+    if are_named {
+        Some(ColumnNames {
+            key: "a",
+            body: "c",
+        })
+    } else {
+        None
+    }
+}
 
 #[test]
 fn what_a_header_lacks_is_told(rt: HostRuntime) {
-    let alloc = rt.alloc();
-    assert!(&rt; fault_of(alloc, b"", None) == Some(HeaderError::Missing));
-    assert!(&rt; fault_of(alloc, b"key\nant\n", None) == Some(HeaderError::OneColumn));
-    assert!(&rt; fault_of(alloc, b"b,c\n", NAMES) == Some(HeaderError::NoKey));
-    assert!(&rt; fault_of(alloc, b"a,b\n", NAMES) == Some(HeaderError::NoBody));
-    assert!(&rt; fault_of(alloc, b"c,a\n", NAMES) == None);
+    for (text, are_named, wanted) in &LACKING {
+        assert!(&rt; fault_of(rt.alloc(), *text, names(*are_named)) == *wanted);
+    }
 }

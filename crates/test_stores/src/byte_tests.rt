@@ -19,7 +19,7 @@ static SCRIPT: [Script<'static>; 1] = [(
 
 // What stands in the sectors that are compared: the rest is zeros. The first restart makes half B current: half A is in
 // sectors 2 to 1083, half B begins at 1084, and its first gate is in 2134.
-static BYTES: [Edit<'static>; 15] = [
+const BYTES: &[Edit<'_>] = &[
     (0, 0, b"NSFINDEX\0\0\0\x02\0\0\0\x01\0\0\0\x40\0\0\0\x04"),
     // half A is current again: sector 1 is zeros, and then comes its header; the index is being built, the image is of
     // record 6, and there are two entries
@@ -44,7 +44,7 @@ static BYTES: [Edit<'static>; 15] = [
 ];
 
 // The first of sectors that are compared, and the one behind the last.
-static COMPARED: [(u64, u64); 5] = [
+const COMPARED: &[(u64, u64)] = &[
     (0, 5),
     (1028, 1030),
     (1044, 1045),
@@ -52,9 +52,37 @@ static COMPARED: [(u64, u64); 5] = [
     (2134, 2143),
 ];
 
-fn compare(rt: &impl Abort, disk: &mut Disk) {
-    for (first, end) in &COMPARED {
-        let holds = disk.holds(BYTES.as_slice(), *first, *end);
+// The superblock of a store of 257 pages, which isn't small: its version is 3.
+const LARGE: &[Edit<'_>] = &[(
+    0,
+    0,
+    b"NSFINDEX\0\0\0\x03\0\0\x01\x01\0\0\x40\x40\0\0\0\x04",
+)];
+
+/// A store of so many pages, what stands in its sectors, and which are compared.
+#[derive(Clone, Copy)]
+pub(crate) struct Layout {
+    pages: u32,
+    bytes: &'static [Edit<'static>],
+    compared: &'static [(u64, u64)],
+}
+
+static LAYOUTS: [Layout; 2] = [
+    Layout {
+        pages: 1,
+        bytes: BYTES,
+        compared: COMPARED,
+    },
+    Layout {
+        pages: 257,
+        bytes: LARGE,
+        compared: &[(0, 1)],
+    },
+];
+
+fn compare(rt: &impl Abort, disk: &mut Disk, layout: Layout) {
+    for (first, end) in layout.compared {
+        let holds = disk.holds(layout.bytes, *first, *end);
         claim_at(rt, holds, "the sectors from this one on:", *first);
     }
 }
@@ -64,16 +92,20 @@ pub(crate) fn run_and_compare<M: StoreMemory>(
     memory: M,
     alloc: Global,
     events: &[Event],
+    layout: Layout,
 ) -> Result<(), Error> {
-    let disk = Disk::formatted(alloc, 1, 4)?;
+    let disk = Disk::formatted(alloc, layout.pages, 4)?;
     let (answers, mut disk) = run_over(rt, memory, disk, events)?;
     drop(answers);
-    compare(rt, &mut disk);
+    compare(rt, &mut disk, layout);
     drop(disk);
     Ok(())
 }
 
+// A small store, and the superblock of one that isn't.
 #[test]
-fn a_store_byte_by_byte(rt: HostRuntime) -> Result<(), Error> {
-    do_job(&rt, rt.alloc(), &SCRIPT, Job::CompareBytes)
+fn a_store_byte_by_byte(rt: HostRuntime) {
+    for layout in &LAYOUTS {
+        do_job(&rt, rt.alloc(), &SCRIPT, Job::CompareBytes(*layout));
+    }
 }

@@ -8,13 +8,13 @@ use std::alloc::Allocator;
 pub type Entry = Option<(Pair, Mark)>;
 
 /// What a store holds: the number of its last record, the rows of the first two places, how far the index is, its first
-/// three entries, and how many there are, marked ones too; 1,000 where there are more.
+/// two entries, and how many there are, marked ones too; 1,000 where there are more.
 #[derive(Clone, Copy, PartialEq)]
 pub struct Contents {
     pub last: u64,
     pub rows: (Option<Row>, Option<Row>),
     pub life: Life,
-    pub entries: (Entry, Entry, Entry),
+    pub entries: (Entry, Entry),
     pub count: usize,
 }
 
@@ -22,30 +22,17 @@ fn row<A: Allocator + Copy>(core: &Core<A>, rid: Rid) -> Option<Row> {
     core.get(rid)
 }
 
-// The least entry.
-fn first<A: Allocator + Copy>(core: &Core<A>) -> Entry {
-    core.above(None)
-}
-
-// The least entry above this one, if there is one.
+// The least entry above this one, if there is one; or of all.
 fn next<A: Allocator + Copy>(core: &Core<A>, entry: Entry) -> Entry {
     match entry {
         Some((pair, _)) => core.above(Some(&pair)),
-        None => None,
+        None => core.above(None),
     }
 }
 
-fn second<A: Allocator + Copy>(core: &Core<A>) -> Entry {
-    next(core, first(core))
-}
-
-fn third<A: Allocator + Copy>(core: &Core<A>) -> Entry {
-    next(core, second(core))
-}
-
-// How many entries there are, up to 1,000.
-fn count_of<A: Allocator + Copy>(core: &Core<A>) -> usize {
-    let mut entry = first(core);
+// How many entries there are, up to 1,000, where this is the first.
+fn count_of<A: Allocator + Copy>(core: &Core<A>, first: Entry) -> usize {
+    let mut entry = first;
     for count in 0..1_000 {
         if entry.is_none() {
             return count;
@@ -55,8 +42,20 @@ fn count_of<A: Allocator + Copy>(core: &Core<A>) -> usize {
     1_000
 }
 
+// The first two entries; none behind the first where there is no first.
+fn first_two<A: Allocator + Copy>(core: &Core<A>) -> (Entry, Entry) {
+    let first = next(core, None);
+    let second = if first.is_some() {
+        next(core, first)
+    } else {
+        None
+    };
+    (first, second)
+}
+
 /// What a core holds.
 pub(crate) fn contents_of<A: Allocator + Copy>(core: &Core<A>) -> Contents {
+    let entries = first_two(core);
     Contents {
         last: core.last(),
         rows: (
@@ -64,7 +63,7 @@ pub(crate) fn contents_of<A: Allocator + Copy>(core: &Core<A>) -> Contents {
             row(core, Rid { page: 0, slot: 1 }),
         ),
         life: core.life(),
-        entries: (first(core), second(core), third(core)),
-        count: count_of(core),
+        entries,
+        count: count_of(core, entries.0),
     }
 }

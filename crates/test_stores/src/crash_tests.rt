@@ -295,38 +295,27 @@ pub(crate) fn stop_in_each<M: StoreMemory>(
     stopped
 }
 
-// The calls that change what is kept fail in turn, with each fate of what is not synced, and behind each of them each
-// such call of a restart.
-
-static LOSING: [Case; 2] = [
-    Case {
-        which: Which::WritesAndSyncs,
-        fate: Fate::Old,
-        every: 1,
-    },
+// Each write and sync fails in turn, with each fate of what is not synced, and behind it one in 16 of a restart.
+static STOPPED: [Case; 4] = [
     Case {
         which: Which::WritesAndSyncs,
         fate: Fate::Zero,
-        every: 1,
+        every: 16,
     },
-];
-
-static KEEPING: [Case; 1] = [Case {
-    which: Which::WritesAndSyncs,
-    fate: Fate::New,
-    every: 1,
-}];
-
-static SPOILING: [Case; 2] = [
+    Case {
+        which: Which::WritesAndSyncs,
+        fate: Fate::New,
+        every: 16,
+    },
     Case {
         which: Which::WritesAndSyncs,
         fate: Fate::Gate,
-        every: 1,
+        every: 16,
     },
     Case {
         which: Which::WritesAndSyncs,
         fate: Fate::Junk,
-        every: 1,
+        every: 16,
     },
 ];
 
@@ -337,22 +326,14 @@ static FAILING: [Case; 1] = [Case {
     every: 16,
 }];
 
+// What is left behind each stop, and behind stops of the restarts behind it, clauses say (`any_crash` of `run`, `stays`
+// of `restart`). Here it is seen that failures are told, and that no answer is wanting.
 #[test]
-fn each_stop_that_loses_all(rt: HostRuntime) -> Result<(), Error> {
-    do_job(&rt, rt.alloc(), &SCRIPT, Job::Stop(&LOSING))
+fn each_stop(rt: HostRuntime) {
+    do_job(&rt, rt.alloc(), &SCRIPT, Job::Stop(&STOPPED));
 }
 
 #[test]
-fn each_stop_that_keeps_all(rt: HostRuntime) -> Result<(), Error> {
-    do_job(&rt, rt.alloc(), &SCRIPT, Job::Stop(&KEEPING))
-}
-
-#[test]
-fn each_stop_that_spoils(rt: HostRuntime) -> Result<(), Error> {
-    do_job(&rt, rt.alloc(), &SCRIPT, Job::Stop(&SPOILING))
-}
-
-#[test]
-fn each_failure(rt: HostRuntime) -> Result<(), Error> {
-    do_job(&rt, rt.alloc(), &SCRIPT, Job::Stop(&FAILING))
+fn each_failure(rt: HostRuntime) {
+    do_job(&rt, rt.alloc(), &SCRIPT, Job::Stop(&FAILING));
 }

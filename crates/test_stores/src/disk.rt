@@ -71,7 +71,7 @@ impl Disk {
 
     /// A disk with a store that was just formatted, of so many pages and slots. No call of it fails.
     pub fn formatted(alloc: Global, pages: u32, slots: u32) -> Result<Disk, Error> {
-        let geometry = Geometry::new(pages, pages.saturating_mul(64), slots)?;
+        let geometry = Geometry::large(pages, pages.saturating_mul(64), slots)?;
         let mut disk = Disk::bare(alloc, geometry.sectors())?;
         match Halves::format(&mut disk.device, geometry) {
             Ok(()) => Ok(disk),

@@ -60,25 +60,14 @@ pub(crate) fn run_over<M: StoreMemory>(
     }
 }
 
-// What is left is this, where the last record that is safe has this number.
-fn check_left(rt: &impl Abort, left: &Contents, flip: &Flip<'_>) {
-    claim(
-        rt,
-        flip.numbers.last().copied() == Some(left.last),
-        "the last record",
-    );
-    claim(
-        rt,
-        left.rows.0.is_some() && left.rows.1.is_some(),
-        "two rows",
-    );
+// Whether this is left, where the last record that is safe has this number.
+fn is_left(left: &Contents, flip: &Flip<'_>) -> bool {
+    let are_rows = left.rows.0.is_some() && left.rows.1.is_some();
     let is_absent = left.life == Life::Absent;
-    claim(
-        rt,
-        is_absent == (left.count == 0),
-        "an index with entries, or none",
-    );
-    claim(rt, left.count == flip.entries, "so many entries");
+    flip.numbers.last().copied() == Some(left.last)
+        && are_rows
+        && is_absent == (left.count == 0)
+        && left.count == flip.entries
 }
 
 /// A run of these requests gives what is wanted, and so does a crash behind it.
@@ -95,85 +84,98 @@ pub(crate) fn check_flip<M: StoreMemory>(
     let is_told = tell_at_last(&answers, flip.numbers);
     drop(answers);
     let held = held_on(rt, memory, disk.crash(Fate::Junk));
-    claim(rt, is_flipped, "a flip at the end");
-    claim(rt, is_told, "the numbers that are told");
-    check_left(rt, &held?, flip);
+    claim(rt, is_flipped && is_told, "the numbers that are told");
+    claim(rt, is_left(&held?, flip), "what a crash leaves");
     Ok(())
 }
 
 // A transaction works while an image is copied, and then it is current: what was made meanwhile is there too.
-static BETWEEN_REQUESTS: [Script<'static>; 1] = [(
+const BETWEEN: &[Script<'_>] = &[(
     1,
     "begin\ninsert 1 =a =\ncommit 1\nimage\nimage\n\
     begin\ninsert 2 =b =\ncommit 2\nimage\nimage\nimage\n",
 )];
 
 // An index of two rows is dropped when three pieces of an image are copied.
-static DROPPED: [Script<'static>; 1] = [(
+const DROPPED: &[Script<'_>] = &[(
     1,
     "begin\ninsert 1 =a =\ninsert 1 =b =\ncommit 1\ncreate\nbuild 4\n\
     image\nimage\nimage\ndrop\nflush\nimage\n",
 )];
 
-static BETWEEN: Flip<'static> = Flip {
-    size: (2, 4),
-    numbers: &[2, 0, 0, 4, 0, 0, 4],
-    entries: 0,
-};
-
-static BEHIND_DROP: Flip<'static> = Flip {
-    size: (1, 4),
-    numbers: &[3, 4, 0, 0, 0, 8, 8, 8],
-    entries: 0,
-};
-
-#[test]
-fn images_between_requests(rt: HostRuntime) -> Result<(), Error> {
-    do_job(&rt, rt.alloc(), &BETWEEN_REQUESTS, Job::Flip(&BETWEEN))?;
-    do_job(&rt, rt.alloc(), &DROPPED, Job::Flip(&BEHIND_DROP))
-}
-
-// Four transactions of 50 rows each, and this behind them.
-fn behind_200_rows(script: &str) -> [Script<'_>; 9] {
-    [
-        (1, "begin\n"),
-        (50, "insert 1 =a =\n"),
-        (1, "commit 1\nbegin\n"),
-        (50, "insert 2 =a =\n"),
-        (1, "commit 2\nbegin\n"),
-        (50, "insert 3 =a =\n"),
-        (1, "commit 3\nbegin\n"),
-        (50, "insert 4 =a =\n"),
-        (1, script),
-    ]
-}
-
 // Of 200 rows on four pages, and their entries, an image takes its start, the pages, and two chunks of entries.
-const OF_A_BUILD: &str = "commit 4\ncreate\nbuild 208\n\
-    image\nimage\nimage\nimage\nimage\nimage\nimage\nimage\n";
+const BUILT: &[Script<'_>] = &[
+    (1, "begin\n"),
+    (50, "insert 1 =a =\n"),
+    (1, "commit 1\nbegin\n"),
+    (50, "insert 2 =a =\n"),
+    (1, "commit 2\nbegin\n"),
+    (50, "insert 3 =a =\n"),
+    (1, "commit 3\nbegin\n"),
+    (50, "insert 4 =a =\n"),
+    (
+        1,
+        "commit 4\ncreate\nbuild 208\nimage\nimage\nimage\nimage\nimage\nimage\nimage\nimage\n",
+    ),
+];
 
 // An index of 200 rows is dropped when its first chunk is copied, and made anew: what was copied of the first is gone.
-const MADE_ANEW: &str = "commit 4\ncreate\nbuild 208\nimage\nimage\nimage\nimage\nimage\nimage\n\
-    drop\ncreate\nbuild 68\nimage\nimage\n";
+const ANEW: &[Script<'_>] = &[
+    (1, "begin\n"),
+    (50, "insert 1 =a =\n"),
+    (1, "commit 1\nbegin\n"),
+    (50, "insert 2 =a =\n"),
+    (1, "commit 2\nbegin\n"),
+    (50, "insert 3 =a =\n"),
+    (1, "commit 3\nbegin\n"),
+    (50, "insert 4 =a =\n"),
+    (
+        1,
+        "commit 4\ncreate\nbuild 208\nimage\nimage\nimage\nimage\nimage\nimage\n\
+        drop\ncreate\nbuild 68\nimage\nimage\n",
+    ),
+];
 
-static BUILT: Flip<'static> = Flip {
-    size: (4, 16),
-    numbers: &[205, 0, 0, 0, 0, 0, 0, 0, 409],
-    entries: 200,
-};
-
-static ANEW: Flip<'static> = Flip {
-    size: (4, 16),
-    numbers: &[205, 0, 0, 0, 0, 0, 0, 410, 411, 0, 475],
-    entries: 64,
-};
+static FLIPS: [(&[Script<'_>], Flip<'_>); 4] = [
+    (
+        BETWEEN,
+        Flip {
+            size: (2, 4),
+            numbers: &[2, 0, 0, 4, 0, 0, 4],
+            entries: 0,
+        },
+    ),
+    (
+        DROPPED,
+        Flip {
+            size: (1, 4),
+            numbers: &[3, 4, 0, 0, 0, 8, 8, 8],
+            entries: 0,
+        },
+    ),
+    (
+        BUILT,
+        Flip {
+            size: (4, 16),
+            numbers: &[205, 0, 0, 0, 0, 0, 0, 0, 409],
+            entries: 200,
+        },
+    ),
+    (
+        ANEW,
+        Flip {
+            size: (4, 16),
+            numbers: &[205, 0, 0, 0, 0, 0, 0, 410, 411, 0, 475],
+            entries: 64,
+        },
+    ),
+];
 
 #[test]
-fn images_of_builds(rt: HostRuntime) -> Result<(), Error> {
-    let scripts = behind_200_rows(OF_A_BUILD);
-    do_job(&rt, rt.alloc(), &scripts, Job::Flip(&BUILT))?;
-    let scripts = behind_200_rows(MADE_ANEW);
-    do_job(&rt, rt.alloc(), &scripts, Job::Flip(&ANEW))
+fn images_that_become_current(rt: HostRuntime) {
+    for (scripts, flip) in &FLIPS {
+        do_job(&rt, rt.alloc(), *scripts, Job::Flip(flip));
+    }
 }
 
 // An image of four pages, without an index, takes its start, the pages, no entries, and a flip.
@@ -256,57 +258,6 @@ pub(crate) fn count_writes<M: StoreMemory>(
 }
 
 #[test]
-fn an_image_passes_over_pages(rt: HostRuntime) -> Result<(), Error> {
-    do_job(&rt, rt.alloc(), &[], Job::CountWrites)
-}
-
-// What taking the store on the disk apart gives behind these requests, but for the disk.
-fn parted<M: StoreMemory>(
-    rt: &impl Abort,
-    memory: M,
-    alloc: Global,
-    events: &[Event],
-) -> Result<Result<(u64, u64), Error>, Error> {
-    let mut store = open(rt, memory, Disk::formatted(alloc, 1, 4)?)?;
-    let run = store.run(events);
-    let parts = store.into_parts();
-    let numbers = match parts {
-        Ok((last, synced, disk)) => {
-            drop(disk);
-            Ok((last, synced))
-        }
-        Err((error, disk)) => {
-            drop(disk);
-            Err(error)
-        }
-    };
-    drop(run?);
-    Ok(numbers)
-}
-
-/// A store is taken apart, which gives this, behind these requests.
-pub(crate) fn take_apart<M: StoreMemory>(
-    rt: &impl Abort,
-    memory: M,
-    alloc: Global,
-    events: &[Event],
-    wanted: Result<(u64, u64), Error>,
-) -> Result<(), Error> {
-    let parted = parted(rt, memory, alloc, events)?;
-    claim(rt, parted == wanted, "the parts of a store");
-    Ok(())
-}
-
-// An image is under way.
-static WITH_IMAGE: [Script<'static>; 1] = [(1, "begin\ninsert 1 =a =\nimage\ncommit 1\nimage\n")];
-
-// A transaction is active.
-static WITH_TXN: [Script<'static>; 1] = [(1, "begin\n")];
-
-// A store with an image under way is taken apart: all is safe then. One with an active transaction isn't.
-#[test]
-fn a_store_is_taken_apart(rt: HostRuntime) -> Result<(), Error> {
-    do_job(&rt, rt.alloc(), &WITH_IMAGE, Job::TakeApart(Ok((2, 2))))?;
-    let refused = Err(Error::TxnsActive);
-    do_job(&rt, rt.alloc(), &WITH_TXN, Job::TakeApart(refused))
+fn an_image_passes_over_pages(rt: HostRuntime) {
+    do_job(&rt, rt.alloc(), &[], Job::CountWrites);
 }

@@ -1,4 +1,5 @@
 // What is done over stores in memory. One function alone names the memory's type, and all else is generic over it.
+use crate::claims::claim;
 use crate::store::StoreMemory;
 use crate::{
     build_tests, byte_tests, crash_tests, damage_tests, image_tests, memory_tests, migration_tests,
@@ -17,8 +18,6 @@ pub(crate) enum Job<'a> {
     BuildIndex,
     /// Stores that were harmed are opened.
     OpenHarmed,
-    /// An index that has no record is built to its end.
-    CompleteIndex,
     /// Stores of version 1 are moved.
     Move,
     /// Stores are not moved.
@@ -28,13 +27,11 @@ pub(crate) enum Job<'a> {
     /// The writes of images are counted.
     CountWrites,
     /// What the requests leave is compared byte by byte.
-    CompareBytes,
+    CompareBytes(byte_tests::Layout),
     /// A run is stopped at each call of each case.
     Stop(&'a [crash_tests::Case]),
     /// An image becomes current.
     Flip(&'a image_tests::Flip<'a>),
-    /// The store is taken apart, which gives the numbers of its last record and of the last that is safe.
-    TakeApart(Result<(u64, u64), Error>),
     /// Each allocation is refused in turn.
     Refuse(memory_tests::Wanted),
     /// A moved store goes on.
@@ -51,31 +48,35 @@ fn do_over<M: StoreMemory>(
     match job {
         Job::BuildIndex => build_tests::fill_and_build_over(rt, memory, alloc),
         Job::OpenHarmed => damage_tests::open_harmed(rt, memory, alloc),
-        Job::CompleteIndex => damage_tests::complete_index(rt, memory, alloc),
         Job::Move => migration_tests::move_each(rt, memory, alloc),
         Job::KeepOld => migration_tests::keep_each(rt, memory, alloc),
         Job::Hinder => migration_tests::hinder_all(rt, memory, alloc),
         Job::CountWrites => image_tests::count_writes(rt, memory, alloc),
-        Job::CompareBytes => byte_tests::run_and_compare(rt, memory, alloc, events),
+        Job::CompareBytes(layout) => {
+            byte_tests::run_and_compare(rt, memory, alloc, events, layout)
+        }
         Job::Stop(cases) => crash_tests::stop_in_each(rt, memory, alloc, events, cases),
         Job::Flip(flip) => image_tests::check_flip(rt, memory, alloc, events, flip),
-        Job::TakeApart(wanted) => image_tests::take_apart(rt, memory, alloc, events, wanted),
         Job::Refuse(wanted) => memory_tests::refuse_each(rt, memory, alloc, events, wanted),
         Job::GoOn => migration_tests::go_on(rt, memory, alloc, events),
     }
 }
 
-/// Does this, with the requests of these scripts, over memory of which none is refused at first.
-pub(crate) fn do_job<'a>(
-    rt: &impl Abort,
-    alloc: Global,
-    scripts: &'a [Script<'a>],
-    job: Job<'a>,
-) -> Result<(), Error> {
-    let events = requests_of(alloc, scripts)?;
+// Does this with these requests. Nothing is refused, but where that is wanted.
+fn do_with(rt: &impl Abort, alloc: Global, events: &[Event], job: Job<'_>) {
     let memory = Refusing::new(alloc, u64::MAX);
-    let done = do_over(rt, &memory, alloc, &events, job);
+    let done = do_over(rt, &memory, alloc, events, job);
     drop(memory);
-    drop(events);
-    done
+    claim(rt, done.is_ok(), "that nothing else is refused");
+}
+
+/// Does this, with the requests of these scripts, over memory of which none is refused at first.
+pub(crate) fn do_job(rt: &impl Abort, alloc: Global, scripts: &[Script<'_>], job: Job<'_>) {
+    match requests_of(alloc, scripts) {
+        Ok(events) => {
+            do_with(rt, alloc, &events, job);
+            drop(events);
+        }
+        Err(_) => claim(rt, false, "requests"),
+    }
 }

@@ -1,8 +1,8 @@
-//! Tests of stores in memory: of `restart`, which opens and serves them, and of both versions of their format.
+//! Tests of stores in memory: of `restart`, which opens and serves them, and of the versions of their format.
 //!
 //! Each allocation is refused in turn, and each call of the device fails in turn, with each fate; damaged stores are
 //! refused by name. Images are taken, and an index is built over every place. Stores of version 1, written by the
-//! format's text, are moved, harmed and hindered.
+//! format's text, are moved and hindered.
 //!
 //! Proved of them is safety. `test_files` has the tests of stores in files.
 #![tactic(auto)]

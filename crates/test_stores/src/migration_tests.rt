@@ -8,7 +8,7 @@ use crate::jobs::{Job, do_job};
 use crate::opened::held_on;
 use crate::store::{OpenStore, StoreMemory};
 use model::Life;
-use records::{Body, Error, Key, Mark, Pair, Rid, Row};
+use records::{Error, Mark, Rid};
 use restart::{Event, MigrateError};
 use sector_device::{Fate, Which};
 use std::alloc::Global;
@@ -49,11 +49,6 @@ const IMAGED_UNFINISHED: &[Edit<'_>] = &[
     (524, 63, b"\x01"),
 ];
 
-// An index is made and dropped, which version 1 can't say.
-const DROP: &[u8] = b"\0\x02\0\x22\
-    \0\0\0\0\0\0\0\x01\0\0\0\0\0\0\0\0\x09\
-    \0\0\0\0\0\0\0\x02\0\0\0\0\0\0\0\0\x0e";
-
 // A disk with a store of version 1, synced.
 fn old_disk(alloc: Global, edits: &[Edit<'_>]) -> Result<Disk, Error> {
     let disk = Disk::bare(alloc, OLD_SECTORS)?.edited(edits)?;
@@ -86,83 +81,65 @@ fn moved_to<M: StoreMemory>(memory: M, old: &mut Disk, new: Disk) -> (Held, Disk
     }
 }
 
-// Whether the old disk has just these sectors, and none that a crash may change.
-fn is_kept(old: Disk, edits: &[Edit<'_>]) -> bool {
-    let mut left = old.crash(Fate::Junk);
-    let kept = left.holds(edits, 0, OLD_SECTORS);
-    drop(left);
-    kept
-}
-
-// Moves the store with these sectors to a disk of so many. The old disk is as before.
+// Moves the store with these sectors to a disk of so many. That the old disk is as before, a clause says (`kept` of
+// `migrate`).
 fn moved<M: StoreMemory>(
-    rt: &impl Abort,
     memory: M,
     alloc: Global,
     edits: &[Edit<'_>],
     sectors: u64,
 ) -> Result<(Held, Disk), Error> {
     let (mut old, new) = disks(alloc, edits, sectors)?;
-    let (held, disk) = moved_to(memory, &mut old, new);
-    let kept = is_kept(old, edits);
-    claim(rt, kept, "an old disk that is not written");
-    Ok((held, disk))
+    let moved = moved_to(memory, &mut old, new);
+    drop(old);
+    Ok(moved)
 }
 
-// Moves a store with these sectors, and opens it again behind a crash. What it holds both times is this.
-fn check_moved<M: StoreMemory>(
+// What a moved store holds: the number of its last record; whether there is a row at the first place; and whether an
+// index is being built, whose first entry is marked and whose second one is the highest.
+type Kind = (u64, bool, bool);
+
+// Whether it is so.
+fn is_building(held: &Contents) -> bool {
+    let (first, second) = held.entries;
+    let is_marked = matches!(first, Some((_, Mark::Marked)));
+    match second {
+        Some((live, Mark::Live)) => {
+            let highest = Some(live);
+            is_marked && held.count == 2 && held.life == Life::Building { highest }
+        }
+        _ => false,
+    }
+}
+
+fn is_of_kind(held: &Contents, (last, has_row, has_index): Kind) -> bool {
+    let is_indexed = if has_index {
+        is_building(held)
+    } else {
+        held.life == Life::Absent && held.count == 0
+    };
+    held.last == last && held.rows.0.is_some() == has_row && held.rows.1.is_none() && is_indexed
+}
+
+// Moves a store with these sectors, and opens it again behind a crash. Whether it is of this kind, both times.
+fn is_moved<M: StoreMemory>(
     rt: &impl Abort,
     memory: M,
     alloc: Global,
     edits: &[Edit<'_>],
-    wanted: &Contents,
-) -> Result<(), Error> {
-    let (held, disk) = moved(rt, memory, alloc, edits, SECTORS)?;
-    let again = held_on(rt, memory, disk.crash(Fate::Junk));
-    claim(rt, held == Ok(*wanted), "what a moved store holds");
-    claim(rt, again? == *wanted, "what it holds again");
-    Ok(())
+    kind: Kind,
+) -> Result<bool, Error> {
+    let (held, disk) = moved(memory, alloc, edits, SECTORS)?;
+    let again = held_on(rt, memory, disk.crash(Fate::Junk))?;
+    Ok(held == Ok(again) && is_of_kind(&again, kind))
 }
 
-fn pair(key: &[u8], rid: Rid) -> Result<Pair, Error> {
-    Ok(Pair {
-        key: Key::new(key)?,
-        rid,
-    })
-}
-
-fn ant() -> Result<Row, Error> {
-    Ok(Row {
-        key: Key::new(b"ant")?,
-        body: Body::new(b"x")?,
-    })
-}
-
-// What a store without an index holds.
-fn unindexed(last: u64, row: Option<Row>) -> Contents {
-    Contents {
-        last,
-        rows: (row, None),
-        life: Life::Absent,
-        entries: (None, None, None),
-        count: 0,
-    }
-}
-
-// What a store holds whose index is built up to its pair.
-fn building() -> Result<Contents, Error> {
-    let marked = pair(b"a", Rid { page: 0, slot: 1 })?;
-    let live = pair(b"ant", Rid { page: 0, slot: 0 })?;
-    Ok(Contents {
-        last: 6,
-        rows: (Some(ant()?), None),
-        life: Life::Building {
-            highest: Some(live),
-        },
-        entries: (Some((marked, Mark::Marked)), Some((live, Mark::Live)), None),
-        count: 2,
-    })
-}
+static MOVED: [(&[Edit<'_>], Kind); 4] = [
+    (UNFINISHED, (1, false, false)),
+    (LOGGED, (2, true, false)),
+    (BUILDING_1, (6, true, true)),
+    (IMAGED_UNFINISHED, (6, true, true)),
+];
 
 /// Stores of version 1 are moved.
 pub(crate) fn move_each<M: StoreMemory>(
@@ -170,22 +147,20 @@ pub(crate) fn move_each<M: StoreMemory>(
     memory: M,
     alloc: Global,
 ) -> Result<(), Error> {
-    let (row, building) = (ant()?, building()?);
-    check_moved(rt, memory, alloc, UNFINISHED, &unindexed(1, None))?;
-    check_moved(rt, memory, alloc, LOGGED, &unindexed(2, Some(row)))?;
-    check_moved(rt, memory, alloc, BUILDING_1, &building)?;
-    check_moved(rt, memory, alloc, IMAGED_UNFINISHED, &building)?;
+    for (edits, kind) in &MOVED {
+        let is_moved = is_moved(rt, memory, alloc, *edits, *kind)?;
+        claim_at(rt, is_moved, "a moved store of record", kind.0);
+    }
     Ok(())
 }
 
 #[test]
-fn stores_of_version_1_are_moved(rt: HostRuntime) -> Result<(), Error> {
-    do_job(&rt, rt.alloc(), &[], Job::Move)
+fn stores_of_version_1_are_moved(rt: HostRuntime) {
+    do_job(&rt, rt.alloc(), &[], Job::Move);
 }
 
 // What a moved store answers to requests.
 fn answers_of_moved<M: StoreMemory>(
-    rt: &impl Abort,
     memory: M,
     old: &mut Disk,
     new: Disk,
@@ -199,16 +174,24 @@ fn answers_of_moved<M: StoreMemory>(
         }
         Err((_, disk)) => {
             drop(disk);
-            rt.panic("a store that isn't moved")
+            Err(Error::NotFormatted)
         }
     }
 }
 
-// Whether a row is put behind the one that was moved, and committed.
+// Whether the row that was moved is read, and one is put behind it, and committed.
 fn are_of_commit(answers: &[Answer]) -> bool {
     match answers {
-        [Answer::Txn(_), Answer::Rid(rid), Answer::Ticket(ticket)] => {
-            *rid == Rid { page: 0, slot: 1 } && ticket.record.get() == 4
+        [
+            Answer::Row(Some(row)),
+            Answer::Txn(_),
+            Answer::Rid(rid),
+            Answer::Ticket(ticket),
+        ] => {
+            row.key.as_slice() == b"ant".as_slice()
+                && row.body.as_slice() == b"x".as_slice()
+                && *rid == Rid { page: 0, slot: 1 }
+                && ticket.record.get() == 4
         }
         _ => false,
     }
@@ -222,7 +205,7 @@ pub(crate) fn go_on<M: StoreMemory>(
     events: &[Event],
 ) -> Result<(), Error> {
     let (mut old, new) = disks(alloc, LOGGED, SECTORS)?;
-    let answers = answers_of_moved(rt, memory, &mut old, new, events);
+    let answers = answers_of_moved(memory, &mut old, new, events);
     drop(old);
     let answers = answers?;
     let is_wanted = are_of_commit(&answers);
@@ -231,11 +214,11 @@ pub(crate) fn go_on<M: StoreMemory>(
     Ok(())
 }
 
-static COMMIT: [Script<'static>; 1] = [(1, "begin\ninsert 1 =b =\ncommit 1\n")];
+static COMMIT: [Script<'static>; 1] = [(1, "get 0.0\nbegin\ninsert 1 =b =\ncommit 1\n")];
 
 #[test]
-fn a_moved_store_goes_on(rt: HostRuntime) -> Result<(), Error> {
-    do_job(&rt, rt.alloc(), &COMMIT, Job::GoOn)
+fn a_moved_store_goes_on(rt: HostRuntime) {
+    do_job(&rt, rt.alloc(), &COMMIT, Job::GoOn);
 }
 
 const DAMAGED: MigrateError = MigrateError::Old(Error::Damaged { sector: 0 });
@@ -274,47 +257,16 @@ static NOT_MOVED: [(&str, &[Edit<'_>], u64, MigrateError); 5] = [
     ),
 ];
 
-// The sectors of a store, and the one at which it is damaged.
-static HARMED: [(&[Edit<'_>], u64); 18] = [
-    (&[SUPERBLOCK_1, (0, 24, b"\x01")], 0),
-    (&[SUPERBLOCK_1, (0, 15, b"\0")], 0),
-    (&[SUPERBLOCK_1, (2, 0, b"\x03")], 2),
-    (&[SUPERBLOCK_1, (2, 1, b"\x01")], 2),
-    (&[SUPERBLOCK_1, (2, 45, b"\x01")], 2),
-    (&[SUPERBLOCK_1, (3, 39, b"\x01")], 3),
-    (&[SUPERBLOCK_1, (3, 9, b"\x01")], 3),
-    (&[SUPERBLOCK_1, (3, 7, b"\x01\0\x01")], 4),
-    (&[SUPERBLOCK_1, (516, 0, b"\x01")], 516),
-    (&[SUPERBLOCK_1, (516, 64, b"\x02")], 516),
-    (&[SUPERBLOCK_1, (516, 64, b"\x01\x19")], 516),
-    (&[SUPERBLOCK_1, (516, 64, b"\x01"), (516, 90, b"\x26")], 516),
-    (&[SUPERBLOCK_1, (523, 0, b"\x02")], 516),
-    (&[SUPERBLOCK_1, (2, 44, b"\x01")], 524),
-    (&[SUPERBLOCK_1, (528, 0, b"\xa5")], 528),
-    (&[SUPERBLOCK_1, (528, 0, b"\xa5"), (529, 0, DROP)], 528),
-    (
-        &[
-            SUPERBLOCK_1,
-            (2, 40, b"\x01"),
-            (528, 0, b"\xa5"),
-            (529, 0, GROUP),
-        ],
-        528,
-    ),
-    (&[SUPERBLOCK_1, (536, 0, b"\xa5")], 536),
-];
-
-// Whether a store with these sectors isn't moved to a disk of so many, for this.
-fn is_kept_for<M: StoreMemory>(
-    rt: &impl Abort,
+// Why a store with these sectors isn't moved to a disk of so many, if it isn't.
+fn why_not_moved<M: StoreMemory>(
     memory: M,
     alloc: Global,
     edits: &[Edit<'_>],
-    (sectors, wanted): (u64, MigrateError),
-) -> Result<bool, Error> {
-    let (held, disk) = moved(rt, memory, alloc, edits, sectors)?;
+    sectors: u64,
+) -> Result<Option<MigrateError>, Error> {
+    let (held, disk) = moved(memory, alloc, edits, sectors)?;
     drop(disk);
-    Ok(held == Err(wanted))
+    Ok(held.err())
 }
 
 /// Stores aren't moved; and one of version 1 isn't opened.
@@ -324,13 +276,8 @@ pub(crate) fn keep_each<M: StoreMemory>(
     alloc: Global,
 ) -> Result<(), Error> {
     for (name, edits, sectors, wanted) in &NOT_MOVED {
-        let is_kept = is_kept_for(rt, memory, alloc, *edits, (*sectors, *wanted))?;
-        claim(rt, is_kept, *name);
-    }
-    for (edits, sector) in &HARMED {
-        let wanted = MigrateError::Old(Error::Damaged { sector: *sector });
-        let is_kept = is_kept_for(rt, memory, alloc, *edits, (0, wanted))?;
-        claim_at(rt, is_kept, "damage at sector", *sector);
+        let why = why_not_moved(memory, alloc, *edits, *sectors)?;
+        claim(rt, why == Some(*wanted), *name);
     }
     let refused = why_not_open(memory, old_disk(alloc, LOGGED)?);
     claim(rt, refused == Some(Error::OldVersion), "an old version");
@@ -338,8 +285,8 @@ pub(crate) fn keep_each<M: StoreMemory>(
 }
 
 #[test]
-fn stores_that_are_not_moved(rt: HostRuntime) -> Result<(), Error> {
-    do_job(&rt, rt.alloc(), &[], Job::KeepOld)
+fn stores_that_are_not_moved(rt: HostRuntime) {
+    do_job(&rt, rt.alloc(), &[], Job::KeepOld);
 }
 
 // More than the calls of a disk in a migration, and than its allocations.
@@ -349,36 +296,22 @@ const CALLS: u64 = 1_000;
 // behind so many.
 type Hindrance = (u64, u64, u64);
 
-// Why a store isn't moved, if it isn't; whether the new disk was written; and whether memory was refused.
-type Hindered = (Option<MigrateError>, bool, bool);
-
-// Whether the first sector of the disk was written.
-fn is_written(disk: Disk) -> bool {
-    let mut left = disk.crash(Fate::New);
-    let is_empty = left.holds(&[], 0, 1);
-    drop(left);
-    !is_empty
-}
-
-// Moves a store to a disk of so many sectors, where this fails.
+// Moves a store to a disk of so many sectors, where this fails. Why it isn't moved, if it isn't; and whether memory was
+// refused.
 fn hindered<M: StoreMemory>(
     memory: M,
     alloc: Global,
     (old_call, new_call, before): Hindrance,
     sectors: u64,
-) -> Result<Hindered, Error> {
+) -> Result<(Option<MigrateError>, bool), Error> {
     let (old, new) = disks(alloc, LOGGED, sectors)?;
     let mut old = old.failing(Which::All, old_call);
     let was = memory.refused();
     memory.refuse_after(before);
     let (held, disk) = moved_to(memory, &mut old, new.failing(Which::All, new_call));
     drop(old);
-    let written = is_written(disk);
-    let error = match held {
-        Ok(_) => None,
-        Err(error) => Some(error),
-    };
-    Ok((error, written, was < memory.refused()))
+    drop(disk);
+    Ok((held.err(), was < memory.refused()))
 }
 
 // What fails in turn.
@@ -408,17 +341,11 @@ fn hinder_each<M: StoreMemory>(
 ) -> Result<(), Error> {
     for count in 0..CALLS {
         let failing = at_count(place, count);
-        let (error, is_written, is_refused) = hindered(memory, alloc, failing, sectors)?;
+        let (error, is_refused) = hindered(memory, alloc, failing, sectors)?;
         if error == whole && !is_refused {
             return Ok(());
         }
         claim_at(rt, error == Some(wanted), "the refusal at count", count);
-        claim_at(
-            rt,
-            !is_written || wanted == NEW_FAILED,
-            "a new disk unwritten at count",
-            count,
-        );
     }
     rt.panic("more calls")
 }
@@ -457,6 +384,6 @@ pub(crate) fn hinder_all<M: StoreMemory>(
 }
 
 #[test]
-fn migrations_that_are_hindered(rt: HostRuntime) -> Result<(), Error> {
-    do_job(&rt, rt.alloc(), &[], Job::Hinder)
+fn migrations_that_are_hindered(rt: HostRuntime) {
+    do_job(&rt, rt.alloc(), &[], Job::Hinder);
 }

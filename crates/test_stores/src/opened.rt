@@ -3,8 +3,7 @@ use crate::claims::claim;
 use crate::contents::Contents;
 use crate::disk::Disk;
 use crate::store::{OpenStore, StoreMemory};
-use records::{Error, Txn};
-use restart::Event;
+use records::Error;
 use std::process::Abort;
 
 /// The store on the disk, opened, if need be a second time. Without a refusal of memory there is no want of it.
@@ -41,14 +40,4 @@ pub fn held_on<M: StoreMemory>(rt: &impl Abort, memory: M, disk: Disk) -> Result
     let held = store.contents();
     drop(store.close());
     Ok(held)
-}
-
-/// Begins a transaction.
-pub fn begin(store: &mut impl OpenStore) {
-    store.ask(&Event::Begin);
-}
-
-/// Commits it.
-pub fn commit(store: &mut impl OpenStore, txn: Txn) {
-    store.ask(&Event::Commit { txn });
 }

@@ -1,10 +1,8 @@
 -- Seats in their order.
-use Rattle.std.proofs.Common.{◌≡◌, ◌∙◌, ◌++◌, ◌∷◌, ℕ, List, [], Some, length, length-append, map, refl, subst, sym}
+use Rattle.std.proofs.Common.{◌≡◌, ◌∙◌, ◌++◌, ◌∷◌, ℕ, List, [], Some, length, map, refl, subst}
 use Rattle.std.proofs.lemmas.List.{length-map}
 use Rattle.std.specs.Prelude.{slice_get}
 use Rattle.atomic_table.specs.Seated.{TableId}
-use Rattle.threads_lifetime.specs.Gathered.{AreAllSeats}
-use Rattle.threads_lifetime.proofs.Orders.{one_more}
 use Rattle.shared.specs.Seats.{AreNewSeats, SeatValue}
 
 -- what stands behind a list
@@ -18,10 +16,3 @@ pub next_is : {C : Type 0} (seat : C → SeatValue) (board : TableId) (count : �
 next_is seat board count before s after all new e =
     (new.each (length (map seat before)) s (subst (λ (xs : List SeatValue). slice_get xs (length (map seat before)) ≡ Some s) e
     (get_next (map seat before) s after))).0 ∙ length-map before seat
-
--- one seat more, of the next number
-pub one_pushed : (seats pushed : List SeatValue) (s : SeatValue) → pushed ≡ seats ++ s ∷ [] → AreAllSeats (length seats) seats → s.number ≡ length seats
-    → AreAllSeats (length pushed) pushed
-one_pushed seats pushed s e all next =
-    subst (λ (xs : List SeatValue). AreAllSeats (length xs) xs) (sym e)
-    (subst (λ (n : ℕ). AreAllSeats n (seats ++ s ∷ [])) (sym (length-append seats (s ∷ []))) (one_more (length seats) seats s all next))

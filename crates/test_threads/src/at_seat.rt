@@ -149,11 +149,6 @@ impl<B: Group, A: Memory, R: Wait> Calls for AtSeat<'_, B, A, R> {
         self.shared.is_acked(&mut at.seat, ticket)
     }
 
-    fn has_failed(&mut self) -> bool {
-        let at = &mut *self.at;
-        self.shared.another_view(&mut at.seat).failed(self.shared)
-    }
-
     fn progress(&mut self) -> u64 {
         let at = &mut *self.at;
         self.shared.progress(&mut at.seat)

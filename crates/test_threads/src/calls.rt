@@ -59,9 +59,6 @@ pub(crate) trait Calls {
     /// Whether the record of a ticket is safe.
     fn is_acked(&mut self, ticket: Ticket) -> bool;
 
-    /// Whether the device has failed.
-    fn has_failed(&mut self) -> bool;
-
     /// How many attempts the builder has told of.
     fn progress(&mut self) -> u64;
 

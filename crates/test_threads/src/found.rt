@@ -1,22 +1,13 @@
-//! What is found behind a crash.
-use crate::seats::{Put, Told};
+//! Stores on disks in memory, and what is found behind a crash.
 use nsf_core::Core;
-use program_demonstration::key_of;
-use records::{Body, ENTRIES_MAX, Error, Geometry, Key, Mark, Rid};
-use restart::{Engine, Event, Reply, restart};
-use sector_device::{Device, Fate, FaultDisk, MemDisk, Which};
+use records::{Error, Geometry, LARGE_ENTRIES_MAX, Mark};
+use restart::restart;
+use sector_device::{Fate, FaultDisk, MemDisk, Which};
 use std::alloc::Global;
 use threads_lifetime::format_store;
 
 /// A disk in memory that may fail.
 pub type Disk = FaultDisk<MemDisk<Global>>;
-
-// The row that the engine puts.
-const SERVED: Put = Put {
-    rid: Rid { page: 0, slot: 0 },
-    first: 100,
-    second: 0,
-};
 
 /// A disk in memory with a new store, and with room to record so many writes and syncs.
 pub fn formatted(
@@ -29,45 +20,22 @@ pub fn formatted(
     Ok(disk)
 }
 
-/// A disk with a new store of eight pages and 16 slots, whose write or sync of this number fails, counted from 1.
+/// A disk with a new store of eight pages and 16 slots.
+pub fn with_pages(alloc: Global) -> Result<MemDisk<Global>, Error> {
+    formatted(alloc, Geometry::new(8, 1_024, 16)?, 16_384)
+}
+
+/// The same, whose write or sync of this number fails, counted from 1.
 pub fn failing(alloc: Global, fails_at: u64) -> Result<Disk, Error> {
-    let disk = formatted(alloc, Geometry::new(8, 1_024, 16)?, 16_384)?;
+    let disk = with_pages(alloc)?;
     Ok(FaultDisk::new(disk, Which::WritesAndSyncs, fails_at))
-}
-
-// Lets the engine put its row and commit it.
-fn put_row<D: Device>(engine: &mut Engine<D, Global>) -> Result<(), Error> {
-    let key = key_of(SERVED.first, SERVED.second)?;
-    let body = Body::new(b"")?;
-    if let Reply::Txn(txn) = engine.serve(Event::Begin) {
-        drop(engine.serve(Event::Insert { txn, key, body }));
-        drop(engine.serve(Event::Commit { txn }));
-    }
-    Ok(())
-}
-
-/// An engine over the store on the device that has put a row and committed it, and flushed nothing.
-pub fn served<D: Device + Drop>(alloc: Global, device: D) -> Result<Engine<D, Global>, Error> {
-    match restart(alloc, device) {
-        Ok(mut engine) => match put_row(&mut engine) {
-            Ok(()) => Ok(engine),
-            Err(error) => {
-                drop(engine.into_device());
-                Err(error)
-            }
-        },
-        Err((error, device)) => {
-            drop(device);
-            Err(error)
-        }
-    }
 }
 
 // How many entries are marked.
 fn count_marked(core: &Core<Global>) -> u32 {
     let mut marked: u32 = 0;
     let mut next = core.above(None);
-    for _ in 0..=ENTRIES_MAX {
+    for _ in 0..=LARGE_ENTRIES_MAX {
         let Some((pair, mark)) = next else {
             return marked;
         };
@@ -77,69 +45,18 @@ fn count_marked(core: &Core<Global>) -> u32 {
     marked
 }
 
-// Whether there is a row at the place, with the key.
-fn has_row(core: &Core<Global>, rid: Rid, key: &Key) -> bool {
-    match core.get(rid) {
-        Some(row) => row.key == *key,
-        None => false,
-    }
-}
-
-// How many of the rows are there.
-fn count_there(core: &Core<Global>, rows: &[Put]) -> Result<u32, Error> {
-    let mut there: u32 = 0;
-    for row in rows {
-        let key = key_of(row.first, row.second)?;
-        there = there.saturating_add(u32::from(has_row(core, row.rid, &key)));
-    }
-    Ok(there)
-}
-
-/// What a restart finds: how many rows are lost that were told to be safe, how many are there that were told to be
-/// gone, and how many marked entries there are.
-#[derive(Drop)]
-pub struct Behind {
-    pub lost: u32,
-    pub back: u32,
-    pub marked: u32,
-}
-
-// How many rows were told to be safe, with the engine's.
-fn count_kept(told: &Told) -> u32 {
-    u32::try_from(told.kept.len())
-        .unwrap_or(u32::MAX)
-        .saturating_add(1)
-}
-
-// What is found of these rows.
-fn look_in(core: &Core<Global>, told: &Told) -> Result<Behind, Error> {
-    let served = count_there(core, &[SERVED])?;
-    let there = count_there(core, &told.kept)?.saturating_add(served);
-    Ok(Behind {
-        lost: count_kept(told).saturating_sub(there),
-        back: count_there(core, &told.gone)?,
-        marked: count_marked(core),
-    })
-}
-
-// What is found where the store on the device is opened.
-fn look<D: Device + Drop>(alloc: Global, device: D, told: &Told) -> Result<Behind, Error> {
-    match restart(alloc, device) {
+/// How many marked entries a restart finds behind a crash of the disk.
+pub fn marked_behind_crash(alloc: Global, mut disk: MemDisk<Global>) -> Result<u32, Error> {
+    disk.crash(&[Fate::Junk]);
+    match restart(alloc, disk) {
         Ok(engine) => {
-            let behind = look_in(engine.core(), told);
+            let marked = count_marked(engine.core());
             drop(engine.into_device());
-            behind
+            Ok(marked)
         }
         Err((error, device)) => {
             drop(device);
             Err(error)
         }
     }
-}
-
-/// What a restart finds behind a crash of the disk.
-pub fn behind_crash(alloc: Global, disk: Disk, told: &Told) -> Result<Behind, Error> {
-    let mut disk = disk.into_inner();
-    disk.crash(&[Fate::Junk]);
-    look(alloc, disk, told)
 }

@@ -10,50 +10,45 @@ use crate::soloist::take_last;
 use crate::store::{give_up, open, start};
 use records::Error;
 use sector_device::Device;
-use shared::{BuildPart, Group, GroupView, Kept, Parts, Shared};
+use shared::{BuildPart, Group, Kept, Seat, Shared};
 use std::alloc::Global;
 use std::cell::Cell;
 use std::marker::Brand;
 use std::mem::forget;
 use std::sync::Wait;
-use threads_flusher::FlushPart;
 use threads_lifetime::OpenStore;
 use threads_loops::{Gate, Point, build_loop};
 
-/// Whether the index was created, and dropped; how the builder ended; and what was seen of the board behind that: the
-/// horizon, whether the device failed, and whether all are asked to stop.
-#[derive(Clone, Copy)]
-pub(crate) struct Built {
-    pub(crate) created: bool,
-    pub(crate) dropped: bool,
-    pub(crate) refused: Option<Error>,
-    pub(crate) horizon: u64,
-    pub(crate) failed: bool,
-    pub(crate) stopped: bool,
-}
-
-// Creates an index over a hundred rows. Whether that was done.
+// Creates an index over a hundred rows, or drops it. Whether that was done.
 #[derive(Drop)]
-struct Creates {
+struct Indexing {
+    creates: bool,
     done: bool,
 }
 
-impl Player for Creates {
+impl Player for Indexing {
     fn play<C: Calls>(&mut self, seat: &mut C) {
-        self.done = set_up(seat).is_ok();
+        self.done = if self.creates {
+            set_up(seat).is_ok()
+        } else {
+            seat.drop_index().is_ok()
+        };
     }
 }
 
-// Drops the index. Whether that was done.
-#[derive(Drop)]
-struct Drops {
-    done: bool,
-}
-
-impl Player for Drops {
-    fn play<C: Calls>(&mut self, seat: &mut C) {
-        self.done = seat.drop_index().is_ok();
-    }
+// Lets the seat do so. Whether it was done.
+fn index<B: Group, R: Wait>(
+    rt: &R,
+    shared: &Shared<B>,
+    at: &mut Numbered<B, Global>,
+    creates: bool,
+) -> bool {
+    let mut indexing = Indexing {
+        creates,
+        done: false,
+    };
+    let_play(rt, shared, at, &mut indexing);
+    indexing.done
 }
 
 // A seat that drops the index as the builder first has scanned a page. Whether it was dropped.
@@ -71,18 +66,10 @@ impl<B: Group, R: Wait> Gate for Dropping<'_, B, R> {
             return;
         }
         if let Some(mut at) = self.seat.replace(None) {
-            let mut drops = Drops { done: false };
-            let_play(self.rt, self.shared, &mut at, &mut drops);
-            self.dropped.set(drops.done);
+            let dropped = index(self.rt, self.shared, &mut at, false);
+            self.dropped.set(dropped);
         }
     }
-}
-
-// Lets the seat create the index. Whether that was done.
-fn create<B: Group, R: Wait>(rt: &R, shared: &Shared<B>, at: &mut Numbered<B, Global>) -> bool {
-    let mut creates = Creates { done: false };
-    let_play(rt, shared, at, &mut creates);
-    creates.done
 }
 
 // Builds the index, which the seat drops. How the builder ended, and whether it was dropped. What is left of the gate
@@ -105,66 +92,34 @@ fn build_held<B: Group, R: Wait>(
     (refused, dropped)
 }
 
-// Asks all to stop by a view of a view, and reads the board by the view itself: the horizon, whether the device failed,
-// and whether all are asked to stop.
-fn stop_and_look<B: Group, D: Device>(
-    shared: &Shared<B>,
-    flush: &mut FlushPart<B, D>,
-    build: &mut BuildPart<B>,
-    view: &mut GroupView<B>,
-) -> (u64, bool, bool) {
-    view.another_view(shared).stop(shared);
-    view.settle(shared, flush);
-    build.settle(shared, view);
-    (
-        view.horizon(shared),
-        view.failed(shared),
-        view.stopped(shared),
-    )
-}
-
-// With the last of new seats, if there is one.
-fn build_with<B: Group, D: Device, R: Wait>(
+// With the last of new seats, if there is one. Whether the index was created and dropped, and the builder ended for
+// want of it.
+fn build_with<B: Group, R: Wait>(
     rt: &R,
     shared: &Shared<B>,
-    parts: &mut Parts<B, D, Global, Kept>,
-) -> Option<Built>
-    requires { AreNewSeats B.site.board B.site.seats parts.old.seats.items }
+    seats: &mut Vec<Seat<B, Global, Kept>>,
+    build: &mut BuildPart<B>,
+) -> bool
+    requires { AreNewSeats B.site.board B.site.seats seats.old.items }
 {
-    let mut at = take_last(&mut parts.seats)?;
-    let mut view = shared.another_view(&mut at.seat);
-    let created = create(rt, shared, &mut at);
-    let (refused, dropped) = build_held(rt, shared, at, &mut parts.build);
-    let (horizon, failed, stopped) = stop_and_look(
-        shared,
-        &mut parts.flush,
-        &mut parts.build,
-        &mut view,
-    );
-    drop(view);
-    Some(Built {
-        created,
-        dropped,
-        refused,
-        horizon,
-        failed,
-        stopped,
-    })
+    let Some(mut at) = take_last(seats) else {
+        return false;
+    };
+    let created = index(rt, shared, &mut at, true);
+    let (refused, dropped) = build_held(rt, shared, at, build);
+    created && dropped && refused == Some(Error::NoIndex)
 }
 
 // The same in the store.
-fn build_in<B: Group, D: Device + Drop, R: Wait>(
-    rt: &R,
-    store: OpenStore<D>,
-) -> Result<Option<Built>, Error>
+fn build_in<B: Group, D: Device + Drop, R: Wait>(rt: &R, store: OpenStore<D>) -> Result<bool, Error>
     requires names { store.site ≡ B.site }
 {
     match start::<B, D, Global>(store) {
         Ok((shared, mut parts)) => {
-            let built = build_with(rt, &shared, &mut parts);
+            let built = build_with(rt, &shared, &mut parts.seats, &mut parts.build);
             let (seats, loops) = parts.split();
             drop(seats);
-            give_up(shared, loops);
+            drop(give_up(shared, loops));
             Ok(built)
         }
         Err((error, device)) => {
@@ -174,13 +129,13 @@ fn build_in<B: Group, D: Device + Drop, R: Wait>(
     }
 }
 
-/// Opens the store on the device for one seat, which creates the index and drops it as it is built. Then all are asked
-/// to stop. What was made is lost. None where there is no seat.
+/// Opens the store on the device for one seat, which creates the index and drops it as it is built. Whether that was
+/// done, and the builder ended for want of the index. What was made is lost.
 pub(crate) fn build_interrupted<D: Device + Drop, R: Wait>(
     rt: &R,
     alloc: Global,
     device: D,
-) -> Result<Option<Built>, Error> {
+) -> Result<bool, Error> {
     match open(alloc, device, 1) {
         Ok(store) => build_in::<Brand, D, R>(rt, store),
         Err((error, device)) => {

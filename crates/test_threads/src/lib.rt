@@ -1,9 +1,9 @@
 //! Tests of a store under many threads, of one seat to which memory is refused, and of the program `nsf-threads`.
 //!
-//! Writers, flusher, builder and cleaner share a store, are held at gates, meet devices that fail, and a dropping while
-//! the index is built. To a seat whose commits are kept each allocation is refused in turn, call by call, and in one
-//! hold of the lock. Behind a record that the queue refused it looks up; and calls that make no step of the core take
-//! no memory. Proved of them is safety.
+//! Writers, flusher, builder and cleaner share a store and are held at gates; those of the program meet devices that
+//! fail; an index is dropped while it is built. To a seat whose commits are kept each allocation is refused in turn,
+//! call by call, and in one hold of the lock. Behind a record that the queue refused it looks up; and calls that make
+//! no step of the core take no memory. Proved of them is safety.
 //!
 //! The calls of a seat are a trait that promises nothing (`calls`), which what plays is generic over; each heavy call
 //! is made once (`at_seat`). A seat stays beside its number, which is looked at again in the end (`Numbered`).
@@ -19,8 +19,6 @@ mod chairs;
 mod claims;
 #[cfg(test)]
 mod drop_tests;
-#[cfg(test)]
-mod file_tests;
 #[cfg(test)]
 mod found;
 #[cfg(test)]

@@ -3,9 +3,9 @@ ghost use Rattle.std.specs.Prelude.{◌≡◌};
 ghost use Rattle.shared.specs.Seats.{AreNewSeats};
 
 use crate::at_seat::let_play;
-use crate::chairs::{Chair, Player, THREADS_MAX, chairs_of, parted};
+use crate::chairs::{Chair, Player, THREADS_MAX, chairs_of};
 use crate::runs::{Ran, run};
-use crate::store::{give_up, start, take_back};
+use crate::store::{give_up, start};
 use records::Error;
 use sector_device::Device;
 use shared::{Group, Kept, LoopParts, Shared};
@@ -16,12 +16,10 @@ use std::thread::{Threads, for_each_mut};
 use threads_lifetime::{OpenStore, Parts};
 use threads_loops::Gate;
 
-/// What is left: the players, in their order; how the flusher ended first, and all threads; and the device.
+/// What is left: how the flusher ended, and the device.
 #[derive(Drop)]
-pub struct Left<P, D> {
-    pub players: Vec<P>,
+pub struct Left<D> {
     pub flusher: Option<Error>,
-    pub end: Option<Error>,
     pub device: D,
 }
 
@@ -60,37 +58,6 @@ fn run_chairs<
     run(rt, shared, loops, gate, clients)
 }
 
-// Lets them play twice, each time beside the loops.
-fn run_twice<
-    B: Group + Send + Sync,
-    P: Player + Send + Drop,
-    D: Device + Send + Drop,
-    R: Threads + Wait + Sync,
-    G: Gate + Sync,
->(
-    rt: &R,
-    shared: &Shared<B>,
-    chairs: Vec<Chair<B, P>>,
-    loops: LoopParts<B, D>,
-    gate: &G,
-) -> Result<Ran<B, D, Vec<Chair<B, P>>>, LoopParts<B, D>> {
-    let Ran {
-        clients,
-        loops,
-        flushed: first,
-    } = run_chairs(rt, shared, chairs, loops, gate)?;
-    let Ran {
-        clients,
-        loops,
-        flushed,
-    } = run_chairs(rt, shared, clients, loops, gate)?;
-    Ok(Ran {
-        clients,
-        loops,
-        flushed: first.and(flushed),
-    })
-}
-
 // Lets them play with a seat for each.
 fn play_parts<
     B: Group + Send + Sync,
@@ -110,44 +77,30 @@ fn play_parts<
 {
     let (seats, loops) = parts.split();
     match chairs_of(alloc, seats, players) {
-        Ok(chairs) => run_twice(rt, shared, chairs, loops, gate),
+        Ok(chairs) => run_chairs(rt, shared, chairs, loops, gate),
         Err(_) => Err(loops),
     }
 }
 
-// Takes back what is left.
-fn end<B: Group, P: Drop, D: Device + Drop, R: Wait>(
-    rt: &R,
-    alloc: Global,
+// Lets go of what is left.
+fn end<B: Group, P: Drop, D: Device>(
     shared: Shared<B>,
     ran: Ran<B, D, Vec<Chair<B, P>>>,
-    count: usize,
-) -> Result<Left<P, D>, Error>
-    requires { count ≡ B.site.seats }
-{
+) -> Left<D> {
     let Ran {
         clients,
         loops,
         flushed,
     } = ran;
-    match parted(alloc, clients, count) {
-        Ok((seats, players)) => {
-            let (device, end) = take_back(rt, alloc, shared, loops.with_seats(seats));
-            Ok(Left {
-                players,
-                flusher: flushed.err(),
-                end,
-                device,
-            })
-        }
-        Err(_) => {
-            give_up(shared, loops);
-            Err(Error::NoMemory)
-        }
+    drop(clients);
+    let device = give_up(shared, loops);
+    Left {
+        flusher: flushed.err(),
+        device,
     }
 }
 
-// Lets them play, and takes all back.
+// Lets them play, and lets go of what is left.
 fn play_with<
     B: Group + Send + Sync,
     P: Player + Send + Drop,
@@ -161,14 +114,13 @@ fn play_with<
     parts: Parts<B, D, Global, Kept>,
     players: Vec<P>,
     gate: &G,
-) -> Result<Left<P, D>, Error>
+) -> Result<Left<D>, Error>
     requires { AreNewSeats B.site.board B.site.seats parts.seats.items }
 {
-    let count = parts.seats.len();
     match play_parts(rt, alloc, &shared, parts, players, gate) {
-        Ok(ran) => end(rt, alloc, shared, ran, count),
+        Ok(ran) => Ok(end(shared, ran)),
         Err(loops) => {
-            give_up(shared, loops);
+            drop(give_up(shared, loops));
             Err(Error::NoMemory)
         }
     }
@@ -181,13 +133,7 @@ fn play_in<
     D: Device + Send + Drop,
     R: Threads + Wait + Sync,
     G: Gate + Sync,
->(
-    rt: &R,
-    alloc: Global,
-    store: OpenStore<D>,
-    players: Vec<P>,
-    gate: &G,
-) -> Result<Left<P, D>, Error>
+>(rt: &R, alloc: Global, store: OpenStore<D>, players: Vec<P>, gate: &G) -> Result<Left<D>, Error>
     requires { store.site ≡ B.site }
 {
     match start::<B, D, Global>(store) {
@@ -200,8 +146,8 @@ fn play_in<
     }
 }
 
-/// Lets players play at the seats of the store, each in a thread, beside the loops, whose gate is this. They play
-/// twice, each time until all have ended. Then all is taken back, and what was made is written out.
+/// Lets players play at the seats of the store, each in a thread, beside the loops, whose gate is this, until all have
+/// ended. Then all is let go of but the device.
 ///
 /// `NoMemory` where there are fewer players than seats, or no thread for a loop; what was given is lost then.
 pub fn play_beside<
@@ -209,12 +155,6 @@ pub fn play_beside<
     D: Device + Send + Drop,
     R: Threads + Wait + Sync,
     G: Gate + Sync,
->(
-    rt: &R,
-    alloc: Global,
-    store: OpenStore<D>,
-    players: Vec<P>,
-    gate: &G,
-) -> Result<Left<P, D>, Error> {
+>(rt: &R, alloc: Global, store: OpenStore<D>, players: Vec<P>, gate: &G) -> Result<Left<D>, Error> {
     play_in::<Brand, P, D, R, G>(rt, alloc, store, players, gate)
 }

@@ -1,21 +1,23 @@
 //! The program `nsf-threads`: what it prints, and its status; and what it tells of a device that fails.
 use crate::claims::{claim, claim_at};
-use crate::found::failing;
+use crate::found::{Disk, failing};
 use crate::help::HELP;
-use crate::stage::{HeldDisk, Stage};
+use nsf_core::Ticket;
 use program_demonstration::{
-    Beginning, Found, Nobody, Progress, Refusals, Team, Turn, run, told, work_on,
+    Beginning, Found, Listener, Progress, Refusals, Team, Turn, run, told, work_on,
 };
-use records::{Error, Rid};
+use records::{Error, Geometry, Rid};
+use sector_device::Device;
 use std::alloc::{AllocError, Global};
 use std::fs::File;
-use std::io;
 use std::io::{ErrorKind, Write};
-use std::mem::forget;
 use std::rt::{Clock, Files};
 use std::sync::Wait;
+use std::sync::atomic::{AtomicU64, Ordering};
 use std::thread::Threads;
-use threads_lifetime::OpenError;
+use std::{fs, io};
+use threads_lifetime::{OpenError, format_store};
+use threads_loops::NoGate;
 
 // So many writes and syncs are made where a new store is opened.
 const OPENING: u64 = 151;
@@ -111,7 +113,7 @@ static CASES: [Case; 11] = [
         0,
         b"",
     ),
-    (&["nsf-threads", "--version"], "nsf-threads 0.1.0\n", 0, b""),
+    (&["nsf-threads", "--version"], "nsf-threads 0.2.0\n", 0, b""),
     (&["nsf-threads", "--help"], HELP, 0, b""),
     (&["nsf-threads", "--writers", "0"], "", 2, b"error: "),
     (&["nsf-threads", "--writers", "9"], "", 2, b"error: "),
@@ -132,57 +134,6 @@ fn ends_so<R: Threads + Wait + Clock + Files<File = File> + Print + Sync>(
         && said.progress.starts_with(shown)
         && said.progress.is_empty() == shown.is_empty()
         && said.errors.is_empty()
-}
-
-#[test]
-fn each_row_has_its_entry(rt: HostRuntime) {
-    for case in &CASES {
-        let holds = ends_so(&rt, rt.alloc(), case);
-        claim(&rt, holds, case.1);
-    }
-}
-
-// Whether a transaction that put a row, and deleted this one, if there is one, is told so.
-fn reads_so(alloc: Global, deleted: Option<Rid>, wanted: &str) -> Result<bool, AllocError> {
-    let turn = Turn {
-        writer: 1,
-        change: 0x203,
-        rid: Rid { page: 2, slot: 7 },
-        deleted,
-    };
-    let text = format!(in alloc; "{turn}")?;
-    Ok(text.as_str() == wanted)
-}
-
-// A commit that is safe is told with what its transaction did.
-#[test]
-fn a_turn_is_told(rt: HostRuntime) -> Result<(), AllocError> {
-    let one = reads_so(rt.alloc(), None, "row 2.7 :00010203 :")?;
-    let gone = Some(Rid { page: 0, slot: 1 });
-    let two = reads_so(rt.alloc(), gone, "row 2.7 :00010203 : deleted 0.1")?;
-    claim(&rt, one && two, "what a transaction did");
-    Ok(())
-}
-
-// Whether that is told so, with the status of a refusal.
-fn is_refusal(alloc: Global, found: Result<Found, OpenError>, wanted: &str) -> io::Result<bool> {
-    let mut output = Vec::new(alloc);
-    let status = told(&mut output, found)?;
-    Ok(status == 1 && output.as_slice() == wanted.as_bytes())
-}
-
-#[test]
-fn what_is_refused_or_not_so_ends_with_1(rt: HostRuntime) -> io::Result<()> {
-    let unlike = Found {
-        rows: 3,
-        shown: 2,
-        same: false,
-    };
-    let one = is_refusal(rt.alloc(), Ok(unlike), "rows 3 shown 2 same no\n")?;
-    let failed = Err(OpenError::Refused(Error::DeviceFailed));
-    let two = is_refusal(rt.alloc(), failed, "refused 2 DeviceFailed\n")?;
-    claim(&rt, one && two, "what is refused or not so");
-    Ok(())
 }
 
 // Whether these are the errors that are wanted, or begin so, where those end with a blank.
@@ -220,76 +171,203 @@ static UNWRITTEN: [(&[&str], &[u8]); 3] = [
 ];
 
 #[test]
-fn the_error_stream_tells_why_nothing_was_printed(rt: HostRuntime) {
+fn each_row_has_its_entry(rt: HostRuntime) {
+    for case in &CASES {
+        let holds = ends_so(&rt, rt.alloc(), case);
+        claim(&rt, holds, case.1);
+    }
     for (words, wanted) in &UNWRITTEN {
         let holds = tells_so(&rt, rt.alloc(), *words, *wanted);
         claim(&rt, holds, "what the error stream tells");
     }
 }
 
-// What is refused to four writers of 20 commits each where the write or sync of this number fails, or none at 0; and
-// how many are acknowledged. What else is left is not let go: to prove its destructors would cost more than the test.
-fn refused_at<R: Threads + Wait + Clock + Sync>(
+// Makes a store on the device of a new file, and gives the file its name. Whether that was done.
+fn fill<R: Files<File = File> + AllocGlobal, D: Device>(
+    rt: &R,
+    path: &str,
+    device: &mut D,
+    geometry: Geometry,
+) -> bool {
+    format_store(device, geometry).is_ok() && store_file::publish(rt, path).is_ok()
+}
+
+// Makes a store in a new file. Whether that was done.
+fn makes<R: Files<File = File> + AllocGlobal>(rt: &R, path: &str) -> bool {
+    let Ok(geometry) = Geometry::new(1, 64, 4) else {
+        return false;
+    };
+    match store_file::create(rt, rt.alloc(), path, geometry.sectors()) {
+        Ok(mut disk) => {
+            let made = fill(rt, path, &mut disk, geometry);
+            drop(disk);
+            made
+        }
+        Err(_) => false,
+    }
+}
+
+// Runs on the store in a file. Of four transactions of a writer one deletes the row of another, and one is taken back.
+static ON_FILE: [Case; 2] = [
+    (IN_FILE, "rows 4 shown 4 same yes\n", 0, b""),
+    (IN_FILE, "rows 8 shown 8 same yes\n", 0, b""),
+];
+
+const IN_FILE: &[&str] = &[
+    "nsf-threads",
+    "--file",
+    "u",
+    "--writers",
+    "2",
+    "--changes",
+    "4",
+];
+
+// The store of an earlier run is gone on with. What isn't a store is refused.
+#[test]
+fn the_store_of_a_file_is_gone_on_with(rt: HostRuntime) {
+    let made = makes(&rt, "u");
+    claim(&rt, made, "a store in a file");
+    for case in &ON_FILE {
+        let holds = ends_so(&rt, rt.alloc(), case);
+        claim(&rt, holds, case.1);
+    }
+    let written = fs::write(&rt, "u", [1; 1024].as_slice());
+    let refused = tells_so(&rt, rt.alloc(), IN_FILE, b"nsf-threads: u: ");
+    let removed = fs::remove_file(&rt, "u");
+    claim(
+        &rt,
+        refused && written.is_ok() && removed.is_ok(),
+        "what isn't a store",
+    );
+}
+
+// How many commits were heard of.
+#[derive(Drop)]
+struct Heard {
+    commits: AtomicU64,
+}
+
+impl Listener for Heard {
+    fn hear(&self, _ticket: &Ticket, _turn: &Turn) {
+        self.commits.fetch_add(1, Ordering::SeqCst);
+    }
+}
+
+// Four writers of 20 commits each on the device. What was refused, and how many commits were acknowledged.
+fn worked<R: Threads + Wait + Clock + Sync>(
     rt: &R,
     alloc: Global,
-    fails_at: u64,
-) -> Result<(Refusals, usize), OpenError> {
-    let stage = Stage::new(rt, None, None);
-    let disk = failing(alloc, fails_at)?;
-    let device = HeldDisk {
-        disk,
-        stage: &stage,
-    };
-    let team: Team<'_, R, Stage<'_, R>, Nobody, Vec<u8>> = Team {
+    device: Disk,
+    listener: &Heard,
+) -> Option<(Refusals, usize)> {
+    let team: Team<'_, R, NoGate, Heard, Vec<u8>> = Team {
         rt,
         alloc,
         beginning: Beginning::New,
-        gate: &stage,
-        listener: &Nobody,
+        gate: &NoGate,
+        listener,
         changes: 26,
         progress: None,
     };
     match work_on(device, 4, team) {
         Ok(worked) => {
             let told = (worked.refusals, worked.acknowledged.len());
-            forget(worked);
-            Ok(told)
+            drop(worked);
+            Some(told)
         }
-        Err((error, device)) => {
+        Err((_, device)) => {
             drop(device);
-            Err(error)
+            None
         }
     }
 }
 
-// Whether the failure so far behind the opening is told, or all is acknowledged, where there is none.
-fn fails_so<R: Threads + Wait + Clock + Sync>(
-    rt: &R,
-    alloc: Global,
-    behind: u64,
-) -> Result<bool, OpenError> {
-    let (fails_at, failed) = if behind == 0 {
-        (0, None)
-    } else {
-        (OPENING.saturating_add(behind), Some(Error::DeviceFailed))
-    };
-    let (refused, acknowledged) = refused_at(rt, alloc, fails_at)?;
-    let refusals = Refusals {
+// The refusals where the device fails, or where nothing does.
+fn refusals(failed: Option<Error>) -> Refusals {
+    Refusals {
         writer: failed,
         flusher: failed,
         builder: None,
         end: failed,
+    }
+}
+
+// Whether a failure so far behind the opening is told, or all is acknowledged, and heard of, where there is none.
+fn fails_so<R: Threads + Wait + Clock + Sync>(rt: &R, alloc: Global, behind: u64) -> bool {
+    let fails = behind > 0;
+    let fails_at = if fails {
+        OPENING.saturating_add(behind)
+    } else {
+        0
     };
-    Ok(refused == refusals && (behind > 0 || acknowledged == 80))
+    let Ok(device) = failing(alloc, fails_at) else {
+        return false;
+    };
+    let listener = Heard {
+        commits: AtomicU64::new(0),
+    };
+    let told = worked(rt, alloc, device, &listener);
+    let heard = listener.commits.load(Ordering::SeqCst);
+    let failed = if fails {
+        Some(Error::DeviceFailed)
+    } else {
+        None
+    };
+    match told {
+        Some((refused, acknowledged)) => {
+            refused == refusals(failed) && (fails || (acknowledged == 80 && heard == 80))
+        }
+        None => false,
+    }
 }
 
 // Where nothing fails, all 80 commits are acknowledged; else a writer, the flusher and the end are told that the device
 // has failed.
 #[test]
-fn a_failure_is_told(rt: HostRuntime) -> Result<(), OpenError> {
+fn a_failure_is_told(rt: HostRuntime) {
     for behind in &BEHIND {
-        let told = fails_so(&rt, rt.alloc(), *behind)?;
+        let told = fails_so(&rt, rt.alloc(), *behind);
         claim_at(&rt, told, "a failure", *behind);
     }
-    Ok(())
+}
+
+// Whether a transaction that put a row, and deleted this one, if there is one, is told so.
+fn reads_so(alloc: Global, deleted: Option<Rid>, wanted: &str) -> Result<bool, AllocError> {
+    let turn = Turn {
+        writer: 1,
+        change: 0x203,
+        rid: Rid { page: 2, slot: 7 },
+        deleted,
+    };
+    let text = format!(in alloc; "{turn}")?;
+    Ok(text.as_str() == wanted)
+}
+
+// Whether that is told so, with the status of a refusal.
+fn is_refusal(alloc: Global, found: Result<Found, OpenError>, wanted: &str) -> bool {
+    let mut output = Vec::new(alloc);
+    let status = told(&mut output, found);
+    let is_same = output.as_slice() == wanted.as_bytes();
+    drop(output);
+    is_same && matches!(status, Ok(1))
+}
+
+// A commit that is safe is told with what its transaction did; and what is refused or not so is told with the status 1.
+#[test]
+fn what_is_told(rt: HostRuntime) {
+    let one = reads_so(rt.alloc(), None, "row 2.7 :00010203 :");
+    let gone = Some(Rid { page: 0, slot: 1 });
+    let two = reads_so(rt.alloc(), gone, "row 2.7 :00010203 : deleted 0.1");
+    let are_so = matches!(one, Ok(true)) && matches!(two, Ok(true));
+    claim(&rt, are_so, "what a transaction did");
+    let unlike = Found {
+        rows: 3,
+        shown: 2,
+        same: false,
+    };
+    let unlike = is_refusal(rt.alloc(), Ok(unlike), "rows 3 shown 2 same no\n");
+    let failed = Err(OpenError::Refused(Error::DeviceFailed));
+    let failed = is_refusal(rt.alloc(), failed, "refused 2 DeviceFailed\n");
+    claim(&rt, unlike && failed, "what is refused or not so");
 }

@@ -150,7 +150,7 @@ fn play_with<B: Group, D: Device + Drop, A: Memory, R: Wait>(
         Err(error) => {
             let (seats, loops) = parts.split();
             drop(seats);
-            give_up(shared, loops);
+            drop(give_up(shared, loops));
             Err((error, None))
         }
     }
@@ -200,12 +200,11 @@ fn play_again<D: Device + Drop, A: Memory, R: Wait>(
     }
 }
 
-/// Whether the seat's answers and the end were right; whether all was written out; and the device that is left.
-#[derive(Drop)]
-pub(crate) struct Played<D> {
+/// Whether the seat's answers and the end were right, and whether all was written out.
+#[derive(Clone, Copy)]
+pub(crate) struct Played {
     pub(crate) right: bool,
     pub(crate) finished: bool,
-    pub(crate) device: D,
 }
 
 /// Lets one do that at the seat of the store on the device, whose memory this is, to the end.
@@ -215,7 +214,7 @@ pub(crate) fn play<D: Device + Drop, A: Memory, R: Wait>(
     device: D,
     memory: &Refusing<Global>,
     turn: Turn<'_>,
-) -> Result<Played<D>, Error> {
+) -> Result<Played, Error> {
     let mut solo = Solo {
         memory,
         turn,
@@ -223,11 +222,16 @@ pub(crate) fn play<D: Device + Drop, A: Memory, R: Wait>(
         refused: memory.refused(),
     };
     match play_again(rt, alloc, device, &mut solo) {
-        Ok((device, end)) => Ok(Played {
-            right: solo.right && solo.may_end_so(end),
-            finished: end.is_none(),
-            device,
-        }),
-        Err((error, _)) => Err(error),
+        Ok((device, end)) => {
+            drop(device);
+            Ok(Played {
+                right: solo.right && solo.may_end_so(end),
+                finished: end.is_none(),
+            })
+        }
+        Err((error, device)) => {
+            drop(device);
+            Err(error)
+        }
     }
 }

@@ -21,16 +21,16 @@ pub enum Place {
     At(Point),
 }
 
-/// The place of a loop, if there is one, where its thread is held the first time that it comes by, until it is let go.
+/// The place of a loop where its thread is held the first time that it comes by, until it is let go.
 #[derive(Drop)]
 pub struct Hold {
-    place: Option<Place>,
+    place: Place,
     held: AtomicBool,
     let_go: AtomicBool,
 }
 
 impl Hold {
-    fn new(place: Option<Place>) -> Hold {
+    fn new(place: Place) -> Hold {
         Hold {
             place,
             held: AtomicBool::new(false),
@@ -41,14 +41,14 @@ impl Hold {
     /// Whether a thread is to be held at this point.
     pub fn is_at(&self, point: Point) -> bool {
         match self.place {
-            Some(Place::At(at)) => at == point,
-            _ => false,
+            Place::At(at) => at == point,
+            Place::Sync => false,
         }
     }
 
     // Whether a thread is to be held within a sync.
     fn is_in_sync(&self) -> bool {
-        matches!(self.place, Some(Place::Sync))
+        matches!(self.place, Place::Sync)
     }
 
     /// Whether a thread was held.
@@ -62,7 +62,9 @@ impl Hold {
 }
 
 /// Where flusher and builder are held, once they are to be; how many steps the cleaner has begun; how many groups were
-/// flushed before the first chunk of an image; and whether the writers may begin.
+/// flushed before the first chunk of an image. Whether the writers may begin, how many have ended, how many of their
+/// commits were acknowledged, and whether anything was refused to them. And whether what the first of them saw of the
+/// index is right.
 #[derive(Drop)]
 pub struct Stage<'a, R> {
     rt: &'a R,
@@ -74,10 +76,14 @@ pub struct Stage<'a, R> {
     groups: AtomicU64,
     copied: AtomicBool,
     begun: AtomicBool,
+    ended: AtomicU64,
+    acknowledged: AtomicU64,
+    refused: AtomicBool,
+    seen: AtomicBool,
 }
 
 impl<'a, R: Clock> Stage<'a, R> {
-    pub fn new(rt: &'a R, flusher: Option<Place>, builder: Option<Place>) -> Stage<'a, R> {
+    pub fn new(rt: &'a R, flusher: Place, builder: Place) -> Stage<'a, R> {
         Stage {
             rt,
             flusher: Hold::new(flusher),
@@ -88,6 +94,10 @@ impl<'a, R: Clock> Stage<'a, R> {
             groups: AtomicU64::new(0),
             copied: AtomicBool::new(false),
             begun: AtomicBool::new(false),
+            ended: AtomicU64::new(0),
+            acknowledged: AtomicU64::new(0),
+            refused: AtomicBool::new(false),
+            seen: AtomicBool::new(false),
         }
     }
 
@@ -106,9 +116,29 @@ impl<'a, R: Clock> Stage<'a, R> {
         self.begun.store(true, Ordering::SeqCst);
     }
 
-    /// Whether a loop is to be held.
-    pub fn is_set(&self) -> bool {
-        self.flusher.place.is_some()
+    /// A writer has ended: whether nothing was refused to it.
+    pub fn ends_writing(&self, is_done: bool) {
+        if !is_done {
+            self.refused.store(true, Ordering::SeqCst);
+        }
+        self.ended.fetch_add(1, Ordering::SeqCst);
+    }
+
+    /// A commit was acknowledged.
+    pub fn acknowledges(&self) {
+        self.acknowledged.fetch_add(1, Ordering::SeqCst);
+    }
+
+    /// Whether what was seen of the index is right.
+    pub fn sees(&self, is_right: bool) {
+        self.seen.store(is_right, Ordering::SeqCst);
+    }
+
+    /// Whether so many commits were acknowledged, nothing was refused, and what was seen of the index is right.
+    pub fn is_quiet(&self, commits: u64) -> bool {
+        self.acknowledged.load(Ordering::SeqCst) == commits
+            && !self.refused.load(Ordering::SeqCst)
+            && self.seen.load(Ordering::SeqCst)
     }
 
     /// How many groups were flushed before the first chunk of an image was to be copied.
@@ -166,16 +196,26 @@ impl<'a, R: Clock> Stage<'a, R> {
         self.look(&self.builder.held);
     }
 
-    /// Looks until the cleaner has begun so many steps more.
-    pub fn await_cleaner(&self, steps: u64) {
-        let wanted = self.cleaned.load(Ordering::SeqCst).saturating_add(steps);
+    // Looks until so many were counted.
+    fn look_at(&self, count: &AtomicU64, wanted: u64) {
         for _ in self.looks() {
-            if self.cleaned.load(Ordering::SeqCst) >= wanted {
+            if count.load(Ordering::SeqCst) >= wanted {
                 return;
             }
             self.rest();
         }
         self.is_too_late();
+    }
+
+    /// Looks until the cleaner has begun so many steps more.
+    pub fn await_cleaner(&self, steps: u64) {
+        let begun = self.cleaned.load(Ordering::SeqCst);
+        self.look_at(&self.cleaned, begun.saturating_add(steps));
+    }
+
+    /// Looks until so many writers have ended.
+    pub fn await_writers(&self, writers: u64) {
+        self.look_at(&self.ended, writers);
     }
 }
 

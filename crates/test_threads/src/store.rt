@@ -47,11 +47,11 @@ pub(crate) fn take_back<B: Group, D: Device, A: Memory, R: Wait>(
     }
 }
 
-/// Lets go of what is left, where nothing more is to be written.
-pub(crate) fn give_up<B: Group, D: Device + Drop, A: Memory>(
+/// Lets go of what is left, where nothing more is to be written: the device.
+pub(crate) fn give_up<B: Group, D: Device, A: Memory>(
     shared: Shared<B, A>,
     loops: LoopParts<B, D, A>,
-) {
+) -> D {
     let LoopParts {
         flush,
         build,
@@ -59,5 +59,5 @@ pub(crate) fn give_up<B: Group, D: Device + Drop, A: Memory>(
     } = loops;
     drop(build);
     drop(clean);
-    drop(let_go(shared, flush));
+    let_go(shared, flush)
 }

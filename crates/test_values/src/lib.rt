@@ -1,11 +1,9 @@
 //! Tests of the crates `records` and `store_image_parts`: values byte by byte, as the format document has them, and
-//! texts. And of `gate_log`, where one log is kept by itself.
+//! texts.
 //!
-//! Proved of them is safety.
+//! Proved of them is safety. The parts of version 1, which are only read, `test_stores` has.
 #![tactic(auto)]
 
-#[cfg(test)]
-mod log_tests;
 #[cfg(test)]
 mod part_tests;
 #[cfg(test)]

@@ -1,12 +1,9 @@
 //! Tests of the crate `store_image_parts`.
 use model::Life;
-use records::{Body, Error, Key, Mark, Pair, Rid, Row, Rows, Txn, Version};
+use records::{Body, Error, Key, Mark, Pair, Rid, Row, Rows, Txn};
 use sector_device::SECTOR_SIZE;
-use std::process::Abort;
 use store_image_parts::{
-    Head, Header, UndoItem, read_entry, read_entry_in, read_head, read_header, read_header_in,
-    read_item, read_item_in, read_row, read_row_in, spell_entry, spell_head, spell_header,
-    spell_item, spell_row,
+    Head, Header, UndoItem, spell_entry, spell_head, spell_header, spell_item, spell_row,
 };
 
 // Puts bytes at this place.
@@ -28,15 +25,11 @@ fn bytes_of<const N: usize>(pieces: &[(usize, &[u8])]) -> [u8; N] {
     bytes
 }
 
-// What stands in the bytes of each part, and in those of version 1.
+// What stands in the bytes of each part.
 
 static ENTRY: [(usize, &[u8]); 2] = [(0, b"\x01a"), (60, b"\x02\0\x3e\x02")];
 
-static OLD_ENTRY: [(usize, &[u8]); 2] = [(0, b"\x01a"), (28, b"\x02\0\x3e\x02")];
-
 static SLOT: [(usize, &[u8]); 2] = [(0, b"\x01\x03ant"), (58, b"\x01x")];
-
-static OLD_SLOT: [(usize, &[u8]); 2] = [(0, b"\x01\x03ant"), (26, b"\x01x")];
 
 static HEAD: [(usize, &[u8]); 1] = [(6, b"\x01\x02\0\x40")];
 
@@ -46,69 +39,32 @@ static ITEM: [(usize, &[u8]); 3] = [
     (193, b"\x01x"),
 ];
 
-static OLD_ITEM: [(usize, &[u8]); 3] = [
-    (0, b"\x01\0\0\0\x02\0\x3e"),
-    (71, b"\x01\x03ant"),
-    (97, b"\x01x"),
-];
-
 static HEADER: [(usize, &[u8]); 3] = [
     (0, b"\x01\x01\x01a"),
     (62, b"\x02\0\x3e"),
     (72, b"\x07\0\0\0\xc8"),
 ];
 
-static OLD_HEADER: [(usize, &[u8]); 3] = [
-    (0, b"\x01\x01\x01a"),
-    (30, b"\x02\0\x3e"),
-    (40, b"\x07\0\0\0\xc8"),
-];
-
-// Each part is spelled so, and read so, in version 1 too. Each of these makes few calls, and promises nothing.
+// Whether each part is spelled so. That it is read so too, clauses say (`again` of each `read_`).
 
 fn is_entry(entry: &(Pair, Mark)) -> bool {
-    let bytes = bytes_of::<64>(&ENTRY);
-    spell_entry(entry) == bytes && read_entry(&bytes) == Some(*entry)
-}
-
-fn is_old_entry(entry: &(Pair, Mark)) -> bool {
-    let bytes = bytes_of::<32>(&OLD_ENTRY);
-    read_entry_in(Version::One, &bytes) == Some(*entry)
+    spell_entry(entry) == bytes_of::<64>(&ENTRY)
 }
 
 fn is_slot(row: &Option<Row>, pieces: &[(usize, &[u8])]) -> bool {
-    let bytes = bytes_of::<128>(pieces);
-    spell_row(row) == bytes && read_row(&bytes) == Some(*row)
-}
-
-fn is_old_slot(row: &Option<Row>, pieces: &[(usize, &[u8])]) -> bool {
-    let bytes = bytes_of::<64>(pieces);
-    read_row_in(Version::One, &bytes) == Some(*row)
+    spell_row(row) == bytes_of::<128>(pieces)
 }
 
 fn is_head(head: &Option<Head>) -> bool {
-    let bytes = bytes_of::<32>(&HEAD);
-    spell_head(head) == bytes && read_head(&bytes) == Some(*head)
+    spell_head(head) == bytes_of::<32>(&HEAD)
 }
 
 fn is_item(item: &UndoItem) -> bool {
-    let bytes = bytes_of::<512>(&ITEM);
-    spell_item(item) == bytes && read_item(&bytes) == Some(*item)
-}
-
-fn is_old_item(item: &UndoItem) -> bool {
-    let bytes = bytes_of::<256>(&OLD_ITEM);
-    read_item_in(Version::One, &bytes) == Some(*item)
+    spell_item(item) == bytes_of::<512>(&ITEM)
 }
 
 fn is_header(header: &Header) -> bool {
-    let bytes = bytes_of::<SECTOR_SIZE>(&HEADER);
-    spell_header(header) == bytes && read_header(&bytes) == Some(*header)
-}
-
-fn is_old_header(header: &Header) -> bool {
-    let bytes = bytes_of::<SECTOR_SIZE>(&OLD_HEADER);
-    read_header_in(Version::One, &bytes) == Some(*header)
+    spell_header(header) == bytes_of::<SECTOR_SIZE>(&HEADER)
 }
 
 const RID: Rid = Rid { page: 2, slot: 62 };
@@ -125,38 +81,34 @@ fn row() -> Result<Row, Error> {
     })
 }
 
-fn check_rows(rt: &impl Abort, row: Row) {
-    let row = Some(row);
-    assert!(rt; is_slot(&row, &SLOT) && is_old_slot(&row, &OLD_SLOT));
-    assert!(rt; is_slot(&None, &[]) && is_old_slot(&None, &[]));
-}
-
-fn check_items(rt: &impl Abort, new: Row) {
+fn is_item_of(new: Row) -> bool {
     let rows = Rows::Inserted { new };
-    let item = UndoItem { rid: RID, rows };
-    assert!(rt; is_item(&item) && is_old_item(&item));
+    is_item(&UndoItem { rid: RID, rows })
 }
 
-fn check_headers(rt: &impl Abort, highest: Option<Pair>) {
-    let header = Header {
+fn is_header_of(highest: Option<Pair>) -> bool {
+    is_header(&Header {
         life: Life::Building { highest },
         base: 7,
         entries: 200,
-    };
-    assert!(rt; is_header(&header) && is_old_header(&header));
+    })
 }
 
-// An entry, a row, none, a transaction's head, one of its changes, and the header of an image, both ways; and as
-// version 1 has them.
-#[test]
-fn parts_byte_by_byte(rt: HostRuntime) -> Result<(), Error> {
+fn is_head_of(number: u64) -> bool {
+    match Txn::new(number) {
+        Some(txn) => is_head(&Some(Head { txn, changes: 64 })),
+        None => false,
+    }
+}
+
+// Whether an entry, a row, none, a transaction's head, one of its changes, and the header of an image are spelled so.
+fn are_spelled() -> Result<bool, Error> {
     let (pair, row) = (pair()?, row()?);
-    let entry = (pair, Mark::Marked);
-    assert!(rt; is_entry(&entry) && is_old_entry(&entry));
-    check_rows(&rt, row);
-    let txn = Txn::new(258).ok_or(Error::NoSuchTxn)?;
-    assert!(rt; is_head(&Some(Head { txn, changes: 64 })));
-    check_items(&rt, row);
-    check_headers(&rt, Some(pair));
-    Ok(())
+    let are_rows = is_slot(&Some(row), &SLOT) && is_slot(&None, &[]) && is_item_of(row);
+    Ok(are_rows && is_entry(&(pair, Mark::Marked)) && is_header_of(Some(pair)) && is_head_of(258))
+}
+
+#[test]
+fn parts_byte_by_byte(rt: HostRuntime) {
+    assert!(rt; matches!(are_spelled(), Ok(true)));
 }
