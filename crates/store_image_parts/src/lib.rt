@@ -3,7 +3,7 @@
 //!
 //! Proved: each `spell_` function gives the spelling (`spelled`). Each `read_` function gives a value just where the
 //! bytes are its spelling, zeros included, within its limits (`found`, `fits`, `again`). Only tested (`test_values`):
-//! one of each byte by byte, both ways.
+//! how one of each is spelled, byte by byte.
 //!
 //! Lemmas about its public words that crates above may cite, in `proofs`: `OneReading`.
 #![tactic(auto)]
