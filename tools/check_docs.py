@@ -3,26 +3,39 @@
 crates. Usage: tools/check_docs.py [--run], anywhere.
 
 Each word in backticks that could name an item, a crate or a file stands in the sources. At each place FILE:LINE that a table row
-names stands what the row is about, and a block of code behind such a place begins with that line. Each relative link leads
-somewhere. A row with functions and a file names functions of that file. A line of src or specs has at most 120 columns, one of
-proofs 160, strings aside. Of another crate's proofs only the lemma files are cited that the head of its lib.rt names, and each of
-these is. The crate that a launcher `nsf-..` names, and the text of help in its tests, are there. It prints how many words each page
-has, each with a letter or a digit, and ends with status 1 where something is missing or too wide.
+names stands what the row is about, and at one in brackets the item that is named before it. Each block of `rust` stands in the file
+that is named last before it, from that line on where one is named: line for line, but for comments, and for what a line `..` stands
+for. Each call `nsf_..` of a block of `c` is one of the headers, with as many arguments. Each relative link leads somewhere. A row
+with functions and a file names functions of that file. A line of src or specs has at most 120 columns, one of proofs 160, strings
+aside. Of another crate's proofs only the lemma files are cited that the head of its lib.rt names, and each of these is. The crate that
+a launcher `nsf-..` names, and the text of help in its tests, are there. It prints how many words each page has, each with a letter or
+a digit; a page, and all of them, have at most so many. It ends with status 1 where something is missing, too wide or too long.
 
-With --run it also runs each block of `sh` behind which a block of `text` follows, where `rt` is there: in a copy of the checkout, in
-which no store is yet, a page's blocks one after another. Each ends with status 0, and prints that text. Programs which are built for
-this, in some minutes, are kept in .kept of the checkout.
+With --run it also runs each block of `sh` of README and GUIDE, where `rt` is there: in a copy of the checkout, in which no store is
+yet, a page's blocks one after another. Each ends with status 0, and prints the block of `text` that stands right behind it, if one
+does. Programs which are built for this, in some minutes, are kept in .kept of the checkout.
 """
 import difflib, fnmatch, pathlib, re, shutil, subprocess, sys, tempfile
 
 TOP = pathlib.Path(__file__).resolve().parent.parent
+UNREAD = {".git", ".kept", "out", "target"}
 KINDS = {".rt", ".antt", ".edit", ".h", ".c", ".rs", ".py", ".sh"}
 WORD = re.compile(r"[A-Za-z_]\w{2,}")
 BYTES = re.compile(r"(?<![\w:]):[0-9a-f]{2,}\b|\b\d\w*")
-OUTSIDE = {"libc", "synchronous"}  # names of other programs
+OUTSIDE = {"libc", "start_io", "synchronous"}  # names of other programs
 TEXT = re.compile(r'"(?:[^"\\]|\\.)*"', re.S)
 PLACE = re.compile(r"`([\w./-]+\.(?:rt|antt)):(\d+)`")
-SHOWN = re.compile(r"^```sh\n(.*?)^```\n\s*^```text\n(.*?)^```$", re.M | re.S)
+QUOTED = re.compile(r"`([\w./-]+\.(?:rt|rs))(?::(\d+))?`")
+BLOCK = r"((?:(?!```).*\n)*)```$"
+CODE = re.compile(r"^```rust\n" + BLOCK, re.M)
+SHOWN = re.compile(r"^```sh\n" + BLOCK + r"(?:\n\s*^```text\n" + BLOCK + ")?", re.M)
+RUN_PAGES = {"README.md", "GUIDE.md"}
+IN_BRACKETS = re.compile(r"`(\w+)`[^`|]*\(`([\w./-]+\.(?:rt|antt)):(\d+)`\)")
+C_CODE = re.compile(r"^```c\n" + BLOCK, re.M)
+C_CALL = re.compile(r"\b(nsf_\w+)\(([^()]*)\)")
+C_DECLARED = re.compile(r"\w[ *](nsf_\w+)\(([^()]*(?:\([^()]*\)[^()]*)*)\)\s*[;{]")
+MOST_WORDS = {"README.md": 900, "GUIDE.md": 2500, "THEOREM.md": 1500}
+MOST_OF_A_PAGE, MOST_OF_ALL = 3000, 18500
 
 
 def sources():
@@ -30,7 +43,7 @@ def sources():
     words, ends = set(), set()
     for path in TOP.rglob("*"):
         parts = path.relative_to(TOP).parts
-        if {".git", ".kept", "out"} & set(parts):
+        if UNREAD & set(parts):
             continue
         ends.update("/".join(parts[i:]) for i in range(len(parts)))
         words.update(WORD.findall(" ".join(parts)))
@@ -40,10 +53,62 @@ def sources():
     return words, ends
 
 
-def line_at(file, number):
+def lines_of(file):
     path = next((p for p in (TOP / file, TOP / "crates" / file) if p.is_file()), None)
-    lines = path.read_text().splitlines() if path else []
+    return path.read_text().splitlines() if path else []
+
+
+def line_at(file, number):
+    lines = lines_of(file)
     return lines[number - 1] if 0 < number <= len(lines) else None
+
+
+def is_at(shown, lines):
+    """Whether these lines begin with those that are shown, but for comments, and for what a line `..` stands for."""
+    for number, line in enumerate(shown):
+        if line.strip() == "..":
+            return any(is_at(shown[number + 1:], lines[start:]) for start in range(len(lines) + 1))
+        while lines and line != lines[0] and (not lines[0].strip() or lines[0].strip().startswith("//")):
+            lines = lines[1:]
+        if not lines or line != lines[0]:
+            return False
+        lines = lines[1:]
+    return True
+
+
+def misquoted(text):
+    """Each block of code that is not that of the file which is named last before it."""
+    for block in CODE.finditer(text):
+        shown = [line for line in block[1].splitlines() if line.strip()]
+        places = QUOTED.findall(text[: block.start()])
+        if not places:
+            yield f"no file before the block of `{shown[0].strip()}`"
+            continue
+        file, number = places[-1]
+        lines = lines_of(file)
+        starts = [int(number) - 1] if number else [at for at, line in enumerate(lines) if line == shown[0]]
+        if not any(is_at(shown, lines[start:]) for start in starts):
+            yield f"the block of `{shown[0].strip()}` is not what stands in {file}"
+
+
+def c_faults(text):
+    """Each call in a block of C that the headers don't have, or that has more or fewer arguments there."""
+    headers = "".join(path.read_text() for path in sorted(TOP.glob("crates/nsf_c/include/*.h")))
+    declared = {name: parameters.count(",") for name, parameters in C_DECLARED.findall(headers)}
+    for block in C_CODE.finditer(text):
+        for name, arguments in C_CALL.findall(block[1]):
+            if name not in declared:
+                yield f"no {name} in the headers"
+            elif arguments.count(",") != declared[name]:
+                yield f"{name} has {declared[name] + 1} parameters"
+
+
+def misplaced(prose):
+    """Each item that doesn't stand at the place in brackets behind it."""
+    for name, file, number in IN_BRACKETS.findall(prose):
+        line = line_at(file, int(number))
+        if line is None or not re.search(rf"\b{name}\b", line):
+            yield f"{file}:{number} has no {name}: {line}"
 
 
 def faults(page, words, ends):
@@ -74,10 +139,9 @@ def faults(page, words, ends):
                 yield f"no line {file}:{number}"
             elif subject and not re.search(rf"\b{subject[1]}\b", line):
                 yield f"{file}:{number} has no {subject[1]}: {line.strip()}"
-    for before, block in zip(pieces[::2], pieces[1::2]):
-        place = PLACE.findall(before.strip().splitlines()[-1]) if before.strip() else []
-        if place and line_at(place[-1][0], int(place[-1][1])) != block.strip("\n").splitlines()[0]:
-            yield f"{place[-1][0]}:{place[-1][1]} is not the first line of its block"
+    yield from misplaced(prose)
+    yield from misquoted(text)
+    yield from c_faults(text)
     for link in re.findall(r"\]\(([^)#]+)\)", prose):
         if "://" not in link and not (page.parent / link).exists():
             yield f"no {link} to link to"
@@ -130,13 +194,13 @@ def launchers():
 
 
 def shown_runs(page):
-    """Each block of commands of a page that fails, or doesn't print the block behind it."""
-    shown = SHOWN.findall(page.read_text())
+    """Each block of commands of a page that fails, or doesn't print the block of text behind it."""
+    shown = SHOWN.findall(page.read_text()) if page.name in RUN_PAGES else []
     if not shown:
         return
     with tempfile.TemporaryDirectory() as room:
         copy = pathlib.Path(room) / "checkout"
-        shutil.copytree(TOP, copy, symlinks=True, ignore=shutil.ignore_patterns("out", ".git", ".kept"))
+        shutil.copytree(TOP, copy, symlinks=True, ignore=shutil.ignore_patterns(*UNREAD))
         (TOP / ".kept").mkdir(exist_ok=True)
         (copy / ".kept").symlink_to(TOP / ".kept")
         for commands, text in shown:
@@ -146,7 +210,7 @@ def shown_runs(page):
                 yield f"the block of `{first}` ends with status {run.returncode}"
             differing = difflib.unified_diff(text.splitlines(), run.stdout.splitlines(), "shown", "printed", n=1, lineterm="")
             difference = "\n       ".join(differing)
-            if difference:
+            if text and difference:
                 yield f"the block of `{first}` prints other lines:\n       {difference}"
     print(f"{len(shown):6} blocks of commands were run")
 
@@ -163,10 +227,13 @@ def main():
         count = sum(1 for word in page.read_text().split() if re.search(r"\w", word))
         total += count
         print(f"{count:6} {page.relative_to(TOP)}")
-        for fault in (*faults(page, words, ends), *(shown_runs(page) if runs else ())):
+        most = MOST_WORDS.get(page.name, MOST_OF_A_PAGE)
+        too_long = [f"more than {most} words"] if count > most else []
+        for fault in (*too_long, *faults(page, words, ends), *(shown_runs(page) if runs else ())):
             wrong += 1
             print(f"       {fault}")
-    for fault in (*wide_lines(), *cited_proofs(), *launchers()):
+    too_many = [f"more than {MOST_OF_ALL} words"] if total > MOST_OF_ALL else []
+    for fault in (*too_many, *wide_lines(), *cited_proofs(), *launchers()):
         wrong += 1
         print(f"       {fault}")
     print(f"{total:6} words, {wrong} faults")

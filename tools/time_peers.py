@@ -11,8 +11,9 @@ It prints a line, as "rocks nosync quiet 4 writers: 86000 commits/s, 99.9% 120 u
 ", 3 builds, 20.1 ms each". A script `servers.sh` there, if any, is run as `servers.sh pg` once a round, and prints
 lines as "postgres writers=4 quiet tps = 86000.0 .. cic_ms=200".
 
-Prints the medians of all rounds as a table, and how many times as much this store does. Measure on a machine that does
-nothing else.
+This store is measured twice: its writers wait for the thread that flushes, or they write what they wait for themselves
+("led"). Prints the medians of all rounds as a table, and how many times as much this store does, led. Measure on a
+machine that does nothing else.
 """
 import collections
 import os
@@ -24,8 +25,9 @@ import sys
 import tempfile
 
 WRITERS = (1, 2, 4, 8)
-OWN = re.compile(r"(\d+) writers, (quiet|beside a build): (\d+) commits a second .*?(\d+) at 99\.9 %")
-OWN_BUILD = re.compile(r"(\d+) writers: \d+ builds over .*?, (\d+) microseconds each")
+OWN = re.compile(r"(\d+) writers, (quiet|beside a build)(?:, led)?: (\d+) commits a second .*?(\d+) at 99\.9 %")
+OWN_BUILD = re.compile(r"(\d+) writers(?:, led)?: \d+ builds over .*?, (\d+) microseconds each")
+NAMES = {"": "this store", "led": "this store, led"}
 OTHER = re.compile(r"(\w+) nosync (quiet|build) (\d+) writers: (\d+) commits/s, 99\.9% (\d+) us(?:, \d+ builds, ([\d.]+) ms each)?")
 SERVER = re.compile(r"(\w+) writers=(\d+) (quiet|build) tps = ([\d.]+)(.*)")
 top = os.path.dirname(os.path.dirname(os.path.abspath(__file__)))
@@ -37,15 +39,16 @@ def printed(*words, **how):
     return ran.stdout
 
 
-def measure_own(writers):
+def measure_own(writers, led):
+    name = NAMES[led]
     for word in ("quiet", "beside"):
-        said = printed(f"{top}/scripts/bench", "threads", word, str(writers))
+        said = printed(f"{top}/scripts/bench", "threads", word, str(writers), led)
         for count, how, rate, worst in OWN.findall(said):
-            at = ("this store", "quiet" if how == "quiet" else "build", int(count))
+            at = (name, "quiet" if how == "quiet" else "build", int(count))
             commits[at].append(float(rate))
             slowest[at].append(float(worst))
         for count, each in OWN_BUILD.findall(said):
-            builds["this store", int(count)].append(float(each) / 1000)
+            builds[name, int(count)].append(float(each) / 1000)
 
 
 def measure_other(program, writers, seconds):
@@ -80,20 +83,21 @@ def row(title, cells):
 
 
 def show():
-    names = ["this store", *sorted({it[0] for it in commits} - {"this store"})]
+    own = list(NAMES.values())
+    names = own + sorted({it[0] for it in commits} - set(own))
     row("Writers", [str(it) for it in WRITERS])
     row("---", ["---"] * len(WRITERS))
     for how, words in (("quiet", "quiet"), ("build", "beside a build")):
         for name in names:
             row(f"{name}, {words}, thousand commits a second",
                 [median(commits[name, how, it], 1000, "{:.1f}") for it in WRITERS])
-        for name in names[1:]:
+        for name in names[len(own):]:
             cells = []
             for it in WRITERS:
-                own, other = commits["this store", how, it], commits[name, how, it]
-                both = own and other
-                cells.append(f"{statistics.median(own) / statistics.median(other):.2f}" if both else "-")
-            row(f"this store, {words}, times {name}", cells)
+                this, other = commits[own[-1], how, it], commits[name, how, it]
+                both = this and other
+                cells.append(f"{statistics.median(this) / statistics.median(other):.2f}" if both else "-")
+            row(f"{own[-1]}, {words}, times {name}", cells)
         for name in names:
             row(f"{name}, {words}, 99.9 % within, ms", [median(slowest[name, how, it], 1000, "{:.2f}") for it in WRITERS])
     for name in names:
@@ -110,7 +114,8 @@ def main():
     programs = [it for it in files if os.access(it, os.X_OK) and os.path.isfile(it) and not it.endswith(".sh")]
     for _ in range(rounds):
         for writers in WRITERS:
-            measure_own(writers)
+            for led in NAMES:
+                measure_own(writers, led)
             for program in programs:
                 measure_other(program, writers, seconds)
         if os.path.exists(f"{folder}/servers.sh"):
