@@ -1,9 +1,21 @@
-//! Links the libraries that NSF_LIBRARIES names, as run.sh does.
+//! Links the libraries that NSF_LIBRARIES names, as run.sh does. A package that depends on this one links them too.
+use std::path::Path;
+
 fn main() {
     println!("cargo:rerun-if-env-changed=NSF_LIBRARIES");
-    let libraries = std::env::var("NSF_LIBRARIES").expect("NSF_LIBRARIES names libnsf_c.a and liblibc_c.a: see run.sh");
+    let libraries = std::env::var("NSF_LIBRARIES")
+        .expect("NSF_LIBRARIES names libnsf_c.a and the kit's: see run.sh");
     for library in libraries.split_whitespace() {
-        println!("cargo:rustc-link-arg={library}");
+        let path = Path::new(library);
+        let name = path
+            .file_stem()
+            .and_then(|stem| stem.to_str())
+            .and_then(|stem| stem.strip_prefix("lib"));
+        let (Some(folder), Some(name)) = (path.parent(), name) else {
+            panic!("{library} is no path of a lib..a");
+        };
+        println!("cargo:rustc-link-search=native={}", folder.display());
+        println!("cargo:rustc-link-lib=static={name}");
         println!("cargo:rerun-if-changed={library}");
     }
 }

@@ -6,6 +6,7 @@ mod device;
 mod sys;
 
 use device::Device;
+use std::fmt;
 use std::fs::File;
 use std::io::{self, Read, Seek, SeekFrom, Write};
 use std::marker::PhantomData;
@@ -19,6 +20,48 @@ pub enum Refused {
     Unready,
     System(io::Error),
 }
+
+// The names of the refusals, by number.
+const NAMES: [&str; 23] = [
+    "NoMemory",
+    "DeviceFailed",
+    "NotFormatted",
+    "Damaged",
+    "DeviceTooSmall",
+    "BadGeometry",
+    "TooManyTxns",
+    "TooManyChanges",
+    "NoSuchTxn",
+    "NoSuchRow",
+    "RowBusy",
+    "HeapFull",
+    "IndexFull",
+    "KeyTooLong",
+    "BodyTooLong",
+    "TxnsActive",
+    "IndexExists",
+    "NoIndex",
+    "NotBuilt",
+    "Stopped",
+    "Exhausted",
+    "BadScript",
+    "OldVersion",
+];
+
+impl fmt::Display for Refused {
+    fn fmt(&self, f: &mut fmt::Formatter<'_>) -> fmt::Result {
+        match self {
+            Refused::Store(number) => match NAMES.get((*number as usize).wrapping_sub(1)) {
+                Some(name) => write!(f, "{number} {name}"),
+                None => write!(f, "{number}"),
+            },
+            Refused::Unready => f.write_str("the transaction owes a step, or is rolling back"),
+            Refused::System(error) => write!(f, "{error}"),
+        }
+    }
+}
+
+impl std::error::Error for Refused {}
 
 impl From<io::Error> for Refused {
     fn from(error: io::Error) -> Refused {
@@ -67,14 +110,19 @@ mod kind {
     pub const BEGIN: u32 = 1;
     pub const INSERT: u32 = 2;
     pub const DELETE: u32 = 3;
+    pub const UPDATE: u32 = 4;
     pub const STEP: u32 = 5;
+    pub const UNDO: u32 = 6;
+    pub const END: u32 = 7;
     pub const COMMIT: u32 = 8;
     pub const CREATE: u32 = 9;
     pub const BUILD: u32 = 10;
     pub const GET: u32 = 14;
     pub const FIND: u32 = 15;
+    pub const DROP: u32 = 17;
 
     pub const STEPPED: u32 = 3;
+    pub const UNDONE: u32 = 4;
     pub const DONE: u32 = 12;
     pub const IDLE: u32 = 13;
     pub const ROW: u32 = 22;
@@ -108,8 +156,9 @@ impl Store {
         Store::created(None, -1, geometry)
     }
 
-    /// Makes a store in a file that is empty.
+    /// Makes a store in a file that is empty, and locks it. Who is cut off leaves a file that is no store.
     pub fn create(mut file: File, geometry: Geometry) -> Result<Store, Refused> {
+        file.try_lock().map_err(io::Error::from)?;
         let Geometry {
             pages,
             entries,
@@ -125,8 +174,9 @@ impl Store {
         Store::created(Some(device), line, geometry)
     }
 
-    /// Opens the store in a file.
+    /// Opens the store in a file, and locks it.
     pub fn open(mut file: File) -> Result<Store, Refused> {
+        file.try_lock().map_err(io::Error::from)?;
         let mut bytes = Vec::new();
         file.sync_all()?;
         file.seek(SeekFrom::Start(0))?;
@@ -244,6 +294,30 @@ impl Store {
         self.finish(txn)
     }
 
+    /// Puts another row in place of the one at a place.
+    pub fn update(
+        &mut self,
+        txn: u64,
+        place: Place,
+        key: &[u8],
+        body: &[u8],
+    ) -> Result<(), Refused> {
+        let event = sys::Event {
+            kind: kind::UPDATE,
+            txn,
+            page: place.page,
+            slot: place.slot,
+        };
+        self.ask_ready(event, key, body)?;
+        self.finish(txn)
+    }
+
+    /// Takes back what a transaction did, and ends it.
+    pub fn roll_back(&mut self, txn: u64) -> Result<(), Refused> {
+        while self.ask_of(kind::UNDO, txn)?.kind == kind::UNDONE {}
+        self.ask_of(kind::END, txn).map(|_| ())
+    }
+
     /// Commits a transaction, and answers its ticket.
     pub fn commit(&mut self, txn: u64) -> Result<u64, Refused> {
         let event = sys::Event {
@@ -257,6 +331,11 @@ impl Store {
     /// Creates the index.
     pub fn create_index(&mut self) -> Result<(), Refused> {
         self.ask_of(kind::CREATE, 0).map(|_| ())
+    }
+
+    /// Drops the index, complete or not.
+    pub fn drop_index(&mut self) -> Result<(), Refused> {
+        self.ask_of(kind::DROP, 0).map(|_| ())
     }
 
     /// Makes a step of the builder.

@@ -66,6 +66,23 @@ fn a_refusal_has_its_number() {
 }
 
 #[test]
+fn a_change_is_taken_back() {
+    let mut store = Store::in_memory(GEOMETRY).unwrap();
+    let place = put(&mut store, b"old", b"row").unwrap();
+    store.create_index().unwrap();
+    build(&mut store).unwrap();
+    let txn = store.begin().unwrap();
+    store.update(txn, place, b"new", b"row").unwrap();
+    assert_eq!(store.find(b"new").unwrap(), [place]);
+    store.roll_back(txn).unwrap();
+    assert_eq!(store.find(b"old").unwrap(), [place]);
+    assert_eq!(store.find(b"new").unwrap(), []);
+    store.drop_index().unwrap();
+    let refused = store.find(b"old").unwrap_err();
+    assert_eq!(refused.to_string(), "18 NoIndex");
+}
+
+#[test]
 fn a_store_in_memory_is_saved() {
     let mut store = Store::in_memory(GEOMETRY).unwrap();
     let kept = put(&mut store, b"kept", b"row").unwrap();
@@ -107,6 +124,7 @@ fn a_file_holds_what_was_flushed() {
     build(&mut store).unwrap();
     store.flush().unwrap();
     let lost = put(&mut store, b"lost", b"row").unwrap();
+    assert!(matches!(Store::open(at(&path)), Err(Refused::System(_))));
     drop(store);
 
     let mut store = Store::open(at(&path)).unwrap();
