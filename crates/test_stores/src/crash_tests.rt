@@ -1,4 +1,4 @@
-// A store is stopped at each call of its device in turn, and crashes; and so are the restarts behind it.
+// A store is stopped at each call of its device in turn, and crashes; and so are restarts behind it, at one call in 16.
 use crate::answer::Answer;
 use crate::claims::{claim, claim_at};
 use crate::contents::Contents;
