@@ -102,11 +102,6 @@ impl Waits {
         self.pause_every.load(Ordering::SeqCst)
     }
 
-    /// Sets after how many attempts the builder pauses.
-    pub fn set_pause_every(&self, attempts: u64) {
-        self.pause_every.store(attempts, Ordering::SeqCst);
-    }
-
     /// Says that a seat, or the flusher, wants the lock. `has_lock` follows once it has it.
     pub fn wants_lock(&self) {
         self.wanting.fetch_add(1, Ordering::SeqCst);

@@ -140,24 +140,6 @@ pub fn each_half()
         → IsLogOf s.pages base cells (log ++ one_record (base + length log) (action_of s e)) (after s e) }
 {}
 
-/// A law: an image that was copied piece by piece while the run went on gives, with the records since it was begun,
-/// such a beginning too, once all records up to the last copied piece are among them.
-pub fn any_image()
-    ensures { (o : Opened) → CanOpen o → (before : List RecordValue) (items : List Item) (writes : ℕ
-        → List Write) (s : State) → HasMade o before items writes s → (cells : Cells) → HasCells s cells
-        → (steps : List MachineStep) (new : State) → Runs s steps new
-        → (m : ℕ) (image : Cells) → IsCopied cells (records_from s (o.given.last + length before) steps) m image
-        → (k : ℕ) → m ≤ k → k ≤ length (records_from s (o.given.last + length before) steps)
-        → IsBeginning o.given (items ++ items_from writes s (o.given.last + length before) steps)
-        (o.given.last + length before + k)
-        (recovered (cells_after image (take k (records_from s (o.given.last + length before) steps)))
-        (o.given.last + length before + k))
-        × CanOpen (record o {
-          given = recovered (cells_after image
-              (take k (records_from s (o.given.last + length before) steps))) (o.given.last + length before + k);
-        }) }
-{}
-
 /// A law: an insertion is undone while the index is built, after the builder took its page: the builder's insertion
 /// of the pair is rejected, and the entry stays marked.
 pub fn undone_insertion_is_rejected()

@@ -27,18 +27,6 @@ pub fn opened_by_reader()
     image_inside();
 }
 
-/// A law: a writer can be opened over an image whose log is empty, on a device that is synced: what a restart leaves
-/// that wrote the image of what it read.
-pub fn opened_by_image()
-    ensures { (now : DevicePast) (halves : HalvesValue) (log : Log) (last : ℕ) (cells : Cells)
-        → IsStore halves.geometry halves.current now.disk.content
-        → HoldsImage halves.geometry halves.current now.disk.content last cells
-        → log.area ≡ log_area halves.geometry halves.current → Stands log now.disk.content [] → IsSynced now.disk
-        → last ≤ LAST_NUMBER → IsOpenedAt now halves log last cells }
-{
-    image_inside();
-}
-
 /// A law: records that can follow the ones of a run make it longer, and are the next ones to be handed in where all
 /// before were.
 pub fn longer_run()

@@ -24,6 +24,6 @@ mod writer;
 
 pub use copying::Copying;
 pub use image::write_whole;
-pub use laws::{longer_run, opened_by_image, opened_by_reader};
+pub use laws::{longer_run, opened_by_reader};
 pub use store::StoreWriter;
 pub use writer::{FlipReply, FlushReply, StepReply};

@@ -1,8 +1,7 @@
 -- Each step keeps the rule of the queue.
-use Rattle.std.proofs.Common.{◌≡◌, ◌≢◌, ℕ, zero, suc, true, false, true≢false, Option, None, Some, List, [], ◌∷◌, ◌++◌, drop, take, length, set, slice_get, sym}
-use Rattle.std.proofs.Common.{refl, ap, ◌∙◌, subst, ⊎_elim, append_assoc, append-nil}
-use Rattle.std.specs.Prelude.{MatchOption}
-use Rattle.std.proofs.Math.Seq.{drop-append_seam, take-append_seam}
+use Rattle.std.proofs.Common.{◌≡◌, ◌≢◌, ℕ, zero, suc, true, false, true≢false, List, [], ◌∷◌, ◌++◌, take, length, set, sym}
+use Rattle.std.proofs.Common.{refl, ap, ◌∙◌, ⊎_elim, subst, append_assoc}
+use Rattle.std.proofs.Math.Seq.{take-append_seam}
 use mathlib.Core.Option.{some, some-ne-none}
 use lib.ListN.{get_elem?}
 use Rattle.crossbeam_queue.specs.Fifo.{Forks, Held, Learns, Merges}
@@ -10,7 +9,7 @@ use Rattle.crossbeam_queue.specs.Fifo as fifo
 use Rattle.crossbeam_queue.proofs.Lists.{at_set, at_snoc}
 use Rattle.records.specs.RecordValue.{RecordValue}
 use Rattle.threads_queue.specs.declared.knowledge.Knowledge.{Knowledge}
-use Rattle.threads_queue.specs.Rule.{both_ends, Fits, IsQueueKept, KnowsWholeQueue, no_end, pop_end, Pops, push_end, Pushes, Waits, waiting_of}
+use Rattle.threads_queue.specs.Rule.{both_ends, Fits, IsQueueKept, no_end, pop_end, Pops, push_end, Pushes, Waits}
 
 off : {A : Type 0} → false ≡ true → A
 off e = absurd (true≢false (sym e))
@@ -184,69 +183,6 @@ merges place v other u a b items ends h at two at' =
 
 pub learns : (place : ℕ) (v : Knowledge) → Learns IsQueueKept place v (Waits v)
 learns place v items ends h at a b = let mine = h.fits place v at in (mine.of_pusher a).1 ∙ h.in_order ∙ ap (λ l. l ++ items) (sym (mine.of_popper b).1)
-
--- ---- a queue in one hand
-
--- what waits behind what was popped
-waiting_is : (pushed popped items : List RecordValue) → pushed ≡ popped ++ items → drop (length popped) pushed ≡ items
-waiting_is pushed popped items e = ap (drop (length popped)) e ∙ drop-append_seam popped items
-
--- what a pop leaves
-pub record Popped (v : Knowledge) (result : Option RecordValue) (w : Knowledge) : Type 0 where
-  pub whole : KnowsWholeQueue w
-  pub oldest : result ≡ slice_get (waiting_of v) 0
-  pub popped : w.popped ≡ v.popped ++ take 1 (waiting_of v)
-  pub waiting : waiting_of w ≡ drop 1 (waiting_of v)
-
--- none waited
-pops_none : (v w : Knowledge) → KnowsWholeQueue v → w ≡ v → v.pushed ≡ v.popped ++ [] → Popped v None w
-pops_none v w whole same none =
-    let empty : waiting_of v ≡ [] = waiting_is v.pushed v.popped [] none in record {
-      whole = subst KnowsWholeQueue (sym same) whole;
-      oldest = ap (λ l. slice_get l 0) (sym empty);
-      popped = ap (λ (y : Knowledge). y.popped) same ∙ sym (append-nil v.popped) ∙ ap (λ l. v.popped ++ take 1 l) (sym empty);
-      waiting = ap waiting_of same ∙ empty ∙ ap (drop 1) (sym empty);
-    }
-
--- the oldest was popped
-pops_one : (v w : Knowledge) (x : RecordValue) (rest : List RecordValue) → KnowsWholeQueue v → w ≡ record v { popped = v.popped ++ x ∷ [] }
-    → v.pushed ≡ v.popped ++ x ∷ rest → Popped v (Some x) w
-pops_one v w x rest whole is before =
-    let were : waiting_of v ≡ x ∷ rest = waiting_is v.pushed v.popped (x ∷ rest) before in
-    let popped : w.popped ≡ v.popped ++ x ∷ [] = ap (λ (y : Knowledge). y.popped) is in
-    let pushed : w.pushed ≡ v.pushed = ap (λ (y : Knowledge). y.pushed) is in
-    let now : w.pushed ≡ w.popped ++ rest = pushed ∙ before ∙ sym (append_assoc v.popped (x ∷ []) rest) ∙ ap (λ l. l ++ rest) (sym popped) in
-    let are : waiting_of w ≡ rest = waiting_is w.pushed w.popped rest now in record {
-      whole = record {
-        ends = is ∙ (λ i. record {
-          pushes = (ap (λ (y : Knowledge). y.pushes) whole.ends) i;
-          pops = (ap (λ (y : Knowledge). y.pops) whole.ends) i;
-          pushed = (sym pushed) i;
-          popped = (sym popped) i;
-        });
-        in_order = now
-            ∙ ap (λ l. w.popped ++ l) (sym are);
-      };
-      oldest = ap (λ l. slice_get l 0) (sym were);
-      popped = popped ∙ ap (λ l. v.popped ++ take 1 l) (sym were);
-      waiting = are ∙ ap (drop 1) (sym were);
-    }
-
-pub pops_oldest : (R : Type 0) (v w : Knowledge) (result : Option RecordValue) → KnowsWholeQueue v
-    → MatchOption result ((w ≡ v) × Waits v []) (λ x. Pops v x w × R) → Popped v result w
-pops_oldest R v w None whole m = pops_none v w whole m.0 (m.1 (ap (λ (y : Knowledge). y.pushes) whole.ends) (ap (λ (y : Knowledge). y.pops) whole.ends))
-pops_oldest R v w (Some x) whole m = pops_one v w x m.0.rest whole m.0.known
-    (m.0.oldest (ap (λ (y : Knowledge). y.pushes) whole.ends) (ap (λ (y : Knowledge). y.pops) whole.ends))
-
-joined : (v : Knowledge) (n : ℕ) → v ≡ both_ends v.pushed v.popped → Held n (Waits v) → KnowsWholeQueue v
-joined v n is held =
-    let e = held.2 (ap (λ (y : Knowledge). y.pushes) is) (ap (λ (y : Knowledge). y.pops) is) in
-    record { ends = is; in_order = e ∙ ap (λ l. v.popped ++ l) (sym (waiting_is v.pushed v.popped held.0 e)) }
-
--- joined ends know what waits
-pub joins : (v w : Knowledge) (pushed popped : List RecordValue) (n : ℕ) → v ≡ both_ends pushed popped → Held n (Waits v) → w ≡ v → KnowsWholeQueue w
-joins v w pushed popped n is held same = subst KnowsWholeQueue (sym same)
-    (joined v n (is ∙ λ i. both_ends (ap (λ (y : Knowledge). y.pushed) (sym is) i) (ap (λ (y : Knowledge). y.popped) (sym is) i)) held)
 
 -- ---- two ends that are compared
 

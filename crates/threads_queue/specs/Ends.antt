@@ -32,11 +32,6 @@ pub record Handed : Type 0 where
   pub queue : QueueName
   pub records : List RecordValue
 
--- a queue in one hand: the records that were popped, and those that it still holds
-pub record Drained : Type 0 where
-  pub popped : List RecordValue
-  pub waiting : List RecordValue
-
 -- the queue of a pass
 abbrev pub queue_of : {S D A : Type 0} → Seat S D A → SegId A
 queue_of pass = record { web = pass.web; heap = pass.heap }

@@ -1,5 +1,5 @@
 -- The rule of the queue, and what each step tells.
-use Rattle.std.specs.Prelude.{◌≡◌, ℕ, true, false, List, [], ◌∷◌, ◌++◌, drop, length}
+use Rattle.std.specs.Prelude.{◌≡◌, ℕ, true, false, List, [], ◌∷◌, ◌++◌}
 use mathlib.Core.Option.{some}
 use lib.ListN.{get_elem?}
 use Rattle.records.specs.RecordValue.{RecordValue}
@@ -37,15 +37,6 @@ pop_end popped = record { pushes = false; pops = true; pushed = []; popped = pop
 -- an end that was joined to another, or is lent
 abbrev pub no_end : Knowledge
 no_end = record { pushes = false; pops = false; pushed = []; popped = [] }
-
--- what was pushed and not popped, as both ends know it
-abbrev pub waiting_of : Knowledge → List RecordValue
-waiting_of v = drop (length v.popped) v.pushed
-
--- both ends in one hand, which have joined what they know
-pub record KnowsWholeQueue (v : Knowledge) : Type 0 where
-  pub ends : v ≡ both_ends v.pushed v.popped
-  pub in_order : v.pushed ≡ v.popped ++ waiting_of v
 
 -- ---- the steps
 

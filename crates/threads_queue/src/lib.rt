@@ -6,18 +6,15 @@
 //!
 //! What names the queue leaves out the type of its allocator ([`Memory`]).
 //!
-//! Proved: a push adds its record, or gives it back and has pushed nothing (`ok`, `back`). Who owns both ends is told
-//! that what was pushed is what was popped and then what waits (`JoinedQueue::join`); who looks at both, that what was
-//! popped is the first of what was pushed (`RecordQueue::compare`). Neither: that a push succeeds where there is
-//! memory, or that a pop finds a record that waits while others push.
+//! Proved: a push adds its record, or gives it back and has pushed nothing (`ok`, `back`). Who looks at both ends is
+//! told that what was popped is the first of what was pushed (`RecordQueue::compare`). Neither: that a push succeeds
+//! where there is memory, or that a pop finds a record that waits while others push.
 #![tactic(auto)]
 
-mod joined;
 mod knowledge;
 mod memory;
 mod queue;
 mod rule;
 
-pub use joined::JoinedQueue;
 pub use memory::Memory;
 pub use queue::{Popper, Pusher, RecordQueue};

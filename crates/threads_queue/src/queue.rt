@@ -110,13 +110,6 @@ impl<A: Memory> RecordQueue<A> {
         let back = self.queue.another::<Ends>(&mut pusher.pass);
         self.queue.absorb::<Lent>(&mut popper.pass, back);
     }
-
-    pub(crate) fn into_queue(self) -> Queue<A>
-        ensures { name_of A.stored result ≡ self }
-    {
-        let RecordQueue { queue } = self;
-        queue
-    }
 }
 
 impl<A: Memory> Pusher<A> {
