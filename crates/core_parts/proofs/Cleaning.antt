@@ -14,7 +14,7 @@ use Rattle.model.specs.Pairs.{is_indexed}
 use Rattle.model.specs.declared.key_action.KeyAction.TheVariants as key
 use Rattle.model.specs.declared.life.Life.{Life}
 use Rattle.model.specs.declared.life.Life.TheVariants.{Absent, Building, Complete}
-use Rattle.btree_node.specs.Above.{IsAfter, IsLeastAbove}
+use Rattle.marked_index.specs.Above.{IsAfter, IsLeastAbove}
 use Rattle.core_model.proofs.Laws.{not_none}
 use Rattle.core_model.specs.States.{State}
 use Rattle.core_model.specs.Steps.{CanClean, IsPassed, Keep, MachineStep, Wrap, after}

@@ -2,7 +2,7 @@
 use Rattle.std.proofs.Common.{Bool, List, None, Option, Some, ap, cond, false, not, refl, sym, true, ℕ, ◌∙◌, ◌≡◌}
 use Rattle.std.proofs.lemmas.Slice.Eq.{bytes_eq-Decides}
 use Rattle.std.specs.Cmp.Lexicographic.{pointwise}
-use Rattle.std.specs.Prelude.{nat_eq}
+use Rattle.std.specs.Prelude.{is_some, nat_eq}
 use Rattle.records.specs.ChangeValue.{ChangeValue}
 use Rattle.records.specs.Spelling.{new_row, old_row}
 use Rattle.record_values.specs.Values.{Place}
@@ -90,6 +90,27 @@ new_none b c e = sym (new_moves b c) ∙ none_by _ _ _ e
 pub new_some : (b : Bool) (c : ChangeValue) (m : Pair × TxnAction) → Some m ≡ option_and_then entry_in (puts_new b c) → (new_pair b c ≡ Some m.0)
     × (m.1 ≡ Forward NewEntry c)
 new_some b c m e = let s = some_by _ _ _ m e in (sym (new_moves b c) ∙ s.0, s.1)
+
+-- ---- whether a step has an entry
+there : (o : Option Pair) (mark : Mark) (action : TxnAction) → true ≡ is_some (entry_step o mark action) → (p : Pair) × (o ≡ Some p)
+there None mark action e = absurd cc
+there (Some p) mark action e = (p, refl)
+
+missing : (o : Option Pair) (mark : Mark) (action : TxnAction) → false ≡ is_some (entry_step o mark action) → o ≡ None
+missing None mark action e = refl
+missing (Some p) mark action e = absurd cc
+
+pub new_there : (b : Bool) (c : ChangeValue) → true ≡ is_some (puts_new b c) → (p : Pair) × (new_pair b c ≡ Some p)
+new_there b c e = let s = there _ _ _ e in (s.0, sym (new_moves b c) ∙ s.1)
+
+pub new_missing : (b : Bool) (c : ChangeValue) → false ≡ is_some (puts_new b c) → new_pair b c ≡ None
+new_missing b c e = sym (new_moves b c) ∙ missing _ _ _ e
+
+pub old_there : (b : Bool) (c : ChangeValue) → true ≡ is_some (marks_old b c) → (p : Pair) × (old_pair b c ≡ Some p)
+old_there b c e = let s = there _ _ _ e in (s.0, sym (old_moves b c) ∙ s.1)
+
+pub old_missing : (b : Bool) (c : ChangeValue) → false ≡ is_some (marks_old b c) → old_pair b c ≡ None
+old_missing b c e = sym (old_moves b c) ∙ missing _ _ _ e
 
 -- ---- the entry of an undo's step
 pub new_unmarked : (b : Bool) (c : ChangeValue) → None ≡ option_and_then entry_in (marks_new b c) → new_pair b c ≡ None

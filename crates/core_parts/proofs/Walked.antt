@@ -17,7 +17,7 @@ use Rattle.model.specs.declared.life.Life.{Life}
 use Rattle.model.specs.declared.life.Life.TheVariants.{Absent, Building, Complete}
 use Rattle.model.specs.Pairs.{is_indexed}
 use Rattle.model.specs.Table.{Index, Table}
-use Rattle.btree_node.specs.Above.{IsAfter, IsLeastAbove}
+use Rattle.marked_index.specs.Above.{IsAfter, IsLeastAbove}
 use Rattle.core_model.specs.Histories.{CanOpen, FitsStore}
 use Rattle.core_parts.specs.Opening.{EachIsShown, EachMayStand, opened_of}
 use Rattle.core_parts.specs.View.{CoreValue, IsSafe}

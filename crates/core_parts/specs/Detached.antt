@@ -1,6 +1,6 @@
 -- What an index that was dropped hands to its caller.
 use Rattle.model.specs.Table.{Index}
-use Rattle.btree_node.specs.Contents.{contents}
+use Rattle.marked_index.specs.Contents.{contents}
 use Rattle.core_parts.specs.declared.parts.Detached.{Detached}
 
 -- the entries that it had, with their marks

@@ -9,3 +9,5 @@ pub mod Opening
 pub mod Asked
 pub mod Undoing
 pub mod Private
+pub use Rattle.marked_index.specs.Index
+pub use Rattle.heap_pages.specs.Pages

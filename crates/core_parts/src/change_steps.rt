@@ -3,7 +3,7 @@ ghost use Rattle.std.specs.Prelude.{◌≡◌, Some, is_none, option_and_then};
 ghost use Rattle.core_steps.specs.Steps.{marks_new, marks_old, puts_new, puts_old, sets_new, sets_old};
 ghost use Rattle.core_parts.specs.Private.{entry_in};
 
-use core_steps::{Cell, Step, forward, undo};
+use core_steps::{Cell, Step, forward, has_new_entry, has_old_entry, undo};
 use records::{Change, Pair, Part, TxnAction};
 
 // The entry that a step sets, and what its record says; none where it sets a row, or where there is
@@ -29,10 +29,10 @@ pub(crate) fn marks_old(change: &Change, indexed: bool) -> Option<(Pair, TxnActi
 fn row_step(change: &Change, indexed: bool) -> Option<Step>
     ensures { result ≡ Some (sets_new change.now) }
 {
-    match marks_old(change, indexed) {
-        None => forward(change, indexed, 0),
-        Some(_) => forward(change, indexed, 1),
+    if has_old_entry(change, indexed) {
+        return forward(change, indexed, 1);
     }
+    forward(change, indexed, 0)
 }
 
 /// What the record of a change's row says.
@@ -49,10 +49,10 @@ pub(crate) fn sets_new(change: &Change, indexed: bool) -> TxnAction
 pub(crate) fn puts_new(change: &Change, indexed: bool) -> Option<(Pair, TxnAction)>
     ensures { result ≡ option_and_then entry_in (puts_new indexed change.now) }
 {
-    match marks_old(change, indexed) {
-        None => entry_of(forward(change, indexed, 1)),
-        Some(_) => entry_of(forward(change, indexed, 2)),
+    if has_old_entry(change, indexed) {
+        return entry_of(forward(change, indexed, 2));
     }
+    entry_of(forward(change, indexed, 1))
 }
 
 /// The entry that the undo of a change marks, where it marks one, and what the record says. It is the first step.
@@ -66,10 +66,10 @@ pub(crate) fn marks_new(change: &Change, indexed: bool) -> Option<(Pair, TxnActi
 fn row_back_step(change: &Change, indexed: bool) -> Option<Step>
     ensures { result ≡ Some (sets_old change.now (is_none (puts_old indexed change.now))) }
 {
-    match marks_new(change, indexed) {
-        None => undo(change, indexed, 0),
-        Some(_) => undo(change, indexed, 1),
+    if has_new_entry(change, indexed) {
+        return undo(change, indexed, 1);
     }
+    undo(change, indexed, 0)
 }
 
 /// What the record of the row says that the undo of a change sets back.
@@ -86,8 +86,8 @@ pub(crate) fn sets_old(change: &Change, indexed: bool) -> TxnAction
 pub(crate) fn puts_old(change: &Change, indexed: bool) -> Option<(Pair, TxnAction)>
     ensures { result ≡ option_and_then entry_in (puts_old indexed change.now) }
 {
-    match marks_new(change, indexed) {
-        None => entry_of(undo(change, indexed, 1)),
-        Some(_) => entry_of(undo(change, indexed, 2)),
+    if has_new_entry(change, indexed) {
+        return entry_of(undo(change, indexed, 2));
     }
+    entry_of(undo(change, indexed, 1))
 }

@@ -4,7 +4,7 @@ ghost use Rattle.std.specs.FinMap as map;
 ghost use Rattle.records.specs.declared.record.IndexAction.TheVariants as action;
 ghost use Rattle.model.specs.Pairs as pairs;
 ghost use Rattle.txn_table.specs.Table.{holder_of};
-ghost use Rattle.btree_node.specs.Above.{IsLeastAbove};
+ghost use Rattle.marked_index.specs.Above.{IsLeastAbove};
 ghost use Rattle.core_model.specs.Steps.{IsPassed};
 ghost use Rattle.core_model.specs.Events.{Event};
 ghost use Rattle.core_parts.specs.View.{IsSafe, Serves};

@@ -21,5 +21,7 @@ mod reply;
 mod step;
 mod undo;
 
+pub use heap_pages::Heap;
+pub use marked_index::MarkedIndex;
 pub use parts::{CoreParts, Detached, Ticket};
 pub use reply::{BuildReply, CleanReply, Owed, Undone};

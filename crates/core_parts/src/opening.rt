@@ -2,7 +2,7 @@
 ghost use Rattle.std.specs.Prelude.{◌<◌, ◌↔◌, ℕ, IsTrue};
 ghost use Rattle.model.specs.Table.{IsPairOf};
 ghost use Rattle.record_values.specs.declared.rid.TheConstants.{SLOTS_PER_PAGE};
-ghost use Rattle.btree_node.specs.Above.{IsLeastAbove};
+ghost use Rattle.marked_index.specs.Above.{IsLeastAbove};
 ghost use Rattle.core_parts.specs.Parts.{parts_of};
 ghost use Rattle.core_parts.specs.Opening.{EachIsShown, EachMayStand, IsRowShown, IsShown, MayStand};
 

@@ -21,10 +21,10 @@ ghost use Rattle.core_parts.specs.Private.{HasNextNumber};
 ghost use Rattle.txn_table.specs.Sound.{IsSoundTable};
 ghost use Rattle.core_parts.specs.Parts.{parts_of};
 
-use crate::change_steps::{marks_old, puts_new, sets_new};
-use btree_node::Cleared;
+use crate::change_steps::{marks_old, sets_new};
+use core_steps::has_new_entry;
 use heap_pages::Heap;
-use marked_index::{MarkedIndex, Stepped};
+use marked_index::{Cleared, MarkedIndex, Stepped};
 use model::Life;
 use records::{
     Action, Change, Error, LAST_NUMBER, Mark, PLACES_PER_CHANGE, Pair, Part, Record, RecordNumber,
@@ -102,9 +102,10 @@ fn may_reserve<A: Allocator + Clone>(index: &MarkedIndex<A>, indexed: bool) -> b
 pub(crate) fn progress_after_row(change: &Change, indexed: bool) -> Progress
     ensures { result ≡ row_progress (pairs.new_pair indexed change.now) }
 {
-    match puts_new(change, indexed) {
-        Some(_) => Progress::OwesEntry,
-        None => Progress::Ready,
+    if has_new_entry(change, indexed) {
+        Progress::OwesEntry
+    } else {
+        Progress::Ready
     }
 }
 

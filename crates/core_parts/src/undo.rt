@@ -14,6 +14,7 @@ ghost use Rattle.core_parts.specs.Parts.{parts_of};
 use crate::change_steps::{marks_new, puts_old, sets_old};
 use crate::parts::CoreParts;
 use crate::reply::Undone;
+use core_steps::has_old_entry;
 use records::{Change, Error, Mark, Part, RecordNumber, Txn};
 use std::alloc::Allocator;
 use txn_table::Progress;
@@ -45,14 +46,12 @@ impl<A: Allocator + Copy> CoreParts<A> {
         let indexed = self.indexed();
         let row = change.rows.old();
         let action = sets_old(&change, indexed);
-        match puts_old(&change, indexed) {
-            Some(_) => { self.set_row(number, txn, Progress::UndoesEntry, change.rid, row, action) }
-            None => {
-                self.set_row(number, txn, Progress::Rolling, change.rid, row, action)?;
-                self.txns.pop_undo(txn);
-                Ok(())
-            }
+        if has_old_entry(&change, indexed) {
+            return self.set_row(number, txn, Progress::UndoesEntry, change.rid, row, action);
         }
+        self.set_row(number, txn, Progress::Rolling, change.rid, row, action)?;
+        self.txns.pop_undo(txn);
+        Ok(())
     }
 
     // Makes the entry of the newest change's old row live again. `NoMemory` leaves all as before.

@@ -6,4 +6,4 @@
 
 mod step;
 
-pub use step::{Cell, Step, forward, undo};
+pub use step::{Cell, Step, forward, has_new_entry, has_old_entry, undo};

@@ -1,5 +1,5 @@
 //! Steps of a change.
-ghost use Rattle.std.specs.Prelude.{◌≡◌, ◌++◌, ◌∷◌, slice_get};
+ghost use Rattle.std.specs.Prelude.{◌≡◌, ◌++◌, ◌∷◌, is_none, is_some, not, slice_get};
 ghost use Rattle.core_steps.specs.Keys.{keeps_key, moved_pair};
 ghost use Rattle.core_steps.specs.Steps.{some_step, forward_steps, undo_steps, marks_old, sets_new, puts_new};
 ghost use Rattle.core_steps.specs.Steps.{marks_new, sets_old, puts_old};
@@ -34,11 +34,10 @@ pub struct Step {
 pub fn forward(change: &Change, indexed: bool, made: usize) -> Option<Step>
     ensures { result ≡ slice_get (forward_steps indexed change.now) made }
 {
-    let first = marks_old(change, indexed);
-    match (first, made) {
-        (Some(_), 0) => first,
-        (Some(_), 1) | (None, 0) => Some(sets_new(change)),
-        (Some(_), 2) | (None, 1) => puts_new(change, indexed),
+    match (has_old_entry(change, indexed), made) {
+        (true, 0) => marks_old(change, indexed),
+        (true, 1) | (false, 0) => Some(sets_new(change)),
+        (true, 2) | (false, 1) => puts_new(change, indexed),
         _ => None,
     }
 }
@@ -53,11 +52,10 @@ pub fn forward(change: &Change, indexed: bool, made: usize) -> Option<Step>
 pub fn undo(change: &Change, indexed: bool, made: usize) -> Option<Step>
     ensures { result ≡ slice_get (undo_steps indexed change.now) made }
 {
-    let first = marks_new(change, indexed);
-    match (first, made) {
-        (Some(_), 0) => first,
-        (Some(_), 1) | (None, 0) => Some(sets_old(change, puts_old(change, indexed).is_none())),
-        (Some(_), 2) | (None, 1) => puts_old(change, indexed),
+    match (has_new_entry(change, indexed), made) {
+        (true, 0) => marks_new(change, indexed),
+        (true, 1) | (false, 0) => Some(sets_old(change, !has_old_entry(change, indexed))),
+        (true, 2) | (false, 1) => puts_old(change, indexed),
         _ => None,
     }
 }
@@ -84,6 +82,17 @@ fn moved_pair(change: &Change, indexed: bool, row: Option<Row>) -> Option<Pair>
         })
     } else {
         None
+    }
+}
+
+/// Whether the change has a step that marks the entry of the old row, and its undo one that puts it.
+pub fn has_old_entry(change: &Change, indexed: bool) -> bool
+    ensures marked { result ≡ is_some (marks_old indexed change.now) }
+    ensures put { not result ≡ is_none (puts_old indexed change.now) }
+{
+    match &change.rows {
+        Rows::Inserted { .. } => false,
+        Rows::Deleted { .. } | Rows::Updated { .. } => indexed && !keeps_key(&change.rows),
     }
 }
 
@@ -121,6 +130,17 @@ fn puts_new(change: &Change, indexed: bool) -> Option<Step>
         cell: Cell::Entry { pair, mark },
         action: forward_action(Part::NewEntry, change),
     })
+}
+
+/// Whether the change has a step that puts the entry of the new row, and its undo one that marks it.
+pub fn has_new_entry(change: &Change, indexed: bool) -> bool
+    ensures marked { result ≡ is_some (marks_new indexed change.now) }
+    ensures put { result ≡ is_some (puts_new indexed change.now) }
+{
+    match &change.rows {
+        Rows::Deleted { .. } => false,
+        Rows::Inserted { .. } | Rows::Updated { .. } => indexed && !keeps_key(&change.rows),
+    }
 }
 
 // The undo's step that marks the entry of the new row, where the change has it.

@@ -2,7 +2,7 @@ use Rattle.std.proofs.Common.{Option, refl, subst, sym, ◌∙◌}
 use Rattle.std.proofs.lemmas.Bool.{false≢true}
 use Rattle.record_values.specs.declared.pair.Mark.{Mark}
 use Rattle.record_values.specs.declared.pair.Pair.{Pair}
-use Rattle.btree_node.specs.Above.{IsLeastAbove}
+use Rattle.marked_index.specs.Above.{IsLeastAbove}
 use Rattle.core_parts.specs.Opening.{MayStand}
 use Rattle.core_parts.specs.Parts.{parts_of}
 use Rattle.core_parts.specs.View.{CoreValue}
