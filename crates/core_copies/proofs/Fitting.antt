@@ -29,7 +29,7 @@ use Rattle.core_model.specs.Invariants.{IsHolderOf, IsNumbered}
 use Rattle.core_model.specs.States.{State}
 use Rattle.core_model.specs.Events.{Standing}
 use Rattle.core_parts.specs.View.{AreOne, CoreValue, IsSafe, IsState}
-use Rattle.store_image_half.specs.Source.{FitsImage}
+use Rattle.store_reader.specs.Source.{FitsImage}
 use Rattle.store_image_model.specs.declared.chunk.CopyPlace.{CopyPlace}
 use Rattle.store_image_model.specs.declared.chunk.Piece.{Piece}
 use Rattle.core_copies.specs.Pieces.{AreEntriesOf, IsPageOf, IsPieceOf, IsStartOf}

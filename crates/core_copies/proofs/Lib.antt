@@ -11,3 +11,4 @@ mod Moved
 mod InOrder
 mod Loading
 pub mod LoadedLaws
+pub use Rattle.nsf_core.proofs.Offered

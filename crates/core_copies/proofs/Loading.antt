@@ -23,7 +23,7 @@ use Rattle.core_model.proofs.ReplyLaws.{opened_standing}
 use Rattle.core_model.specs.Events.{standing_at}
 use Rattle.nsf_core.specs.Loading.{IsQuiet, entry_loaded}
 use Rattle.core_parts.specs.View.{CoreValue, IsState}
-use Rattle.marked_index.specs.Index.{IsFull}
+use Rattle.core_parts.specs.Index.{IsFull}
 use Rattle.model.proofs.MapLaws.{len_less}
 use Rattle.core_copies.specs.Loaded.{holding, with_entries, with_rows}
 use Rattle.core_copies.proofs.Moved.{IsMoved, all_moved, is_its, len_moved, none_moved, one_moved}

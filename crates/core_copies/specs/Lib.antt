@@ -3,3 +3,4 @@ pub mod Lists
 pub mod Pieces
 pub mod Private
 pub mod Loaded
+pub use Rattle.nsf_core.specs.Outbox

@@ -6,7 +6,7 @@ use Rattle.record_values.specs.GeometryValue.{GeometryValue}
 use Rattle.model.specs.Cells.{Cells}
 use Rattle.txn_table.specs.Table.{TxnState, has_any, state_of}
 use Rattle.core_parts.specs.View.{CoreValue}
-use Rattle.store_image_half.specs.Source.{FitsImage}
+use Rattle.store_reader.specs.Source.{FitsImage}
 
 -- The list that the log has of a transaction: its changes. One that holds no row has made no record, and has no list.
 abbrev pub list_shown : Option TxnState → Option (List ChangeValue)

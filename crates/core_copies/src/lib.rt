@@ -7,7 +7,8 @@
 //! `NoMemory`. The laws `one_copy`, `each_list` and `made_cells` say why these are the cells that the records leave.
 //! Only tested: that `load` succeeds where there is memory. Neither: what a copy costs, and that it succeeds.
 //!
-//! Lemmas about its public words that crates above may cite, in `proofs`: `Cited` and `LoadedLaws`.
+//! Lemmas about its public words that crates above may cite, in `proofs`: `Cited`, `LoadedLaws` and `Offered`
+//! (of `nsf_core`).
 #![tactic(auto)]
 
 mod copy;

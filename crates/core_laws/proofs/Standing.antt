@@ -8,8 +8,8 @@ use Rattle.core_model.proofs.ReplyLaws.{served_allowed, served_nothing}
 use Rattle.core_model.specs.Events.{Event, Reply, Standing, standing_after, standing_at}
 use Rattle.core_model.specs.Replies.{after_any}
 use Rattle.core_model.specs.Served.{HasServed, records_by}
-use Rattle.nsf_core.proofs.Offered.{stands}
-use Rattle.nsf_core.specs.Outbox.{HandsOn}
+use Rattle.core_copies.proofs.Offered.{stands}
+use Rattle.core_copies.specs.Outbox.{HandsOn}
 use Rattle.core_parts.specs.View.{Answers, CoreValue, IsState, Serves, Shows}
 use Rattle.core_laws.specs.Calls.{BeginsWith, Calls, HasReplied, no_call, served, taken}
 

@@ -5,7 +5,7 @@ use Rattle.core_model.specs.Events.{Event, Reply, Standing, standing_at}
 use Rattle.core_model.specs.Served.{HasServed}
 use Rattle.core_model.specs.Histories.{Opened, opened}
 use Rattle.core_model.specs.States.{State}
-use Rattle.nsf_core.specs.Outbox.{HandsOn}
+use Rattle.core_copies.specs.Outbox.{HandsOn}
 use Rattle.core_parts.specs.View.{CoreValue, IsState, Serves}
 
 -- a core stands for what was opened, with no transaction, and no record waits

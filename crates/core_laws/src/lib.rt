@@ -30,7 +30,7 @@ ghost use Rattle.core_model.specs.Replies.{IsAllowed, WantsMemory};
 ghost use Rattle.core_model.specs.Served.{HasStanding, items_of};
 ghost use Rattle.core_copies.specs.Loaded.{holding};
 ghost use Rattle.core_parts.specs.Moves.{fresh, txn_shown};
-ghost use Rattle.nsf_core.specs.Outbox.{HandsOn};
+ghost use Rattle.core_copies.specs.Outbox.{HandsOn};
 ghost use Rattle.core_parts.specs.Asked.{IsFine, IsRefused};
 ghost use Rattle.core_parts.specs.View.{CoreValue, IsSafe, Serves};
 ghost use Rattle.core_laws.specs.Alike.{AreAlike};

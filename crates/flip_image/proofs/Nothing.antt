@@ -18,7 +18,7 @@ use Rattle.record_values.specs.Values.{Place}
 use Rattle.record_values.specs.declared.pair.Pair.{Pair}
 use Rattle.record_values.specs.declared.pair.Mark.{Mark}
 use Rattle.model.specs.declared.life.Life.TheVariants.{Absent, Building}
-use Rattle.store_image_parts.specs.Spelling.{header, row, zeros}
+use Rattle.store_image_half.specs.Spelling.{header, row, zeros}
 use Rattle.store_image_half.specs.Layout.{cut, page_bytes}
 use Rattle.store_image_half.specs.Image.{IsHeader, AreHeads, HasEdges, IsRow, header_of, head_of, row_bytes, no_cells}
 use Rattle.store_image_half.proofs.Bytes.{length_bytes, byte_at, all_bytes}

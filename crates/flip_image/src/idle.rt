@@ -17,8 +17,8 @@ ghost use Rattle.record_values.specs.declared.rid.TheConstants.{SLOTS_PER_PAGE};
 ghost use Rattle.record_values.specs.declared.geometry.TheConstants.{ENTRIES_PER_SECTOR};
 ghost use Rattle.record_values.specs.declared.version.Version.TheVariants.{Two};
 ghost use Rattle.model.specs.declared.life.Life.TheVariants.{Building};
-ghost use Rattle.store_image_parts.specs.declared.head.Head.{Head as HeadValue};
-ghost use Rattle.store_image_parts.specs.Spelling.{HeadFits};
+ghost use Rattle.store_image_half.specs.Head.{Head as HeadValue};
+ghost use Rattle.store_image_half.specs.Spelling.{HeadFits};
 ghost use Rattle.store_image_half.specs.Layout.{page_bytes, InPage, InEntries, InList};
 ghost use Rattle.store_image_half.specs.Image.{IsHeader, AreHeads, HoldsList, HasEdges, IsRow, IsEntry, row_bytes};
 ghost use Rattle.store_image_half.specs.Image.{entry_bytes, ZerosBehindEntries, InStart, InImageOf};
@@ -32,10 +32,9 @@ use crate::halves::Halves;
 use records::{Change, Mark, Pair, Row};
 use sector_device::{Device, Failed};
 use store_image_half::{
-    CellSource, write_entries, write_header, write_heads, write_image, write_list, write_page,
-    write_rows, write_start,
+    CellSource, Head, Header, write_entries, write_header, write_heads, write_image, write_list,
+    write_page, write_rows, write_start,
 };
-use store_image_parts::{Head, Header};
 
 impl Halves {
     /// Writes the header of the image. It counts the entries that are in the image, so it is written behind them.

@@ -31,9 +31,9 @@ use Rattle.core_parts.specs.View.{CoreValue}
 use Rattle.core_copies.proofs.Cited.{made_shown, one_cells, store_kept}
 use Rattle.core_copies.specs.Pieces.{IsPieceOf, IsWholeOf}
 use Rattle.core_copies.specs.Shown.{FitsStoreOf, IsCellsOf, IsOfGeometry}
-use Rattle.core_laws.proofs.Laws.{holds, numbered}
-use Rattle.core_laws.specs.Calls.{HasReplied}
-use Rattle.core_laws.specs.Holds.{HoldsHistory}
+use Rattle.threads_register.proofs.CoreLaws.{holds, numbered}
+use Rattle.threads_register.specs.Calls.{HasReplied}
+use Rattle.threads_register.specs.Holds.{HoldsHistory}
 use Rattle.threads_sessions.specs.Values.{SessionValue}
 use Rattle.locked_core.specs.Locked.{LockedValue}
 use Rattle.locked_core.specs.Made.{IsAllOf, run_of}

@@ -10,7 +10,7 @@ use Rattle.record_values.specs.declared.error.Error.{Error}
 use Rattle.record_values.specs.declared.error.Error.TheVariants.{NoSuchTxn}
 use Rattle.record_values.specs.declared.row.Row.{Row}
 use Rattle.atomic_table.specs.Seated.{TableId}
-use Rattle.core_laws.specs.Calls.{BeginsWith}
+use Rattle.threads_register.specs.Calls.{BeginsWith}
 use Rattle.core_model.specs.Histories.{CanOpen, Opened}
 use Rattle.core_model.specs.Events.{Event, Refused, Reply}
 use Rattle.txn_table.specs.Table.{TxnState}

@@ -3,3 +3,10 @@ pub mod Seats
 pub mod Locked
 pub mod Made
 pub mod Following
+pub use Rattle.core_copies.specs.Pieces
+pub use Rattle.core_copies.specs.Shown
+pub use Rattle.threads_sessions.specs.Values
+pub use Rattle.threads_sessions.specs.Halves
+pub use Rattle.nsf_core.specs.Outbox
+pub use Rattle.nsf_core.specs.Value
+pub use Rattle.core_parts.specs.View

@@ -11,4 +11,5 @@
 
 mod index;
 
+pub use btree_node::Cleared;
 pub use index::{Built, MarkedIndex, Stepped};

@@ -5,9 +5,9 @@ use Rattle.record_values.specs.GeometryValue.{GeometryValue}
 use Rattle.records.specs.RecordValue.{RecordValue}
 use Rattle.record_values.specs.declared.number.TheConstants.{LAST_NUMBER}
 use Rattle.model.specs.declared.life.Life.TheVariants.{Absent}
-use Rattle.heap_pages.specs.Pages.{HeapValue}
+use Rattle.core_parts.specs.Pages.{HeapValue}
 use Rattle.txn_table.specs.Table.{TableValue}
-use Rattle.marked_index.specs.Index.{IndexValue}
+use Rattle.core_parts.specs.Index.{IndexValue}
 use Rattle.sorted_scan.specs.Scans.{HasRun, ScanValue, begun, begun_run}
 use Rattle.core_parts.specs.Moves.{fresh}
 use Rattle.core_parts.specs.View.{CoreValue, IsSafe}

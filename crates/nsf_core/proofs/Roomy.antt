@@ -11,7 +11,7 @@ use Rattle.record_values.specs.declared.error.Error.TheVariants.{IndexFull}
 use Rattle.record_values.specs.declared.pair.Mark.{Mark}
 use Rattle.record_values.specs.declared.pair.Pair.{Pair}
 use Rattle.model.specs.Table.{Index}
-use Rattle.marked_index.specs.Index.{IndexValue, IsAbsent, IsFull}
+use Rattle.core_parts.specs.Index.{IndexValue, IsAbsent, IsFull}
 use Rattle.nsf_core.specs.Loading.{IsPairInside, IsQuiet}
 use Rattle.core_parts.specs.View.{CoreValue, IsSafe}
 use Rattle.nsf_core.proofs.Loading.{entry_safe}

@@ -16,7 +16,7 @@ ghost use Rattle.core_parts.specs.Replies.{reply_by, reply_of_detached, reply_of
 ghost use Rattle.core_parts.specs.Detached.{entries_of};
 ghost use Rattle.core_parts.specs.Parts.{parts_of};
 ghost use Rattle.nsf_core.specs.Loading.{IsLifeInside, IsQuiet, IsPairInside, entry_loaded, life_loaded};
-ghost use Rattle.marked_index.specs.Index.{IsAbsent, IsFull};
+ghost use Rattle.core_parts.specs.Index.{IsAbsent, IsFull};
 ghost use Rattle.core_parts.specs.Asked.{IsFine, IsRefused, owed, progress_of};
 ghost use Rattle.core_parts.specs.Opening.{opened_of};
 ghost use Rattle.nsf_core.specs.Outbox.{HandsOn};
@@ -27,13 +27,13 @@ ghost use Rattle.core_parts.specs.Cleaning.{cleaner};
 ghost use Rattle.core_parts.specs.Undoing.{undone_reply};
 ghost use Rattle.txn_table.specs.Sound.{IsSoundTable};
 ghost use Rattle.txn_table.specs.Table.{holds_rows};
-ghost use Rattle.heap_pages.specs.Pages.{IsPlaceInside};
+ghost use Rattle.core_parts.specs.Pages.{IsPlaceInside};
 ghost use Rattle.record_values.specs.Values.{Place};
 
 use btree_node::Entry;
-use core_parts::{BuildReply, CleanReply, CoreParts, Detached, Owed, Ticket, Undone};
-use heap_pages::Heap;
-use marked_index::MarkedIndex;
+use core_parts::{
+    BuildReply, CleanReply, CoreParts, Detached, Heap, MarkedIndex, Owed, Ticket, Undone,
+};
 use model::{Life, ROWS_PER_PAGE};
 use records::{
     Body, Change, Error, Geometry, Key, LAST_NUMBER, Mark, Pair, Rid, Row, Rows, Sink, Txn,

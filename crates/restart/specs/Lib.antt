@@ -13,3 +13,4 @@ pub mod Story
 pub mod Groups
 pub mod Repeated
 pub mod Settling
+pub use Rattle.store_opener.specs.Reopening as Writing

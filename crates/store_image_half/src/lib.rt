@@ -25,5 +25,6 @@ pub use laws::{fitting_cells, image_in_parts, one_damage, one_image, told_by_its
 pub use read::read_image;
 pub use sink::CellSink;
 pub use source::{CellSource, SECTOR_ENTRIES};
+pub use store_image_parts::{Head, Header};
 pub use whole::{write_image, write_rows, write_start};
 pub use write::{write_entries, write_header, write_heads, write_list, write_page};

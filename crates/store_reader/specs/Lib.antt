@@ -1,3 +1,4 @@
 pub mod Contents
 pub mod Store
 pub mod Restored
+pub use Rattle.store_image_half.specs.Source

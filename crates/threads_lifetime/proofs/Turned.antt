@@ -4,7 +4,7 @@ use Rattle.sector_device.specs.Disk.{Disk, CrashState, IsSynced}
 use Rattle.sector_device.specs.DevicePast.{DevicePast, LeavesOnly}
 use Rattle.sector_device.proofs.Moments.{at_end, weaker}
 use Rattle.sector_device.proofs.Sectors.{content_is_image, crash_synced}
-use Rattle.store_opener.specs.Reopening.{ReopeningLeaves, IsWrittenBack}
+use Rattle.restart.specs.Writing.{ReopeningLeaves, IsWrittenBack}
 use Rattle.restart.specs.Reopening.{IsTurned}
 use Rattle.restart.specs.Store.{over}
 use Rattle.threads_lifetime.specs.Openings.{IsOpenable, StaysOpenable}

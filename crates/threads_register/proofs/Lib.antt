@@ -13,3 +13,4 @@ mod Steps
 mod Sights
 mod Reading
 pub mod Laws
+pub use Rattle.core_laws.proofs.Laws as CoreLaws

@@ -23,9 +23,9 @@ use Rattle.core_model.specs.Replies.{after_any}
 use Rattle.core_model.specs.Served.{HasServed, IsEnabledAny, records_by}
 use Rattle.core_laws.proofs.Laws.{numbered}
 use Rattle.core_laws.specs.Calls.{BeginsWith, HasReplied}
-use Rattle.nsf_core.proofs.Offered.{stands}
+use Rattle.threads_sessions.proofs.Offered.{stands}
 use Rattle.core_parts.specs.Asked.{owed}
-use Rattle.nsf_core.specs.Outbox.{HandsOn}
+use Rattle.threads_sessions.specs.Outbox.{HandsOn}
 use Rattle.core_parts.specs.View.{Answers, AreOne, CoreValue, IsProgressOf, IsState, Serves, Shows}
 use Rattle.core_parts.specs.declared.reply.Owed.{Owed}
 use Rattle.threads_sessions.specs.Steps.{unfinished_in}

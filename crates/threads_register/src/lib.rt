@@ -9,7 +9,7 @@
 //! number the commits up to it give the table (`each_table`). A seat reads its own rows off its session (`each_sight`,
 //! `each_row`).
 //!
-//! Lemmas about its public words that crates above may cite, in `proofs`: `Laws`.
+//! Lemmas about its public words that crates above may cite, in `proofs`: `Laws` and `CoreLaws` (of `core_laws`).
 #![tactic(auto)]
 
 ghost use Rattle.std.specs.Prelude.{◌≡◌, ◌+◌, ◌++◌, ◌∷◌, [], List, None, Option, Some, slice_get, slice_set, true, ℕ};
@@ -25,7 +25,7 @@ ghost use Rattle.core_model.specs.Histories.{CanOpen, Opened};
 ghost use Rattle.core_model.specs.Events.{Event, Refused, Reply};
 ghost use Rattle.core_laws.specs.Calls.{BeginsWith};
 ghost use Rattle.core_parts.specs.Moves.{IsReadyOrNone, OwesOrNone, txn_shown};
-ghost use Rattle.nsf_core.specs.Outbox.{HandsOn};
+ghost use Rattle.threads_sessions.specs.Outbox.{HandsOn};
 ghost use Rattle.core_parts.specs.Replies.{reply_of_ticket};
 ghost use Rattle.core_parts.specs.Undoing.{undone_reply};
 ghost use Rattle.core_parts.specs.View.{CoreValue, Serves};

@@ -1,3 +1,4 @@
 mod Lists
 mod Shown
 mod Keeps
+pub use Rattle.nsf_core.proofs.Offered

@@ -4,3 +4,4 @@ pub mod Active
 pub mod Steps
 pub mod Halves
 pub mod Rule
+pub use Rattle.nsf_core.specs.Outbox

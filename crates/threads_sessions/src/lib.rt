@@ -22,6 +22,8 @@
 //! empty sessions, with both halves of each (`book`, `seats`). Where two halves come together they showed the same
 //! (`agree`). After `change` they show the given session, after `compare` the same as before (`mine`, `theirs`). Not
 //! that `open` succeeds where there is memory.
+//!
+//! Lemmas about its public words that crates above may cite, in `proofs`: `Offered` (of `nsf_core`).
 #![tactic(auto)]
 
 mod active;
