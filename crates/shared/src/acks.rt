@@ -15,10 +15,10 @@ use std::time::Duration;
 use threads_sessions::Keeping;
 
 // A seat looks so often for the horizon before it sleeps, and no sleep is longer than so many microseconds.
-const LOOKS: u32 = 128;
+const LOOKS: u32 = 16;
 
 // Where it is the only one, it looks so often for a ring before that.
-const RING_LOOKS: u32 = 4_000;
+const RING_LOOKS: u32 = 400;
 
 const LONGEST_SLEEP: u64 = 1_000;
 

@@ -18,12 +18,12 @@ use threads_sessions::Registry;
 
 // So often it is looked whether the lock is free before a sleep, and so often between two times that the processor is
 // left to others.
-const LOCK_LOOKS: u32 = 4_000;
+const LOCK_LOOKS: u32 = 400;
 
-const LOOKS_A_YIELD: u32 = 200;
+const LOOKS_A_YIELD: u32 = 40;
 
 // So often the builder and the cleaner look whether those that go first have the lock.
-const LOOKS_BEHIND_OTHERS: u32 = 150;
+const LOOKS_BEHIND_OTHERS: u32 = 20;
 
 /// A core that several threads share by a `&`, each with its seat.
 #[derive(Drop)]
@@ -54,12 +54,6 @@ impl<B: Group, A: Memory> Shared<B, A> {
         &self.board
     }
 
-    /// Sets after how many attempts the builder leaves room for the seats by a short pause; with 0 it never does. It
-    /// may be set at any time.
-    pub fn pause_builder_every(&self, attempts: u64) {
-        self.board.waits().set_pause_every(attempts);
-    }
-
     /// Takes the lock for the flusher, as its part shows, before the builder and the cleaner.
     pub fn hold_to_flush<D: Device, R: Wait>(
         &self,
@@ -87,8 +81,11 @@ impl<B: Group, A: Memory> Shared<B, A> {
         self.hold_last(rt)
     }
 
-    // Takes the lock for a seat or for the flusher, before the builder and the cleaner.
+    // Takes the lock for a seat or for the flusher, before the builder and the cleaner. One that is free is just taken.
     pub(crate) fn hold<R: Wait>(&self, rt: &R) -> MutexGuard<'_, Locked<B, A>> {
+        if let Some(guard) = self.locked.try_lock() {
+            return guard;
+        }
         let waits = self.board.waits();
         waits.wants_lock();
         let guard = self.seize(rt);

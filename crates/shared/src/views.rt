@@ -1,7 +1,7 @@
 //! Views of the board for threads that have no seat.
 ghost use Rattle.std.specs.Prelude.{◌≡◌, ◌≢◌, ◌≤◌, false, true, IfSome, IsTrue, unwrap_or};
 ghost use Rattle.board.specs.Views.{leaves_as, stays_as};
-ghost use Rattle.store_writer.specs.Parts.{has_failed, synced_of};
+ghost use Rattle.threads_flusher.specs.Parts.{has_failed, synced_of};
 ghost use Rattle.threads_flusher.specs.Part.{IsSafeSince};
 
 use crate::seat::{Seat, mark_in};

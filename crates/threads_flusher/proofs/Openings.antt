@@ -15,8 +15,8 @@ use Rattle.model.specs.Given.{given_after}
 use Rattle.model.specs.Table.{IsPairOf, Table}
 use Rattle.core_model.specs.Histories.{CanOpen, Opened}
 use Rattle.core_model.proofs.ReplyLaws.{served_crashed}
-use Rattle.core_parts.specs.View.{CoreValue}
-use Rattle.threads_sessions.specs.Values.{SessionValue}
+use Rattle.locked_core.specs.View.{CoreValue}
+use Rattle.locked_core.specs.Values.{SessionValue}
 use Rattle.locked_core.specs.Names.{IsShared}
 use Rattle.threads_flusher.specs.Part.{MayOpenAgain}
 

@@ -9,8 +9,8 @@ use Rattle.model.specs.Cells.{Cells}
 use Rattle.model.specs.Inside.{AreInside}
 use Rattle.model.specs.Redo.{cells_of}
 use Rattle.core_model.specs.Histories.{Opened}
-use Rattle.core_copies.specs.Pieces.{IsPieceOf}
-use Rattle.core_copies.specs.Shown.{IsOfGeometry}
+use Rattle.locked_core.specs.Pieces.{IsPieceOf}
+use Rattle.locked_core.specs.Shown.{IsOfGeometry}
 use Rattle.sector_device.specs.DevicePast.{DevicePast}
 use Rattle.store_image_half.specs.Source.{FitsImage}
 use Rattle.store_image_model.specs.Run.{Run, cells_at, end_of}

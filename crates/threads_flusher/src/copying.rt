@@ -2,8 +2,8 @@
 ghost use Rattle.std.specs.Prelude.{◌≡◌, ◌≢◌, ◌↔◌, [], length, take, false, IsTrue, OnErr, OnOk, IfOk, IfErr};
 ghost use Rattle.record_values.specs.GeometryValue.{GeometryValue};
 ghost use Rattle.store_image_model.specs.Run.{cells_at};
-ghost use Rattle.core_copies.specs.Pieces.{IsPieceOf};
-ghost use Rattle.nsf_core.specs.Outbox.{HandsOn};
+ghost use Rattle.locked_core.specs.Pieces.{IsPieceOf};
+ghost use Rattle.locked_core.specs.Outbox.{HandsOn};
 ghost use Rattle.store_writer.specs.Parts.{copying_of, halves_of, has_failed};
 ghost use Rattle.store_writer.specs.Writer.{IsChunk};
 ghost use Rattle.threads_flusher.specs.Images.{IsHalfFull, IsPieceDue, TakesNext};

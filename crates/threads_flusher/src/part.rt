@@ -229,10 +229,10 @@ impl<B: Group, D: Device, A: Memory> FlushPart<B, D, A> {
         ensures no_memory { IfErr result (λ e. e ≡ Error.NoMemory) }
     {
         for _ in rt.forever() {
-            self.take(rt, queue)?;
             if self.has_popped(last) {
                 return Ok(());
             }
+            self.take(rt, queue)?;
         }
         unreachable!()
     }

@@ -8,9 +8,9 @@ use threads_loops::Found;
 
 // A seat that finds another thread writing looks so often whether it may write itself, and then sleeps until something
 // is published, for so many microseconds at most.
-const LOOKS: u32 = 128;
+const LOOKS: u32 = 16;
 
-const RING_LOOKS: u32 = 2_000;
+const RING_LOOKS: u32 = 200;
 
 const SEAT_SLEEP: u64 = 200;
 

@@ -12,13 +12,13 @@ use std::time::Duration;
 // The shortest and the longest sleep of a loop that found nothing to do, in microseconds.
 const SHORTEST: u64 = 125;
 
-const LONGEST: u64 = 8_000;
+const LONGEST: u64 = 32_000;
 
 // So many rounds in which the flusher found nothing it looks again at once, and then sleeps.
 const LOOKS: u32 = 16;
 
 // So often the flusher looks behind a group whether records were made meanwhile, before it sleeps.
-const RING_LOOKS: u32 = 4_000;
+const RING_LOOKS: u32 = 400;
 
 // How many microseconds the flusher sleeps where nothing waits, at first, and where an image is copied; and the builder
 // where it leaves room for the others.

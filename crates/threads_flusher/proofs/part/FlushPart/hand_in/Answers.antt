@@ -1,8 +1,8 @@
 use Rattle.std.proofs.Common.{◌+◌, List, [], ◌++◌, append-nil, length, refl, sym, subst, take, ap, map, ◌≡◌, ◌∙◌}
 use Rattle.records.specs.RecordValue.{RecordValue}
 use Rattle.locked_core.specs.Locked.{locked_of}
-use Rattle.nsf_core.specs.Value.{value_of}
-use Rattle.threads_sessions.specs.Halves.{shown}
+use Rattle.locked_core.specs.Value.{value_of}
+use Rattle.locked_core.specs.Halves.{shown}
 use Rattle.threads_queue.specs.Ends.{Handed}
 use Rattle.store_writer.specs.Parts.{waiting_of}
 use Rattle.threads_flusher.specs.Part.{MayOpenAgain}

@@ -1,6 +1,6 @@
 use Rattle.std.proofs.Common.{Err, refl, sym, ap, subst, ◌∙◌}
 use Rattle.std.proofs.lemmas.Result.{err_from_is_err_and}
-use Rattle.nsf_core.specs.Outbox.{HandsOn}
+use Rattle.locked_core.specs.Outbox.{HandsOn}
 use Rattle.locked_core.specs.Locked.{LockedValue, locked_of}
 use Rattle.threads_flusher.proofs.Pieces.{all_pushed, begins_with}
 use Rattle.threads_flusher.proofs.Taking.{same_handed, same_published, took_in, took_more}

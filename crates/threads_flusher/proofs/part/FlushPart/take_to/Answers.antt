@@ -24,11 +24,4 @@ returns-in_err-take g c =
     })
 
 pub returns-then-has_popped : goal.returns-then-has_popped
-returns-then-has_popped g c =
-    let before = c.loop.invariant in
-    let now = c.take.ensures.takes in
-    record {
-      takes = (before.0 ++ now.0, popped_then c.args.self.now c.loop.self c.take.new.self before.0 now.0 before.1 now.1);
-      all = c.if-has_popped.ensures.0 refl;
-      no_memory = tt;
-    }
+returns-then-has_popped g c = record { takes = c.loop.invariant; all = c.if-has_popped.ensures.0 refl; no_memory = tt }
