@@ -2,29 +2,25 @@
 use Rattle.std.proofs.Common.{◌≡◌, ℕ, ◌+◌, ◌%◌, ◌<◌, ◌≤◌, true, List, Some, length, max, take, slice_index, slice_set, sym, ◌∙◌, ap, arith}
 use Rattle.std.proofs.Common.{length-set}
 use Rattle.block_device.specs.Blocks.{CrashFile, block}
-use Rattle.block_batch.specs.Batch.{Entry, Batch, batch_in, block_digest, count_in, is_batch, number_in, place_in, replayed}
+use Rattle.block_batch.specs.Batch.{Entry, Batch, batch_in, count_in, is_batch, number_in, place_in, replayed}
 use Rattle.block_journal.specs.declared.gathered.Gathered.{Gathered}
-use Rattle.block_journal.specs.Entries.{AreDigests, IsSlot, entries_in}
+use Rattle.block_journal.specs.Entries.{IsSlot, entries_in}
 use Rattle.block_journal.specs.Gathered.{IsBuffer, IsSealed, entries_of}
 use Rattle.block_journal.specs.Layout.{found_in}
 use Rattle.block_journal.specs.Opening.{HasTaken}
-use Rattle.block_journal.proofs.Entries.{digests_put, put_is}
-use Rattle.block_journal.proofs.Loading.{batch_is, digests_stay, entries_stay, few_in, sealed_count, sealed_is, taken_in}
+use Rattle.block_journal.proofs.Entries.{put_is}
+use Rattle.block_journal.proofs.Loading.{batch_is, entries_stay, few_in, sealed_count, sealed_is, taken_in}
 
 module _ {A : Type 0} (b n : Gathered A) (whole : IsBuffer b) where
   -- a block is put
-  module _ (i place digest : ℕ) (bytes : List ℕ) (room : b.count + 1 < length b.area.items) (low : i ≤ b.count)
-      (slot : IsSlot b.places b.count place i) (fits : digest ≡ block_digest place bytes)
-      (area : n.area.items ≡ slice_set b.area.items (i + 1) bytes) (places : n.places ≡ slice_set b.places i place)
-      (digests : n.digests ≡ slice_set b.digests i digest) (count : n.count ≡ max b.count (i + 1)) where
+  module _ (i place : ℕ) (bytes : List ℕ) (room : b.count + 1 < length b.area.items) (low : i ≤ b.count)
+      (slot : IsSlot b.places b.count place i) (area : n.area.items ≡ slice_set b.area.items (i + 1) bytes)
+      (places : n.places ≡ slice_set b.places i place) (count : n.count ≡ max b.count (i + 1)) where
     under : i + 1 < length b.area.items
     under = omega (arith, low, room)
 
     under_places : i < length b.places
     under_places = omega (arith, low, room, whole.few, whole.places)
-
-    under_digests : i < length b.digests
-    under_digests = omega (arith, low, room, whole.few, whole.digests)
 
     same_size : length n.area.items ≡ length b.area.items
     same_size = ap length area ∙ length-set b.area.items (i + 1) bytes
@@ -40,25 +36,16 @@ module _ {A : Type 0} (b n : Gathered A) (whole : IsBuffer b) where
     pub put_buffer : IsBuffer n
     put_buffer = record {
       places = ap length places ∙ length-set b.places i place ∙ whole.places;
-      digests = ap length digests ∙ length-set b.digests i digest ∙ whole.digests;
       few = omega (arith, same_size, whole.few);
       count = omega (arith, same_size, count, low, room);
-      fitting = λ k below.
-          let now : block_digest (slice_index n.places k) (block n.area.items (1 + k))
-          ≡ block_digest (slice_index (slice_set b.places i place) k) (block (slice_set b.area.items (i + 1) bytes) (1 + k)) =
-          λ j. block_digest (slice_index (places j) k) (block (area j) (1 + k)) in
-          ap (λ (d : List ℕ). slice_index d k) digests
-          ∙ digests_put b.area.items b.places i place bytes under under_places b.digests b.count digest low under_digests whole.fitting fits k
-          (omega (arith, below, count))
-          ∙ sym now;
     }
 
     pub put_size : length n.area.items ≡ length b.area.items
     put_size = same_size
 
   -- it is sealed
-  module _ (number : ℕ) (sealed : CrashFile) (area : n.area.items ≡ sealed) (places : n.places ≡ b.places) (digests : n.digests ≡ b.digests)
-      (count : n.count ≡ b.count) (size : length sealed ≡ length b.area.items) (batch : is_batch sealed ≡ true) (numbered : number_in sealed ≡ number)
+  module _ (number : ℕ) (sealed : CrashFile) (area : n.area.items ≡ sealed) (places : n.places ≡ b.places) (count : n.count ≡ b.count)
+      (size : length sealed ≡ length b.area.items) (batch : is_batch sealed ≡ true) (numbered : number_in sealed ≡ number)
       (counted : count_in sealed ≡ length (take b.count b.places))
       (placed : (i : ℕ) → i < length (take b.count b.places) → place_in sealed i ≡ slice_index (take b.count b.places) i)
       (stays : (k : ℕ) → 0 < k → block sealed k ≡ block b.area.items k) where
@@ -86,22 +73,14 @@ module _ {A : Type 0} (b n : Gathered A) (whole : IsBuffer b) where
     pub sealed_buffer : IsBuffer n
     sealed_buffer = record {
       places = ap length places ∙ whole.places;
-      digests = ap length digests ∙ whole.digests;
       few = omega (arith, sealed_size, whole.few);
       count = omega (arith, sealed_size, count, whole.count);
-      fitting = λ k below.
-          let now : block_digest (slice_index n.places k) (block n.area.items (1 + k)) ≡ block_digest (slice_index b.places k) (block sealed (1 + k)) =
-          λ j. block_digest (slice_index (places j) k) (block (area j) (1 + k)) in
-          ap (λ (d : List ℕ). slice_index d k) digests
-          ∙ digests_stay b.area.items sealed b.count b.places stays b.digests whole.fitting k (omega (arith, below, count))
-          ∙ sym now;
     }
 
   -- the batch of its area is taken
   module _ (a number count : ℕ) (batch : is_batch b.area.items ≡ true) (numbered : number_in b.area.items ≡ number)
       (counted : count_in b.area.items ≡ count) (parity : number % 2 ≡ a) (area : n.area.items ≡ b.area.items) (count_is : n.count ≡ count)
-      (places : length n.places ≡ 254) (digests : length n.digests ≡ 254)
-      (placed : (i : ℕ) → i < count → place_in b.area.items i ≡ slice_index n.places i) (fits : AreDigests b.area.items n.places n.digests count) where
+      (places : length n.places ≡ 254) (placed : (i : ℕ) → i < count → place_in b.area.items i ≡ slice_index n.places i) where
     entries_there : entries_of n ≡ entries_in b.area.items n.places count
     entries_there = λ j. entries_in (area j) n.places (count_is j)
 
@@ -118,35 +97,22 @@ module _ {A : Type 0} (b n : Gathered A) (whole : IsBuffer b) where
     pub taken_buffer : IsBuffer n
     taken_buffer = record {
       places = places;
-      digests = digests;
       few = omega (arith, ap length area, whole.few);
       count = omega (arith, ap length area, count_is, counted, (few_in b.area.items batch).1);
-      fitting = λ k below.
-          fits k (omega (arith, below, count_is))
-          ∙ sym (ap (λ (l : CrashFile). block_digest (slice_index n.places k) (block l (1 + k))) area);
     }
 
   -- its area was read, with nothing gathered
-  pub empty_buffer : length n.area.items ≡ length b.area.items → n.places ≡ b.places → n.digests ≡ b.digests → n.count ≡ b.count → b.count ≡ 0
-      → IsBuffer n
-  empty_buffer size places digests count none = record {
+  pub empty_buffer : length n.area.items ≡ length b.area.items → n.places ≡ b.places → n.count ≡ b.count → IsBuffer n
+  empty_buffer size places count = record {
     places = ap length places ∙ whole.places;
-    digests = ap length digests ∙ whole.digests;
     few = omega (arith, size, whole.few);
     count = omega (arith, size, count, whole.count);
-    fitting = λ k below. absurd (omega (arith, below, count, none));
   }
 
 -- all that another buffer has was taken over
-pub copied_buffer : {A : Type 0} (o n : Gathered A) → IsBuffer o → n.area.items ≡ o.area.items → n.places ≡ o.places → n.digests ≡ o.digests
-    → n.count ≡ o.count → IsBuffer n
-copied_buffer o n whole area places digests count = record {
+pub copied_buffer : {A : Type 0} (o n : Gathered A) → IsBuffer o → n.area.items ≡ o.area.items → n.places ≡ o.places → n.count ≡ o.count → IsBuffer n
+copied_buffer o n whole area places count = record {
   places = ap length places ∙ whole.places;
-  digests = ap length digests ∙ whole.digests;
   few = omega (arith, ap length area, whole.few);
   count = omega (arith, ap length area, count, whole.count);
-  fitting = λ k below.
-      let now : block_digest (slice_index n.places k) (block n.area.items (1 + k)) ≡ block_digest (slice_index o.places k) (block o.area.items (1 + k)) =
-      λ j. block_digest (slice_index (places j) k) (block (area j) (1 + k)) in
-      ap (λ (d : List ℕ). slice_index d k) digests ∙ whole.fitting k (omega (arith, below, count)) ∙ sym now;
 }

@@ -195,43 +195,23 @@ module _ (area : CrashFile) (places : List ℕ) (i place : ℕ) (bytes : List �
         ∙ put_last
         ∙ ap (λ (m : ℕ). slice_set (replayed (entries_in area places m) image) place bytes) is
 
-  -- and the digests fit
-  pub digests_put : (digests : List ℕ) (count digest : ℕ) → i ≤ count → i < length digests → AreDigests area places digests count
-      → digest ≡ block_digest place bytes → AreDigests area' places' (slice_set digests i digest) (max count (i + 1))
-  digests_put digests count digest low room_digests fitting is k below = elim (cases_eq k i) [
-    | inl same ↦
-        get_or-set_at digests i k digest 0 same room_digests
-        ∙ is
-        ∙ ap (λ (p : ℕ). block_digest p bytes) (sym place_put)
-        ∙ ap (block_digest (slice_index places' i)) (sym block_put)
-        ∙ ap (λ (m : ℕ). block_digest (slice_index places' m) (block area' (1 + m))) (sym same)
-    | inr other ↦
-        get_or-set_other digests i k digest 0 other
-        ∙ fitting k (omega (arith, below, low, other))
-        ∙ ap (λ (p : ℕ). block_digest p (block area (1 + k))) (sym (place_kept k other))
-        ∙ ap (block_digest (slice_index places' k)) (sym (block_kept k other))
-  ]
-
 -- ---- what a head tells is taken
 
-module _ (area : CrashFile) (places digests : List ℕ) (i place digest : ℕ) (room : i < length places) (room_digests : i < length digests) where
-  pub places_taken : (told : ℕ → ℕ) → ((k : ℕ) → k < i → slice_index places k ≡ told k) → place ≡ told i
-      → (k : ℕ) → k < i + 1 → slice_index (slice_set places i place) k ≡ told k
-  places_taken told so_far is k below = elim (cases_eq k i) [
-    | inl same ↦ get_or-set_at places i k place 0 same room ∙ is ∙ ap told (sym same)
-    | inr other ↦ get_or-set_other places i k place 0 other ∙ so_far k (omega (arith, below, other))
-  ]
+pub places_taken : (places : List ℕ) (i place : ℕ) → i < length places → (told : ℕ → ℕ) → ((k : ℕ) → k < i → slice_index places k ≡ told k)
+    → place ≡ told i → (k : ℕ) → k < i + 1 → slice_index (slice_set places i place) k ≡ told k
+places_taken places i place room told so_far is k below = elim (cases_eq k i) [
+  | inl same ↦ get_or-set_at places i k place 0 same room ∙ is ∙ ap told (sym same)
+  | inr other ↦ get_or-set_other places i k place 0 other ∙ so_far k (omega (arith, below, other))
+]
 
-  pub digests_taken : AreDigests area places digests i → digest ≡ block_digest place (block area (1 + i))
-      → AreDigests area (slice_set places i place) (slice_set digests i digest) (i + 1)
-  digests_taken so_far is k below = elim (cases_eq k i) [
-    | inl same ↦
-        get_or-set_at digests i k digest 0 same room_digests
-        ∙ is
-        ∙ ap (λ (m : ℕ). block_digest place (block area (1 + m))) (sym same)
-        ∙ ap (λ (p : ℕ). block_digest p (block area (1 + k))) (sym (get_or-set_at places i k place 0 same room))
-    | inr other ↦
-        get_or-set_other digests i k digest 0 other
-        ∙ so_far k (omega (arith, below, other))
-        ∙ ap (λ (p : ℕ). block_digest p (block area (1 + k))) (sym (get_or-set_other places i k place 0 other))
-  ]
+-- ---- and the blocks are digested
+
+pub digests_more : (area : CrashFile) (places digests : List ℕ) (i digest : ℕ) → i < length digests → AreDigests area places digests i
+    → digest ≡ block_digest (slice_index places i) (block area (1 + i)) → AreDigests area places (slice_set digests i digest) (i + 1)
+digests_more area places digests i digest room so_far is k below = elim (cases_eq k i) [
+  | inl same ↦
+      get_or-set_at digests i k digest 0 same room
+      ∙ is
+      ∙ ap (λ (m : ℕ). block_digest (slice_index places m) (block area (1 + m))) (sym same)
+  | inr other ↦ get_or-set_other digests i k digest 0 other ∙ so_far k (omega (arith, below, other))
+]

@@ -1,5 +1,4 @@
 pub mod Before
-mod Beginning
 mod Buffers
 mod Closing
 mod Committing

@@ -1,16 +1,16 @@
 -- An area that was sealed, and one that is loaded.
 use Rattle.std.proofs.Common.{◌≡◌, ◌≢◌, ℕ, ◌+◌, ◌%◌, ◌<◌, ◌≤◌, nat_le, nat_lt, true, false, ◌&&◌, ◌==◌, if◌then◌else◌, List, length, map, take}
 use Rattle.std.proofs.Common.{slice_index}
-use Rattle.std.proofs.Common.{Some, None, refl, sym, ◌∙◌, ap, arith, length-take}
+use Rattle.std.proofs.Common.{Some, None, refl, ◌∙◌, ap, arith, length-take}
 use Rattle.std.specs.List.{range_with_len}
 use Rattle.std.proofs.lemmas.Bool.{and_parts, leb-true, ltb-true, ne_eqb}
 use Rattle.std.proofs.lemmas.List.{get_or-take}
 use Rattle.block_device.specs.Blocks.{CrashFile, block}
 use Rattle.block_words.specs.Words.{word}
 use Rattle.block_batch.specs.declared.head.TheConstants.{PLACES_MAX}
-use Rattle.block_batch.specs.Batch.{Entry, Batch, batch_in, block_digest, count_in, do_fit, head_digest, is_batch, number_in, place_in}
+use Rattle.block_batch.specs.Batch.{Entry, Batch, batch_in, count_in, do_fit, head_digest, is_batch, number_in, place_in}
 use Rattle.block_journal.specs.Layout.{found_in}
-use Rattle.block_journal.specs.Entries.{AreDigests, entries_in, entry_at}
+use Rattle.block_journal.specs.Entries.{entries_in, entry_at}
 use Rattle.block_journal.proofs.Entries.{entries_same, same_map}
 use Rattle.block_journal.proofs.Placing.{found_is}
 
@@ -33,9 +33,6 @@ batch_is area number count places numbered counted placed = λ i. record { numbe
 module _ (area sealed : CrashFile) (count : ℕ) (places : List ℕ) (stays : (n : ℕ) → 0 < n → block sealed n ≡ block area n) where
   pub entries_stay : entries_in sealed places count ≡ entries_in area places count
   entries_stay = entries_same area sealed places places count (λ i below. refl) (λ i below. stays (1 + i) (omega arith))
-
-  pub digests_stay : (digests : List ℕ) → AreDigests area places digests count → AreDigests sealed places digests count
-  digests_stay digests fitting i below = fitting i below ∙ ap (block_digest (slice_index places i)) (sym (stays (1 + i) (omega arith)))
 
   -- it has the batch of them, where the head tells the first so many places
   module _ (number : ℕ) (few : count ≤ length places) (numbered : number_in sealed ≡ number) (counted : count_in sealed ≡ length (take count places))

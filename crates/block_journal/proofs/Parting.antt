@@ -188,10 +188,8 @@ module _ {B A : Type 0} (past_of : B → BlocksPast) (p : JournalParts B A) (sou
         last_size = ap (λ (b : Gathered A). length b.area.items) moved ∙ size ∙ sound.next_size;
         next = subst IsBuffer (sym freed) (record {
           places = sound.last.places;
-          digests = sound.last.digests;
           few = sound.last.few;
           count = omega (arith, sound.last.count);
-          fitting = λ i under. absurd (omega (arith, under));
         });
         next_size = ap (λ (b : Gathered A). length b.area.items) freed ∙ sound.last_size;
         small = sound.small;
@@ -241,10 +239,8 @@ module _ {B A : Type 0} (past_of : B → BlocksPast) (p n : JournalParts B A) (n
     last_size = last_size;
     next = record {
       places = next.places;
-      digests = next.digests;
       few = next.few;
       count = omega (arith, next.count);
-      fitting = λ i under. absurd (omega (arith, under));
     };
     next_size = next_size;
     small = small;

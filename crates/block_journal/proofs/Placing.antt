@@ -1,10 +1,9 @@
 -- What a write to an area, and one to a place, leaves of a journal's file.
-use Rattle.std.proofs.Common.{◌≡◌, ◌≢◌, ◌⊎◌, inl, inr, ⊎_elim, ℕ, ◌+◌, ◌%◌, ◌<◌, ◌≤◌, Bool, true, ◌&&◌, ◌==◌, if◌then◌else◌, List, [], ◌∷◌}
-use Rattle.std.proofs.Common.{Some, None, length, slice_index, slice_set, refl, sym, ◌∙◌, ap, subst, arith, length-set}
-use Rattle.std.proofs.lemmas.Bool.{cases_eq, eq-eqb}
-use Rattle.std.proofs.lemmas.List.{ext_get_or, get_or-set_other, set_past}
-use Rattle.std.proofs.lemmas.Grind.{get_or-set_at}
-use Rattle.block_device.specs.Blocks.{CrashFile, block, with_run, InRun, SameOutside, BlockFile, IsSynced, SyncedOutside}
+use Rattle.std.proofs.Common.{◌≡◌, ◌≢◌, ◌⊎◌, inl, inr, ⊎_elim, ℕ, zero, suc, ◌+◌, ◌-◌, ◌%◌, ◌<◌, ◌≤◌, Bool, true, ◌&&◌, ◌==◌, if◌then◌else◌, List, [], ◌∷◌}
+use Rattle.std.proofs.Common.{Some, None, length, take, slice_index, slice_set, refl, sym, ◌∙◌, ap, subst, arith, length-set}
+use Rattle.std.proofs.lemmas.Bool.{cases_lt, eq-eqb}
+use Rattle.std.proofs.lemmas.List.{drop_more, ext_get_or, get_or-set_other, set_past}
+use Rattle.block_device.specs.Blocks.{CrashFile, block, run_of, with_run, InRun, SameOutside, BlockFile, IsSynced, SyncedOutside}
 use Rattle.block_device.proofs.CrashFiles.{length-with_run, with_run_outside, with_run_inside}
 use Rattle.block_batch.specs.Batch.{Entry, Batch, batch_in, count_in, is_batch, number_in, replayed, IsPlace}
 use Rattle.block_batch.proofs.Larger.{larger_has, larger_same}
@@ -22,6 +21,16 @@ synced_all S file synced = record { content = record { size = refl; same = λ n 
 
 pub inside_same : (g : Shape) (image other : CrashFile) → IsInside g image → length other ≡ length image → IsInside g other
 inside_same g image other inside size = record { some = inside.some; few = inside.few; room = omega (arith, inside.room, size) }
+
+-- whether a block is one of a run
+decide_run : (first count n : ℕ) → InRun first count n ⊎ (¬ InRun first count n)
+decide_run first count n = elim (cases_lt n first) [
+  | inl below ↦ inr (λ within. omega (arith, below, within.0))
+  | inr from ↦ elim (cases_lt n (first + count)) [
+    | inl under ↦ inl (from, under)
+    | inr past ↦ inr (λ within. omega (arith, past, within.1))
+  ]
+]
 
 module _ (g : Shape) (image : CrashFile) (inside : IsInside g image) where
   pub length-area : (a : ℕ) → a < 2 → length (area_of g image a) ≡ g.area
@@ -53,45 +62,44 @@ module _ (g : Shape) (image : CrashFile) (inside : IsInside g image) where
         ∙ with_run_inside image (area_start g a) run i (area_start g a + i) refl below
         (omega (arith, below, short, inside.room, area_before_kept g a low))
 
-  -- ---- a block is written to its place
+  -- ---- blocks are written to their places, one behind the other
 
-  module _ (place : ℕ) (low : place < g.kept) where
-    pub in_place : (first count : ℕ) (all : List Entry) (run : CrashFile) → length run ≡ 1 → IsPlace all place → (n : ℕ)
+  module _ (place : ℕ) (run : CrashFile) (low : place + length run ≤ g.kept) where
+    abbrev after : CrashFile
+    after = with_run image (kept_start g + place) run
+
+    pub in_places : (first count : ℕ) (all : List Entry) → ((k : ℕ) → k < length run → IsPlace all (place + k)) → (n : ℕ)
         → InRun (kept_start g + place) (length run) n → InRunOrKept g first count all n
-    in_place first count all run one there n within = inr (place, there, omega (arith, within.0, within.1, one))
+    in_places first count all there n within =
+        let k : ℕ = n - (kept_start g + place) in
+        inr (place + k, there k (omega (arith, within.0, within.1)), omega (arith, within.0))
 
-    pub place_areas : (run : CrashFile) → length run ≡ 1 → (a : ℕ) → a < 2 → area_of g (with_run image (kept_start g + place) run) a ≡ area_of g image a
-    place_areas run one a below = run_same image (with_run image (kept_start g + place) run) (area_start g a) g.area
+    pub places_areas : (a : ℕ) → a < 2 → area_of g after a ≡ area_of g image a
+    places_areas a below = run_same image after (area_start g a) g.area
         (omega (arith, inside.room, area_before_kept g a below)) (length-with_run image (kept_start g + place) run)
         (λ n within. with_run_outside image (kept_start g + place) run n
         (λ there. omega (arith, within.1, there.0, area_before_kept g a below)))
 
-    module _ (bytes : List ℕ) where
-      abbrev after : CrashFile
-      after = with_run image (kept_start g + place) (bytes ∷ [])
+    kept_after : length (kept_of g after) ≡ g.kept
+    kept_after = length-run_of after (kept_start g) g.kept (omega (arith, inside.room, length-with_run image (kept_start g + place) run))
 
-      size_after : length after ≡ length image
-      size_after = length-with_run image (kept_start g + place) (bytes ∷ [])
+    block_after : (n : ℕ) → n < g.kept → block (kept_of g after) n ≡ block (with_run (kept_of g image) place run) n
+    block_after n below = block_of_run after (kept_start g) g.kept n below ∙ elim (decide_run place (length run) n) [
+      | inl here ↦
+          let i : ℕ = n - place in
+          with_run_inside image (kept_start g + place) run i (kept_start g + n) (omega (arith, here.0)) (omega (arith, here.0, here.1))
+          (omega (arith, inside.room, below))
+          ∙ sym (with_run_inside (kept_of g image) place run i n (omega (arith, here.0)) (omega (arith, here.0, here.1)) (omega (arith, below, length-kept)))
+      | inr out ↦
+          with_run_outside image (kept_start g + place) run (kept_start g + n) (λ there. out (omega (arith, there.0), omega (arith, there.1)))
+          ∙ sym (block_of_run image (kept_start g) g.kept n below)
+          ∙ sym (with_run_outside (kept_of g image) place run n out)
+    ]
 
-      kept_after : length (kept_of g after) ≡ g.kept
-      kept_after = length-run_of after (kept_start g) g.kept (omega (arith, inside.room, size_after))
-
-      block_after : (n : ℕ) → n < g.kept → block (kept_of g after) n ≡ block (slice_set (kept_of g image) place bytes) n
-      block_after n below = elim (cases_eq n place) [
-        | inl is ↦ block_of_run after (kept_start g) g.kept n below
-            ∙ with_run_inside image (kept_start g + place) (bytes ∷ []) 0 (kept_start g + n) (omega (arith, is)) (omega arith)
-            (omega (arith, inside.room, below))
-            ∙ sym (get_or-set_at (kept_of g image) place n bytes [] is (omega (arith, low, length-kept)))
-        | inr other ↦ block_of_run after (kept_start g) g.kept n below
-            ∙ with_run_outside image (kept_start g + place) (bytes ∷ []) (kept_start g + n) (λ there. other (omega (arith, there.0, there.1)))
-            ∙ sym (block_of_run image (kept_start g) g.kept n below)
-            ∙ sym (get_or-set_other (kept_of g image) place n bytes [] other)
-      ]
-
-      pub place_kept : kept_of g (with_run image (kept_start g + place) (bytes ∷ [])) ≡ slice_set (kept_of g image) place bytes
-      place_kept = ext_get_or [] (kept_of g after) (slice_set (kept_of g image) place bytes)
-          (kept_after ∙ sym (length-set (kept_of g image) place bytes ∙ length-kept))
-          (λ n below. block_after n (omega (arith, below, kept_after)))
+    pub places_kept : kept_of g (with_run image (kept_start g + place) run) ≡ with_run (kept_of g image) place run
+    places_kept = ext_get_or [] (kept_of g after) (with_run (kept_of g image) place run)
+        (kept_after ∙ sym (length-with_run (kept_of g image) place run ∙ length-kept))
+        (λ n below. block_after n (omega (arith, below, kept_after)))
 
 -- ---- the batch of an area
 
@@ -142,3 +150,47 @@ one_placed area places i others start kept new so_far step = subst (λ (all : Cr
     (slice_set kept (slice_index places i) (block area (1 + i))) new
     (agree (IsPlace others) (record { place = slice_index places i; bytes = block area (1 + i) } ∷ []) (replayed (entries_in area places i) start) kept so_far)
     step)
+
+-- the first block of a run
+run_more_left : (image : CrashFile) (first count : ℕ) → first < length image
+    → run_of image first (suc count) ≡ block image first ∷ run_of image (first + 1) count
+run_more_left image first count below = ap (take (suc count)) (drop_more image first [] below)
+
+-- and one more is passed over
+pub one_passed : (area : CrashFile) (places : List ℕ) (i : ℕ) (others : List Entry) (start kept : CrashFile)
+    → (length kept ≤ slice_index places i) ⊎ IsPlace others (slice_index places i)
+    → SameOutside (IsPlace others) (replayed (entries_in area places i) start) kept
+    → SameOutside (IsPlace others) (replayed (entries_in area places (i + 1)) start) kept
+one_passed area places i others start kept why so_far =
+    one_placed area places i others start kept kept so_far (passed_over kept (slice_index places i) (block area (1 + i)) others why)
+
+-- a run of them is in its places, one behind the other
+pub run_placed : (area : CrashFile) (places : List ℕ) (count i first : ℕ) (others : List Entry) (start kept : CrashFile)
+    → 1 + i + count ≤ length area → ((k : ℕ) → k < count → slice_index places (i + k) ≡ first + k)
+    → SameOutside (IsPlace others) (replayed (entries_in area places i) start) kept
+    → SameOutside (IsPlace others) (replayed (entries_in area places (i + count)) start) (with_run kept first (run_of area (1 + i) count))
+run_placed area places zero i first others start kept room each so_far =
+    let at : i ≡ i + zero = omega arith in
+    subst (λ (n : ℕ). SameOutside (IsPlace others) (replayed (entries_in area places n) start) kept) at so_far
+run_placed area places (suc count) i first others start kept room each so_far =
+    let bytes : List ℕ = block area (1 + i) in
+    let at_0 : i ≡ i + 0 = omega arith in
+    let is_0 : first + 0 ≡ first = omega arith in
+    let here : slice_index places i ≡ first = ap (slice_index places) at_0 ∙ each 0 (omega arith) ∙ is_0 in
+    let behind : (k : ℕ) → k < count → slice_index places (i + 1 + k) ≡ first + 1 + k = λ k below.
+    let at_k : i + 1 + k ≡ i + (k + 1) = omega arith in
+    let is_k : first + (k + 1) ≡ first + 1 + k = omega arith in
+    ap (slice_index places) at_k ∙ each (k + 1) (omega (arith, below)) ∙ is_k in
+    let step : SameOutside (IsPlace others) (replayed (entries_in area places (i + 1)) start) (slice_set kept first bytes) =
+    one_placed area places i others start kept (slice_set kept first bytes) so_far
+    (subst (λ (p : ℕ). SameOutside (IsPlace others) (slice_set kept p bytes) (slice_set kept first bytes)) (sym here)
+    (record { size = refl; same = λ n out. refl })) in
+    let rest = run_placed area places count (i + 1) (first + 1) others start (slice_set kept first bytes) (omega (arith, room)) behind
+    step in
+    let next : 1 + i + 1 ≡ 1 + (i + 1) = omega arith in
+    let runs : run_of area (1 + i) (suc count) ≡ bytes ∷ run_of area (1 + (i + 1)) count =
+    run_more_left area (1 + i) count (omega (arith, room)) ∙ ap (λ (n : ℕ). bytes ∷ run_of area n count) next in
+    let at : i + 1 + count ≡ i + suc count = omega arith in
+    subst (λ (r : CrashFile). SameOutside (IsPlace others) (replayed (entries_in area places (i + suc count)) start) (with_run kept first r)) (sym runs)
+    (subst (λ (n : ℕ). SameOutside (IsPlace others) (replayed (entries_in area places n) start)
+    (with_run (slice_set kept first bytes) (first + 1) (run_of area (1 + (i + 1)) count))) at rest)

@@ -3,7 +3,7 @@ use Rattle.std.specs.Prelude.{◌≡◌, ℕ, ◌+◌, ◌<◌, ◌≤◌, true,
 use Rattle.block_batch.specs.Batch.{Batch, Entry, batch_in, count_in, is_batch}
 use Rattle.block_batch.specs.declared.head.TheConstants.{PLACES_MAX}
 use Rattle.block_journal.specs.declared.gathered.Gathered.{Gathered}
-use Rattle.block_journal.specs.Entries.{entries_in, AreDigests}
+use Rattle.block_journal.specs.Entries.{entries_in}
 
 module _ {A : Type 0} where
   abbrev pub entries_of : Gathered A → List Entry
@@ -13,13 +13,11 @@ module _ {A : Type 0} where
   abbrev pub batches_of : List (Vec (List ℕ) A) → List Batch
   batches_of areas = map (λ (area : Vec (List ℕ) A). batch_in area.items) areas
 
-  -- a buffer of an area that a batch can have, with the place and the digest of each of its blocks
+  -- a buffer of an area that a batch can have, with the place of each of its blocks
   pub record IsBuffer (g : Gathered A) : Type 0 where
     pub places : length g.places ≡ PLACES_MAX
-    pub digests : length g.digests ≡ PLACES_MAX
     pub few : length g.area.items ≤ PLACES_MAX + 1
     pub count : g.count < length g.area.items
-    pub fitting : AreDigests g.area.items g.places g.digests g.count
 
   -- one of so many blocks, with nothing gathered
   pub record IsEmptyBuffer (size : ℕ) (g : Gathered A) : Type 0 where

@@ -17,9 +17,8 @@ use std::alloc::{AllocError, Allocator};
 pub(crate) struct Gathered<A: Allocator> {
     // a block for the head, and the blocks
     pub(crate) area: Vec<[u8; BLOCK_SIZE], A>,
-    // the place and the digest of each
+    // the place of each
     pub(crate) places: [u64; PLACES_MAX],
-    pub(crate) digests: [u64; PLACES_MAX],
     pub(crate) count: usize,
 }
 
@@ -42,28 +41,36 @@ fn put_block(area: &mut [[u8; BLOCK_SIZE]], n: usize, bytes: &[u8; BLOCK_SIZE])
     area[n] = *bytes;
 }
 
-// The places that a head tells, and the digests of the blocks behind it. How many they are.
-fn take_places(
-    head: &Head,
-    area: &[[u8; BLOCK_SIZE]],
-    places: &mut [u64; PLACES_MAX],
-    digests: &mut [u64; PLACES_MAX],
-) -> usize
-    requires few { count_of head.now ≤ PLACES_MAX }
-    requires room { count_of head.now < length area.now }
+// The places that a head tells. How many they are.
+fn take_places(head: &Head, places: &mut [u64; PLACES_MAX]) -> usize
+    requires { count_of head.now ≤ PLACES_MAX }
     ensures count { result ≡ count_of head.now }
     ensures places { (i : ℕ) → i < result → slice_index places.new i ≡ place_of head.now i }
-    ensures digests { AreDigests area.now places.new digests.new result }
-    ensures places_size { length places.new ≡ PLACES_MAX }
-    ensures digests_size { length digests.new ≡ PLACES_MAX }
+    ensures size { length places.new ≡ PLACES_MAX }
 {
     let count = head.count() as usize;
     for i in 0..count {
-        let place = head.place(i);
-        places[i] = place;
-        digests[i] = block_digest(place, &area[1 + i]);
+        places[i] = head.place(i);
     }
     count
+}
+
+// The digests of so many blocks of an area, in their places.
+fn digests_of(
+    area: &[[u8; BLOCK_SIZE]],
+    places: &[u64; PLACES_MAX],
+    count: usize,
+) -> [u64; PLACES_MAX]
+    requires few { count ≤ PLACES_MAX }
+    requires room { count < length area.now }
+    ensures digests { AreDigests area.now places.now result count }
+    ensures size { length result ≡ PLACES_MAX }
+{
+    let mut digests = [0; PLACES_MAX];
+    for i in 0..count {
+        digests[i] = block_digest(places[i], &area[1 + i]);
+    }
+    digests
 }
 
 /// Two empty buffers of areas of this shape.
@@ -93,7 +100,6 @@ impl<A: Allocator + Copy> Gathered<A> {
         Ok(Gathered {
             area: zeros(alloc, size)?,
             places: [0; PLACES_MAX],
-            digests: [0; PLACES_MAX],
             count: 0,
         })
     }
@@ -134,24 +140,20 @@ impl<A: Allocator + Copy> Gathered<A> {
         }
     }
 
-    /// Gathers a block, in place of the one that has its place. Its digest.
-    pub(crate) fn put(&mut self, place: u64, bytes: &[u8; BLOCK_SIZE]) -> u64
+    /// Gathers a block, in place of the one that has its place.
+    pub(crate) fn put(&mut self, place: u64, bytes: &[u8; BLOCK_SIZE])
         requires buffer { IsBuffer self.old }
         requires room { self.old.count + 1 < length self.old.area.items }
         ensures put { (image : CrashFile) → replayed (entries_of self.new) image
             ≡ slice_set (replayed (entries_of self.old) image) place bytes.now }
-        ensures digest { result ≡ block_digest place bytes.now }
         ensures count { self.new.count ≤ self.old.count + 1 }
         ensures buffer { IsBuffer self.new }
         ensures size { length self.new.area.items ≡ length self.old.area.items }
     {
-        let digest = block_digest(place, bytes);
         let i = self.slot(place);
         put_block(&mut self.area, i + 1, bytes);
         self.places[i] = place;
-        self.digests[i] = digest;
         self.count = self.count.max(i + 1);
-        digest
     }
 
     /// Takes over what is gathered in another one, whose area is as long.
@@ -164,11 +166,10 @@ impl<A: Allocator + Copy> Gathered<A> {
     {
         self.area.copy_from_slice(&other.area);
         self.places = other.places;
-        self.digests = other.digests;
         self.count = other.count;
     }
 
-    /// Makes a batch of them, of this number.
+    /// Makes a batch of them, of this number: each is digested once, now that no other takes its place.
     pub(crate) fn seal(&mut self, number: u64)
         requires { IsBuffer self.old }
         ensures sealed { IsSealed number self.new }
@@ -178,11 +179,12 @@ impl<A: Allocator + Copy> Gathered<A> {
         ensures count { self.new.count ≡ self.old.count }
     {
         let count = self.count;
+        let digests = digests_of(&self.area, &self.places, count);
         seal(
             &mut self.area,
             number,
             &self.places[..count],
-            &self.digests[..count],
+            &digests[..count],
         );
     }
 
@@ -217,7 +219,7 @@ impl<A: Allocator + Copy> Gathered<A> {
         if parity != a {
             return None;
         }
-        self.count = take_places(head, &self.area, &mut self.places, &mut self.digests);
+        self.count = take_places(head, &mut self.places);
         Some(number)
     }
 }

@@ -13,6 +13,7 @@ ghost use Rattle.block_journal.specs.Value.{room_of, settled_of};
 use crate::gathered::buffers;
 use crate::parts::JournalParts;
 use crate::{OpenError, Shape};
+use block_batch::block_digest;
 use block_device::{BLOCK_SIZE, Blocks, few_blocks};
 use ghost_list::GhostList;
 use sector_device::Failed;
@@ -147,7 +148,20 @@ impl<B: Blocks, A: Allocator + Copy> Journal<B, A> {
         ensures room { room_of self.old ≤ room_of self.new + 1 }
         ensures digest { result ≡ block_digest place bytes.now }
     {
-        self.parts.next.put(place, bytes)
+        self.gather(place, bytes);
+        block_digest(place, bytes)
+    }
+
+    /// Gathers a block likewise, whose digest is not asked for: only the commit digests it.
+    pub fn gather(&mut self, place: u64, bytes: &[u8; BLOCK_SIZE])
+        requires inside { place < self.old.shape.kept }
+        requires room { 0 < room_of self.old }
+        ensures put { (image : CrashFile) → replayed self.new.next image
+            ≡ slice_set (replayed self.old.next image) place bytes.now }
+        ensures rest { self.new ≡ record self.old { next = self.new.next } }
+        ensures room { room_of self.old ≤ room_of self.new + 1 }
+    {
+        self.parts.next.put(place, bytes);
     }
 
     /// Gathers the blocks of the last batch once more, in place of those that are gathered. A commit of them changes
@@ -265,13 +279,6 @@ impl<B: Blocks, A: Allocator + Copy> Journal<B, A> {
         ensures { result ≡ self.now.shape }
     {
         self.parts.shape
-    }
-
-    /// Whether it has failed.
-    pub fn has_failed(&self) -> bool
-        ensures { result ≡ self.now.has_failed }
-    {
-        self.parts.has_failed
     }
 
     /// How many calls were refused without a call of the file, since a commit has failed.

@@ -1,6 +1,7 @@
 // What a crash leaves of a journal.
-ghost use Rattle.std.specs.Prelude.{◌≡◌, ◌⊎◌, ◌+◌, ◌%◌, List, [], ◌∷◌, ◌++◌};
-ghost use Rattle.block_device.specs.Blocks.{CrashFile, SameOutside};
+ghost use Rattle.std.specs.Prelude.{◌≡◌, ◌⊎◌, ◌+◌, ◌%◌, ℕ, List, [], ◌∷◌, ◌++◌, length};
+ghost use Rattle.block_device.specs.Blocks.{BlockFile, CrashFile, InRun, IsCrashFile, IsWhole, SameOutside};
+ghost use Rattle.block_device.specs.Blocks.{after_write};
 ghost use Rattle.block_device.specs.BlocksPast.{BlocksPast, LeavesOnly, RunsWithin};
 ghost use Rattle.block_batch.specs.Batch.{Batch, replayed, IsPlace};
 ghost use Rattle.block_batch.specs.Replay.{AreOffered, IsCommitted};
@@ -37,4 +38,13 @@ pub fn next_is_last()
         → AreKnown (offered ++ next ∷ []) next (replayed next.entries settled) }
     ensures committed { (next : Batch) (settled kept : CrashFile) → SameOutside (IsPlace next.entries) settled kept
         → IsCommitted next (replayed next.entries settled) kept }
+{}
+
+/// A law: bytes that rot in the batch that was written last can't be told from ones that were torn. Whatever they
+/// became, a crash within its write, before its sync, may leave that very file. Nothing of the batch was acknowledged
+/// then.
+pub fn rotten_or_torn()
+    ensures { (file : BlockFile) (first : ℕ) (run rotten : CrashFile)
+        → SameOutside (InRun first (length run)) (after_write file first run).content rotten → IsWhole rotten
+        → IsCrashFile (after_write file first run) rotten }
 {}

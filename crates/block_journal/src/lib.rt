@@ -13,13 +13,13 @@
 //! hash is known to keep.
 //!
 //! Laws: what a crash leaves while a batch is committed is recovered as before it, or as after it (`crash_of_commit`,
-//! `at_any_moment`). Once it is committed, it is the last one (`next_is_last`).
+//! `at_any_moment`). Once it is committed, it is the last one (`next_is_last`). What rots in the last batch can't be
+//! told from what was torn as it was written (`rotten_or_torn`).
 //!
 //! Lemmas about its public words that crates above may cite, in `proofs`: `Before`, `Crash`, `Keeping`, `OnlyReading`,
 //! `Parting`, `Placing` and `Results`.
 #![tactic(auto)]
 
-mod clearing;
 mod gathered;
 mod journal;
 mod laws;
@@ -30,8 +30,7 @@ mod refusal;
 mod shape;
 mod writing;
 
-pub use clearing::clear;
 pub use journal::{Journal, Unopened};
-pub use laws::{at_any_moment, crash_of_commit, next_is_last};
+pub use laws::{at_any_moment, crash_of_commit, next_is_last, rotten_or_torn};
 pub use refusal::OpenError;
 pub use shape::Shape;

@@ -1,2 +1,3 @@
 pub mod Contents
+mod Seen
 mod Table

@@ -34,7 +34,7 @@ module _ (blocks : ℕ) (kept : CrashFile) (n : ℕ) (bytes row : List ℕ) (dig
       get_or-set_other (slice_set kept (place_of blocks n) bytes) (n / 512) t row [] apart
       ∙ get_or-set_other kept (place_of blocks n) t bytes [] (omega (arith, inside))
 
-  data_here : block after (place_of blocks n) ≡ bytes
+  pub data_here : block after (place_of blocks n) ≡ bytes
   data_here =
       get_or-set_other (slice_set kept (place_of blocks n) bytes) (n / 512) (place_of blocks n) row [] (omega (arith, in_table blocks n low))
       ∙ get_or-set_at kept (place_of blocks n) (place_of blocks n) bytes [] refl (omega (arith, size, low))

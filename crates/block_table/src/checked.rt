@@ -10,7 +10,7 @@ ghost use Rattle.block_batch.specs.Batch.{Batch};
 ghost use Rattle.block_journal.specs.Value.{CanCommit, LeavesEither, Offers, failures_of, next_batch, room_of};
 ghost use Rattle.block_table.specs.Table.{IsFirstUnfit, IsFit, kept_count};
 
-use crate::rows::{is_fit, known_with, read_rows, set_digest};
+use crate::rows::{is_at, is_fit, kept_at, known_with, read_rows, set_digest};
 use block_device::{BLOCK_SIZE, Blocks, few_blocks};
 use block_journal::{Journal, OpenError, Shape, Unopened};
 use block_words::WORDS;
@@ -38,13 +38,17 @@ pub struct CheckedBlocks<B: Blocks, A: Allocator> {
     rows: Vec<[u64; WORDS], A>,
     // how many of the first blocks are known to fit their digests: these aren't compared again
     known: u64,
+    // a block of data as it is read, which fits its digest, and its bytes: the sectors of one are asked for in turn
+    seen: Option<u64>,
+    bytes: [u8; BLOCK_SIZE],
     blocks: u64,
 }
 
 impl<B: Blocks, A: Allocator> Model for CheckedBlocks<B, A> {
+    ghost use Rattle.std.specs.Prelude.{IfSome};
     ghost use Rattle.std.specs.Coded.{codes};
     ghost use Rattle.block_table.specs.Checked.{CheckedValue};
-    ghost use Rattle.block_table.specs.Rows.{IsInStep};
+    ghost use Rattle.block_table.specs.Rows.{IsInStep, IsSeen};
 
     ghost Value = { CheckedValue B };
 
@@ -52,7 +56,8 @@ impl<B: Blocks, A: Allocator> Model for CheckedBlocks<B, A> {
 
     ghost view = { λ c. record { journal = c.journal; blocks = c.blocks } };
 
-    ghost invariant = { λ c. IsInStep B.past_of c.journal c.rows.items c.known c.blocks };
+    ghost invariant = { λ c. IsInStep B.past_of c.journal c.rows.items c.known c.blocks
+        × IfSome c.seen (IsSeen B.past_of c.journal c.blocks c.bytes) };
 }
 
 impl<B: Blocks, A: Allocator + Copy> CheckedBlocks<B, A> {
@@ -94,6 +99,8 @@ impl<B: Blocks, A: Allocator + Copy> CheckedBlocks<B, A> {
                 journal,
                 rows,
                 known: 0,
+                seen: None,
+                bytes: [0; BLOCK_SIZE],
                 blocks,
             }),
             Err(error) => Err(Unopened {
@@ -137,8 +144,13 @@ impl<B: Blocks, A: Allocator + Copy> CheckedBlocks<B, A> {
         ensures counts { CountsRead (failures_of B.failures self.old.journal)
             (failures_of B.failures self.new.journal) result }
     {
+        if is_at(self.seen, n) {
+            *bytes = self.bytes;
+            return Ok(());
+        }
         let place = self.rows.len() as u64 + n;
         let mut block = [0; BLOCK_SIZE];
+        self.seen = None;
         if self.journal.read(place, &mut block).is_err() {
             return Err(ReadError::FileFailed);
         }
@@ -146,6 +158,8 @@ impl<B: Blocks, A: Allocator + Copy> CheckedBlocks<B, A> {
             return Err(ReadError::Damaged);
         }
         self.known = known_with(self.known, n);
+        self.seen = Some(n);
+        self.bytes = block;
         *bytes = block;
         Ok(())
     }
@@ -200,7 +214,9 @@ impl<B: Blocks, A: Allocator + Copy> CheckedBlocks<B, A> {
         self.journal.stands();
         let digest = self.journal.put(self.rows.len() as u64 + n, bytes);
         let row = set_digest(&mut self.rows, n, digest);
-        self.journal.put(n / 512, &row);
+        self.journal.gather(n / 512, &row);
+        self.seen = kept_at(self.seen, n);
+        self.bytes = *bytes;
     }
 
     /// Gathers the blocks of the last batch once more, as a journal does: a commit of them changes nothing. Nothing was
@@ -212,6 +228,7 @@ impl<B: Blocks, A: Allocator + Copy> CheckedBlocks<B, A> {
         } }
         ensures same { kept_table B.past_of self.new ≡ settled_table B.past_of self.old }
     {
+        self.seen = None;
         self.journal.gather_last();
     }
 
@@ -246,6 +263,7 @@ impl<B: Blocks, A: Allocator + Copy> CheckedBlocks<B, A> {
         ensures counts { CountsFailure (failures_of B.failures self.old.journal)
             (failures_of B.failures self.new.journal) result }
     {
+        self.seen = None;
         self.journal.commit()
     }
 
@@ -284,6 +302,7 @@ impl<B: Blocks, A: Allocator + Copy> CheckedBlocks<B, A> {
         ensures counts { CountsFailure (failures_of B.failures self.old.journal)
             (failures_of B.failures self.new.journal) result }
     {
+        self.seen = None;
         self.journal.close()
     }
 

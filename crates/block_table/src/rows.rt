@@ -1,6 +1,6 @@
 // The numbers of a table of digests, as they are kept in memory.
 ghost use Rattle.std.specs.Prelude.{◌≡◌, ◌≢◌, ◌⊎◌, ◌/◌, ◌%◌, ◌≤◌, ◌<◌, ℕ, [], false, true, length, slice_index};
-ghost use Rattle.std.specs.Prelude.{slice_index_or, IfErr, IfOk};
+ghost use Rattle.std.specs.Prelude.{slice_index_or, IfErr, IfOk, IfSome, Some};
 ghost use Rattle.sector_device.specs.DevicePast.{CountsFailure, Rises};
 ghost use Rattle.block_device.specs.Blocks.{block};
 ghost use Rattle.block_batch.specs.Batch.{block_digest};
@@ -58,6 +58,26 @@ pub(crate) fn known_with(known: u64, n: u64) -> u64
         return known.saturating_add(1);
     }
     known
+}
+
+/// Whether it is this number.
+pub(crate) fn is_at(seen: Option<u64>, n: u64) -> bool
+    ensures { result ≡ true → seen ≡ Some n }
+{
+    match seen {
+        Some(m) => m == n,
+        None => false,
+    }
+}
+
+/// The number, where it is this one.
+pub(crate) fn kept_at(seen: Option<u64>, n: u64) -> Option<u64>
+    ensures { IfSome result (λ m. (m ≡ n) × (seen ≡ Some n)) }
+{
+    if is_at(seen, n) {
+        return seen;
+    }
+    None
 }
 
 /// Sets the digest of a block of data. The block of the table that has it.

@@ -29,7 +29,7 @@ load-requires g c =
     let image : CrashFile = c.read.new.run in
     let size : length image ≡ length b.area.items = search rules in
     let back : take b.area.len (image ++ drop (length image) b.area.items) ≡ image = written_back image b.area.items b.area.len size b.area.ok.0 in
-    record { buffer = empty_buffer b _ c.requires.buffer (ap length back ∙ size) refl refl refl c.requires.none; none = c.requires.none }
+    record { buffer = empty_buffer b _ c.requires.buffer (ap length back ∙ size) refl refl; none = c.requires.none }
 
 pub returns-in_err-read : goal.returns-in_err-read
 returns-in_err-read g c =
@@ -40,7 +40,7 @@ returns-in_err-read g c =
     let p = err_from_is_err_and c.from_residual.result c.from_residual.ensures.1 in
     rw (p.1 ∙ ap Err p.2) (record {
       taken = tt;
-      buffer = empty_buffer b _ c.requires.buffer (ap length back ∙ size) refl refl refl c.requires.none;
+      buffer = empty_buffer b _ c.requires.buffer (ap length back ∙ size) refl refl;
       size = ap length back ∙ size ∙ c.requires.size;
       reads = record { file = c.read.ensures.file; time = c.read.ensures.time };
       counts = record { later = c.in_err-read.ensures.counts.later; none = tt; failed = c.in_err-read.ensures.counts.failed };

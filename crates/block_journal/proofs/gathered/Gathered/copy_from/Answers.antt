@@ -11,6 +11,6 @@ returns g c =
     let stored : c.copy_from_slice.new.self.items ≡ o.area.items = search rules in
     record {
       entries = ap (λ (l : CrashFile). entries_in l o.places o.count) stored;
-      buffer = copied_buffer o _ c.requires.other stored refl refl refl;
+      buffer = copied_buffer o _ c.requires.other stored refl refl;
       size = ap length stored ∙ sym c.requires.size;
     }

@@ -16,7 +16,6 @@ returns g c =
     let bytes = c.args.bytes.now in
     let place = c.args.place in
     let i = c.slot-i.result in
-    let digest = c.block_digest-digest.result in
     let image : CrashFile = c.put_block.new.area in
     let stored : image ≡ slice_set b.area.items (i + 1) bytes = search rules in
     let size : length image ≡ length b.area.items = ap length stored ∙ length-set b.area.items (i + 1) bytes in
@@ -24,15 +23,13 @@ returns g c =
     written_back image b.area.items b.area.len size b.area.ok.0 ∙ stored in
     let low = c.slot-i.ensures.low in
     let slot = c.slot-i.ensures.slot in
-    let fits = c.block_digest-digest.ensures in
     record {
       put = λ l.
           ap (λ (a : CrashFile). replayed (entries_in a (slice_set b.places i place) c.max-self.result) l) back
           ∙ ap (λ (m : ℕ). replayed (entries_in (slice_set b.area.items (i + 1) bytes) (slice_set b.places i place) m) l) c.max-self.ensures
           ∙ put_is b.area.items b.places i place bytes (omega (arith, low, c.requires.room))
           (omega (arith, low, c.requires.room, c.requires.buffer.few, c.requires.buffer.places)) l b.count slot;
-      digest = fits;
       count = omega (arith, low, c.max-self.ensures);
-      buffer = put_buffer b _ c.requires.buffer i place digest bytes c.requires.room low slot fits back refl refl c.max-self.ensures;
+      buffer = put_buffer b _ c.requires.buffer i place bytes c.requires.room low slot back refl c.max-self.ensures;
       size = ap length back ∙ length-set b.area.items (i + 1) bytes;
     }

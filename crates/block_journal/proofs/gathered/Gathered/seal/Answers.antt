@@ -19,12 +19,13 @@ seal-requires g c =
       c.requires.few,
       c.requires.places,
     ) in
-    let of_digests : length (take b.count b.digests) ≡ b.count = omega (
+    let digests = c.digests_of-digests.result in
+    let of_digests : length (take b.count digests) ≡ b.count = omega (
       arith,
-      length-take b.count b.digests,
+      length-take b.count digests,
       c.requires.count,
       c.requires.few,
-      c.requires.digests,
+      c.digests_of-digests.ensures.size,
     ) in
     record {
       few = omega (arith, of_places, c.requires.count, c.requires.few);
@@ -32,8 +33,9 @@ seal-requires g c =
       size = of_digests ∙ sym of_places;
       digests = λ i below.
           let low : i < b.count = omega (arith, below, of_places) in
-          get_or-take b.count b.digests i 0 low
-          ∙ c.requires.fitting i low
+          get_or-take b.count digests i 0 low
+          ∙ c.digests_of-digests.ensures.digests i low
+          ∙ ap (λ (l : CrashFile). block_digest (slice_index b.places i) (block l (1 + i))) c.deref.ensures.value
           ∙ ap (λ (p : ℕ). block_digest p (block b.area.items (1 + i))) (sym (get_or-take b.count b.places i 0 low))
           ∙ ap (λ (l : CrashFile). block_digest (slice_index (take b.count b.places) i) (block l (1 + i))) (sym c.deref_mut.ensures.value);
     }
@@ -47,9 +49,9 @@ returns g c =
     let back : take b.area.len (image ++ drop (length image) b.area.items) ≡ image = written_back image b.area.items b.area.len size b.area.ok.0 in
     let stays : (n : ℕ) → 0 < n → block image n ≡ block b.area.items n = search rules in
     record {
-      sealed = now_sealed b _ c.requires c.args.number image back refl refl refl size done.batch done.number done.count done.places stays;
+      sealed = now_sealed b _ c.requires c.args.number image back refl refl size done.batch done.number done.count done.places stays;
       entries = ap (λ (l : CrashFile). entries_in l b.places b.count) back ∙ entries_stay b.area.items image b.count b.places stays;
-      buffer = sealed_buffer b _ c.requires c.args.number image back refl refl refl size done.batch done.number done.count done.places stays;
+      buffer = sealed_buffer b _ c.requires c.args.number image back refl refl size done.batch done.number done.count done.places stays;
       size = ap length back ∙ size;
       count = refl;
     }

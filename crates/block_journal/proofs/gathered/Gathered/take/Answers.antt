@@ -1,8 +1,6 @@
-use Rattle.std.proofs.Common.{◌≡◌, ◌%◌, ◌<◌, ℕ, length, slice_index, refl, sym, ◌∙◌, ap, subst, arith}
-use Rattle.block_device.specs.Blocks.{CrashFile}
+use Rattle.std.proofs.Common.{◌≡◌, ◌%◌, ◌<◌, ℕ, slice_index, refl, sym, ◌∙◌, ap, arith}
 use Rattle.block_batch.specs.Batch.{count_in, place_in}
 use Rattle.block_journal.specs.declared.gathered.Gathered.{Gathered}
-use Rattle.block_journal.specs.Entries.{AreDigests}
 use Rattle.block_journal.proofs.Buffers.{now_taken, taken_buffer}
 use Rattle.block_journal.proofs.Loading.{few_in, other_in}
 use Rattle.block_journal.proofs.gathered.Gathered.take.Goals as goal
@@ -10,10 +8,7 @@ use Rattle.block_journal.proofs.gathered.Gathered.take.Goals as goal
 pub take_places-self-requires : goal.take_places-self-requires
 take_places-self-requires g c =
     let few = few_in c.args.self.now.area.items c.requires.batch in
-    record {
-      few = omega (arith, few.0, c.requires.count);
-      room = omega (arith, few.1, c.requires.count, ap length c.deref.ensures.value);
-    }
+    omega (arith, few.0, c.requires.count)
 
 pub returns-then-parity-a : goal.returns-then-parity-a
 returns-then-parity-a g c =
@@ -35,7 +30,6 @@ returns g c =
     let n : Gathered g.row.A.Denot = record {
       area = b.area;
       places = c.take_places-self.new.places;
-      digests = c.take_places-self.new.digests;
       count = c.take_places-self.result;
     } in
     let few = few_in b.area.items c.requires.batch in
@@ -43,14 +37,10 @@ returns g c =
     let counted : count_in b.area.items ≡ c.take_places-self.result = sym (done.count ∙ c.requires.count) in
     let placed : (i : ℕ) → i < c.take_places-self.result → place_in b.area.items i ≡ slice_index c.take_places-self.new.places i = λ i below.
     sym (done.places i below ∙ c.requires.places i (omega (arith, below, counted, few.0))) in
-    let fits = subst (λ (l : CrashFile). AreDigests l c.take_places-self.new.places c.take_places-self.new.digests c.take_places-self.result)
-    c.deref.ensures.value done.digests in
     record {
       taken = now_taken b n c.requires.buffer c.args.a c.number-number.result c.take_places-self.result c.requires.batch numbered counted
-          c.if-parity-a.false refl refl
-          done.places_size done.digests_size placed fits;
+          c.if-parity-a.false refl refl done.size placed;
       buffer = taken_buffer b n c.requires.buffer c.args.a c.number-number.result c.take_places-self.result c.requires.batch numbered counted
-          c.if-parity-a.false refl
-          refl done.places_size done.digests_size placed fits;
+          c.if-parity-a.false refl refl done.size placed;
       size = refl;
     }

@@ -1,4 +1,4 @@
-use Rattle.std.proofs.Common.{◌≡◌, inl, inr, ℕ, Err, false, ⊎_elim, refl, sym, ◌∙◌, ap, subst, arith}
+use Rattle.std.proofs.Common.{◌≡◌, inl, inr, ℕ, Err, Ok, Result, false, ⊎_elim, refl, sym, ◌∙◌, ap, subst, arith}
 use Rattle.std.proofs.lemmas.Bool.{cases_Bool, cases_eq, false≢true}
 use Rattle.sector_device.specs.DevicePast.{Rises}
 use Rattle.block_device.specs.Blocks.{CrashFile}
@@ -8,6 +8,10 @@ use Rattle.block_table.specs.Checked.{CheckedValue, kept_table}
 use Rattle.block_table.specs.Table.{IsFit}
 use Rattle.block_table.proofs.Contents.{read_then, table_read}
 use Rattle.block_table.proofs.checked.CheckedBlocks.check.Goals as goal
+
+-- what is answered isn't refused
+never : {T E : Type 0} {x : T} {e : E} → ◌≡◌ {A = Result T E} (Ok x) (Err e) → ⊥
+never is = cc
 
 pub loop-n-init : goal.loop-n-init
 loop-n-init g c = record {
@@ -37,8 +41,8 @@ loop-n-preserved g c =
     let here : IsFit start.blocks (kept_table h start) n =
     subst (λ (k : ℕ). IsFit k (kept_table h start) n) blocks (subst (λ (l : CrashFile). IsFit mid.blocks l n) table c.in-Ok.ensures.fits) in
     let F = g.B.Blocks.failures in
-    let same : failures_of F c.read.new.self.journal ≡ failures_of F mid.journal = c.read.ensures.counts.quiet (λ never. absurd (cc)) in
-    let good : mid.journal.has_failed ≡ false = c.read.ensures.sound (λ never. absurd (cc)) in
+    let same : failures_of F c.read.new.self.journal ≡ failures_of F mid.journal = c.in-Ok.ensures.counts.quiet (λ is. never is) in
+    let good : mid.journal.has_failed ≡ false = c.in-Ok.ensures.sound (λ is. never is) in
     let began : start.journal.has_failed ≡ false = sym (ap (λ (x : CheckedValue g.row.B.Denot). x.journal.has_failed) so_far.rest) ∙ good in
     let refused = ap (λ (x : CheckedValue g.row.B.Denot). x.journal.refused) (c.read.ensures.good good) in
     record {

@@ -41,6 +41,8 @@ invariant_of-self g c =
     let h = g.B.Blocks.past_of in
     let v : JournalValue g.row.B.Denot = c.self.inside.journal in
     let m : JournalValue g.row.B.Denot = c.close.new.self in
-    let none = rw (← c.self.view_is) at c.requires in
-    step_same h v m c.self.inside.rows.items c.self.inside.known c.self.inside.blocks c.self.invariant done.shape
-    (ap (λ (l : List Entry). replayed l (settled_of h m)) done.none ∙ done.settled ∙ sym (ap (λ (l : List Entry). replayed l (settled_of h v)) none))
+    let none = rw (← c.self.view_is) at c.requires in (
+      step_same h v m c.self.inside.rows.items c.self.inside.known c.self.inside.blocks c.self.invariant.0 done.shape
+          (ap (λ (l : List Entry). replayed l (settled_of h m)) done.none ∙ done.settled ∙ sym (ap (λ (l : List Entry). replayed l (settled_of h v)) none)),
+      tt,
+    )

@@ -33,6 +33,8 @@ returns g c =
 pub invariant_of-self : goal.invariant_of-self
 invariant_of-self g c =
     let done = c.commit.ensures in
-    let h = g.B.Blocks.past_of in
-    step_same h c.self.inside.journal c.commit.new.self c.self.inside.rows.items c.self.inside.known c.self.inside.blocks c.self.invariant done.shape
-    (content_commit h c.self.inside.journal c.commit.new.self c.commit.result done.ok done.none done.err done.kept)
+    let h = g.B.Blocks.past_of in (
+      step_same h c.self.inside.journal c.commit.new.self c.self.inside.rows.items c.self.inside.known c.self.inside.blocks c.self.invariant.0 done.shape
+          (content_commit h c.self.inside.journal c.commit.new.self c.commit.result done.ok done.none done.err done.kept),
+      tt,
+    )

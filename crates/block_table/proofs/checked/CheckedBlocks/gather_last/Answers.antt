@@ -16,7 +16,9 @@ invariant_of-self g c =
     let h = g.B.Blocks.past_of in
     let v : JournalValue g.row.B.Denot = c.self.inside.journal in
     let m : JournalValue g.row.B.Denot = c.gather_last.new.self in
-    let none = rw (← c.self.view_is) at c.requires in
-    step_same h v m c.self.inside.rows.items c.self.inside.known c.self.inside.blocks c.self.invariant
-    (ap (λ (w : JournalValue g.row.B.Denot). w.shape) c.gather_last.ensures)
-    (content_gathered h v m c.gather_last.ensures ∙ sym (ap (λ (l : List Entry). replayed l (settled_of h v)) none))
+    let none = rw (← c.self.view_is) at c.requires in (
+      step_same h v m c.self.inside.rows.items c.self.inside.known c.self.inside.blocks c.self.invariant.0
+          (ap (λ (w : JournalValue g.row.B.Denot). w.shape) c.gather_last.ensures)
+          (content_gathered h v m c.gather_last.ensures ∙ sym (ap (λ (l : List Entry). replayed l (settled_of h v)) none)),
+      tt,
+    )

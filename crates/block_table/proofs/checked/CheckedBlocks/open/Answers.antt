@@ -48,16 +48,18 @@ invariant_of-result g c =
     let rows = c.in-Ok.ensures in
     let v : JournalValue g.row.B.Denot = c.in_ok-journal.journal in
     let m : JournalValue g.row.B.Denot = c.read_rows.new.journal in
-    let count : c.args.shape.kept - c.args.blocks ≡ table_count c.args.blocks = omega (arith, c.requires.kept) in
-    record {
-      kept = ap (λ (w : JournalValue g.row.B.Denot). w.shape.kept) c.read_rows.ensures.rest ∙ ap (λ (s : Shape). s.kept) opened.shape ∙ c.requires.kept;
-      small = omega (arith, c.requires.kept, c.requires.inside.room);
-      count = rows.count ∙ count;
-      numbers = rw (content_read h v m (as_read v m c.read_rows.ensures.rest) c.read_rows.ensures.reads)
-          (subst (AreNumbers (content_of h v) c.in-Ok.rows.items) count rows.numbers);
-      low = omega arith;
-      fitting = λ k below. absurd (omega (arith, below));
-    }
+    let count : c.args.shape.kept - c.args.blocks ≡ table_count c.args.blocks = omega (arith, c.requires.kept) in (
+      record {
+        kept = ap (λ (w : JournalValue g.row.B.Denot). w.shape.kept) c.read_rows.ensures.rest ∙ ap (λ (s : Shape). s.kept) opened.shape ∙ c.requires.kept;
+        small = omega (arith, c.requires.kept, c.requires.inside.room);
+        count = rows.count ∙ count;
+        numbers = rw (content_read h v m (as_read v m c.read_rows.ensures.rest) c.read_rows.ensures.reads)
+            (subst (AreNumbers (content_of h v) c.in-Ok.rows.items) count rows.numbers);
+        low = omega arith;
+        fitting = λ k below. absurd (omega (arith, below));
+      },
+      tt,
+    )
 
 pub returns-in-Ok : goal.returns-in-Ok
 returns-in-Ok g c =

@@ -1,15 +1,16 @@
 use Rattle.std.proofs.Common.{◌≡◌, ◌≢◌, ℕ, ◌+◌, ◌/◌, ◌%◌, ◌<◌, List, [], ◌++◌, length, take, drop, slice_index, slice_index_or, slice_set}
-use Rattle.std.proofs.Common.{inl, inr, sym, ◌∙◌, ap, subst, arith}
+use Rattle.std.proofs.Common.{inl, inr, Some, sym, ◌∙◌, ap, subst, arith}
 use Rattle.std.proofs.lemmas.Bool.{cases_eq}
-use Rattle.block_device.specs.Blocks.{CrashFile}
+use Rattle.block_device.specs.Blocks.{CrashFile, block}
 use Rattle.block_device.proofs.CrashFiles.{written_back}
 use Rattle.block_batch.specs.Batch.{block_digest}
 use Rattle.block_journal.specs.Value.{JournalValue, content_of}
 use Rattle.block_words.specs.Words.{word}
-use Rattle.block_table.specs.Rows.{AreNumbers}
+use Rattle.block_table.specs.Rows.{AreNumbers, IsSeen}
 use Rattle.block_table.specs.Table.{IsFit, data_of, kept_count, place_of, table_count}
 use Rattle.block_table.proofs.Contents.{content_put, length-content, two_puts}
-use Rattle.block_table.proofs.Table.{after_put, fits_after, fits_before, put_data, put_fits, put_numbers}
+use Rattle.block_table.proofs.Seen.{at_seen, seen_then}
+use Rattle.block_table.proofs.Table.{after_put, data_here, fits_after, fits_before, put_data, put_fits, put_numbers}
 use Rattle.block_table.proofs.checked.CheckedBlocks.put.Goals as goal
 
 -- what both puts leave
@@ -22,9 +23,9 @@ returns g c =
     let blocks = c.self.inside.blocks in
     let v : JournalValue g.row.B.Denot = c.self.inside.journal in
     let m : JournalValue g.row.B.Denot = c.put-digest.new.self in
-    let now : JournalValue g.row.B.Denot = c.put.new.self in
+    let now : JournalValue g.row.B.Denot = c.gather.new.self in
     let row : List ℕ = c.set_digest-row.result in
-    let step = c.self.invariant in
+    let step = c.self.invariant.0 in
     let low : n < blocks = rw (← c.self.view_is) at c.requires.inside in
     let size : length (content_of h v) ≡ kept_count blocks = length-content h v c.stands.ensures.inside ∙ step.kept in
     let place : c.len.result + n ≡ place_of blocks n = ap (λ (k : ℕ). k + n) (c.len.ensures ∙ c.self.inside.rows.ok.0 ∙ step.count) in
@@ -32,8 +33,8 @@ returns g c =
     content_put h v m (c.len.result + n) bytes c.put-digest.ensures.rest c.put-digest.ensures.put
     ∙ ap (λ (k : ℕ). slice_set (content_of h v) k bytes) place in
     let at : content_of h now ≡ after_put blocks (content_of h v) n bytes row =
-    content_put h m now (n / 512) row c.put.ensures.rest c.put.ensures.put ∙ ap (λ (l : CrashFile). slice_set l (n / 512) row) first in
-    let rest = two_puts v m now c.put-digest.ensures.rest c.put.ensures.rest in
+    content_put h m now (n / 512) row c.gather.ensures.rest c.gather.ensures.put ∙ ap (λ (l : CrashFile). slice_set l (n / 512) row) first in
+    let rest = two_puts v m now c.put-digest.ensures.rest c.gather.ensures.rest in
     let digest = c.put-digest.result in
     let is : digest ≡ block_digest (place_of blocks n) bytes = c.put-digest.ensures.digest ∙ ap (λ (k : ℕ). block_digest k bytes) place in
     let set = c.set_digest-row.ensures in
@@ -52,7 +53,7 @@ returns g c =
             (fits_after blocks (content_of h v) n bytes row digest rows low size step.numbers set.digest others is k below apart fits)),
       );
       rest = ap (λ (w : JournalValue g.row.B.Denot). record { journal = w; blocks = blocks }) rest;
-      room = omega (arith, c.put-digest.ensures.room, c.put.ensures.room);
+      room = omega (arith, c.put-digest.ensures.room, c.gather.ensures.room);
     })
 
 pub invariant_of-self : goal.invariant_of-self
@@ -63,10 +64,10 @@ invariant_of-self g c =
     let blocks = c.self.inside.blocks in
     let v : JournalValue g.row.B.Denot = c.self.inside.journal in
     let m : JournalValue g.row.B.Denot = c.put-digest.new.self in
-    let now : JournalValue g.row.B.Denot = c.put.new.self in
+    let now : JournalValue g.row.B.Denot = c.gather.new.self in
     let row : List ℕ = c.set_digest-row.result in
     let rows = c.self.inside.rows.items in
-    let step = c.self.invariant in
+    let step = c.self.invariant.0 in
     let low : n < blocks = rw (← c.self.view_is) at c.requires.inside in
     let size : length (content_of h v) ≡ kept_count blocks = length-content h v c.stands.ensures.inside ∙ step.kept in
     let place : c.len.result + n ≡ place_of blocks n = ap (λ (k : ℕ). k + n) (c.len.ensures ∙ c.self.inside.rows.ok.0 ∙ step.count) in
@@ -74,7 +75,7 @@ invariant_of-self g c =
     content_put h v m (c.len.result + n) bytes c.put-digest.ensures.rest c.put-digest.ensures.put
     ∙ ap (λ (k : ℕ). slice_set (content_of h v) k bytes) place in
     let at : content_of h now ≡ after_put blocks (content_of h v) n bytes row =
-    content_put h m now (n / 512) row c.put.ensures.rest c.put.ensures.put ∙ ap (λ (l : CrashFile). slice_set l (n / 512) row) first in
+    content_put h m now (n / 512) row c.gather.ensures.rest c.gather.ensures.put ∙ ap (λ (l : CrashFile). slice_set l (n / 512) row) first in
     let set = c.set_digest-row.ensures in
     let new : List (List ℕ) = c.set_digest-row.new.rows in
     let value : c.deref_mut.result.now ≡ rows = c.deref_mut.ensures.value in
@@ -88,18 +89,31 @@ invariant_of-self g c =
     subst (λ (l : CrashFile). AreNumbers l new (table_count blocks)) (sym at)
     (put_numbers blocks (content_of h v) n bytes row digest rows low size step.numbers set.digest others is new set.row
     (λ t apart. set.rest t apart ∙ ap (λ (l : List (List ℕ)). slice_index_or l t []) value)) in
-    record {
-      kept = ap (λ (w : JournalValue g.row.B.Denot). w.shape.kept) (two_puts v m now c.put-digest.ensures.rest c.put.ensures.rest) ∙ step.kept;
-      small = step.small;
-      count = ap length back ∙ long ∙ step.count;
-      numbers = subst (λ (l : List (List ℕ)). AreNumbers (content_of h now) l (table_count blocks)) (sym back) numbers;
-      low = step.low;
-      fitting = λ k below. subst (λ (l : CrashFile). IsFit blocks l k) (sym at) (elim (cases_eq k n) [
-        | inl same ↦
-            subst (IsFit blocks (after_put blocks (content_of h v) n bytes row)) (sym same)
-            (put_fits blocks (content_of h v) n bytes row digest rows low size step.numbers set.digest others is)
-        | inr apart ↦
-            fits_after blocks (content_of h v) n bytes row digest rows low size step.numbers set.digest others is k
-            (omega (arith, below, step.low)) apart (step.fitting k below)
-      ]);
-    }
+    let kept = c.kept_at-self-inside in
+    let here : IsSeen h v blocks c.self.inside.bytes n → IsSeen h now blocks bytes n = λ was. record {
+      low = low;
+      good = ap (λ (w : JournalValue g.row.B.Denot). w.has_failed) (two_puts v m now c.put-digest.ensures.rest c.gather.ensures.rest) ∙ was.good;
+      same = sym (ap (λ (l : CrashFile). block l (place_of blocks n)) at
+          ∙ data_here blocks (content_of h v) n bytes row digest rows low size step.numbers set.digest others is);
+      fits = subst (λ (l : CrashFile). IsFit blocks l n) (sym at)
+          (put_fits blocks (content_of h v) n bytes row digest rows low size step.numbers set.digest others is);
+    } in (
+      record {
+        kept = ap (λ (w : JournalValue g.row.B.Denot). w.shape.kept) (two_puts v m now c.put-digest.ensures.rest c.gather.ensures.rest) ∙ step.kept;
+        small = step.small;
+        count = ap length back ∙ long ∙ step.count;
+        numbers = subst (λ (l : List (List ℕ)). AreNumbers (content_of h now) l (table_count blocks)) (sym back) numbers;
+        low = step.low;
+        fitting = λ k below. subst (λ (l : CrashFile). IsFit blocks l k) (sym at) (elim (cases_eq k n) [
+          | inl same ↦
+              subst (IsFit blocks (after_put blocks (content_of h v) n bytes row)) (sym same)
+              (put_fits blocks (content_of h v) n bytes row digest rows low size step.numbers set.digest others is)
+          | inr apart ↦
+              fits_after blocks (content_of h v) n bytes row digest rows low size step.numbers set.digest others is k
+              (omega (arith, below, step.low)) apart (step.fitting k below)
+        ]);
+      },
+      seen_then (λ m. (m ≡ n) × (c.self.inside.seen ≡ Some n)) (IsSeen h now blocks bytes) kept.result kept.ensures
+          (λ m is. subst (IsSeen h now blocks bytes) (sym is.0)
+          (here (at_seen (IsSeen h v blocks c.self.inside.bytes) c.self.inside.seen n is.1 c.self.invariant.1))),
+    )

@@ -1,14 +1,40 @@
 use Rattle.std.proofs.Common.{◌≡◌, inl, inr, ℕ, ◌+◌, ◌/◌, ◌%◌, ◌<◌, List, [], length, refl, sym, ◌∙◌, ap, subst, arith}
+use Rattle.std.proofs.lemmas.Bool.{false≢true}
 use Rattle.std.proofs.lemmas.List.{get_or-drop}
 use Rattle.block_device.specs.Blocks.{CrashFile, block}
 use Rattle.block_batch.specs.Batch.{block_digest}
 use Rattle.block_journal.specs.Value.{JournalValue, content_of}
+use Rattle.block_journal.proofs.OnlyReading.{reads_none}
 use Rattle.block_journal.proofs.Results.{from_err, from_ok}
-use Rattle.block_table.specs.Rows.{digest_in}
+use Rattle.block_table.specs.Rows.{IsSeen, digest_in}
 use Rattle.block_table.specs.Table.{IsFit, digest_of, place_of, table_count}
 use Rattle.block_table.proofs.Contents.{content_read, step_same}
+use Rattle.block_table.proofs.Seen.{at_seen}
 use Rattle.block_table.proofs.Table.{in_table}
 use Rattle.block_table.proofs.checked.CheckedBlocks.read.Goals as goal
+
+pub returns-then-is_at : goal.returns-then-is_at
+returns-then-is_at g c =
+    rw (← c.self.view_is) (
+    let h = g.B.Blocks.past_of in
+    let v : JournalValue g.row.B.Denot = c.self.inside.journal in
+    let blocks = c.self.inside.blocks in
+    let n = c.args.n in
+    let seen : IsSeen h v blocks c.self.inside.bytes n =
+    at_seen (IsSeen h v blocks c.self.inside.bytes) c.self.inside.seen n (c.if-is_at.ensures refl) c.self.invariant.1 in
+    record {
+      ok = seen.same ∙ sym (get_or-drop (table_count blocks) (content_of h v) n []);
+      fits = seen.fits;
+      damaged = λ is. absurd (cc);
+      sound = λ _. seen.good;
+      err = tt;
+      failed = λ is. absurd (cc);
+      rest = refl;
+      good = λ _. refl;
+      refused = λ failed. absurd (false≢true (sym seen.good ∙ failed));
+      reads = reads_none (h v.below);
+      counts = record { later = omega arith; quiet = λ _. refl; rises = λ is. absurd (cc) };
+    })
 
 pub returns-then-is_err : goal.returns-then-is_err
 returns-then-is_err g c =
@@ -42,7 +68,7 @@ is_fit-requires g c =
     let blocks = c.self.inside.blocks in
     let n = c.args.n in
     let low : n < blocks = rw (← c.self.view_is) at c.requires in
-    let step = c.self.invariant in
+    let step = c.self.invariant.0 in
     let place : c.len.result + n ≡ place_of blocks n = ap (λ (k : ℕ). k + n) (c.len.ensures ∙ c.self.inside.rows.ok.0 ∙ step.count) in
     let told : digest_in c.deref.result.now n ≡ digest_of (content_of h v) n =
     ap (λ (l : List (List ℕ)). digest_in l n) c.deref.ensures.value ∙ step.numbers (n / 512) (n % 512) (in_table blocks n low) (omega arith) in
@@ -63,7 +89,7 @@ returns-then-not-is_fit g c =
     let blocks = c.self.inside.blocks in
     let n = c.args.n in
     let low : n < blocks = rw (← c.self.view_is) at c.requires in
-    let step = c.self.invariant in
+    let step = c.self.invariant.0 in
     let place : c.len.result + n ≡ place_of blocks n = ap (λ (k : ℕ). k + n) (c.len.ensures ∙ c.self.inside.rows.ok.0 ∙ step.count) in
     let told : digest_in c.deref.result.now n ≡ digest_of (content_of h v) n =
     ap (λ (l : List (List ℕ)). digest_in l n) c.deref.ensures.value ∙ step.numbers (n / 512) (n % 512) (in_table blocks n low) (omega arith) in
@@ -97,7 +123,7 @@ returns g c =
     let blocks = c.self.inside.blocks in
     let n = c.args.n in
     let low : n < blocks = rw (← c.self.view_is) at c.requires in
-    let step = c.self.invariant in
+    let step = c.self.invariant.0 in
     let place : c.len.result + n ≡ place_of blocks n = ap (λ (k : ℕ). k + n) (c.len.ensures ∙ c.self.inside.rows.ok.0 ∙ step.count) in
     let told : digest_in c.deref.result.now n ≡ digest_of (content_of h v) n =
     ap (λ (l : List (List ℕ)). digest_in l n) c.deref.ensures.value ∙ step.numbers (n / 512) (n % 512) (in_table blocks n low) (omega arith) in
@@ -125,9 +151,11 @@ pub invariant_of-self : goal.invariant_of-self
 invariant_of-self g c =
     let h = g.B.Blocks.past_of in
     let v : JournalValue g.row.B.Denot = c.self.inside.journal in
-    let m : JournalValue g.row.B.Denot = c.read.new.self in
-    step_same h v m c.self.inside.rows.items c.self.inside.known c.self.inside.blocks c.self.invariant
-    (ap (λ (w : JournalValue g.row.B.Denot). w.shape) c.read.ensures.rest) (content_read h v m c.read.ensures.rest c.read.ensures.reads)
+    let m : JournalValue g.row.B.Denot = c.read.new.self in (
+      step_same h v m c.self.inside.rows.items c.self.inside.known c.self.inside.blocks c.self.invariant.0
+          (ap (λ (w : JournalValue g.row.B.Denot). w.shape) c.read.ensures.rest) (content_read h v m c.read.ensures.rest c.read.ensures.reads),
+      tt,
+    )
 
 pub invariant_of-self-2 : goal.invariant_of-self-2
 invariant_of-self-2 g c =
@@ -138,7 +166,7 @@ invariant_of-self-2 g c =
     let blocks = c.self.inside.blocks in
     let n = c.args.n in
     let low : n < blocks = rw (← c.self.view_is) at c.requires in
-    let step = c.self.invariant in
+    let step = c.self.invariant.0 in
     let place : c.len.result + n ≡ place_of blocks n = ap (λ (k : ℕ). k + n) (c.len.ensures ∙ c.self.inside.rows.ok.0 ∙ step.count) in
     let told : digest_in c.deref.result.now n ≡ digest_of (content_of h v) n =
     ap (λ (l : List (List ℕ)). digest_in l n) c.deref.ensures.value ∙ step.numbers (n / 512) (n % 512) (in_table blocks n low) (omega arith) in
@@ -149,15 +177,24 @@ invariant_of-self-2 g c =
     let same = content_read h v m done.rest done.reads in
     let still = step_same h v m rows c.self.inside.known blocks step (ap (λ (w : JournalValue g.row.B.Denot). w.shape) done.rest) same in
     let here : IsFit blocks (content_of h m) n = subst (λ (l : CrashFile). IsFit blocks l n) (sym same)
-    (sym told ∙ c.is_fit.ensures.fits c.if-not-is_fit.false ∙ found) in
-    record {
-      kept = still.kept;
-      small = still.small;
-      count = still.count;
-      numbers = still.numbers;
-      low = c.known_with-self-inside.ensures.low blocks step.low low;
-      fitting = λ k below. elim (c.known_with-self-inside.ensures.each k below) [
-        | inl before ↦ still.fitting k before
-        | inr last ↦ subst (IsFit blocks (content_of h m)) (sym last) here
-      ];
-    }
+    (sym told ∙ c.is_fit.ensures.fits c.if-not-is_fit.false ∙ found) in (
+      record {
+        kept = still.kept;
+        small = still.small;
+        count = still.count;
+        numbers = still.numbers;
+        low = c.known_with-self-inside.ensures.low blocks step.low low;
+        fitting = λ k below. elim (c.known_with-self-inside.ensures.each k below) [
+          | inl before ↦ still.fitting k before
+          | inr last ↦ subst (IsFit blocks (content_of h m)) (sym last) here
+        ];
+      },
+      record {
+        low = low;
+        good = ap (λ (w : JournalValue g.row.B.Denot). w.has_failed) done.rest ∙ from_ok _ _ good done.sound;
+        same = from_ok _ _ good done.ok
+            ∙ ap (block (content_of h v)) place
+            ∙ sym (ap (λ (l : CrashFile). block l (place_of blocks n)) same);
+        fits = here;
+      },
+    )

@@ -4,7 +4,7 @@ pub returns : goal.returns
 returns g c =
     rw (← c.self.view_is) (record {
       inside = c.stands.ensures.inside;
-      kept = c.self.invariant.kept;
+      kept = c.self.invariant.0.kept;
       synced = c.stands.ensures.synced;
       here = c.stands.ensures.here;
       survives = c.stands.ensures.survives;

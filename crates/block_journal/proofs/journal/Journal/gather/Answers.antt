@@ -2,7 +2,7 @@ use Rattle.std.proofs.Common.{◌-◌, ◌<◌, length, refl, arith}
 use Rattle.block_journal.specs.Gathered.{entries_of}
 use Rattle.block_journal.proofs.Entries.{length-entries}
 use Rattle.block_journal.proofs.Parting.{sound_put}
-use Rattle.block_journal.proofs.journal.Journal.put.Goals as goal
+use Rattle.block_journal.proofs.journal.Journal.gather.Goals as goal
 
 pub put-requires : goal.put-requires
 put-requires g c =
@@ -27,7 +27,6 @@ returns g c =
         length-entries next.area.items next.places next.count,
         c.put.ensures.count,
       );
-      digest = c.put.ensures.digest;
     })
 
 pub invariant_of-self : goal.invariant_of-self
