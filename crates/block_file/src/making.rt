@@ -12,17 +12,10 @@ ghost use Rattle.block_file.specs.Making.{AreBegun, BecomesZeros, HoldsZeros, Is
 use crate::Plan;
 use crate::header::spell_header;
 use block_batch::{block_digest, seal};
-use block_device::{BLOCK_SIZE, Blocks, few_blocks};
+use block_device::{BLOCK_SIZE, Blocks, few_blocks, zero_block};
 use block_journal::Shape;
 use block_words::{WORDS, spell_words};
 use sector_device::Failed;
-
-// A block of zeros.
-fn zero_block() -> [u8; BLOCK_SIZE]
-    ensures { result ≡ zero_block }
-{
-    [0; BLOCK_SIZE]
-}
 
 // The digests of blocks of zeros, as the k-th block of a table of so many has them.
 fn zero_digests(table: u64, k: u64) -> [u64; WORDS]

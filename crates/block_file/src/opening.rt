@@ -85,7 +85,7 @@ fn first_told(first: Option<Plan>, second: Option<Plan>) -> Option<Plan>
     }
 }
 
-/// The plan that a file tells. (It takes no memory; that it is never refused for want of it, no clause says.)
+/// The plan that a file tells. (It takes no memory, and is never refused for want of it.)
 pub fn read_plan<B: Blocks>(below: &mut B) -> Result<Plan, FileError>
     ensures told { IfOk result (λ p. plan_told (B.past_of below.old).file.content ≡ Some p) }
     ensures plan { IfOk result IsPlan }
@@ -94,6 +94,7 @@ pub fn read_plan<B: Blocks>(below: &mut B) -> Result<Plan, FileError>
     ensures undamaged { IfErr result (λ e. (n : ℕ) → e ≢ FileError.Damaged n) }
     ensures short { IfErr result (λ e. e ≡ FileError.TooShort → length (B.past_of below.old).file.content < 2) }
     ensures batch { IfErr result (λ e. e ≢ FileError.NoBatch) }
+    ensures memory { IfErr result (λ e. e ≢ FileError.NoMemory) }
     ensures quiet { IfOk result (λ _. B.failures below.new ≡ B.failures below.old) }
     ensures failed { IfErr result (λ e. e ≡ FileError.FileFailed
         → Rises (B.failures below.old) (B.failures below.new)) }

@@ -137,7 +137,7 @@ fn uncompared_in<F: Stored + Drop, A: Allocator + Copy>(
 
 /// The device in a file that was taken, whichever kind that is: a plain file doesn't show a file of blocks (`told`),
 /// and one that does (`shown`) tells this device (`opened`). What is below is read, and written to from then on. The
-/// refusals are those of [`FileDisk::over`], and of [`crate::open_disk`].
+/// refusals are those of [`FileDisk::over`], and of [`block_file::open`].
 pub fn device_in<F: Stored + Drop, A: Allocator + Copy>(
     alloc: A,
     taken: Taken<F>,

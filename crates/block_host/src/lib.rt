@@ -4,7 +4,7 @@
 //! which a write or a sync has failed fails from then on (`sound`, `failed`). Proved of a device that is made in a
 //! file: it has the sectors that were asked for, of zeros, all of them synced (`create_disk`). Proved of one that is
 //! opened: it is the one that the file told as it was read, each block of it fitted its digest, and no area of its
-//! journal is needed (`open_disk`). Proved of a device in a file of either kind (`FileDevice`): it is that device (the
+//! journal is needed (`device_in`). Proved of a device in a file of either kind (`FileDevice`): it is that device (the
 //! clauses of `Device`); a plain file doesn't show a file of blocks (`told`), and one of blocks shows one (`shown`) and
 //! told the device (`opened`), which holds what the file stood for, also where it is only read (`read`). Of a file of
 //! blocks the first damaged sector is told, and only such a one (`check`); its use is ended as the device's (`end`).
@@ -35,5 +35,5 @@ pub use kinds::{
 };
 pub use making::plan_with;
 pub use mirror::FileBlocks;
-pub use opening::{HostDisk, create, create_disk, open, open_disk};
+pub use opening::{HostDisk, create, create_disk};
 pub use waiting::take_within;

@@ -1,5 +1,5 @@
-//! A file of the system is opened as one of blocks.
-ghost use Rattle.std.specs.Prelude.{◌≡◌, ◌≢◌, ◌⊎◌, ◌+◌, ◌*◌, ◌<◌, false, length, replicate, Some, IfErr, IfOk};
+//! A device in a file of blocks is opened, or made.
+ghost use Rattle.std.specs.Prelude.{◌≡◌, ◌≢◌, ◌⊎◌, ◌+◌, ◌*◌, ◌<◌, ℕ, false, length, replicate, Some, IfErr, IfOk};
 ghost use Rattle.sector_device.specs.Disk.{IsSynced};
 ghost use Rattle.sector_device.specs.Values.{zero_sector};
 ghost use Rattle.block_device.specs.Blocks.{zero_block};
@@ -22,27 +22,6 @@ use store_file::{HostFile, OpenError, StoreFile, Stored, Troubled};
 
 /// A device in a file of the system.
 pub type HostDisk<H, A> = BlockDisk<FileBlocks<HostFile<H>, A>, A>;
-
-/// Opens the file at the path as one of blocks, which are to be safe: it is synced, and read. The refusals are those of
-/// [`store_file::take`], and so is the lock. Sectors behind the last whole block belong to none. (No clause says what
-/// is read.)
-pub fn open<R: Files, A: Allocator + Copy>(
-    rt: &R,
-    alloc: A,
-    path: &str,
-) -> Result<FileBlocks<HostFile<R::File>, A>, OpenError>
-where
-    R::File: StoreFile,
-    ensures few { IfOk result (λ b. 8 * length (past_of b).file.content < SECTORS_MAX + 1) }
-    ensures synced { IfOk result (λ b. IsFileSynced b) }
-    ensures moment { IfOk result (λ b. (past_of b).moment ≡ 0) }
-    ensures failures { IfOk result (λ b. failures_of b ≡ 0) }
-    ensures sound { IfOk result (λ b. has_failed_of b ≡ false) }
-{
-    let taken = store_file::take(rt, &alloc, path)?;
-    let blocks = taken.sectors / SECTORS;
-    FileBlocks::over(alloc, taken.below, blocks as usize)
-}
 
 /// Makes a file of so many blocks of zeros, all of them safe, under the name `PATH.new`: [`store_file::publish`] gives
 /// it its own, and [`store_file::discard`] removes it. The refusals are those of [`store_file::create`].
@@ -105,27 +84,9 @@ pub(crate) fn disk_in<F: Stored + Drop, A: Allocator + Copy>(
     }
 }
 
-/// Opens the device in the file at the path, as [`block_file::open`] does. It is the one that the file told as it was
-/// read, and needs no area of its journal (`opened`). The refusals are those of [`open`] and of that.
-pub fn open_disk<R: Files, A: Allocator + Copy>(
-    rt: &R,
-    alloc: A,
-    path: &str,
-) -> Result<HostDisk<R::File, A>, DiskError>
-where
-    R::File: StoreFile,
-    ensures opened { IfOk result (λ d. IsOpened d) }
-    ensures still { IfOk result (λ d. plan_told (first_content past_of d) ≡ Some (disk_plan d)) }
-    ensures synced { IfOk result (λ d. IsSynced (disk_past past_of d).disk) }
-    ensures good { IfOk result (λ d. IsGood past_of d) }
-    ensures failures { IfOk result (λ d. disk_failures failures_of d ≡ 0) }
-{
-    disk_in(alloc, open(rt, alloc, path)?)
-}
-
 /// Makes a file, as [`create`] does, and in it a device of zeros. Where it is refused, no file is left, if that can be
 /// removed (no clause says so). The refusals are those of [`create`], and of a device want of memory, or that the file
-/// failed (`refused`; that a new file isn't told as damaged, no clause says).
+/// failed (`refused`); a new file isn't told as damaged (`undamaged`).
 pub fn create_disk<R: Files + AllocGlobal, A: Allocator + Copy>(
     rt: &R,
     alloc: A,
@@ -144,6 +105,7 @@ where
     ensures failures { IfOk result (λ d. disk_failures failures_of d ≡ 0) }
     ensures refused { IfErr result (λ e. (error : FileError) → e ≡ DiskError.File error
         → (error ≡ NoMemory) ⊎ (error ≡ FileFailed)) }
+    ensures undamaged { IfErr result (λ e. (n : ℕ) → e ≢ DiskError.Damaged n) }
 {
     let below = create(rt, alloc, path, plan.file_blocks())?;
     match block_file::create(alloc, below, plan) {

@@ -1,7 +1,0 @@
-use Rattle.std.proofs.Common.{refl}
-use Rattle.block_device.specs.Blocks.{zero_block}
-use Rattle.block_file.proofs.making.zero_block.Goals as goal
-
-pub returns : goal.returns
-unfolding zero_block
-returns c = refl
