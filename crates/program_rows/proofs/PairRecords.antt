@@ -12,17 +12,18 @@ use Rattle.core_scan.specs.Visible.{last_or, left_of, next_after, visible}
 use Rattle.core_scan.specs.declared.range.KeyRange.{KeyRange}
 use Rattle.core_scan.proofs.Paged.{page_last, page_more}
 use Rattle.program_rows.specs.Exported.{pair_records, row_record}
+use Rattle.program_rows.specs.declared.exporting.Format.{Format}
 
-module _ (rows : Table) where
+module _ (format : Format) (rows : Table) where
   -- one pair more
   pub records_more : (pairs : List Pair) (i : ℕ) (pair : Pair) → i < length pairs → pair ≡ get_or pairs i pair
-      → pair_records rows (take (i + 1) pairs) ≡ pair_records rows (take i pairs) ++ row_record rows pair.rid
+      → pair_records format rows (take (i + 1) pairs) ≡ pair_records format rows (take i pairs) ++ row_record format rows pair.rid
   records_more pairs i pair there is =
-      let line = λ (p : Pair). row_record rows p.rid in
-      ap (pair_records rows) (take_more pairs i pair there)
+      let line = λ (p : Pair). row_record format rows p.rid in
+      ap (pair_records format rows) (take_more pairs i pair there)
       ∙ flat_map-append line (take i pairs) (get_or pairs i pair ∷ [])
-      ∙ ap (λ (p : Pair). pair_records rows (take i pairs) ++ (line p ++ [])) (sym is)
-      ∙ ap (λ (l : List ℕ). pair_records rows (take i pairs) ++ l) (append-nil (line pair))
+      ∙ ap (λ (p : Pair). pair_records format rows (take i pairs) ++ (line p ++ [])) (sym is)
+      ∙ ap (λ (l : List ℕ). pair_records format rows (take i pairs) ++ l) (append-nil (line pair))
 
 -- before all pairs nothing is passed over
 every_pair : (ps : List Pair) → filter (is_above None) ps ≡ ps
@@ -32,23 +33,23 @@ every_pair (p ∷ ps) = ap (λ (qs : List Pair). p ∷ qs) (every_pair ps)
 no_pair : (next : Pair) → (◌≡◌ {A = Option Pair} None (Some next)) → ⊥
 no_pair next is = absurd cc
 
-module _ (rows : Table) (index : Index) (range : KeyRange) where
-  pub all_left : pair_records rows (left_of index range None) ≡ pair_records rows (visible index range)
-  all_left = ap (pair_records rows) (every_pair (visible index range))
+module _ (format : Format) (rows : Table) (index : Index) (range : KeyRange) where
+  pub all_left : pair_records format rows (left_of index range None) ≡ pair_records format rows (visible index range)
+  all_left = ap (pair_records format rows) (every_pair (visible index range))
 
   module _ (after : Option Pair) (limit : ℕ) where
     -- a page, and what is left behind it
     pub records_left : (next : Pair) → next_after after limit (left_of index range after) ≡ Some next
-        → pair_records rows (left_of index range after)
-        ≡ pair_records rows (take limit (left_of index range after)) ++ pair_records rows (left_of index range (Some next))
+        → pair_records format rows (left_of index range after)
+        ≡ pair_records format rows (take limit (left_of index range after)) ++ pair_records format rows (left_of index range (Some next))
     records_left next is =
-        ap (pair_records rows) (page_more index range after limit next is)
-        ∙ flat_map-append (λ (p : Pair). row_record rows p.rid) (take limit (left_of index range after)) (left_of index range (Some next))
+        ap (pair_records format rows) (page_more index range after limit next is)
+        ∙ flat_map-append (λ (p : Pair). row_record format rows p.rid) (take limit (left_of index range after)) (left_of index range (Some next))
 
     -- the last page
     pub records_last : 0 < limit → next_after after limit (left_of index range after) ≡ None
-        → pair_records rows (left_of index range after) ≡ pair_records rows (take limit (left_of index range after))
-    records_last some none = ap (pair_records rows) (page_last after limit (left_of index range after) some none)
+        → pair_records format rows (left_of index range after) ≡ pair_records format rows (take limit (left_of index range after))
+    records_last some none = ap (pair_records format rows) (page_last after limit (left_of index range after) some none)
 
 -- a page has a pair, where more are left
 page_has : (after : Option Pair) (limit : ℕ) (left : List Pair) (next : Pair) → 0 < limit → next_after after limit left ≡ Some next
@@ -60,22 +61,22 @@ page_has after (suc n) (p ∷ ps) next some is = omega arith
 
 module _ (index : Index) (range : KeyRange) where
   -- what a page leaves, as it is told: the records of it, and a count
-  abbrev pub rest_records : Table → Option Pair → List ℕ
-  rest_records rows None = []
-  rest_records rows (Some p) = pair_records rows (left_of index range (Some p))
+  abbrev pub rest_records : Format → Table → Option Pair → List ℕ
+  rest_records format rows None = []
+  rest_records format rows (Some p) = pair_records format rows (left_of index range (Some p))
 
   abbrev pub rest_count : Option Pair → ℕ
   rest_count None = 0
   rest_count (Some p) = length (left_of index range (Some p)) + 1
 
   module _ (after : Option Pair) (limit : ℕ) (some : 0 < limit) where
-    pub page_rest : (rows : Table) (next : Option Pair) → next ≡ next_after after limit (left_of index range after)
-        → pair_records rows (left_of index range after)
-        ≡ pair_records rows (take limit (left_of index range after)) ++ rest_records rows next
-    page_rest rows None is =
-        records_last rows index range after limit some (sym is)
-        ∙ sym (append-nil (pair_records rows (take limit (left_of index range after))))
-    page_rest rows (Some next) is = records_left rows index range after limit next (sym is)
+    pub page_rest : (format : Format) (rows : Table) (next : Option Pair) → next ≡ next_after after limit (left_of index range after)
+        → pair_records format rows (left_of index range after)
+        ≡ pair_records format rows (take limit (left_of index range after)) ++ rest_records format rows next
+    page_rest format rows None is =
+        records_last format rows index range after limit some (sym is)
+        ∙ sym (append-nil (pair_records format rows (take limit (left_of index range after))))
+    page_rest format rows (Some next) is = records_left format rows index range after limit next (sym is)
 
   pub fewer_left : (pair : Pair) (limit : ℕ) (next : Option Pair) → 0 < limit
       → next ≡ next_after (Some pair) limit (left_of index range (Some pair)) → rest_count next < rest_count (Some pair)

@@ -1,8 +1,7 @@
 -- What reads of a source, and of records, come to.
-use Rattle.std.proofs.Common.{◌∙◌, [], ap, Bool, Err, false, IfErr, IfOk, inl, List, None, Ok, OnErr, OnOk, Option, refl, Result, Some, subst, sym, true}
+use Rattle.std.proofs.Common.{◌∙◌, ap, Bool, Err, false, IfErr, IfOk, inl, List, None, Ok, OnErr, OnOk, Option, refl, Result, Some, subst, sym, true}
 use Rattle.std.proofs.Common.{◌≡◌, ℕ}
 use Rattle.std.proofs.lemmas.Bool.{false≢true}
-use Rattle.std.specs.Io.KnownBytes.{Consumes, Keeps}
 use Rattle.std.specs.Prelude.{◌==◌, ◌&&◌, if◌then◌else◌, not, option_map}
 use Rattle.csv.specs.Reading.{buffered_of, default_config, ExplainsRead, has_failed, is_flexible, pending_of, reader_source, reader_state}
 use Rattle.csv.specs.Reading.{ReadRecord, ReadsNext, source_of, stops_reader, strip_bom, took_first}
@@ -10,20 +9,14 @@ use Rattle.csv.specs.declared.error.ErrorKind.{ErrorKind}
 use Rattle.csv.specs.declared.error.ErrorKind.TheVariants as kind
 use Rattle.csv.specs.declared.parser.Config.{Config}
 use Rattle.csv.specs.declared.reader.Reader.{Reader}
-use Rattle.program_rows.specs.Quotes.{is_cut_off}
+use Rattle.program_quotes.specs.Quotes.{is_cut_off}
 use Rattle.program_rows.specs.Reading.{bytes_of, CameTo, IsNoHeader, IsPlain, IsReadError, ReadsOne}
 use Rattle.program_rows.specs.declared.error.TextError.{TextError}
 use Rattle.program_rows.specs.declared.error.TextError.TheVariants as text
 use Rattle.program_rows.specs.declared.reading.Came.{Came}
 use Rattle.program_rows.specs.declared.reading.Came.TheVariants.{Cut}
 use Rattle.program_rows.specs.declared.reading.ColumnNames.{ColumnNames}
-use Rattle.program_rows.specs.declared.source.Watched.{Watched}
-
--- what loses no byte is as before
-pub keeps_none : (old new : Option (List ℕ)) (bytes : List ℕ) → bytes ≡ [] → Consumes old new bytes → Keeps old new
-keeps_none None new bytes none h = tt
-keeps_none (Some xs) None bytes none h = h
-keeps_none (Some xs) (Some ys) bytes none h = sym (rw none at h)
+use Rattle.program_quotes.specs.declared.source.Watched.{Watched}
 
 -- behind its first read a reader reads from its buffer on
 stands : {S : Type 0} (rem : S → Option (List ℕ)) (new : Reader S) → new.bom_checked ≡ true → pending_of (rem new.rdr) new ≡ source_of rem new

@@ -7,37 +7,57 @@ use Rattle.std.specs.declared.ops.Bound.TheVariants.{Unbounded}
 use Rattle.record_values.specs.Values.{Place}
 use Rattle.record_values.specs.declared.pair.Pair.{Pair}
 use Rattle.record_values.specs.declared.rid.TheConstants.{SLOTS_PER_PAGE}
+use Rattle.record_values.specs.declared.row.Row.{Row}
 use Rattle.model.specs.Table.{Table}
 use Rattle.core_parts.specs.View.{CoreValue}
 use Rattle.core_scan.specs.Visible.{visible}
 use Rattle.core_scan.specs.declared.range.KeyRange.{KeyRange}
+use Rattle.program_rows.specs.Objects.{json_of_row}
 use Rattle.program_rows.specs.Rows.{line_of_row, own_header}
+use Rattle.program_rows.specs.declared.exporting.Format.{Format}
+use Rattle.program_rows.specs.declared.exporting.Format.TheVariants.{Fields, Json}
+
+-- the line of a row, as fields or as an object
+abbrev pub line_by : Format → Row → List ℕ
+line_by Fields row = line_of_row row
+line_by Json row = json_of_row row
 
 -- the line of the row at a place, if one is there
-abbrev pub row_record : Table → Place → List ℕ
-row_record rows place = option_map_or line_of_row (map.get rows place) []
+abbrev pub row_record : Format → Table → Place → List ℕ
+row_record format rows place = option_map_or (line_by format) (map.get rows place) []
 
 -- the lines of the rows in the first slots of a page
-unfoldable pub slot_records : Table → (page slots : ℕ) → List ℕ
-slot_records rows page zero = []
-slot_records rows page (suc slot) = slot_records rows page slot ++ row_record rows (record { page = page; slot = slot })
+unfoldable pub slot_records : Format → Table → (page slots : ℕ) → List ℕ
+slot_records format rows page zero = []
+slot_records format rows page (suc slot) =
+    slot_records format rows page slot ++ row_record format rows (record { page = page; slot = slot })
 
 -- the lines of the rows in the first pages
-unfoldable pub page_records : Table → (pages : ℕ) → List ℕ
-page_records rows zero = []
-page_records rows (suc page) = page_records rows page ++ slot_records rows page SLOTS_PER_PAGE
+unfoldable pub page_records : Format → Table → (pages : ℕ) → List ℕ
+page_records format rows zero = []
+page_records format rows (suc page) = page_records format rows page ++ slot_records format rows page SLOTS_PER_PAGE
 
--- the header, and the rows in the order of their places
+-- the header, and the rows in the order of their places; and the same as objects, which need no header
 abbrev pub text_by_place : CoreValue → List ℕ
-text_by_place core = own_header ++ page_records core.heap.rows core.heap.pages
+text_by_place core = own_header ++ page_records Fields core.heap.rows core.heap.pages
+
+abbrev pub json_by_place : CoreValue → List ℕ
+json_by_place core = page_records Json core.heap.rows core.heap.pages
 
 -- the lines of the rows of these pairs
-abbrev pub pair_records : Table → List Pair → List ℕ
-pair_records rows pairs = flat_map (λ pair. row_record rows pair.rid) pairs
+abbrev pub pair_records : Format → Table → List Pair → List ℕ
+pair_records format rows pairs = flat_map (λ pair. row_record format rows pair.rid) pairs
 
 abbrev pub all_keys : KeyRange
 all_keys = record { from = Unbounded; to = Unbounded }
 
--- the header, and the rows of the visible pairs in the order of these
+-- the lines of the rows of the visible pairs in the order of these
+abbrev pub visible_records : Format → CoreValue → List ℕ
+visible_records format core = pair_records format core.heap.rows (visible core.index.entries all_keys)
+
+-- the header, and the rows in that order; and the same as objects
 abbrev pub text_by_key : CoreValue → List ℕ
-text_by_key core = own_header ++ pair_records core.heap.rows (visible core.index.entries all_keys)
+text_by_key core = own_header ++ visible_records Fields core
+
+abbrev pub json_by_key : CoreValue → List ℕ
+json_by_key core = visible_records Json core

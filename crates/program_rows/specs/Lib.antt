@@ -1,6 +1,6 @@
 pub mod Exported
 pub mod Headers
 pub mod Loaded
-pub mod Quotes
+pub mod Objects
 pub mod Reading
 pub mod Rows

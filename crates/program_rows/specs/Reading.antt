@@ -8,7 +8,7 @@ use Rattle.csv.specs.declared.reader.Reader.{Reader}
 use Rattle.csv.specs.declared.reader.Trim.TheVariants as trimmed
 use Rattle.record_values.specs.declared.row.Row.{Row}
 use Rattle.program_rows.specs.Headers.{AreDefault, AreNamed, IsLacking}
-use Rattle.program_rows.specs.Quotes.{is_cut_off, source_under}
+use Rattle.program_quotes.specs.Quotes.{is_cut_off, source_under}
 use Rattle.program_rows.specs.Rows.{row_under}
 use Rattle.program_rows.specs.declared.columns.HeaderError.{HeaderError}
 use Rattle.program_rows.specs.declared.columns.HeaderError.TheVariants.{Missing, NoBody, NoKey, OneColumn, OpenQuote}
@@ -21,7 +21,7 @@ use Rattle.program_rows.specs.declared.reading.RowReader.{RowReader}
 use Rattle.program_rows.specs.declared.rows.Columns.{Columns}
 use Rattle.program_rows.specs.declared.rows.RowError.{RowError}
 use Rattle.program_rows.specs.declared.rows.RowError.TheVariants as row
-use Rattle.program_rows.specs.declared.source.Watched.{Watched}
+use Rattle.program_quotes.specs.declared.source.Watched.{Watched}
 
 -- The reader gives each record of its text as it is: with the usual marks, the first one too, none of its fields
 -- trimmed, and of any length.

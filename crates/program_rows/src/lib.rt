@@ -3,7 +3,9 @@
 //! Proved: which row a record gives, or why none (`row_of`, and `row_under` beneath a header of so many fields); the
 //! record of a row (`record_of`), and the lines of both (`line_of`, `row_line`). So are the columns of names, the first
 //! of each (`column_named`, `columns_named`), or `key` and `body`, or the first two (`default_columns`). An export
-//! prints just the rows, in the order of their places (`export_by_place`) or of the visible pairs (`export_by_key`).
+//! prints just the rows, in the order of their places (`export_by_place`) or of the visible pairs (`export_by_key`). So
+//! does one as objects of JSON, a line each (`export_json_by_place`, `export_json_by_key`), which have the bytes of key
+//! and body as text where they are UTF-8, and else as digits under another name (`json_line`).
 //!
 //! A `RowReader` begins behind the header of its text, the first record (`begins`), and gives what the records behind
 //! that give, one behind the other (`gives`); so where the bytes of the source are known, those of the text are the
@@ -26,16 +28,17 @@ mod error;
 mod exporting;
 mod laws;
 mod loading;
+mod objects;
 mod reading;
 mod rows;
-mod source;
 mod text;
 
 pub use columns::{HeaderError, column_named, columns_named, default_columns, header};
 pub use error::{RowsError, TextError};
-pub use exporting::{export_by_key, export_by_place};
+pub use exporting::{export_by_key, export_by_place, export_json_by_key, export_json_by_place};
 pub use laws::{each_line, each_row};
 pub use loading::{Loader, Taken};
+pub use objects::json_line;
 pub use reading::{ColumnNames, RowReader};
 pub use rows::{Columns, RowError, record_of, row_of, row_under};
 pub use text::{header_line, line_of, row_line};

@@ -2,14 +2,14 @@
 ghost use Rattle.std.specs.Prelude.{◌≡◌, Ok, None, true, IfErr, IfOk, OnErr, OnOk};
 ghost use Rattle.csv.specs.Reading.{has_failed, reader_source};
 ghost use Rattle.csv.specs.Records.{fields_of};
-ghost use Rattle.program_rows.specs.Quotes.{is_cut_off, passed_in};
+ghost use Rattle.program_quotes.specs.Quotes.{is_cut_off, passed_in};
 ghost use Rattle.program_rows.specs.Reading.{AreChosen, BeginsAt, CameTo, IsNoHeader, IsPlain, IsReadError, ReadsOne};
 
 use crate::columns::{HeaderError, columns_named, default_columns};
 use crate::error::{TextError, error_of_text};
 use crate::rows::{Columns, RowError, row_under};
-use crate::source::Watched;
 use csv::{ByteRecord, Reader, ReaderBuilder};
+use program_quotes::Watched;
 use records::Row;
 use std::alloc::Global;
 use std::io::Read;

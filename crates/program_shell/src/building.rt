@@ -1,20 +1,25 @@
 //! The index of a store is built to its end, or anew.
-use crate::refused::{Refused, granted};
+use crate::running::open_within;
+use block_host::InFile;
 use model::Life;
 use nsf_core::{BuildReply, Core};
 use program_arguments::Build;
 use program_commands::Store;
+use program_files::{Refused, close, granted, open};
 use records::{Error, Pair, Rid, Row, SLOTS_PER_PAGE, compare_pairs};
 use restart::{Event, Reply};
 use sector_device::Device;
 use std::alloc::Global;
+use std::fs::File;
 use std::io::Write;
+use std::rt::{Clock, Files};
+use store_file::Troubled;
 
 // How many steps of the builder lie between two flushes.
 const STEPS: u32 = 64;
 
 // What a step of the builder came to.
-#[derive(Clone, Copy, Debug, PartialEq, Eq)]
+#[derive(Clone, Copy)]
 enum Step {
     /// The index is complete.
     Complete,
@@ -143,9 +148,9 @@ fn ready_index<D: Device>(store: &mut Store<D>, build: Build) -> Result<(), Refu
     Ok(())
 }
 
-/// Builds the index to its end, and answers how many pairs were attempted. What is shown of that stands on a line of
-/// its own.
-pub(crate) fn build_index<D: Device, E: Write>(
+// Builds the index to its end, and answers how many pairs were attempted. What is shown of that stands on a line of its
+// own.
+fn build_index<D: Device, E: Write>(
     store: &mut Store<D>,
     build: Build,
     errors: &mut E,
@@ -159,4 +164,46 @@ pub(crate) fn build_index<D: Device, E: Write>(
         Err(Refused::Store(Error::IndexFull)) => Err(full(build)),
         built => built,
     }
+}
+
+// The same, and prints how many were attempted.
+fn build<D: Device + Troubled, W: Write, E: Write>(
+    store: &mut Store<D>,
+    build: Build,
+    output: &mut W,
+    errors: &mut E,
+) -> Result<(), Refused> {
+    let attempts = match build_index(store, build, errors) {
+        Ok(attempts) => attempts,
+        Err(refused) => return Err(refused.because(store.device())),
+    };
+    writeln!(output, "complete, {attempts} pairs attempted")?;
+    Ok(())
+}
+
+// Builds the index of the store on the disk to its end, whose use is ended then.
+fn build_disk<D: Device + Troubled + InFile + Drop, W: Write, E: Write>(
+    alloc: Global,
+    disk: D,
+    asked: Build,
+    output: &mut W,
+    errors: &mut E,
+) -> Result<(), Refused> {
+    let mut store = open(alloc, disk)?;
+    let built = build(&mut store, asked, output, errors);
+    let ended = close(store.into_device());
+    built?;
+    ended
+}
+
+/// Builds the index of the store in the file to its end, and prints how many pairs were attempted.
+pub(crate) fn build_file<R: Files<File = File> + Clock + AllocGlobal, W: Write, E: Write>(
+    rt: &R,
+    path: &str,
+    asked: Build,
+    output: &mut W,
+    errors: &mut E,
+) -> Result<(), Refused> {
+    let disk = open_within(rt, path, asked.wait)?;
+    build_disk(rt.alloc(), disk, asked, output, errors)
 }

@@ -1,11 +1,11 @@
 //! Rows of a file are loaded into a store.
-use crate::making::end;
-use crate::opening::open;
-use crate::refused::Refused;
 use crate::tally::Ended;
 use block_host::{InFile, open_device};
 use program_arguments::LoadArguments;
-use program_rows::{ColumnNames, Loader, RowError, RowReader, RowsError, Taken, TextError};
+use program_files::{Refused, close, open};
+use program_rows::{
+    ColumnNames, HeaderError, Loader, RowError, RowReader, RowsError, Taken, TextError,
+};
 use records::Error;
 use sector_device::Device;
 use std::alloc::Global;
@@ -13,18 +13,26 @@ use std::fs::File;
 use std::io::{Read, Write};
 use std::rt::Files;
 use std::{fs, io};
-use store_file::Troubled;
+use store_file::{Trouble, Troubled};
 
 /// Why rows weren't loaded, by the file that was refused.
 #[derive(Drop)]
 pub(crate) enum NotLoaded {
+    /// That of the rows: its header isn't there, or doesn't name their columns.
+    Header(HeaderError),
+    /// That of the rows.
     Rows(Refused),
+    /// The store's.
     Store(Refused),
 }
 
 impl From<TextError> for NotLoaded {
     fn from(error: TextError) -> NotLoaded {
-        NotLoaded::Rows(Refused::from(error))
+        match error {
+            TextError::Header(error) => NotLoaded::Header(error),
+            TextError::Io(error) => NotLoaded::Rows(Refused::Device(Trouble::of(error))),
+            TextError::NoMemory => NotLoaded::Rows(Refused::Store(Error::NoMemory)),
+        }
     }
 }
 
@@ -159,9 +167,7 @@ fn load_disk<D: Device + Troubled + InFile + Drop, R: Read + Drop, W: Write, E: 
     let loaded = load(&mut loader, rows, progress, errors);
     let told = sum_up(&loader, output);
     let ended = ended(&loader);
-    let mut disk = loader.into_store().into_device();
-    let closed = end(&mut disk);
-    drop(disk);
+    let closed = close(loader.into_store().into_device());
     loaded?;
     if let Err(error) = told {
         return Err(NotLoaded::Store(Refused::Stream(error)));

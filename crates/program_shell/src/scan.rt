@@ -1,9 +1,9 @@
 //! A range of the index of a store is shown.
-use crate::refused::Refused;
 use core_scan::KeyRange;
 use model::Life;
 use program_arguments::ScanArguments;
 use program_commands::{Outcome, PageRequest, Store};
+use program_files::Refused;
 use program_script::read_bytes;
 use records::Key;
 use sector_device::Device;

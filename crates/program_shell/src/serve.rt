@@ -1,10 +1,10 @@
 //! The commands of the input, served line by line.
 use crate::forms::{print_help, tell_why};
 use crate::name::OpenName;
-use crate::refused::{Refused, granted};
 use crate::tally::{Came, Ended, Tally};
 use program_arguments::Serving;
 use program_commands::{GuardedStore, KeyRequest, Outcome, PageRequest, Request, Store};
+use program_files::{Refused, granted};
 use program_script::{Command, Scan, ShellLine};
 use program_values::Answer;
 use records::{Error, Txn};
@@ -59,7 +59,7 @@ pub(crate) struct Service<D: Device> {
 }
 
 /// What is told once, as soon as a command meets it.
-#[derive(Clone, Copy, Debug, PartialEq, Eq)]
+#[derive(Clone, Copy)]
 enum Notice {
     Unmet,
     Due,
@@ -68,14 +68,14 @@ enum Notice {
 
 impl Notice {
     fn meet(&mut self) {
-        if *self == Notice::Unmet {
+        if matches!(self, Notice::Unmet) {
             *self = Notice::Due;
         }
     }
 
     // Whether it is to be told now, and then it is told.
     fn take(&mut self) -> bool {
-        let is_due = *self == Notice::Due;
+        let is_due = matches!(self, Notice::Due);
         if is_due {
             *self = Notice::Told;
         }
@@ -104,10 +104,9 @@ impl<D: Device + Troubled> Service<D> {
         }
     }
 
-    /// Tells what helps where the index is full, why the device failed, and that the file no longer has its name, each
-    /// once.
-    pub(crate) fn tell<R: Files, E: Write>(&mut self, name: &OpenName<'_, R>, errors: &mut E) {
-        if name.is_lost() {
+    /// Tells what helps where the index is full, why the device failed, and that the file has lost its name, each once.
+    pub(crate) fn tell<E: Write>(&mut self, is_name_lost: bool, errors: &mut E) {
+        if is_name_lost {
             self.lost_name.meet();
         }
         if self.full.take() {
@@ -275,7 +274,8 @@ impl<D: Device + Troubled> Service<D> {
     // Notes what came of a line. Whether the input ends behind it.
     fn count(&mut self, came: Came, number: u64) -> bool {
         self.tally.add(came, number);
-        came == Came::Quit || (self.serving.stops_on_refusal && came != Came::Served)
+        matches!(came, Came::Quit)
+            || (self.serving.stops_on_refusal && !matches!(came, Came::Served))
     }
 
     // Prints the prompt, or what ends its line, where there is one.
@@ -323,10 +323,10 @@ impl<D: Device + Troubled> Service<D> {
             }
             let came = self.serve_line(alloc, line.as_slice(), number, output)?;
             output.flush()?;
-            if came == Came::NoCommand {
+            if matches!(came, Came::NoCommand) {
                 tell_why(alloc, line.as_slice(), number, errors);
             }
-            self.tell(name, errors);
+            self.tell(name.is_lost(), errors);
             if self.count(came, number) {
                 break;
             }

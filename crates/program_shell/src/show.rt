@@ -1,43 +1,19 @@
 //! What a store is, and how far it has come.
-use crate::refused::Refused;
 use flip_image::VERSION;
 use model::Life;
 use nsf_core::Core;
+use program_files::Stored;
 use program_values::Answer;
 use records::{Geometry, Mark, Pair, Rid, SLOTS_PER_PAGE};
-use sector_device::Device;
 use std::alloc::Global;
 use std::io;
 use std::io::Write;
-use store_reader::read_store;
 
 // The version of a store that isn't small.
 const LARGE_VERSION: u32 = VERSION + 1;
 
-/// What the file itself says, before the store is opened.
-#[derive(Clone, Copy, Debug, PartialEq, Eq)]
-pub(crate) struct Stored {
-    pub geometry: Geometry,
-    /// The slots of the log that hold records behind the last image.
-    pub open_slots: u64,
-    /// The number of the last record.
-    pub last: u64,
-}
-
-/// What the disk itself says.
-pub(crate) fn read_disk<D: Device>(alloc: Global, disk: &mut D) -> Result<Stored, Refused> {
-    let found = read_store(alloc, disk)?;
-    let open_slots = found.log.open_slots();
-    let restored = found.restored;
-    Ok(Stored {
-        geometry: restored.geometry,
-        open_slots,
-        last: restored.last,
-    })
-}
-
-/// How many rows there are.
-pub(crate) fn rows_in(core: &Core<Global>) -> u64 {
+// How many rows there are.
+fn rows_in(core: &Core<Global>) -> u64 {
     let mut rows: u64 = 0;
     for page in 0..core.pages() {
         for slot in 0..SLOTS_PER_PAGE {

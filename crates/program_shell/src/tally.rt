@@ -3,7 +3,7 @@ use program_commands::Outcome;
 use std::io::Write;
 
 /// What came of a line.
-#[derive(Clone, Copy, PartialEq, Eq)]
+#[derive(Clone, Copy)]
 pub(crate) enum Came {
     /// It was served, or left out.
     Served,
@@ -29,7 +29,7 @@ impl Came {
 }
 
 /// How an input ended.
-#[derive(Clone, Copy, PartialEq, Eq)]
+#[derive(Clone, Copy)]
 pub(crate) enum Ended {
     /// Each line was one that is served.
     Well,

@@ -16,5 +16,5 @@ loop-slot-preserved g c =
     let place : Place = record { page = c.args.page; slot = c.loop-slot.slot } in
     rw add-one
     (Appends-trans (g.W.Write.contents c.args.output.now) (g.W.Write.contents c.loop-slot.output) (g.W.Write.contents c.print_row.new.output)
-    (slot_records rows c.args.page c.loop-slot.slot) (row_record rows place)
+    (slot_records c.args.format rows c.args.page c.loop-slot.slot) (row_record c.args.format rows place)
     c.loop-slot.invariant c.in_ok-print_row.ensures)

@@ -5,4 +5,5 @@ use Rattle.program_rows.proofs.exporting.print_page.Given as goal
 
 -- the slots so far are printed
 abbrev pub invariant-loop-slot : goal.invariant-loop-slot
-invariant-loop-slot g l = Appends (g.W.Write.contents l.initial.output) (g.W.Write.contents l.output) (slot_records (value_of l.core).heap.rows l.page l.slot)
+invariant-loop-slot g l = Appends (g.W.Write.contents l.initial.output) (g.W.Write.contents l.output)
+    (slot_records l.format (value_of l.core).heap.rows l.page l.slot)

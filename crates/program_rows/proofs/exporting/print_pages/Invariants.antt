@@ -5,4 +5,5 @@ use Rattle.program_rows.proofs.exporting.print_pages.Given as goal
 
 -- the pages so far are printed
 abbrev pub invariant-loop-page : goal.invariant-loop-page
-invariant-loop-page g l = Appends (g.W.Write.contents l.initial.output) (g.W.Write.contents l.output) (page_records (value_of l.core).heap.rows l.page)
+invariant-loop-page g l = Appends (g.W.Write.contents l.initial.output) (g.W.Write.contents l.output)
+    (page_records l.format (value_of l.core).heap.rows l.page)

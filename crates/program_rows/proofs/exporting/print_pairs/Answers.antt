@@ -18,9 +18,9 @@ loop-pair-preserved g c =
     let i = c.loop-pair.pair-index in
     let pair = c.pair-item.result in
     subst (λ (bytes : List ℕ). Appends (contents c.args.output.now) (contents c.print_row.new.output) bytes)
-    (sym (records_more rows pairs i pair (omega arith) c.pair-item.is))
-    (Appends-trans (contents c.args.output.now) (contents c.loop-pair.output) (contents c.print_row.new.output) (pair_records rows (take i pairs))
-    (row_record rows pair.rid) c.loop-pair.invariant c.in_ok-print_row.ensures)
+    (sym (records_more c.args.format rows pairs i pair (omega arith) c.pair-item.is))
+    (Appends-trans (contents c.args.output.now) (contents c.loop-pair.output) (contents c.print_row.new.output) (pair_records c.args.format rows (take i pairs))
+    (row_record c.args.format rows pair.rid) c.loop-pair.invariant c.in_ok-print_row.ensures)
 
 pub returns : goal.returns
 returns g c =
@@ -28,5 +28,5 @@ returns g c =
     let rows = (value_of c.args.core.now).heap.rows in
     let pairs = c.args.pairs.now in
     let all : take c.loop-pair.pair-index pairs ≡ pairs = take_all c.loop-pair.pair-index pairs c.loop-pair-test.false in
-    subst (λ (bytes : List ℕ). Appends (contents c.args.output.now) (contents c.loop-pair.output) bytes) (ap (pair_records rows) all)
+    subst (λ (bytes : List ℕ). Appends (contents c.args.output.now) (contents c.loop-pair.output) bytes) (ap (pair_records c.args.format rows) all)
     c.loop-pair.invariant

@@ -7,4 +7,4 @@ use Rattle.program_rows.proofs.exporting.print_pairs.Given as goal
 -- the pairs so far are printed
 abbrev pub invariant-loop-pair : goal.invariant-loop-pair
 invariant-loop-pair g l = Appends (g.W.Write.contents l.initial.output) (g.W.Write.contents l.output)
-    (pair_records (value_of l.core).heap.rows (take l.pair-index l.pairs))
+    (pair_records l.format (value_of l.core).heap.rows (take l.pair-index l.pairs))

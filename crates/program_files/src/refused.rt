@@ -1,0 +1,188 @@
+//! Why a verb was refused.
+ghost use Rattle.std.specs.Prelude.{◌≡◌, ◌≢◌};
+ghost use Rattle.record_values.specs.declared.error.Error.TheVariants.{NoMemory};
+ghost use Rattle.program_files.specs.Refusals.{granted_by, refusal_of};
+ghost use Rattle.program_files.specs.declared.refused.Refused.TheVariants.{File, Store, Stream};
+
+use block_file::FileError;
+use block_host::DiskError;
+use records::Error;
+use restart::Reply;
+use std::alloc::{AllocError, Global};
+use std::io::Write;
+use std::{fmt, io};
+use store_file::{OpenError, Trouble, Troubled};
+
+const OLD_VERSION: &str =
+    "it holds a store of version 1, which `nsf-store migrate` moves to a new file";
+
+const FULL_INDEX: &str =
+    "its index is full: `nsf-store build --again` drops it, creates it anew and builds it";
+
+const NO_KEY: &str =
+    "a key is `=` and graphic bytes, as `=ant`, or `:` and hexadecimal digits, as `:616e74`";
+
+/// Why a verb was refused.
+#[derive(Drop)]
+pub enum Refused {
+    /// The file can't be made or opened.
+    File(OpenError),
+    /// What the file holds can't be opened as a store, or the store refused.
+    Store(Error),
+    /// The file is one of blocks that has no device which is whole.
+    Blocks(FileError),
+    /// The device failed, and this is why.
+    Device(Trouble),
+    /// There is no index.
+    NoIndex,
+    /// The index isn't complete.
+    NotBuilt,
+    /// A word that is to give a key gives none.
+    NoKey,
+    /// No place of the index is free, so that it can't be built on.
+    FullIndex,
+    /// The index that was made anew has fewer places than the table has rows.
+    SmallIndex,
+    /// The store opens, but its index doesn't fit its rows.
+    Unsound,
+    /// The store that is to be moved is of version 2 or 3 already.
+    Newer,
+    /// The input can't be read, or the output can't be written.
+    Stream(io::Error),
+}
+
+impl Refused {
+    /// The same; where the device failed, with the reason that it tells.
+    pub fn because<D: Troubled>(self, device: &D) -> Refused
+        ensures { self ≢ Refused.Store Error.DeviceFailed → result ≡ self }
+    {
+        match (&self, device.trouble()) {
+            (Refused::Store(Error::DeviceFailed), Some(trouble)) => Refused::Device(trouble),
+            _ => self,
+        }
+    }
+}
+
+impl From<OpenError> for Refused {
+    ghost from_gives = { λ error result. result ≡ File error };
+
+    fn from(error: OpenError) -> Refused {
+        Refused::File(error)
+    }
+}
+
+impl From<DiskError> for Refused {
+    ghost from_gives = { λ error result. result ≡ refusal_of error };
+
+    fn from(error: DiskError) -> Refused {
+        match error {
+            DiskError::Open(error) => Refused::File(error),
+            DiskError::Damaged(sector) => Refused::Store(Error::Damaged { sector }),
+            DiskError::File(FileError::NoMemory) => Refused::Store(Error::NoMemory),
+            DiskError::File(FileError::FileFailed) => Refused::Store(Error::DeviceFailed),
+            DiskError::File(FileError::TooShort) => Refused::Store(Error::DeviceTooSmall),
+            DiskError::File(error) => Refused::Blocks(error),
+        }
+    }
+}
+
+impl From<Error> for Refused {
+    ghost from_gives = { λ error result. result ≡ Store error };
+
+    fn from(error: Error) -> Refused {
+        Refused::Store(error)
+    }
+}
+
+impl From<io::Error> for Refused {
+    ghost from_gives = { λ error result. result ≡ Stream error };
+
+    fn from(error: io::Error) -> Refused {
+        Refused::Stream(error)
+    }
+}
+
+impl From<AllocError> for Refused {
+    ghost from_gives = { λ _ result. result ≡ Store NoMemory };
+
+    fn from(_error: AllocError) -> Refused {
+        Refused::Store(Error::NoMemory)
+    }
+}
+
+/// The refusal that a reply tells, if it is one.
+pub fn granted(reply: Reply<Global>) -> Result<(), Refused>
+    ensures { result ≡ granted_by reply }
+{
+    match reply {
+        Reply::Refused(error) => Err(Refused::Store(error)),
+        _ => Ok(()),
+    }
+}
+
+/// Tells why the words of a program can't be read, and answers the exit status for that.
+pub fn refuse_words<E: Write>(program: &str, error: io::Error, errors: &mut E) -> u8 {
+    let trouble = Trouble::of(error);
+    let _ = writeln!(errors, "{program}: {trouble}");
+    2
+}
+
+// What a store's refusal says of its file, where that is always the same.
+fn text_of(error: Error) -> Option<&'static str> {
+    match error {
+        Error::NotFormatted => Some("it holds no store of this format"),
+        Error::DeviceTooSmall => Some("it is shorter than the store that it begins with"),
+        Error::OldVersion => Some(OLD_VERSION),
+        Error::DeviceFailed => Some("its device failed"),
+        Error::NoMemory => Some("out of memory"),
+        Error::HeapFull => Some("its table is full"),
+        _ => None,
+    }
+}
+
+// What a store's refusal says of its file.
+fn write_error<W: fmt::Write>(error: Error, f: &mut fmt::Formatter<W>) -> fmt::Result {
+    if let Some(text) = text_of(error) {
+        return f.write_str(text);
+    }
+    match error {
+        Error::Damaged { sector } => write!(f, "it is damaged at sector {sector}"),
+        error => write!(f, "refused {error}"),
+    }
+}
+
+// What is said of a file of blocks.
+fn write_file_error<W: fmt::Write>(error: FileError, f: &mut fmt::Formatter<W>) -> fmt::Result {
+    match error {
+        FileError::NoHeader => f.write_str("both of its headers are damaged"),
+        FileError::NoBatch => f.write_str("both areas of its journal are damaged"),
+        error => write!(f, "{error}"),
+    }
+}
+
+// What is said of a refusal that has no other reason in it.
+fn text_of_refusal(refused: &Refused) -> &'static str {
+    match refused {
+        Refused::Unsound => "it opens, but its index isn't that of its rows",
+        Refused::Newer => "it holds a store of version 2, which needs no move",
+        Refused::FullIndex => FULL_INDEX,
+        Refused::SmallIndex => "its index has fewer places than the table has rows",
+        Refused::NotBuilt => "its index isn't complete; `nsf-store build` builds it to its end",
+        Refused::NoKey => NO_KEY,
+        Refused::NoIndex => "it has no index; `create` in `run` begins one",
+        _ => "",
+    }
+}
+
+impl fmt::Display for Refused {
+    fn fmt<W: fmt::Write>(&self, f: &mut fmt::Formatter<W>) -> fmt::Result {
+        match self {
+            Refused::File(error) => write!(f, "{error}"),
+            Refused::Store(error) => write_error(*error, f),
+            Refused::Blocks(error) => write_file_error(*error, f),
+            Refused::Device(trouble) => write!(f, "{trouble}"),
+            Refused::Stream(error) => write!(f, "input or output failed: {error}"),
+            refused => f.write_str(text_of_refusal(refused)),
+        }
+    }
+}

@@ -1,0 +1,201 @@
+//! What can still be read of a damaged store is put into a new file.
+use crate::migration::{NotMoved, copy_to};
+use crate::refused::{Refused, granted};
+use block_host::hold_device;
+use flip_image::{Half, Halves, SUPERBLOCK_SECTOR};
+use model::Life;
+use program_commands::Store;
+use records::Error;
+use restart::Event;
+use sector_device::Device;
+use std::alloc::Global;
+use std::fs::File;
+use std::io;
+use std::io::Write;
+use std::rt::Files;
+use store_file::{Detached, FileDisk};
+use store_salvage::{Part, Salvaged, copy_readable, salvage};
+
+// The sectors of the largest small store, and of the largest store.
+const FEW_SECTORS: u64 = 30_726;
+
+const MOST_SECTORS: u64 = 4_458_502;
+
+// More sizes than are tried, each four times the one before.
+const SIZES: u32 = 8;
+
+// A disk in memory.
+type Memory = FileDisk<Detached, Global>;
+
+// What was salvaged of a store, on a disk in memory.
+#[derive(Drop)]
+struct Found {
+    disk: Memory,
+    // the sectors that can't be read, also such as the store doesn't have
+    unread: Vec<u64>,
+    salvaged: Salvaged<Global>,
+    // Whether it is of the half that wasn't current.
+    is_older: bool,
+}
+
+impl Found {
+    fn into_disk(self) -> Memory {
+        self.disk
+    }
+}
+
+// Makes the half current that isn't.
+fn turn<D: Device>(disk: &mut D) -> Result<(), Error> {
+    let mut halves = Halves::open(disk)?;
+    halves.flip(disk)
+}
+
+// What can be salvaged of the current half, or of the other one, on a disk of so many sectors. `DeviceTooSmall` where
+// the store has more.
+fn salvage_on<O: Device>(
+    alloc: Global,
+    old: &mut O,
+    sectors: u64,
+    is_older: bool,
+) -> Result<Found, Error> {
+    let mut disk = FileDisk::new(alloc, Detached, sectors as usize)?;
+    if disk.sectors() < sectors {
+        return Err(Error::DeviceTooSmall);
+    }
+    let unread = copy_readable(alloc, old, &mut disk, sectors)?;
+    if is_older {
+        turn(&mut disk)?;
+    }
+    let salvaged = salvage(alloc, &mut disk)?;
+    Ok(Found {
+        disk,
+        unread,
+        salvaged,
+        is_older,
+    })
+}
+
+// The same, on a disk that the store fits on. How large that is, its first sector says, which may be damaged: so larger
+// disks are tried, one behind the other.
+fn salvage_half<O: Device>(alloc: Global, old: &mut O, is_older: bool) -> Result<Found, Error> {
+    let mut sectors = FEW_SECTORS;
+    for _ in 0..SIZES {
+        match salvage_on(alloc, old, sectors, is_older) {
+            Err(Error::DeviceTooSmall) => sectors = sectors.saturating_mul(4).min(MOST_SECTORS),
+            found => return found,
+        }
+    }
+    Err(Error::DeviceTooSmall)
+}
+
+// What can be salvaged of the other half. Where nothing can, the current one is refused so.
+fn salvage_older<O: Device>(alloc: Global, old: &mut O, refused: Error) -> Result<Found, Error> {
+    match salvage_half(alloc, old, true) {
+        Ok(found) => Ok(found),
+        Err(_) => Err(refused),
+    }
+}
+
+// What can be salvaged of the current half; of the other one, where the image of that is damaged.
+fn salvage_newest<O: Device>(alloc: Global, old: &mut O) -> Result<Found, Error> {
+    match salvage_half(alloc, old, false) {
+        Err(Error::Damaged { sector }) if sector != SUPERBLOCK_SECTOR => {
+            salvage_older(alloc, old, Error::Damaged { sector })
+        }
+        found => found,
+    }
+}
+
+fn name_of(half: Half) -> &'static str {
+    match half {
+        Half::A => "A",
+        Half::B => "B",
+    }
+}
+
+// Prints what is lost, a line each.
+fn write_lost<W: Write>(found: &Found, output: &mut W) -> io::Result<()> {
+    let halves = &found.salvaged.halves;
+    for sector in &found.unread {
+        if *sector < halves.geometry().sectors() {
+            writeln!(output, "unread sector {sector}")?;
+        }
+    }
+    if found.is_older {
+        writeln!(output, "lost half {}", name_of(halves.current().other()))?;
+    }
+    for part in &found.salvaged.lost {
+        match part {
+            Part::Page(page) => writeln!(output, "lost page {page}")?,
+            Part::Log(slot) => writeln!(output, "lost log from slot {slot}")?,
+        }
+    }
+    Ok(())
+}
+
+// Drops the index, where there is one.
+fn drop_index<D: Device>(store: &mut Store<D>) -> Result<(), Refused> {
+    if store.life() != Life::Absent {
+        granted(store.serve(Event::Drop))?;
+    }
+    granted(store.flush())
+}
+
+// The store that was salvaged, without an index.
+fn without_index<D: Device + Drop>(alloc: Global, disk: D) -> Result<D, Refused> {
+    let mut store = match Store::open(alloc, disk) {
+        Ok(store) => store,
+        Err((error, disk)) => {
+            drop(disk);
+            return Err(Refused::Store(error));
+        }
+    };
+    let dropped = drop_index(&mut store);
+    let disk = store.into_device();
+    match dropped {
+        Ok(()) => Ok(disk),
+        Err(refused) => {
+            drop(disk);
+            Err(refused)
+        }
+    }
+}
+
+// The disk of what can be salvaged of an old one. What is lost is printed.
+fn salvaged_disk<O: Device, W: Write>(
+    alloc: Global,
+    old: &mut O,
+    output: &mut W,
+) -> Result<Memory, Refused> {
+    let found = salvage_newest(alloc, old)?;
+    let written = write_lost(&found, output);
+    let disk = found.into_disk();
+    match written {
+        Ok(()) => without_index(alloc, disk),
+        Err(error) => {
+            drop(disk);
+            Err(Refused::Stream(error))
+        }
+    }
+}
+
+/// Puts the rows that can still be read of the store in the old file, which is only read and locked to the end, into a
+/// store in a new file, one of blocks where that is wanted. It has no index. What is lost is printed, a line each: the
+/// sectors that can't be read, the half that was current, pages, and the log from a slot on.
+pub fn salvage_file<R: Files<File = File> + AllocGlobal, W: Write>(
+    rt: &R,
+    old: &str,
+    new: &str,
+    has_blocks: bool,
+    output: &mut W,
+) -> Result<(), NotMoved> {
+    let mut held = match hold_device(rt, rt.alloc(), old) {
+        Ok(disk) => disk,
+        Err(error) => return Err(NotMoved::Old(Refused::from(error))),
+    };
+    let mut disk = match salvaged_disk(rt.alloc(), &mut held, output) {
+        Ok(disk) => disk,
+        Err(refused) => return Err(NotMoved::Old(refused)),
+    };
+    copy_to(rt, &mut disk, new, has_blocks)
+}
