@@ -11,16 +11,17 @@ mod scan;
 mod size;
 mod store;
 mod threads;
+mod verbs;
 
 ghost use Rattle.std.specs.Prelude.{◌≡◌, ◌⊎◌, ◌≤◌, false, map, IfErr, IfOk, OnOk};
-ghost use Rattle.clap.specs.Words.{app_of, found_of, kind_of, rows_of, rule_of};
+ghost use Rattle.clap.specs.Words.{app_of, found_of, kind_of, rows_of, rule_of, with_rule};
 ghost use Rattle.program_arguments.specs.CommandLine.{Ask, AreInRange, FailBy, IsCommandLine, fate_in, option_of};
 ghost use Rattle.program_arguments.specs.Words.{IsTold, Tells};
 
-use crate::args::program_named;
+use crate::args::{numbers, program_named};
 use clap::builder::ValueParser;
 use clap::error::ErrorKind;
-use clap::{Arg, ArgMatches, Command, Error, value_parser};
+use clap::{Arg, ArgMatches, Command, Error};
 pub use load::LoadArguments;
 use program_values::{Arguments, FATES, Options, fate_named};
 use records::{ENTRIES_MAX, ENTRIES_MIN, LOG_SLOTS_MAX, LOG_SLOTS_MIN, PAGES_MAX};
@@ -80,24 +81,38 @@ fn option_named<'a>(
         .help(help)
 }
 
+// The command line with one option more, `--name`, with one value.
+fn with_option<'a>(
+    alloc: Global,
+    all: Command<'a>,
+    name: &'a str,
+    value: &'a str,
+    takes: ValueParser<'a>,
+    help: &'a str,
+) -> Result<Command<'a>, AllocError>
+    ensures { IfOk result (λ r. app_of r ≡ with_rule (app_of all.entry) (option_of name.entry.now takes.entry)) }
+{
+    all.arg(option_named(alloc, name, value, takes, help))
+}
+
 // The command line, with the ranges of its numbers.
 fn command<'a>(alloc: Global) -> Result<Command<'a>, AllocError>
     ensures { IfOk result (λ command. IsCommandLine (app_of command)) }
 {
-    let pages = value_parser!(u32).range(1..=i64::from(PAGES_MAX));
-    let entries = value_parser!(u32).range(i64::from(ENTRIES_MIN)..=i64::from(ENTRIES_MAX));
-    let slots = value_parser!(u32).range(i64::from(LOG_SLOTS_MIN)..=i64::from(LOG_SLOTS_MAX));
-    let sectors = value_parser!(u32).range(0..=i64::from(SECTORS_MAX));
-    let stop = value_parser!(u32).range(1..);
+    let pages = numbers(1, i64::from(PAGES_MAX));
+    let entries = numbers(i64::from(ENTRIES_MIN), i64::from(ENTRIES_MAX));
+    let slots = numbers(i64::from(LOG_SLOTS_MIN), i64::from(LOG_SLOTS_MAX));
+    let sectors = numbers(0, i64::from(SECTORS_MAX));
+    let stop = numbers(1, i64::from(u32::MAX));
     let fate = ValueParser::from(FATES.as_slice());
-    program_named(alloc, "nsf-replay", ABOUT)
-        .arg(option_named(alloc, "pages", "P", pages, PAGES_HELP))?
-        .arg(option_named(alloc, "entries", "E", entries, ENTRIES_HELP))?
-        .arg(option_named(alloc, "slots", "S", slots, SLOTS_HELP))?
-        .arg(option_named(alloc, "sectors", "N", sectors, SECTORS_HELP))?
-        .arg(option_named(alloc, "stop", "K", stop, STOP_HELP))?
-        .arg(option_named(alloc, "fate", "F", fate, FATE_HELP))?
-        .bin_name("nsf-replay")
+    let all = program_named(alloc, "nsf-replay", ABOUT);
+    let all = with_option(alloc, all, "pages", "P", pages, PAGES_HELP)?;
+    let all = with_option(alloc, all, "entries", "E", entries, ENTRIES_HELP)?;
+    let all = with_option(alloc, all, "slots", "S", slots, SLOTS_HELP)?;
+    let all = with_option(alloc, all, "sectors", "N", sectors, SECTORS_HELP)?;
+    let all = with_option(alloc, all, "stop", "K", stop, STOP_HELP)?;
+    let all = with_option(alloc, all, "fate", "F", fate, FATE_HELP)?;
+    all.bin_name("nsf-replay")
 }
 
 // The fate that was given, where it was.

@@ -1,7 +1,6 @@
 //! What the words of the verb `load` ask for.
-use crate::args::{flag_arg, with_arg};
 use crate::scan::word_in;
-use clap::{Arg, ArgMatches, Command};
+use clap::ArgMatches;
 use std::alloc::{AllocError, Global};
 
 /// The rows that are to be loaded.
@@ -14,31 +13,6 @@ pub struct LoadArguments {
     pub body: Option<String>,
     /// Whether the count of rows is shown.
     pub shows_progress: bool,
-}
-
-const KEY_HELP: &str =
-    "The name of the column that has the keys [default: key, or the first two columns are taken where the header has no key and body]";
-
-const BODY_HELP: &str = "The name of the column that has the bodies [default: body]";
-
-const PROGRESS_HELP: &str =
-    "Shows on the error stream how many rows are safe, also where that is no terminal";
-
-fn column_arg<'a>(alloc: Global, name: &'a str, help: &'a str) -> Arg<'a> {
-    Arg::new(alloc, name)
-        .long(name)
-        .value_name("COLUMN")
-        .help(help)
-}
-
-/// The verb, which has its files already, with the options of a load.
-pub(crate) fn with_load_args<'a>(
-    alloc: Global,
-    verb: Result<Command<'a>, AllocError>,
-) -> Result<Command<'a>, AllocError> {
-    let verb = with_arg(verb, column_arg(alloc, "key", KEY_HELP));
-    let verb = with_arg(verb, column_arg(alloc, "body", BODY_HELP));
-    with_arg(verb, flag_arg(alloc, "progress", PROGRESS_HELP))
 }
 
 /// What is asked for of a load.

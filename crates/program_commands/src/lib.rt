@@ -26,4 +26,5 @@ pub use outcome::Outcome;
 pub use pages::PageRequest;
 pub use reply::answer_of;
 pub use request::Request;
+pub use restart::Event;
 pub use store::Store;

@@ -9,7 +9,7 @@ use std::alloc::Global;
 use std::sync::Wait;
 
 /// What is done to a store before the writers begin.
-#[derive(Clone, Copy, Debug, PartialEq, Eq)]
+#[derive(Clone, Copy)]
 pub enum Beginning {
     /// It is new: a hundred rows are put, and its index is created.
     New,

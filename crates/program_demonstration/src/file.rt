@@ -11,7 +11,6 @@ use std::rt::{Clock, Files};
 use std::sync::Wait;
 use std::thread::Threads;
 use store_file::Troubled;
-use threads_leader::Gate;
 use threads_lifetime::OpenError;
 
 // Why the threads were refused, with the reason that the disk tells.
@@ -26,10 +25,9 @@ fn refused_over<D: Troubled>(error: OpenError, disk: &D) -> Refused {
 fn work_and_look<
     D: Device + Troubled + Send + Drop,
     R: Threads + Wait + Clock + Sync,
-    G: Gate + Sync,
     L: Listener + Sync,
     E: Write + Send + Drop,
->(disk: D, writers: u8, team: Team<'_, R, G, L, E>) -> Result<Found, Refused> {
+>(disk: D, writers: u8, team: Team<'_, R, L, E>) -> Result<Found, Refused> {
     let alloc = team.alloc;
     match work_through(disk, writers, team) {
         Ok(disk) => Ok(look(alloc, disk)?),
@@ -43,12 +41,11 @@ fn work_and_look<
 
 /// Lets the threads work on the store in the file at the path, carries its build to the end, and looks at what is
 /// there. The file is locked meanwhile.
-pub fn work_on_file<
+pub(crate) fn work_on_file<
     R: Threads + Wait + Clock + Files<File = File> + Sync,
-    G: Gate + Sync,
     L: Listener + Sync,
     E: Write + Send + Drop,
->(path: &str, writers: u8, team: Team<'_, R, G, L, E>) -> Result<Found, Refused> {
+>(path: &str, writers: u8, team: Team<'_, R, L, E>) -> Result<Found, Refused> {
     match store_file::open(team.rt, team.alloc, path) {
         Ok(disk) => work_and_look(disk, writers, team),
         Err(error) => {

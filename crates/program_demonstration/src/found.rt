@@ -6,7 +6,7 @@ use sector_device::Device;
 use std::alloc::Global;
 
 /// How many rows there are, how many visible entries, and whether these are the pairs of the rows, and as many.
-#[derive(Clone, Copy, Debug, PartialEq, Eq)]
+#[derive(Clone, Copy)]
 pub struct Found {
     pub rows: u32,
     pub shown: u32,
@@ -86,7 +86,7 @@ fn look_into<D: Device>(engine: &mut Engine<D, Global>) -> Result<Found, Error> 
 
 /// Opens the store on the device, carries its build to the end, makes that safe, and looks at its rows and visible
 /// entries.
-pub fn look<D: Device + Drop>(alloc: Global, device: D) -> Result<Found, Error> {
+pub(crate) fn look<D: Device + Drop>(alloc: Global, device: D) -> Result<Found, Error> {
     match restart(alloc, device) {
         Ok(mut engine) => {
             let found = look_into(&mut engine);

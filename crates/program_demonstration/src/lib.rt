@@ -19,11 +19,10 @@ mod waiting;
 mod writer;
 
 pub use beginning::Beginning;
-pub use file::work_on_file;
-pub use found::{Found, look};
-pub use listener::{Listener, Nobody, Printer, Turn};
-pub use program::{run, run_words, told};
+pub use found::Found;
+pub use listener::{Listener, Turn};
+pub use program::{run, told};
 pub use progress::Progress;
-pub use rows::{key_of, set_up};
+pub use rows::key_of;
 pub use team::{Refusals, Team, Worked, work_on};
-pub use writer::{Acknowledged, Writer};
+pub use writer::Acknowledged;

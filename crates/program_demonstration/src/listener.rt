@@ -5,7 +5,7 @@ use std::fmt;
 
 /// What a transaction of a writer did: it put a row, whose key has these two numbers, at this place; and it deleted the
 /// row at another one, if there is one.
-#[derive(Clone, Copy, Debug, PartialEq, Eq)]
+#[derive(Clone, Copy)]
 pub struct Turn {
     pub writer: u16,
     pub change: u16,
@@ -35,8 +35,7 @@ pub trait Listener {
 }
 
 /// It passes over what it hears.
-#[derive(Clone, Copy, Debug)]
-pub struct Nobody;
+pub(crate) struct Nobody;
 
 impl Listener for Nobody {
     fn hear(&self, _ticket: &Ticket, _turn: &Turn) {}
@@ -44,8 +43,8 @@ impl Listener for Nobody {
 
 /// It prints a line for each commit, as far as that can be written.
 #[derive(Clone, Copy)]
-pub struct Printer<'a, R> {
-    pub rt: &'a R,
+pub(crate) struct Printer<'a, R> {
+    pub(crate) rt: &'a R,
 }
 
 impl<R: Print> Listener for Printer<'_, R> {

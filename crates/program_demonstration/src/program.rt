@@ -17,7 +17,6 @@ use std::io::Write;
 use std::rt::{Clock, Files};
 use std::sync::Wait;
 use std::thread::Threads;
-use threads_leader::{Gate, NoGate};
 use threads_lifetime::{OpenError, format_store};
 
 const PAGES: u32 = 8;
@@ -46,10 +45,9 @@ fn formatted(alloc: Global) -> Result<MemDisk<Global>, Error> {
 pub(crate) fn work_through<
     D: Device + Send + Drop,
     R: Threads + Wait + Clock + Sync,
-    G: Gate + Sync,
     L: Listener + Sync,
     E: Write + Send + Drop,
->(device: D, writers: u8, team: Team<'_, R, G, L, E>) -> Result<D, (OpenError, D)> {
+>(device: D, writers: u8, team: Team<'_, R, L, E>) -> Result<D, (OpenError, D)> {
     let Worked {
         device,
         acknowledged,
@@ -90,7 +88,6 @@ fn work_in_memory<R: Threads + Wait + Clock + Sync, E: Write + Send + Drop>(
         rt,
         alloc,
         beginning: Beginning::New,
-        gate: &NoGate,
         listener: &Nobody,
         changes: u16::from(arguments.changes),
         progress,
@@ -119,7 +116,6 @@ fn work_in_file<
         rt,
         alloc,
         beginning: Beginning::Found,
-        gate: &NoGate,
         listener: &Printer { rt },
         changes: u16::from(arguments.changes),
         progress,
@@ -193,11 +189,8 @@ fn act<
     }
 }
 
-/// Runs the program on these words, the first of them its own name, and answers its exit status: 0 where the rows of
-/// all commits were found, with just their entries, or help or the version was told; 1 where something was refused, or
-/// help can't be written; 2 for bad arguments. The error is that of the output. Commits that are safe are printed by
-/// the runtime.
-pub fn run_words<
+// Runs the program on these words. The error is that of the output.
+fn run_words<
     S: AsStr,
     R: Threads + Wait + Clock + Files<File = File> + Print + Sync,
     W: Write,
@@ -228,8 +221,10 @@ pub fn run_words<
     }
 }
 
-/// Runs the program on these words as `run_words` does, and answers its exit status. It is 1 where the output can't be
-/// written, and the error stream says so.
+/// Runs the program on these words, the first of them its own name, and answers its exit status: 0 where the rows of
+/// all commits were found, with just their entries, or help or the version was told; 1 where something was refused, or
+/// the output can't be written, which the error stream says; 2 for bad arguments. Commits that are safe are printed by
+/// the runtime.
 pub fn run<
     S: AsStr,
     R: Threads + Wait + Clock + Files<File = File> + Print + Sync,

@@ -120,7 +120,7 @@ fn put_rows<B: Group, R: Wait>(
 
 /// Inserts a hundred rows in two commits, and then creates the index. The rows are those of the keys of 65,535 and each
 /// number below 100, with empty bodies.
-pub fn set_up<B: Group, R: Wait>(
+pub(crate) fn set_up<B: Group, R: Wait>(
     rt: &R,
     shared: &Shared<B>,
     seat: &mut Seat<B, Global, Kept>,

@@ -23,10 +23,11 @@ use shared::{Ack, Group, GroupView, Kept, LoopParts, Seat, Shared};
 use std::alloc::{AllocError, Global};
 use std::io::Write;
 use std::marker::Brand;
+use std::mem::forget;
 use std::rt::Clock;
 use std::sync::Wait;
 use std::thread::{Threads, for_each_mut, join};
-use threads_leader::{BuilderEnd, Course, Desk, Ended, Gate, NotRun, run_led};
+use threads_leader::{BuilderEnd, Course, Desk, Ended, NoGate, NotRun, run_led};
 use threads_lifetime::{OpenError, OpenStore, Parts, finish, let_go, open_store};
 
 // No more writers than this run side by side.
@@ -35,11 +36,10 @@ const THREADS_MAX: usize = 64;
 /// The threads: a writer for each seat but the last, and the three loops. Each writer makes so many transactions. The
 /// listener hears of each commit that is safe. The builder's progress is shown where there is something to show it on.
 #[derive(Drop)]
-pub struct Team<'a, R, G, L, E> {
+pub struct Team<'a, R, L, E> {
     pub rt: &'a R,
     pub alloc: Global,
     pub beginning: Beginning,
-    pub gate: &'a G,
     pub listener: &'a L,
     pub changes: u16,
     pub progress: Option<Progress<E>>,
@@ -47,7 +47,7 @@ pub struct Team<'a, R, G, L, E> {
 
 /// What was refused: to a writer, which is the first of those that were refused something; to the flusher, to the
 /// builder; and before the threads began, also where one can't be made (`NoMemory`), or at the end.
-#[derive(Clone, Copy, Debug, PartialEq, Eq)]
+#[derive(Clone, Copy, PartialEq)]
 pub struct Refusals {
     pub writer: Option<Error>,
     pub flusher: Option<Error>,
@@ -183,15 +183,12 @@ fn write_and_watch<
     L: Listener + Sync,
     E: Write + Send + Drop,
 >(
-    rt: &R,
+    team: Team<'_, R, L, E>,
     shared: &Shared<B>,
     desk: &W,
     writers: Vec<Writer<B>>,
-    changes: u16,
-    listener: &L,
     view: GroupView<B>,
     builder: &BuilderEnd<B>,
-    progress: Option<Progress<E>>,
 ) -> Vec<Writer<B>>
     ensures len { vec_len result ≡ vec_len writers }
     ensures wrote { (k : ℕ) (w : _) → k < vec_len writers
@@ -199,6 +196,13 @@ fn write_and_watch<
         (slice_index_or writers.items k w).acknowledged.items (slice_index_or result.items k w).seat
         (slice_index_or result.items k w).acks.items (slice_index_or result.items k w).acknowledged.items }
 {
+    let Team {
+        rt,
+        listener,
+        changes,
+        progress,
+        ..
+    } = team;
     match progress {
         None => write_all(rt, shared, desk, writers, changes, listener),
         Some(progress) => {
@@ -423,17 +427,17 @@ fn parts_back<B: Group, D: Device, F: Drop>(not_run: NotRun<B, D, F>) -> LoopPar
 }
 
 // Runs the writers and the three loops, each in a thread. The flusher's part lies on a desk, where a writer writes what
-// it waits for. Where a thread is wanting, the parts of the loops come back.
+// it waits for. Where a thread is wanting, the parts of the loops come back. Nothing lies on the desk in the end, so
+// nothing is lost with it.
 fn run_all<
     K: Course<D, Global> + Send + Sync,
     B: Group + Send + Sync,
     D: Device + Send + Drop,
     R: Threads + Wait + Clock + Sync,
-    G: Gate + Sync,
     L: Listener + Sync,
     E: Write + Send + Drop,
 >(
-    team: Team<'_, R, G, L, E>,
+    team: Team<'_, R, L, E>,
     shared: &Shared<B>,
     builder: &BuilderEnd<B>,
     writers: Vec<Writer<B>>,
@@ -448,14 +452,7 @@ fn run_all<
         (slice_index_or e.clients.items k w).acks.items (slice_index_or e.clients.items k w).acknowledged.items) }
     ensures last { last.new.number ≡ last.old.number }
 {
-    let Team {
-        rt,
-        gate,
-        changes,
-        listener,
-        progress,
-        ..
-    } = team;
+    let rt = team.rt;
     let LoopParts {
         flush,
         build,
@@ -464,15 +461,20 @@ fn run_all<
     let view = shared.another_view(last);
     let desk: Desk<K, B, D> = Desk::new();
     let lent = &desk;
-    let write = move || write_and_watch(
-        rt, shared, lent, writers, changes, listener, view, builder, progress,
-    );
-    match run_led(rt, shared, flush, build, clean, builder, lent, gate, write) {
+    let write = move || write_and_watch(team, shared, lent, writers, view, builder);
+    match run_led(
+        rt, shared, flush, build, clean, builder, lent, &NoGate, write,
+    ) {
         Ok((ended, reason)) => {
             drop(reason);
+            forget(desk);
             Ok(ended)
         }
-        Err(not_run) => Err(parts_back(not_run)),
+        Err(not_run) => {
+            let loops = parts_back(not_run);
+            forget(desk);
+            Err(loops)
+        }
     }
 }
 
@@ -520,15 +522,9 @@ fn work_staffed<
     B: Group + Send + Sync,
     D: Device + Send + Drop,
     R: Threads + Wait + Clock + Sync,
-    G: Gate + Sync,
     L: Listener + Sync,
     E: Write + Send + Drop,
->(
-    team: Team<'_, R, G, L, E>,
-    shared: Shared<B>,
-    staff: Staff<B>,
-    loops: LoopParts<B, D>,
-) -> Worked<D>
+>(team: Team<'_, R, L, E>, shared: Shared<B>, staff: Staff<B>, loops: LoopParts<B, D>) -> Worked<D>
     requires seats { AreAllSeats B.site.seats (map (λ w. w.seat) staff.writers.items ++ staff.last ∷ []) }
     requires none { (k : ℕ) (w : _) → slice_get staff.writers.items k ≡ Some w → w.acknowledged.items ≡ [] }
     ensures { KeepsAll D.past_of B.site.opened result.device result.acknowledged.items }
@@ -537,7 +533,7 @@ fn work_staffed<
     let alloc = team.alloc;
     let Staff { writers, mut last } = staff;
     let told = BuilderEnd::new();
-    let ran = run_all::<Brand, B, D, R, G, L, E>(team, &shared, &told, writers, &mut last, loops);
+    let ran = run_all::<Brand, B, D, R, L, E>(team, &shared, &told, writers, &mut last, loops);
     drop(told);
     match ran {
         Ok(ended) => end(rt, alloc, shared, ended, last),
@@ -553,10 +549,9 @@ fn work_together<
     B: Group + Send + Sync,
     D: Device + Send + Drop,
     R: Threads + Wait + Clock + Sync,
-    G: Gate + Sync,
     L: Listener + Sync,
     E: Write + Send + Drop,
->(team: Team<'_, R, G, L, E>, shared: Shared<B>, parts: Parts<B, D, Global, Kept>) -> Worked<D>
+>(team: Team<'_, R, L, E>, shared: Shared<B>, parts: Parts<B, D, Global, Kept>) -> Worked<D>
     requires seats { AreNewSeats B.site.board B.site.seats parts.seats.items }
     ensures { KeepsAll D.past_of B.site.opened result.device result.acknowledged.items }
 {
@@ -576,10 +571,9 @@ fn begin<
     B: Group + Send + Sync,
     D: Device + Send + Drop,
     R: Threads + Wait + Clock + Sync,
-    G: Gate + Sync,
     L: Listener + Sync,
     E: Write + Send + Drop,
->(store: OpenStore<D>, team: Team<'_, R, G, L, E>) -> Result<Worked<D>, (OpenError, D)>
+>(store: OpenStore<D>, team: Team<'_, R, L, E>) -> Result<Worked<D>, (OpenError, D)>
     requires names { store.site ≡ B.site }
     ensures { IfOk result (λ worked. KeepsAll D.past_of B.site.opened worked.device worked.acknowledged.items) }
 {
@@ -599,16 +593,15 @@ fn begin<
 pub fn work_on<
     D: Device + Send + Drop,
     R: Threads + Wait + Clock + Sync,
-    G: Gate + Sync,
     L: Listener + Sync,
     E: Write + Send + Drop,
->(device: D, writers: u8, team: Team<'_, R, G, L, E>) -> Result<Worked<D>, (OpenError, D)>
+>(device: D, writers: u8, team: Team<'_, R, L, E>) -> Result<Worked<D>, (OpenError, D)>
     ensures kept { IfOk result (λ worked. (o : Opened) × Opens (D.past_of device).disk.content o
         × KeepsAll D.past_of o worked.device worked.acknowledged.items) }
 {
     let seats = usize::from(writers) + 1;
     match open_store(team.alloc, device, seats) {
-        Ok(store) => begin::<Brand, D, R, G, L, E>(store, team),
+        Ok(store) => begin::<Brand, D, R, L, E>(store, team),
         Err(refused) => {
             drop(team);
             Err(refused)

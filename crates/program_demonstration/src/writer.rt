@@ -13,7 +13,7 @@ use std::sync::Wait;
 
 /// A row that a writer put, by the writer's number and that of its transaction, and the ticket of the commit, which was
 /// acknowledged.
-#[derive(Clone, Copy, Debug, PartialEq, Eq)]
+#[derive(Clone, Copy)]
 pub struct Acknowledged {
     pub writer: u16,
     pub change: u16,
@@ -22,12 +22,12 @@ pub struct Acknowledged {
 
 /// A writer: its seat and its number, what it was told to be safe, and why it ended early, if so.
 #[derive(Drop)]
-pub struct Writer<B: Group> {
-    pub seat: Seat<B, Global, Kept>,
-    pub number: u16,
-    pub acks: Vec<Ack<B>>,
-    pub acknowledged: Vec<Acknowledged>,
-    pub refused: Option<Error>,
+pub(crate) struct Writer<B: Group> {
+    pub(crate) seat: Seat<B, Global, Kept>,
+    pub(crate) number: u16,
+    pub(crate) acks: Vec<Ack<B>>,
+    pub(crate) acknowledged: Vec<Acknowledged>,
+    pub(crate) refused: Option<Error>,
 }
 
 // Deletes the row at a place, if there is a place.

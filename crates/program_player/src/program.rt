@@ -32,14 +32,27 @@ fn print<W: Write>(output: &mut W, answer: &Answer) -> io::Result<()>
     writeln!(output, "{answer}")
 }
 
-// What is owned is kept where the output took what was printed, and let go of where it didn't.
-fn keep<T: Drop>(printed: io::Result<()>, owned: T) -> io::Result<T>
-    ensures { IfOk result (λ kept. (kept ≡ owned) × (printed ≡ Ok tt)) }
+// The session is kept where the output took what was printed, and let go of where it didn't.
+fn keep(printed: io::Result<()>, session: Session) -> io::Result<Session>
+    ensures { IfOk result (λ kept. (kept ≡ session) × (printed ≡ Ok tt)) }
 {
     match printed {
-        Ok(()) => Ok(owned),
+        Ok(()) => Ok(session),
         Err(error) => {
-            drop(owned);
+            drop(session.into_disk());
+            Err(error)
+        }
+    }
+}
+
+// So is a disk.
+fn keep_disk(printed: io::Result<()>, disk: Disk) -> io::Result<Disk>
+    ensures { IfOk result (λ kept. (kept ≡ disk) × (printed ≡ Ok tt)) }
+{
+    match printed {
+        Ok(()) => Ok(disk),
+        Err(error) => {
+            drop(disk);
             Err(error)
         }
     }
@@ -160,6 +173,7 @@ fn run_commands<W: Write>(
             Err(end) => return Ok(Err(end)),
         }
     }
+    drop(session.into_disk());
     Ok(Ok(()))
 }
 
@@ -235,11 +249,11 @@ fn show<W: Write>(session: &Session, output: &mut W) -> io::Result<()>
 fn after_stop<W: Write>(alloc: Global, disk: Disk, fate: Fate, output: &mut W) -> io::Result<u8>
     ensures { IfOk result (λ status. IsStopped W.contents fate disk status output.old output.new) }
 {
-    let disk = keep(print(output, &Answer::Stopped), disk)?;
+    let disk = keep_disk(print(output, &Answer::Stopped), disk)?;
     match Session::reopen(alloc, disk, fate) {
         Ok(session) => {
             let shown = show(&session, output);
-            drop(session);
+            drop(session.into_disk());
             shown?;
             Ok(0)
         }
@@ -414,7 +428,7 @@ pub fn run_words<S: AsStr, R: Read, W: Write>(
 
 /// Runs the program on these words as `run_words` does, and answers its exit status, which is 1 where the input can't
 /// be read or the output can't be written.
-pub fn run<S: AsStr, R: Read, W: Write>(
+pub fn run_without_map<S: AsStr, R: Read, W: Write>(
     alloc: Global,
     words: &[S],
     input: &mut R,

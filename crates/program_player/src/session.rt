@@ -34,8 +34,7 @@ pub enum End {
     Stopped(Disk),
 }
 
-/// A store, and what its script has done to it so far.
-#[derive(Drop)]
+/// A store, and what its script has done to it so far. It is let go of by its disk (`into_disk`).
 pub struct Session {
     alloc: Global,
     store: Store<Disk>,
@@ -111,7 +110,12 @@ impl Session {
         ensures disk { result ≡ disk_of self }
         ensures survives { LeavesItsRun self }
     {
-        self.store.into_device()
+        let Session {
+            alloc: _,
+            store,
+            fails_at: _,
+        } = self;
+        store.into_device()
     }
 
     // Whether this reply tells that the write or sync that was to be cut short was made.
@@ -168,9 +172,12 @@ impl Session {
         ensures crashed { (disk : FaultDisk (MemDisk Global)) × LosesPower fate (calls_to_stop self) (disk_of self) disk
             × Reopens disk (calls_to_stop self) result }
     {
-        let alloc = self.alloc;
-        let fails_at = self.fails_at;
-        let disk = self.store.into_device();
+        let Session {
+            alloc,
+            store,
+            fails_at,
+        } = self;
+        let disk = store.into_device();
         let left = fails_at.saturating_sub(disk.made());
         let disk = crashed(disk, fate, left);
         match Session::open(alloc, disk, left) {

@@ -1,7 +1,7 @@
 //! Runs a script of commands against a store on a disk in memory, and prints each answer; or, asked by `--crash-map`,
 //! what a stop at each write and sync leaves.
 //!
-//! All that it does is in `program_crash_map`, and in `program_player` below it.
+//! All that it does is in `program_player`.
 #![tactic(auto)]
 
 use std::process::ExitCode;
@@ -17,10 +17,10 @@ fn main(rt: HostRuntime) -> io::Result<ExitCode> {
     let errors = &mut rt.stderr();
     let words = match words(&rt) {
         Ok(words) => words,
-        Err(error) => return Ok(ExitCode::from(program_crash_map::refuse_words(
+        Err(error) => return Ok(ExitCode::from(program_player::refuse_words(
             error, output, errors,
         ))),
     };
-    let status = program_crash_map::run(&rt, rt.alloc(), &words, &mut rt.reader(), output, errors);
+    let status = program_player::run(&rt, rt.alloc(), &words, &mut rt.reader(), output, errors);
     Ok(ExitCode::from(status))
 }

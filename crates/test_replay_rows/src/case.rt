@@ -1,6 +1,6 @@
 //! A case: a script, and what the program gives on it.
 use crate::streams::{Input, Output};
-use program_crash_map::run;
+use program_player::run;
 use program_values::FATES;
 use std::alloc::{AllocError, Global};
 use std::fs::Files;

@@ -1,5 +1,5 @@
 //! What is told of words that can't be read.
-use program_crash_map::refuse_words;
+use program_player::refuse_words;
 use std::alloc::Global;
 use std::io;
 use std::io::{ErrorKind, Write};

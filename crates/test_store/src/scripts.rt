@@ -1,8 +1,7 @@
 //! Requests, as the commands of a script ask for them.
-use program_commands::Request;
+use program_commands::{Event, Request};
 use program_script::{Command, read};
 use records::Error;
-use restart::Event;
 use std::alloc::Global;
 
 // What is asked for, and how often: `image` is one copy, and `dump` and `crash` ask how far the index is.

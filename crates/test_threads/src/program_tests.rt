@@ -17,7 +17,6 @@ use std::sync::atomic::{AtomicU64, Ordering};
 use std::thread::Threads;
 use std::{fs, io};
 use threads_lifetime::{OpenError, format_store};
-use threads_loops::NoGate;
 
 // So many writes and syncs are made where a new store is opened.
 const OPENING: u64 = 151;
@@ -261,11 +260,10 @@ fn worked<R: Threads + Wait + Clock + Sync>(
     device: Disk,
     listener: &Heard,
 ) -> Option<(Refusals, usize)> {
-    let team: Team<'_, R, NoGate, Heard, Vec<u8>> = Team {
+    let team: Team<'_, R, Heard, Vec<u8>> = Team {
         rt,
         alloc,
         beginning: Beginning::New,
-        gate: &NoGate,
         listener,
         changes: 26,
         progress: None,

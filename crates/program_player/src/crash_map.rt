@@ -1,6 +1,7 @@
 //! The program for its words: a script's run, or the map of it.
 use crate::map::CrashMap;
 use crate::picture::write_picture;
+use crate::program::{run_script, run_without_map};
 use crate::table::write_table;
 use program_arguments::NoArguments;
 use program_values::Arguments;
@@ -67,7 +68,7 @@ fn printed<F: Files>(
     file: Option<&str>,
 ) -> io::Result<(Vec<u8>, u8)> {
     let mut printed = Vec::new(alloc);
-    let status = program_player::run_script(alloc, arguments, text, &mut printed)?;
+    let status = run_script(alloc, arguments, text, &mut printed)?;
     if status != 0 {
         return Ok((printed, status));
     }
@@ -200,5 +201,5 @@ pub fn run<S: AsStr, R: Read, W: Write, F: Files>(
     if is_asked(words) {
         return run_map(rt, alloc, words, input, output, errors);
     }
-    program_player::run(alloc, words, input, output, errors)
+    run_without_map(alloc, words, input, output, errors)
 }

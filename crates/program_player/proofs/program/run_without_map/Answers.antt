@@ -1,7 +1,7 @@
 use Rattle.std.proofs.Common.{◌≡◌, ◌⊎◌, inl, inr, ℕ, map, Result, Ok, Err, IfOk, refl, sym, subst}
 use Rattle.std.specs.Result.{result_unwrap_or}
 use Rattle.program_player.specs.Plays.{RunsWords}
-use Rattle.program_player.proofs.program.run.Goals as goal
+use Rattle.program_player.proofs.program.run_without_map.Goals as goal
 
 -- the status of what was run, or 1
 status_of : {F : Type 0} (P : ℕ → Type 0) (r : Result ℕ F) → IfOk r P → (result_unwrap_or r 1 ≡ 1) ⊎ P (result_unwrap_or r 1)

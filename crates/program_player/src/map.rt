@@ -1,4 +1,5 @@
 //! What each stop leaves.
+use crate::program::run_script;
 use program_values::Arguments;
 use sector_device::Fate;
 use std::alloc::{AllocError, Global};
@@ -23,7 +24,7 @@ pub(crate) struct Calls {
 
 /// What a stop at each write and sync of a script's commands leaves, by what becomes of the unsynced sectors.
 #[derive(Drop)]
-pub struct CrashMap {
+pub(crate) struct CrashMap {
     // What was left, each once: the lines that are printed behind the stop. They come as the stops first met them,
     // which is in the order of the history's prefixes.
     pub(crate) prefixes: Vec<Vec<u8>>,
@@ -47,7 +48,7 @@ fn behind_stop(alloc: Global, output: &[u8]) -> Result<Option<Vec<u8>>, AllocErr
 impl CrashMap {
     /// The map of this script over a new store, as the arguments ask for it; their own stop and fate are left out of
     /// account. The error is want of memory.
-    pub fn new(alloc: Global, arguments: &Arguments, text: &[u8]) -> io::Result<CrashMap> {
+    pub(crate) fn new(alloc: Global, arguments: &Arguments, text: &[u8]) -> io::Result<CrashMap> {
         let mut map = CrashMap {
             prefixes: Vec::new(alloc),
             calls: Vec::new(alloc),
@@ -78,7 +79,7 @@ impl CrashMap {
                 ..*arguments
             };
             let mut output = Vec::new(alloc);
-            program_player::run_script(alloc, &cut, text, &mut output)?;
+            run_script(alloc, &cut, text, &mut output)?;
             match behind_stop(alloc, &output)? {
                 Some(lines) => *number = self.number_of(lines)?,
                 None => return Ok(None),

@@ -136,7 +136,7 @@ fn write_legend<W: Write>(output: &mut W, number: usize, lines: &[u8]) -> io::Re
 }
 
 /// Draws the map: writes and syncs down, fates across, and a colour for what was left, with a legend beside it.
-pub fn write_picture<W: Write>(output: &mut W, map: &CrashMap) -> io::Result<()> {
+pub(crate) fn write_picture<W: Write>(output: &mut W, map: &CrashMap) -> io::Result<()> {
     let calls = calls_of(map);
     let each = call_height(calls);
     let legend = (map.prefixes.len() as u64 % 100_000).saturating_mul(LINE);

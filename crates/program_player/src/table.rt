@@ -36,7 +36,7 @@ fn write_prefix<W: Write>(output: &mut W, number: usize, lines: &[u8]) -> io::Re
 
 /// Writes the map: a line for writes and syncs in a row that leave the same, with the number of what each fate leaves,
 /// parted by tabs; and then what was left, by its number.
-pub fn write_table<W: Write>(output: &mut W, map: &CrashMap) -> io::Result<()> {
+pub(crate) fn write_table<W: Write>(output: &mut W, map: &CrashMap) -> io::Result<()> {
     write!(output, "call")?;
     for fate in FATES {
         write!(output, "\t{fate}")?;
