@@ -11,7 +11,7 @@ CRATES = pathlib.Path(__file__).resolve().parent.parent / "crates"
 TYPES = {"uint32_t": "u32", "uint64_t": "u64", "uint16_t": "u16", "uint8_t": "u8", "int32_t": "i32", "bool": "bool",
          "void": "None", "size_t": "usize", "void *": "*mut u8"}
 STRUCTS = {"nsf_event": ("asked", "Asked"), "nsf_place": ("spot", "Spot"), "nsf_reply": ("told", "Told"),
-           "nsf_status": ("told", "Stat"), "nsf_handle": ("handle", "Handle")}
+           "nsf_status": ("told", "Stat"), "nsf_handle": ("handle", "Handle"), "nsf_bounds": ("bounds", "Bounds")}
 # The names of parameters that are others in the header.
 NAMES = {"asked": "event", "told": "reply", "stat": "status", "spots": "places", "room": "sectors"}
 LIMITS = {"NSF_KEY_MAX": "record_values/src/key.rt", "NSF_BODY_MAX": "record_values/src/key.rt", "NSF_SLOTS_PER_PAGE": "record_values/src/rid.rt"}
@@ -111,7 +111,7 @@ def declared(listed):
 
 
 def export_faults(header):
-    files = ("opening", "saving", "serving_calls")
+    files = ("opening", "saving", "scanning", "serving_calls")
     source = "".join(re.sub(r"//[^\n]*", "", text(f"nsf_c/src/{file}.rt")) for file in files)
     exports = re.findall(r'pub extern "C" fn (\w+)\((.*?)\)(?: -> (\w+))?\s*(?:requires|ensures|\{)', source, flags=re.S)
     for name, listed, result in exports:

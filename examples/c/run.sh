@@ -1,14 +1,17 @@
 #!/bin/sh
-# Builds the library, proving it, and runs the example over it: run.sh [--time]. With NSF_LIBRARY set to a libnsf_c.a that is built
-# already, that is taken.
+# Builds the library, proving it, and runs the examples over it: run.sh [--time]. With NSF_LIBRARY set to a libnsf_c.a that is built
+# already, that is taken. CFLAGS are passed on, as -fsanitize=thread.
 set -e
 here=$(cd "$(dirname "$0")" && pwd)
 . "$here/../library.sh"
 work=$(mktemp -d)
 trap 'rm -rf "$work"' EXIT
-${CC:-cc} -std=c99 -O2 -Wall -Wextra -pedantic -I"$header" "$here/kv.c" $libraries -pthread -o "$work/kv"
+for it in kv shared; do
+    ${CC:-cc} -std=c99 -O2 -Wall -Wextra -pedantic $CFLAGS -I"$header" "$here/$it.c" $libraries -pthread -o "$work/$it"
+done
 if [ "$1" = --time ]; then
     "$work/kv" --time "$work/bank"
+    "$work/shared" "$work/shared-bank" 3
 else
-    "$work/kv" "$work/bank" | diff - "$here/expected.txt" && echo "as expected"
+    { "$work/kv" "$work/bank" && "$work/shared" "$work/shared-bank"; } | diff - "$here/expected.txt" && echo "as expected"
 fi

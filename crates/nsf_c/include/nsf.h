@@ -173,7 +173,9 @@ enum {
     NSF_BUILDING = 26,    /* it is being built, and no pair is checkpointed */
     NSF_BUILDING_AT = 27, /* key, page, slot: the pair that is checkpointed last */
     NSF_COMPLETE = 28,
-    NSF_SKIPPED = 29      /* what was asked for isn't met, and nothing was done */
+    NSF_SKIPPED = 29,     /* what was asked for isn't met, and nothing was done */
+    NSF_PAIR = 30,        /* key, page, slot: a visible pair */
+    NSF_AT_END = 31       /* no pair of the range is left */
 };
 
 /* What was not set is 0. Behind the bytes of a key or a body are zeros. */
@@ -189,6 +191,18 @@ typedef struct nsf_reply {
 } nsf_reply;
 
 #define NSF_NO_REPLY {0, 0, 0, 0, 0, 0, {0}, {0}}
+
+/* A range of keys, and perhaps a pair behind which to go on. The keys stand beside it. */
+enum { NSF_UNBOUNDED = 0, NSF_INCLUDED = 1, NSF_EXCLUDED = 2 };
+
+typedef struct nsf_bounds {
+    uint32_t from;      /* NSF_UNBOUNDED: from the first key on; NSF_INCLUDED, NSF_EXCLUDED: from a key on, with it or without */
+    uint32_t to;        /* so its end */
+    uint32_t goes_on;   /* 1: the pair is given behind which to go on; 0: none is */
+    uint32_t committed; /* 1: the index as is committed, 0: as it stands, with what isn't committed yet */
+    uint32_t page;      /* the place of the pair that is given */
+    uint16_t slot;
+} nsf_bounds;
 
 /* What a store is, and how far it has come. */
 typedef struct nsf_status {
@@ -238,6 +252,17 @@ uint32_t nsf_flush(nsf_handle *handle, nsf_reply *reply);
 
 /* Takes an image of the store and makes it current. Replies NSF_FLIPPED. */
 uint32_t nsf_image(nsf_handle *handle, nsf_reply *reply);
+
+/* Tells the first visible pair of a range of keys, or the first one behind the pair that is given by its key and its place: NSF_PAIR, or
+ * NSF_AT_END where none is left. Pairs come in the order of their keys' bytes, then of their places. Where no index is complete it is
+ * refused by 18 or 19, a number that is none of those above by 24, a key that is too long by 14, a slot that is on no page by 10; of
+ * several it is one of these. */
+uint32_t nsf_next(nsf_handle *handle, const nsf_bounds *bounds, const uint8_t *from, size_t from_length, const uint8_t *to,
+                  size_t to_length, const uint8_t *behind, size_t behind_length, nsf_reply *reply);
+
+/* Tells the committed row at a place: NSF_ROW or NSF_NO_ROW, or 10 for a slot that is on no page. What isn't committed yet is left out,
+ * also where the caller made it. */
+uint32_t nsf_get_committed(nsf_handle *handle, const nsf_place *place, nsf_reply *reply);
 
 /* Whether the index fits the rows, so that all that is promised holds of this store: true of each one that only these calls
  * wrote. To be asked while no transaction is active, as behind nsf_open. */
@@ -371,6 +396,72 @@ static inline uint32_t nsf_get(nsf_handle *handle, nsf_place place, nsf_reply *r
 {
     nsf_event event = {NSF_GET, place.page, 0, place.slot};
     return nsf_ask(handle, &event, reply);
+}
+
+/* A scan: a range of keys, and how far it has come. */
+typedef struct nsf_scan {
+    nsf_bounds bounds;
+    uint8_t from[NSF_KEY_MAX];
+    uint8_t to[NSF_KEY_MAX];
+    uint8_t behind[NSF_KEY_MAX];
+    size_t from_length;
+    size_t to_length;
+    size_t behind_length;
+} nsf_scan;
+
+/* A scan of all keys. Set `bounds.committed` to read what is committed. */
+static inline nsf_scan nsf_scan_all(void)
+{
+    nsf_scan scan = {{NSF_UNBOUNDED, NSF_UNBOUNDED, 0, 0, 0, 0}, {0}, {0}, {0}, 0, 0, 0};
+    return scan;
+}
+
+/* A scan from one key to another, each with the scan's bound (NSF_INCLUDED, NSF_EXCLUDED, or NSF_UNBOUNDED, and then the key is not
+ * looked at). A key that is too long is refused by nsf_scan_next. */
+static inline nsf_scan nsf_scan_between(uint32_t from, const void *first, size_t first_length, uint32_t to, const void *last,
+                                        size_t last_length)
+{
+    nsf_scan scan = nsf_scan_all();
+    scan.bounds.from = from;
+    scan.bounds.to = to;
+    scan.from_length = from == NSF_UNBOUNDED ? 0 : first_length;
+    scan.to_length = to == NSF_UNBOUNDED ? 0 : last_length;
+    for (size_t i = 0; i < scan.from_length && i < NSF_KEY_MAX; i++)
+        scan.from[i] = ((const uint8_t *)first)[i];
+    for (size_t i = 0; i < scan.to_length && i < NSF_KEY_MAX; i++)
+        scan.to[i] = ((const uint8_t *)last)[i];
+    return scan;
+}
+
+/* A scan of the keys that begin with these bytes. */
+static inline nsf_scan nsf_scan_prefix(const void *prefix, size_t length)
+{
+    nsf_scan scan = nsf_scan_between(NSF_INCLUDED, prefix, length, NSF_INCLUDED, prefix, length);
+    for (size_t i = length; i < NSF_KEY_MAX; i++)
+        scan.to[i] = 255;
+    if (length < NSF_KEY_MAX)
+        scan.to_length = NSF_KEY_MAX;
+    return scan;
+}
+
+/* The next pair of the scan: NSF_PAIR, or NSF_AT_END. Between two calls the store may change: no pair comes twice, and each that was
+ * visible throughout comes. */
+static inline uint32_t nsf_scan_next(nsf_handle *handle, nsf_scan *scan, nsf_reply *reply)
+{
+    uint32_t refused;
+    if (scan->from_length > NSF_KEY_MAX || scan->to_length > NSF_KEY_MAX)
+        return NSF_KEY_TOO_LONG;
+    refused = nsf_next(handle, &scan->bounds, scan->from, scan->from_length, scan->to, scan->to_length, scan->behind,
+                       scan->behind_length, reply);
+    if (!refused && reply->kind == NSF_PAIR) {
+        scan->bounds.goes_on = 1;
+        scan->bounds.page = reply->page;
+        scan->bounds.slot = reply->slot;
+        scan->behind_length = reply->key_length;
+        for (size_t i = 0; i < reply->key_length; i++)
+            scan->behind[i] = reply->key[i];
+    }
+    return refused;
 }
 
 /* Puts as many places as there is room for, and tells in `found` how many there are. */

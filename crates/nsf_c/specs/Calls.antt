@@ -1,10 +1,12 @@
 -- What the calls do.
-use Rattle.std.specs.Prelude.{◌≡◌, ◌⊎◌, ℕ, false, ◌-◌, ◌/◌, ◌++◌, List, length, take, drop, min}
+use Rattle.std.specs.Prelude.{◌≡◌, ◌⊎◌, ◌<◌, ◌≤◌, ℕ, false, ◌-◌, ◌/◌, ◌++◌, List, length, take, drop, min}
+use Rattle.std.specs.FinMap as map
 use Rattle.std.specs.Simd.{first_chunks}
 use Rattle.std.specs.declared.alloc.Global.{Global}
 use Rattle.record_values.specs.GeometryValue.{GeometryValue, IsGeometry}
 use Rattle.record_values.specs.GeometryValue as geometry
 use Rattle.record_values.specs.Refusals.{number_of}
+use Rattle.record_values.specs.declared.rid.TheConstants.{SLOTS_PER_PAGE}
 use Rattle.record_values.specs.declared.error.Error.{Error}
 use Rattle.record_values.specs.declared.error.Error.TheVariants.{NoMemory, DeviceFailed, BadGeometry}
 use Rattle.sector_device.specs.Disk.{CrashState, sector, IsSynced}
@@ -12,7 +14,9 @@ use Rattle.store_file.specs.FileDisk.{past_of, failures_of}
 use Rattle.flip_image.specs.declared.half.Half.TheVariants.{A}
 use Rattle.flip_image.specs.Store.{AreGatesClosed, IsFormatted}
 use Rattle.core_model.specs.Histories.{CanOpen}
+use Rattle.core_laws.specs.Holds.{committed_rows}
 use Rattle.core_parts.specs.Opening.{opened_of}
+use Rattle.core_parts.specs.View.{CoreValue}
 use Rattle.restart.specs.Parts.{core_of}
 use Rattle.restart.specs.Store.{Past, IsAt, Survives}
 use Rattle.restart.specs.declared.event.Event.{Event}
@@ -27,7 +31,7 @@ use Rattle.nsf_c.specs.declared.told.Stat.{Stat}
 use Rattle.nsf_c.specs.Asked.{Asks, IsBad}
 use Rattle.nsf_c.specs.Handles.{Disk, Opened, Holds, Moves, Reads}
 use Rattle.nsf_c.specs.Spots.{FillsWith}
-use Rattle.nsf_c.specs.Told.{plain, life_told, told_of, status_of}
+use Rattle.nsf_c.specs.Told.{plain, life_told, row_told, told_of, status_of}
 
 -- ---- serving
 
@@ -87,6 +91,16 @@ stat_of s = record {
   pages = serving.pages_of (store_of s);
   life = (life_told (serving.life_of (store_of s))).kind;
 }
+
+-- its core
+abbrev pub core_in : Opened → CoreValue
+core_in s = core_of (serving.engine_of (store_of s))
+
+-- The committed row at the place is told, or that there is none; or that no page has the slot.
+abbrev pub IsCommittedTold : Spot → ℕ → Told → CoreValue → Type 0
+IsCommittedTold place status told v = ((place.slot < SLOTS_PER_PAGE) × (status ≡ 0)
+    × (told ≡ row_told (map.get (committed_rows v) (record { page = place.page; slot = place.slot }))))
+    ⊎ ((SLOTS_PER_PAGE ≤ place.slot) × (status ≡ 10) × (told ≡ plain 0 0))
 
 -- ---- saving
 

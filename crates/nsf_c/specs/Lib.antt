@@ -5,3 +5,4 @@ pub mod Spots
 pub mod Told
 pub mod Handles
 pub mod Calls
+pub mod Scans

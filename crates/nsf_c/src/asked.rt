@@ -18,7 +18,8 @@ pub struct Asked {
     pub slot: u16,
 }
 
-fn key_of(bytes: &[u8]) -> Result<Key, u32>
+/// The key with these bytes.
+pub(crate) fn key_of(bytes: &[u8]) -> Result<Key, u32>
     ensures ok { IfOk result (λ key. key ≡ bytes.now) }
     ensures fits { OnOk result (length bytes.now ≤ KEY_MAX) }
     ensures too_long { IfErr result (λ n. (n ≡ 14) × (KEY_MAX < length bytes.now)) }
@@ -40,6 +41,18 @@ fn body_of(bytes: &[u8]) -> Result<Body, u32>
     }
 }
 
+/// The place with these numbers.
+pub(crate) fn rid_of(page: u32, slot: u16) -> Result<Rid, u32>
+    ensures ok { IfOk result (λ rid. rid ≡ record { page = page; slot = slot }) }
+    ensures inside { OnOk result (slot < SLOTS_PER_PAGE) }
+    ensures none { IfErr result (λ n. (n ≡ 10) × (SLOTS_PER_PAGE ≤ slot)) }
+{
+    if slot >= SLOTS_PER_PAGE {
+        return Err(u32::from(Error::NoSuchRow.number()));
+    }
+    Ok(Rid { page, slot })
+}
+
 impl Asked {
     fn txn(&self) -> Result<Txn, u32>
         ensures ok { IfOk result (λ txn. txn ≡ self.now.txn) }
@@ -57,13 +70,7 @@ impl Asked {
         ensures inside { OnOk result (self.now.slot < SLOTS_PER_PAGE) }
         ensures none { IfErr result (λ n. (n ≡ 10) × (SLOTS_PER_PAGE ≤ self.now.slot)) }
     {
-        if self.slot >= SLOTS_PER_PAGE {
-            return Err(u32::from(Error::NoSuchRow.number()));
-        }
-        Ok(Rid {
-            page: self.page,
-            slot: self.slot,
-        })
+        rid_of(self.page, self.slot)
     }
 
     // What is asked of a transaction.

@@ -98,3 +98,7 @@ pub const BUILDING_AT: u32 = 27;
 pub const COMPLETE: u32 = 28;
 /// What was asked for isn't met, and nothing was done.
 pub const SKIPPED: u32 = 29;
+/// A visible pair of the range: its key, and the place of its row.
+pub const PAIR: u32 = 30;
+/// No pair of the range is left.
+pub const AT_END: u32 = 31;

@@ -1,6 +1,7 @@
 //! What C is told.
 ghost use Rattle.std.specs.Prelude.{◌≡◌, ◌≤◌, length};
 ghost use Rattle.nsf_c.specs.Told.{padded, plain, placed, paired, rowed, built_told, cleaned_told, life_told, row_told};
+ghost use Rattle.nsf_c.specs.Scans.{shown};
 ghost use Rattle.nsf_c.specs.Told.{sector_of, told_of, status_of};
 
 use crate::kind;
@@ -139,12 +140,23 @@ pub(crate) fn life_told(life: &Life) -> Told
     }
 }
 
-fn row_told(row: &Option<Row>) -> Told
+/// What is told of a row that was looked for.
+pub(crate) fn row_told(row: &Option<Row>) -> Told
     ensures { result ≡ row_told row.now }
 {
     match row {
         Some(row) => rowed(kind::ROW, row),
         None => plain(kind::NO_ROW, 0),
+    }
+}
+
+/// What is told of the first of these pairs.
+pub(crate) fn shown(pairs: &[Pair]) -> Told
+    ensures { result ≡ shown pairs.now }
+{
+    match pairs.first() {
+        Some(pair) => paired(kind::PAIR, 0, pair),
+        None => plain(kind::AT_END, 0),
     }
 }
 

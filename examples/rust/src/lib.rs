@@ -1,8 +1,10 @@
 //! NSF from Rust, over its C interface: a store that is closed where it is dropped.
 //!
-//! What the C interface asks of who calls is kept by this crate's types: a store is owned, it stays on one thread, and no call
-//! overlaps another.
+//! What the C interface asks of who calls is kept by this crate's types: a store is owned, it stays on one thread, and
+//! no call overlaps another. Many threads share one by its owner, a thread to which each has a [`Seat`].
 mod device;
+mod scan;
+mod shared;
 mod sys;
 
 use device::Device;
@@ -11,13 +13,17 @@ use std::fs::File;
 use std::io::{self, Read, Seek, SeekFrom, Write};
 use std::marker::PhantomData;
 
+pub use scan::{Pair, Range, Scan};
+pub use shared::{Seat, Shared};
 pub use sys::Place;
 
-/// Why a call was refused: by its number in nsf.h; as the transaction owes a step or has a change left; or by the system.
+/// Why a call was refused: by its number in nsf.h; as the transaction owes a step or has a change left; or by the
+/// system. Or what was asked for is done, and isn't safe, as a flush was refused by this number.
 #[derive(Debug)]
 pub enum Refused {
     Store(u32),
     Unready,
+    Unsafe(u32),
     System(io::Error),
 }
 
@@ -56,6 +62,13 @@ impl fmt::Display for Refused {
                 None => write!(f, "{number}"),
             },
             Refused::Unready => f.write_str("the transaction owes a step, or is rolling back"),
+            Refused::Unsafe(number) => {
+                write!(
+                    f,
+                    "it is committed, and not safe: {}",
+                    Refused::Store(*number)
+                )
+            }
             Refused::System(error) => write!(f, "{error}"),
         }
     }
@@ -98,6 +111,25 @@ pub struct Row {
     pub body: Vec<u8>,
 }
 
+/// How far an index is.
+#[derive(Clone, Copy, Debug, PartialEq, Eq)]
+pub enum Life {
+    Absent,
+    Building,
+    Complete,
+}
+
+/// What a store is, and how far it has come: the number of the last record made, up to which number all are synced, how
+/// many attempts the builder made since the store was opened, the pages of rows, and the life of the index.
+#[derive(Clone, Copy, Debug, PartialEq, Eq)]
+pub struct Status {
+    pub last: u64,
+    pub horizon: u64,
+    pub attempts: u64,
+    pub pages: u32,
+    pub life: Life,
+}
+
 /// A store that is open. It is closed where it is dropped, before its device is.
 pub struct Store {
     handle: sys::Handle,
@@ -126,7 +158,18 @@ mod kind {
     pub const DONE: u32 = 12;
     pub const IDLE: u32 = 13;
     pub const ROW: u32 = 22;
+    pub const ABSENT: u32 = 25;
+    pub const COMPLETE: u32 = 28;
     pub const SKIPPED: u32 = 29;
+    pub const PAIR: u32 = 30;
+}
+
+// The row that is told of, if one is.
+fn row_of(reply: &sys::Reply) -> Option<Row> {
+    (reply.kind == kind::ROW).then(|| Row {
+        key: reply.key[..usize::from(reply.key_length)].to_vec(),
+        body: reply.body[..usize::from(reply.body_length)].to_vec(),
+    })
 }
 
 impl Store {
@@ -355,13 +398,14 @@ impl Store {
             ..sys::Event::default()
         };
         let reply = self.ask(event, &[], &[], &mut [])?;
-        if reply.kind != kind::ROW {
-            return Ok(None);
-        }
-        Ok(Some(Row {
-            key: reply.key[..usize::from(reply.key_length)].to_vec(),
-            body: reply.body[..usize::from(reply.body_length)].to_vec(),
-        }))
+        Ok(row_of(&reply))
+    }
+
+    /// The committed row at a place, without what isn't committed yet.
+    pub fn get_committed(&mut self, place: Place) -> Result<Option<Row>, Refused> {
+        let mut reply = sys::Reply::NONE;
+        checked(unsafe { sys::nsf_get_committed(&mut self.handle, &place, &mut reply) })?;
+        Ok(row_of(&reply))
     }
 
     /// The places of the rows with a key.
@@ -393,6 +437,23 @@ impl Store {
         let mut reply = sys::Reply::NONE;
         checked(unsafe { sys::nsf_image(&mut self.handle, &mut reply) })?;
         Ok(reply.number)
+    }
+
+    /// How far the store has come.
+    pub fn status(&mut self) -> Status {
+        let mut status = sys::Status::default();
+        unsafe { sys::nsf_stat(&mut self.handle, &mut status) };
+        Status {
+            last: status.last,
+            horizon: status.horizon,
+            attempts: status.attempts,
+            pages: status.pages,
+            life: match status.life {
+                kind::ABSENT => Life::Absent,
+                kind::COMPLETE => Life::Complete,
+                _ => Life::Building,
+            },
+        }
     }
 
     /// Whether the index fits the rows. To be asked while no transaction is active.

@@ -47,6 +47,27 @@ impl Reply {
     };
 }
 
+#[repr(C)]
+#[derive(Clone, Copy, Default)]
+pub struct Bounds {
+    pub from: u32,
+    pub to: u32,
+    pub goes_on: u32,
+    pub committed: u32,
+    pub page: u32,
+    pub slot: u16,
+}
+
+#[repr(C)]
+#[derive(Clone, Copy, Default)]
+pub struct Status {
+    pub last: u64,
+    pub horizon: u64,
+    pub attempts: u64,
+    pub pages: u32,
+    pub life: u32,
+}
+
 extern "C" {
     pub fn nsf_sectors(pages: u32, entries: u32, slots: u32) -> u64;
     pub fn nsf_create(handle: *mut Handle, line: i32, pages: u32, entries: u32, slots: u32) -> u32;
@@ -64,6 +85,19 @@ extern "C" {
         room: usize,
         reply: *mut Reply,
     ) -> u32;
+    pub fn nsf_next(
+        handle: *mut Handle,
+        bounds: *const Bounds,
+        from: *const u8,
+        from_length: usize,
+        to: *const u8,
+        to_length: usize,
+        behind: *const u8,
+        behind_length: usize,
+        reply: *mut Reply,
+    ) -> u32;
+    pub fn nsf_get_committed(handle: *mut Handle, place: *const Place, reply: *mut Reply) -> u32;
+    pub fn nsf_stat(handle: *mut Handle, status: *mut Status);
     pub fn nsf_flush(handle: *mut Handle, reply: *mut Reply) -> u32;
     pub fn nsf_image(handle: *mut Handle, reply: *mut Reply) -> u32;
     pub fn nsf_can_open(handle: *mut Handle) -> bool;

@@ -1,0 +1,500 @@
+//! A store that many threads share.
+//!
+//! It belongs to one thread, its owner, to which seats hand what they want done. Commits that come meanwhile are made
+//! safe by one flush. Between what they want the owner builds the index, if it isn't complete.
+use crate::scan::{Pair, Range};
+use crate::sys::Place;
+use crate::{Built, Life, Refused, Row, Status, Store};
+use std::sync::mpsc::{self, Receiver, RecvTimeoutError, Sender, SyncSender};
+use std::thread::{self, JoinHandle};
+use std::time::{Duration, Instant};
+
+// So many steps of the builder behind each look at what is wanted, and so many before its records are flushed.
+const BUILD_STEPS: u32 = 32;
+const BUILD_STEPS_A_FLUSH: u32 = 1024;
+
+type Job = Box<dyn FnOnce(&mut Owner) + Send>;
+type Waiting = Box<dyn FnOnce(Result<(), u32>) + Send>;
+
+enum Wanted {
+    // what is done at once
+    Now(Job),
+    // the beginning of a transaction, which waits while the index is created or dropped
+    Begin(Job),
+    // the creation (or dropping) of the index, which waits so long until no transaction is active
+    Quiet {
+        job: Job,
+        patience: Duration,
+        drops: bool,
+    },
+    Stop,
+}
+
+// So many things are done at most before what was committed is made safe.
+const BATCH: usize = 64;
+
+// The thread that has the store.
+struct Owner {
+    store: Store,
+    waiting: Vec<Waiting>,
+    held: Vec<Wanted>,
+    quiet: Option<(Job, Option<Instant>)>,
+    active: u64,
+    // transactions of `put` that are to be rolled back yet
+    left: Vec<u64>,
+    unflushed: u32,
+    builds: bool,
+}
+
+impl Owner {
+    fn new(mut store: Store) -> Owner {
+        let builds = is_building(&store.status());
+        Owner {
+            store,
+            waiting: Vec::new(),
+            held: Vec::new(),
+            quiet: None,
+            active: 0,
+            left: Vec::new(),
+            unflushed: 0,
+            builds,
+        }
+    }
+
+    // A creation or dropping waits, with whoever is to begin behind it; where the index is there already, or is not, it
+    // is answered at once.
+    fn take(&mut self, wanted: Wanted) {
+        let has_index = self.store.status().life != Life::Absent;
+        match wanted {
+            Wanted::Begin(_) | Wanted::Quiet { .. } if self.quiet.is_some() => {
+                self.held.push(wanted)
+            }
+            Wanted::Quiet {
+                job,
+                patience,
+                drops,
+            } if drops == has_index => {
+                self.quiet = Some((job, Instant::now().checked_add(patience)))
+            }
+            Wanted::Now(job) | Wanted::Begin(job) | Wanted::Quiet { job, .. } => job(self),
+            Wanted::Stop => {}
+        }
+    }
+
+    // Serves what waited for quiet, once no transaction is active or its time is over, and takes what waited behind it.
+    fn end_quiet(&mut self) {
+        let is_late = |at: &Option<Instant>| at.is_some_and(|at| Instant::now() >= at);
+        let is_due = self
+            .quiet
+            .as_ref()
+            .is_some_and(|(_, at)| self.active == 0 || is_late(at));
+        if !is_due {
+            return;
+        }
+        if let Some((job, _)) = self.quiet.take() {
+            job(self);
+        }
+        for wanted in std::mem::take(&mut self.held) {
+            self.take(wanted);
+        }
+        self.builds = is_building(&self.store.status());
+    }
+
+    // Rolls back what couldn't be before.
+    fn roll_back_left(&mut self) {
+        while let Some(&txn) = self.left.last() {
+            if self.roll_back(txn).is_err() {
+                return;
+            }
+            self.left.pop();
+        }
+    }
+
+    fn make_safe(&mut self) {
+        let flushed = match self.store.flush() {
+            Ok(_) => Ok(()),
+            Err(Refused::Store(number)) => Err(number),
+            Err(_) => Err(2),
+        };
+        self.unflushed = 0;
+        for waiting in std::mem::take(&mut self.waiting) {
+            waiting(flushed);
+        }
+    }
+
+    fn build_on(&mut self) {
+        for _ in 0..BUILD_STEPS {
+            self.builds = matches!(self.store.build(), Ok(Built::Goes));
+            if !self.builds {
+                break;
+            }
+        }
+        self.unflushed += BUILD_STEPS;
+        if self.unflushed >= BUILD_STEPS_A_FLUSH || !self.builds {
+            self.make_safe();
+        }
+    }
+
+    // The next thing that is wanted; none where none is yet. The error is that nobody is left to want anything.
+    fn next(&self, wanted: &Receiver<Wanted>) -> Result<Option<Wanted>, ()> {
+        if self.builds {
+            return match wanted.try_recv() {
+                Ok(it) => Ok(Some(it)),
+                Err(mpsc::TryRecvError::Empty) => Ok(None),
+                Err(mpsc::TryRecvError::Disconnected) => Err(()),
+            };
+        }
+        let Some((_, at)) = &self.quiet else {
+            return wanted.recv().map(Some).map_err(|_| ());
+        };
+        let Some(at) = at else {
+            return wanted.recv().map(Some).map_err(|_| ());
+        };
+        match wanted.recv_timeout(at.saturating_duration_since(Instant::now())) {
+            Ok(it) => Ok(Some(it)),
+            Err(RecvTimeoutError::Timeout) => Ok(None),
+            Err(RecvTimeoutError::Disconnected) => Err(()),
+        }
+    }
+
+    fn serve(mut self, wanted: &Receiver<Wanted>) -> Result<(), Refused> {
+        let mut goes_on = true;
+        while goes_on {
+            let first = match self.next(wanted) {
+                Ok(first) => first,
+                Err(()) => break,
+            };
+            for it in first.into_iter().chain(wanted.try_iter().take(BATCH)) {
+                goes_on &= !matches!(it, Wanted::Stop);
+                self.take(it);
+            }
+            self.roll_back_left();
+            self.end_quiet();
+            if !self.waiting.is_empty() {
+                self.make_safe();
+            }
+            if self.builds {
+                self.build_on();
+            }
+        }
+        self.store.flush().map(|_| ())
+    }
+}
+
+fn is_building(status: &Status) -> bool {
+    matches!(status.life, Life::Building)
+}
+
+/// A store that is shared. Where it is dropped, what was committed is flushed, and the store is closed.
+pub struct Shared {
+    wanted: Sender<Wanted>,
+    owner: Option<JoinHandle<Result<(), Refused>>>,
+}
+
+/// A seat at a shared store, of one thread at a time.
+#[derive(Clone)]
+pub struct Seat {
+    wanted: Sender<Wanted>,
+}
+
+impl Shared {
+    /// Shares the store that this opens or makes, on the owner's thread.
+    pub fn start(
+        open: impl FnOnce() -> Result<Store, Refused> + Send + 'static,
+    ) -> Result<Shared, Refused> {
+        let (wanted, asked) = mpsc::channel();
+        let (opened, is_open) = mpsc::sync_channel(1);
+        let owner = thread::spawn(move || match open() {
+            Ok(store) => {
+                let _ = opened.send(Ok(()));
+                Owner::new(store).serve(&asked)
+            }
+            Err(refused) => {
+                let _ = opened.send(Err(refused));
+                Ok(())
+            }
+        });
+        is_open.recv().unwrap_or(Err(Refused::Store(STOPPED)))?;
+        Ok(Shared {
+            wanted,
+            owner: Some(owner),
+        })
+    }
+
+    /// A seat.
+    pub fn seat(&self) -> Seat {
+        Seat {
+            wanted: self.wanted.clone(),
+        }
+    }
+
+    /// Makes what was committed safe, and closes the store. Calls of seats are refused from then on.
+    pub fn close(mut self) -> Result<(), Refused> {
+        self.stop()
+    }
+
+    fn stop(&mut self) -> Result<(), Refused> {
+        let _ = self.wanted.send(Wanted::Stop);
+        match self.owner.take().map(JoinHandle::join) {
+            Some(Ok(flushed)) => flushed,
+            Some(Err(_)) => Err(Refused::Store(STOPPED)),
+            None => Ok(()),
+        }
+    }
+}
+
+impl Drop for Shared {
+    fn drop(&mut self) {
+        let _ = self.stop();
+    }
+}
+
+// The number of the refusal of what is asked of a store that was closed.
+const STOPPED: u32 = 20;
+
+fn stopped<E>(_: E) -> Refused {
+    Refused::Store(STOPPED)
+}
+
+fn answered<T>(
+    answer: SyncSender<Result<T, Refused>>,
+    does: impl FnOnce(&mut Owner) -> Result<T, Refused> + Send + 'static,
+) -> Job
+where
+    T: Send + 'static,
+{
+    Box::new(move |owner| {
+        let _ = answer.send(does(owner));
+    })
+}
+
+// What is answered once it is safe.
+fn answered_safe<T>(
+    answer: SyncSender<Result<T, Refused>>,
+    does: impl FnOnce(&mut Owner) -> Result<T, Refused> + Send + 'static,
+) -> Job
+where
+    T: Send + 'static,
+{
+    Box::new(move |owner| match does(owner) {
+        Ok(value) => owner.waiting.push(Box::new(move |flushed| {
+            let _ = answer.send(flushed.map(|()| value).map_err(Refused::Unsafe));
+        })),
+        Err(refused) => {
+            let _ = answer.send(Err(refused));
+        }
+    })
+}
+
+impl Owner {
+    fn begin(&mut self) -> Result<u64, Refused> {
+        let txn = self.store.begin()?;
+        self.active += 1;
+        Ok(txn)
+    }
+
+    fn commit(&mut self, txn: u64) -> Result<(), Refused> {
+        self.store.commit(txn)?;
+        self.active -= 1;
+        Ok(())
+    }
+
+    fn roll_back(&mut self, txn: u64) -> Result<(), Refused> {
+        self.store.roll_back(txn)?;
+        self.active -= 1;
+        Ok(())
+    }
+
+    fn put(&mut self, key: &[u8], body: &[u8]) -> Result<Place, Refused> {
+        let txn = self.begin()?;
+        let put = self.store.insert(txn, key, body).and_then(|place| {
+            self.commit(txn)?;
+            Ok(place)
+        });
+        if put.is_err() && self.roll_back(txn).is_err() {
+            self.left.push(txn);
+        }
+        put
+    }
+}
+
+// A transaction that is rolled back where this is dropped.
+struct Begun<'a> {
+    seat: &'a Seat,
+    txn: u64,
+}
+
+impl Drop for Begun<'_> {
+    fn drop(&mut self) {
+        let _ = self.seat.roll_back(self.txn);
+    }
+}
+
+impl Seat {
+    fn want<T: Send + 'static>(
+        &self,
+        wanted: impl FnOnce(SyncSender<Result<T, Refused>>) -> Wanted,
+    ) -> Result<T, Refused> {
+        let (answer, answered) = mpsc::sync_channel(1);
+        self.wanted.send(wanted(answer)).map_err(stopped)?;
+        answered.recv().map_err(stopped)?
+    }
+
+    fn ask<T: Send + 'static>(
+        &self,
+        does: impl FnOnce(&mut Owner) -> Result<T, Refused> + Send + 'static,
+    ) -> Result<T, Refused> {
+        self.want(|answer| Wanted::Now(answered(answer, does)))
+    }
+
+    /// Begins a transaction. While the index is to be created or dropped, it waits.
+    pub fn begin(&self) -> Result<u64, Refused> {
+        self.want(|answer| Wanted::Begin(answered(answer, |owner| owner.begin())))
+    }
+
+    /// Inserts a row.
+    pub fn insert(&self, txn: u64, key: &[u8], body: &[u8]) -> Result<Place, Refused> {
+        let (key, body) = (key.to_vec(), body.to_vec());
+        self.ask(move |owner| owner.store.insert(txn, &key, &body))
+    }
+
+    /// Deletes the row at a place.
+    pub fn delete(&self, txn: u64, place: Place) -> Result<(), Refused> {
+        self.ask(move |owner| owner.store.delete(txn, place))
+    }
+
+    /// Puts another row in place of the one at a place.
+    pub fn update(&self, txn: u64, place: Place, key: &[u8], body: &[u8]) -> Result<(), Refused> {
+        let (key, body) = (key.to_vec(), body.to_vec());
+        self.ask(move |owner| owner.store.update(txn, place, &key, &body))
+    }
+
+    /// Commits, and waits until the transaction is safe. By `Refused::Unsafe` it is committed, and not safe yet; by any
+    /// other refusal it is active as before.
+    pub fn commit(&self, txn: u64) -> Result<(), Refused> {
+        self.want(|answer| Wanted::Now(answered_safe(answer, move |owner| owner.commit(txn))))
+    }
+
+    /// Commits, and waits for nothing: it is safe once `wait` answered behind it.
+    pub fn commit_later(&self, txn: u64) -> Result<(), Refused> {
+        self.ask(move |owner| owner.commit(txn))
+    }
+
+    /// Makes the steps that a change of the transaction still owes, where one was refused.
+    pub fn finish(&self, txn: u64) -> Result<(), Refused> {
+        self.ask(move |owner| owner.store.finish(txn))
+    }
+
+    /// Waits until all that was committed before is safe.
+    pub fn wait(&self) -> Result<(), Refused> {
+        self.want(|answer| Wanted::Now(answered_safe(answer, |_| Ok(()))))
+    }
+
+    /// Takes back what a transaction did, and ends it.
+    pub fn roll_back(&self, txn: u64) -> Result<(), Refused> {
+        self.ask(move |owner| owner.roll_back(txn))
+    }
+
+    /// Inserts a row in a transaction of its own, and waits until it is safe. By `Refused::Unsafe` the row is there, and
+    /// not safe yet; by any other refusal it isn't.
+    pub fn put(&self, key: &[u8], body: &[u8]) -> Result<Place, Refused> {
+        let (key, body) = (key.to_vec(), body.to_vec());
+        self.want(|answer| {
+            Wanted::Begin(answered_safe(answer, move |owner| owner.put(&key, &body)))
+        })
+    }
+
+    /// Does this in a transaction, which is committed where it answers, and else rolled back, also where it panics. By
+    /// `Refused::Unsafe` it is committed, and not safe yet.
+    pub fn transact<T>(
+        &self,
+        does: impl FnOnce(&Seat, u64) -> Result<T, Refused>,
+    ) -> Result<T, Refused> {
+        let txn = self.begin()?;
+        let begun = Begun { seat: self, txn };
+        let value = does(self, txn)?;
+        match self.commit(txn) {
+            Ok(()) => {
+                std::mem::forget(begun);
+                Ok(value)
+            }
+            Err(Refused::Unsafe(number)) => {
+                std::mem::forget(begun);
+                Err(Refused::Unsafe(number))
+            }
+            Err(refused) => Err(refused),
+        }
+    }
+
+    /// The row at a place, committed or not.
+    pub fn get(&self, place: Place) -> Result<Option<Row>, Refused> {
+        self.ask(move |owner| owner.store.get(place))
+    }
+
+    /// The committed row at a place.
+    pub fn get_committed(&self, place: Place) -> Result<Option<Row>, Refused> {
+        self.ask(move |owner| owner.store.get_committed(place))
+    }
+
+    /// The places of the rows with a key.
+    pub fn find(&self, key: &[u8]) -> Result<Vec<Place>, Refused> {
+        let key = key.to_vec();
+        self.ask(move |owner| owner.store.find(&key))
+    }
+
+    /// The next pairs of a range, so many at most, all of one moment; fewer where no more are left.
+    pub fn scan(&self, range: &mut Range, limit: usize) -> Result<Vec<Pair>, Refused> {
+        let mut here = range.clone();
+        let (pairs, there) = self.ask(move |owner| {
+            let mut pairs = Vec::new();
+            while pairs.len() < limit {
+                match here.read_next(&mut owner.store)? {
+                    Some(pair) => pairs.push(pair),
+                    None => break,
+                }
+            }
+            Ok((pairs, here))
+        })?;
+        *range = there;
+        Ok(pairs)
+    }
+
+    /// Creates the index once no transaction is active; others wait so long before they begin one. Where some are active
+    /// when the time is over, it is refused (16), and all is as before. Who calls it has no transaction of its own. The
+    /// owner then builds it.
+    pub fn create_index(&self, patience: Duration) -> Result<(), Refused> {
+        self.want(|answer| {
+            let job = answered_safe(answer, |owner: &mut Owner| owner.store.create_index());
+            Wanted::Quiet {
+                job,
+                patience,
+                drops: false,
+            }
+        })
+    }
+
+    /// Drops the index, complete or not, as `create_index` creates it.
+    pub fn drop_index(&self, patience: Duration) -> Result<(), Refused> {
+        self.want(|answer| {
+            let job = answered_safe(answer, |owner: &mut Owner| owner.store.drop_index());
+            Wanted::Quiet {
+                job,
+                patience,
+                drops: true,
+            }
+        })
+    }
+
+    /// Has the owner go on with a build that a refusal ended.
+    pub fn build_on(&self) -> Result<(), Refused> {
+        self.ask(|owner| {
+            owner.builds = is_building(&owner.store.status());
+            Ok(())
+        })
+    }
+
+    /// How far the store and its index are.
+    pub fn status(&self) -> Result<Status, Refused> {
+        self.ask(|owner| Ok(owner.store.status()))
+    }
+}
