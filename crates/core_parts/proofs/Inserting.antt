@@ -1,12 +1,12 @@
 -- Which replies to an insertion are allowed.
 use Rattle.core_model.specs.Changes.{as_list}
-use Rattle.std.proofs.Common.{Bool, List, None, Option, Some, ap, arith, cond, false, inl, inr, leb, leb-false, length, refl, subst, sym, true, ℕ, ◌++◌, ◌+◌}
+use Rattle.std.proofs.Common.{Bool, Err, List, None, Ok, Option, Result, Some, [], ap, arith, cond, false, inl, inr, leb, leb-false, length, refl, subst, sym, true, ℕ, ◌++◌, ◌+◌}
 use Rattle.std.proofs.Common.{◌<◌, ◌∙◌, ◌≡◌, ◌≢◌, ◌≤◌}
 use Rattle.std.proofs.lemmas.Bool.Decides.{nat_tests}
 use Rattle.std.specs.FinMap.{get, len}
 use Rattle.std.specs.Option.{option_or}
 use Rattle.std.specs.Ordering.{is_lt}
-use Rattle.std.specs.Prelude.{Contains, IsSome, ◌↔◌}
+use Rattle.std.specs.Prelude.{Contains, IfOk, IsSome, ◌↔◌}
 use Rattle.std.specs.declared.cmp.Ordering.{Ordering}
 use Rattle.std.specs.declared.cmp.Ordering.TheVariants.{Equal, Greater, Less}
 use Rattle.heap_pages.specs.Pages as heap
@@ -119,6 +119,9 @@ unheld_by : (o : Option ℕ) → (IsSome o → ⊥) → o ≡ None
 unheld_by None h = refl
 unheld_by (Some u) h = absurd (h refl)
 
+none_listed : (q : Place) → ¬ Contains [] q
+none_listed q at = absurd (omega (arith, at.1))
+
 -- what the heap finds is the place for the row
 pub is_place : (v : CoreValue) (held : List Place) → ((r : Place) → Contains held r ↔ IsSome (holder_of r v.txns.active)) → (r : Place)
     → heap.IsEmptyAndUnheld v.heap held r → ((q : Place) → heap.IsEmptyAndUnheld v.heap held q → rid_cmp q r ≢ Less) → IsPlaceFor v r
@@ -131,6 +134,33 @@ is_place v held are r free least = record {
         none_or_some (holder_of q v.txns.active) other.unheld ((are q).0 has);
   });
 }
+
+pub place_by : (v : CoreValue) (held : List Place) → ((r : Place) → Contains held r ↔ IsSome (holder_of r v.txns.active)) → (found : Result Place Error)
+    → IfOk found (heap.IsEmptyAndUnheld v.heap held)
+    → IfOk found (λ r. (q : Place) → heap.IsEmptyAndUnheld v.heap held q → rid_cmp q r ≢ Less) → IfOk found (IsPlaceFor v)
+place_by v held are (Ok r) free least = is_place v held are r free least
+place_by v held are (Err error) free least = tt
+
+-- so it is where no list was given, and nobody holds what it finds
+pub is_unheld_place : (v : CoreValue) (r : Place) → heap.IsEmptyAndUnheld v.heap [] r
+    → ((q : Place) → heap.IsEmptyAndUnheld v.heap [] q → rid_cmp q r ≢ Less) → holder_of r v.txns.active ≡ None → IsPlaceFor v r
+is_unheld_place v r free least unheld = record {
+  free = record { inside = free.inside; empty = free.empty; unheld = unheld };
+  least = λ q other. least q (record { inside = other.inside; empty = other.empty; not_held = none_listed q });
+}
+
+-- where the heap finds no empty place, none is free
+pub no_empty_place : (v : CoreValue) → ((q : Place) → ¬ heap.IsEmptyAndUnheld v.heap [] q) → (q : Place) → ¬ IsFreePlace v q
+no_empty_place v none q free = none q (record { inside = free.inside; empty = free.empty; not_held = none_listed q })
+
+-- nor where it finds none that is not among the held ones
+pub no_place : (v : CoreValue) (held : List Place) → ((r : Place) → Contains held r ↔ IsSome (holder_of r v.txns.active))
+    → ((q : Place) → ¬ heap.IsEmptyAndUnheld v.heap held q) → (q : Place) → ¬ IsFreePlace v q
+no_place v held are none q free = none q (record {
+  inside = free.inside;
+  empty = free.empty;
+  not_held = λ has. none_or_some (holder_of q v.txns.active) free.unheld ((are q).0 has);
+})
 
 -- a place that nobody holds is there to touch
 pub untouched : (t : ℕ) (r : Place) (es : List (ℕ × TxnState)) → table.change_refusal t es ≡ None → holder_of r es ≡ None → table.touch_refusal t r es ≡ None
@@ -162,9 +192,8 @@ module _ (v : CoreValue) (t : ℕ) (row : Row) (asked : IsReadyOrNone (txn_shown
     ready : a.txn.progress ≡ Ready
     ready = subst IsReadyOrNone a.here asked
 
-    pub insert_unplaced : (held : List Place) → ((r : Place) → Contains held r ↔ IsSome (holder_of r v.txns.active))
-        → ((q : Place) → ¬ heap.IsEmptyAndUnheld v.heap held q) → Serves v e (Refused Error.HeapFull) v
-    insert_unplaced held are none s k st = refusal v s k e Error.HeapFull st.shown
+    pub insert_unplaced : ((q : Place) → ¬ IsFreePlace v q) → Serves v e (Refused Error.HeapFull) v
+    insert_unplaced none s k st = refusal v s k e Error.HeapFull st.shown
         (refused (known v s k st.shown t a.txn a.here) (is_ready v s k st.shown t a.txn a.here ready) Error.HeapFull
         (inr (not_full v s k st.shown t a, inl (full_heap, refl))))
       where
@@ -172,7 +201,7 @@ module _ (v : CoreValue) (t : ℕ) (row : Row) (asked : IsReadyOrNone (txn_shown
         full_heap r free = none r (record {
           inside = (subst (λ n. r.page < n) st.shown.pages free.inside, free.slot);
           empty = ap (λ m. get m r) (sym st.shown.rows) ∙ free.empty;
-          not_held = λ has. none_or_some (holder_of r v.txns.active) (sym (st.shown.holder r) ∙ free.unheld) ((are r).0 has);
+          unheld = sym (st.shown.holder r) ∙ free.unheld;
         })
 
     module _ (r : Place) (place : IsPlaceFor v r) (s : State) (k : Standing) (st : IsState v s k) where

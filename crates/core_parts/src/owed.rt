@@ -42,7 +42,7 @@ impl<A: Allocator + Copy> CoreParts<A> {
         match self.txns.progress(txn) {
             Some(Progress::OwesRow) => {
                 let progress = progress_after_row(&change, indexed);
-                let action = sets_new(&change, indexed);
+                let action = sets_new(&change);
                 self.set_row(number, txn, progress, change.rid, change.rows.new(), action)?
             }
             Some(Progress::OwesEntry) => {

@@ -1,6 +1,6 @@
 //! What a core consists of, and what its steps do to it.
 ghost use Rattle.std.specs.Prelude.{◌≡◌, ◌≢◌, ◌≤◌, ◌<◌, ◌+◌, ◌-◌, ◌++◌, ◌∷◌, [], None, Some, true, false, IfOk, IfErr};
-ghost use Rattle.std.specs.Prelude.{IfSome, IfNone, OnOk, OnErr, IsTrue};
+ghost use Rattle.std.specs.Prelude.{IfSome, IfNone, IsErr, OnOk, OnErr, IsTrue};
 ghost use Rattle.std.specs.FinMap as map;
 ghost use Rattle.record_values.specs.Maps.{set_at};
 ghost use Rattle.marked_index.specs.Index.{pledges_used};
@@ -15,7 +15,7 @@ ghost use Rattle.txn_table.specs.Table as table;
 ghost use Rattle.core_parts.specs.View.{IsSafe, Serves};
 ghost use Rattle.core_parts.specs.Moves.{IsReadyOrNone, txn_shown};
 ghost use Rattle.core_parts.specs.Private.{IsUnchangeable, first_made, mark_first, HasPlacesLeft, HasNoRecord};
-ghost use Rattle.core_parts.specs.Private.{HasRecord, ended, IsAble, IsPlaceFor, IsUnroomy, MayStart};
+ghost use Rattle.core_parts.specs.Private.{HasRecord, ended, IsAble, IsFreePlace, IsPlaceFor, IsUnroomy, MayStart};
 ghost use Rattle.core_parts.specs.Private.{next_change, reserved_of, row_first, row_progress};
 ghost use Rattle.core_parts.specs.Private.{HasNextNumber};
 ghost use Rattle.txn_table.specs.Sound.{IsSoundTable};
@@ -275,9 +275,23 @@ impl<A: Allocator + Copy> CoreParts<A> {
         ensures number { IfOk result (λ p. p.1 ≡ (parts_of self.now).last + 1) }
     {
         self.txns.check_change(txn)?;
-        let rid = self.heap.least_free(self.txns.held_rows())?;
+        let rid = self.free_place()?;
         let number = self.may_add()?;
         Ok((rid, number))
+    }
+
+    // The least place that is empty and held by nobody. Where nobody holds the least empty one, nor one
+    // behind it, the list of the held ones isn't looked through.
+    fn free_place(&self) -> Result<Rid, Error>
+        ensures place { IfOk result (IsPlaceFor (parts_of self.now)) }
+        ensures none { IsErr result → (q : Place) → ¬ IsFreePlace (parts_of self.now) q }
+        ensures heap_full { IfErr result (λ e. e ≡ Error.HeapFull) }
+    {
+        let least_empty = self.heap.least_free(&[])?;
+        if self.txns.are_held_before(least_empty) {
+            return Ok(least_empty);
+        }
+        self.heap.least_free(self.txns.held_rows())
     }
 
     /// The change that the transaction makes next.
@@ -310,7 +324,7 @@ impl<A: Allocator + Copy> CoreParts<A> {
         let indexed = self.indexed();
         let reserved = self.reserved(txn);
         let progress = progress_after_row(&change, indexed);
-        let made = record_of(number, txn, sets_new(&change, indexed));
+        let made = record_of(number, txn, sets_new(&change));
         note(&mut self.txns, &mut self.outbox, made, txn, change)?;
         reserve(
             &mut self.index,

@@ -1,5 +1,5 @@
 //! Steps of a change.
-ghost use Rattle.std.specs.Prelude.{◌≡◌, ◌++◌, ◌∷◌, is_none, is_some, not, slice_get};
+ghost use Rattle.std.specs.Prelude.{◌≡◌, ◌++◌, ◌∷◌, is_none, is_some, slice_get};
 ghost use Rattle.core_steps.specs.Keys.{keeps_key, moved_pair};
 ghost use Rattle.core_steps.specs.Steps.{some_step, forward_steps, undo_steps, marks_old, sets_new, puts_new};
 ghost use Rattle.core_steps.specs.Steps.{marks_new, sets_old, puts_old};
@@ -88,7 +88,7 @@ fn moved_pair(change: &Change, indexed: bool, row: Option<Row>) -> Option<Pair>
 /// Whether the change has a step that marks the entry of the old row, and its undo one that puts it.
 pub fn has_old_entry(change: &Change, indexed: bool) -> bool
     ensures marked { result ≡ is_some (marks_old indexed change.now) }
-    ensures put { not result ≡ is_none (puts_old indexed change.now) }
+    ensures put { result ≡ is_some (puts_old indexed change.now) }
 {
     match &change.rows {
         Rows::Inserted { .. } => false,

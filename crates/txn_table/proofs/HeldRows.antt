@@ -1,15 +1,15 @@
 -- The rows that somebody holds, as a list.
-use Rattle.std.proofs.Common.{◌≡◌, ℕ, ◌<◌, ◌≤◌, Bool, true, false, cond, not, List, zero, suc, [], ◌∷◌, ◌++◌, filter, Contains, Option, Some, None}
-use Rattle.std.proofs.Common.{is_some, nat_eq, ◌==◌, ◌&&◌, ◌||◌, take, ◌⊎◌, inl, inr, subst, refl, sym, ap, ◌∙◌, arith, eqb, eq-eqb}
+use Rattle.std.proofs.Common.{◌≡◌, ℕ, ◌<◌, ◌≤◌, Bool, true, false, cond, not, List, suc, [], ◌∷◌, ◌++◌, filter, Contains, Option, Some, None}
+use Rattle.std.proofs.Common.{is_some, nat_eq, ◌+◌, ◌==◌, ◌&&◌, ◌||◌, ◌⊎◌, ◌↔◌, inl, inr, subst, refl, sym, ap, ◌∙◌, arith, eqb, eq-eqb}
 use Rattle.std.proofs.Math.Bool.{or-false, or-true}
 use Rattle.std.proofs.lemmas.List.Folds.{list_any_at}
 use Rattle.std.specs.Map.{lookup, set_value}
 use Rattle.record_values.specs.Values.{Place, is_among}
 use Rattle.records.specs.ChangeValue.{ChangeValue}
 use Rattle.txn_table.specs.Table.{TxnState, with_rid, holder_of, without, change_noted}
-use Rattle.txn_table.specs.Held.{AreUpTo, place_number}
+use Rattle.txn_table.specs.Held.{AreBelow, AreHeldBefore, IsBoundOf, place_number}
 use Rattle.txn_table.specs.Sound.{OneHolder, AreHeldRows}
-use Rattle.txn_table.proofs.Lookups.{place_test, is_among-append, not_among, among_more}
+use Rattle.txn_table.proofs.Lookups.{place_test, is_among-append, not_among}
 
 -- whether it is the same place
 abbrev pub is_same : Place → Place → Bool
@@ -172,46 +172,47 @@ AreHeldRows-without txn held es s one here are = λ q.
     ∙ is_some-gone (is_among q s.rows) (holder_of q es)
     ∙ sym (ap is_some (holder_of-without_rows txn q es s one here))
 
--- ---- rows up to a number
+-- ---- the least number above those of all rows
 
-pub up_to_none : (top : ℕ) (rows : List Place) → rows ≡ [] → AreUpTo top rows
-up_to_none top rows none q among = let gone : false ≡ true = ap (is_among q) (sym none) ∙ among in absurd cc
+pub bound_none : (rows : List Place) → rows ≡ [] → IsBoundOf rows 0
+bound_none rows none = record {
+  above = λ q among. let gone : false ≡ true = ap (is_among q) (sym none) ∙ among in absurd cc;
+  least = λ m below. omega arith;
+}
 
-pub up_to_more : (top higher : ℕ) (r : Place) (rows more : List Place) → AreUpTo top rows → top ≤ higher → place_number r ≤ higher → more ≡ with_rid r rows
-    → AreUpTo higher more
-up_to_more top higher r rows more low le fits is q among = by (among_more q r rows (ap (is_among q) (sym is) ∙ among))
+pub bound_more : (rows : List Place) (r : Place) (n m : ℕ) → IsBoundOf rows n → n ≤ m → place_number r + 1 ≤ m
+    → ((k : ℕ) → n ≤ k → place_number r + 1 ≤ k → m ≤ k) → IsBoundOf (rows ++ r ∷ []) m
+bound_more rows r n m is low fits least = record {
+  above = λ q among. by_place q (or_parts (is_among q rows) (is_same q r) (sym (is_among-append q r rows) ∙ among));
+  least = λ k below. least k
+      (is.least k (λ q among. below q (is_among-append q r rows ∙ ap (λ a. a || is_same q r) among)))
+      (next (below r (is_among-append r r rows ∙ ap (λ s. is_among r rows || s) (itself r) ∙ or-true (is_among r rows))));
+}
   where
-    by : (is_among q rows ≡ true) ⊎ (q ≡ r) → place_number q ≤ higher
-    by (inl had) = let before = low q had in omega arith
-    by (inr same) = subst (λ (x : Place). place_number x ≤ higher) (sym same) fits
+    or_parts : (a b : Bool) → (a || b) ≡ true → (a ≡ true) ⊎ (b ≡ true)
+    or_parts true b e = inl refl
+    or_parts false b e = inr e
 
-both_first : (a b : Bool) → (a && b) ≡ true → a ≡ true
-both_first true b e = refl
-both_first false b e = absurd cc
+    next : {k : ℕ} → place_number r < k → place_number r + 1 ≤ k
+    next h = omega arith
 
-pub up_to_left : (top : ℕ) (gone rows left : List Place) → AreUpTo top rows → left ≡ filter (λ r. not (is_among r gone)) rows → AreUpTo top left
-up_to_left top gone rows left low is q among =
-    low q (both_first (is_among q rows) (not (is_among q gone)) (sym (is_among-filter q gone rows) ∙ ap (is_among q) (sym is) ∙ among))
-
-is_among-take : (q : Place) (n : ℕ) (rows : List Place) → is_among q (take n rows) ≡ true → is_among q rows ≡ true
-is_among-take q zero rows e = absurd cc
-is_among-take q (suc n) [] e = absurd cc
-is_among-take q (suc n) (r ∷ rows) e = by (is_among-take q n rows) (is_same q r) e
-  where
-    by : (is_among q (take n rows) ≡ true → is_among q rows ≡ true) → (b : Bool) → (b || is_among q (take n rows)) ≡ true → (b || is_among q rows) ≡ true
-    by rest true h = refl
-    by rest false h = rest h
-
-pub up_to_front : (top n : ℕ) (rows left : List Place) → AreUpTo top rows → left ≡ take n rows → AreUpTo top left
-up_to_front top n rows left low is q among = low q (is_among-take q n rows (ap (is_among q) (sym is) ∙ among))
+    by_place : (q : Place) → (is_among q rows ≡ true) ⊎ (is_same q r ≡ true) → place_number q < m
+    by_place q (inl had) = let before = is.above q had in omega arith
+    by_place q (inr same) = subst (λ (x : Place). place_number x < m) (sym (place_test q r same)) (omega arith)
 
 -- a row behind all of them is none of them
-pub not_before : (top : ℕ) (r : Place) (rows : List Place) → AreUpTo top rows → top < place_number r → is_among r rows ≡ false
-not_before top r rows low behind = by (is_among r rows) refl
+pub not_before : (r : Place) (rows : List Place) → AreBelow (place_number r) rows → is_among r rows ≡ false
+not_before r rows below = by (is_among r rows) refl
   where
     by : (b : Bool) → is_among r rows ≡ b → is_among r rows ≡ false
-    by true among = let before = low r among in absurd (omega arith)
+    by true among = let before = below r among in absurd (omega arith)
     by false among = among
+
+-- the rows of a table are below a number where each that somebody holds is
+pub below_as_held : (r : Place) (held : List Place) (active : List (ℕ × TxnState)) → AreHeldRows held active
+    → AreBelow (place_number r) held ↔ AreHeldBefore r active
+below_as_held r held active are =
+    (λ below q some. below q (are q ∙ some), λ before q among. before q (sym (are q) ∙ among))
 
 pub nobody : (holder : Option ℕ) → is_some holder ≡ false → holder ≡ None
 nobody None none = refl

@@ -1,9 +1,9 @@
 //! The rows that somebody holds.
-ghost use Rattle.std.specs.Prelude.{◌≡◌, [], ◌≤◌, take, length, not, filter, false, IsTrue, IfErr, OnOk, OnErr};
+ghost use Rattle.std.specs.Prelude.{◌≡◌, ◌<◌, ◌^◌, ◌↔◌, [], take, length, not, filter, IsTrue, IfErr, OnOk, OnErr};
 ghost use Rattle.std.specs.Prelude.{if◌then◌else◌};
 ghost use Rattle.record_values.specs.Values.{is_among};
 ghost use Rattle.txn_table.specs.Table.{with_rid};
-ghost use Rattle.txn_table.specs.Held.{place_number};
+ghost use Rattle.txn_table.specs.Held.{AreBelow, IsBoundOf, place_number};
 
 use crate::active::ActiveTxn;
 use records::{Error, Rid, SLOTS_PER_PAGE};
@@ -14,27 +14,39 @@ use std::marker::Model;
 #[derive(Drop)]
 pub(crate) struct HeldRows<A: Allocator> {
     rows: Vec<Rid, A>,
-    // no row's number is above this one: so a row behind all of them is told without a search
-    top: u64,
+    // the least number that all their numbers are below: so a row behind all of them is told without a search
+    bound: u64,
 }
 
 impl<A: Allocator> Model for HeldRows<A> {
     ghost use Rattle.std.specs.Prelude.{List};
     ghost use Rattle.record_values.specs.Values.{Place};
-    ghost use Rattle.txn_table.specs.Held.{AreUpTo};
+    ghost use Rattle.txn_table.specs.Held.{IsBoundOf};
 
     ghost Value = { List Place };
 
     ghost view = { λ h. h.rows.items };
 
-    ghost invariant = { λ h. AreUpTo h.top h.rows.items };
+    ghost invariant = { λ h. IsBoundOf h.rows.items h.bound };
 }
 
 // How many places are before this one.
 fn place_number(rid: Rid) -> u64
-    ensures { result ≡ place_number rid }
+    ensures number { result ≡ place_number rid }
+    ensures few { result < 2 ^ 38 }
 {
     u64::from(rid.page) * u64::from(SLOTS_PER_PAGE) + u64::from(rid.slot)
+}
+
+// The least number that the numbers of all these rows are below.
+fn bound_of(rows: &[Rid]) -> u64
+    ensures { IsBoundOf rows.now result }
+{
+    let mut bound: u64 = 0;
+    for rid in rows {
+        bound = bound.max(place_number(*rid) + 1);
+    }
+    bound
 }
 
 impl<A: Allocator + Copy> HeldRows<A> {
@@ -44,7 +56,7 @@ impl<A: Allocator + Copy> HeldRows<A> {
     {
         HeldRows {
             rows: Vec::new(alloc),
-            top: 0,
+            bound: 0,
         }
     }
 
@@ -62,11 +74,11 @@ impl<A: Allocator + Copy> HeldRows<A> {
         self.rows.as_slice()
     }
 
-    /// Whether the row is behind all of them: then it isn't one of them.
+    /// Whether the row is behind all of them.
     pub(crate) fn are_before(&self, rid: Rid) -> bool
-        ensures { IsTrue result → is_among rid self.now ≡ false }
+        ensures { IsTrue result ↔ AreBelow (place_number rid) self.now }
     {
-        self.top < place_number(rid)
+        self.bound <= place_number(rid)
     }
 
     /// Adds the row, unless it is there. `NoMemory` leaves them as before.
@@ -80,7 +92,7 @@ impl<A: Allocator + Copy> HeldRows<A> {
             return Ok(());
         }
         self.rows.push(rid)?;
-        self.top = self.top.max(place_number(rid));
+        self.bound = self.bound.max(place_number(rid) + 1);
         Ok(())
     }
 
@@ -89,6 +101,7 @@ impl<A: Allocator + Copy> HeldRows<A> {
         ensures { self.new ≡ take len self.old }
     {
         self.rows.truncate(len);
+        self.bound = bound_of(&self.rows);
     }
 
     /// Takes the rows of a transaction that ends off. Where it is the last one, these are all.
@@ -97,9 +110,10 @@ impl<A: Allocator + Copy> HeldRows<A> {
     {
         if is_last {
             self.rows.clear();
-            self.top = 0;
+            self.bound = 0;
             return;
         }
         self.rows.retain(|rid| !ended.holds(*rid));
+        self.bound = bound_of(&self.rows);
     }
 }

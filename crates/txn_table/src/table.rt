@@ -8,6 +8,7 @@ ghost use Rattle.record_values.specs.Values.{Place};
 ghost use Rattle.txn_table.specs.Table.{TxnState, holds_rows, holder_of, state_of, with_state, with_next, without};
 ghost use Rattle.txn_table.specs.Table.{fresh_txn, change_noted, without_last, put_at, last_change};
 ghost use Rattle.txn_table.specs.Places.{place_of};
+ghost use Rattle.txn_table.specs.Held.{AreHeldBefore};
 ghost use Rattle.txn_table.specs.Table.{change_refusal, touch_refusal};
 ghost use Rattle.txn_table.specs.Sound.{IsSoundTable};
 
@@ -224,6 +225,14 @@ impl<A: Allocator + Copy> TxnTable<A> {
         None
     }
 
+    /// Whether the row comes behind each that somebody holds: then nobody holds it. It looks through no list.
+    pub fn are_held_before(&self, rid: Rid) -> bool
+        ensures before { IsTrue result ↔ AreHeldBefore rid self.now.active }
+        ensures unheld { IsTrue result → holder_of rid self.now.active ≡ None }
+    {
+        self.held.are_before(rid)
+    }
+
     /// The rows that somebody holds: a place for a new row is none of these. It takes no memory.
     pub fn held_rows(&self) -> &[Rid]
         ensures { (r : Place) → Contains result.now r ↔ IsSome (holder_of r self.now.active) }
@@ -306,7 +315,7 @@ impl<A: Allocator + Copy> TxnTable<A> {
         ensures held { IfOk result (λ held. held ≡ is_some (holder_of rid self.now.active)) }
     {
         self.check_change(txn)?;
-        if self.held.are_before(rid) {
+        if self.are_held_before(rid) {
             return Ok(false);
         }
         match self.holder(rid) {

@@ -2,7 +2,7 @@ use Rattle.std.proofs.Common.{refl, sym, ◌≡◌}
 use Rattle.std.proofs.lemmas.Result.{err_from_is_err_and}
 use Rattle.record_values.specs.declared.error.Error.TheVariants.{HeapFull, NoMemory}
 use Rattle.core_parts.specs.Parts.{parts_of}
-use Rattle.core_parts.proofs.Inserting.{able, insert_unable, insert_unplaced, insert_unroomy, is_place, may_start, unable}
+use Rattle.core_parts.proofs.Inserting.{able, insert_unable, insert_unplaced, insert_unroomy, may_start, unable}
 use Rattle.core_parts.proofs.Checking.{unable_by_state, unroomy_by_state}
 use Rattle.core_parts.proofs.parts.CoreParts.place_for.Goals as goal
 
@@ -24,8 +24,8 @@ returns-in_err-rid g c =
     let p = err_from_is_err_and c.from_residual-in_err-rid.result c.from_residual-in_err-rid.ensures.1 in
     let v = parts_of c.args.self.now in
     rw (p.1, p.2, c.in_err-rid.ensures.heap_full) (record {
-      refused = λ row. insert_unplaced v c.args.txn row c.requires (able v c.args.txn (sym c.in_ok-check_change.ensures)) c.held_rows.result.now
-          c.held_rows.ensures (c.in_err-rid.ensures.full refl);
+      refused = λ row. insert_unplaced v c.args.txn row c.requires (able v c.args.txn (sym c.in_ok-check_change.ensures))
+          (c.in_err-rid.ensures.none refl);
       by_state = λ lack. let other : HeapFull ≡ NoMemory = lack in absurd cc;
       place = tt;
       may = tt;
@@ -36,7 +36,7 @@ pub returns-in_err-number : goal.returns-in_err-number
 returns-in_err-number g c =
     let p = err_from_is_err_and c.from_residual-in_err-number.result c.from_residual-in_err-number.ensures.1 in
     let v = parts_of c.args.self.now in
-    let place = is_place v c.held_rows.result.now c.held_rows.ensures c.in_ok-rid.rid c.in_ok-rid.ensures.free c.in_ok-rid.ensures.least in
+    let place = c.in_ok-rid.ensures.place in
     rw (p.1, p.2) (record {
       refused = λ row. insert_unroomy v c.args.txn row c.requires (able v c.args.txn (sym c.in_ok-check_change.ensures)) c.in_ok-rid.rid place _
           c.in_err-number.ensures.err;
@@ -49,7 +49,7 @@ returns-in_err-number g c =
 pub returns : goal.returns
 returns g c =
     let v = parts_of c.args.self.now in
-    let place = is_place v c.held_rows.result.now c.held_rows.ensures c.in_ok-rid.rid c.in_ok-rid.ensures.free c.in_ok-rid.ensures.least in
+    let place = c.in_ok-rid.ensures.place in
     record {
       refused = tt;
       by_state = tt;

@@ -38,7 +38,7 @@ returns-then-has_old_entry-clause-ok g c =
     let same = row_as v c.args.txn {f = UndoesEntry} refl
     (ap (λ (w : ChangeValue). w.rid) c.change.view_is)
     (c.old-row.ensures ∙ ap (λ (w : ChangeValue). old_row w.rows) c.change.view_is)
-    (c.sets_old-action.ensures ∙ ap (Undo Slot c.args.change) (sym c.has_old_entry.ensures.put ∙ ap not c.if-has_old_entry.true))
+    (c.sets_old-action.ensures ∙ ap (Undo Slot c.args.change) (ap not (sym c.has_old_entry.ensures.put ∙ c.if-has_old_entry.true)))
     in
     rw some.1 (subst (λ w. OnOk c.set_row.result (parts_of c.set_row.new.self ≡ w)) same c.set_row.ensures.ok)
 
@@ -50,7 +50,7 @@ returns-clause-ok g c =
     let same = row_as v c.args.txn {f = Rolling} refl
     (ap (λ (w : ChangeValue). w.rid) c.change.view_is)
     (c.old-row.ensures ∙ ap (λ (w : ChangeValue). old_row w.rows) c.change.view_is)
-    (c.sets_old-action.ensures ∙ ap (Undo Slot c.args.change) (sym c.has_old_entry.ensures.put ∙ ap not c.if-has_old_entry.false))
+    (c.sets_old-action.ensures ∙ ap (Undo Slot c.args.change) (ap not (sym c.has_old_entry.ensures.put ∙ c.if-has_old_entry.false)))
     in
     rw none (taken_off_behind (parts_of c.set_row-2.new.self) _ c.args.txn c.pop_undo.new.self c.pop_undo.ensures.rest (c.in_ok-set_row.ensures.ok
     ∙ same))
