@@ -30,7 +30,7 @@ ties_itself : (a : Pair) → is_eq (order a a) ≡ true
 ties_itself a = ap is_eq (tied_itself pairs_total a)
 
 -- a test of two pairs, by cases: they are one pair, or they do not tie
-by_tie : (P : Bool → Type 0) (a b : Pair) → (a ≡ b → P true) → (is_eq (order a b) ≡ false → P false) → P (is_eq (order a b))
+pub by_tie : (P : Bool → Type 0) (a b : Pair) → (a ≡ b → P true) → (is_eq (order a b) ≡ false → P false) → P (is_eq (order a b))
 by_tie P a b same other = pick (is_eq (order a b)) refl
   where
     pick : (v : Bool) → is_eq (order a b) ≡ v → P v
@@ -192,11 +192,11 @@ contents-without t u p e =
     ∙ sym (get-remove pair_cmp_total (contents t) p q))
 
 -- ---- the least entry above
-below_of : (p q : Pair) → pair_cmp p q ≡ Less → is_below p q ≡ true
+pub below_of : (p q : Pair) → pair_cmp p q ≡ Less → is_below p q ≡ true
 unfolding order
 below_of p q e = ap is_lt e
 
-less_pair : (p q : Pair) → is_below p q ≡ true → pair_cmp p q ≡ Less
+pub less_pair : (p q : Pair) → is_below p q ≡ true → pair_cmp p q ≡ Less
 unfolding order
 less_pair p q e = less_of (pair_cmp p q) e
 
@@ -218,7 +218,7 @@ pub record IsFirstAfter (es : List Entry) (p : Pair) (e : Entry) : Type 0 where
   pub found : mark_in es e.pair ≡ Some e.mark
   pub between : (q : Pair) → is_below p q ≡ true → is_below q e.pair ≡ true → mark_in es q ≡ None
 
-found_first : (x : Entry) (xs : List Entry) → mark_in (x ∷ xs) x.pair ≡ Some x.mark
+pub found_first : (x : Entry) (xs : List Entry) → mark_in (x ∷ xs) x.pair ≡ Some x.mark
 found_first x xs = rw (ties_itself x.pair) refl
 
 first_after : (es : List Entry) (p : Pair) (e : Entry) → IsAscending es → first_above es p ≡ Some e → IsFirstAfter es p e

@@ -5,6 +5,7 @@ mod Ascending
 mod Top
 mod Counting
 mod Above
+mod Below
 mod Fronts
 mod Marks
 mod Found
@@ -15,3 +16,5 @@ mod Remove
 mod Path
 mod Descending
 mod Ways
+mod Labels
+mod Placed

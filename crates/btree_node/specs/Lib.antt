@@ -4,7 +4,9 @@ pub mod Splits
 pub mod Top
 pub mod Plans
 pub mod Above
+pub mod Below
 pub mod Runs
 pub mod Without
 pub mod Mended
 pub mod Path
+pub mod Placed

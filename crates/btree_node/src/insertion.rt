@@ -1,6 +1,6 @@
 //! Insertions, which take their nodes from spares.
 ghost use Rattle.std.specs.Prelude.{◌≡◌, ℕ, ◌+◌, ◌<◌, ◌≤◌, ◌++◌, [], ◌∷◌, length, vec_len, vec_capacity, if◌then◌else◌};
-ghost use Rattle.std.specs.Prelude.{Some};
+ghost use Rattle.std.specs.Prelude.{Some, false};
 ghost use Rattle.std.specs.List.{insert};
 ghost use Rattle.btree_node.specs.Grown.{upper_entries, IsUpperHalf, AreEnough, KeepsCount, IsSplitAlong};
 ghost use Rattle.btree_node.specs.Splits.{splits};
@@ -48,10 +48,15 @@ fn split_children<A: Allocator>(
     split_into(row, place, child, upper_row);
 }
 
-/// Lowers a label to a pair, unless it comes before the pair.
-fn lower(least: &mut Pair, pair: Pair)
+/// Lowers the label of the child at a place to a pair that belongs there, unless it comes before the pair. Of the
+/// children behind the first, none where a pair belongs begins after it.
+pub fn lower(least: &mut Pair, at: usize, pair: Pair)
+    requires belongs { 0 < at → is_below pair least.old ≡ false }
     ensures { least.new ≡ (if is_below least.old pair then least.old else pair) }
 {
+    if at > 0 {
+        return;
+    }
     if !precedes(least, &pair) {
         *least = pair;
     }
@@ -110,7 +115,7 @@ fn insert_in_subtree<A: Allocator>(
     };
     let child = &mut row[*at];
     // the label is that of the child as it will be: it gets the entry next
-    lower(&mut child.least, entry.pair);
+    lower(&mut child.least, *at, entry.pair);
     let upper = insert_in_subtree(&mut child.node, below, entry, spares)?;
     if row.len() < FULL {
         insert_at(row, *at + 1, upper);

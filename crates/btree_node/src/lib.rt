@@ -7,11 +7,11 @@
 //! visits. `get` and `find_way` visit as many as the tree is high (`visited`), at most four (`few_visited`).
 //! `run_above` answers entries that follow one another (`run`), and none only where none is above (`none`). Only tested
 //! (`test_tables`): plans with each allocation refused in turn; heights of full trees, and how many runs a walk over
-//! one takes. Neither: how many nodes `above` and `run_above` look at; when memory is freed; speed; stack. By hand: the
-//! `unsafe impl` of an allocator that always refuses.
+//! one takes. Neither: how many nodes `above`, `below` and `run_above` look at; when memory is freed; speed; stack. By
+//! hand: the `unsafe impl` of an allocator that always refuses.
 #![tactic(auto)]
 
-ghost use Rattle.std.specs.Prelude.{◌≡◌, ◌<◌, ◌≤◌, ◌↔◌, None, IfOk, IfErr, IsSome, IsTrue};
+ghost use Rattle.std.specs.Prelude.{◌≡◌, ◌≢◌, ◌<◌, ◌≤◌, ◌↔◌, None, IfOk, IfErr, IsSome, IsTrue};
 ghost use Rattle.std.specs.Option.{option_copied};
 ghost use Rattle.std.specs.FinMap as map;
 ghost use Rattle.btree_node.specs.Contents.{contents};
@@ -19,11 +19,14 @@ ghost use Rattle.btree_node.specs.Top.{height_of, nodes_for};
 ghost use Rattle.btree_node.specs.Plans.{IsPlanFor, IsWayIn};
 ghost use Rattle.btree_node.specs.Grown.{AreExactly};
 ghost use Rattle.btree_node.specs.Above.{IsLeastAbove};
+ghost use Rattle.btree_node.specs.Below.{IsGreatestBelow};
+ghost use Rattle.btree_node.specs.Placed.{outcome};
 
 mod inline;
 mod insertion;
 mod lookup;
 mod marking;
+mod placing;
 mod removal;
 mod runs;
 mod spares;
@@ -36,13 +39,15 @@ use marking::set_mark_in;
 pub use node_parts::Entry;
 use node_parts::Node;
 use node_parts::descent::Descent;
+pub use placing::InLeaf;
+use placing::put_below;
 use records::{Error, Mark, Pair};
 use removal::{remove_below, shrink};
 use smallvec::SmallVec;
 use spares::Spares;
 use std::alloc::Allocator;
 use std::marker::Model;
-use walk::{above_in, first_in};
+use walk::{above_in, below_in, first_in, last_in};
 
 /// The most entries that a tree can have.
 pub const ENTRIES_MAX: usize = records::LARGE_ENTRIES_MAX as usize;
@@ -234,6 +239,20 @@ impl<A: Allocator + Clone> BTree<A> {
         Some((entry.pair, entry.mark))
     }
 
+    /// The greatest entry whose pair comes before the given one, or the greatest of all.
+    pub fn below(&self, pair: Option<&Pair>) -> Option<(Pair, Mark)>
+        ensures { IsGreatestBelow (contents self.now) (option_copied pair.entry) result }
+    {
+        let Some(root) = &self.root else {
+            return None;
+        };
+        let entry = match pair {
+            None => last_in(root),
+            Some(pair) => below_in(root, pair)?,
+        };
+        Some((entry.pair, entry.mark))
+    }
+
     /// The way of a pair down the tree. It takes no memory.
     pub fn find_way(&self, pair: &Pair) -> Way
         ensures pair { result.pair ≡ pair.now }
@@ -308,6 +327,25 @@ impl<A: Allocator + Clone> BTree<A> {
         );
         self.root = Some(root);
         self.len += 1;
+    }
+
+    /// Puts a pair in with a mark, if it has no entry and its insertion takes no node. It takes no memory.
+    pub fn put_in_leaf(&mut self, pair: &Pair, mark: Mark) -> InLeaf
+        requires room { map.get (contents self.old) pair.now ≡ None → map.len (contents self.old) < ENTRIES_MAX }
+        ensures outcome { result ≡ outcome (map.get (contents self.old) pair.now) (nodes_for self.old pair.now) }
+        ensures added { result ≡ InLeaf.Added →
+            contents self.new ≡ map.insert (contents self.old) pair.now mark }
+        ensures unchanged { result ≢ InLeaf.Added → self.new ≡ self.old }
+    {
+        let Some(root) = &mut self.root else {
+            return InLeaf::NoRoom;
+        };
+        let put = put_below(root, pair, mark);
+        let InLeaf::Added = put else {
+            return put;
+        };
+        self.len += 1;
+        put
     }
 
     /// Gives the entry of a pair another mark. It takes no memory and succeeds.

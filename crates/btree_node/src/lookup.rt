@@ -18,7 +18,7 @@ use std::alloc::Allocator;
 
 /// The mark of a pair in a leaf, where the pair belongs at a place.
 #[tactic(auto, unfolding(node_parts::specs::Order::order))]
-fn mark_at(row: &[Entry], at: usize, pair: &Pair) -> Option<Mark>
+pub fn mark_at(row: &[Entry], at: usize, pair: &Pair) -> Option<Mark>
     requires ascending { IsAscending row.now }
     requires place { at ≡ prefix_len (λ e. is_below e.pair pair.now) row.now }
     ensures { result ≡ mark_in row.now pair.now }

@@ -1,11 +1,13 @@
-//! The least entries above a pair.
-ghost use Rattle.std.specs.Prelude.{◌≡◌, ◌<◌, length, Some};
+//! The least entries above a pair, and the greatest below one.
+ghost use Rattle.std.specs.Prelude.{◌≡◌, ◌<◌, length, None, Some};
+ghost use Rattle.std.specs.List.{last_or};
 ghost use Rattle.btree_node.specs.Above.{first_of, first_above};
+ghost use Rattle.btree_node.specs.Below.{last_below};
 ghost use Rattle.node_parts.specs.Tree.{entries, depth};
 ghost use Rattle.node_parts.specs.Balance.{IsTree};
 ghost use Rattle.node_parts.specs.Order.{IsAscending};
 
-use node_parts::search::precedes;
+use node_parts::search::{entry_place, precedes};
 use node_parts::{Entry, Node, NodeParts};
 use records::Pair;
 use std::alloc::Allocator;
@@ -46,6 +48,49 @@ pub fn above_in<A: Allocator>(node: &Node<A>, pair: &Pair) -> Option<Entry>
                 return found;
             }
             Some(first_in(&row[at + 1].node))
+        }
+    }
+}
+
+/// The last entry of a subtree.
+pub fn last_in<A: Allocator>(node: &Node<A>) -> Entry
+    requires some { 0 < length (entries node.now) }
+    ensures { last_or None (entries node.now) ≡ Some result }
+{
+    match &node.parts {
+        NodeParts::Leaf(row) => row[row.len() - 1],
+        NodeParts::Inner(row) => last_in(&row[row.len() - 1].node),
+    }
+}
+
+/// The last of ascending entries before a pair, found by halving.
+fn last_before(row: &[Entry], pair: &Pair) -> Option<Entry>
+    requires ascending { IsAscending row.now }
+    ensures { result ≡ last_below row.now pair.now }
+{
+    let at = entry_place(row, pair);
+    if at == 0 {
+        return None;
+    }
+    Some(row[at - 1])
+}
+
+/// The last entry of a subtree before a pair.
+pub fn below_in<A: Allocator>(node: &Node<A>, pair: &Pair) -> Option<Entry>
+    requires ascending { IsAscending (entries node.now) }
+    requires tree { IsTree (depth node.now) node.now }
+    requires some { 0 < length (entries node.now) }
+    ensures { result ≡ last_below (entries node.now) pair.now }
+{
+    let at = node.place(pair);
+    match &node.parts {
+        NodeParts::Leaf(row) => last_before(row, pair),
+        NodeParts::Inner(row) => {
+            let found = below_in(&row[at].node, pair);
+            if found.is_some() || at == 0 {
+                return found;
+            }
+            Some(last_in(&row[at - 1].node))
         }
     }
 }

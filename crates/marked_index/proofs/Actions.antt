@@ -1,5 +1,5 @@
 -- What the actions leave as it was, and how many entries there are after one.
-use Rattle.std.proofs.Common.{Result, Ok, Err, OnOk, OnErr, ◌<◌, ◌≡◌, ℕ, ◌+◌, ◌-◌, ◌≤◌, Bool, true, false, cond, Option, Some, None, is_some, refl, sym, ap}
+use Rattle.std.proofs.Common.{Result, Ok, Err, OnOk, OnErr, ◌<◌, ◌≡◌, ℕ, zero, suc, ◌+◌, ◌-◌, ◌≤◌, Bool, true, false, cond, Option, Some, None, is_some, refl, sym, ap}
 use Rattle.std.proofs.Common.{subst, ◌∙◌, arith}
 use Rattle.std.specs.FinMap as map
 use Rattle.std.specs.Prelude.{IsTrue, ◌↔◌}
@@ -11,6 +11,8 @@ use Rattle.record_values.specs.declared.pair.Mark.TheVariants.{Live, Marked}
 use Rattle.model.specs.declared.key_action.KeyAction.TheVariants.{BuildPut, Clean}
 use Rattle.model.specs.KeyActions.{after_action}
 use Rattle.model.specs.Table.{Index}
+use Rattle.btree_node.specs.Placed.{outcome}
+use Rattle.btree_node.specs.declared.placing.InLeaf.TheVariants.{Found}
 use Rattle.record_values.specs.declared.geometry.TheConstants.{LARGE_ENTRIES_MAX}
 use Rattle.record_values.specs.declared.error.Error.{Error}
 use Rattle.marked_index.specs.Index.{IndexValue, IsFull, IsWithinCapacity, entries_after}
@@ -91,3 +93,54 @@ room_left v full is free = omega (arith, not_full)
   where
     not_full : (v.capacity ≤ map.len v.entries + v.pledged) → ⊥
     not_full h = let yes : full ≡ true = is.1 h in absurd (cc (yes, free))
+
+-- ---- trees that a pair is put into
+pub build_there : (m : Index) (p : Pair) → is_some (map.get m p) ≡ true → m ≡ entries_after m BuildPut p
+build_there m p e = sym (as_it_was m p _ (sym (build_leaves_there (map.get m p) e)))
+
+pub build_absent : (m n : Index) (p : Pair) → map.get m p ≡ None → n ≡ map.insert m p Live → n ≡ entries_after m BuildPut p
+build_absent m n p none e = e ∙ ap (λ o. set_at m p (after_action BuildPut o)) (sym none)
+
+by_mark : (P : Type 0) (o : Option Mark) → (o ≡ None → P) → (is_some o ≡ true → P) → P
+by_mark P None absent there = absent refl
+by_mark P (Some x) absent there = there refl
+
+pub room_set : (m n : Index) (p : Pair) (x : Mark) (k c : ℕ) (r : Result Bool Error)
+    → IsWithinCapacity (record { entries = m; pledged = k; capacity = c }) → (map.get m p ≡ None → map.len m + k < c) → OnOk r (n ≡ map.insert m p x)
+    → OnErr r (n ≡ m) → IsWithinCapacity (record { entries = n; pledged = k; capacity = c })
+room_set m n p x k c (Ok added) room fits done left =
+    by_mark (IsWithinCapacity (record { entries = n; pledged = k; capacity = c })) (map.get m p)
+    (λ none. room_added m n p x k c (let free : map.len m + k < c = fits none in omega arith) room.most none done)
+    (λ there. room_changed m n p x k c room there done)
+room_set m n p x k c (Err e) room fits done left = record { within = omega (arith, ap map.len left, room.within); most = room.most }
+
+pub room_built : (m n : Index) (p : Pair) (k c : ℕ) (r : Result Bool Error) → IsWithinCapacity (record { entries = m; pledged = k; capacity = c })
+    → (map.get m p ≡ None → map.len m + k < c) → OnOk r (n ≡ entries_after m BuildPut p) → OnErr r (n ≡ m)
+    → IsWithinCapacity (record { entries = n; pledged = k; capacity = c })
+room_built m n p k c (Ok added) room fits done left =
+    by_mark (IsWithinCapacity (record { entries = n; pledged = k; capacity = c })) (map.get m p)
+    (λ none. room_added m n p Live k c (let free : map.len m + k < c = fits none in omega arith) room.most none
+    (done ∙ ap (λ o. set_at m p (after_action BuildPut o)) none))
+    (λ there. record { within = omega (arith, ap map.len (done ∙ sym (build_there m p there)), room.within); most = room.most })
+room_built m n p k c (Err e) room fits done left = record { within = omega (arith, ap map.len left, room.within); most = room.most }
+
+-- a pair that does not lack a place has an entry, or there is room for it
+pub place_left : (v : IndexValue) (p : Pair) (lacks : Bool) → (IsTrue lacks ↔ (map.get v.entries p ≡ None) × IsFull v) → lacks ≡ false
+    → map.get v.entries p ≡ None → map.len v.entries + v.pledged < v.capacity
+place_left v p lacks is free absent = omega (arith, not_full)
+  where
+    not_full : (v.capacity ≤ map.len v.entries + v.pledged) → ⊥
+    not_full h = let yes : lacks ≡ true = is.1 (absent, h) in absurd (cc (yes, free))
+
+-- what is absent can be taken out
+pub removed_none : (v : IndexValue) (p : Pair) → is_some (map.get v.entries p) ≡ false → v ≡ record v { entries = map.remove v.entries p }
+removed_none v p e = same_value v _ (as_it_was v.entries p None (none_of _ e))
+
+pub found_there : (o : Option Mark) (n : ℕ) (m : Mark) → Found m ≡ outcome o n → is_some o ≡ true
+found_there (Some x) n m e = refl
+found_there None zero m e = cc
+found_there None (suc n) m e = cc
+
+pub there_of : (o : Option Mark) (added : Bool) → (IsTrue added ↔ o ≡ None) → added ≡ false → is_some o ≡ true
+there_of None added is e = let yes : added ≡ true = is.1 refl in absurd (cc (yes, e))
+there_of (Some x) added is e = refl

@@ -10,14 +10,14 @@ ghost use Rattle.record_values.specs.Orders.{rid_cmp};
 ghost use Rattle.record_values.specs.Values.{Place};
 ghost use Rattle.model.specs.declared.key_action.KeyAction.{KeyAction};
 ghost use Rattle.btree_node.specs.Above.{IsLeastAbove};
+ghost use Rattle.btree_node.specs.Below.{IsGreatestBelow};
 ghost use Rattle.btree_node.specs.Contents.{contents};
-ghost use Rattle.btree_node.specs.Plans.{IsWayIn};
 ghost use Rattle.btree_node.specs.Runs.{IsRunAbove};
 ghost use Rattle.marked_index.specs.Index.{IsWithinCapacity, IsFull, IsAbsent, entries_after, pledges_used};
 ghost use Rattle.marked_index.specs.Index.{after_txn_action};
 ghost use Rattle.marked_index.specs.Shown.{IsNextOf, mark_at};
 
-use btree_node::{BTree, Cleared, ENTRIES_MAX, Entry, Way};
+use btree_node::{BTree, Cleared, ENTRIES_MAX, Entry, InLeaf};
 use records::{Error, Geometry, Key, Mark, PLACES_PER_CHANGE, Pair, Rid};
 use std::alloc::Allocator;
 use std::marker::Model;
@@ -73,18 +73,55 @@ impl<A: Allocator> Model for MarkedIndex<A> {
     }) };
 }
 
-/// Puts the absent pair of a way into the tree with a mark. The one error is `NoMemory`.
-fn plant<A: Allocator + Clone>(tree: &mut BTree<A>, way: Way, mark: Mark) -> Result<(), Error>
+/// Puts an absent pair into the tree with a mark. The one error is `NoMemory`.
+fn plant<A: Allocator + Clone>(tree: &mut BTree<A>, pair: &Pair, mark: Mark) -> Result<(), Error>
     requires room { map.len (contents tree.old) < ENTRIES_MAX }
-    requires way { IsWayIn tree.old way }
-    requires absent { IsAbsent (contents tree.old) way.pair }
-    ensures planted { OnOk result (contents tree.new ≡ map.insert (contents tree.old) way.pair mark) }
+    requires absent { IsAbsent (contents tree.old) pair.now }
+    ensures planted { OnOk result (contents tree.new ≡ map.insert (contents tree.old) pair.now mark) }
     ensures no_memory { IfErr result (λ e. e ≡ Error.NoMemory) }
     ensures unchanged { OnErr result (contents tree.new ≡ contents tree.old) }
 {
-    let plan = tree.plan(way)?;
+    let plan = tree.plan_insert(pair)?;
     tree.insert(plan, mark);
     Ok(())
+}
+
+/// Puts a pair into the tree, live, unless it has an entry, and says whether it did. The one error is `NoMemory`.
+fn put_absent<A: Allocator + Clone>(tree: &mut BTree<A>, pair: &Pair) -> Result<bool, Error>
+    requires room { IsAbsent (contents tree.old) pair.now → map.len (contents tree.old) < ENTRIES_MAX }
+    ensures put { OnOk result (contents tree.new ≡ entries_after (contents tree.old) KeyAction.BuildPut pair.now) }
+    ensures added { IfOk result (λ added. IsTrue added ↔ IsAbsent (contents tree.old) pair.now) }
+    ensures no_memory { IfErr result (λ e. (e ≡ Error.NoMemory) × IsAbsent (contents tree.old) pair.now) }
+    ensures unchanged { OnErr result (contents tree.new ≡ contents tree.old) }
+{
+    match tree.put_in_leaf(pair, Mark::Live) {
+        InLeaf::Added => return Ok(true),
+        InLeaf::Found(_) => return Ok(false),
+        InLeaf::NoRoom => {}
+    }
+    plant(tree, pair, Mark::Live)?;
+    Ok(true)
+}
+
+/// Gives the entry of a pair a mark, or puts the pair in with it, and says whether it was put in. The one error is
+/// `NoMemory`.
+fn set<A: Allocator + Clone>(tree: &mut BTree<A>, pair: &Pair, mark: Mark) -> Result<bool, Error>
+    requires room { IsAbsent (contents tree.old) pair.now → map.len (contents tree.old) < ENTRIES_MAX }
+    ensures set { OnOk result (contents tree.new ≡ map.insert (contents tree.old) pair.now mark) }
+    ensures added { IfOk result (λ added. IsTrue added ↔ IsAbsent (contents tree.old) pair.now) }
+    ensures no_memory { IfErr result (λ e. (e ≡ Error.NoMemory) × IsAbsent (contents tree.old) pair.now) }
+    ensures unchanged { OnErr result (contents tree.new ≡ contents tree.old) }
+{
+    match tree.put_in_leaf(pair, mark) {
+        InLeaf::Added => return Ok(true),
+        InLeaf::Found(_) => {
+            tree.set_mark(pair, mark);
+            return Ok(false);
+        }
+        InLeaf::NoRoom => {}
+    }
+    plant(tree, pair, mark)?;
+    Ok(true)
 }
 
 impl<A: Allocator + Clone> MarkedIndex<A> {
@@ -146,6 +183,13 @@ impl<A: Allocator + Clone> MarkedIndex<A> {
         self.tree.above(pair)
     }
 
+    /// The greatest entry whose pair comes before the given one, or the greatest of all.
+    pub fn below(&self, pair: Option<&Pair>) -> Option<(Pair, Mark)>
+        ensures { IsGreatestBelow self.now.entries (option_copied pair.entry) result }
+    {
+        self.tree.below(pair)
+    }
+
     /// The next entries above the pair, or the first of all: some that stand together, in order. There is none only
     /// where none is above.
     pub fn run_above(&self, pair: Option<&Pair>) -> &[Entry]
@@ -168,17 +212,31 @@ impl<A: Allocator + Clone> MarkedIndex<A> {
             × ((e ≡ Error.IndexFull) ⊎ (e ≡ Error.NoMemory))) }
         ensures unchanged { OnErr result (self.new ≡ self.old) }
     {
-        let is_full = self.is_full();
-        let way = self.tree.find_way(pair);
-        let is_there = way.mark().is_some();
-        match mark {
-            None if is_there => self.tree.remove(pair),
-            None => {}
-            Some(mark) if is_there => self.tree.set_mark(pair, mark),
-            Some(_) if is_full => return Err(Error::IndexFull),
-            Some(mark) => plant(&mut self.tree, way, mark)?,
+        let Some(mark) = mark else {
+            self.take_out(pair);
+            return Ok(());
+        };
+        if self.lacks_place(pair) {
+            return Err(Error::IndexFull);
         }
+        set(&mut self.tree, pair, mark)?;
         Ok(())
+    }
+
+    // Takes the entry of a pair out, if it has one.
+    fn take_out(&mut self, pair: &Pair)
+        ensures { self.new ≡ record self.old { entries = map.remove self.old.entries pair.now } }
+    {
+        if self.get(pair).is_some() {
+            self.tree.remove(pair);
+        }
+    }
+
+    // Whether a pair has no entry, and every place for one is taken or pledged.
+    fn lacks_place(&self, pair: &Pair) -> bool
+        ensures { IsTrue result ↔ (IsAbsent self.now.entries pair.now × IsFull self.now) }
+    {
+        self.is_full() && self.get(pair).is_none()
     }
 
     /// Makes the entry of a pair live, as a transaction does; a pair that has none gets one, in a
@@ -220,12 +278,10 @@ impl<A: Allocator + Clone> MarkedIndex<A> {
         ensures no_memory { IfErr result (λ e. (e ≡ Error.NoMemory) × IsAbsent self.old.entries pair.now) }
         ensures unchanged { OnErr result (self.new ≡ self.old) }
     {
-        let way = self.tree.find_way(pair);
-        if way.mark().is_some() {
-            self.tree.set_mark(pair, mark);
+        let is_added = set(&mut self.tree, pair, mark)?;
+        if !is_added {
             return Ok(Stepped::Found);
         }
-        plant(&mut self.tree, way, mark)?;
         self.pledged -= 1;
         Ok(Stepped::Added)
     }
@@ -244,16 +300,14 @@ impl<A: Allocator + Clone> MarkedIndex<A> {
             × ((e ≡ Error.IndexFull) ⊎ (e ≡ Error.NoMemory))) }
         ensures unchanged { OnErr result (self.new ≡ self.old) }
     {
-        let is_full = self.is_full();
-        let way = self.tree.find_way(pair);
-        if way.mark().is_some() {
-            return Ok(Built::Rejected);
-        }
-        if is_full {
+        if self.lacks_place(pair) {
             return Err(Error::IndexFull);
         }
-        plant(&mut self.tree, way, Mark::Live)?;
-        Ok(Built::Placed)
+        let is_added = put_absent(&mut self.tree, pair)?;
+        if is_added {
+            return Ok(Built::Placed);
+        }
+        Ok(Built::Rejected)
     }
 
     // How many places are taken or pledged.

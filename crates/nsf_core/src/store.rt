@@ -8,6 +8,7 @@ ghost use Rattle.record_values.specs.Maps.{set_at};
 ghost use Rattle.record_values.specs.declared.rid.TheConstants.{SLOTS_PER_PAGE};
 ghost use Rattle.record_values.specs.declared.row.Row.{Row};
 ghost use Rattle.btree_node.specs.Above.{IsLeastAbove};
+ghost use Rattle.btree_node.specs.Below.{IsGreatestBelow};
 ghost use Rattle.btree_node.specs.Runs.{IsRunAbove};
 ghost use Rattle.core_model.specs.Events.{Event, Reply};
 ghost use Rattle.core_parts.specs.View.{IsSafe, Serves};
@@ -224,6 +225,13 @@ impl<A: Allocator + Copy> Core<A> {
         ensures { IsLeastAbove (value_of self.now).index.entries (option_copied pair.entry) result }
     {
         self.parts.index.above(pair)
+    }
+
+    /// The greatest entry whose pair comes before the given one, or the greatest of all.
+    pub fn below(&self, pair: Option<&Pair>) -> Option<(Pair, Mark)>
+        ensures { IsGreatestBelow (value_of self.now).index.entries (option_copied pair.entry) result }
+    {
+        self.parts.index.below(pair)
     }
 
     /// The next entries above the pair, or the first of all: some that stand together, in order. There is none only

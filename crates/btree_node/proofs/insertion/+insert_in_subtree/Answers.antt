@@ -1,4 +1,4 @@
-use Rattle.std.proofs.Common.{rules, arith, ◌∙◌, sym, ap, subst, get_or, ◌≡◌, ◌+◌, ◌^◌, ◌<◌, ◌≤◌, [], length, vec_len, slice_set}
+use Rattle.std.proofs.Common.{rules, arith, ◌∙◌, refl, sym, ap, subst, get_or, ◌≡◌, ◌+◌, ◌^◌, ◌<◌, ◌≤◌, [], length, vec_len, slice_set}
 use Rattle.std.proofs.lemmas.List.{append-nil}
 use Rattle.btree_node.specs.Splits.{splits}
 use Rattle.btree_node.specs.Grown.{AreEnough}
@@ -10,6 +10,7 @@ use Rattle.node_parts.proofs.RowLemmas.{length-trees, trees-insert}
 use Rattle.btree_node.proofs.Path.{path_head, path_rest, path_some}
 use Rattle.btree_node.proofs.At as at
 use Rattle.btree_node.proofs.At.{IsPut, at_child, at_range}
+use Rattle.btree_node.proofs.Labels.{upto_pair}
 use Rattle.btree_node.proofs.insertion.+insert_in_subtree.Goals as goal
 
 pub unreachable-requires : goal.unreachable-requires
@@ -42,6 +43,13 @@ index_mut-child-requires g t c =
     let z : get_or c.args.path.now 0 0 ≡ place_in c.args.node.now c.args.entry.pair = path_head _ _ _ c.requires.path in
     let o : length c.in-Inner.row.items ≡ vec_len c.in-Inner.row = search rules in
     omega (arith, o, at_range _ _ _ _ _ c.node.view_is c.in-Inner.is c.node.invariant c.requires.some z)
+
+pub lower-requires : goal.lower-requires
+lower-requires g t c =
+    let z : get_or c.args.path.now 0 0 ≡ place_in c.args.node.now c.args.entry.pair = path_head _ _ _ c.requires.path in
+    let a = at_child _ _ _ _ _ c.index_mut-child.result.now _ c.node.view_is c.in-Inner.is c.node.invariant c.requires.ascending c.requires.some c.requires.tree
+    z c.index_mut-child.ensures.value refl in
+    record { belongs = λ behind. upto_pair a behind }
 
 pub insert_in_subtree-requires : goal.insert_in_subtree-requires
 insert_in_subtree-requires g t c κs within =
