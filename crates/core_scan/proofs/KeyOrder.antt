@@ -14,6 +14,7 @@ use Rattle.std.specs.declared.ops.Bound.{Bound}
 use Rattle.std.specs.declared.ops.Bound.TheVariants.{Excluded, Included, Unbounded}
 use Rattle.record_values.specs.Orders.{pair_cmp, pair_cmp_total, rid_cmp, is_above}
 use Rattle.record_values.specs.declared.pair.Pair.{Pair}
+use Rattle.core_scan.specs.Backward.{is_before}
 
 abbrev pub Bytes : Type 0
 Bytes = List ℕ
@@ -104,6 +105,79 @@ before_excluded from to l p is within =
     ap is_lt (before_by_key l p (is_less (key_cmp l.key p.key)
     (ap (λ f. is_from_start key_cmp f p.key) (sym is) ∙ (and_parts (is_from_start key_cmp from p.key) (not (is_past_end key_cmp to p.key)) within).0)))
 
+-- ---- behind the end of a range
+
+not_less : (o : Ordering) → not (is_lt o) ≡ true → (o ≡ Equal) ⊎ (o ≡ Greater)
+not_less Less is = absurd (false≢true is)
+not_less Equal is = inl refl
+not_less Greater is = inr refl
+
+greater : (o : Ordering) → not (is_le o) ≡ true → o ≡ Greater
+greater Less is = absurd (false≢true is)
+greater Equal is = absurd (false≢true is)
+greater Greater is = refl
+
+-- a pair of a key behind the bound is behind the range
+pub behind_included : (from to : Bound Bytes) (bound : Bytes) (l p : Pair) → to ≡ Included bound → key_cmp bound l.key ≡ Less
+    → range_contains key_cmp from to p.key ≡ true → is_before (Some l) p ≡ true
+behind_included from to bound l p is less within =
+    ap is_lt (before_by_key p l (by (not_less (key_cmp bound p.key)
+    (ap (λ t. not (is_past_end key_cmp t p.key)) (sym is) ∙ (and_parts (is_from_start key_cmp from p.key) (not (is_past_end key_cmp to p.key)) within).1))))
+  where
+    by : (key_cmp bound p.key ≡ Equal) ⊎ (key_cmp bound p.key ≡ Greater) → key_cmp p.key l.key ≡ Less
+    by (inl tie) = ap (λ (k : Bytes). key_cmp k l.key) (sym (same_keys bound p.key tie)) ∙ less
+    by (inr behind) = nat_list_cmp_total.trans p.key bound l.key (nat_list_cmp_total.antisymm p.key bound ∙ ap ordering_reverse behind) less
+
+pub behind_some : (from to : Bound Bytes) (bound : Bytes) (o : Option Pair) (p : Pair) → to ≡ Included bound → IfSome o (λ l. key_cmp bound l.key ≡ Less)
+    → range_contains key_cmp from to p.key ≡ true → is_before o p ≡ true
+behind_some from to bound None p is less within = refl
+behind_some from to bound (Some l) p is less within = behind_included from to bound l p is less within
+
+-- and so is one of an excluded bound
+pub behind_excluded : (from to : Bound Bytes) (l p : Pair) → to ≡ Excluded l.key → range_contains key_cmp from to p.key ≡ true → is_before (Some l) p ≡ true
+behind_excluded from to l p is within =
+    ap is_lt (before_by_key p l (nat_list_cmp_total.antisymm p.key l.key ∙ ap ordering_reverse (greater (key_cmp l.key p.key)
+    (ap (λ t. not (is_past_end key_cmp t p.key)) (sym is) ∙ (and_parts (is_from_start key_cmp from p.key) (not (is_past_end key_cmp to p.key)) within).1))))
+
+-- what comes before a pair before the beginning is before it
+unbegun_by : (from : Bound Bytes) (a b : Bytes) → key_cmp b a ≡ Less → is_from_start key_cmp from a ≡ false → is_from_start key_cmp from b ≡ false
+unbegun_by (Included k) a b less is = by (key_cmp k b) refl
+  where
+    begun : key_cmp k a ≡ Less → is_le (key_cmp k b) ≡ false
+    begun before = absurd (true≢false (ap is_le (sym before) ∙ is))
+
+    by : (o : Ordering) → key_cmp k b ≡ o → is_le (key_cmp k b) ≡ false
+    by Less e = begun (nat_list_cmp_total.trans k b a e less)
+    by Equal e = begun (nat_list_cmp_total.congr k b a e ∙ less)
+    by Greater e = ap is_le e
+unbegun_by (Excluded k) a b less is = by (key_cmp k b) refl
+  where
+    by : (o : Ordering) → key_cmp k b ≡ o → is_lt (key_cmp k b) ≡ false
+    by Less e = absurd (true≢false (ap is_lt (sym (nat_list_cmp_total.trans k b a e less)) ∙ is))
+    by Equal e = ap is_lt e
+    by Greater e = ap is_lt e
+unbegun_by Unbounded a b less is = absurd (true≢false is)
+
+pub unbegun_earlier : (from : Bound Bytes) (p q : Pair) → pair_cmp q p ≡ Less → is_from_start key_cmp from p.key ≡ false
+    → is_from_start key_cmp from q.key ≡ false
+unbegun_earlier from p q less unbegun =
+    elim (keys_rise q p less) [
+      | inl rise ↦ unbegun_by from p.key q.key rise unbegun
+      | inr same ↦ ap (is_from_start key_cmp from) same ∙ unbegun
+    ]
+
+-- ---- pairs before a pair
+
+pub not_before_itself : (p : Pair) → is_before (Some p) p ≡ false
+not_before_itself p = ap is_lt (tied_itself pair_cmp_total p)
+
+pub not_before_earlier : (p q : Pair) → pair_cmp q p ≡ Less → is_before (Some q) p ≡ false
+not_before_earlier p q less = ap is_lt (pair_cmp_total.antisymm p q ∙ ap ordering_reverse less)
+
+pub before_earlier : (o : Option Pair) (p q : Pair) → is_before o p ≡ true → pair_cmp q p ≡ Less → is_before o q ≡ true
+before_earlier None p q before less = refl
+before_earlier (Some l) p q before less = ap is_lt (pair_cmp_total.trans q p l less (is_less (pair_cmp p l) before))
+
 -- ---- the later of two pairs
 
 second_alone : (a b : Bool) → (b ≡ true → a ≡ true) → b ≡ (a && b)
@@ -132,6 +206,25 @@ above_first a b p not_less = first_alone (is_above (Some a) p) (is_above (Some b
 pub above_alone : (o : Option Pair) (p : Pair) → is_above o p ≡ (is_above o p && true)
 above_alone o p = first_alone (is_above o p) true (λ after. refl)
 
+-- ---- the earlier of two pairs
+
+-- what is before the earlier one is before both
+pub before_second : (a b p : Pair) → is_lt (pair_cmp b a) ≡ true → is_before (Some b) p ≡ (is_before (Some a) p && is_before (Some b) p)
+before_second a b p less = second_alone (is_before (Some a) p) (is_before (Some b) p) (λ before.
+    ap is_lt (pair_cmp_total.trans p b a (is_less (pair_cmp p b) before) (is_less (pair_cmp b a) less)))
+
+pub before_first : (a b p : Pair) → is_lt (pair_cmp b a) ≡ false → is_before (Some a) p ≡ (is_before (Some a) p && is_before (Some b) p)
+before_first a b p not_less = first_alone (is_before (Some a) p) (is_before (Some b) p) (by (pair_cmp b a) refl)
+  where
+    by : (o : Ordering) → pair_cmp b a ≡ o → is_before (Some a) p ≡ true → is_before (Some b) p ≡ true
+    by Less is before = absurd (true≢false (sym (ap is_lt is) ∙ not_less))
+    by Equal is before = ap is_lt (pair_cmp_total.antisymm p b ∙ ap ordering_reverse (pair_cmp_total.congr b a p is)
+        ∙ sym (pair_cmp_total.antisymm p a)) ∙ before
+    by Greater is before = ap is_lt (pair_cmp_total.trans p a b (is_less (pair_cmp p a) before) (pair_cmp_total.antisymm a b ∙ ap ordering_reverse is))
+
+pub before_alone : (o : Option Pair) (p : Pair) → is_before o p ≡ (is_before o p && true)
+before_alone o p = first_alone (is_before o p) true (λ before. refl)
+
 -- ---- keys before a key
 
 tied_front : (x : ℕ) (o : Ordering) → ordering_then (nat_cmp x x) o ≡ o
@@ -152,6 +245,14 @@ lesser_before [] [] byte last less some = absurd (omega (arith, some))
 lesser_before [] (b ∷ back) byte last less some = ap (λ o. ordering_then o (key_cmp back [])) (lesser byte last less)
 lesser_before (x ∷ front) back byte last less some =
     tied_front x (key_cmp (set (front ++ back) (length front) byte) (front ++ last ∷ [])) ∙ lesser_before front back byte last less some
+
+-- ---- keys behind a key
+
+-- a key with a greater byte is behind all that have the lesser one there
+pub greater_behind : (front rest : Bytes) (last byte : ℕ) → last < byte → key_cmp ((front ++ last ∷ []) ++ rest) (front ++ byte ∷ []) ≡ Less
+greater_behind [] rest last byte less = ap (λ o. ordering_then o (key_cmp rest [])) (lesser last byte less)
+greater_behind (x ∷ front) rest last byte less = tied_front x (key_cmp ((front ++ last ∷ []) ++ rest) (front ++ byte ∷ []))
+    ∙ greater_behind front rest last byte less
 
 -- ---- keys with a prefix
 

@@ -5,4 +5,8 @@ mod Listed
 pub mod Paged
 mod ReadOver
 mod Counted
+mod Reversed
+mod SteppedBack
+mod PagedBack
+mod ReadBack
 pub mod Unread

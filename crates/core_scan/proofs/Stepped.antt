@@ -41,10 +41,10 @@ less_is Less h = refl
 less_is Equal h = absurd h
 less_is Greater h = absurd h
 
-no_mark : (x : Mark) → (◌≡◌ {A = Option Mark} (Some x) None) → ⊥
+pub no_mark : (x : Mark) → (◌≡◌ {A = Option Mark} (Some x) None) → ⊥
 no_mark x e = absurd cc
 
-same_mark : (x y : Mark) → (◌≡◌ {A = Option Mark} (Some x) (Some y)) → x ≡ y
+pub same_mark : (x y : Mark) → (◌≡◌ {A = Option Mark} (Some x) (Some y)) → x ≡ y
 same_mark x y e = cc
 
 pub no_more : {X : Type 0} (xs : List X) → length xs ≡ 0 → xs ≡ []
@@ -61,7 +61,7 @@ pub none_below : (p : Pair) (es : List Entry) → T (below_all pair_cmp p es) �
 none_below p [] h = refl
 none_below p (e ∷ es) h = ap (λ o. cond (is_eq o) (Some e.1) (find pair_cmp p es)) (less_is (pair_cmp p e.0) (first _ _ h)) ∙ none_below p es (second _ _ h)
 
-below_more : (p q : Pair) → pair_cmp p q ≡ Less → (es : List Entry) → T (below_all pair_cmp q es) → T (below_all pair_cmp p es)
+pub below_more : (p q : Pair) → pair_cmp p q ≡ Less → (es : List Entry) → T (below_all pair_cmp q es) → T (below_all pair_cmp p es)
 below_more p q less [] h = tt
 below_more p q less (e ∷ es) h =
     let rise : pair_cmp p e.0 ≡ Less = pair_cmp_total.trans p q e.0 less (less_is (pair_cmp q e.0) (first _ _ h)) in
@@ -76,12 +76,12 @@ all_past last p after (e ∷ es) h =
     ∙ ap (λ (rest : List Entry). e ∷ rest) (all_past last p after es (second _ _ h))
 
 -- what has no entry has none behind the first
-later_none : (b : Bool) (x : Mark) (rest : Option Mark) → cond b (Some x) rest ≡ None → rest ≡ None
+pub later_none : (b : Bool) (x : Mark) (rest : Option Mark) → cond b (Some x) rest ≡ None → rest ≡ None
 later_none true x rest none = absurd (no_mark x none)
 later_none false x rest none = none
 
 -- the first entry is found
-found_first : (e : Entry) (es : List Entry) → find pair_cmp e.0 (e ∷ es) ≡ Some e.1
+pub found_first : (e : Entry) (es : List Entry) → find pair_cmp e.0 (e ∷ es) ≡ Some e.1
 found_first e es = ap (λ o. cond (is_eq o) (Some e.1) (find pair_cmp e.0 es)) (tied_itself pair_cmp_total e.0)
 
 -- where no pair after the last one has an entry, none is left

@@ -8,12 +8,16 @@ ghost use Rattle.std.specs.Ordering.{nat_cmp};
 ghost use Rattle.std.specs.declared.cmp.Ordering.TheVariants.{Less};
 ghost use Rattle.record_values.specs.declared.pair.Pair.{Pair};
 ghost use Rattle.record_values.specs.Orders.{is_above};
+ghost use Rattle.core_scan.specs.Backward.{is_before};
 ghost use Rattle.core_scan.specs.Ranges.{IsKey, is_within};
 ghost use Rattle.core_scan.specs.Visible.{is_shown};
 
 use btree_node::Entry;
 use records::{KEY_MAX, Key, Mark, Pair, Rid, SLOTS_PER_PAGE};
 use std::ops::Bound;
+
+// The place before all others.
+const FIRST: Rid = Rid { page: 0, slot: 0 };
 
 // The place behind all others.
 const LAST: Rid = Rid {
@@ -74,6 +78,46 @@ fn before_key(key: &Key) -> Option<Pair>
     })
 }
 
+// The key of these bytes and one more.
+fn key_with(front: &[u8], last: u8) -> Key
+    requires { length front.now < KEY_MAX }
+    ensures { result ≡ front.now ++ last ∷ [] }
+{
+    let mut bytes = [0; KEY_MAX];
+    bytes[..front.len()].copy_from_slice(front);
+    bytes[front.len()] = last;
+    key_of(&bytes[..front.len() + 1])
+}
+
+// A key behind all that begin with these bytes; none where no key is.
+fn key_behind(bytes: &[u8]) -> Option<Key>
+    requires { length bytes.now ≤ KEY_MAX }
+    ensures { IfSome result (λ key. (rest : List ℕ) → slice_cmp nat_cmp (bytes.now ++ rest) key ≡ Less) }
+{
+    let (last, front) = bytes.split_last()?;
+    if *last == u8::MAX {
+        key_behind(front)
+    } else {
+        Some(key_with(front, *last + 1))
+    }
+}
+
+// A pair behind those of the key; none where no key is behind it. (That it is next to them, no clause says.)
+fn behind_key(key: &Key) -> Option<Pair>
+    ensures { IfSome result (λ p. slice_cmp nat_cmp key.now p.key ≡ Less) }
+{
+    let bytes = key.as_slice();
+    let next = if bytes.len() < KEY_MAX {
+        key_with(bytes, 0)
+    } else {
+        key_behind(bytes)?
+    };
+    Some(Pair {
+        key: next,
+        rid: FIRST,
+    })
+}
+
 impl KeyRange {
     /// All keys.
     pub fn all() -> KeyRange
@@ -95,8 +139,8 @@ impl KeyRange {
         }
     }
 
-    // Whether the range has begun at the key.
-    fn has_begun(&self, key: &Key) -> bool
+    /// Whether the range has begun at the key.
+    pub(crate) fn has_begun(&self, key: &Key) -> bool
         ensures { result ≡ is_from_start (slice_cmp nat_cmp) self.now.from key.now }
     {
         match &self.from {
@@ -144,6 +188,21 @@ impl KeyRange {
             Bound::Excluded(from) => Some(Pair {
                 key: from,
                 rid: LAST,
+            }),
+            Bound::Unbounded => None,
+        }
+    }
+
+    /// A pair behind all of the range; none where no pair can be behind it. (That it is next to the end, no clause
+    /// says.)
+    pub(crate) fn pair_behind(&self) -> Option<Pair>
+        ensures { (p : Pair) → is_within self.now p.key ≡ true → is_before result p ≡ true }
+    {
+        match self.to {
+            Bound::Included(to) => behind_key(&to),
+            Bound::Excluded(to) => Some(Pair {
+                key: to,
+                rid: FIRST,
             }),
             Bound::Unbounded => None,
         }

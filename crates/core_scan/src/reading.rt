@@ -16,9 +16,9 @@ use std::alloc::Allocator;
 /// Some visible pairs of a range, one behind another.
 #[derive(Drop)]
 pub struct Page<A: Allocator> {
-    /// The pairs, ascending.
+    /// The pairs, in the order in which the range is read.
     pub pairs: Vec<Pair, A>,
-    /// The pair behind which to go on; none where nothing is left of the range.
+    /// The pair from which to go on; none where nothing is left of the range.
     pub next: Option<Pair>,
 }
 

@@ -11,8 +11,9 @@
 //! commit to the seat's session (`committed`). Where it is refused, the session stays (`nothing_stays`), or the
 //! transaction is left in it (`left`), and a core may refuse a step of taking it back (`why_left`). `get` of a place
 //! that the seat holds answers its own row (`own`).
-//! `scan` and `count` read the index of such a core in order (`page`, `count`). `get_committed`, `find_committed` and
-//! `scan_committed` read what is committed of it (`row`, `found`, `page`), so no row that a transaction may take back.
+//! `scan`, `scan_back` and `count` read the index of such a core in order (`page`, `count`). `get_committed`,
+//! `find_committed` and `scan_committed` read what is committed of it (`row`, `found`, `page`), so no row that a
+//! transaction may take back.
 //! An acknowledgement is of a ticket that a horizon reached (`acked`), no horizon falls (`rises`), what the seat has
 //! seen leaves a wait one answer (the law `one_wait`), and the horizon that it had seen with its mark was published by
 //! the moment that this marks, if it isn't 0 (`noted`).

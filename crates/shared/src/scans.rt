@@ -3,6 +3,7 @@
 ghost use Rattle.std.specs.Prelude.{◌≡◌};
 ghost use Rattle.std.specs.Option.{option_copied};
 ghost use Rattle.core_scan.specs.Answered.{IsCountOf, IsPageOf};
+ghost use Rattle.core_scan.specs.Backward.{IsPageBackOf};
 ghost use Rattle.locked_core.specs.Locked.{locked_of};
 ghost use Rattle.shared.specs.Scans.{WasSeen};
 
@@ -27,6 +28,20 @@ fn page_of<B: Group, A: Memory, M: Allocator>(
         (option_copied after.entry) limit result }
 {
     core_scan::scan(alloc, locked.core(), range, after, limit)
+}
+
+// The page backward of the core that lies here.
+fn page_back_of<B: Group, A: Memory, M: Allocator>(
+    alloc: M,
+    locked: &Locked<B, A>,
+    range: &KeyRange,
+    before: Option<&Pair>,
+    limit: usize,
+) -> Result<Page<M>, Error>
+    ensures { IsPageBackOf (locked_of locked.now).core.index.entries (locked_of locked.now).core.life range.now
+        (option_copied before.entry) limit result }
+{
+    core_scan::scan_back(alloc, locked.core(), range, before, limit)
 }
 
 // The count of the core that lies here.
@@ -67,6 +82,38 @@ impl<B: Group, A: Memory> Shared<B, A> {
         locked.push_outbox(rt, &self.queue);
         locked.compare_seat(&self.registry, &mut seat.part);
         let page = page_of(alloc, locked, range, after, limit);
+        MutexGuard::unlock(guard);
+        page
+    }
+
+    /// A page of the range backward: the last of its visible pairs before this one, the last one first, as many as
+    /// `limit` at most, and the pair before which to go on. It is that of a core as `scan` names it.
+    ///
+    /// A page is read in one hold of the lock, and the next one in another. Let the pages of a range have limits above
+    /// 0, and be read one before another until none is left. They are a `ReadingBack` of the indexes of such cores. So
+    /// the law `each_reading_back` of `core_scan` holds of them: no pair comes twice, each was visible at its page, and
+    /// none is missing that was visible at every page.
+    ///
+    /// How long the lock is held, the refusals, and what is pushed first are as with `scan`. Each entry is looked up
+    /// by itself, down from the root.
+    pub fn scan_back<R: Wait, K: Keeping, M: Allocator>(
+        &self,
+        rt: &R,
+        alloc: M,
+        seat: &mut Seat<B, A, K>,
+        range: &KeyRange,
+        before: Option<&Pair>,
+        limit: usize,
+    ) -> Result<Page<M>, Error>
+        ensures page { ∥ WasSeen B.site.opened seat.old.number seat.old.session (λ core.
+            IsPageBackOf core.index.entries core.life range.now (option_copied before.entry) limit result) ∥₁ }
+        ensures seat { seat.new ≡ seat.old }
+    {
+        let mut guard = self.hold(rt);
+        let locked = &mut *guard;
+        locked.push_outbox(rt, &self.queue);
+        locked.compare_seat(&self.registry, &mut seat.part);
+        let page = page_back_of(alloc, locked, range, before, limit);
         MutexGuard::unlock(guard);
         page
     }
