@@ -169,7 +169,7 @@ impl<A: Allocator + Copy> Gathered<A> {
         self.count = other.count;
     }
 
-    /// Makes a batch of them, of this number: each is digested once, now that no other takes its place.
+    /// Makes a batch of them, of this number: each is digested here, also one whose digest `put` told.
     pub(crate) fn seal(&mut self, number: u64)
         requires { IsBuffer self.old }
         ensures sealed { IsSealed number self.new }

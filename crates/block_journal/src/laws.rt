@@ -40,9 +40,8 @@ pub fn next_is_last()
         → IsCommitted next (replayed next.entries settled) kept }
 {}
 
-/// A law: bytes that rot in the batch that was written last can't be told from ones that were torn. Whatever they
-/// became, a crash within its write, before its sync, may leave that very file. Nothing of the batch was acknowledged
-/// then.
+/// A law: where a run of blocks was written, and not synced yet, a crash may leave any bytes in it. So what rots in the
+/// batch that was written last can't be told from what was torn.
 pub fn rotten_or_torn()
     ensures { (file : BlockFile) (first : ℕ) (run rotten : CrashFile)
         → SameOutside (InRun first (length run)) (after_write file first run).content rotten → IsWhole rotten

@@ -7,8 +7,8 @@ use std::sync::Wait;
 use std::sync::atomic::{AtomicU64, Ordering};
 use std::time::Duration;
 
-// After so many attempts the builder pauses, unless it is told otherwise.
-const PAUSE_EVERY: u64 = 64;
+// With its three words a bell takes two lines of a processor's memory.
+const ROOM: usize = 13;
 
 /// Wakes the threads that sleep until it rings.
 #[derive(Drop)]
@@ -17,6 +17,8 @@ pub struct Bell {
     sleepers: AtomicU64,
     // How many threads look at it for longer.
     lookers: AtomicU64,
+    // So that no two bells lie in one line.
+    room: [u64; ROOM],
 }
 
 impl Bell {
@@ -25,6 +27,7 @@ impl Bell {
             rings: AtomicU64::new(0),
             sleepers: AtomicU64::new(0),
             lookers: AtomicU64::new(0),
+            room: [0; ROOM],
         }
     }
 
@@ -74,7 +77,6 @@ pub struct Waits {
     pub pushed: Bell,
     /// Rings where there is something to build, and where all are to stop.
     pub resting: Bell,
-    pause_every: AtomicU64,
     // How many threads want the lock, that others wait for, and don't have it yet.
     wanting: AtomicU64,
 }
@@ -85,7 +87,6 @@ impl Waits {
             published: Bell::new(),
             pushed: Bell::new(),
             resting: Bell::new(),
-            pause_every: AtomicU64::new(PAUSE_EVERY),
             wanting: AtomicU64::new(0),
         }
     }
@@ -95,11 +96,6 @@ impl Waits {
         self.published.ring();
         self.pushed.ring();
         self.resting.ring();
-    }
-
-    /// After how many attempts the builder pauses; 0 where it never does.
-    pub fn pause_every(&self) -> u64 {
-        self.pause_every.load(Ordering::SeqCst)
     }
 
     /// Says that a seat, or the flusher, wants the lock. `has_lock` follows once it has it.

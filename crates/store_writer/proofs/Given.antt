@@ -1,5 +1,5 @@
 -- What a writer is opened over, and what a reader finds of it.
-use Rattle.std.proofs.Common.{◌≡◌, ℕ, ◌+◌, ◌-◌, ◌≤◌, List, [], ◌++◌, length, take, drop, refl, sym, ap, subst, ◌∙◌, arith, length-take, length-append}
+use Rattle.std.proofs.Common.{◌≡◌, ℕ, ◌+◌, ◌-◌, ◌≤◌, List, [], ◌++◌, length, take, drop, sym, ap, subst, ◌∙◌, arith, length-take, length-append}
 use Rattle.std.proofs.Math.Seq.{take-length, drop-append_seam}
 use Rattle.sector_device.specs.Disk.{CrashState, IsSynced}
 use Rattle.sector_device.specs.DevicePast.{DevicePast}
@@ -11,7 +11,7 @@ use Rattle.model.specs.Following.{AreFollowing, ArePlaced}
 use Rattle.model.specs.Given.{Given, given_after, opening_cells, recovered}
 use Rattle.model.proofs.FollowingLaws.{following-append}
 use Rattle.model.proofs.PlacedLaws.{following_placed}
-use Rattle.gate_log.specs.Area.{Area, Log, HoldsGroups, Stands}
+use Rattle.gate_log.specs.Area.{Area, Log}
 use Rattle.flip_image.specs.declared.half.Half.{Half}
 use Rattle.flip_image.specs.Layout.{HalvesValue}
 use Rattle.flip_image.specs.Store.{IsStore, HoldsImage}
@@ -76,32 +76,6 @@ module _ (now : DevicePast) (halves : HalvesValue) (log : Log) (given : Given) (
       small = small;
     },
   )
-
--- over an image with an empty log
-pub over_image : (now : DevicePast) (halves : HalvesValue) (log : Log) (last : ℕ) (cells : Cells) → IsStore halves.geometry halves.current now.disk.content
-    → HoldsImage halves.geometry halves.current now.disk.content last cells
-    → log.area ≡ log_area halves.geometry halves.current → Stands log now.disk.content [] → IsSynced now.disk → last ≤ LAST_NUMBER
-    → ((txn : ℕ) → ArePlaced halves.geometry.pages 0 (list_of cells.pending txn))
-    → IsOpenedAt now halves log last cells
-over_image now halves log last cells store imaged area stands all small placed = record {
-  store = store;
-  has = record {
-    base = last;
-    copied = cells;
-    imaged = imaged;
-    groups = [];
-    held = subst (λ (a : Area). HoldsGroups a now.disk.content []) area stands.held;
-    following = tt;
-    last-is = omega arith;
-    cells-are = refl;
-  };
-  area-is = area;
-  groups = [];
-  stands = stands;
-  all_synced = all;
-  placed = placed;
-  small = small;
-}
 
 -- ---- more records
 

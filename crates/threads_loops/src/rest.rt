@@ -12,7 +12,7 @@ use std::time::Duration;
 // The shortest and the longest sleep of a loop that found nothing to do, in microseconds.
 const SHORTEST: u64 = 125;
 
-const LONGEST: u64 = 32_000;
+const LONGEST: u64 = 48_000;
 
 // So many rounds in which the flusher found nothing it looks again at once, and then sleeps.
 const LOOKS: u32 = 16;
@@ -27,6 +27,9 @@ const FLUSHER_SLEEP: u64 = 1_000;
 const COPY_PAUSE: u64 = 20;
 
 const BUILD_PAUSE: u64 = 30;
+
+// After so many steps the builder pauses.
+const PAUSE_EVERY: u64 = 64;
 
 // A record of the builder takes so many bytes beside its key.
 const BUILT_BESIDE_KEY: u64 = 24;
@@ -140,7 +143,7 @@ impl Pace {
     pub(crate) fn leave_room<R: Wait>(&mut self, rt: &R, waits: &Waits, rings: u64, bytes: u64) {
         self.ahead = self.ahead.saturating_add(bytes);
         self.steps = self.steps.saturating_add(1);
-        if self.steps >= waits.pause_every() && waits.pause_every() > 0 {
+        if self.steps >= PAUSE_EVERY {
             waits
                 .resting
                 .sleep(rt, rings, Duration::from_micros(BUILD_PAUSE));
