@@ -10,6 +10,8 @@ pub struct ScanArguments {
     pub last: Option<String>,
     /// What each key begins with, likewise. It comes without a first key.
     pub prefix: Option<String>,
+    /// Whether the last pair is to be shown first.
+    pub is_back: bool,
     /// How many pairs are to be shown at most.
     pub limit: Option<u32>,
     /// Whether it is only to be told how many there are.
@@ -37,6 +39,7 @@ pub(crate) fn scan_of(
         first: word_in(alloc, matches, "FROM")?,
         last: word_in(alloc, matches, "TO")?,
         prefix: word_in(alloc, matches, "prefix")?,
+        is_back: matches.get_flag("back"),
         limit: matches.get_one::<u32>("limit"),
         counts: matches.get_flag("count"),
     })

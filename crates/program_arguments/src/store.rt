@@ -42,6 +42,14 @@ pub enum Order {
     Key,
 }
 
+/// How rows are exported.
+#[derive(Clone, Copy)]
+pub struct Export {
+    pub order: Order,
+    /// Whether they are printed as objects of JSON, a line each.
+    pub is_json: bool,
+}
+
 /// What is to be done with the file.
 #[derive(Clone, Copy)]
 pub enum Verb {
@@ -62,8 +70,8 @@ pub enum Verb {
     Stat,
     /// The index is built to its end, or dropped, created and built anew.
     Build(Build),
-    /// Its rows are printed as comma-separated fields.
-    Export(Order),
+    /// Its rows are printed.
+    Export(Export),
 }
 
 /// What is asked for of `nsf-store`.
@@ -143,11 +151,19 @@ fn build_of(matches: &ArgMatches<'_>) -> Verb {
     })
 }
 
-fn export_of(matches: &ArgMatches<'_>) -> Verb {
+// In which order rows are to be exported.
+fn order_in(matches: &ArgMatches<'_>) -> Order {
     match matches.get_str("order") {
-        Some("key") => Verb::Export(Order::Key),
-        _ => Verb::Export(Order::Place),
+        Some("key") => Order::Key,
+        _ => Order::Place,
     }
+}
+
+fn export_of(matches: &ArgMatches<'_>) -> Verb {
+    Verb::Export(Export {
+        order: order_in(matches),
+        is_json: matches.get_flag("json"),
+    })
 }
 
 // The verb of this name; each but the last has a name of its own.

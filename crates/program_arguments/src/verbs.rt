@@ -124,7 +124,7 @@ static VERBS: [VerbForm; 12] = [
     ),
     (
         "scan",
-        "Prints the index's pairs from a key to a key in order, and then `end` or `more`. The file is only read",
+        "Prints the index's pairs from a key to a key in order, or back, and then `end` or `more`. The file is only read",
         &[
             FILE,
             Form {
@@ -144,6 +144,12 @@ static VERBS: [VerbForm; 12] = [
                 takes: Takes::Word("P"),
                 apart_from: Some("FROM"),
                 help: "Shows the keys that begin so, in place of those from key to key",
+            },
+            Form {
+                name: "back",
+                takes: Takes::Nothing,
+                apart_from: None,
+                help: "Shows the last pair first, and goes on to the first one",
             },
             Form {
                 name: "limit",
@@ -217,7 +223,7 @@ static VERBS: [VerbForm; 12] = [
     ),
     (
         "export",
-        "Prints the rows as comma-separated fields under a header, as `load` reads them. The file is only read",
+        "Prints the rows as comma-separated fields under a header, as `load` reads them, or as objects of JSON. The file is only read",
         &[
             FILE,
             Form {
@@ -225,6 +231,12 @@ static VERBS: [VerbForm; 12] = [
                 takes: Takes::Name("ORDER", &["place", "key"]),
                 apart_from: None,
                 help: "By `place`, or by `key`, which needs a complete index [default: place]",
+            },
+            Form {
+                name: "json",
+                takes: Takes::Nothing,
+                apart_from: None,
+                help: "Prints an object of JSON a row, a line each, with `key` and `body`. Bytes that are no UTF-8 it has as hexadecimal digits, under `key_hex` and `body_hex`. `load` doesn't read it",
             },
         ],
     ),

@@ -1,6 +1,6 @@
 -- What a scan asks for, and what is printed for it.
-use Rattle.std.specs.Prelude.{[], Bool, codes, Err, if◌then◌else◌, length, List, nat_le, None, Ok, Option, Result, Some}
-use Rattle.std.specs.Prelude.{true, ℕ, ◌++◌, ◌-◌, ◌&&◌, ◌^◌, ◌∷◌, ◌≡◌}
+use Rattle.std.specs.Prelude.{[], Bool, codes, Err, false, if◌then◌else◌, length, List, nat_le, None, Ok, Option}
+use Rattle.std.specs.Prelude.{Result, Some, true, ℕ, ◌++◌, ◌-◌, ◌&&◌, ◌^◌, ◌∷◌, ◌≡◌}
 use Rattle.std.specs.Fmt.{decimal}
 use Rattle.std.specs.Io.KnownBytes.{Appends}
 use Rattle.std.specs.List.{flat_map}
@@ -12,7 +12,10 @@ use Rattle.record_values.specs.declared.error.Error.{Error}
 use Rattle.record_values.specs.declared.error.Error.TheVariants.{KeyTooLong}
 use Rattle.record_values.specs.declared.key.TheConstants.{KEY_MAX}
 use Rattle.record_values.specs.declared.pair.Pair.{Pair}
+use Rattle.model.specs.Table.{Index}
+use Rattle.model.specs.declared.life.Life.{Life}
 use Rattle.core_scan.specs.Answered.{IsCountOf, IsPageOf}
+use Rattle.core_scan.specs.Backward.{IsPageBackOf}
 use Rattle.core_scan.specs.declared.range.KeyRange.{KeyRange}
 use Rattle.core_scan.specs.declared.reading.Page.{Page}
 use Rattle.program_script.specs.declared.scan.Scan.{Scan}
@@ -53,8 +56,16 @@ range_asked span = if keys_fit span then Ok (range_of span) else Err KeyTooLong
 abbrev pub page_asked : Scan → Result PageRequest Error
 page_asked scan =
     if keys_fit scan.span
-    then Ok (record { range = range_of scan.span; limit = unwrap_or scan.limit (2 ^ 64 - 1) })
+    then Ok (record { range = range_of scan.span; is_back = scan.is_back; limit = unwrap_or scan.limit (2 ^ 64 - 1) })
     else Err KeyTooLong
+
+-- an index answers this where the first page of a range is asked for, or where it is the last one, from its end
+abbrev pub IsPageIn : {A : Type 0} → Bool → Index → Life → KeyRange → ℕ → Result (Page A) Error → Type 0
+IsPageIn true entries life range limit answer = IsPageBackOf entries life range None limit answer
+IsPageIn false entries life range limit answer = IsPageOf entries life range None limit answer
+
+abbrev pub IsPageAsked : {A : Type 0} → Index → Life → PageRequest → Result (Page A) Error → Type 0
+IsPageAsked entries life asked answer = IsPageIn asked.is_back entries life asked.range asked.limit answer
 
 -- the line of a pair: its key and its place
 abbrev pub pair_line : Pair → List ℕ
@@ -87,11 +98,11 @@ came_of (Ok found) = Other
 came_of (Err error) = Refused error
 
 module _ {D W : Type 0} (contents : W → Option (List ℕ)) (store : Store D) where
-  -- The first page of a range of the store's index was printed, with as many pairs at most as are asked for, or why
-  -- there is none.
+  -- The page of a range of the store's index that is asked for was printed, with as many pairs at most as are asked
+  -- for, or why there is none.
   pub record PrintsPage (asked : PageRequest) (outcome : Outcome) (before after : W) : Type 0 where
     pub page : Result (Page Global) Error
-    pub is_page : IsPageOf (entries_of store) (life_of store) asked.range None asked.limit page
+    pub is_page : IsPageAsked (entries_of store) (life_of store) asked page
     pub prints : Appends (contents before) (contents after) (printed page_text page)
     pub came : outcome ≡ came_of page
 

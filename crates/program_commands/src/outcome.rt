@@ -6,7 +6,7 @@ use program_values::Answer;
 use records::Error;
 
 /// What came of a request, as far as who asked may have to act upon it.
-#[derive(Clone, Copy, Debug, PartialEq, Eq)]
+#[derive(Clone, Copy)]
 pub enum Outcome {
     /// Its answer was a ticket.
     Ticket,

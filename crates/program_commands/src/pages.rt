@@ -2,13 +2,13 @@
 ghost use Rattle.std.specs.Prelude.{◌≡◌, ◌-◌, ◌^◌, IfOk, None, OnOk};
 ghost use Rattle.std.specs.Io.KnownBytes.{Appends};
 ghost use Rattle.std.specs.Option.{unwrap_or};
-ghost use Rattle.core_scan.specs.Answered.{IsCountOf, IsPageOf};
+ghost use Rattle.core_scan.specs.Answered.{IsCountOf};
 ghost use Rattle.program_values.specs.Texts.{line_of};
 ghost use Rattle.program_commands.specs.Pages.{bound_asked, end_line, page_text, pair_line, pair_lines, range_asked};
 
 use crate::outcome::Outcome;
 use crate::store::Store;
-use core_scan::{KeyRange, Page, count, scan};
+use core_scan::{KeyRange, Page, count, scan, scan_back};
 use program_script::{ByteText, Scan, Span};
 use program_values::{Answer, PairText};
 use records::{Error, Key, Pair};
@@ -18,10 +18,11 @@ use std::io;
 use std::io::Write;
 use std::ops::Bound;
 
-/// A range of the index, and how many of its pairs are asked for at most.
+/// A range of the index, whether its last pair is to come first, and how many of its pairs are asked for at most.
 #[derive(Clone, Copy)]
 pub struct PageRequest {
     pub range: KeyRange,
+    pub is_back: bool,
     pub limit: usize,
 }
 
@@ -71,7 +72,11 @@ impl PageRequest {
     {
         let range = range_of(&scan.span)?;
         let limit = limit_of(scan.limit);
-        Ok(PageRequest { range, limit })
+        Ok(PageRequest {
+            range,
+            is_back: scan.is_back,
+            limit,
+        })
     }
 }
 
@@ -124,19 +129,22 @@ fn print_refusal<W: Write>(error: Error, output: &mut W) -> io::Result<()>
 }
 
 impl<D: Device> Store<D> {
-    ghost use Rattle.program_commands.specs.Pages.{PrintsCount, PrintsPage};
+    ghost use Rattle.program_commands.specs.Pages.{IsPageAsked, PrintsCount, PrintsPage};
     ghost use Rattle.program_commands.specs.Store.{entries_of, life_of};
 
-    // The first page of the range.
+    // The first page of the range, or the last one backward.
     fn page_of(&self, alloc: Global, asked: &PageRequest) -> Result<Page<Global>, Error>
-        ensures { IsPageOf (entries_of self.now) (life_of self.now) asked.now.range None asked.now.limit result }
+        ensures { IsPageAsked (entries_of self.now) (life_of self.now) asked.now result }
     {
+        if asked.is_back {
+            return scan_back(alloc, self.core(), &asked.range, None, asked.limit);
+        }
         scan(alloc, self.core(), &asked.range, None, asked.limit)
     }
 
-    /// Prints the first page of the range that is asked for: a line for each pair, in order, and then `end`, or (with
-    /// a limit above 0) `more` and the last of these pairs where more is left of the range. Or it prints why there is
-    /// none: `NoIndex`, `NotBuilt` or `NoMemory`. It tells what came of it.
+    /// Prints the first page of the range that is asked for, or the last one, from its last pair back: a line for each
+    /// pair, in order, and then `end`, or (with a limit above 0) `more` and the last of these pairs where more is left
+    /// of the range. Or it prints why there is none: `NoIndex`, `NotBuilt` or `NoMemory`. It tells what came of it.
     pub fn print_page<W: Write>(
         &self,
         alloc: Global,

@@ -8,7 +8,7 @@ use restart::Event;
 use sector_device::Fate;
 
 /// What a command asks for.
-#[derive(Clone, Copy, Debug, PartialEq, Eq)]
+#[derive(Clone, Copy)]
 pub enum Request {
     /// One event of the engine.
     Event(Event),

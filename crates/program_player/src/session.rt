@@ -22,7 +22,7 @@ use std::io::Write;
 pub type Disk = FaultDisk<MemDisk<Global>>;
 
 /// The write or sync that was to be cut short was made.
-#[derive(Clone, Copy, Debug, PartialEq, Eq)]
+#[derive(Clone, Copy)]
 pub struct Stopped;
 
 /// Why a script ended before its last command.

@@ -1,3 +1,4 @@
+mod ObjectLemmas
 mod Outcomes
 mod PairRecords
 mod ReadLemmas

@@ -8,7 +8,7 @@ use std::alloc::AllocError;
 use std::io;
 
 /// Why no record is read from a text, or written to one.
-#[derive(Debug, Drop)]
+#[derive(Drop)]
 pub enum TextError {
     /// Its header isn't there, or doesn't name the columns.
     Header(HeaderError),
@@ -53,7 +53,7 @@ impl From<io::Error> for TextError {
 }
 
 /// Why rows aren't loaded into a store, or exported from one.
-#[derive(Debug, Drop)]
+#[derive(Drop)]
 pub enum RowsError {
     /// Their text can't be read, or written.
     Text(TextError),

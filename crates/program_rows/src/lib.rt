@@ -1,4 +1,5 @@
-//! Rows as comma-separated fields: what a program loads from such a text into a store, and exports from it.
+//! Rows as comma-separated fields: what a program loads from such a text into a store, and exports from it, so or as
+//! lines of JSON.
 //!
 //! Proved: which row a record gives, or why none (`row_of`, and `row_under` beneath a header of so many fields); the
 //! record of a row (`record_of`), and the lines of both (`line_of`, `row_line`). So are the columns of names, the first
@@ -14,7 +15,8 @@
 //! (`refused`).
 //!
 //! Laws: the record of a row gives the row, and a record of two fields is that of the row which it gives (`each_row`).
-//! What a writer writes of a row's record, a reader reads (`each_line`).
+//! What a writer writes of a row's record, a reader reads (`each_line`). A reader of JSON reads a row's object, and no
+//! two rows have one line as objects (`each_object`).
 //!
 //! Only tested: the lines in which records begin, and that a record which ends with the text inside a quote is
 //! refused. The source is watched for that: where it has ended inside a quote is proved of what was read of it.
@@ -36,7 +38,7 @@ mod text;
 pub use columns::{HeaderError, column_named, columns_named, default_columns, header};
 pub use error::{RowsError, TextError};
 pub use exporting::{export_by_key, export_by_place, export_json_by_key, export_json_by_place};
-pub use laws::{each_line, each_row};
+pub use laws::{each_line, each_object, each_row};
 pub use loading::{Loader, Taken};
 pub use objects::json_line;
 pub use reading::{ColumnNames, RowReader};

@@ -1,6 +1,5 @@
 //! A row as an object of JSON.
 ghost use Rattle.std.specs.Prelude.{◌≡◌, ◌++◌, ◌∷◌, [], IfOk, OnOk};
-ghost use Rattle.json.specs.Lex.{tokens};
 ghost use Rattle.json.specs.Print.{print};
 ghost use Rattle.json.specs.Token.{key, string};
 ghost use Rattle.hex.specs.Hex.{encode_lower};
@@ -60,10 +59,9 @@ fn write_members(writer: &mut Writer, alloc: Global, row: &Row) -> Result<(), Al
     write_bytes(writer, alloc, "body", "body_hex", row.body.as_slice())
 }
 
-// The text of the row's object. Read again, it gives that object.
+// The text of the row's object.
 fn object_text(alloc: Global, row: &Row) -> Result<Vec<u8>, AllocError>
     ensures text { IfOk result (λ text. text.items ≡ print (object_of_row row.now)) }
-    ensures read_back { OnOk result (tokens (print (object_of_row row.now)) ≡ object_of_row row.now) }
 {
     let mut writer = Writer::new(Vec::new(alloc));
     writer.begin_object()?;
@@ -72,11 +70,10 @@ fn object_text(alloc: Global, row: &Row) -> Result<Vec<u8>, AllocError>
     Ok(writer.into_inner())
 }
 
-/// The line of the row as an object: its text (`line`), which a reader reads as that object (`read_back`), and a line
-/// feed. The error is that memory was refused.
+/// The line of the row as an object: its text, and a line feed. What it gives back, the law `each_object` says. The
+/// error is that memory was refused.
 pub fn json_line(alloc: Global, row: &Row) -> Result<Vec<u8>, AllocError>
     ensures line { IfOk result (λ text. text.items ≡ json_of_row row.now) }
-    ensures read_back { OnOk result (tokens (print (object_of_row row.now)) ≡ object_of_row row.now) }
 {
     let mut text = object_text(alloc, row)?;
     text.push(b'\n')?;

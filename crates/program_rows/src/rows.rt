@@ -9,7 +9,7 @@ use std::alloc::{AllocError, Global};
 use thiserror::Error;
 
 /// Which columns of a record have a row's key and its body, counted from 0.
-#[derive(Clone, Copy, Debug, PartialEq, Eq)]
+#[derive(Clone, Copy)]
 pub struct Columns {
     pub key: usize,
     pub body: usize,

@@ -134,7 +134,7 @@ same_shell_line line a b p q = some_is a b (sym (shell_again (words line) a p) �
 
 is_no_command : (words : List (List ℕ)) (l : ShellLine) → SpellShell words l → command_at words ≡ None
 unfolding command_at store_command_at
-is_no_command words (shell.Scan scan) h = ap command_at h.2
+is_no_command words (shell.Scan scan) h = ap command_at h.3
 is_no_command words (shell.DeleteKey txn key) h = ap command_at h.1
 is_no_command words (shell.UpdateKey txn old key body) h = ap command_at h.3
 is_no_command words (shell.CommitNow txn) h = ap command_at h.0

@@ -2,7 +2,7 @@
 ghost use Rattle.std.specs.Prelude.{◌≡◌, IfOk};
 ghost use Rattle.std.specs.Option.{option_map};
 ghost use Rattle.program_script.specs.Reading.{parts_left};
-ghost use Rattle.program_script.specs.ReadingScans.{between_at, from_at, keys_at, limit_at};
+ghost use Rattle.program_script.specs.ReadingScans.{between_at, from_at, keys_at, limit_at, manner_at};
 
 use crate::byte_text::ByteText;
 use crate::parts::{cut_at, only_part};
@@ -21,10 +21,11 @@ pub enum Span {
 }
 
 /// A range of the index that is asked for, and how many of its pairs, or all: `scan`, `scan <first>` or
-/// `scan <first> <last>`, and behind it `count <count>`.
+/// `scan <first> <last>`, then `back` where the last pair is to come first, and behind it `count <count>`.
 #[derive(Drop)]
 pub struct Scan {
     pub span: Span,
+    pub is_back: bool,
     pub limit: Option<u32>,
 }
 
@@ -45,6 +46,22 @@ fn limit_of(rest: Option<&[u8]>) -> Option<Option<u32>>
     }
 }
 
+// Whether the last pair is to come first, and how many pairs are asked for, where nothing else is left.
+#[tactic(auto, unfolding(crate::specs::ReadingScans::manner_at))]
+fn manner_of(rest: Option<&[u8]>) -> Option<(bool, Option<u32>)>
+    ensures { result ≡ manner_at (parts_left 32 (option_map (λ r. r.now) rest.entry)) }
+{
+    let Some(words) = rest else {
+        return Some((false, None));
+    };
+    let (name, more) = cut_at(b' ', words);
+    if name == b"back".as_slice() {
+        Some((true, limit_of(more)?))
+    } else {
+        Some((false, limit_of(rest)?))
+    }
+}
+
 // What is asked for, where the first key was read.
 #[tactic(auto, unfolding(crate::specs::ReadingScans::between_at))]
 fn between_of(
@@ -61,11 +78,12 @@ fn between_of(
     let Some(last) = bytes_of(alloc, word)? else {
         return Ok(None);
     };
-    let Some(limit) = limit_of(more) else {
+    let Some((is_back, limit)) = manner_of(more) else {
         return Ok(None);
     };
     Ok(Some(Scan {
         span: Span::Between { first, last },
+        is_back,
         limit,
     }))
 }
@@ -82,9 +100,10 @@ fn from_of(alloc: Global, rest: Option<&[u8]>) -> Result<Option<Scan>, AllocErro
     let Some(first) = bytes_of(alloc, word)? else {
         return Ok(None);
     };
-    match limit_of(more) {
-        Some(limit) => Ok(Some(Scan {
+    match manner_of(more) {
+        Some((is_back, limit)) => Ok(Some(Scan {
             span: Span::From { first },
+            is_back,
             limit,
         })),
         None => between_of(alloc, first, more),
@@ -96,9 +115,10 @@ fn from_of(alloc: Global, rest: Option<&[u8]>) -> Result<Option<Scan>, AllocErro
 pub fn keys_of(alloc: Global, rest: Option<&[u8]>) -> Result<Option<Scan>, AllocError>
     ensures { IfOk result (λ r. r ≡ keys_at (parts_left 32 (option_map (λ r. r.now) rest.entry))) }
 {
-    match limit_of(rest) {
-        Some(limit) => Ok(Some(Scan {
+    match manner_of(rest) {
+        Some((is_back, limit)) => Ok(Some(Scan {
             span: Span::Whole,
+            is_back,
             limit,
         })),
         None => from_of(alloc, rest),

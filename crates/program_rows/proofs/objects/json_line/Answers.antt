@@ -2,6 +2,8 @@ use Rattle.std.proofs.Common.{◌∙◌, ◌++◌, ◌∷◌, [], List, ap, ℕ}
 use Rattle.program_rows.specs.Objects.{json_of_row}
 use Rattle.program_rows.proofs.objects.json_line.Goals as goal
 
-pub returns-clause-line : goal.returns-clause-line
+pub returns : goal.returns
 unfolding json_of_row
-returns-clause-line c = c.in_ok-push.ensures.items ∙ ap (λ (text : List ℕ). text ++ 10 ∷ []) c.in_ok-text.ensures.text
+returns c = record {
+  line = c.in_ok-push.ensures.items ∙ ap (λ (text : List ℕ). text ++ 10 ∷ []) c.in_ok-text.ensures.text;
+}
