@@ -18,7 +18,7 @@ fn main(rt: HostRuntime) -> io::Result<ExitCode> {
     let words = match words(&rt) {
         Ok(words) => words,
         Err(error) => {
-            let status = program_shell::refuse_words("nsf-threads", error, &mut rt.stderr());
+            let status = program_files::refuse_words("nsf-threads", error, &mut rt.stderr());
             return Ok(ExitCode::from(status));
         }
     };

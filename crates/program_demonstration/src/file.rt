@@ -1,9 +1,8 @@
 //! The threads over the store in a file.
 use crate::found::{Found, look};
-use crate::listener::Listener;
 use crate::program::work_through;
-use crate::team::Team;
-use program_shell::Refused;
+use program_files::Refused;
+use program_team::{Listener, NotOpened, Team};
 use sector_device::Device;
 use std::fs::File;
 use std::io::Write;
@@ -11,13 +10,12 @@ use std::rt::{Clock, Files};
 use std::sync::Wait;
 use std::thread::Threads;
 use store_file::Troubled;
-use threads_lifetime::OpenError;
 
 // Why the threads were refused, with the reason that the disk tells.
-fn refused_over<D: Troubled>(error: OpenError, disk: &D) -> Refused {
+fn refused_over<D: Troubled>(error: NotOpened, disk: &D) -> Refused {
     match error {
-        OpenError::Refused(error) => Refused::Store(error).because(disk),
-        OpenError::Unsound => Refused::Unsound,
+        NotOpened::Refused(error) => Refused::Store(error).because(disk),
+        NotOpened::Unsound => Refused::Unsound,
     }
 }
 

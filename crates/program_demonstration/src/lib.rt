@@ -1,28 +1,18 @@
-//! The program `nsf-threads`: writers, a builder, a cleaner and a flusher side by side, on a new store in memory, whose
-//! power is cut then, or on the store in a file; and what is found behind that.
+//! The program `nsf-threads`: the threads of `program_team` on a new store in memory, whose power is cut then, or on
+//! the store in a file; and what is found behind that.
 //!
-//! Proved of `work_on`: where it answers `Ok`, a crash leaves the opened table with the commits of some seats set over
-//! it. The commit of each ticket that is told as acknowledged is one of them, whatever was refused (`kept`). Only
-//! tested (`test_threads`, and the run of `nsf_threads`): what is printed, and the status. Neither: that these commits
-//! are the writers' own, that a listener hears of each, or that a thread was started.
+//! Proved: that it is safe, and meets what the calls below ask. What a crash keeps of what the threads were told,
+//! `program_team` says. Only tested (`test_threads`, and the run of `nsf_threads`): what is printed, and the status.
 #![tactic(auto)]
 
-mod beginning;
 mod file;
 mod found;
-mod listener;
+mod listeners;
 mod program;
-mod progress;
-mod rows;
-mod team;
-mod waiting;
-mod writer;
 
-pub use beginning::Beginning;
 pub use found::Found;
-pub use listener::{Listener, Turn};
 pub use program::{run, told};
-pub use progress::Progress;
-pub use rows::key_of;
-pub use team::{Refusals, Team, Worked, work_on};
-pub use writer::Acknowledged;
+pub use program_team::{
+    Acknowledged, Beginning, Listener, NotOpened, Progress, Refusals, Team, Turn, Worked, key_of,
+    work_on,
+};

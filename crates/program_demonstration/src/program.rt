@@ -1,12 +1,11 @@
 //! The program over what it writes.
-use crate::beginning::Beginning;
 use crate::file::work_on_file;
 use crate::found::{Found, look};
-use crate::listener::{Listener, Nobody, Printer};
-use crate::progress::Progress;
-use crate::team::{Team, Worked, work_on};
+use crate::listeners::{Nobody, Printer};
+use flip_image::Halves;
 use program_arguments::{NoArguments, ThreadsArguments, read_threads};
-use program_shell::Refused;
+use program_files::Refused;
+use program_team::{Beginning, Listener, NotOpened, Progress, Team, Worked, work_on};
 use records::{Error, Geometry};
 use sector_device::{Device, Fate, MemDisk};
 use std::alloc::Global;
@@ -17,7 +16,6 @@ use std::io::Write;
 use std::rt::{Clock, Files};
 use std::sync::Wait;
 use std::thread::Threads;
-use threads_lifetime::{OpenError, format_store};
 
 const PAGES: u32 = 8;
 
@@ -32,7 +30,7 @@ const CALLS: usize = 16_384;
 fn formatted(alloc: Global) -> Result<MemDisk<Global>, Error> {
     let geometry = Geometry::new(PAGES, ENTRIES, SLOTS)?;
     let mut disk = MemDisk::new(alloc, geometry.sectors(), CALLS)?;
-    match format_store(&mut disk, geometry) {
+    match Halves::format(&mut disk, geometry) {
         Ok(()) => Ok(disk),
         Err(error) => {
             drop(disk);
@@ -47,7 +45,7 @@ pub(crate) fn work_through<
     R: Threads + Wait + Clock + Sync,
     L: Listener + Sync,
     E: Write + Send + Drop,
->(device: D, writers: u8, team: Team<'_, R, L, E>) -> Result<D, (OpenError, D)> {
+>(device: D, writers: u8, team: Team<'_, R, L, E>) -> Result<D, (NotOpened, D)> {
     let Worked {
         device,
         acknowledged,
@@ -55,7 +53,7 @@ pub(crate) fn work_through<
     } = work_on(device, writers, team)?;
     drop(acknowledged);
     match refusals.any() {
-        Some(error) => Err((OpenError::Refused(error), device)),
+        Some(error) => Err((NotOpened::Refused(error), device)),
         None => Ok(device),
     }
 }
@@ -63,12 +61,15 @@ pub(crate) fn work_through<
 // What a crash leaves of the store in memory, or why the threads could not work on it.
 fn found_behind_crash(
     alloc: Global,
-    worked: Result<MemDisk<Global>, (OpenError, MemDisk<Global>)>,
-) -> Result<Found, OpenError> {
+    worked: Result<MemDisk<Global>, (NotOpened, MemDisk<Global>)>,
+) -> Result<Found, NotOpened> {
     match worked {
         Ok(mut disk) => {
             disk.crash(&[Fate::Junk]);
-            Ok(look(alloc, disk)?)
+            match look(alloc, disk) {
+                Ok(found) => Ok(found),
+                Err(error) => Err(NotOpened::Refused(error)),
+            }
         }
         Err((error, disk)) => {
             drop(disk);
@@ -83,7 +84,7 @@ fn work_in_memory<R: Threads + Wait + Clock + Sync, E: Write + Send + Drop>(
     alloc: Global,
     arguments: &ThreadsArguments,
     progress: Option<Progress<E>>,
-) -> Result<Found, OpenError> {
+) -> Result<Found, NotOpened> {
     let team = Team {
         rt,
         alloc,
@@ -96,7 +97,7 @@ fn work_in_memory<R: Threads + Wait + Clock + Sync, E: Write + Send + Drop>(
         Ok(disk) => found_behind_crash(alloc, work_through(disk, arguments.writers, team)),
         Err(error) => {
             drop(team);
-            Err(OpenError::Refused(error))
+            Err(NotOpened::Refused(error))
         }
     }
 }
@@ -131,13 +132,20 @@ fn print<W: Write>(output: &mut W, found: Found) -> io::Result<u8> {
     Ok(if same { 0 } else { 1 })
 }
 
+fn print_refusal<W: Write>(output: &mut W, error: NotOpened) -> io::Result<()> {
+    match error {
+        NotOpened::Refused(error) => writeln!(output, "refused {error}"),
+        NotOpened::Unsound => writeln!(output, "refused Unsound"),
+    }
+}
+
 /// Prints what was found, or why it wasn't, and answers the program's status: 1 where a row is without its entry, an
 /// entry without its row, or something was refused.
-pub fn told<W: Write>(output: &mut W, found: Result<Found, OpenError>) -> io::Result<u8> {
+pub fn told<W: Write>(output: &mut W, found: Result<Found, NotOpened>) -> io::Result<u8> {
     match found {
         Ok(found) => print(output, found),
         Err(error) => {
-            writeln!(output, "refused {error}")?;
+            print_refusal(output, error)?;
             Ok(1)
         }
     }
@@ -212,7 +220,7 @@ fn run_words<
         }
         Err(NoArguments::NoMemory) => {
             drop(progress);
-            told(output, Err(OpenError::Refused(Error::NoMemory)))
+            told(output, Err(NotOpened::Refused(Error::NoMemory)))
         }
         Err(NoArguments::Told(status)) => {
             drop(progress);

@@ -4,7 +4,7 @@ use Rattle.std.proofs.Common.{◌≡◌, inl, inr, ⊎_elim, ℕ, ◌+◌, ◌<�
 use Rattle.std.proofs.lemmas.Bool.{cases_eq}
 use Rattle.sector_device.specs.Disk.{CrashState, sector, SameOutside}
 use Rattle.sector_device.specs.DevicePast.{Rises}
-use Rattle.restart.specs.declared.migration.MigrateError.{MigrateError}
+use Rattle.program_files.specs.declared.copying.NotCopied.{NotCopied}
 use Rattle.program_files.specs.Copied.{AreCopied, IsCopyFailure}
 
 pub from_ok : {T E : Type 0} (P : Type 0) (r : Result T E) → is_err r ≡ false → OnOk r P → P
@@ -37,7 +37,7 @@ rest_more n sectors first now next below so_far others = record {
 }
 
 -- a failure behind calls that didn't fail
-pub fails_later : (a b c : ℕ) (a' b' c' : ℕ) (e : MigrateError) → b ≡ a → b' ≡ a' → IsCopyFailure (Rises b c) (Rises b' c') e
+pub fails_later : (a b c : ℕ) (a' b' c' : ℕ) (e : NotCopied) → b ≡ a → b' ≡ a' → IsCopyFailure (Rises b c) (Rises b' c') e
     → IsCopyFailure (Rises a c) (Rises a' c') e
 fails_later a b c a' b' c' e same same' (inl p) = inl (p.0, subst (λ m. Rises m c) same p.1)
 fails_later a b c a' b' c' e same same' (inr p) = inr (p.0, subst (λ m. Rises m c') same' p.1)

@@ -2,8 +2,8 @@
 use Rattle.std.specs.Prelude.{◌≡◌, ◌⊎◌, ◌<◌, ℕ, length}
 use Rattle.record_values.specs.declared.error.Error.TheVariants.{DeviceFailed, DeviceTooSmall}
 use Rattle.sector_device.specs.Disk.{CrashState, Disk, IsSynced, sector}
-use Rattle.restart.specs.declared.migration.MigrateError.{MigrateError}
-use Rattle.restart.specs.declared.migration.MigrateError.TheVariants.{New, Old}
+use Rattle.program_files.specs.declared.copying.NotCopied.{NotCopied}
+use Rattle.program_files.specs.declared.copying.NotCopied.TheVariants.{New, Old}
 
 -- the second content has the first sectors of the first one
 abbrev pub AreCopied : (sectors : ℕ) → (content copy : CrashState) → Type 0
@@ -15,11 +15,11 @@ pub record HoldsFirst (sectors : ℕ) (content : CrashState) (disk : Disk) : Typ
   pub synced : IsSynced disk
 
 -- a disk failed
-abbrev pub IsCopyFailure : (old_fails new_fails : Type 0) → MigrateError → Type 0
+abbrev pub IsCopyFailure : (old_fails new_fails : Type 0) → NotCopied → Type 0
 IsCopyFailure old_fails new_fails e = ((e ≡ Old DeviceFailed) × old_fails) ⊎ ((e ≡ New DeviceFailed) × new_fails)
 
 -- a disk has too few sectors, or it failed
-abbrev pub IsNotCopied : (sectors : ℕ) → (old new : CrashState) → (old_fails new_fails : Type 0) → MigrateError → Type 0
+abbrev pub IsNotCopied : (sectors : ℕ) → (old new : CrashState) → (old_fails new_fails : Type 0) → NotCopied → Type 0
 IsNotCopied sectors old new old_fails new_fails e =
     ((e ≡ Old DeviceTooSmall) × (length old < sectors))
     ⊎ (((e ≡ New DeviceTooSmall) × (length new < sectors)) ⊎ IsCopyFailure old_fails new_fails e)

@@ -1,2 +1,4 @@
 pub mod Copied
+pub mod Granted
 pub mod Refusals
+pub mod Stored

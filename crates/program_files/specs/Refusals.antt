@@ -1,14 +1,12 @@
--- Why a verb was refused, where the file or the store was.
-use Rattle.std.specs.Prelude.{Err, Ok, Result}
-use Rattle.std.specs.declared.alloc.Global.{Global}
+-- Why what is done with a store in a file was refused.
+use Rattle.std.specs.Prelude.{◌≡◌, ◌⊎◌, ℕ}
 use Rattle.record_values.specs.declared.error.Error.TheVariants as store
 use Rattle.block_file.specs.declared.opening.FileError.TheVariants.{FileFailed, NoMemory, TooShort}
 use Rattle.block_host.specs.declared.error.DiskError.{DiskError}
 use Rattle.block_host.specs.declared.error.DiskError.TheVariants as disk
-use Rattle.restart.specs.declared.event.Reply.{Reply}
-use Rattle.restart.specs.declared.event.Reply.TheVariants as reply
+use Rattle.store_file.specs.declared.trouble.Trouble.{Trouble}
 use Rattle.program_files.specs.declared.refused.Refused.{Refused}
-use Rattle.program_files.specs.declared.refused.Refused.TheVariants.{Blocks, File, Store}
+use Rattle.program_files.specs.declared.refused.Refused.TheVariants.{Blocks, Device, File, Store}
 
 -- What a file of either kind is refused with is told as for a plain one, where that can be refused so.
 abbrev pub refusal_of : DiskError → Refused
@@ -19,7 +17,15 @@ refusal_of (disk.File FileFailed) = Store store.DeviceFailed
 refusal_of (disk.File TooShort) = Store store.DeviceTooSmall
 refusal_of (disk.File error) = Blocks error
 
--- what a reply tells: it is a refusal of the store, or none
-abbrev pub granted_by : Reply Global → Result (Unit {0}) Refused
-granted_by (reply.Refused error) = Err (Store error)
-granted_by other = Ok tt
+-- the same refusal; or where the device failed, a reason that it tells
+abbrev pub IsBecause : Refused → Refused → Type 0
+IsBecause refused told = (told ≡ refused)
+    ⊎ ((refused ≡ Store store.DeviceFailed) × ((trouble : Trouble) × (told ≡ Device trouble)))
+
+-- the device failed: a reason is told, if one is known
+abbrev pub IsFailure : Refused → Type 0
+IsFailure told = IsBecause (Store store.DeviceFailed) told
+
+-- a sector is damaged, or the device failed
+abbrev pub IsHarmed : Refused → Type 0
+IsHarmed told = ((sector : ℕ) × (told ≡ Store (store.Damaged sector))) ⊎ IsFailure told

@@ -5,11 +5,19 @@ ghost use Rattle.sector_device.specs.DevicePast.{OnlyReads, Rises};
 ghost use Rattle.program_files.specs.Copied.{AreCopied, HoldsFirst, IsCopyFailure, IsNotCopied};
 
 use records::Error;
-use restart::MigrateError;
 use sector_device::{Device, zero_sector};
 
+/// Why sectors weren't copied, by the disk that was refused.
+#[derive(Clone, Copy)]
+pub enum NotCopied {
+    /// The one that they are copied from.
+    Old(Error),
+    /// The other one.
+    New(Error),
+}
+
 // Copies a sector.
-fn copy_sector<O: Device, N: Device>(from: &mut O, to: &mut N, n: u64) -> Result<(), MigrateError>
+fn copy_sector<O: Device, N: Device>(from: &mut O, to: &mut N, n: u64) -> Result<(), NotCopied>
     requires there { n < length (O.past_of from.old).disk.content }
     requires room { n < length (N.past_of to.old).disk.content }
     ensures copied { OnOk result (sector (N.past_of to.new).disk.content n
@@ -23,10 +31,10 @@ fn copy_sector<O: Device, N: Device>(from: &mut O, to: &mut N, n: u64) -> Result
 {
     let mut bytes = zero_sector();
     if from.read(n, &mut bytes).is_err() {
-        return Err(MigrateError::Old(Error::DeviceFailed));
+        return Err(NotCopied::Old(Error::DeviceFailed));
     }
     if to.write(n, &bytes).is_err() {
-        return Err(MigrateError::New(Error::DeviceFailed));
+        return Err(NotCopied::New(Error::DeviceFailed));
     }
     Ok(())
 }
@@ -36,7 +44,7 @@ fn copy_sectors<O: Device, N: Device>(
     from: &mut O,
     to: &mut N,
     sectors: u64,
-) -> Result<(), MigrateError>
+) -> Result<(), NotCopied>
     requires there { sectors ≤ length (O.past_of from.old).disk.content }
     requires room { sectors ≤ length (N.past_of to.old).disk.content }
     ensures copied { OnOk result (AreCopied sectors (O.past_of from.old).disk.content
@@ -63,7 +71,7 @@ pub fn copy_disk<O: Device, N: Device>(
     from: &mut O,
     to: &mut N,
     sectors: u64,
-) -> Result<(), MigrateError>
+) -> Result<(), NotCopied>
     ensures copied { OnOk result (HoldsFirst sectors (O.past_of from.old).disk.content (N.past_of to.new).disk) }
     ensures rest { SameOutside (λ n. n < sectors) (N.past_of to.old).disk.content (N.past_of to.new).disk.content }
     ensures kept { OnlyReads (O.past_of from.old) (O.past_of from.new) }
@@ -76,14 +84,14 @@ pub fn copy_disk<O: Device, N: Device>(
         × (N.failures to.new ≡ N.failures to.old)) }
 {
     if from.sectors() < sectors {
-        return Err(MigrateError::Old(Error::DeviceTooSmall));
+        return Err(NotCopied::Old(Error::DeviceTooSmall));
     }
     if to.sectors() < sectors {
-        return Err(MigrateError::New(Error::DeviceTooSmall));
+        return Err(NotCopied::New(Error::DeviceTooSmall));
     }
     copy_sectors(from, to, sectors)?;
     if to.sync().is_err() {
-        return Err(MigrateError::New(Error::DeviceFailed));
+        return Err(NotCopied::New(Error::DeviceFailed));
     }
     Ok(())
 }

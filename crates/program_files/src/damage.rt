@@ -1,4 +1,7 @@
 //! Sectors of a file whose bytes have changed.
+ghost use Rattle.std.specs.Prelude.{IfErr};
+ghost use Rattle.program_files.specs.Refusals.{IsFailure, IsHarmed};
+
 use crate::refused::Refused;
 use block_host::InFile;
 use records::Error;
@@ -6,15 +9,20 @@ use std::io::Write;
 use store_file::Troubled;
 
 // The first damaged sector, from a number on.
-fn damaged_from<D: InFile + Troubled>(disk: &mut D, from: u64) -> Result<Option<u64>, Refused> {
+fn damaged_from<D: InFile + Troubled>(disk: &mut D, from: u64) -> Result<Option<u64>, Refused>
+    ensures { IfErr result IsFailure }
+{
     match disk.check(from) {
         Ok(found) => Ok(found),
         Err(_) => Err(Refused::Store(Error::DeviceFailed).because(disk)),
     }
 }
 
-/// Refused where a sector is damaged, of which the first is told.
-pub fn refuse_damaged<D: InFile + Troubled>(disk: &mut D) -> Result<(), Refused> {
+/// Refused where a sector is damaged, of which the first is told, or where the device failed. (That none is damaged
+/// otherwise, no clause says.)
+pub fn refuse_damaged<D: InFile + Troubled>(disk: &mut D) -> Result<(), Refused>
+    ensures { IfErr result IsHarmed }
+{
     match damaged_from(disk, 0)? {
         Some(sector) => Err(Refused::Store(Error::Damaged { sector })),
         None => Ok(()),

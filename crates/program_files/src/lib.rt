@@ -1,17 +1,20 @@
-//! Stores in files: opened and read, made, copied, moved to a new file, and salvaged from a damaged one.
+//! Stores in files: opened and read, made, built, copied, moved to a new file, and salvaged from a damaged one.
 //!
 //! Proved: that it is safe, and meets what the calls below ask. `copy_disk` leaves the first sectors of one disk on
 //! another, all of them safe, and changes nothing else. What a move of a store of version 1 leaves on both disks,
 //! `store_moving` promises.
 //!
-//! Only tested: what is said of a file that is no store, or is damaged; that a store of version 2 is copied as a whole,
-//! and that the use of a device is ended. The steps below have the promises of `program_commands`, `store_file`,
-//! `block_host` and `store_salvage`.
+//! `read_disk` tells what a disk's content says of its store: its size, the slots and records behind its last image,
+//! the number of its last record. `Refused` says why a file or a store was refused, to `nsf-store` and to
+//! `nsf-threads`: a refused file comes to what `refusal_of` says, and a failed device to the reason that it tells
+//! (`IsBecause`).
 //!
-//! `Refused` says why a file or a store was refused, to `nsf-store` and to `nsf-threads`. What a refused file comes to,
-//! `refusal_of` says, and what a reply of a store, `granted`.
+//! Only tested: what is said of a file that is no store, or is damaged; that a store of version 2 is copied as a whole,
+//! that the use of a device is ended, and that no sector is damaged where none is told. The steps below have the
+//! promises of `program_commands`, `store_file`, `block_host` and `store_salvage`.
 #![tactic(auto)]
 
+mod building;
 mod copying;
 mod damage;
 mod making;
@@ -19,11 +22,13 @@ mod migration;
 mod opening;
 mod refused;
 mod salvaging;
+mod taking;
 
-pub use copying::copy_disk;
+pub use building::build_file;
+pub use copying::{NotCopied, copy_disk};
 pub use damage::{refuse_damaged, write_damaged};
 pub use making::{close, make};
-pub use migration::{NotMoved, backup_file, migrate_file};
-pub use opening::{Stored, open, read_and_open};
-pub use refused::{Refused, granted, refuse_words};
-pub use salvaging::salvage_file;
+pub use migration::NotMoved;
+pub use opening::{Stored, open_within, read_disk};
+pub use refused::{Refused, refuse_disk, refuse_words};
+pub use taking::{Taking, take_over};

@@ -1,5 +1,5 @@
 //! Files of stores are made.
-ghost use Rattle.std.specs.Prelude.{◌≡◌, ◌+◌, ◌%◌, false, true, replicate, IfOk};
+ghost use Rattle.std.specs.Prelude.{◌≡◌, ◌+◌, ◌%◌, false, true, replicate, IfErr, IfOk};
 ghost use Rattle.record_values.specs.GeometryValue.{sectors_of};
 ghost use Rattle.sector_device.specs.Disk.{IsSynced};
 ghost use Rattle.sector_device.specs.Values.{zero_sector};
@@ -8,6 +8,7 @@ ghost use Rattle.block_file.specs.Header.{CanBeTold};
 ghost use Rattle.block_host.specs.FileBlocks as blocks;
 ghost use Rattle.block_host.specs.Kinds.{IsInBlocks, IsInPlain, failures_by, past_by};
 ghost use Rattle.flip_image.specs.Layout.{log_first};
+ghost use Rattle.program_files.specs.Refusals.{IsFailure};
 ghost use Rattle.store_file.specs.FileDisk as plain;
 
 use crate::refused::Refused;
@@ -62,15 +63,19 @@ pub(crate) fn create_device<R: Files<File = File> + AllocGlobal>(
 }
 
 // Ends the use of a device.
-fn end<D: InFile + Troubled>(disk: &mut D) -> Result<(), Refused> {
+fn end<D: InFile + Troubled>(disk: &mut D) -> Result<(), Refused>
+    ensures { IfErr result IsFailure }
+{
     match disk.end() {
         Ok(()) => Ok(()),
         Err(_) => Err(Refused::Store(Error::DeviceFailed).because(disk)),
     }
 }
 
-/// Ends the use of a device, and lets it go.
-pub fn close<D: InFile + Troubled + Drop>(disk: D) -> Result<(), Refused> {
+/// Ends the use of a device, and lets it go. The error is that the device failed.
+pub fn close<D: InFile + Troubled + Drop>(disk: D) -> Result<(), Refused>
+    ensures { IfErr result IsFailure }
+{
     let mut disk = disk;
     let ended = end(&mut disk);
     drop(disk);

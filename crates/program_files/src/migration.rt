@@ -1,11 +1,9 @@
-//! A store in a file is moved to a new file: one of version 1, or of version 2 or 3 from either kind of file to the
-//! other. One of version 2 or 3 is copied to a new file of the same kind.
-use crate::copying::copy_disk;
-use crate::damage::refuse_damaged;
+//! A store on a disk is copied or moved to a new file.
+use crate::copying::{NotCopied, copy_disk};
 use crate::making::{create_device, publish};
 use crate::opening::read_disk;
 use crate::refused::Refused;
-use block_host::{FileDevice, HeldDevice, InFile, hold_device};
+use block_host::InFile;
 use records::{Error, Geometry};
 use restart::MigrateError;
 use sector_device::Device;
@@ -34,29 +32,46 @@ impl NotMoved {
     }
 }
 
-impl From<NotVersionOne> for NotMoved {
-    fn from(refused: NotVersionOne) -> NotMoved {
-        match refused {
-            NotVersionOne::Newer => NotMoved::Old(Refused::Newer),
-            NotVersionOne::Refused(error) => NotMoved::Old(Refused::Store(error)),
-        }
+// Why the store isn't of version 1.
+fn of_other(refused: NotVersionOne) -> NotMoved {
+    match refused {
+        NotVersionOne::Newer => NotMoved::Old(Refused::Newer),
+        NotVersionOne::Refused(error) => NotMoved::Old(Refused::Store(error)),
     }
 }
 
-impl From<MigrateError> for NotMoved {
-    fn from(error: MigrateError) -> NotMoved {
-        match error {
-            MigrateError::Old(error) => NotMoved::Old(Refused::Store(error)),
-            MigrateError::New(error) => NotMoved::New(Refused::Store(error)),
-            MigrateError::NoMemory => NotMoved::Old(Refused::Store(Error::NoMemory)),
-        }
+fn of_move(error: MigrateError) -> NotMoved {
+    match error {
+        MigrateError::Old(error) => NotMoved::Old(Refused::Store(error)),
+        MigrateError::New(error) => NotMoved::New(Refused::Store(error)),
+        MigrateError::NoMemory => NotMoved::Old(Refused::Store(Error::NoMemory)),
     }
 }
 
-// The same refusal as one of the new file.
-fn of_new<T>(done: Result<T, Refused>) -> Result<T, NotMoved> {
-    match done {
-        Ok(value) => Ok(value),
+fn of_copy(error: NotCopied) -> NotMoved {
+    match error {
+        NotCopied::Old(error) => NotMoved::Old(Refused::Store(error)),
+        NotCopied::New(error) => NotMoved::New(Refused::Store(error)),
+    }
+}
+
+/// How the store on an old disk comes to a new one.
+#[derive(Clone, Copy)]
+enum Way {
+    /// Its sectors are copied.
+    Copy,
+    /// It is of version 1, and moved.
+    Move,
+}
+
+// Ends the use of the new file's device, and gives the file its name.
+fn publish_new<R: Files<File = File> + AllocGlobal, N: InFile + Troubled>(
+    rt: &R,
+    path: &str,
+    new: &mut N,
+) -> Result<(), NotMoved> {
+    match publish(rt, path, new) {
+        Ok(()) => Ok(()),
         Err(refused) => Err(NotMoved::New(refused)),
     }
 }
@@ -68,9 +83,9 @@ fn finish_copy<
     N: Device + Troubled + InFile + Drop,
 >(rt: &R, old: &mut O, path: &str, geometry: Geometry, mut new: N) -> Result<(), NotMoved> {
     if let Err(error) = copy_disk(old, &mut new, geometry.sectors()) {
-        return Err(NotMoved::from(error).because(&new));
+        return Err(of_copy(error).because(&new));
     }
-    of_new(publish(rt, path, &mut new))
+    publish_new(rt, path, &mut new)
 }
 
 // Moves the store of version 1 to the disk of the new file's draft, and gives that its name.
@@ -82,24 +97,47 @@ fn finish_move<
     // The disk has the file's lock until that has its name.
     let mut disk = match move_disk(rt.alloc(), old, new) {
         Ok(disk) => disk,
-        Err((error, disk)) => return Err(NotMoved::from(error).because(&disk)),
+        Err((error, disk)) => return Err(of_move(error).because(&disk)),
     };
-    of_new(publish(rt, path, &mut disk))
+    publish_new(rt, path, &mut disk)
 }
 
-// Removes the new file's draft, where that has no name of its own.
-fn tidy<R: Files<File = File> + AllocGlobal>(
+fn finish<R: Files<File = File> + AllocGlobal, O: Device, N: Device + Troubled + InFile + Drop>(
     rt: &R,
+    old: &mut O,
     path: &str,
-    moved: Result<(), NotMoved>,
+    geometry: Geometry,
+    new: N,
+    way: Way,
 ) -> Result<(), NotMoved> {
-    if moved.is_err() {
+    match way {
+        Way::Copy => finish_copy(rt, old, path, geometry, new),
+        Way::Move => finish_move(rt, old, path, new),
+    }
+}
+
+// Makes a new file, and puts the store on the old disk into it. Where that is refused before the file has its name, no
+// file is left, if the draft can be removed.
+fn make_from<R: Files<File = File> + AllocGlobal, O: Device>(
+    rt: &R,
+    old: &mut O,
+    path: &str,
+    geometry: Geometry,
+    has_blocks: bool,
+    way: Way,
+) -> Result<(), NotMoved> {
+    let disk = match create_device(rt, path, geometry, has_blocks) {
+        Ok(disk) => disk,
+        Err(refused) => return Err(NotMoved::New(refused)),
+    };
+    let made = finish(rt, old, path, geometry, disk, way);
+    if made.is_err() {
         let _ = store_file::discard(rt, path);
     }
-    moved
+    made
 }
 
-// How large the store of version 2 on the disk is.
+// How large the store of version 2 or 3 on the disk is.
 fn geometry_of<O: Device>(alloc: Global, old: &mut O) -> Result<Geometry, NotMoved> {
     match read_disk(alloc, old) {
         Ok(stored) => Ok(stored.geometry),
@@ -107,7 +145,7 @@ fn geometry_of<O: Device>(alloc: Global, old: &mut O) -> Result<Geometry, NotMov
     }
 }
 
-/// Copies the store of version 2 on the old disk to a new file.
+/// Copies the store of version 2 or 3 on the old disk to a new file.
 pub(crate) fn copy_to<R: Files<File = File> + AllocGlobal, O: Device>(
     rt: &R,
     old: &mut O,
@@ -115,27 +153,12 @@ pub(crate) fn copy_to<R: Files<File = File> + AllocGlobal, O: Device>(
     has_blocks: bool,
 ) -> Result<(), NotMoved> {
     let geometry = geometry_of(rt.alloc(), old)?;
-    let disk = of_new(create_device(rt, path, geometry, has_blocks))?;
-    let moved = finish_copy(rt, old, path, geometry, disk);
-    tidy(rt, path, moved)
+    make_from(rt, old, path, geometry, has_blocks, Way::Copy)
 }
 
-// Moves the store of version 1 on the old disk to a new file.
-fn move_to<R: Files<File = File> + AllocGlobal, O: Device>(
-    rt: &R,
-    old: &mut O,
-    path: &str,
-    geometry: Geometry,
-    has_blocks: bool,
-) -> Result<(), NotMoved> {
-    let disk = of_new(create_device(rt, path, geometry, has_blocks))?;
-    let moved = finish_move(rt, old, path, disk);
-    tidy(rt, path, moved)
-}
-
-// Moves the store on the old disk to a new file. One of version 2 needs that only where the new file is of another
-// kind.
-fn migrate_disk<R: Files<File = File> + AllocGlobal, O: Device>(
+/// Moves the store on the old disk to a new file. One of version 2 or 3 needs that only where the new file is of
+/// another kind.
+pub(crate) fn move_to<R: Files<File = File> + AllocGlobal, O: Device>(
     rt: &R,
     old: &mut O,
     path: &str,
@@ -143,48 +166,8 @@ fn migrate_disk<R: Files<File = File> + AllocGlobal, O: Device>(
     is_same_kind: bool,
 ) -> Result<(), NotMoved> {
     match old_geometry(old) {
-        Ok(geometry) => move_to(rt, old, path, geometry, has_blocks),
+        Ok(geometry) => make_from(rt, old, path, geometry, has_blocks, Way::Move),
         Err(NotVersionOne::Newer) if !is_same_kind => copy_to(rt, old, path, has_blocks),
-        Err(refused) => Err(NotMoved::from(refused)),
+        Err(refused) => Err(of_other(refused)),
     }
-}
-
-// The device in the old file, which is only read, and locked until the device is dropped. No sector of it is damaged.
-fn hold_whole<R: Files<File = File> + AllocGlobal>(
-    rt: &R,
-    path: &str,
-) -> Result<HeldDevice<File, Global>, NotMoved> {
-    let mut disk = match hold_device(rt, rt.alloc(), path) {
-        Ok(disk) => disk,
-        Err(error) => return Err(NotMoved::Old(Refused::from(error))),
-    };
-    match refuse_damaged(&mut disk) {
-        Ok(()) => Ok(disk),
-        Err(refused) => Err(NotMoved::Old(refused)),
-    }
-}
-
-/// Moves the store in the old file, which is only read and locked to the end, to a new file, which is one of blocks
-/// where that is wanted. Where that is refused before the new file has its name, no file is left, if the draft can be
-/// removed. What is wrong with the old file is told before what is wrong with the new one.
-pub fn migrate_file<R: Files<File = File> + AllocGlobal>(
-    rt: &R,
-    old: &str,
-    new: &str,
-    has_blocks: bool,
-) -> Result<(), NotMoved> {
-    let mut disk = hold_whole(rt, old)?;
-    let is_same_kind = has_blocks == matches!(disk, FileDevice::Blocks(_));
-    migrate_disk(rt, &mut disk, new, has_blocks, is_same_kind)
-}
-
-/// Copies the store of version 2 in the old file to a new file of the same kind, in the same way.
-pub fn backup_file<R: Files<File = File> + AllocGlobal>(
-    rt: &R,
-    old: &str,
-    new: &str,
-) -> Result<(), NotMoved> {
-    let mut disk = hold_whole(rt, old)?;
-    let has_blocks = matches!(disk, FileDevice::Blocks(_));
-    copy_to(rt, &mut disk, new, has_blocks)
 }

@@ -1,7 +1,8 @@
-//! Why a verb was refused.
-ghost use Rattle.std.specs.Prelude.{◌≡◌, ◌≢◌};
+//! Why what is done with a store in a file was refused.
+ghost use Rattle.std.specs.Prelude.{◌≡◌};
 ghost use Rattle.record_values.specs.declared.error.Error.TheVariants.{NoMemory};
-ghost use Rattle.program_files.specs.Refusals.{granted_by, refusal_of};
+ghost use Rattle.program_files.specs.Granted.{granted_by};
+ghost use Rattle.program_files.specs.Refusals.{IsBecause, refusal_of};
 ghost use Rattle.program_files.specs.declared.refused.Refused.TheVariants.{File, Store, Stream};
 
 use block_file::FileError;
@@ -22,7 +23,7 @@ const FULL_INDEX: &str =
 const NO_KEY: &str =
     "a key is `=` and graphic bytes, as `=ant`, or `:` and hexadecimal digits, as `:616e74`";
 
-/// Why a verb was refused.
+/// Why what is done with a store in a file was refused.
 #[derive(Drop)]
 pub enum Refused {
     /// The file can't be made or opened.
@@ -51,16 +52,36 @@ pub enum Refused {
     Stream(io::Error),
 }
 
+// That the device failed, with the reason that it tells.
+fn told_by<D: Troubled>(device: &D) -> Refused
+    ensures { IsBecause (Refused.Store Error.DeviceFailed) result }
+{
+    match device.trouble() {
+        Some(trouble) => Refused::Device(trouble),
+        None => Refused::Store(Error::DeviceFailed),
+    }
+}
+
 impl Refused {
     /// The same; where the device failed, with the reason that it tells.
     pub fn because<D: Troubled>(self, device: &D) -> Refused
-        ensures { self ≢ Refused.Store Error.DeviceFailed → result ≡ self }
+        ensures { IsBecause self result }
     {
-        match (&self, device.trouble()) {
-            (Refused::Store(Error::DeviceFailed), Some(trouble)) => Refused::Device(trouble),
-            _ => self,
+        match self {
+            Refused::Store(Error::DeviceFailed) => told_by(device),
+            other => other,
         }
     }
+}
+
+/// Why no store was opened on the disk, which is let go: this error of the restart; where the device failed, with the
+/// reason that it tells.
+pub fn refuse_disk<D: Troubled + Drop>(error: Error, disk: D) -> Refused
+    ensures { IsBecause (Refused.Store error) result }
+{
+    let refused = Refused::Store(error).because(&disk);
+    drop(disk);
+    refused
 }
 
 impl From<OpenError> for Refused {
@@ -111,7 +132,7 @@ impl From<AllocError> for Refused {
 }
 
 /// The refusal that a reply tells, if it is one.
-pub fn granted(reply: Reply<Global>) -> Result<(), Refused>
+pub(crate) fn granted(reply: Reply<Global>) -> Result<(), Refused>
     ensures { result ≡ granted_by reply }
 {
     match reply {
@@ -164,7 +185,7 @@ fn write_file_error<W: fmt::Write>(error: FileError, f: &mut fmt::Formatter<W>) 
 fn text_of_refusal(refused: &Refused) -> &'static str {
     match refused {
         Refused::Unsound => "it opens, but its index isn't that of its rows",
-        Refused::Newer => "it holds a store of version 2, which needs no move",
+        Refused::Newer => "it holds a store of version 2 or 3, which needs no move",
         Refused::FullIndex => FULL_INDEX,
         Refused::SmallIndex => "its index has fewer places than the table has rows",
         Refused::NotBuilt => "its index isn't complete; `nsf-store build` builds it to its end",

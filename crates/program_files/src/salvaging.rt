@@ -1,7 +1,6 @@
 //! What can still be read of a damaged store is put into a new file.
 use crate::migration::{NotMoved, copy_to};
 use crate::refused::{Refused, granted};
-use block_host::hold_device;
 use flip_image::{Half, Halves, SUPERBLOCK_SECTOR};
 use model::Life;
 use program_commands::Store;
@@ -113,22 +112,33 @@ fn name_of(half: Half) -> &'static str {
     }
 }
 
-// Prints what is lost, a line each.
-fn write_lost<W: Write>(found: &Found, output: &mut W) -> io::Result<()> {
-    let halves = &found.salvaged.halves;
+// Prints the sectors of the store that can't be read.
+fn write_unread<W: Write>(found: &Found, output: &mut W) -> io::Result<()> {
+    let sectors = found.salvaged.halves.geometry().sectors();
     for sector in &found.unread {
-        if *sector < halves.geometry().sectors() {
+        if *sector < sectors {
             writeln!(output, "unread sector {sector}")?;
         }
     }
+    Ok(())
+}
+
+fn write_part<W: Write>(part: &Part, output: &mut W) -> io::Result<()> {
+    match part {
+        Part::Page(page) => writeln!(output, "lost page {page}"),
+        Part::Log(slot) => writeln!(output, "lost log from slot {slot}"),
+    }
+}
+
+// Prints what is lost, a line each.
+fn write_lost<W: Write>(found: &Found, output: &mut W) -> io::Result<()> {
+    write_unread(found, output)?;
     if found.is_older {
-        writeln!(output, "lost half {}", name_of(halves.current().other()))?;
+        let half = name_of(found.salvaged.halves.current().other());
+        writeln!(output, "lost half {half}")?;
     }
     for part in &found.salvaged.lost {
-        match part {
-            Part::Page(page) => writeln!(output, "lost page {page}")?,
-            Part::Log(slot) => writeln!(output, "lost log from slot {slot}")?,
-        }
+        write_part(part, output)?;
     }
     Ok(())
 }
@@ -179,21 +189,16 @@ fn salvaged_disk<O: Device, W: Write>(
     }
 }
 
-/// Puts the rows that can still be read of the store in the old file, which is only read and locked to the end, into a
-/// store in a new file, one of blocks where that is wanted. It has no index. What is lost is printed, a line each: the
-/// sectors that can't be read, the half that was current, pages, and the log from a slot on.
-pub fn salvage_file<R: Files<File = File> + AllocGlobal, W: Write>(
+/// Puts the rows that can still be read of the store on the old disk into a store in a new file, one of blocks where
+/// that is wanted. It has no index. What is lost is printed.
+pub(crate) fn salvage_to<R: Files<File = File> + AllocGlobal, O: Device, W: Write>(
     rt: &R,
-    old: &str,
+    old: &mut O,
     new: &str,
     has_blocks: bool,
     output: &mut W,
 ) -> Result<(), NotMoved> {
-    let mut held = match hold_device(rt, rt.alloc(), old) {
-        Ok(disk) => disk,
-        Err(error) => return Err(NotMoved::Old(Refused::from(error))),
-    };
-    let mut disk = match salvaged_disk(rt.alloc(), &mut held, output) {
+    let mut disk = match salvaged_disk(rt.alloc(), old, output) {
         Ok(disk) => disk,
         Err(refused) => return Err(NotMoved::Old(refused)),
     };

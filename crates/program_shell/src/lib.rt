@@ -4,22 +4,16 @@
 //! Proved: that it is safe, and meets what the calls below ask.
 //!
 //! Only tested: what the verbs print, how they end, and what they say of a file that is no store, or is damaged. The
-//! steps below have the promises of `program_commands`, `program_rows` and `program_files`.
+//! steps below have the promises of `program_commands`, `program_rows`, `program_files` and `program_lines`.
 //!
 //! `Refused` says why a file or a store was refused, also to `nsf-threads`.
 #![tactic(auto)]
 
-mod building;
-mod forms;
 mod loading;
 mod looks;
-mod name;
 mod program;
-mod running;
 mod scan;
-mod serve;
 mod show;
-mod tally;
 
 pub use program::run;
 pub use program_files::{Refused, refuse_words};

@@ -1,8 +1,9 @@
 //! Rows of a file are loaded into a store.
-use crate::tally::Ended;
-use block_host::{InFile, open_device};
+use crate::looks::open;
+use block_host::InFile;
 use program_arguments::LoadArguments;
-use program_files::{Refused, close, open};
+use program_files::{Refused, close, open_within};
+use program_lines::Ended;
 use program_rows::{
     ColumnNames, HeaderError, Loader, RowError, RowReader, RowsError, Taken, TextError,
 };
@@ -11,7 +12,7 @@ use sector_device::Device;
 use std::alloc::Global;
 use std::fs::File;
 use std::io::{Read, Write};
-use std::rt::Files;
+use std::rt::{Clock, Files};
 use std::{fs, io};
 use store_file::{Trouble, Troubled};
 
@@ -211,11 +212,26 @@ fn open_rows<R: Files<File = File> + AllocGlobal>(
     Ok((rows, progress))
 }
 
+// Loads the rows that are left into the store in the file.
+fn load_into<R: Files<File = File> + Clock + AllocGlobal, S: Read + Drop, W: Write, E: Write>(
+    rt: &R,
+    path: &str,
+    rows: &mut RowReader<S>,
+    progress: Progress,
+    output: &mut W,
+    errors: &mut E,
+) -> Result<Ended, NotLoaded> {
+    match open_within(rt, path, 0) {
+        Ok(disk) => load_disk(rt.alloc(), disk, rows, progress, output, errors),
+        Err(refused) => Err(NotLoaded::Store(refused)),
+    }
+}
+
 /// Loads rows into the store in the file at the path, in transactions of 64 rows, and prints how many are safe and how
 /// many records have no row. The error stream says why, by line; and where no more is loaded, behind which line.
 ///
 /// What is wrong with the rows' header is told before what is wrong with the store.
-pub(crate) fn load_file<R: Files<File = File> + AllocGlobal, W: Write, E: Write>(
+pub(crate) fn load_file<R: Files<File = File> + Clock + AllocGlobal, W: Write, E: Write>(
     rt: &R,
     path: &str,
     asked: &LoadArguments,
@@ -223,8 +239,5 @@ pub(crate) fn load_file<R: Files<File = File> + AllocGlobal, W: Write, E: Write>
     errors: &mut E,
 ) -> Result<Ended, NotLoaded> {
     let (mut rows, progress) = open_rows(rt, asked)?;
-    match open_device(rt, rt.alloc(), path) {
-        Ok(disk) => load_disk(rt.alloc(), disk, &mut rows, progress, output, errors),
-        Err(error) => Err(NotLoaded::Store(Refused::from(error))),
-    }
+    load_into(rt, path, &mut rows, progress, output, errors)
 }

@@ -2,10 +2,13 @@
 use crate::scan::{Shown, refuse_incomplete, show_range};
 use crate::show::write_stat;
 use block_host::{InFile, read_device};
-use program_arguments::Order;
+use nsf_core::Core;
+use program_arguments::{Export, Order};
 use program_commands::Store;
-use program_files::{Refused, Stored, read_and_open, refuse_damaged, write_damaged};
-use program_rows::{RowsError, TextError, export_by_key, export_by_place};
+use program_files::{Refused, Stored, read_disk, refuse_damaged, refuse_disk, write_damaged};
+use program_rows::{
+    RowsError, TextError, export_by_key, export_by_place, export_json_by_key, export_json_by_place,
+};
 use records::Error;
 use sector_device::Device;
 use std::alloc::Global;
@@ -23,8 +26,8 @@ pub(crate) enum Look<'a> {
     Dump,
     /// What it is, and how far it has come.
     Stat,
-    /// Its rows in this order.
-    Export(Order),
+    /// Its rows, so.
+    Export(Export),
     /// A range of its index.
     Scan(&'a Shown),
 }
@@ -39,7 +42,7 @@ fn check<D: Device, W: Write>(store: &Store<D>, output: &mut W) -> Result<(), Re
 }
 
 // Why rows weren't exported.
-fn refusal_of(error: RowsError) -> Refused {
+fn not_exported(error: RowsError) -> Refused {
     match error {
         RowsError::Text(TextError::Io(error)) => Refused::Stream(error),
         RowsError::Text(_) => Refused::Store(Error::NoMemory),
@@ -47,23 +50,34 @@ fn refusal_of(error: RowsError) -> Refused {
     }
 }
 
-// Prints the rows of the store in this order.
+// Prints the rows of a core, as fields or as objects, in the order that is asked for.
+fn export_core<W: Write>(
+    alloc: Global,
+    core: &Core<Global>,
+    asked: Export,
+    output: &mut W,
+) -> Result<(), RowsError> {
+    match (asked.order, asked.is_json) {
+        (Order::Place, false) => export_by_place(alloc, core, output),
+        (Order::Place, true) => export_json_by_place(alloc, core, output),
+        (Order::Key, false) => export_by_key(alloc, core, output),
+        (Order::Key, true) => export_json_by_key(alloc, core, output),
+    }
+}
+
+// Prints the rows of the store. In the order of the index only where that is complete.
 fn export<D: Device, W: Write>(
     alloc: Global,
     store: &Store<D>,
-    order: Order,
+    asked: Export,
     output: &mut W,
 ) -> Result<(), Refused> {
-    let done = match order {
-        Order::Place => export_by_place(alloc, store.core(), output),
-        Order::Key => {
-            refuse_incomplete(store.life())?;
-            export_by_key(alloc, store.core(), output)
-        }
-    };
-    match done {
+    if let Order::Key = asked.order {
+        refuse_incomplete(store.life())?;
+    }
+    match export_core(alloc, store.core(), asked, output) {
         Ok(()) => Ok(()),
-        Err(error) => Err(refusal_of(error)),
+        Err(error) => Err(not_exported(error)),
     }
 }
 
@@ -77,7 +91,7 @@ fn look_at<D: Device, W: Write>(
 ) -> Result<(), Refused> {
     let shown = match look {
         Look::Check => return check(store, output),
-        Look::Export(order) => return export(alloc, store, order, output),
+        Look::Export(asked) => return export(alloc, store, asked, output),
         Look::Scan(shown) => return show_range(alloc, store, shown, output),
         Look::Dump => store.dump(output),
         Look::Stat => write_stat(stored, store.core(), output),
@@ -97,6 +111,17 @@ fn refuse_harm<D: InFile + Troubled, W: Write>(
     }
 }
 
+/// A store on the disk, opened.
+pub(crate) fn open<D: Device + Troubled + Drop>(
+    alloc: Global,
+    disk: D,
+) -> Result<Store<D>, Refused> {
+    match Store::open(alloc, disk) {
+        Ok(store) => Ok(store),
+        Err((error, disk)) => Err(refuse_disk(error, disk)),
+    }
+}
+
 // Shows what is asked for of the store on the disk. What a file is, is behind none of the store's own calls.
 fn look_on<D: Device + Troubled + InFile + Drop, W: Write>(
     alloc: Global,
@@ -105,7 +130,8 @@ fn look_on<D: Device + Troubled + InFile + Drop, W: Write>(
     output: &mut W,
 ) -> Result<(), Refused> {
     refuse_harm(&mut disk, look, output)?;
-    let (stored, store) = read_and_open(alloc, disk)?;
+    let stored = read_disk(alloc, &mut disk)?;
+    let store = open(alloc, disk)?;
     let looked = look_at(alloc, &stored, &store, look, output);
     drop(store.into_device());
     looked

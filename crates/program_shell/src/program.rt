@@ -1,12 +1,10 @@
 //! The verbs of the program.
-use crate::building::build_file;
 use crate::loading::{NotLoaded, load_file};
 use crate::looks::{Look, look_in};
-use crate::running::run_file;
 use crate::scan::shown_by;
-use crate::tally::Ended;
 use program_arguments::{Asked, LoadArguments, ScanArguments, Verb, read_asked};
-use program_files::{NotMoved, Refused, backup_file, make, migrate_file, salvage_file};
+use program_files::{NotMoved, Refused, Taking, build_file, make, take_over};
+use program_lines::{Ended, run_file};
 use records::Geometry;
 use std::convert::AsStr;
 use std::fmt;
@@ -56,7 +54,7 @@ fn act<R: Files<File = File> + Clock + AllocGlobal, I: BufRead, W: Write, E: Wri
         Verb::Check => look_well(rt, path, Look::Check, output),
         Verb::Dump => look_well(rt, path, Look::Dump, output),
         Verb::Stat => look_well(rt, path, Look::Stat, output),
-        Verb::Export(order) => look_well(rt, path, Look::Export(order), output),
+        Verb::Export(asked) => look_well(rt, path, Look::Export(asked), output),
     }
 }
 
@@ -119,7 +117,7 @@ fn scan<R: Files<File = File> + AllocGlobal, W: Write, E: Write>(
 }
 
 // Loads rows into the store in the file, and answers the exit status.
-fn load<R: Files<File = File> + AllocGlobal, W: Write, E: Write>(
+fn load<R: Files<File = File> + Clock + AllocGlobal, W: Write, E: Write>(
     rt: &R,
     path: &str,
     asked: &LoadArguments,
@@ -134,15 +132,16 @@ fn load<R: Files<File = File> + AllocGlobal, W: Write, E: Write>(
     }
 }
 
-// Tells of the new file what was made, and answers the exit status.
-fn tell_new<R: Files<File = File> + AllocGlobal, W: Write, E: Write>(
+// Puts the store in the old file into a new one, shows what that is, and answers the exit status.
+fn take<R: Files<File = File> + AllocGlobal, W: Write, E: Write>(
     rt: &R,
-    (old, new): (&str, &str),
-    made: Result<(), NotMoved>,
+    old: &str,
+    new: &str,
+    taking: Taking,
     output: &mut W,
     errors: &mut E,
 ) -> u8 {
-    match made {
+    match take_over(rt, old, new, taking, output) {
         Ok(()) => show(rt, new, Look::Stat, output, errors),
         Err(NotMoved::Old(refused)) => tell(old, &refused, errors),
         Err(NotMoved::New(refused)) => tell(new, &refused, errors),
@@ -157,31 +156,31 @@ fn answer<R: Files<File = File> + Clock + AllocGlobal, I: BufRead, W: Write, E: 
     output: &mut W,
     errors: &mut E,
 ) -> u8 {
-    let (old, new, made) = match asked {
+    let (old, new, taking) = match asked {
         Asked::Of { path, verb } => {
             return answer_verb(rt, path.as_str(), *verb, input, output, errors);
         }
         Asked::Scan { path, asked } => return scan(rt, path.as_str(), asked, output, errors),
         Asked::Load { path, asked } => return load(rt, path.as_str(), asked, output, errors),
-        Asked::Backup { old, new } => (old, new, backup_file(rt, old.as_str(), new.as_str())),
+        Asked::Backup { old, new } => (old, new, Taking::Copy),
         Asked::Salvage {
             old,
             new,
             has_blocks,
         } => {
-            let made = salvage_file(rt, old.as_str(), new.as_str(), *has_blocks, output);
-            (old, new, made)
+            let has_blocks = *has_blocks;
+            (old, new, Taking::Salvage { has_blocks })
         }
         Asked::Migrate {
             old,
             new,
             has_blocks,
         } => {
-            let made = migrate_file(rt, old.as_str(), new.as_str(), *has_blocks);
-            (old, new, made)
+            let has_blocks = *has_blocks;
+            (old, new, Taking::Move { has_blocks })
         }
     };
-    tell_new(rt, (old.as_str(), new.as_str()), made, output, errors)
+    take(rt, old.as_str(), new.as_str(), taking, output, errors)
 }
 
 /// Runs the program on these words, the first of which is its own name, and answers its exit status: 0 where what they

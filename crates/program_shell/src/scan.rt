@@ -53,7 +53,11 @@ pub(crate) fn shown_by(alloc: Global, asked: &ScanArguments) -> Result<Shown, Re
     };
     let range = range_of(alloc, asked)?;
     Ok(Shown {
-        page: PageRequest { range, limit },
+        page: PageRequest {
+            range,
+            is_back: asked.is_back,
+            limit,
+        },
         counts: asked.counts,
     })
 }

@@ -56,41 +56,50 @@ fn version_of(geometry: Geometry) -> u32 {
     }
 }
 
-// Prints how large the store is.
-fn write_geometry<W: Write>(geometry: Geometry, output: &mut W) -> io::Result<()> {
+// A number that is told of a store, under its name.
+type Told = (&'static str, u64);
+
+// How large the store is, and how far its log has come.
+fn sizes_of(stored: &Stored) -> [Told; 7] {
     let Geometry {
         pages,
         entries,
         slots,
-    } = geometry;
-    writeln!(output, "format {}", version_of(geometry))?;
-    writeln!(output, "pages {pages}")?;
-    writeln!(output, "entries {entries}")?;
-    writeln!(output, "slots {slots}")
+    } = stored.geometry;
+    [
+        ("format", u64::from(version_of(stored.geometry))),
+        ("pages", u64::from(pages)),
+        ("entries", u64::from(entries)),
+        ("slots", u64::from(slots)),
+        ("slots in use", stored.open_slots),
+        ("records behind image", stored.records),
+        ("last record", stored.last),
+    ]
 }
 
-// Prints how many entries there are, and how many of the index's places are free. No transaction is active behind an
-// opening, so none is reserved.
-fn write_entries<W: Write>(core: &Core<Global>, places: u32, output: &mut W) -> io::Result<()> {
-    let (live, marked) = entries_in(core);
-    let free = u64::from(places).saturating_sub(live.saturating_add(marked));
-    writeln!(output, "live {live}")?;
-    writeln!(output, "marked {marked}")?;
-    writeln!(output, "reserved 0")?;
-    writeln!(output, "free {free}")
-}
-
-// Prints how many rows and entries there are, and how many more there is room for.
-fn write_counts<W: Write>(
-    core: &Core<Global>,
-    geometry: Geometry,
-    output: &mut W,
-) -> io::Result<()> {
+// How many rows and entries there are, and how many more there is room for. No transaction is active behind an opening,
+// so no place is reserved.
+fn counts_of(core: &Core<Global>, geometry: Geometry) -> [Told; 6] {
     let rows = rows_in(core);
+    let (live, marked) = entries_in(core);
+    let places = u64::from(geometry.entries);
     let room = u64::from(geometry.pages).saturating_mul(u64::from(SLOTS_PER_PAGE));
-    writeln!(output, "rows {rows}")?;
-    write_entries(core, geometry.entries, output)?;
-    writeln!(output, "rows free {}", room.saturating_sub(rows))
+    [
+        ("rows", rows),
+        ("live", live),
+        ("marked", marked),
+        ("reserved", 0),
+        ("free", places.saturating_sub(live.saturating_add(marked))),
+        ("rows free", room.saturating_sub(rows)),
+    ]
+}
+
+// Prints numbers, a line each.
+fn write_numbers<W: Write>(numbers: &[Told], output: &mut W) -> io::Result<()> {
+    for (name, number) in numbers {
+        writeln!(output, "{name} {number}")?;
+    }
+    Ok(())
 }
 
 /// Prints what is told of the store, a line each.
@@ -99,9 +108,7 @@ pub(crate) fn write_stat<W: Write>(
     core: &Core<Global>,
     output: &mut W,
 ) -> io::Result<()> {
-    write_geometry(stored.geometry, output)?;
-    writeln!(output, "slots in use {}", stored.open_slots)?;
-    writeln!(output, "last record {}", stored.last)?;
+    write_numbers(&sizes_of(stored), output)?;
     write_life(core.life(), output)?;
-    write_counts(core, stored.geometry, output)
+    write_numbers(&counts_of(core, stored.geometry), output)
 }

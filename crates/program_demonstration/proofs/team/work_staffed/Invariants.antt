@@ -1,5 +1,0 @@
-use Rattle.std.specs.Prelude.{Some}
-use Rattle.program_demonstration.proofs.team.work_staffed.Given as goal
-
-abbrev pub ghosts-run_all : goal.ghosts-run_all
-ghosts-run_all g a = record { begun = Some a.loops.flush }

@@ -1,0 +1,88 @@
+//! What came of the lines of an input.
+use program_commands::Outcome;
+use std::io::Write;
+
+/// What came of a line.
+#[derive(Clone, Copy)]
+pub(crate) enum Came {
+    /// It was served, or left out.
+    Served,
+    /// Its command was refused.
+    Refused,
+    /// It is no command.
+    NoCommand,
+    /// It couldn't be read.
+    Unread,
+    /// It ends the input.
+    Quit,
+}
+
+impl Came {
+    /// What came of a line whose command came to this.
+    pub(crate) fn of(outcome: Outcome) -> Came {
+        if outcome.is_refusal() {
+            Came::Refused
+        } else {
+            Came::Served
+        }
+    }
+}
+
+/// How an input ended.
+#[derive(Clone, Copy)]
+pub enum Ended {
+    /// Each line was one that is served.
+    Well,
+    /// A line was none.
+    WithBadLine,
+    /// A command was refused, and the input was to end with that.
+    WithRefusal,
+}
+
+/// What came of the lines so far.
+#[derive(Clone, Copy, Default)]
+pub(crate) struct Tally {
+    /// Whether a line was none that is served.
+    has_bad_line: bool,
+    /// How many commands were refused, and in which line the first one was.
+    refused: u64,
+    first: u64,
+}
+
+impl Tally {
+    /// Adds what came of the line of this number.
+    pub(crate) fn add(&mut self, came: Came, number: u64) {
+        match came {
+            Came::Refused => {
+                if self.refused == 0 {
+                    self.first = number;
+                }
+                self.refused = self.refused.saturating_add(1);
+            }
+            Came::NoCommand | Came::Unread => self.has_bad_line = true,
+            Came::Served | Came::Quit => {}
+        }
+    }
+
+    /// Tells how many commands were refused, if any was.
+    pub(crate) fn tell<E: Write>(&self, errors: &mut E) {
+        let Tally { refused, first, .. } = *self;
+        if refused > 0 {
+            let _ = writeln!(
+                errors,
+                "nsf-store: commands refused: {refused}, the first in line {first}"
+            );
+        }
+    }
+
+    /// How the input ended, which may have been to end with a refusal.
+    pub(crate) fn ended(&self, stops_on_refusal: bool) -> Ended {
+        if self.has_bad_line {
+            Ended::WithBadLine
+        } else if stops_on_refusal && self.refused > 0 {
+            Ended::WithRefusal
+        } else {
+            Ended::Well
+        }
+    }
+}

@@ -1,0 +1,20 @@
+//! Why the threads could not work on a store.
+use records::Error;
+use threads_lifetime::OpenError;
+
+/// Why no store was opened for the threads.
+#[derive(Clone, Copy)]
+pub enum NotOpened {
+    /// The restart was refused, or there was no memory behind it.
+    Refused(Error),
+    /// The store opens, but is not sound: its index doesn't fit its rows.
+    Unsound,
+}
+
+/// The same refusal.
+pub(crate) fn not_opened(error: OpenError) -> NotOpened {
+    match error {
+        OpenError::Refused(error) => NotOpened::Refused(error),
+        OpenError::Unsound => NotOpened::Unsound,
+    }
+}
