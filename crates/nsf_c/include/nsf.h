@@ -260,6 +260,12 @@ uint32_t nsf_image(nsf_handle *handle, nsf_reply *reply);
 uint32_t nsf_next(nsf_handle *handle, const nsf_bounds *bounds, const uint8_t *from, size_t from_length, const uint8_t *to,
                   size_t to_length, const uint8_t *behind, size_t behind_length, nsf_reply *reply);
 
+/* Tells the last visible pair of a range of keys, or the last one before the pair that is given by its key and its place: NSF_PAIR, or
+ * NSF_AT_END where none is left. Of the index as it stands alone: where `committed` isn't 0 it is refused by 24. The other refusals are
+ * those of nsf_next. */
+uint32_t nsf_previous(nsf_handle *handle, const nsf_bounds *bounds, const uint8_t *from, size_t from_length, const uint8_t *to,
+                      size_t to_length, const uint8_t *ahead, size_t ahead_length, nsf_reply *reply);
+
 /* Tells the committed row at a place: NSF_ROW or NSF_NO_ROW, or 10 for a slot that is on no page. What isn't committed yet is left out,
  * also where the caller made it. */
 uint32_t nsf_get_committed(nsf_handle *handle, const nsf_place *place, nsf_reply *reply);
@@ -444,6 +450,17 @@ static inline nsf_scan nsf_scan_prefix(const void *prefix, size_t length)
     return scan;
 }
 
+/* Keeps the pair that was told, as the place from which to go on. */
+static inline void nsf_scan_keep(nsf_scan *scan, const nsf_reply *reply)
+{
+    scan->bounds.goes_on = 1;
+    scan->bounds.page = reply->page;
+    scan->bounds.slot = reply->slot;
+    scan->behind_length = reply->key_length;
+    for (size_t i = 0; i < reply->key_length; i++)
+        scan->behind[i] = reply->key[i];
+}
+
 /* The next pair of the scan: NSF_PAIR, or NSF_AT_END. Between two calls the store may change: no pair comes twice, and each that was
  * visible throughout comes. */
 static inline uint32_t nsf_scan_next(nsf_handle *handle, nsf_scan *scan, nsf_reply *reply)
@@ -453,14 +470,21 @@ static inline uint32_t nsf_scan_next(nsf_handle *handle, nsf_scan *scan, nsf_rep
         return NSF_KEY_TOO_LONG;
     refused = nsf_next(handle, &scan->bounds, scan->from, scan->from_length, scan->to, scan->to_length, scan->behind,
                        scan->behind_length, reply);
-    if (!refused && reply->kind == NSF_PAIR) {
-        scan->bounds.goes_on = 1;
-        scan->bounds.page = reply->page;
-        scan->bounds.slot = reply->slot;
-        scan->behind_length = reply->key_length;
-        for (size_t i = 0; i < reply->key_length; i++)
-            scan->behind[i] = reply->key[i];
-    }
+    if (!refused && reply->kind == NSF_PAIR)
+        nsf_scan_keep(scan, reply);
+    return refused;
+}
+
+/* The same backward: at first the last pair of the scan, then the one before the pair that the scan told last, in either direction. */
+static inline uint32_t nsf_scan_previous(nsf_handle *handle, nsf_scan *scan, nsf_reply *reply)
+{
+    uint32_t refused;
+    if (scan->from_length > NSF_KEY_MAX || scan->to_length > NSF_KEY_MAX)
+        return NSF_KEY_TOO_LONG;
+    refused = nsf_previous(handle, &scan->bounds, scan->from, scan->from_length, scan->to, scan->to_length, scan->behind,
+                           scan->behind_length, reply);
+    if (!refused && reply->kind == NSF_PAIR)
+        nsf_scan_keep(scan, reply);
     return refused;
 }
 

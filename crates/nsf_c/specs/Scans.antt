@@ -12,6 +12,7 @@ use Rattle.record_values.specs.Refusals.{number_of}
 use Rattle.model.specs.Table.{Index}
 use Rattle.core_parts.specs.View.{CoreValue}
 use Rattle.core_scan.specs.Answered.{IsPageOf}
+use Rattle.core_scan.specs.Backward.{IsPageBackOf}
 use Rattle.core_scan.specs.declared.range.KeyRange.{KeyRange}
 use Rattle.core_scan.specs.declared.reading.Page.{Page}
 use Rattle.core_committed.specs.Committed.{committed_index}
@@ -31,7 +32,7 @@ IsBound k key (Excluded at) = (k ≡ 2) × (at ≡ key) × (length key ≤ KEY_M
 abbrev pub IsNoBound : ℕ → List ℕ → ℕ → Type 0
 IsNoBound k key n = ((n ≡ 24) × (2 < k)) ⊎ ((n ≡ 14) × (0 < k) × (k ≤ 2) × (KEY_MAX < length key))
 
--- the pair behind which to go on, where there is one
+-- the pair from which to go on, where there is one
 abbrev pub IsBehind : Bounds → List ℕ → Option Pair → Type 0
 IsBehind b key None = b.goes_on ≡ 0
 IsBehind b key (Some p) = (b.goes_on ≡ 1) × (p ≡ record { key = key; rid = record { page = b.page; slot = b.slot } })
@@ -59,6 +60,11 @@ IsRead b v index = (is_committed : Bool) × IsFlag b.committed is_committed × (
 abbrev pub IsNoScan : Bounds → List ℕ → List ℕ → List ℕ → ℕ → Type 0
 IsNoScan b from to behind n = IsNoBound b.from from n ⊎ IsNoBound b.to to n ⊎ IsNoPair b behind n
     ⊎ ((n ≡ 24) × (1 < b.committed))
+
+-- and why nothing is asked for backward: what is committed isn't read so
+abbrev pub IsNoScanBack : Bounds → List ℕ → List ℕ → List ℕ → ℕ → Type 0
+IsNoScanBack b from to ahead n = IsNoBound b.from from n ⊎ IsNoBound b.to to n ⊎ IsNoPair b ahead n
+    ⊎ ((n ≡ 24) × (0 < b.committed))
 
 -- ---- what is told
 
@@ -88,3 +94,19 @@ pub record IsShown (b : Bounds) (from to behind : List ℕ) (status : ℕ) (told
 -- It isn't, and nothing is told.
 abbrev pub IsNotShown : Bounds → List ℕ → List ℕ → List ℕ → ℕ → Told → Type 0
 IsNotShown b from to behind status told = IsNoScan b from to behind status × (told ≡ plain 0 0)
+
+-- What is asked for is a range, and perhaps a pair before which to go on: the last pair there is told, or why none is.
+pub record IsShownBack (b : Bounds) (from to ahead : List ℕ) (status : ℕ) (told : Told) (v : CoreValue) : Type 0 where
+  pub range : KeyRange
+  pub before : Option Pair
+  pub answer : Result (Page Global) Error
+  pub begins : IsBound b.from from range.from
+  pub ends : IsBound b.to to range.to
+  pub goes_on : IsBehind b ahead before
+  pub uncommitted : b.committed ≡ 0
+  pub page : IsPageBackOf v.index.entries v.life range before 1 answer
+  pub tells : TellsPage answer status told
+
+-- It isn't, and nothing is told.
+abbrev pub IsNotShownBack : Bounds → List ℕ → List ℕ → List ℕ → ℕ → Told → Type 0
+IsNotShownBack b from to ahead status told = IsNoScanBack b from to ahead status × (told ≡ plain 0 0)

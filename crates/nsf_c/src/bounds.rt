@@ -1,6 +1,6 @@
 //! A range of keys, as C asks for it, and the pair behind which to go on.
 ghost use Rattle.std.specs.Prelude.{◌≡◌, ◌⊎◌, ◌<◌, ◌≤◌, ℕ, IfOk, IfErr};
-ghost use Rattle.nsf_c.specs.Scans.{IsBehind, IsBound, IsFlag, IsNoBound, IsNoPair, IsNoScan};
+ghost use Rattle.nsf_c.specs.Scans.{IsBehind, IsBound, IsFlag, IsNoBound, IsNoPair, IsNoScan, IsNoScanBack};
 
 use crate::asked::{key_of, rid_of};
 use crate::kind::NO_SUCH_EVENT;
@@ -27,6 +27,13 @@ pub(crate) struct Sought {
     pub range: KeyRange,
     pub after: Option<Pair>,
     pub is_committed: bool,
+}
+
+/// A pair that is asked for backward: the last of the range before another one.
+#[derive(Clone, Copy)]
+pub(crate) struct SoughtBack {
+    pub range: KeyRange,
+    pub before: Option<Pair>,
 }
 
 fn bound_of(kind: u32, key: &[u8]) -> Result<Bound<Key>, u32>
@@ -95,5 +102,27 @@ impl Bounds {
             after,
             is_committed,
         })
+    }
+
+    /// What is asked for backward, with these keys. The errors are those of `sought`, and 24 also where the index is
+    /// to be read as is committed.
+    pub(crate) fn sought_back(
+        &self,
+        from: &[u8],
+        to: &[u8],
+        ahead: &[u8],
+    ) -> Result<SoughtBack, u32>
+        ensures begins { IfOk result (λ sought. IsBound self.now.from from.now sought.range.from) }
+        ensures ends { IfOk result (λ sought. IsBound self.now.to to.now sought.range.to) }
+        ensures ahead { IfOk result (λ sought. IsBehind self.now ahead.now sought.before) }
+        ensures uncommitted { IfOk result (λ sought. self.now.committed ≡ 0) }
+        ensures bad { IfErr result (IsNoScanBack self.now from.now to.now ahead.now) }
+    {
+        let range = self.range(from, to)?;
+        let before = self.after(ahead)?;
+        if self.committed != 0 {
+            return Err(NO_SUCH_EVENT);
+        }
+        Ok(SoughtBack { range, before })
     }
 }

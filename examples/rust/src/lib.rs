@@ -13,7 +13,7 @@ use std::fs::File;
 use std::io::{self, Read, Seek, SeekFrom, Write};
 use std::marker::PhantomData;
 
-pub use scan::{Pair, Range, Scan};
+pub use scan::{Pair, Range, Scan, ScanBack};
 pub use shared::{Seat, Shared};
 pub use sys::Place;
 

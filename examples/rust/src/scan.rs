@@ -17,6 +17,13 @@ pub struct Scan<'a> {
     is_done: bool,
 }
 
+/// The pairs of a range of keys from the last one back. It is done behind a refusal.
+pub struct ScanBack<'a> {
+    store: &'a mut Store,
+    range: Range,
+    is_done: bool,
+}
+
 /// A range of keys, and how far it was read.
 #[derive(Clone, Debug)]
 pub struct Range {
@@ -68,6 +75,16 @@ impl Range {
     /// The next pair of the range; none where none is left. Between two calls the store may change: no pair comes
     /// twice, and each that was visible throughout comes.
     pub fn read_next(&mut self, store: &mut Store) -> Result<Option<Pair>, Refused> {
+        self.read(store, sys::nsf_next)
+    }
+
+    /// The same backward: at first the last pair of the range, then the one before the pair that was read last, in
+    /// either direction. A range that is read as is committed is refused.
+    pub fn read_previous(&mut self, store: &mut Store) -> Result<Option<Pair>, Refused> {
+        self.read(store, sys::nsf_previous)
+    }
+
+    fn read(&mut self, store: &mut Store, call: sys::Read) -> Result<Option<Pair>, Refused> {
         let ((from, first), (to, last)) =
             (bound_of(self.from.as_ref()), bound_of(self.to.as_ref()));
         let (behind, place) = match &self.behind {
@@ -84,7 +101,7 @@ impl Range {
         };
         let mut reply = sys::Reply::NONE;
         checked(unsafe {
-            sys::nsf_next(
+            call(
                 &mut store.handle,
                 &bounds,
                 first.as_ptr(),
@@ -123,10 +140,32 @@ impl Iterator for Scan<'_> {
     }
 }
 
+impl Iterator for ScanBack<'_> {
+    type Item = Result<Pair, Refused>;
+
+    fn next(&mut self) -> Option<Result<Pair, Refused>> {
+        if self.is_done {
+            return None;
+        }
+        let found = self.range.read_previous(self.store).transpose();
+        self.is_done = !matches!(found, Some(Ok(_)));
+        found
+    }
+}
+
 impl Store {
     /// The visible pairs of a range, in the order of their keys' bytes, then of their places.
     pub fn scan(&mut self, range: Range) -> Scan<'_> {
         Scan {
+            store: self,
+            range,
+            is_done: false,
+        }
+    }
+
+    /// The same pairs from the last one back.
+    pub fn scan_back(&mut self, range: Range) -> ScanBack<'_> {
+        ScanBack {
             store: self,
             range,
             is_done: false,

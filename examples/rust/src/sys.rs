@@ -68,6 +68,19 @@ pub struct Status {
     pub life: u32,
 }
 
+/// A call that tells a pair of a range, forward or backward.
+pub type Read = unsafe extern "C" fn(
+    *mut Handle,
+    *const Bounds,
+    *const u8,
+    usize,
+    *const u8,
+    usize,
+    *const u8,
+    usize,
+    *mut Reply,
+) -> u32;
+
 extern "C" {
     pub fn nsf_sectors(pages: u32, entries: u32, slots: u32) -> u64;
     pub fn nsf_create(handle: *mut Handle, line: i32, pages: u32, entries: u32, slots: u32) -> u32;
@@ -94,6 +107,17 @@ extern "C" {
         to_length: usize,
         behind: *const u8,
         behind_length: usize,
+        reply: *mut Reply,
+    ) -> u32;
+    pub fn nsf_previous(
+        handle: *mut Handle,
+        bounds: *const Bounds,
+        from: *const u8,
+        from_length: usize,
+        to: *const u8,
+        to_length: usize,
+        ahead: *const u8,
+        ahead_length: usize,
         reply: *mut Reply,
     ) -> u32;
     pub fn nsf_get_committed(handle: *mut Handle, place: *const Place, reply: *mut Reply) -> u32;

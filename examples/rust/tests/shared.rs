@@ -122,9 +122,12 @@ fn a_range_is_read_from_bound_to_bound() {
     store.create_index().unwrap();
     while store.build().unwrap() != nsf::Built::Complete {}
     let mut keys = |range: Range| -> Vec<String> {
-        let pairs: Result<Vec<_>, _> = store.scan(range).collect();
+        let pairs: Result<Vec<_>, _> = store.scan(range.clone()).collect();
+        let pairs = pairs.unwrap();
+        let back: Result<Vec<_>, _> = store.scan_back(range).collect();
+        assert!(pairs.iter().rev().eq(&back.unwrap()));
         let text = |pair: nsf::Pair| String::from_utf8(pair.key).unwrap();
-        pairs.unwrap().into_iter().map(text).collect()
+        pairs.into_iter().map(text).collect()
     };
     assert_eq!(keys(Range::all()), ["a", "ab", "ab", "b", "c"]);
     assert_eq!(keys(Range::new("ab".."c")), ["ab", "ab", "b"]);
@@ -132,6 +135,10 @@ fn a_range_is_read_from_bound_to_bound() {
     assert_eq!(keys(Range::prefix(b"a")), ["a", "ab", "ab"]);
     assert_eq!(keys(Range::prefix(b"")).len(), 5);
     assert!(keys(Range::new("d"..)).is_empty());
+    assert!(matches!(
+        store.scan_back(Range::all().committed()).next(),
+        Some(Err(Refused::Store(24)))
+    ));
 }
 
 #[test]
