@@ -26,6 +26,7 @@ pages 1
 entries 64
 slots 4
 slots in use 1
+records behind image 4
 last record 4
 life building -
 rows 2
@@ -80,6 +81,7 @@ pages 1
 entries 64
 slots 4
 slots in use 1
+records behind image 3
 last record 7
 life complete
 rows 2
@@ -105,7 +107,7 @@ static MOVED: [Deed; 8] = [
         &["nsf-store", "migrate", "--blocks", "again", "more"],
         1,
         "",
-        "nsf-store: again: it holds a store of version 2, which needs no move\n",
+        "nsf-store: again: it holds a store of version 2 or 3, which needs no move\n",
     ),
     Deed::Act("more", Act::Miss),
     Deed::Act("again", Act::Remove),
@@ -119,11 +121,16 @@ fn show<R: Abort + Files<File = File> + Clock + AllocGlobal>(rt: &R) {
     take_all(rt, &SHOWN);
 }
 
+// The same, and it is moved.
+fn show_and_move<R: Abort + Files<File = File> + Clock + AllocGlobal>(rt: &R) {
+    show(rt);
+    take_all(rt, &MOVED);
+    take_all(rt, &REMOVED);
+}
+
 #[test]
 fn a_store_in_blocks_is_made_served_built_shown_and_moved(rt: HostRuntime) {
-    show(&rt);
-    take_all(&rt, &MOVED);
-    take_all(&rt, &REMOVED);
+    show_and_move(&rt);
 }
 
 // Where the parts of the file begin: two headers, two areas of 64 blocks, a block of digests, and the data.
@@ -209,15 +216,20 @@ static NO_JOURNAL: [Deed; 1] = [Deed::Call(
 // A bit of one of these bytes changes nothing: in the first header, in the second one, and in each area of the journal.
 static MENDED: [usize; 4] = [0, SECOND_HEADER + LAST, AREA, SECOND_AREA];
 
+// The store is harmed.
+fn show_and_harm<R: Abort + Files<File = File> + Clock + AllocGlobal>(rt: &R) {
+    show(rt);
+    take_flipped(rt, &[DATA + 2_100], &DAMAGED);
+    take_flipped(rt, &[9, SECOND_HEADER + LAST], &NO_HEADER);
+    take_flipped(rt, &[AREA, SECOND_AREA], &NO_JOURNAL);
+    for place in &MENDED {
+        take_flipped(rt, &[*place], &STILL_SOUND);
+    }
+    take_all(rt, &STILL_SOUND);
+    take_all(rt, &REMOVED);
+}
+
 #[test]
 fn damage_of_a_file_of_blocks_is_told_or_changes_nothing(rt: HostRuntime) {
-    show(&rt);
-    take_flipped(&rt, &[DATA + 2_100], &DAMAGED);
-    take_flipped(&rt, &[9, SECOND_HEADER + LAST], &NO_HEADER);
-    take_flipped(&rt, &[AREA, SECOND_AREA], &NO_JOURNAL);
-    for place in &MENDED {
-        take_flipped(&rt, &[*place], &STILL_SOUND);
-    }
-    take_all(&rt, &STILL_SOUND);
-    take_all(&rt, &REMOVED);
+    show_and_harm(&rt);
 }

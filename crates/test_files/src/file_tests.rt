@@ -34,7 +34,7 @@ const HOLD_SEVENS: Step = Step::Use(Use::Hold(&[0, 7]));
 
 // While a disk is a draft, another file takes its name and goes again. A publication that was cut off leaves both
 // names: it is read, and an opening ends it. Where there is no memory for a file, no draft is left.
-static DRAFT: [Scene; 5] = [
+const DRAFT: &[Scene] = &[
     (
         Draft("kept", 2),
         Plain,
@@ -73,12 +73,7 @@ static DRAFT: [Scene; 5] = [
     ),
 ];
 
-#[test]
-fn a_draft_is_its_makers_until_it_has_its_name(rt: HostRuntime) {
-    play(&rt, &DRAFT);
-}
-
-static LOCKED: [Scene; 5] = [
+const LOCKED: &[Scene] = &[
     (
         Nothing,
         Plain,
@@ -94,14 +89,9 @@ static LOCKED: [Scene; 5] = [
     (Nothing, Plain, &[("locked", REMOVE, "done")]),
 ];
 
-#[test]
-fn a_file_is_locked_while_it_is_open(rt: HostRuntime) {
-    play(&rt, &LOCKED);
-}
-
 // A file of no whole sector, an empty one, a folder, and a link. Then a file gets a second name, and another one the
 // name of its draft.
-static REFUSED: [Scene; 1] = [(
+const REFUSED: &[Scene] = &[(
     Nothing,
     Plain,
     &[
@@ -129,11 +119,6 @@ static REFUSED: [Scene; 1] = [(
     ],
 )];
 
-#[test]
-fn what_is_no_store_is_refused_by_name(rt: HostRuntime) {
-    play(&rt, &REFUSED);
-}
-
 const ONE: Step = Step::Use(Use::Write(1));
 
 const TWO: Step = Step::Use(Use::Write(2));
@@ -142,7 +127,7 @@ const MADE: &[(&str, Step, &str)] = &[("harmed", MAKE, "done"), ("harmed", PUBLI
 
 // A disk is written, its file is harmed, and it is written once more. To a disk of one sector nothing is written: it is
 // only synced.
-static HARMED: [Scene; 10] = [
+const HARMED: &[Scene] = &[
     (Nothing, Plain, MADE),
     (
         Disk("harmed"),
@@ -206,14 +191,9 @@ static HARMED: [Scene; 10] = [
     ),
 ];
 
-#[test]
-fn a_file_that_is_harmed_while_it_is_open_is_told(rt: HostRuntime) {
-    play(&rt, &HARMED);
-}
-
 // What a file holds is synced, and its name. A sector takes two writes, which take only a part. A publication that was
 // cut off is ended by an opening, and that is safe then. The folder that is synced is the one that the file stands in.
-static SYNCED: [Scene; 6] = [
+const SYNCED: &[Scene] = &[
     (
         Nothing,
         Calls(b"kwwwwsflrf", 0),
@@ -250,13 +230,8 @@ static SYNCED: [Scene; 6] = [
     ),
 ];
 
-#[test]
-fn each_write_and_name_is_synced(rt: HostRuntime) {
-    play(&rt, &SYNCED);
-}
-
 // Somebody looks at a draft before it is locked. A draft that is empty is not locked by a look.
-static LOOKED_AT: [Scene; 5] = [
+const LOOKED_AT: &[Scene] = &[
     (Nothing, Calls(b"kkkkwwwwsf", 3), &[("left", MAKE, "done")]),
     (Nothing, Calls(b"h", 0), &[("left", MAKE, "DraftExists")]),
     (Nothing, Calls(b"rf", 0), &[("left", DISCARD, "done")]),
@@ -270,11 +245,6 @@ static LOOKED_AT: [Scene; 5] = [
     ),
     (Nothing, Plain, &[("left.new", REMOVE, "done")]),
 ];
-
-#[test]
-fn a_look_at_a_draft_is_not_in_its_makers_way(rt: HostRuntime) {
-    play(&rt, &LOOKED_AT);
-}
 
 static MAKING: Scene = (
     Nothing,
@@ -322,7 +292,7 @@ fn fail_after<R: Files<File = File> + AllocGlobal + Abort>(
     let draft = told_of_act(rt, "failed.new", Act::Miss);
     claim_at(rt, draft == "done", "a draft after call", before, draft);
     if told_of_act(rt, "failed", Act::Miss) != "done" {
-        play(rt, &REMAINS);
+        play(rt, 0, &REMAINS);
     }
 }
 
@@ -341,11 +311,6 @@ fn fail_each<R: Files<File = File> + AllocGlobal + Abort>(rt: &R) {
     }
 }
 
-#[test]
-fn a_call_that_fails_leaves_no_draft_and_is_told(rt: HostRuntime) {
-    fail_each(&rt);
-}
-
 // A write or a sync of the disk fails. Nothing reaches the file behind it.
 const SPOILED: &[(&str, Step, &str)] = &[
     ("spoiled", ONE, "InputOutput"),
@@ -355,7 +320,7 @@ const SPOILED: &[(&str, Step, &str)] = &[
     ("spoiled", Step::Use(Use::EndWithFailure), "done"),
 ];
 
-static SPOIL: [Scene; 4] = [
+const SPOIL: &[Scene] = &[
     (
         Nothing,
         Plain,
@@ -366,11 +331,6 @@ static SPOIL: [Scene; 4] = [
     (Nothing, Plain, &[("spoiled", REMOVE, "done")]),
 ];
 
-#[test]
-fn nothing_is_written_behind_a_failure(rt: HostRuntime) {
-    play(&rt, &SPOIL);
-}
-
 const SINGLE: &[(&str, Step, &str)] = &[
     ("single", MAKE, "done"),
     ("single", Step::Call(Call::PublishOrDiscard), "NoSecondName"),
@@ -379,12 +339,29 @@ const SINGLE: &[(&str, Step, &str)] = &[
 ];
 
 // The eighth call is to give a second name, which the file system doesn't.
-static SINGLES: [Scene; 2] = [
+const SINGLES: &[Scene] = &[
     (Nothing, Fails(7, 1), SINGLE),
     (Nothing, Fails(7, 95), SINGLE),
 ];
 
+static ALL: [&[Scene]; 8] = [
+    DRAFT, LOCKED, REFUSED, HARMED, SYNCED, LOOKED_AT, SPOIL, SINGLES,
+];
+
+// A draft is its maker's until it has its name, and a look at it is not in its maker's way. A file is locked while it
+// is open. What is no store is refused by name. A file that is harmed while it is open is told. Each write and name is
+// synced. Nothing is written behind a failure. That no second name is given is told. A call that fails leaves no draft,
+// and is told.
+fn play_each<R: Files<File = File> + AllocGlobal + Abort>(rt: &R) {
+    let mut number: u64 = 0;
+    for scenes in &ALL {
+        number = number.saturating_add(10_000);
+        play(rt, number, *scenes);
+    }
+    fail_each(rt);
+}
+
 #[test]
-fn that_no_second_name_is_given_is_told(rt: HostRuntime) {
-    play(&rt, &SINGLES);
+fn files_and_their_names(rt: HostRuntime) {
+    play_each(&rt);
 }

@@ -3,7 +3,8 @@
 //! Of files: names, locks and refusals; what is written, synced and named, and in which order; and calls that fail. Of
 //! disks over them: what a backing that fails, drops or tears leaves. Then the verbs of `nsf-store`, one behind the
 //! other on a real file, also of version 1, and on a file of blocks, whole and harmed; rows that are loaded and
-//! exported on either; and what is salvaged of a harmed one.
+//! exported on either; and what is salvaged of a harmed one. And rows as comma-separated fields, without a file
+//! (`test_rows`).
 //!
 //! Proved of them is safety. Outside the gate, `tools/kill_store.py` kills the program at random moments.
 #![tactic(auto)]
@@ -38,5 +39,7 @@ mod scripts;
 mod shell_tests;
 #[cfg(test)]
 mod steps;
+#[cfg(test)]
+mod test_rows;
 #[cfg(test)]
 mod watched;

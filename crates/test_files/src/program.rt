@@ -172,10 +172,31 @@ pub(crate) fn take_all<R: Abort + Files<File = File> + Clock + AllocGlobal>(
     rt: &R,
     deeds: &[Deed],
 ) {
-    let mut number: u64 = 0;
+    take_from(rt, deeds, 0);
+}
+
+// The same of those that are behind so many.
+fn take_from<R: Abort + Files<File = File> + Clock + AllocGlobal>(
+    rt: &R,
+    deeds: &[Deed],
+    before: u64,
+) {
+    let mut number = before;
     for deed in deeds {
         number = number.saturating_add(1);
         let told = take(rt, deed);
         claim_at(rt, told == "done", "step", number, told);
+    }
+}
+
+/// The same of several tests, one behind the other: step 2 of the third one has the number 302.
+pub(crate) fn take_each<R: Abort + Files<File = File> + Clock + AllocGlobal>(
+    rt: &R,
+    tests: &[&[Deed]],
+) {
+    let mut number: u64 = 0;
+    for deeds in tests {
+        number = number.saturating_add(100);
+        take_from(rt, *deeds, number);
     }
 }

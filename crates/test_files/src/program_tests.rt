@@ -2,13 +2,15 @@
 use crate::answers::Look;
 use crate::claims::claim;
 use crate::help::HELP;
-use crate::program::{Deed, ProgramRun, take_all};
+use crate::program::{Deed, ProgramRun, take_each};
 use crate::scripts::{FILLING, MANY};
 use crate::steps::Act;
 use program_shell::refuse_words;
+use std::fs::File;
 use std::io;
 use std::io::ErrorKind;
 use std::process::Abort;
+use std::rt::{Clock, Files};
 use test_store::{BUILDING_1, Edit, GROUP, SUPERBLOCK_1};
 
 const NEW: &[&str] = &[
@@ -50,6 +52,7 @@ pages 1
 entries 64
 slots 4
 slots in use 1
+records behind image 4
 last record 4
 life building -
 rows 2
@@ -67,7 +70,7 @@ live :62 0.1
 life complete
 ";
 
-static SHOWN: [Deed; 11] = [
+const SHOWN: &[Deed] = &[
     Deed::Call(&["nsf-store", "--help"], 0, HELP, ""),
     Deed::Call(NEW, 0, "", ""),
     Deed::Call(NEW, 1, "", "nsf-store: s: it is there already\n"),
@@ -98,11 +101,6 @@ static SHOWN: [Deed; 11] = [
     Deed::Act("s", Act::Remove),
 ];
 
-#[test]
-fn a_store_is_made_served_built_and_shown(rt: HostRuntime) {
-    take_all(&rt, &SHOWN);
-}
-
 // Words that can't be read for this.
 fn refuse<R: Abort + AllocGlobal>(rt: &R, kind: ErrorKind) {
     let mut errors = Vec::new(rt.alloc());
@@ -113,12 +111,7 @@ fn refuse<R: Abort + AllocGlobal>(rt: &R, kind: ErrorKind) {
     claim(rt, is_told, "what of the words is wrong");
 }
 
-#[test]
-fn words_that_are_no_text_are_told(rt: HostRuntime) {
-    refuse(&rt, ErrorKind::InvalidData);
-}
-
-static OTHER_KINDS: [Deed; 5] = [
+const OTHER_KINDS: &[Deed] = &[
     Deed::Act("t", Act::Put(1, 1_024)),
     Deed::Call(
         &["nsf-store", "check", "t"],
@@ -136,11 +129,6 @@ static OTHER_KINDS: [Deed; 5] = [
     Deed::Act("t", Act::Remove),
 ];
 
-#[test]
-fn a_file_of_another_kind_is_told_in_words(rt: HostRuntime) {
-    take_all(&rt, &OTHER_KINDS);
-}
-
 // The first command that is refused is a step of the builder behind 31 updates, and the second one is the last line.
 const FULL: &str =
     "nsf-store: the index is full. What open transactions reserve comes free at their end, and `clean` takes marked \
@@ -150,7 +138,7 @@ const FULL: &str =
 const AGAIN: &str =
     "nsf-store: f: its index is full: `nsf-store build --again` drops it, creates it anew and builds it\n";
 
-static WAY_OUT: [Deed; 6] = [
+const WAY_OUT: &[Deed] = &[
     Deed::Call(
         &["nsf-store", "new", "f", "--pages", "1", "--entries", "64"],
         0,
@@ -176,12 +164,7 @@ static WAY_OUT: [Deed; 6] = [
     Deed::Act("f", Act::Remove),
 ];
 
-#[test]
-fn the_way_out_of_a_full_index_is_told(rt: HostRuntime) {
-    take_all(&rt, &WAY_OUT);
-}
-
-static TOO_SMALL: [Deed; 4] = [
+const TOO_SMALL: &[Deed] = &[
     Deed::Call(
         &["nsf-store", "new", "m", "--pages", "2", "--entries", "64"],
         0,
@@ -205,11 +188,6 @@ static TOO_SMALL: [Deed; 4] = [
     Deed::Act("m", Act::Remove),
 ];
 
-#[test]
-fn an_index_that_is_too_small_is_told(rt: HostRuntime) {
-    take_all(&rt, &TOO_SMALL);
-}
-
 const CUT: &str = "nsf-store: the file's length was changed while it was open
 nsf-store: commands refused: 2, the first in line 4
 nsf-store: transactions open at the end, of which nothing is kept: 2
@@ -224,7 +202,7 @@ nsf-store: d: the file's length was changed while it was open
 
 const NEW_D: Deed = Deed::Call(&["nsf-store", "new", "d", "--pages", "1"], 0, "", "");
 
-static DURABLE: [Deed; 9] = [
+const DURABLE: &[Deed] = &[
     NEW_D,
     Deed::Serve(ProgramRun {
         words: &["nsf-store", "run", "--durable", "d"],
@@ -258,16 +236,11 @@ static DURABLE: [Deed; 9] = [
     Deed::Act("d", Act::Remove),
 ];
 
-#[test]
-fn a_durable_commit_is_safe_once_it_is_answered(rt: HostRuntime) {
-    take_all(&rt, &DURABLE);
-}
-
 const LOST: &str =
     "nsf-store: the file that is open no longer has its name. Where it is gone, a flush tells so\n";
 
 // The file that is open gets another name, and has what is committed then.
-static RENAMED: [Deed; 5] = [
+const RENAMED: &[Deed] = &[
     NEW_D,
     Deed::Serve(ProgramRun {
         words: &["nsf-store", "run", "d"],
@@ -287,11 +260,6 @@ static RENAMED: [Deed; 5] = [
     Deed::Act("e", Act::Remove),
 ];
 
-#[test]
-fn that_a_file_has_another_name_is_told(rt: HostRuntime) {
-    take_all(&rt, &RENAMED);
-}
-
 // How many sectors the least store of version 1 has.
 const SECTORS: u64 = 1_118;
 
@@ -303,6 +271,7 @@ pages 1
 entries 64
 slots 4
 slots in use 0
+records behind image 0
 last record 2
 life none
 rows 1
@@ -318,6 +287,7 @@ pages 1
 entries 64
 slots 4
 slots in use 0
+records behind image 0
 last record 6
 life building :616e74 0.0
 rows 1
@@ -345,7 +315,7 @@ const MOVE_NEW: Deed = Deed::Call(
     &["nsf-store", "migrate", "new", "other"],
     1,
     "",
-    "nsf-store: new: it holds a store of version 2, which needs no move\n",
+    "nsf-store: new: it holds a store of version 2 or 3, which needs no move\n",
 );
 
 const REMOVE_OLD: Deed = Deed::Act("old", Act::Remove);
@@ -353,7 +323,7 @@ const REMOVE_OLD: Deed = Deed::Act("old", Act::Remove);
 const REMOVE_NEW: Deed = Deed::Act("new", Act::Remove);
 
 // Stores of version 1 are moved, and are as before then.
-static MOVED: [Deed; 18] = [
+const MOVED: &[Deed] = &[
     Deed::Lay("old", (SECTORS, LOGGED)),
     OLD,
     Deed::Call(MOVE, 0, LOGGED_STAT, ""),
@@ -374,11 +344,6 @@ static MOVED: [Deed; 18] = [
     REMOVE_NEW,
 ];
 
-#[test]
-fn a_store_of_version_1_is_moved_to_a_new_file(rt: HostRuntime) {
-    take_all(&rt, &MOVED);
-}
-
 const MIGRATE: &[&str] = &["nsf-store", "migrate", "harmed", "left"];
 
 const NO_FILE: Deed = Deed::Act("left", Act::Miss);
@@ -386,7 +351,7 @@ const NO_FILE: Deed = Deed::Act("left", Act::Miss);
 const NO_DRAFT: Deed = Deed::Act("left.new", Act::Miss);
 
 // Such a file isn't moved, and this is said. No other file is left.
-static HARMED: [Deed; 17] = [
+const HARMED: &[Deed] = &[
     Deed::Lay("harmed", (SECTORS, &[SUPERBLOCK_1, (516, 0, b"\x01")])),
     Deed::Call(
         MIGRATE,
@@ -426,7 +391,39 @@ static HARMED: [Deed; 17] = [
     Deed::Act("harmed", Act::Remove),
 ];
 
+static USED: [&[Deed]; 2] = [SHOWN, OTHER_KINDS];
+
+static FULL_INDEXES: [&[Deed]; 2] = [WAY_OUT, TOO_SMALL];
+
+static KEPT: [&[Deed]; 2] = [DURABLE, RENAMED];
+
+static OF_VERSION_1: [&[Deed]; 2] = [MOVED, HARMED];
+
+// A store is made, served, built and shown; another kind of file is told.
+fn take_used<R: Abort + Files<File = File> + Clock + AllocGlobal>(rt: &R) {
+    take_each(rt, &USED);
+}
+
+// The way out of a full index is told, and that one is too small.
+fn take_full<R: Abort + Files<File = File> + Clock + AllocGlobal>(rt: &R) {
+    take_each(rt, &FULL_INDEXES);
+}
+
+// A durable commit is kept, and what a file with another name has.
+fn take_kept<R: Abort + Files<File = File> + Clock + AllocGlobal>(rt: &R) {
+    take_each(rt, &KEPT);
+}
+
+// Stores of version 1 are moved, or not.
+fn take_old<R: Abort + Files<File = File> + Clock + AllocGlobal>(rt: &R) {
+    take_each(rt, &OF_VERSION_1);
+}
+
 #[test]
-fn no_file_is_left_where_nothing_is_moved(rt: HostRuntime) {
-    take_all(&rt, &HARMED);
+fn the_verbs_behind_one_another(rt: HostRuntime) {
+    take_used(&rt);
+    take_full(&rt);
+    take_kept(&rt);
+    take_old(&rt);
+    refuse(&rt, ErrorKind::InvalidData);
 }

@@ -1,5 +1,5 @@
 // Rows that are loaded, exported and loaded again, and backups, on files of either kind.
-use crate::program::{Deed, take_all};
+use crate::program::{Deed, take_each};
 use crate::steps::Act;
 
 const NEW: Deed = Deed::Call(&["nsf-store", "new", "l", "--pages", "1"], 0, "", "");
@@ -20,6 +20,10 @@ const LOAD: &[&str] = &["nsf-store", "load", "l", "rows"];
 const EXPORT: &[&str] = &["nsf-store", "export", "l"];
 
 const BY_KEY: &[&str] = &["nsf-store", "export", "--order", "key", "l"];
+
+const JSON: &[&str] = &["nsf-store", "export", "--json", "l"];
+
+const JSON_BY_KEY: &[&str] = &["nsf-store", "export", "l", "--order", "key", "--json"];
 
 const SOUND: Deed = Deed::Call(&["nsf-store", "check", "l"], 0, "sound\n", "");
 
@@ -57,11 +61,24 @@ ant,4
 cow,1
 ";
 
+const OBJECTS: &str = r#"{"key":"cow","body":"1"}
+{"key":"","body":""}
+{"key":"b,c","body":"say\n\"hi\""}
+{"key":"ant","body":"4"}
+"#;
+
+const OBJECTS_IN_ORDER: &str = r#"{"key":"","body":""}
+{"key":"ant","body":"4"}
+{"key":"b,c","body":"say\n\"hi\""}
+{"key":"cow","body":"1"}
+"#;
+
 // What is exported is loaded again, into a store with an index.
-static LOADED: [Deed; 12] = [
+const LOADED: &[Deed] = &[
     Deed::Write("rows", ROWS),
     Deed::Call(LOAD, 3, "loaded 4\nrefused 3\n", REFUSED),
     Deed::Call(EXPORT, 0, EXPORTED, ""),
+    Deed::Call(JSON, 0, OBJECTS, ""),
     Deed::Call(
         BY_KEY,
         1,
@@ -79,21 +96,32 @@ static LOADED: [Deed; 12] = [
     Deed::Call(LOAD, 0, "loaded 4\nrefused 0\n", ""),
     Deed::Call(EXPORT, 0, EXPORTED, ""),
     Deed::Call(BY_KEY, 0, IN_ORDER, ""),
+    Deed::Call(JSON_BY_KEY, 0, OBJECTS_IN_ORDER, ""),
     SOUND,
     REMOVE,
     REMOVE_ROWS,
 ];
 
-#[test]
-fn rows_are_loaded_and_exported(rt: HostRuntime) {
-    take_all(&rt, &[NEW]);
-    take_all(&rt, &LOADED);
-    take_all(&rt, &[NEW_BLOCKS]);
-    take_all(&rt, &LOADED);
-}
+// A key in Latin-1 and a body that is cut within a character are no UTF-8.
+const NO_TEXT: &[Deed] = &[
+    Deed::Feed(
+        &["nsf-store", "run", "l"],
+        "begin\ninsert 1 :666fef =a\ninsert 1 :c3a9 :c3\ncommit 1\n",
+        0,
+        "txn 1\nrid 0.0\nrid 0.1\nticket 3\n",
+        "",
+    ),
+    Deed::Call(
+        JSON,
+        0,
+        "{\"key_hex\":\"666fef\",\"body\":\"a\"}\n{\"key\":\"\u{e9}\",\"body_hex\":\"c3\"}\n",
+        "",
+    ),
+    REMOVE,
+];
 
 // What is wrong with the rows is told before what is wrong with the store. Lines may end with a carriage return too.
-static HEADERS: [Deed; 12] = [
+const HEADERS: &[Deed] = &[
     Deed::Call(
         LOAD,
         1,
@@ -147,16 +175,10 @@ static HEADERS: [Deed; 12] = [
     Deed::Call(EXPORT, 0, "key,body\n1,ant\n", ""),
 ];
 
-#[test]
-fn columns_are_named(rt: HostRuntime) {
-    take_all(&rt, &HEADERS);
-    take_all(&rt, &[REMOVE, REMOVE_ROWS]);
-}
-
 // The last record begins in line 6, behind an empty line. Its quote isn't closed, and so it is no row.
 const OPEN: &str = "key,body\nant,1\n\"b\"\"\",\"2\n\"\n\ncow,\"3\n";
 
-static OPEN_QUOTES: [Deed; 9] = [
+const OPEN_QUOTES: &[Deed] = &[
     NEW,
     Deed::Write("rows", "key,\"body"),
     Deed::Call(
@@ -178,11 +200,6 @@ static OPEN_QUOTES: [Deed; 9] = [
     REMOVE_ROWS,
 ];
 
-#[test]
-fn a_quote_that_nothing_closes_is_told(rt: HostRuntime) {
-    take_all(&rt, &OPEN_QUOTES);
-}
-
 // 66 rows. A page has room for 63.
 const MANY: &str = "key,body\n\
     ,\n,\n,\n,\n,\n,\n,\n,\n,\n,\n,\n,\n,\n,\n,\n,\n,\n,\n,\n,\n\
@@ -190,7 +207,7 @@ const MANY: &str = "key,body\n\
     ,\n,\n,\n,\n,\n,\n,\n,\n,\n,\n,\n,\n,\n,\n,\n,\n,\n,\n,\n,\n\
     a,\nb,\nc,\nd,\ne,\nf,\n";
 
-static FULL: [Deed; 9] = [
+const FULL: &[Deed] = &[
     Deed::Write("rows", MANY),
     Deed::Call(&["nsf-store", "new", "l", "--pages", "2"], 0, "", ""),
     Deed::Call(
@@ -212,16 +229,12 @@ static FULL: [Deed; 9] = [
     REMOVE_ROWS,
 ];
 
-#[test]
-fn a_full_table_ends_a_load(rt: HostRuntime) {
-    take_all(&rt, &FULL);
-}
-
 const STAT: &str = "format 2
 pages 1
 entries 252
 slots 16
 slots in use 1
+records behind image 2
 last record 2
 life none
 rows 1
@@ -235,7 +248,7 @@ rows free 62
 const BACKUP: &[&str] = &["nsf-store", "backup", "l", "copy"];
 
 // A backup is of the same kind, so that it is moved to the other one alone.
-static BACKED_UP: [Deed; 8] = [
+const BACKED_UP: &[Deed] = &[
     Deed::Write("rows", "key,body\nant,1\n"),
     Deed::Call(LOAD, 0, "loaded 1\nrefused 0\n", ""),
     Deed::Call(BACKUP, 0, STAT, ""),
@@ -251,7 +264,7 @@ static BACKED_UP: [Deed; 8] = [
     REMOVE_ROWS,
 ];
 
-const NO_MOVE: &str = "nsf-store: copy: it holds a store of version 2, which needs no move\n";
+const NO_MOVE: &str = "nsf-store: copy: it holds a store of version 2 or 3, which needs no move\n";
 
 const REMOVE_COPY: Deed = Deed::Act("copy", Act::Remove);
 
@@ -264,11 +277,32 @@ const IS_IN_BLOCKS: Deed = Deed::Call(
     NO_MOVE,
 );
 
+static ALL: [&[Deed]; 16] = [
+    // rows are loaded and exported
+    &[NEW],
+    LOADED,
+    &[NEW_BLOCKS],
+    LOADED,
+    // bytes that are no text are digits
+    &[NEW],
+    NO_TEXT,
+    // columns are named
+    HEADERS,
+    &[REMOVE, REMOVE_ROWS],
+    // a quote that nothing closes is told
+    OPEN_QUOTES,
+    // a full table ends a load
+    FULL,
+    // a store is backed up
+    &[NEW],
+    BACKED_UP,
+    &[IS_PLAIN, REMOVE_COPY],
+    &[NEW_BLOCKS],
+    BACKED_UP,
+    &[IS_IN_BLOCKS, REMOVE_COPY],
+];
+
 #[test]
-fn a_store_is_backed_up(rt: HostRuntime) {
-    take_all(&rt, &[NEW]);
-    take_all(&rt, &BACKED_UP);
-    take_all(&rt, &[IS_PLAIN, REMOVE_COPY, NEW_BLOCKS]);
-    take_all(&rt, &BACKED_UP);
-    take_all(&rt, &[IS_IN_BLOCKS, REMOVE_COPY]);
+fn rows_are_loaded_exported_and_backed_up(rt: HostRuntime) {
+    take_each(&rt, &ALL);
 }

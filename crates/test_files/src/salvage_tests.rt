@@ -32,6 +32,7 @@ pages 2
 entries 64
 slots 4
 slots in use 0
+records behind image 0
 last record 2
 life none
 rows 2
@@ -58,6 +59,7 @@ pages 2
 entries 64
 slots 4
 slots in use 0
+records behind image 0
 last record 0
 life none
 rows 1

@@ -114,9 +114,13 @@ fn play_one<R: Files<File = File> + AllocGlobal + Abort>(rt: &R, number: u64, sc
 }
 
 /// Plays scenes. Each step comes to what is wanted, and just the calls come that are to come. Else it is told which
-/// step came to what: step 2 of scene 3 has the number 302.
-pub(crate) fn play<R: Files<File = File> + AllocGlobal + Abort>(rt: &R, scenes: &[Scene]) {
-    let mut number: u64 = 0;
+/// step came to what: step 2 of scene 3 has the number 302, and so many more as stand before.
+pub(crate) fn play<R: Files<File = File> + AllocGlobal + Abort>(
+    rt: &R,
+    before: u64,
+    scenes: &[Scene],
+) {
+    let mut number = before;
     for scene in scenes {
         number = number.saturating_add(100);
         play_one(rt, number, scene);

@@ -1,7 +1,7 @@
 // What is served beside the commands of a script, and what the error stream says of an input.
 use crate::answers::Look;
 use crate::claims::claim;
-use crate::program::{Deed, ProgramRun, take_all};
+use crate::program::{Deed, ProgramRun, take_all, take_each};
 use crate::steps::Act;
 use std::fs::File;
 use std::process::Abort;
@@ -36,6 +36,8 @@ scan =b =a
 scan = =:
 scan :62 count 3
 scan =b count 4
+scan back count 2
+scan =b =bee back
 begin
 delete 2 0.1
 scan =bee =bee
@@ -84,6 +86,12 @@ end
 :626565 0.3
 :636f77 0.2
 end
+:636f77 0.2
+:626565 0.3
+more :626565 0.3
+:626565 0.3
+:626565 0.1
+end
 txn 2
 ok
 :626565 0.3
@@ -95,7 +103,7 @@ nsf-store: transactions open at the end, of which nothing is kept: 2
 ";
 
 // The transaction that was open is taken back where the file is opened again.
-static SCANNED: [Deed; 14] = [
+const SCANNED: &[Deed] = &[
     NEW,
     Deed::Feed(RUN, RANGES, 0, RANGES_ANSWERED, RANGES_SAID),
     Deed::Call(
@@ -114,6 +122,12 @@ static SCANNED: [Deed; 14] = [
         &["nsf-store", "scan", "r", "=b", ":626565", "--limit", "1"],
         0,
         ":626565 0.1\nmore :626565 0.1\n",
+        "",
+    ),
+    Deed::Call(
+        &["nsf-store", "scan", "r", "=b", "--back", "--limit", "2"],
+        0,
+        ":636f77 0.2\n:626565 0.3\nmore :626565 0.3\n",
         "",
     ),
     Deed::Call(
@@ -151,12 +165,6 @@ static SCANNED: [Deed; 14] = [
         "nsf-store: r: its index isn't complete; `nsf-store build` builds it to its end\n",
     ),
 ];
-
-#[test]
-fn ranges_are_read_in_order(rt: HostRuntime) {
-    take_all(&rt, &SCANNED);
-    take_all(&rt, &[REMOVE]);
-}
 
 const KEYS: &str = "begin
 insert 1 =ant =1
@@ -218,7 +226,7 @@ live :636f77 0.2
 life complete
 ";
 
-static KEYED: [Deed; 3] = [
+const KEYED: &[Deed] = &[
     NEW,
     Deed::Feed(
         RUN,
@@ -230,12 +238,7 @@ static KEYED: [Deed; 3] = [
     REMOVE,
 ];
 
-#[test]
-fn the_one_row_with_a_key_is_changed(rt: HostRuntime) {
-    take_all(&rt, &KEYED);
-}
-
-static STOPPED: [Deed; 7] = [
+const STOPPED: &[Deed] = &[
     NEW,
     Deed::Feed(
         STOPPING,
@@ -277,11 +280,6 @@ static STOPPED: [Deed; 7] = [
     REMOVE,
 ];
 
-#[test]
-fn an_input_may_end_with_a_refusal(rt: HostRuntime) {
-    take_all(&rt, &STOPPED);
-}
-
 static IN_USE: [Deed; 2] = [
     Deed::Call(
         &["nsf-store", "run", "r", "--wait", "1"],
@@ -303,25 +301,6 @@ fn take_beside<R: Abort + Files<File = File> + Clock + AllocGlobal>(rt: &R, deed
     claim(rt, held.is_ok(), "the file is open");
     take_all(rt, deeds);
     drop(held);
-}
-
-#[test]
-fn a_file_in_use_is_waited_for(rt: HostRuntime) {
-    take_all(&rt, &[NEW]);
-    take_beside(&rt, &IN_USE);
-    take_all(
-        &rt,
-        &[
-            Deed::Feed(
-                &["nsf-store", "run", "r", "--wait", "1"],
-                "begin\n",
-                0,
-                "txn 1\n",
-                "nsf-store: transactions open at the end, of which nothing is kept: 1\n",
-            ),
-            REMOVE,
-        ],
-    );
 }
 
 const FAULTS: &str = "instert 1 =a =
@@ -365,7 +344,7 @@ quit: ends the input
 A key or body is `=` and graphic bytes, as `=ant`, or `:` and hexadecimal digits, as `:616e74`
 ";
 
-static TOLD: [Deed; 4] = [
+const TOLD: &[Deed] = &[
     NEW,
     Deed::Feed(RUN, FAULTS, 1, FAULTS_ANSWERED, FAULTS_SAID),
     Deed::Serve(ProgramRun {
@@ -379,7 +358,28 @@ static TOLD: [Deed; 4] = [
     REMOVE,
 ];
 
+static WAITED: [Deed; 2] = [
+    Deed::Feed(
+        &["nsf-store", "run", "r", "--wait", "1"],
+        "begin\n",
+        0,
+        "txn 1\n",
+        "nsf-store: transactions open at the end, of which nothing is kept: 1\n",
+    ),
+    REMOVE,
+];
+
+static BEFORE: [&[Deed]; 6] = [SCANNED, &[REMOVE], KEYED, STOPPED, TOLD, &[NEW]];
+
+// Ranges are read in order, the one row with a key is changed, an input may end with a refusal, and it is told why a
+// line is none. A file in use is waited for.
+fn feed_each<R: Abort + Files<File = File> + Clock + AllocGlobal>(rt: &R) {
+    take_each(rt, &BEFORE);
+    take_beside(rt, &IN_USE);
+    take_all(rt, &WAITED);
+}
+
 #[test]
-fn why_a_line_is_none_is_told(rt: HostRuntime) {
-    take_all(&rt, &TOLD);
+fn what_an_input_is_answered(rt: HostRuntime) {
+    feed_each(&rt);
 }

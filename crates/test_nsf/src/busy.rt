@@ -15,7 +15,7 @@ use std::time::Duration;
 // So many writers, and so many turns of each at the most.
 const WRITERS: usize = 8;
 
-const TURNS: u32 = 1_000;
+const TURNS: u32 = 10_000;
 
 // How long each transaction of a writer is open, in microseconds; and how many milliseconds the creator waits.
 const OPEN: u64 = 1_000;
@@ -79,7 +79,7 @@ fn create<B: Group, R: Wait>(rt: &R, shared: &Shared<B>, seat: &mut Seat<B>) -> 
     let parker = Parker::new();
     parker.park_timeout(rt, Duration::from_micros(4 * OPEN));
     shared.create_index_when_quiet(rt, seat, PATIENCE)?;
-    parker.park_timeout(rt, Duration::from_micros(20 * OPEN));
+    parker.park_timeout(rt, Duration::from_micros(200 * OPEN));
     shared.drop_index_when_quiet(rt, seat, PATIENCE)?;
     Ok(0)
 }

@@ -2,7 +2,7 @@
 use crate::answer::Answer;
 use crate::claims::claim_at;
 use crate::disk::Disk;
-use crate::jobs::{Job, do_job};
+use crate::jobs::{Job, Task, do_all};
 use crate::opened::open;
 use crate::store::{OpenStore, StoreMemory};
 use nsf_core::BuildReply;
@@ -111,7 +111,9 @@ pub(crate) fn fill_and_build_over<M: StoreMemory>(
     Ok(())
 }
 
+static TASKS: [Task; 1] = [(&[], Job::BuildIndex)];
+
 #[test]
 fn an_index_over_every_place(rt: HostRuntime) {
-    do_job(&rt, rt.alloc(), &[], Job::BuildIndex);
+    do_all(&rt, rt.alloc(), &TASKS);
 }

@@ -2,7 +2,7 @@
 use crate::claims::claim_at;
 use crate::disk::Disk;
 use crate::image_tests::run_over;
-use crate::jobs::{Job, do_job};
+use crate::jobs::{Job, Task};
 use crate::store::StoreMemory;
 use records::Error;
 use restart::Event;
@@ -11,7 +11,7 @@ use std::process::Abort;
 use test_store::{Edit, GROUP, Script};
 
 // A commit, and then a build, a change behind it that owes nothing, and an image.
-static SCRIPT: [Script<'static>; 1] = [(
+const SCRIPT: &[Script<'_>] = &[(
     1,
     "begin\ninsert 1 =ant =x\ncommit 1\nflush\n\
     create\nbuild 2\nbegin\ninsert 2 =a =\nstep 2\nimage\nimage\nimage\nimage\n",
@@ -67,19 +67,6 @@ pub(crate) struct Layout {
     compared: &'static [(u64, u64)],
 }
 
-static LAYOUTS: [Layout; 2] = [
-    Layout {
-        pages: 1,
-        bytes: BYTES,
-        compared: COMPARED,
-    },
-    Layout {
-        pages: 257,
-        bytes: LARGE,
-        compared: &[(0, 1)],
-    },
-];
-
 fn compare(rt: &impl Abort, disk: &mut Disk, layout: Layout) {
     for (first, end) in layout.compared {
         let holds = disk.holds(layout.bytes, *first, *end);
@@ -102,10 +89,20 @@ pub(crate) fn run_and_compare<M: StoreMemory>(
     Ok(())
 }
 
-// A small store, and the superblock of one that isn't.
-#[test]
-fn a_store_byte_by_byte(rt: HostRuntime) {
-    for layout in &LAYOUTS {
-        do_job(&rt, rt.alloc(), &SCRIPT, Job::CompareBytes(*layout));
-    }
-}
+const SMALL: Layout = Layout {
+    pages: 1,
+    bytes: BYTES,
+    compared: COMPARED,
+};
+
+const NOT_SMALL: Layout = Layout {
+    pages: 257,
+    bytes: LARGE,
+    compared: &[(0, 1)],
+};
+
+/// A small store, and the superblock of one that isn't.
+pub(crate) const TASKS: &[Task] = &[
+    (SCRIPT, Job::CompareBytes(SMALL)),
+    (SCRIPT, Job::CompareBytes(NOT_SMALL)),
+];

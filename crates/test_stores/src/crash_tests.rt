@@ -1,9 +1,9 @@
 // A store is stopped at each call of its device in turn, and crashes; and so are restarts behind it, at one call in 16.
 use crate::answer::Answer;
-use crate::claims::{claim, claim_at};
+use crate::claims::{claim, claim_at, leave};
 use crate::contents::Contents;
 use crate::disk::Disk;
-use crate::jobs::{Job, do_job};
+use crate::jobs::{Job, Task, do_all};
 use crate::opened::open;
 use crate::store::{OpenStore, StoreMemory};
 use records::Error;
@@ -17,7 +17,7 @@ use test_store::Script;
 const CALLS: u64 = 1_000;
 
 // A row is deleted behind the scan of a build, and an image is taken before the build ends.
-static SCRIPT: [Script<'static>; 1] = [(
+const SCRIPT: &[Script<'_>] = &[(
     1,
     "begin\ninsert 1 =a =\ninsert 1 =b =\ncommit 1\ncreate\nflush\nbuild\nbegin\n\
     delete 2 0.1\nstep 2\ncommit 2\nflush\nbuild 2\nimage\nimage\nimage\nimage\nbuild\nflush\n",
@@ -34,7 +34,6 @@ pub(crate) struct Case {
 
 // The requests of a script, what they are answered while nothing fails, and what the store holds at first and whenever
 // all is told to be safe.
-#[derive(Drop)]
 struct Whole<'a> {
     events: &'a [Event],
     answers: Vec<Answer>,
@@ -79,7 +78,7 @@ fn whole_by_new<'a, M: StoreMemory>(
     match run {
         Ok(()) => Ok(whole),
         Err(fail) => {
-            drop(whole);
+            leave(whole);
             Err(fail)
         }
     }
@@ -291,12 +290,12 @@ pub(crate) fn stop_in_each<M: StoreMemory>(
 ) -> Result<(), Error> {
     let whole = whole_by_new(rt, memory, alloc, events)?;
     let stopped = stop_whole(rt, memory, alloc, &whole, cases);
-    drop(whole);
+    leave(whole);
     stopped
 }
 
 // Each write and sync fails in turn, with each fate of what is not synced, and behind it one in 16 of a restart.
-static STOPPED: [Case; 4] = [
+const STOPPED: &[Case] = &[
     Case {
         which: Which::WritesAndSyncs,
         fate: Fate::Zero,
@@ -320,20 +319,24 @@ static STOPPED: [Case; 4] = [
 ];
 
 // Each call fails in turn, and behind it one in 16 of a restart.
-static FAILING: [Case; 1] = [Case {
+const FAILING: &[Case] = &[Case {
     which: Which::All,
     fate: Fate::Old,
     every: 16,
 }];
 
+static STOPS: [Task; 1] = [(SCRIPT, Job::Stop(STOPPED))];
+
+static FAILURES: [Task; 1] = [(SCRIPT, Job::Stop(FAILING))];
+
 // What is left behind each stop, and behind stops of the restarts behind it, clauses say (`any_crash` of `run`, `stays`
 // of `restart`). Here it is seen that failures are told, and that no answer is wanting.
 #[test]
 fn each_stop(rt: HostRuntime) {
-    do_job(&rt, rt.alloc(), &SCRIPT, Job::Stop(&STOPPED));
+    do_all(&rt, rt.alloc(), &STOPS);
 }
 
 #[test]
 fn each_failure(rt: HostRuntime) {
-    do_job(&rt, rt.alloc(), &SCRIPT, Job::Stop(&FAILING));
+    do_all(&rt, rt.alloc(), &FAILURES);
 }

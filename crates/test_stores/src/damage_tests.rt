@@ -1,7 +1,7 @@
 // Stores that were harmed.
 use crate::claims::claim;
 use crate::disk::Disk;
-use crate::jobs::{Job, do_job};
+use crate::jobs::{Job, Task};
 use crate::store::{OpenStore, StoreMemory};
 use records::Error;
 use std::alloc::Global;
@@ -156,7 +156,5 @@ pub(crate) fn open_harmed<M: StoreMemory>(
     Ok(())
 }
 
-#[test]
-fn stores_that_were_harmed(rt: HostRuntime) {
-    do_job(&rt, rt.alloc(), &[], Job::OpenHarmed);
-}
+/// Stores that were harmed.
+pub(crate) const TASKS: &[Task] = &[(&[], Job::OpenHarmed)];

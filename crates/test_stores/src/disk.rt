@@ -43,6 +43,29 @@ fn holds<D: Device>(device: &mut D, edits: &[Edit<'_>], first: u64, end: u64) ->
     true
 }
 
+// A disk of zeros, with room to record its calls.
+fn zeros(alloc: Global, sectors: u64) -> Result<MemDisk<Global>, Error> {
+    Ok(MemDisk::new(alloc, sectors, CALLS)?)
+}
+
+// The disk, of which the call of this number fails.
+fn faulty(disk: MemDisk<Global>, which: Which, call: u64) -> FaultDisk<MemDisk<Global>> {
+    FaultDisk::new(disk, which, call)
+}
+
+// The disk below.
+fn below(device: FaultDisk<MemDisk<Global>>) -> MemDisk<Global> {
+    device.into_inner()
+}
+
+fn crash(disk: &mut MemDisk<Global>, fate: Fate) {
+    disk.crash(&[fate]);
+}
+
+fn format_on<D: Device>(device: &mut D, geometry: Geometry) -> Result<(), Error> {
+    Halves::format(device, geometry)
+}
+
 /// A disk in memory, of which one call may fail.
 #[derive(Drop)]
 pub struct Disk {
@@ -62,18 +85,15 @@ impl Model for Disk {
 impl Disk {
     /// A disk of so many sectors of zeros. No call of it fails.
     pub fn bare(alloc: Global, sectors: u64) -> Result<Disk, Error> {
-        let disk = MemDisk::new(alloc, sectors, CALLS)?;
-        Ok(Disk {
-            device: FaultDisk::new(disk, Which::All, 0),
-            alloc,
-        })
+        let device = faulty(zeros(alloc, sectors)?, Which::All, 0);
+        Ok(Disk { device, alloc })
     }
 
     /// A disk with a store that was just formatted, of so many pages and slots. No call of it fails.
     pub fn formatted(alloc: Global, pages: u32, slots: u32) -> Result<Disk, Error> {
         let geometry = Geometry::large(pages, pages.saturating_mul(64), slots)?;
         let mut disk = Disk::bare(alloc, geometry.sectors())?;
-        match Halves::format(&mut disk.device, geometry) {
+        match format_on(&mut disk.device, geometry) {
             Ok(()) => Ok(disk),
             Err(error) => {
                 drop(disk);
@@ -96,10 +116,8 @@ impl Disk {
     /// The disk, where from now on the call of this number fails, of those that are counted; or none at 0.
     pub fn failing(self, which: Which, call: u64) -> Disk {
         let Disk { device, alloc } = self;
-        Disk {
-            device: FaultDisk::new(device.into_inner(), which, call),
-            alloc,
-        }
+        let device = faulty(below(device), which, call);
+        Disk { device, alloc }
     }
 
     /// How many calls were counted.
@@ -110,12 +128,10 @@ impl Disk {
     /// What a crash leaves, where each sector that is not synced has this fate. No call of it fails.
     pub fn crash(self, fate: Fate) -> Disk {
         let Disk { device, alloc } = self;
-        let mut disk = device.into_inner();
-        disk.crash(&[fate]);
-        Disk {
-            device: FaultDisk::new(disk, Which::All, 0),
-            alloc,
-        }
+        let mut disk = below(device);
+        crash(&mut disk, fate);
+        let device = faulty(disk, Which::All, 0);
+        Disk { device, alloc }
     }
 
     /// Whether the sectors from the first number up to the end, which is left out, hold these bytes, and zeros

@@ -3,7 +3,7 @@ use crate::answer::Answer;
 use crate::claims::{claim, claim_at};
 use crate::contents::Contents;
 use crate::disk::Disk;
-use crate::jobs::{Job, do_job};
+use crate::jobs::{Job, Task};
 use crate::opened::{held_on, open};
 use crate::store::{OpenStore, StoreMemory};
 use model::Life;
@@ -136,48 +136,6 @@ const ANEW: &[Script<'_>] = &[
     ),
 ];
 
-static FLIPS: [(&[Script<'_>], Flip<'_>); 4] = [
-    (
-        BETWEEN,
-        Flip {
-            size: (2, 4),
-            numbers: &[2, 0, 0, 4, 0, 0, 4],
-            entries: 0,
-        },
-    ),
-    (
-        DROPPED,
-        Flip {
-            size: (1, 4),
-            numbers: &[3, 4, 0, 0, 0, 8, 8, 8],
-            entries: 0,
-        },
-    ),
-    (
-        BUILT,
-        Flip {
-            size: (4, 16),
-            numbers: &[205, 0, 0, 0, 0, 0, 0, 0, 409],
-            entries: 200,
-        },
-    ),
-    (
-        ANEW,
-        Flip {
-            size: (4, 16),
-            numbers: &[205, 0, 0, 0, 0, 0, 0, 410, 411, 0, 475],
-            entries: 64,
-        },
-    ),
-];
-
-#[test]
-fn images_that_become_current(rt: HostRuntime) {
-    for (scripts, flip) in &FLIPS {
-        do_job(&rt, rt.alloc(), *scripts, Job::Flip(flip));
-    }
-}
-
 // An image of four pages, without an index, takes its start, the pages, no entries, and a flip.
 const STEPS: u32 = 7;
 
@@ -257,7 +215,39 @@ pub(crate) fn count_writes<M: StoreMemory>(
     Ok(())
 }
 
-#[test]
-fn an_image_passes_over_pages(rt: HostRuntime) {
-    do_job(&rt, rt.alloc(), &[], Job::CountWrites);
-}
+/// Images that become current, and an image that passes over pages.
+pub(crate) const TASKS: &[Task] = &[
+    (
+        BETWEEN,
+        Job::Flip(Flip {
+            size: (2, 4),
+            numbers: &[2, 0, 0, 4, 0, 0, 4],
+            entries: 0,
+        }),
+    ),
+    (
+        DROPPED,
+        Job::Flip(Flip {
+            size: (1, 4),
+            numbers: &[3, 4, 0, 0, 0, 8, 8, 8],
+            entries: 0,
+        }),
+    ),
+    (
+        BUILT,
+        Job::Flip(Flip {
+            size: (4, 16),
+            numbers: &[205, 0, 0, 0, 0, 0, 0, 0, 409],
+            entries: 200,
+        }),
+    ),
+    (
+        ANEW,
+        Job::Flip(Flip {
+            size: (4, 16),
+            numbers: &[205, 0, 0, 0, 0, 0, 0, 410, 411, 0, 475],
+            entries: 64,
+        }),
+    ),
+    (&[], Job::CountWrites),
+];

@@ -1,5 +1,5 @@
 // What is done over stores in memory. One function alone names the memory's type, and all else is generic over it.
-use crate::claims::claim;
+use crate::claims::{claim, leave};
 use crate::store::StoreMemory;
 use crate::{
     build_tests, byte_tests, crash_tests, damage_tests, image_tests, memory_tests, migration_tests,
@@ -31,7 +31,7 @@ pub(crate) enum Job<'a> {
     /// A run is stopped at each call of each case.
     Stop(&'a [crash_tests::Case]),
     /// An image becomes current.
-    Flip(&'a image_tests::Flip<'a>),
+    Flip(image_tests::Flip<'a>),
     /// Each allocation is refused in turn.
     Refuse(memory_tests::Wanted),
     /// A moved store goes on.
@@ -56,7 +56,7 @@ fn do_over<M: StoreMemory>(
             byte_tests::run_and_compare(rt, memory, alloc, events, layout)
         }
         Job::Stop(cases) => crash_tests::stop_in_each(rt, memory, alloc, events, cases),
-        Job::Flip(flip) => image_tests::check_flip(rt, memory, alloc, events, flip),
+        Job::Flip(flip) => image_tests::check_flip(rt, memory, alloc, events, &flip),
         Job::Refuse(wanted) => memory_tests::refuse_each(rt, memory, alloc, events, wanted),
         Job::GoOn => migration_tests::go_on(rt, memory, alloc, events),
     }
@@ -66,17 +66,43 @@ fn do_over<M: StoreMemory>(
 fn do_with(rt: &impl Abort, alloc: Global, events: &[Event], job: Job<'_>) {
     let memory = Refusing::new(alloc, u64::MAX);
     let done = do_over(rt, &memory, alloc, events, job);
-    drop(memory);
+    leave(memory);
     claim(rt, done.is_ok(), "that nothing else is refused");
 }
 
-/// Does this, with the requests of these scripts, over memory of which none is refused at first.
-pub(crate) fn do_job(rt: &impl Abort, alloc: Global, scripts: &[Script<'_>], job: Job<'_>) {
+// Does this, with the requests of these scripts, over memory of which none is refused at first.
+fn do_job(rt: &impl Abort, alloc: Global, scripts: &[Script<'_>], job: Job<'_>) {
     match requests_of(alloc, scripts) {
         Ok(events) => {
             do_with(rt, alloc, &events, job);
-            drop(events);
+            leave(events);
         }
         Err(_) => claim(rt, false, "requests"),
+    }
+}
+
+/// Scripts, and what is done with their requests.
+pub(crate) type Task = (&'static [Script<'static>], Job<'static>);
+
+/// Does all of it, one behind the other, each on new disks.
+pub(crate) fn do_all(rt: &impl Abort, alloc: Global, tasks: &[Task]) {
+    for (scripts, job) in tasks {
+        do_job(rt, alloc, *scripts, *job);
+    }
+}
+
+static SMALL: [&[Task]; 4] = [
+    byte_tests::TASKS,
+    damage_tests::TASKS,
+    image_tests::TASKS,
+    migration_tests::TASKS,
+];
+
+// A store byte by byte; stores that were harmed; images that become current, and pass over pages; and stores of version
+// 1: they are moved and go on, or aren't moved, or are hindered.
+#[test]
+fn bytes_harms_images_and_moves(rt: HostRuntime) {
+    for tasks in &SMALL {
+        do_all(&rt, rt.alloc(), *tasks);
     }
 }

@@ -1,10 +1,10 @@
 // Memory is refused to a store, each allocation in turn. What was refused for want of memory is asked again, and every
 // other reply is that of a store to which nothing was refused.
 use crate::answer::Answer;
-use crate::claims::{claim, claim_at};
+use crate::claims::{claim, claim_at, leave};
 use crate::contents::Contents;
 use crate::disk::Disk;
-use crate::jobs::{Job, do_job};
+use crate::jobs::{Job, Task, do_all};
 use crate::opened::{held_on, open};
 use crate::store::{OpenStore, StoreMemory};
 use records::Error;
@@ -42,7 +42,6 @@ fn ask_again<M: StoreMemory>(
 
 // What a play of requests gave: the answers, how many requests were made again, what a crash leaves then, and how many
 // allocations were refused.
-#[derive(Drop)]
 struct Played {
     answers: Vec<Answer>,
     again: u32,
@@ -121,7 +120,7 @@ fn play_short<M: StoreMemory>(
     let played = play(rt, memory, alloc, events, (pages, before))?;
     let is_same = played.answers == whole.answers && played.left == whole.left;
     let told = (played.again, played.refused);
-    drop(played);
+    leave(played);
     claim_at(rt, is_same, "the same without allocation", before);
     Ok(told)
 }
@@ -156,7 +155,7 @@ pub(crate) fn refuse_each<M: StoreMemory>(
 ) -> Result<(), Error> {
     let whole = play(rt, memory, alloc, events, (wanted.pages, u64::MAX))?;
     let again = refuse_until_none(rt, memory, alloc, events, wanted.pages, &whole);
-    drop(whole);
+    leave(whole);
     let requests = again?;
     claim_at(
         rt,
@@ -200,40 +199,38 @@ const ROWS_64: &str = "begin\n\
     insert 1 :3c =\ninsert 1 :3d =\ninsert 1 :3e =\ninsert 1 :3f =\n";
 
 // Each case is a script over so many pages, of which at least so many requests are made again.
-static CASES: [(&[Script<'_>], Wanted); 4] = [
+static TASKS: [Task; 4] = [
     (
         &[(1, DELETED)],
-        Wanted {
+        Job::Refuse(Wanted {
             pages: 1,
             least: 40,
-        },
+        }),
     ),
     (
         &[(1, TAKEN_BACK)],
-        Wanted {
+        Job::Refuse(Wanted {
             pages: 1,
             least: 25,
-        },
+        }),
     ),
     (
         &[(1, UPDATED)],
-        Wanted {
+        Job::Refuse(Wanted {
             pages: 1,
             least: 30,
-        },
+        }),
     ),
     (
         &[(1, ROWS_64), (1, OVER_TWO_PAGES)],
-        Wanted {
+        Job::Refuse(Wanted {
             pages: 2,
             least: 30,
-        },
+        }),
     ),
 ];
 
 #[test]
 fn each_allocation_is_refused(rt: HostRuntime) {
-    for (scripts, wanted) in &CASES {
-        do_job(&rt, rt.alloc(), *scripts, Job::Refuse(*wanted));
-    }
+    do_all(&rt, rt.alloc(), &TASKS);
 }

@@ -4,7 +4,7 @@ use crate::claims::{claim, claim_at};
 use crate::contents::Contents;
 use crate::damage_tests::why_not_open;
 use crate::disk::Disk;
-use crate::jobs::{Job, do_job};
+use crate::jobs::{Job, Task};
 use crate::opened::held_on;
 use crate::store::{OpenStore, StoreMemory};
 use model::Life;
@@ -154,11 +154,6 @@ pub(crate) fn move_each<M: StoreMemory>(
     Ok(())
 }
 
-#[test]
-fn stores_of_version_1_are_moved(rt: HostRuntime) {
-    do_job(&rt, rt.alloc(), &[], Job::Move);
-}
-
 // What a moved store answers to requests.
 fn answers_of_moved<M: StoreMemory>(
     memory: M,
@@ -214,12 +209,7 @@ pub(crate) fn go_on<M: StoreMemory>(
     Ok(())
 }
 
-static COMMIT: [Script<'static>; 1] = [(1, "get 0.0\nbegin\ninsert 1 =b =\ncommit 1\n")];
-
-#[test]
-fn a_moved_store_goes_on(rt: HostRuntime) {
-    do_job(&rt, rt.alloc(), &COMMIT, Job::GoOn);
-}
+const COMMIT: &[Script<'_>] = &[(1, "get 0.0\nbegin\ninsert 1 =b =\ncommit 1\n")];
 
 const DAMAGED: MigrateError = MigrateError::Old(Error::Damaged { sector: 0 });
 
@@ -282,11 +272,6 @@ pub(crate) fn keep_each<M: StoreMemory>(
     let refused = why_not_open(memory, old_disk(alloc, LOGGED)?);
     claim(rt, refused == Some(Error::OldVersion), "an old version");
     Ok(())
-}
-
-#[test]
-fn stores_that_are_not_moved(rt: HostRuntime) {
-    do_job(&rt, rt.alloc(), &[], Job::KeepOld);
 }
 
 // More than the calls of a disk in a migration, and than its allocations.
@@ -383,7 +368,10 @@ pub(crate) fn hinder_all<M: StoreMemory>(
     Ok(())
 }
 
-#[test]
-fn migrations_that_are_hindered(rt: HostRuntime) {
-    do_job(&rt, rt.alloc(), &[], Job::Hinder);
-}
+/// Stores of version 1 are moved, and one goes on; others aren't moved; and moves are hindered.
+pub(crate) const TASKS: &[Task] = &[
+    (&[], Job::Move),
+    (COMMIT, Job::GoOn),
+    (&[], Job::KeepOld),
+    (&[], Job::Hinder),
+];

@@ -1,13 +1,13 @@
 // Each part is used with each of its allocations refused in turn: it wants memory just where one was refused.
+use crate::jobs::{Job, do_job};
 use crate::quiet_tests::{hand_out, set_row};
-use crate::values::{claim, claim_at, pair_of, row_of};
+use crate::values::{claim, claim_at, leave, pair_of, row_of};
 use heap_pages::Heap;
 use marked_index::MarkedIndex;
 use records::{Change, Error, Geometry, Mark, Pair, Rid, Rows, SLOTS_PER_PAGE};
 use sorted_scan::Scan;
 use std::alloc::{Allocator, Global};
 use std::process::Abort;
-use test_memory::Refusing;
 use txn_table::TxnTable;
 
 // How often a part is used at most.
@@ -22,7 +22,7 @@ pub(crate) fn take_page<A: Allocator + Copy>(
     assert!(rt; heap.pages() == 1 && scan.wants_page() == Some(0));
     let pairs = heap.page_pairs(0)?;
     let taken = scan.take_page(0, &pairs);
-    drop(pairs);
+    leave(pairs);
     taken
 }
 
@@ -48,7 +48,7 @@ fn scan_all<A: Allocator + Copy>(rt: &impl Abort, memory: A, heap: &Heap<A>) -> 
     let mut scan = Scan::new(memory, None, 1);
     let taken = take_page(rt, heap, &mut scan);
     let pairs = handed_out(&mut scan);
-    drop(scan);
+    leave(scan);
     claim(
         rt,
         taken.is_err() || pairs == SLOTS_PER_PAGE,
@@ -70,7 +70,7 @@ fn fill_and_scan<A: Allocator + Copy>(
 fn scan_page<A: Allocator + Copy>(rt: &impl Abort, memory: A) -> Result<(), Error> {
     let mut heap = Heap::new(memory, 1)?;
     let scanned = fill_and_scan(rt, memory, &mut heap);
-    drop(heap);
+    leave(heap);
     scanned
 }
 
@@ -96,7 +96,7 @@ fn change_rows<A: Allocator + Copy>(memory: A) -> Result<(), Error> {
     let new = row_of(0)?;
     let mut table = TxnTable::new(memory);
     let changed = change_in(&mut table, &Rows::Inserted { new });
-    drop(table);
+    leave(table);
     changed
 }
 
@@ -139,7 +139,7 @@ fn shown_of<A: Allocator + Copy>(
 ) -> Result<usize, Error> {
     let shown = index.shown_of(memory, pair.key)?;
     let places = shown.len();
-    drop(shown);
+    leave(shown);
     Ok(places)
 }
 
@@ -166,11 +166,16 @@ fn add_entries<A: Allocator + Copy>(rt: &impl Abort, memory: A) -> Result<(), Er
     let geometry = Geometry::new(1, 256, 4)?;
     let mut index = MarkedIndex::new(memory, geometry);
     let added = add_to(rt, memory, &mut index);
-    drop(index);
+    leave(index);
     added
 }
 
-fn use_part<A: Allocator + Copy>(rt: &impl Abort, memory: A, part: u8) -> Result<(), Error> {
+/// Uses the part of this number.
+pub(crate) fn use_part<A: Allocator + Copy>(
+    rt: &impl Abort,
+    memory: A,
+    part: u8,
+) -> Result<(), Error> {
     match part {
         0 => scan_page(rt, memory),
         1 => change_rows(memory),
@@ -180,10 +185,8 @@ fn use_part<A: Allocator + Copy>(rt: &impl Abort, memory: A, part: u8) -> Result
 
 // Uses a part with this allocation refused. Whether it was.
 fn is_refused(rt: &impl Abort, alloc: Global, part: u8, before: u64) -> bool {
-    let memory = Refusing::new(alloc, before);
-    let used = use_part(rt, &memory, part);
-    let is_refused = memory.refused() > 0;
-    drop(memory);
+    let (used, refused) = do_job(rt, alloc, before, Job::Use(part));
+    let is_refused = refused > 0;
     let wanted = if is_refused {
         Err(Error::NoMemory)
     } else {

@@ -1,9 +1,10 @@
 // The calls that take no memory. Each is made where the next allocation would be refused, and counted.
 ghost use Rattle.std.specs.Prelude.{◌≡◌};
 
+use crate::jobs::{Job, do_job};
 use crate::memory_tests::take_page;
 use crate::tree_tests::{found, put, put_quietly, take};
-use crate::values::{Memory, RID, claim, claim_at, pair_of, row_of};
+use crate::values::{Memory, RID, claim, claim_at, leave, pair_of, row_of};
 use board::{Board, BuildView, FlushView, View};
 use btree_node::BTree;
 use heap_pages::{Heap, HeapPage};
@@ -14,7 +15,6 @@ use sector_device::{Device, MemDisk, SECTOR_SIZE};
 use sorted_scan::Scan;
 use std::alloc::{Allocator, Global};
 use std::process::Abort;
-use test_memory::Refusing;
 use txn_table::TxnTable;
 
 // Most of these make few calls of the part, and promise nothing, so that who makes several has no more to read than it
@@ -32,6 +32,7 @@ fn use_page(rt: &impl Abort, row: Option<Row>) {
     let mut page = HeapPage::new();
     set_slot(&mut page, row);
     claim(rt, row_in_slot(&page) == row, "a row of a page");
+    leave(page);
 }
 
 pub(crate) fn set_row<A: Allocator + Copy>(
@@ -65,7 +66,7 @@ fn use_heap<A: Allocator + Copy>(
     use_page(rt, Some(*row));
     set_and_get(rt, &mut heap, Some(*row));
     set_and_get(rt, &mut heap, None);
-    drop(heap);
+    leave(heap);
     Ok(())
 }
 
@@ -120,7 +121,7 @@ fn split_and_join<A: Allocator + Copy>(
 fn use_tree<A: Allocator + Copy>(rt: &impl Abort, memory: &Memory, within: A) -> Result<(), Error> {
     let mut tree = BTree::new(within);
     let used = split_and_join(rt, memory, &mut tree);
-    drop(tree);
+    leave(tree);
     used
 }
 
@@ -186,7 +187,7 @@ fn use_index<A: Allocator + Copy>(
     let geometry = Geometry::new(1, 64, 4)?;
     let mut index = MarkedIndex::new(within, geometry);
     let used = mark_quietly(rt, memory, &mut index, pair);
-    drop(index);
+    leave(index);
     used
 }
 
@@ -241,7 +242,7 @@ fn use_table<A: Allocator + Copy>(
     };
     let mut table = TxnTable::new(within);
     let used = change_and_undo(rt, memory, &mut table, change);
-    drop(table);
+    leave(table);
     used
 }
 
@@ -270,7 +271,7 @@ fn scan_row<A: Allocator + Copy>(
     let mut heap = Heap::new(within, 1)?;
     set_row(rt, &mut heap, RID, Some(row));
     let taken = take_page(rt, &heap, scan);
-    drop(heap);
+    leave(heap);
     taken
 }
 
@@ -285,7 +286,7 @@ fn use_scan<A: Allocator + Copy>(
     let scanned = scan_row(rt, within, &mut scan, row);
     memory.refuse_after(0);
     let is_handed = hands_out(&mut scan, pair);
-    drop(scan);
+    leave(scan);
     claim(rt, scanned.is_err() || is_handed, "the pair");
     scanned
 }
@@ -346,7 +347,7 @@ fn use_core<A: Allocator + Copy>(
 ) -> Result<(), Error> {
     let mut core = new_core(within)?;
     let used = insert_quietly(rt, memory, &mut core, row);
-    drop(core);
+    leave(core);
     used
 }
 
@@ -378,7 +379,7 @@ fn use_disk<A: Allocator + Copy>(rt: &impl Abort, memory: &Memory, within: A) ->
     let mut disk = MemDisk::new(within, 3, 8)?;
     memory.refuse_after(0);
     use_sectors(rt, &mut disk);
-    drop(disk);
+    leave(disk);
     Ok(())
 }
 
@@ -412,7 +413,7 @@ fn use_board<A: Allocator>(rt: &impl Abort, memory: &Memory, within: A) -> Resul
     memory.refuse_after(0);
     let mut flush = flush.begin();
     use_views(rt, &board, &mut flush, &mut build, &mut view);
-    drop(board);
+    leave(board);
     Ok(())
 }
 
@@ -435,48 +436,44 @@ fn use_part<A: Allocator + Copy>(
     }
 }
 
-// Uses a part, and looks at the count of refusals.
-fn use_quietly(rt: &impl Abort, alloc: Global, part: u8, values: (Row, Pair)) -> Result<(), Error> {
-    let memory = Refusing::new(alloc, u64::MAX);
-    let used = use_part(rt, &memory, &memory, part, values);
-    let refused = memory.refused();
-    drop(memory);
+/// Makes the calls of the part of this number that take no memory.
+pub(crate) fn use_quietly<A: Allocator + Copy>(
+    rt: &impl Abort,
+    memory: &Memory,
+    within: A,
+    part: u8,
+) -> Result<(), Error> {
+    let values = (row_of(7)?, pair_of(7)?);
+    use_part(rt, memory, within, part, values)
+}
+
+// Does so, and looks at the count of refusals.
+fn look_at_part(rt: &impl Abort, alloc: Global, part: u8) {
+    let (used, refused) = do_job(rt, alloc, u64::MAX, Job::UseQuietly(part));
     claim_at(
         rt,
-        refused == 0,
+        used.is_ok() && refused == 0,
         "no call of the allocator by part",
         u32::from(part),
     );
-    used
 }
 
-#[test]
-fn these_calls_make_no_call_of_the_allocator(rt: HostRuntime) -> Result<(), Error> {
-    let values = (row_of(7)?, pair_of(7)?);
-    for part in 0..8 {
-        use_quietly(&rt, rt.alloc(), part, values)?;
-    }
-    Ok(())
-}
-
-fn begin_without<A: Allocator + Copy>(memory: &Memory, within: A) -> Result<Txn, Error> {
+/// Begins a transaction where no memory is left.
+pub(crate) fn begin_without<A: Allocator + Copy>(memory: &Memory, within: A) -> Result<(), Error> {
     let mut table = TxnTable::new(within);
     memory.refuse_after(0);
     let begun = table.begin();
-    drop(table);
-    begun
+    leave(table);
+    begun.and(Ok(()))
 }
 
 // The count is not blind: a call that wants memory is refused, and counted.
 #[test]
-fn a_call_that_wants_memory_is_counted(rt: HostRuntime) {
-    let memory = Refusing::new(rt.alloc(), u64::MAX);
-    let begun = begin_without(&memory, &memory);
-    let refused = memory.refused();
-    drop(memory);
-    claim(
-        &rt,
-        begun == Err(Error::NoMemory) && refused == 1,
-        "one refusal",
-    );
+fn these_calls_make_no_call_of_the_allocator(rt: HostRuntime) {
+    for part in 0..8 {
+        look_at_part(&rt, rt.alloc(), part);
+    }
+    let (begun, refused) = do_job(&rt, rt.alloc(), u64::MAX, Job::BeginWithout);
+    let is_counted = begun == Err(Error::NoMemory) && refused == 1;
+    claim(&rt, is_counted, "one refusal");
 }

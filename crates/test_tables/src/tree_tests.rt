@@ -1,15 +1,15 @@
 // The tree of the entries: how high it is, and what a refused plan leaves.
-use crate::values::{Memory, claim, claim_at, pair_of};
+use crate::jobs::{Job, do_job};
+use crate::values::{Memory, claim, claim_at, leave, pair_of};
 use btree_node::{BTree, ENTRIES_MAX};
 use records::{Error, Mark, Pair};
 use std::alloc::{AllocError, Allocator, Global};
 use std::process::Abort;
-use test_memory::Refusing;
 
 // Plans the insertion of a pair.
 fn plan<A: Allocator + Copy>(rt: &impl Abort, tree: &BTree<A>, pair: &Pair) -> Result<(), Error> {
     assert!(rt; tree.len() < ENTRIES_MAX);
-    drop(tree.plan_insert(pair)?);
+    leave(tree.plan_insert(pair)?);
     Ok(())
 }
 
@@ -59,6 +59,12 @@ pub(crate) fn take<A: Allocator + Copy>(rt: &impl Abort, tree: &mut BTree<A>, pa
     tree.remove(pair);
 }
 
+// Does this. Nothing is refused, but where that is wanted.
+fn do_whole(rt: &impl Abort, alloc: Global, job: Job) {
+    let (done, _) = do_job(rt, alloc, u64::MAX, job);
+    claim(rt, done.is_ok(), "that nothing else is refused");
+}
+
 // How many levels a tree of so many entries has, up to 33 that came in rising order.
 fn levels_of(pairs: u32) -> u32 {
     match pairs {
@@ -103,16 +109,15 @@ fn grow_and_shrink_in<A: Allocator + Copy>(
     shrink(rt, tree)
 }
 
-fn grow_and_shrink<A: Allocator + Copy>(rt: &impl Abort, memory: A) -> Result<(), Error> {
+/// A tree grows by 33 pairs, and shrinks again.
+pub(crate) fn grow_and_shrink<A: Allocator + Copy>(
+    rt: &impl Abort,
+    memory: A,
+) -> Result<(), Error> {
     let mut tree = BTree::new(memory);
     let done = grow_and_shrink_in(rt, &mut tree);
-    drop(tree);
+    leave(tree);
     done
-}
-
-#[test]
-fn the_thirty_third_pair_makes_a_second_level(rt: HostRuntime) -> Result<(), Error> {
-    grow_and_shrink(&rt, rt.alloc())
 }
 
 // How many runs of entries a walk over a tree takes, and how many entries it meets.
@@ -152,20 +157,16 @@ fn fill_tree<A: Allocator + Copy>(
     Ok(())
 }
 
-// Puts in as many pairs as a tree may have, rising from 0 or falling from the highest. A run has 16 entries or more.
-fn fill<A: Allocator + Copy>(rt: &impl Abort, memory: A, highest: u32) -> Result<(), Error> {
+/// Puts in as many pairs as a tree may have, rising from 0 or falling from the highest. A run has 16 entries or more.
+pub(crate) fn fill<A: Allocator + Copy>(
+    rt: &impl Abort,
+    memory: A,
+    highest: u32,
+) -> Result<(), Error> {
     let mut tree = BTree::new(memory);
     let filled = fill_tree(rt, &mut tree, highest);
-    drop(tree);
+    leave(tree);
     filled
-}
-
-#[test]
-fn many_pairs_give_few_levels_and_few_runs(rt: HostRuntime) -> Result<(), Error> {
-    for highest in [0, 65_535] {
-        fill(&rt, rt.alloc(), highest)?;
-    }
-    Ok(())
 }
 
 // Whether a walk meets just the pairs of these numbers, which all are live.
@@ -293,8 +294,8 @@ fn refuse_and_check<A: Allocator + Copy>(
     check_tree(rt, tree, numbers)
 }
 
-// Puts numbers in, before each of which its insertion is refused. The tree takes this memory, which may refuse.
-fn refuse_and_put<A: Allocator + Copy>(
+/// Puts numbers in, before each of which its insertion is refused. The tree takes this memory, which may refuse.
+pub(crate) fn refuse_and_put<A: Allocator + Copy>(
     rt: &impl Abort,
     alloc: Global,
     memory: &Memory,
@@ -303,15 +304,23 @@ fn refuse_and_put<A: Allocator + Copy>(
     let mut tree = BTree::new(within);
     let mut numbers = Vec::new(alloc);
     let put = refuse_and_check(rt, memory, &mut tree, &mut numbers);
-    drop(tree);
-    drop(numbers);
+    leave(tree);
+    leave(numbers);
     put
 }
 
+static JOBS: [Job; 4] = [
+    Job::GrowAndShrink,
+    Job::Fill(0),
+    Job::Fill(65_535),
+    Job::RefusePlans,
+];
+
+// The 33rd pair makes a second level. Many pairs give few levels and few runs. A refused plan leaves the tree as it
+// was.
 #[test]
-fn a_refused_plan_leaves_the_tree_as_it_was(rt: HostRuntime) -> Result<(), Error> {
-    let memory = Refusing::new(rt.alloc(), u64::MAX);
-    let put = refuse_and_put(&rt, rt.alloc(), &memory, &memory);
-    drop(memory);
-    put
+fn trees_grow_and_stay(rt: HostRuntime) {
+    for job in &JOBS {
+        do_whole(&rt, rt.alloc(), *job);
+    }
 }

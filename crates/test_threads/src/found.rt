@@ -1,4 +1,5 @@
 //! Stores on disks in memory, and what is found behind a crash.
+use crate::claims::leave;
 use nsf_core::Core;
 use records::{Error, Geometry, LARGE_ENTRIES_MAX, Mark};
 use restart::restart;
@@ -16,8 +17,13 @@ pub fn formatted(
     calls: usize,
 ) -> Result<MemDisk<Global>, Error> {
     let mut disk = MemDisk::new(alloc, geometry.sectors(), calls)?;
-    format_store(&mut disk, geometry)?;
-    Ok(disk)
+    match format_store(&mut disk, geometry) {
+        Ok(()) => Ok(disk),
+        Err(error) => {
+            leave(disk);
+            Err(error)
+        }
+    }
 }
 
 /// A disk with a new store of eight pages and 16 slots.
@@ -51,11 +57,11 @@ pub fn marked_behind_crash(alloc: Global, mut disk: MemDisk<Global>) -> Result<u
     match restart(alloc, disk) {
         Ok(engine) => {
             let marked = count_marked(engine.core());
-            drop(engine.into_device());
+            leave(engine);
             Ok(marked)
         }
         Err((error, device)) => {
-            drop(device);
+            leave(device);
             Err(error)
         }
     }

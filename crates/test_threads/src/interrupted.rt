@@ -5,16 +5,16 @@ ghost use Rattle.shared.specs.Seats.{AreNewSeats};
 use crate::at_seat::{Numbered, let_play};
 use crate::calls::Calls;
 use crate::chairs::Player;
+use crate::claims::leave;
 use crate::keyed::set_up;
 use crate::soloist::take_last;
-use crate::store::{give_up, open, start};
+use crate::store::{open, start};
 use records::Error;
 use sector_device::Device;
 use shared::{BuildPart, Group, Kept, Seat, Shared};
 use std::alloc::Global;
 use std::cell::Cell;
 use std::marker::Brand;
-use std::mem::forget;
 use std::sync::Wait;
 use threads_lifetime::OpenStore;
 use threads_loops::{Gate, Point, build_loop};
@@ -52,7 +52,6 @@ fn index<B: Group, R: Wait>(
 }
 
 // A seat that drops the index as the builder first has scanned a page. Whether it was dropped.
-#[derive(Drop)]
 struct Dropping<'a, B: Group, R> {
     rt: &'a R,
     shared: &'a Shared<B>,
@@ -72,8 +71,7 @@ impl<B: Group, R: Wait> Gate for Dropping<'_, B, R> {
     }
 }
 
-// Builds the index, which the seat drops. How the builder ended, and whether it was dropped. What is left of the gate
-// is not let go: to prove its destructor would cost more than the test.
+// Builds the index, which the seat drops. How the builder ended, and whether it was dropped.
 fn build_held<B: Group, R: Wait>(
     rt: &R,
     shared: &Shared<B>,
@@ -88,7 +86,7 @@ fn build_held<B: Group, R: Wait>(
     };
     let refused = build_loop(rt, shared, part, &gate).err();
     let dropped = gate.dropped.get();
-    forget(gate);
+    leave(gate);
     (refused, dropped)
 }
 
@@ -117,13 +115,12 @@ fn build_in<B: Group, D: Device + Drop, R: Wait>(rt: &R, store: OpenStore<D>) ->
     match start::<B, D, Global>(store) {
         Ok((shared, mut parts)) => {
             let built = build_with(rt, &shared, &mut parts.seats, &mut parts.build);
-            let (seats, loops) = parts.split();
-            drop(seats);
-            drop(give_up(shared, loops));
+            leave(parts);
+            leave(shared);
             Ok(built)
         }
         Err((error, device)) => {
-            drop(device);
+            leave(device);
             Err(error)
         }
     }
@@ -139,7 +136,7 @@ pub(crate) fn build_interrupted<D: Device + Drop, R: Wait>(
     match open(alloc, device, 1) {
         Ok(store) => build_in::<Brand, D, R>(rt, store),
         Err((error, device)) => {
-            drop(device);
+            leave(device);
             Err(error)
         }
     }

@@ -4,6 +4,7 @@ ghost use Rattle.shared.specs.Seats.{AreNewSeats};
 
 use crate::at_seat::let_play;
 use crate::chairs::{Chair, Player, THREADS_MAX, chairs_of};
+use crate::claims::leave;
 use crate::runs::{Ran, run};
 use crate::store::{give_up, start};
 use records::Error;
@@ -92,7 +93,7 @@ fn end<B: Group, P: Drop, D: Device>(
         loops,
         flushed,
     } = ran;
-    drop(clients);
+    leave(clients);
     let device = give_up(shared, loops);
     Left {
         flusher: flushed.err(),
@@ -120,7 +121,8 @@ fn play_with<
     match play_parts(rt, alloc, &shared, parts, players, gate) {
         Ok(ran) => Ok(end(shared, ran)),
         Err(loops) => {
-            drop(give_up(shared, loops));
+            leave(shared);
+            leave(loops);
             Err(Error::NoMemory)
         }
     }
@@ -139,8 +141,8 @@ fn play_in<
     match start::<B, D, Global>(store) {
         Ok((shared, parts)) => play_with(rt, alloc, shared, parts, players, gate),
         Err((error, device)) => {
-            drop(device);
-            drop(players);
+            leave(device);
+            leave(players);
             Err(error)
         }
     }

@@ -1,22 +1,22 @@
 //! The program `nsf-threads`: what it prints, and its status; and what it tells of a device that fails.
-use crate::claims::{claim, claim_at};
+use crate::claims::{claim, claim_at, leave};
 use crate::found::{Disk, failing};
 use crate::help::HELP;
-use nsf_core::Ticket;
 use program_demonstration::{
-    Beginning, Found, Listener, Progress, Refusals, Team, Turn, run, told, work_on,
+    Beginning, Found, Listener, NotOpened, Progress, Refusals, Team, Turn, run, told, work_on,
 };
 use records::{Error, Geometry, Rid};
 use sector_device::Device;
 use std::alloc::{AllocError, Global};
 use std::fs::File;
 use std::io::{ErrorKind, Write};
+use std::process::Abort;
 use std::rt::{Clock, Files};
 use std::sync::Wait;
 use std::sync::atomic::{AtomicU64, Ordering};
 use std::thread::Threads;
 use std::{fs, io};
-use threads_lifetime::{OpenError, format_store};
+use threads_lifetime::format_store;
 
 // So many writes and syncs are made where a new store is opened.
 const OPENING: u64 = 151;
@@ -169,16 +169,23 @@ static UNWRITTEN: [(&[&str], &[u8]); 3] = [
     ),
 ];
 
-#[test]
-fn each_row_has_its_entry(rt: HostRuntime) {
+// Runs the program with each of these words.
+fn run_each<R: Threads + Wait + Clock + Files<File = File> + Print + Abort + Sync>(
+    rt: &R,
+    alloc: Global,
+) {
     for case in &CASES {
-        let holds = ends_so(&rt, rt.alloc(), case);
-        claim(&rt, holds, case.1);
+        claim(rt, ends_so(rt, alloc, case), case.1);
     }
     for (words, wanted) in &UNWRITTEN {
-        let holds = tells_so(&rt, rt.alloc(), *words, *wanted);
-        claim(&rt, holds, "what the error stream tells");
+        let holds = tells_so(rt, alloc, *words, *wanted);
+        claim(rt, holds, "what the error stream tells");
     }
+}
+
+#[test]
+fn each_row_has_its_entry(rt: HostRuntime) {
+    run_each(&rt, rt.alloc());
 }
 
 // Makes a store on the device of a new file, and gives the file its name. Whether that was done.
@@ -222,23 +229,30 @@ const IN_FILE: &[&str] = &[
     "4",
 ];
 
+// Whether what isn't a store is refused.
+fn refuses<R: Threads + Wait + Clock + Files<File = File> + Print + AllocGlobal + Sync>(
+    rt: &R,
+) -> bool {
+    let written = fs::write(rt, "u", [1; 1024].as_slice());
+    let refused = tells_so(rt, rt.alloc(), IN_FILE, b"nsf-threads: u: ");
+    let removed = fs::remove_file(rt, "u");
+    refused && written.is_ok() && removed.is_ok()
+}
+
 // The store of an earlier run is gone on with. What isn't a store is refused.
+fn go_on<R: Threads + Wait + Clock + Files<File = File> + Print + AllocGlobal + Abort + Sync>(
+    rt: &R,
+) {
+    claim(rt, makes(rt, "u"), "a store in a file");
+    for case in &ON_FILE {
+        claim(rt, ends_so(rt, rt.alloc(), case), case.1);
+    }
+    claim(rt, refuses(rt), "what isn't a store");
+}
+
 #[test]
 fn the_store_of_a_file_is_gone_on_with(rt: HostRuntime) {
-    let made = makes(&rt, "u");
-    claim(&rt, made, "a store in a file");
-    for case in &ON_FILE {
-        let holds = ends_so(&rt, rt.alloc(), case);
-        claim(&rt, holds, case.1);
-    }
-    let written = fs::write(&rt, "u", [1; 1024].as_slice());
-    let refused = tells_so(&rt, rt.alloc(), IN_FILE, b"nsf-threads: u: ");
-    let removed = fs::remove_file(&rt, "u");
-    claim(
-        &rt,
-        refused && written.is_ok() && removed.is_ok(),
-        "what isn't a store",
-    );
+    go_on(&rt);
 }
 
 // How many commits were heard of.
@@ -248,7 +262,7 @@ struct Heard {
 }
 
 impl Listener for Heard {
-    fn hear(&self, _ticket: &Ticket, _turn: &Turn) {
+    fn hear(&self, _number: u64, _turn: &Turn) {
         self.commits.fetch_add(1, Ordering::SeqCst);
     }
 }
@@ -271,11 +285,11 @@ fn worked<R: Threads + Wait + Clock + Sync>(
     match work_on(device, 4, team) {
         Ok(worked) => {
             let told = (worked.refusals, worked.acknowledged.len());
-            drop(worked);
+            leave(worked);
             Some(told)
         }
         Err((_, device)) => {
-            drop(device);
+            leave(device);
             None
         }
     }
@@ -343,7 +357,7 @@ fn reads_so(alloc: Global, deleted: Option<Rid>, wanted: &str) -> Result<bool, A
 }
 
 // Whether that is told so, with the status of a refusal.
-fn is_refusal(alloc: Global, found: Result<Found, OpenError>, wanted: &str) -> bool {
+fn is_refusal(alloc: Global, found: Result<Found, NotOpened>, wanted: &str) -> bool {
     let mut output = Vec::new(alloc);
     let status = told(&mut output, found);
     let is_same = output.as_slice() == wanted.as_bytes();
@@ -365,7 +379,7 @@ fn what_is_told(rt: HostRuntime) {
         same: false,
     };
     let unlike = is_refusal(rt.alloc(), Ok(unlike), "rows 3 shown 2 same no\n");
-    let failed = Err(OpenError::Refused(Error::DeviceFailed));
+    let failed = Err(NotOpened::Refused(Error::DeviceFailed));
     let failed = is_refusal(rt.alloc(), failed, "refused 2 DeviceFailed\n");
     claim(&rt, unlike && failed, "what is refused or not so");
 }

@@ -1,12 +1,13 @@
 // Memory is refused to a store and its seat, each allocation in turn. What was refused is asked once more, and each
 // answer is as where nothing is refused.
-use crate::claims::{claim, claim_at};
+use crate::claims::{claim, claim_at, leave};
 use crate::found::formatted;
 use crate::play::Turn;
 use crate::requests::{Answer, Kind, Request};
 use crate::soloist::{Played, play};
 use records::{Error, Geometry};
 use std::alloc::Global;
+use std::process::Abort;
 use std::sync::Wait;
 use test_memory::Refusing;
 
@@ -110,7 +111,7 @@ fn play_short<R: Wait>(
     let memory = Refusing::new(alloc, before);
     let played = play_on(rt, alloc, &memory, Turn::Asks(steps));
     let refused = memory.refused();
-    drop(memory);
+    leave(memory);
     (matches!(played, Ok(Played { right: true, .. })), refused)
 }
 
@@ -128,21 +129,12 @@ fn refuse_each<R: Wait>(rt: &R, alloc: Global, steps: &[(Request, Answer)]) -> u
     0
 }
 
-// What a crash leaves behind the end, clauses say (`closed` of `finish`).
-#[test]
-fn each_allocation_is_refused_to_a_seat(rt: HostRuntime) {
-    let by_steps = refuse_each(&rt, rt.alloc(), &STEPS);
-    claim_at(&rt, by_steps > 25, "answers, and allocations:", by_steps);
-    let at_once = refuse_each(&rt, rt.alloc(), &AT_ONCE);
-    claim_at(&rt, at_once > 10, "answers, and allocations:", at_once);
-}
-
 // Whether look-ups push what was refused.
 fn look_behind<R: Wait>(rt: &R, alloc: Global) -> bool {
     let memory = Refusing::new(alloc, u64::MAX);
     let played = play_on(rt, alloc, &memory, Turn::Looks);
     let refused = memory.refused();
-    drop(memory);
+    leave(memory);
     refused > 2
         && matches!(
             played,
@@ -153,10 +145,18 @@ fn look_behind<R: Wait>(rt: &R, alloc: Global) -> bool {
         )
 }
 
-// Behind a record that the queue refused, `get`, `find` and `life` push it, each in its turn, once memory is back. What
-// makes no step of the core takes no memory.
+// Refuses each allocation to a seat. Behind a record that the queue refused, `get`, `find` and `life` push it, each in
+// its turn, once memory is back. What makes no step of the core takes no memory. What a crash leaves behind the end,
+// clauses say (`closed` of `finish`).
+fn refuse_and_look<R: Wait + Abort>(rt: &R, alloc: Global) {
+    let by_steps = refuse_each(rt, alloc, &STEPS);
+    claim_at(rt, by_steps > 25, "answers, and allocations:", by_steps);
+    let at_once = refuse_each(rt, alloc, &AT_ONCE);
+    claim_at(rt, at_once > 10, "answers, and allocations:", at_once);
+    claim(rt, look_behind(rt, alloc), "look-ups");
+}
+
 #[test]
-fn a_look_up_pushes_what_was_refused(rt: HostRuntime) {
-    let holds = look_behind(&rt, rt.alloc());
-    claim(&rt, holds, "look-ups");
+fn memory_is_refused_to_a_seat(rt: HostRuntime) {
+    refuse_and_look(&rt, rt.alloc());
 }

@@ -7,7 +7,6 @@ use std::thread::Threads;
 use threads_loops::{BuilderEnd, Ended, Gate, NotRun, run_beside};
 
 /// What is left of the loops, what the clients returned, and how the flusher ended.
-#[derive(Drop)]
 pub(crate) struct Ran<B: Group, D: Device, X> {
     pub clients: X,
     pub loops: LoopParts<B, D>,

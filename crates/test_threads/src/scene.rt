@@ -1,4 +1,5 @@
 //! Four writers beside the loops, to the end of all threads.
+use crate::claims::leave;
 use crate::found::{marked_behind_crash, with_pages};
 use crate::players::{Left, play_beside};
 use crate::seats::{WRITERS, Writer, writers_on};
@@ -22,8 +23,8 @@ fn play_on<'a, D: Device + Send + Drop, R: Threads + Wait + Clock + Sync>(
     match open(alloc, device, usize::from(WRITERS)) {
         Ok(store) => play_beside(rt, alloc, store, writers, stage),
         Err((error, device)) => {
-            drop(writers);
-            drop(device);
+            leave(writers);
+            leave(device);
             Err(error)
         }
     }

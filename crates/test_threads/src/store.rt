@@ -3,6 +3,7 @@ ghost use Rattle.std.specs.Prelude.{◌≡◌, IfOk};
 ghost use Rattle.threads_lifetime.specs.Gathered.{AreAllSeats};
 ghost use Rattle.shared.specs.Seats.{AreNewSeats};
 
+use crate::claims::leave;
 use records::Error;
 use sector_device::Device;
 use shared::{Group, Kept, LoopParts, Memory, Shared};
@@ -57,7 +58,7 @@ pub(crate) fn give_up<B: Group, D: Device, A: Memory>(
         build,
         clean,
     } = loops;
-    drop(build);
-    drop(clean);
+    leave(build);
+    leave(clean);
     let_go(shared, flush)
 }

@@ -41,7 +41,7 @@ fn are_seeded() -> bool {
     true
 }
 
-#[test]
-fn digests_of_known_bytes(rt: HostRuntime) {
-    assert!(rt; are_digests() && are_seeded());
+/// Whether all are.
+pub(crate) fn are_known() -> bool {
+    are_digests() && are_seeded()
 }

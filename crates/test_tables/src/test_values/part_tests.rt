@@ -101,14 +101,9 @@ fn is_head_of(number: u64) -> bool {
     }
 }
 
-// Whether an entry, a row, none, a transaction's head, one of its changes, and the header of an image are spelled so.
-fn are_spelled() -> Result<bool, Error> {
+/// Whether an entry, a row, none, a transaction's head, one of its changes, and the header of an image are spelled so.
+pub(crate) fn are_spelled() -> Result<bool, Error> {
     let (pair, row) = (pair()?, row()?);
     let are_rows = is_slot(&Some(row), &SLOT) && is_slot(&None, &[]) && is_item_of(row);
     Ok(are_rows && is_entry(&(pair, Mark::Marked)) && is_header_of(Some(pair)) && is_head_of(258))
-}
-
-#[test]
-fn parts_byte_by_byte(rt: HostRuntime) {
-    assert!(rt; matches!(are_spelled(), Ok(true)));
 }

@@ -63,20 +63,15 @@ fn is_record(alloc: Global, bytes: &[u8], text: &str) -> bool {
     }
 }
 
-// Whether the vectors are those records.
-fn are_records(alloc: Global) -> bool {
+/// Whether the vectors are those records. That a record is spelled as it is read, clauses say (`found` of `decode`,
+/// `ok` of `encode_into`).
+pub(crate) fn are_records(alloc: Global) -> bool {
     for (bytes, text) in &RECORDS {
         if !is_record(alloc, *bytes, *text) {
             return false;
         }
     }
     true
-}
-
-// That a record is spelled as it is read, clauses say (`found` of `decode`, `ok` of `encode_into`).
-#[test]
-fn records_byte_by_byte(rt: HostRuntime) {
-    assert!(rt; are_records(rt.alloc()));
 }
 
 // The longest row of version 1, one with a longer key, one with a longer body, and a drop, which version 1 doesn't
@@ -100,19 +95,14 @@ static VERSIONS: [(&[u8], bool); 4] = [
     (b"\0\0\0\0\0\0\0\x01\0\0\0\0\0\0\0\0\x0e", false),
 ];
 
-// Whether version 2 reads all of them, and version 1 the first alone.
-fn are_of_versions() -> bool {
+/// Whether version 2 reads all of them, and version 1 the first alone.
+pub(crate) fn are_of_versions() -> bool {
     for (bytes, fits) in &VERSIONS {
         if decode(*bytes).is_none() || is_of_version_1(*bytes) != *fits {
             return false;
         }
     }
     true
-}
-
-#[test]
-fn records_of_version_1(rt: HostRuntime) {
-    assert!(rt; are_of_versions());
 }
 
 static ERRORS: [Error; 23] = [
@@ -154,15 +144,11 @@ fn print_all(text: &mut String) -> Result<(), AllocError> {
     Ok(())
 }
 
-fn are_printed(alloc: Global) -> bool {
+/// Whether each refusal is printed as it is to be.
+pub(crate) fn are_printed(alloc: Global) -> bool {
     let mut text = String::new(alloc);
     let printed = print_all(&mut text);
     let is_same = text.as_str() == REFUSALS;
     drop(text);
     is_same && printed.is_ok()
-}
-
-#[test]
-fn refusals_printed(rt: HostRuntime) {
-    assert!(rt; are_printed(rt.alloc()));
 }

@@ -1,4 +1,5 @@
-//! Rows that are loaded from a text, and written to one.
+//! Tests of the crate `program_rows`: rows that are loaded from a text, and written to one as comma-separated fields.
+use crate::claims::{claim, leave};
 use program_rows::{
     ColumnNames, HeaderError, RowError, RowReader, TextError, header, line_of, record_of,
 };
@@ -16,11 +17,28 @@ struct Given {
     refused: u64,
 }
 
+// The line of a row.
+fn line_by(alloc: Global, row: &Row) -> Result<Vec<u8>, TextError> {
+    let record = record_of(alloc, row)?;
+    let line = line_of(alloc, &record);
+    leave(record);
+    line
+}
+
+// The line of the header.
+fn first_line(alloc: Global) -> Result<Vec<u8>, TextError> {
+    let record = header(alloc)?;
+    let line = line_of(alloc, &record);
+    leave(record);
+    line
+}
+
 impl Given {
     fn add(&mut self, alloc: Global, row: &Row) -> Result<(), TextError> {
-        let line = line_of(alloc, &record_of(alloc, row)?)?;
-        self.text.extend_from_slice(line.as_slice())?;
-        Ok(())
+        let line = line_by(alloc, row)?;
+        let added = self.text.extend_from_slice(line.as_slice());
+        leave(line);
+        Ok(added?)
     }
 
     fn take(
@@ -63,7 +81,7 @@ fn line(rows: &Rows<'_>) -> u64 {
 
 // What is given before the first row.
 fn begun(alloc: Global, lines: u64) -> Result<Given, TextError> {
-    let text = line_of(alloc, &header(alloc)?)?;
+    let text = first_line(alloc)?;
     Ok(Given {
         text,
         lines,
@@ -88,7 +106,7 @@ fn given_by(alloc: Global, rows: &mut Rows<'_>) -> Result<Given, TextError> {
     match take_all(alloc, rows, &mut given) {
         Ok(()) => Ok(given),
         Err(error) => {
-            drop(given);
+            leave(given);
             Err(error)
         }
     }
@@ -102,7 +120,7 @@ fn read_all(
 ) -> Result<Given, TextError> {
     let mut rows = opened(alloc, text, names)?;
     let read = given_by(alloc, &mut rows);
-    drop(rows);
+    leave(rows);
     read
 }
 
@@ -145,7 +163,11 @@ fn comes_to(alloc: Global, case: &Case) -> bool {
     let (text, wanted, lines, refused) = *case;
     match read_all(alloc, text, None) {
         Ok(given) => {
-            given.text.as_slice() == wanted && given.lines == lines && given.refused == refused
+            let is_so = given.text.as_slice() == wanted
+                && given.lines == lines
+                && given.refused == refused;
+            leave(given);
+            is_so
         }
         Err(_) => false,
     }
@@ -154,15 +176,19 @@ fn comes_to(alloc: Global, case: &Case) -> bool {
 #[test]
 fn rows_are_loaded_and_exported(rt: HostRuntime) {
     for case in &CASES {
-        assert!(&rt; comes_to(rt.alloc(), case));
+        claim(&rt, comes_to(rt.alloc(), case), "what a text gives");
     }
 }
 
 // Why the header of a text is refused.
 fn fault_of(alloc: Global, text: &[u8], names: Option<ColumnNames<'_>>) -> Option<HeaderError> {
     match read_all(alloc, text, names) {
+        Ok(given) => {
+            leave(given);
+            None
+        }
         Err(TextError::Header(error)) => Some(error),
-        _ => None,
+        Err(_) => None,
     }
 }
 
@@ -191,6 +217,7 @@ fn names(are_named: bool) -> Option<ColumnNames<'static>> {
 #[test]
 fn what_a_header_lacks_is_told(rt: HostRuntime) {
     for (text, are_named, wanted) in &LACKING {
-        assert!(&rt; fault_of(rt.alloc(), *text, names(*are_named)) == *wanted);
+        let fault = fault_of(rt.alloc(), *text, names(*are_named));
+        claim(&rt, fault == *wanted, "what a header lacks");
     }
 }
