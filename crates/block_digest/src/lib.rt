@@ -1,6 +1,6 @@
 //! The digest of bytes: xxHash64, a hash of 64 bits.
 //!
-//! Proved: `digest` gives it with the seed 0, and `digest_from` with any seed. Tested by `test_blocks`: what another
+//! Proved: `digest` gives it with the seed 0, and `digest_from` with any seed. Tested by `test_tables`: what another
 //! program's hash of the same bytes is.
 #![tactic(auto)]
 

@@ -1,3 +1,4 @@
 pub mod FileBlocks
+pub mod Fits
 pub mod Kinds
 pub mod Opened

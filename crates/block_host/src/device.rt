@@ -20,10 +20,16 @@ pub enum FileDevice<P, B> {
     Blocks(B),
 }
 
-/// What a device in a file does besides. (No clause says it here: those of [`FileDevice`] say it.)
+/// What a device in a file does besides. What more [`FileDevice`] promises of both calls, its clauses say.
 pub trait InFile {
-    /// The first damaged sector, from a number on, where the file can tell. It fails where the device does.
-    fn check(&mut self, from: u64) -> Result<Option<u64>, Failed>;
+    /// Whether the bytes of the sector of this number fit what the file keeps of them, where it keeps anything.
+    ghost fits: { Self → ℕ → Type 0 };
+
+    /// The first damaged sector, from a number on, where the file can tell (`harmed`); or none, where all behind that
+    /// fit (`whole`). It fails where the device does.
+    fn check(&mut self, from: u64) -> Result<Option<u64>, Failed>
+        ensures harmed { IfOk result (λ found. IfSome found (λ n. (from ≤ n) × (¬ fits self.old n))) }
+        ensures whole { IfOk result (λ found. IfNone found ((n : ℕ) → from ≤ n → fits self.old n)) };
 
     /// Ends its use, where it was synced: what is below it needs no repair then. It fails where the device does.
     fn end(&mut self) -> Result<(), Failed>;
@@ -81,10 +87,15 @@ impl<P, F: Stored + Drop, A: Allocator + Copy> InFile
     ghost use Rattle.block_file.specs.Disks.{disk_plan, disk_settled, disk_table};
     ghost use Rattle.block_file.specs.Good.{IsGood, OpensMeanwhile};
     ghost use Rattle.block_host.specs.FileBlocks.{failures_of, past_of};
+    ghost use Rattle.block_host.specs.Fits.{IsFitIn};
+
+    ghost fits = { IsFitIn past_of };
 
     /// Of a file of blocks the first sector whose block doesn't fit its digest (`damaged`, `fit`), and of a plain file
     /// none (`plain`). It only reads (`reads`), and once a commit has failed, it leaves the file alone (`left_alone`).
     fn check(&mut self, from: u64) -> Result<Option<u64>, Failed>
+        ensures harmed { IfOk result (λ found. IfSome found (λ n. (from ≤ n) × (¬ IsFitIn past_of self.old n))) }
+        ensures whole { IfOk result (λ found. IfNone found ((n : ℕ) → from ≤ n → IsFitIn past_of self.old n)) }
         ensures damaged { IsInBlocks self.old (λ disk. IfOk result (λ found. IfSome found
             (IsFirstDamaged (disk_plan disk) (disk_table past_of disk) from))) }
         ensures fit { IsInBlocks self.old (λ disk. IfOk result (λ found. IfNone found ((n : ℕ) → from ≤ n

@@ -1,5 +1,5 @@
 -- What a walk down leaves that puts a pair into its leaf, or finds it, or finds no room.
-use Rattle.std.proofs.Common.{◌≡◌, ◌≢◌, ℕ, ◌+◌, ◌-◌, ◌<◌, ◌≤◌, ◌==◌, ◌&&◌, Bool, true, false, cond, List, [], ◌∷◌, length, get_or, Option, Some, None, refl}
+use Rattle.std.proofs.Common.{◌≡◌, ◌≢◌, ℕ, ◌+◌, ◌-◌, ◌<◌, ◌≤◌, ◌==◌, ◌&&◌, Bool, cond, List, [], ◌∷◌, length, get_or, Option, Some, None, refl}
 use Rattle.std.proofs.Common.{sym, ap, ◌∙◌, arith, zero, suc}
 use Rattle.std.proofs.lemmas.Bool.Decides.{nat_tests}
 use Rattle.std.proofs.lemmas.List.{append-nil}
@@ -57,7 +57,8 @@ outcome_of {t} {u} {cs} {k} {c} {p} a =
 no_top : (s d : ℕ) → 0 < d → s ≡ 0 → s + cond (s == d) 1 0 ≡ 0
 no_top s d h e = grind (arith, nat_tests)
 
-pub outcome_top : (t : Tree) (p : Pair) → 0 < length (entries t) → outcome (mark_in (entries t) p) (splits t p) ≡ outcome (mark_in (entries t) p) (nodes_for t p)
+pub outcome_top : (t : Tree) (p : Pair) → 0 < length (entries t) → outcome (mark_in (entries t) p) (splits t p)
+    ≡ outcome (mark_in (entries t) p) (nodes_for t p)
 outcome_top (leaf []) p h = absurd (omega arith)
 outcome_top (leaf (e ∷ es)) p h = same_outcome _ _ _ (λ z. no_top _ 1 (omega arith) z) (λ z. omega (arith, z))
 outcome_top (branch f) p h = same_outcome _ _ _ (λ z. no_top _ (depth (branch f)) (omega arith) z) (λ z. omega (arith, z))

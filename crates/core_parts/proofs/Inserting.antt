@@ -1,6 +1,7 @@
 -- Which replies to an insertion are allowed.
 use Rattle.core_model.specs.Changes.{as_list}
-use Rattle.std.proofs.Common.{Bool, Err, List, None, Ok, Option, Result, Some, [], ap, arith, cond, false, inl, inr, leb, leb-false, length, refl, subst, sym, true, ℕ, ◌++◌, ◌+◌}
+use Rattle.std.proofs.Common.{Bool, Err, List, None, Ok, Option, Result, Some, [], ap, arith, cond, false, inl, inr, leb}
+use Rattle.std.proofs.Common.{leb-false, length, refl, subst, sym, true, ℕ, ◌++◌, ◌+◌}
 use Rattle.std.proofs.Common.{◌<◌, ◌∙◌, ◌≡◌, ◌≢◌, ◌≤◌}
 use Rattle.std.proofs.lemmas.Bool.Decides.{nat_tests}
 use Rattle.std.specs.FinMap.{get, len}

@@ -107,7 +107,7 @@ fn page_back_of<A: Allocator + Copy, B: Allocator>(
 /// at most, and fewer only where no more are left. Without a pair the page begins at the range's end.
 ///
 /// `next` is the last pair of the page, which is the least, as long as the page leaves any of the range: the next page
-/// is the one before it. It is none where nothing is left. A limit of 0 gives no pair, as with `scan`.
+/// is the one before it. It is none where nothing is left. A limit of 0 gives no pair, and `next` is then `before`.
 ///
 /// Let the index have live entries of the keys a, ab and c, and a marked one of b. A page backward of all keys with a
 /// limit of 2 has c and ab, and goes on before ab. The page there has a, and nothing is left.

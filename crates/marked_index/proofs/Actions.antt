@@ -1,5 +1,6 @@
 -- What the actions leave as it was, and how many entries there are after one.
-use Rattle.std.proofs.Common.{Result, Ok, Err, OnOk, OnErr, ◌<◌, ◌≡◌, ℕ, zero, suc, ◌+◌, ◌-◌, ◌≤◌, Bool, true, false, cond, Option, Some, None, is_some, refl, sym, ap}
+use Rattle.std.proofs.Common.{Result, Ok, Err, OnOk, OnErr, ◌<◌, ◌≡◌, ℕ, zero, suc, ◌+◌, ◌-◌, ◌≤◌, Bool, true, false, cond}
+use Rattle.std.proofs.Common.{Option, Some, None, is_some, refl, sym, ap}
 use Rattle.std.proofs.Common.{subst, ◌∙◌, arith}
 use Rattle.std.specs.FinMap as map
 use Rattle.std.specs.Prelude.{IsTrue, ◌↔◌}
@@ -33,10 +34,6 @@ build_leaves_there None e = cc
 build_leaves_there (Some Live) e = refl
 build_leaves_there (Some Marked) e = refl
 
--- what is there stays as it is when the builder comes to it
-pub after_build_there : (v : IndexValue) (p : Pair) → is_some (map.get v.entries p) ≡ true → v ≡ record v { entries = entries_after v.entries BuildPut p }
-after_build_there v p e = same_value v _ (as_it_was v.entries p _ (sym (build_leaves_there (map.get v.entries p) e)))
-
 stays : (o : Option Mark) (allowed : Bool) → (allowed ≡ true → o ≡ Some Marked → ⊥) → after_action (Clean allowed) o ≡ o
 stays None allowed h = refl
 stays (Some Live) allowed h = refl
@@ -46,10 +43,6 @@ stays (Some Marked) false h = refl
 pub after_no_clean : (v : IndexValue) (p : Pair) (allowed : Bool) → (allowed ≡ true → map.get v.entries p ≡ Some Marked → ⊥)
     → v ≡ record v { entries = entries_after v.entries (Clean allowed) p }
 after_no_clean v p allowed h = same_value v _ (as_it_was v.entries p _ (sym (stays (map.get v.entries p) allowed h)))
-
-pub after_none : (v : IndexValue) (p : Pair) (o : Option Mark) → o ≡ None → is_some (map.get v.entries p) ≡ false
-    → v ≡ record v { entries = set_at v.entries p o }
-after_none v p o is e = same_value v _ (as_it_was v.entries p o (none_of _ e ∙ sym is))
 
 -- ---- how many entries there are after a change of one
 
@@ -81,25 +74,9 @@ pub room_added : (m n : Index) (p : Pair) (x : Mark) (j c : ℕ) → map.len m +
     → IsWithinCapacity (record { entries = n; pledged = j; capacity = c })
 room_added m n p x j c fits most absent e = record { within = omega (arith, len_added m p x absent, ap map.len e, fits); most = most }
 
-pub room_tried : (m n : Index) (p : Pair) (x : Mark) (k c : ℕ) (r : Result (Unit {0}) Error)
-    → IsWithinCapacity (record { entries = m; pledged = k; capacity = c }) → map.len m + k < c → map.get m p ≡ None → OnOk r (n ≡ map.insert m p x)
-    → OnErr r (n ≡ m) → IsWithinCapacity (record { entries = n; pledged = k; capacity = c })
-room_tried m n p x k c (Ok u) room fits absent done left = room_added m n p x k c (omega arith) room.most absent done
-room_tried m n p x k c (Err e) room fits absent done left = record { within = omega (arith, ap map.len left, room.within); most = room.most }
-
--- what is not full has room for one entry more
-pub room_left : (v : IndexValue) (full : Bool) → (IsTrue full ↔ IsFull v) → full ≡ false → map.len v.entries + v.pledged < v.capacity
-room_left v full is free = omega (arith, not_full)
-  where
-    not_full : (v.capacity ≤ map.len v.entries + v.pledged) → ⊥
-    not_full h = let yes : full ≡ true = is.1 h in absurd (cc (yes, free))
-
 -- ---- trees that a pair is put into
 pub build_there : (m : Index) (p : Pair) → is_some (map.get m p) ≡ true → m ≡ entries_after m BuildPut p
 build_there m p e = sym (as_it_was m p _ (sym (build_leaves_there (map.get m p) e)))
-
-pub build_absent : (m n : Index) (p : Pair) → map.get m p ≡ None → n ≡ map.insert m p Live → n ≡ entries_after m BuildPut p
-build_absent m n p none e = e ∙ ap (λ o. set_at m p (after_action BuildPut o)) (sym none)
 
 by_mark : (P : Type 0) (o : Option Mark) → (o ≡ None → P) → (is_some o ≡ true → P) → P
 by_mark P None absent there = absent refl

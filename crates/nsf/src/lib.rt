@@ -53,7 +53,8 @@
 //! ```
 //!
 //! A page's `next` is the pair behind which the next page begins, and none where nothing is left of the range. The laws
-//! `each_page` and `each_reading` say what pages have together.
+//! `each_page` and `each_reading` say what pages have together. `scan_back` reads a range from its end; of it the laws
+//! `each_page_back` and `each_reading_back` say the same.
 //!
 //! Rows are read as they are now, also before their transaction's commit. `get_committed`, `find_committed` and
 //! `scan_committed` read them as if no transaction were active; the law `each_committed` says that this is what the

@@ -192,13 +192,13 @@ typedef struct nsf_reply {
 
 #define NSF_NO_REPLY {0, 0, 0, 0, 0, 0, {0}, {0}}
 
-/* A range of keys, and perhaps a pair behind which to go on. The keys stand beside it. */
+/* A range of keys, and perhaps a pair from which to go on. The keys stand beside it. */
 enum { NSF_UNBOUNDED = 0, NSF_INCLUDED = 1, NSF_EXCLUDED = 2 };
 
 typedef struct nsf_bounds {
     uint32_t from;      /* NSF_UNBOUNDED: from the first key on; NSF_INCLUDED, NSF_EXCLUDED: from a key on, with it or without */
     uint32_t to;        /* so its end */
-    uint32_t goes_on;   /* 1: the pair is given behind which to go on; 0: none is */
+    uint32_t goes_on;   /* 1: the pair is given from which to go on; 0: none is */
     uint32_t committed; /* 1: the index as is committed, 0: as it stands, with what isn't committed yet */
     uint32_t page;      /* the place of the pair that is given */
     uint16_t slot;
@@ -461,8 +461,8 @@ static inline void nsf_scan_keep(nsf_scan *scan, const nsf_reply *reply)
         scan->behind[i] = reply->key[i];
 }
 
-/* The next pair of the scan: NSF_PAIR, or NSF_AT_END. Between two calls the store may change: no pair comes twice, and each that was
- * visible throughout comes. */
+/* The next pair of the scan: NSF_PAIR, or NSF_AT_END. Between two calls the store may change: as long as the scan goes one way, no
+ * pair comes twice, and each that was visible throughout comes. */
 static inline uint32_t nsf_scan_next(nsf_handle *handle, nsf_scan *scan, nsf_reply *reply)
 {
     uint32_t refused;

@@ -33,9 +33,9 @@ abbrev pub IsNoBound : ℕ → List ℕ → ℕ → Type 0
 IsNoBound k key n = ((n ≡ 24) × (2 < k)) ⊎ ((n ≡ 14) × (0 < k) × (k ≤ 2) × (KEY_MAX < length key))
 
 -- the pair from which to go on, where there is one
-abbrev pub IsBehind : Bounds → List ℕ → Option Pair → Type 0
-IsBehind b key None = b.goes_on ≡ 0
-IsBehind b key (Some p) = (b.goes_on ≡ 1) × (p ≡ record { key = key; rid = record { page = b.page; slot = b.slot } })
+abbrev pub IsGivenPair : Bounds → List ℕ → Option Pair → Type 0
+IsGivenPair b key None = b.goes_on ≡ 0
+IsGivenPair b key (Some p) = (b.goes_on ≡ 1) × (p ≡ record { key = key; rid = record { page = b.page; slot = b.slot } })
     × (length key ≤ KEY_MAX) × (b.slot < SLOTS_PER_PAGE)
 
 -- why there is no such pair: it isn't said whether there is one, its key is too long, or its slot is on no page
@@ -86,7 +86,7 @@ pub record IsShown (b : Bounds) (from to behind : List ℕ) (status : ℕ) (told
   pub answer : Result (Page Global) Error
   pub begins : IsBound b.from from range.from
   pub ends : IsBound b.to to range.to
-  pub goes_on : IsBehind b behind after
+  pub goes_on : IsGivenPair b behind after
   pub reads : IsRead b v index
   pub page : IsPageOf index v.life range after 1 answer
   pub tells : TellsPage answer status told
@@ -102,7 +102,7 @@ pub record IsShownBack (b : Bounds) (from to ahead : List ℕ) (status : ℕ) (t
   pub answer : Result (Page Global) Error
   pub begins : IsBound b.from from range.from
   pub ends : IsBound b.to to range.to
-  pub goes_on : IsBehind b ahead before
+  pub goes_on : IsGivenPair b ahead before
   pub uncommitted : b.committed ≡ 0
   pub page : IsPageBackOf v.index.entries v.life range before 1 answer
   pub tells : TellsPage answer status told

@@ -1,6 +1,6 @@
-//! A range of keys, as C asks for it, and the pair behind which to go on.
+//! A range of keys, as C asks for it, and the pair from which to go on.
 ghost use Rattle.std.specs.Prelude.{◌≡◌, ◌⊎◌, ◌<◌, ◌≤◌, ℕ, IfOk, IfErr};
-ghost use Rattle.nsf_c.specs.Scans.{IsBehind, IsBound, IsFlag, IsNoBound, IsNoPair, IsNoScan, IsNoScanBack};
+ghost use Rattle.nsf_c.specs.Scans.{IsGivenPair, IsBound, IsFlag, IsNoBound, IsNoPair, IsNoScan, IsNoScanBack};
 
 use crate::asked::{key_of, rid_of};
 use crate::kind::NO_SUCH_EVENT;
@@ -9,8 +9,8 @@ use records::{Key, Pair};
 use std::ops::Bound;
 
 /// Which pair is asked for, but for the bytes of keys: how the range begins (0 with the first key, 1 with the key that
-/// is given, 2 behind it) and ends (0, 1, 2: the last key, that one, before it); whether the pair behind a given one is
-/// asked for (0 or 1), and its place; and whether the index is read as is committed (1) or as it stands (0).
+/// is given, 2 behind it) and ends (0, 1, 2: the last key, that one, before it); whether the pair behind a given one, or
+/// before it, is asked for (0 or 1), and its place; and whether the index is read as is committed (1) or as it stands (0).
 #[repr(C)]
 pub struct Bounds {
     pub from: u32,
@@ -62,7 +62,7 @@ fn flag_of(number: u32) -> Result<bool, u32>
 
 impl Bounds {
     fn after(&self, key: &[u8]) -> Result<Option<Pair>, u32>
-        ensures ok { IfOk result (IsBehind self.now key.now) }
+        ensures ok { IfOk result (IsGivenPair self.now key.now) }
         ensures bad { IfErr result (IsNoPair self.now key.now) }
     {
         if !flag_of(self.goes_on)? {
@@ -90,7 +90,7 @@ impl Bounds {
     pub(crate) fn sought(&self, from: &[u8], to: &[u8], behind: &[u8]) -> Result<Sought, u32>
         ensures begins { IfOk result (λ sought. IsBound self.now.from from.now sought.range.from) }
         ensures ends { IfOk result (λ sought. IsBound self.now.to to.now sought.range.to) }
-        ensures behind { IfOk result (λ sought. IsBehind self.now behind.now sought.after) }
+        ensures behind { IfOk result (λ sought. IsGivenPair self.now behind.now sought.after) }
         ensures committed { IfOk result (λ sought. IsFlag self.now.committed sought.is_committed) }
         ensures bad { IfErr result (IsNoScan self.now from.now to.now behind.now) }
     {
@@ -114,7 +114,7 @@ impl Bounds {
     ) -> Result<SoughtBack, u32>
         ensures begins { IfOk result (λ sought. IsBound self.now.from from.now sought.range.from) }
         ensures ends { IfOk result (λ sought. IsBound self.now.to to.now sought.range.to) }
-        ensures ahead { IfOk result (λ sought. IsBehind self.now ahead.now sought.before) }
+        ensures ahead { IfOk result (λ sought. IsGivenPair self.now ahead.now sought.before) }
         ensures uncommitted { IfOk result (λ sought. self.now.committed ≡ 0) }
         ensures bad { IfErr result (IsNoScanBack self.now from.now to.now ahead.now) }
     {

@@ -17,7 +17,7 @@ refusal_of (disk.File FileFailed) = Store store.DeviceFailed
 refusal_of (disk.File TooShort) = Store store.DeviceTooSmall
 refusal_of (disk.File error) = Blocks error
 
--- the same refusal; or where the device failed, a reason that it tells
+-- the same refusal; or where the device failed, some reason
 abbrev pub IsBecause : Refused → Refused → Type 0
 IsBecause refused told = (told ≡ refused)
     ⊎ ((refused ≡ Store store.DeviceFailed) × ((trouble : Trouble) × (told ≡ Device trouble)))
@@ -26,6 +26,6 @@ IsBecause refused told = (told ≡ refused)
 abbrev pub IsFailure : Refused → Type 0
 IsFailure told = IsBecause (Store store.DeviceFailed) told
 
--- a sector is damaged, or the device failed
+-- a sector is told as damaged, or the device failed
 abbrev pub IsHarmed : Refused → Type 0
 IsHarmed told = ((sector : ℕ) × (told ≡ Store (store.Damaged sector))) ⊎ IsFailure told

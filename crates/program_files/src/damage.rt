@@ -1,5 +1,5 @@
 //! Sectors of a file whose bytes have changed.
-ghost use Rattle.std.specs.Prelude.{IfErr};
+ghost use Rattle.std.specs.Prelude.{◌≤◌, ℕ, IfErr, IfNone, IfOk, OnOk};
 ghost use Rattle.program_files.specs.Refusals.{IsFailure, IsHarmed};
 
 use crate::refused::Refused;
@@ -10,7 +10,8 @@ use store_file::Troubled;
 
 // The first damaged sector, from a number on.
 fn damaged_from<D: InFile + Troubled>(disk: &mut D, from: u64) -> Result<Option<u64>, Refused>
-    ensures { IfErr result IsFailure }
+    ensures whole { IfOk result (λ found. IfNone found ((n : ℕ) → from ≤ n → D.fits disk.old n)) }
+    ensures failed { IfErr result IsFailure }
 {
     match disk.check(from) {
         Ok(found) => Ok(found),
@@ -18,10 +19,11 @@ fn damaged_from<D: InFile + Troubled>(disk: &mut D, from: u64) -> Result<Option<
     }
 }
 
-/// Refused where a sector is damaged, of which the first is told, or where the device failed. (That none is damaged
-/// otherwise, no clause says.)
+/// Refused where a sector is damaged, of which the first is told, or where the device failed (`refused`). Else each
+/// sector fits what the file keeps of it (`whole`).
 pub fn refuse_damaged<D: InFile + Troubled>(disk: &mut D) -> Result<(), Refused>
-    ensures { IfErr result IsHarmed }
+    ensures whole { OnOk result ((n : ℕ) → D.fits disk.old n) }
+    ensures refused { IfErr result IsHarmed }
 {
     match damaged_from(disk, 0)? {
         Some(sector) => Err(Refused::Store(Error::Damaged { sector })),

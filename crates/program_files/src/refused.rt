@@ -52,7 +52,7 @@ pub enum Refused {
     Stream(io::Error),
 }
 
-// That the device failed, with the reason that it tells.
+// That the device failed, with the reason that it tells. (Which one, no clause says.)
 fn told_by<D: Troubled>(device: &D) -> Refused
     ensures { IsBecause (Refused.Store Error.DeviceFailed) result }
 {
@@ -63,7 +63,7 @@ fn told_by<D: Troubled>(device: &D) -> Refused
 }
 
 impl Refused {
-    /// The same; where the device failed, with the reason that it tells.
+    /// The same; where the device failed, with the reason that it tells. (Which one, no clause says.)
     pub fn because<D: Troubled>(self, device: &D) -> Refused
         ensures { IsBecause self result }
     {
@@ -75,7 +75,7 @@ impl Refused {
 }
 
 /// Why no store was opened on the disk, which is let go: this error of the restart; where the device failed, with the
-/// reason that it tells.
+/// reason that it tells. (Which one, no clause says.)
 pub fn refuse_disk<D: Troubled + Drop>(error: Error, disk: D) -> Refused
     ensures { IsBecause (Refused.Store error) result }
 {

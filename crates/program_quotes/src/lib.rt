@@ -5,7 +5,7 @@
 //! each time. Of what was read of it `is_cut_off` says whether the text ended so, and `passed` counts the bytes. Where
 //! a byte stands is read off the bytes before it, as `place_after` says.
 //!
-//! Only tested (`test_rows`): that a reader of fields quotes by the same rule.
+//! Only tested (`test_files`): that a reader of fields quotes by the same rule.
 #![tactic(auto)]
 
 mod source;

@@ -24,5 +24,6 @@ SpellLimit words (Some count) = (words ≡ codes "count" ∷ decimal count ∷ [
 
 -- the words spell a scan: `scan`, its keys, which pair comes first, and how many pairs
 abbrev pub SpellScan : List (List ℕ) → Scan → Type 0
-SpellScan words scan = (keys order count : List (List ℕ)) × (words ≡ codes "scan" ∷ keys ++ (order ++ count)) × SpellSpan keys scan.span
+SpellScan words scan = (keys order count : List (List ℕ)) × (words ≡ codes "scan" ∷ keys ++ (order ++ count))
+    × SpellSpan keys scan.span
     × SpellOrder order scan.is_back × SpellLimit count scan.limit

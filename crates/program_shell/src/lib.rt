@@ -5,8 +5,6 @@
 //!
 //! Only tested: what the verbs print, how they end, and what they say of a file that is no store, or is damaged. The
 //! steps below have the promises of `program_commands`, `program_rows`, `program_files` and `program_lines`.
-//!
-//! `Refused` says why a file or a store was refused, also to `nsf-threads`.
 #![tactic(auto)]
 
 mod loading;

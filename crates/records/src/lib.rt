@@ -4,7 +4,7 @@
 //! Proved: `encode_into` appends a record's spelling (`ok`), `decode` reads just what is one (`found`, `none`). No
 //! spelling begins another (the law `one_spelling`); each record within its limits has one (`each_has_a_spelling`).
 //! Two, four or eight bytes spell one number (`one_number`). `front` takes single fields off some bytes. Only tested
-//! (`test_values`): the text of refusals, and the vectors of the format document.
+//! (`test_tables`): the text of refusals, and the vectors of the format document.
 //!
 //! Lemmas about its public words that crates above may cite, in `proofs`: `Fields`, `Numbers`, `Spellings`, `Steps` and
 //! `Wide`.

@@ -58,8 +58,8 @@ impl<B: Group, A: Memory> Shared<B, A> {
     ///
     /// A page is read in one hold of the lock, and the next one in another. Let the pages of a range have limits above
     /// 0, and be read one behind another until none is left. They are a `Reading` of the indexes of such cores. So the
-    /// law `each_reading` of `core_scan` holds of them: no pair comes twice, each was visible at its page, and none is
-    /// missing that was visible at every page.
+    /// law `each_reading` of `core_scan` holds of them: no pair comes twice, each was visible at one of the pages, and
+    /// none is missing that was visible at every page.
     ///
     /// The lock is held for as long as `scan` of `core_scan` takes: as many entries are looked at as lie between the
     /// page's pairs, marked ones too (no clause says so). The refusals are those of that call. What the queue had
@@ -91,8 +91,8 @@ impl<B: Group, A: Memory> Shared<B, A> {
     ///
     /// A page is read in one hold of the lock, and the next one in another. Let the pages of a range have limits above
     /// 0, and be read one before another until none is left. They are a `ReadingBack` of the indexes of such cores. So
-    /// the law `each_reading_back` of `core_scan` holds of them: no pair comes twice, each was visible at its page, and
-    /// none is missing that was visible at every page.
+    /// the law `each_reading_back` of `core_scan` holds of them: no pair comes twice, each was visible at one of the
+    /// pages, and none is missing that was visible at every page.
     ///
     /// How long the lock is held, the refusals, and what is pushed first are as with `scan`. Each entry is looked up
     /// by itself, down from the root.

@@ -19,7 +19,7 @@ pub const HEAD_SIZE: usize = 32;
 pub struct Head {
     /// The transaction.
     pub txn: Txn,
-    /// Its changes, 64 at most.
+    /// Its changes, 64 at most in a head that was read.
     pub changes: u8,
 }
 

@@ -2,7 +2,7 @@
 //! has one spelling, and what is not read as a value is the spelling of none.
 //!
 //! Proved: each `spell_` function gives the spelling (`spelled`). Each `read_` function gives a value just where the
-//! bytes are its spelling, zeros included, within its limits (`found`, `fits`, `again`). Only tested (`test_values`):
+//! bytes are its spelling, zeros included, within its limits (`found`, `fits`, `again`). Only tested (`test_tables`):
 //! how one of each is spelled, byte by byte.
 //!
 //! Lemmas about its public words that crates above may cite, in `proofs`: `OneReading`.

@@ -37,7 +37,8 @@ returns g c =
     elim c.match-pair.branch [
       | in-None w ↦
           let top = w.deref.ensures ∙ sym (ap tree_at c.in-Some.is) ∙ c.self.view_is in
-          let last : last_or None (entries c.args.self.now) ≡ Some w.last_in-entry.result = ap (λ t. last_or None (entries t)) (sym top) ∙ w.last_in-entry.ensures in
+          let last : last_or None (entries c.args.self.now) ≡ Some w.last_in-entry.result =
+          ap (λ t. last_or None (entries t)) (sym top) ∙ w.last_in-entry.ensures in
           subst (λ e. IsGreatestBelow (contents c.args.self.now) (option_copied c.args.pair) (Some (e.pair, e.mark))) (sym w.entry-is)
           (subst (λ p. IsGreatestBelow (contents c.args.self.now) (option_copied p) (Some (w.last_in-entry.result.pair, w.last_in-entry.result.mark)))
           (sym w.in-None.is) (greatest-last c.args.self.now w.last_in-entry.result up last))

@@ -1,10 +1,8 @@
 use Rattle.std.proofs.Common.{arith, ◌∙◌, sym, ap, subst, ◌≡◌, ◌+◌, ◌<◌, None, length}
-use Rattle.std.specs.FinMap as map
 use Rattle.node_parts.specs.declared.Entry.{Entry}
 use Rattle.node_parts.specs.Tree.{entries, depth}
 use Rattle.node_parts.specs.Balance.{IsRoot}
 use Rattle.node_parts.specs.Order.{mark_in, insert_entry, IsAscending}
-use Rattle.btree_node.specs.Contents.{contents}
 use Rattle.btree_node.specs.Top.{tree_at, IsWholeTree}
 use Rattle.btree_node.proofs.Ascending.{ascending_insert, length_insert}
 use Rattle.btree_node.proofs.Contents.{len-contents}

@@ -1,4 +1,4 @@
-use Rattle.std.proofs.Common.{rules, arith, ◌∙◌, sym, ap, ◌≡◌, ◌<◌, ◌≤◌, length, vec_len}
+use Rattle.std.proofs.Common.{rules, arith, ◌∙◌, sym, ap, ◌≡◌, ◌<◌, length, vec_len}
 use Rattle.node_parts.specs.declared.Entry.{Entry}
 use Rattle.node_parts.specs.Tree.{leaf, entries, depth, count}
 use Rattle.node_parts.specs.Order.{insert_entry, mark_in}

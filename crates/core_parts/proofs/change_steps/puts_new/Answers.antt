@@ -20,6 +20,7 @@ returns-in_err-row c =
 pub returns : goal.returns
 returns c =
     let change = c.args.change.now in
-    (λ i. Some (c.pair_of.ensures i, c.forward_action.ensures i)) ∙ moves_row c.args.indexed change Live (Forward NewEntry change) (new_row change.rows) c.in_ok-row.row
+    (λ i. Some (c.pair_of.ensures i, c.forward_action.ensures i))
+    ∙ moves_row c.args.indexed change Live (Forward NewEntry change) (new_row change.rows) c.in_ok-row.row
     (sym (c.in_ok-row.ensures ∙ ap (λ (w : ChangeValue). new_row w.rows) c.change.view_is))
     (sym c.if-not-has_new_entry.false ∙ c.has_new_entry.ensures.put)

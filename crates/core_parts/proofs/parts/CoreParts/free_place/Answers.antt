@@ -23,7 +23,8 @@ returns-then-are_held_before g c = record {
 
 pub returns-clause-place : goal.returns-clause-place
 returns-clause-place g c =
-    place_by (parts_of c.args.self.now) c.held_rows.result.now c.held_rows.ensures c.least_free-2.result c.least_free-2.ensures.free c.least_free-2.ensures.least
+    place_by (parts_of c.args.self.now) c.held_rows.result.now c.held_rows.ensures c.least_free-2.result
+    c.least_free-2.ensures.free c.least_free-2.ensures.least
 
 pub returns-clause-none : goal.returns-clause-none
 returns-clause-none g c = λ e. no_place (parts_of c.args.self.now) c.held_rows.result.now c.held_rows.ensures (c.least_free-2.ensures.full e)

@@ -11,7 +11,8 @@ invariant_of-self-2 g c =
     → map.len (contents c.self.inside.tree) + c.self.inside.pledged < c.self.inside.capacity =
     subst (λ (v : IndexValue). map.get v.entries c.args.pair.now ≡ None → map.len v.entries + v.pledged < v.capacity) (sym c.self.view_is)
     (place_left c.args.self.now c.args.pair.now _ c.lacks_place.ensures c.if-lacks_place.false) in
-    room_built (contents c.self.inside.tree) _ c.args.pair.now _ _ c.put_absent.result c.self.invariant room c.put_absent.ensures.put c.put_absent.ensures.unchanged
+    room_built (contents c.self.inside.tree) _ c.args.pair.now _ _ c.put_absent.result c.self.invariant room c.put_absent.ensures.put
+    c.put_absent.ensures.unchanged
 
 pub invariant_of-self-then-is_added : goal.invariant_of-self-then-is_added
 invariant_of-self-then-is_added g c =
@@ -19,4 +20,5 @@ invariant_of-self-then-is_added g c =
     → map.len (contents c.self.inside.tree) + c.self.inside.pledged < c.self.inside.capacity =
     subst (λ (v : IndexValue). map.get v.entries c.args.pair.now ≡ None → map.len v.entries + v.pledged < v.capacity) (sym c.self.view_is)
     (place_left c.args.self.now c.args.pair.now _ c.lacks_place.ensures c.if-lacks_place.false) in
-    room_built (contents c.self.inside.tree) _ c.args.pair.now _ _ c.put_absent.result c.self.invariant room c.put_absent.ensures.put c.put_absent.ensures.unchanged
+    room_built (contents c.self.inside.tree) _ c.args.pair.now _ _ c.put_absent.result c.self.invariant room c.put_absent.ensures.put
+    c.put_absent.ensures.unchanged
