@@ -3,9 +3,9 @@
 //! Proved, for every allocator: the tree is the finite map of its entries (`contents`). `find_way` and `plan` only
 //! read: a way tells the mark of a pair (`mark`) and serves its insertion (`way`), and `plan` answers `NoMemory` alone
 //! (`no_memory`). `insert`, `set_mark`, `remove` and `take` can't fail; the first three change the named pair alone,
-//! and `take` answers what the tree held (`taken`). `put_in_leaf` puts a pair that isn't there into its leaf, where that
-//! has room, and else changes nothing and says why (`outcome`, `added`, `unchanged`). `above` and `below` answer the
-//! next entry either way. A look-up goes down by a `Descent`, which counts each node that it visits. `get` and
+//! and `take` answers what the tree held (`taken`). `put_in_leaf` puts a pair that isn't there into its leaf, where
+//! that has room, and else changes nothing and says why (`outcome`, `added`, `unchanged`). `above` and `below` answer
+//! the next entry either way. A look-up goes down by a `Descent`, which counts each node that it visits. `get` and
 //! `find_way` visit as many as the tree is high (`visited`), at most four (`few_visited`). `run_above` answers entries
 //! that follow one another (`run`), and none only where none is above (`none`). Only tested (`test_tables`): plans with
 //! each allocation refused in turn; heights of full trees, and how many runs a walk over one takes. Neither: how many

@@ -9,9 +9,9 @@ use records::{Key, Pair};
 use std::ops::Bound;
 
 /// Which pair is asked for, but for the bytes of keys: how the range begins (0 with the first key, 1 with the key that
-/// is given, 2 behind it) and ends (0, 1, 2: the last key, that one, before it); whether the pair behind a given one, or
-/// before it, is asked for (0 or 1), and its place; and whether the index is read as is committed (1) or as it stands
-/// (0).
+/// is given, 2 behind it) and ends (0, 1, 2: the last key, that one, before it); whether the pair behind a given one,
+/// or before it, is asked for (0 or 1), and its place; and whether the index is read as is committed (1) or as it
+/// stands (0).
 #[repr(C)]
 pub struct Bounds {
     pub from: u32,

@@ -6,8 +6,8 @@
 //! refusal leaves the value as it was (`refused_calls`); `skipped_events` says what is to be skipped. `take_outbox`
 //! hands records on in order (`handed`, `most`). `can_open` is true just where a core may begin with what this one
 //! holds (`opened_of`). `detach_index` drops the index and answers its entries (`taken`). `page_slots`, `run_above` and
-//! `below` read a page's rows, some entries at once, and the last one before a pair. Only tested (`test_stores`, `test_replay_rows`): that calls
-//! succeed where there is memory, and worked examples. Neither: when memory is freed.
+//! `below` read a page's rows, some entries at once, and the last one before a pair. Only tested (`test_stores`,
+//! `test_replay_rows`): that calls succeed where there is memory, and worked examples. Neither: when memory is freed.
 //!
 //! Lemmas about its public words that crates above may cite, in `proofs`: `Offered`.
 #![tactic(auto)]
