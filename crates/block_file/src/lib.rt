@@ -5,15 +5,15 @@
 //! the next, whatever a crash leaves of the file stands, under the premise `IsHonest`, for a crash state of the device
 //! at that moment, and tells where the device is, as it did at the opening (`stands`). An opening finds the header,
 //! compares each block with its digest, and then puts all blocks in their places (`open`); a header is read as it was
-//! spelled (`read_header`, `spell_header`).
-//! The file of a new device has zeros, whose digests fit, and two headers that tell where (`lay_out`, `create`). Of the
-//! sectors whose block doesn't fit its digest the first is told, and only such a one (`check`). Behind an end the file
-//! stands for the device whatever batches are lost (`close`). A file that tells no device is left alone (`left_alone`).
-//! Why a call of a device failed is told by `failed`. Once a commit has failed, each call fails, and the file is left
-//! alone (`sound`, `left_alone`). Each block of an opened device fits, and goes on fitting (`good`). So, under the
-//! premise, what a crash leaves can be opened (`opens`, `again`), and is refused for want of memory or as the file
-//! failed, alone (`only`). A law: bytes that changed while a file wasn't open don't fit, unless they have the digest
-//! that they had (`changes_are_told`). A file with damaged blocks can be opened too, to tell which (`open_uncompared`).
+//! spelled (`read_header`, `spell_header`). The file of a new device has zeros, whose digests fit, and two headers that
+//! tell where (`lay_out`, `create`). Of the sectors whose block doesn't fit its digest the first is told, and only such
+//! a one (`check`). Behind an end the file stands for the device whatever batches are lost (`close`). A file that tells
+//! no device is left alone (`left_alone`). Why a call of a device failed is told by `failed`. Once a commit has failed,
+//! each read, write and sync fails, and the file is left alone (`sound`, `left_alone`). Each block of an opened device
+//! fits, and goes on fitting (`good`). So, under the premise, what a crash leaves can be opened (`opens`, `again`), and
+//! is refused for want of memory or as the file failed, alone (`only`). A law: bytes that changed while a file wasn't
+//! open don't fit, unless they have the digest that they had (`changes_are_told`). A file with damaged blocks can be
+//! opened too, to tell which (`open_uncompared`).
 //!
 //! Neither: the premise; that a file is opened where there is memory; that a call which may fail ever succeeds.
 #![tactic(auto)]

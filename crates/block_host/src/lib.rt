@@ -1,7 +1,7 @@
 //! Files of the system as files of blocks, and the devices in them.
 //!
-//! Proved of a `FileBlocks`, for whatever is below: the clauses of `Blocks`, over a mirror in memory; and that one of
-//! which a write or a sync has failed fails from then on (`sound`, `failed`). Proved of a device that is made in a
+//! Proved of a `FileBlocks`, for whatever is below: the clauses of `Blocks`, over a mirror in memory; and that once a
+//! write or a sync of one has failed, each later one fails (`sound`, `failed`). Proved of a device that is made in a
 //! file: it has the sectors that were asked for, of zeros, all of them synced (`create_disk`). Proved of one that is
 //! opened: it is the one that the file told as it was read, each block of it fitted its digest, and no area of its
 //! journal is needed (`device_in`). Proved of a device in a file of either kind (`FileDevice`): it is that device (the

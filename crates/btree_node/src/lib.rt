@@ -6,7 +6,7 @@
 //! and `take` answers what the tree held (`taken`). `put_in_leaf` puts a pair that isn't there into its leaf, where
 //! that has room, and else changes nothing and says why (`outcome`, `added`, `unchanged`). `above` and `below` answer
 //! the next entry either way. A look-up goes down by a `Descent`, which counts each node that it visits. `get` and
-//! `find_way` visit as many as the tree is high (`visited`), at most four (`few_visited`). `run_above` answers entries
+//! `find_way` visit as many as the tree is high (`visited`), at most six (`few_visited`). `run_above` answers entries
 //! that follow one another (`run`), and none only where none is above (`none`). Only tested (`test_tables`): plans with
 //! each allocation refused in turn; heights of full trees, and how many runs a walk over one takes. Neither: how many
 //! nodes `put_in_leaf`, `above`, `below` and `run_above` look at; that `put_in_leaf` takes no memory; when memory is

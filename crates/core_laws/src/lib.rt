@@ -3,12 +3,13 @@
 //!
 //! They follow from what the methods of `nsf_core` promise alone, one call after another, and speak of no device.
 //!
-//! A core that was just loaded or made begins with what it was given (`each_opening`). Proved, of any list of calls
-//! (`any_calls`): each reply was allowed (`replied`), and the core holds the history that the replies tell (`holds`).
-//! With a complete index and no transaction active, the visible entries are the pairs of the rows (`complete`).
-//! Wherever the records stop, a prefix of the history is recovered of them (`recovers`). `one_reply` and `one_answer`:
-//! but for want of memory, a state and an event leave one reply and one value. A check says what the call then answers
-//! (`one_check`). A change has two further steps at the most (`each_further_step`).
+//! A core that was just loaded or made begins with what it was given (`each_opening`). Proved, of any list of calls of
+//! a core that began soundly (`any_calls`): each reply was allowed (`replied`), and the core holds the history that the
+//! replies tell (`holds`). With a complete index and no transaction active, the visible entries are the pairs of the
+//! rows (`complete`). Wherever the records stop, a prefix of the history is recovered of them (`recovers`). `one_reply`
+//! and `one_answer`: but for want of memory, a state and an event leave one reply, and one value as far as calls tell.
+//! A check says what the call then answers (`one_check`). A change has two further steps at the most
+//! (`each_further_step`).
 //!
 //! Lemmas about its public words that crates above may cite, in `proofs`: `Laws`.
 #![tactic(auto)]

@@ -1,11 +1,11 @@
 //! The entries of the index, each live or marked, with the places that are reserved for changes under way.
 //!
 //! Proved: each action changes one entry, by the one table of key actions (`ok`, `entries`). `IndexFull` comes just
-//! where an absent pair meets no free place (`full`). Entries and reserved places fit the geometry, which the type
-//! keeps. `shown_of` answers the places of a key's live entries, ascending (`ascending`, `each`). `run_above` answers
-//! entries that follow one another (`run`), and none only where none is above (`none`). `below` answers the greatest
-//! entry below a pair, or of all. `clear` answers every entry (`taken`) and leaves none (`cleared`). Only tested
-//! (`test_tables`): that calls succeed where there is memory.
+//! where an absent pair, or a pledge, finds no room (`full`). Entries and reserved places fit the geometry, which the
+//! type keeps. `shown_of` answers the places of a key's live entries, ascending (`ascending`, `each`). `run_above`
+//! answers entries that follow one another (`run`), and none only where none is above (`none`). `below` answers the
+//! greatest entry below a pair, or of all. `clear` answers every entry (`taken`) and leaves none (`cleared`). Only
+//! tested (`test_tables`): that calls succeed where there is memory.
 //!
 //! Lemmas about its public words that crates above may cite, in `proofs`: `LivePlaces`.
 #![tactic(auto)]

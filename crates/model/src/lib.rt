@@ -1,10 +1,10 @@
-//! The definitions that several crates speak of, with a plain program over maps
-//! that computes them: a restart runs on it, and its maps give images their cells.
+//! The definitions that several crates speak of, with a plain program over maps that computes them: a restart runs on
+//! it, and its maps give images their cells.
 //!
 //! Proved: each function of the plain program has the definition as its exact contract (`CellMaps::redo`, `recover`,
-//! `RowMap::redo_all`); want of memory leaves a map as it was (`err`). Laws: `beginnings` (what a store gives is a
-//! prefix of a history, and stays one), `copied_image`, `following_records`, `inside_pages`; of histories and lists
-//! `one_more_item`, `commit_order`, `set_is_there` and `listed_changes`.
+//! `RowMap::redo_all`); want of memory leaves a lent map as it was (`err`), but in `extend`. Laws: `beginnings` (the
+//! opening begins each history, and a beginning stays one), `copied_image`, `following_records`, `inside_pages`; of
+//! histories and lists `one_more_item`, `commit_order`, `set_is_there` and `listed_changes`.
 //!
 //! Lemmas about its public words that crates above may cite, in `proofs`: `CellsLaws`, `ExtendedLaws`, `FollowingLaws`,
 //! `GivenLaws`, `HistoryLaws`, `ImageLaws`, `InsideLaws`, `MapLaws`, `PairLaws`, `PlacedLaws`, `RecoveryLaws` and

@@ -1,9 +1,9 @@
 //! Nodes of a B-tree whose room is taken as they are made, so that no later change takes memory.
 //!
-//! Proved: what each change of a node leaves of its entries, and that a node has at most 32 items and room for 32. No
-//! change of a node that was made takes memory. A way down (`Descent`) says where a pair belongs, visits the child at a
-//! place, and counts each node that it visits. Neither: speed. A way has one private reference, and no way back, so
-//! its callers can look no other way. That its own calls look at one node each is for their reader to see.
+//! Proved: what each change of a node leaves of its entries, and that a node has at most 32 items and room for 32. A
+//! way down (`Descent`) says where a pair belongs, visits the child at a place, and counts each node that it visits.
+//! Neither: that no change of a node takes memory; speed. A way has one private reference, and no way back, so its
+//! callers can look no other way. That its own calls look at one node each is for their reader to see.
 //!
 //! Lemmas about its public words that crates above may cite, in `proofs`: `Balance`, `Children`, `Local`, `Neighbours`,
 //! `Order`, `Places` and `RowLemmas`.

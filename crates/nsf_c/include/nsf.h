@@ -1,7 +1,7 @@
 /* NSF from C: a table of rows with a secondary index that is built while the table is written, and a log that makes it safe.
  *
- * The functions named nsf_.. that are declared here and not defined are proved, over the duties named below: each does what the
- * engine's call of the same name does, and says so by its result. Nothing checks the C side, so what it breaks breaks the proof.
+ * The functions named nsf_.. that are declared here and not defined are proved, over the duties named below: each does by the
+ * engine's calls what is said at it, and says so by its result. Nothing checks the C side, so what it breaks breaks the proof.
  *
  * What a caller owes
  *   - A handle begins as NSF_VACANT. nsf_create and nsf_open take a vacant handle, and every other call one that is open: one

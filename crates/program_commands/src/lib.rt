@@ -5,8 +5,9 @@
 //! `TakesImage`), and a dump prints just the rows, the entries and the life that are there. A `GuardedStore` refuses
 //! each commit behind a known failure of its device (`ServesGuarded`). `answer_key` changes the one row that has a key,
 //! and prints the answer to that (`AnswersKey`). `print_page` prints just the pairs of the page that is asked for, and
-//! `print_count` how many there are, or why there is none (`PrintsPage`, `PrintsCount`). A line of a script that is
-//! refused changes no row or entry, nor how far the index is (`each_change_is_whole`). Neither: when memory is lacking.
+//! `print_count` how many there are, or why there is none (`PrintsPage`, `PrintsCount`). A line that asks for one event
+//! and is refused changes no row or entry, nor how far the index is (`each_change_is_whole`). Neither: when memory is
+//! lacking.
 #![tactic(auto)]
 
 mod answer;

@@ -5,7 +5,7 @@
 //! and each command within its limits has a line (`each_has_a_line`). Beside the commands stand lines for those who
 //! work with a store: `read_shell_line` answers just what a line spells (`spelled`, `none`). No line is two of these
 //! (`one_shell_line`), and none of them is a command (`no_command_of_the_shell`). `read_bytes` reads a single word.
-//! Only tested: that want of memory comes with a refused allocation alone.
+//! Only tested (`scripts/refuse-memory`): that want of memory comes with a refused allocation alone.
 #![tactic(auto)]
 
 mod byte_text;

@@ -10,7 +10,7 @@ use thiserror::Error;
 /// the sector or the line that it names: `11 RowBusy`, `4 Damaged 516`.
 #[derive(Clone, Copy, Debug, PartialEq, Eq, Error)]
 pub enum Error {
-    /// An allocation was refused. Nothing was changed.
+    /// An allocation was refused. What earlier steps did stays.
     #[error("1 NoMemory")]
     NoMemory,
     /// A call of the device failed. The writer answers so until a restart.

@@ -15,8 +15,8 @@ impl<D: Device, A: Allocator + Copy> Engine<D, A> {
     /// and without an index there is no entry. It tells of what is held now, so ask it while no transaction is active.
     ///
     /// Behind a restart it tells whether all that is promised of what a run left is promised of this engine too
-    /// (`begins` and `come` of `IsOpened`): `restart` opens what the format allows, be it sound or not. It takes no
-    /// memory, and goes over every entry and every row once.
+    /// (`begins` and `come` of `IsOpened`): `restart` opens what the format allows, be it sound or not. It goes over
+    /// every entry and every row.
     pub fn can_open(&self) -> bool
         ensures { IsTrue result ↔ CanOpen (opened_of (core_of self.now)) }
     {

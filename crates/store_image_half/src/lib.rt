@@ -4,8 +4,8 @@
 //! Proved: `read_image` answers just the image that lies there (`read`). But for want of memory and a device that
 //! fails, it refuses by `Damaged` with the first sector that is (`refused`). Each write of a part leaves it
 //! (`written`), changes its own sectors alone (`outside`), and says what a crash leaves (`within`). By the law
-//! `image_in_parts` the parts make an image. None of them syncs. Only tested, through a store: parts byte by byte.
-//! Neither: which calls the device gets, and time.
+//! `image_in_parts` the parts make an image. Only tested, through a store: parts byte by byte, that none of them syncs,
+//! and which calls the device gets. Neither: time.
 //!
 //! Lemmas about its public words that crates above may cite, in `proofs`: `Bytes`, `PartByPart`, `Readings`, `Told` and
 //! `Written`.

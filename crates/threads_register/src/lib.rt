@@ -4,10 +4,10 @@
 //! They follow from what a session's steps, the core and the laws of its calls promise, and speak of no lock.
 //!
 //! Proved: the sessions of all seats have of each transaction, commit, creation and dropping what the core has
-//! (`IsRegister`). It is so from the opening on, and after each kind of step (`each_agreement`,
-//! `each_agreement_of_a_transaction`, `each_commit`). `each_number` says which numbers steps answer. For each record
-//! number the commits up to it give the table (`each_table`). A seat reads its own rows off its session (`each_sight`,
-//! `each_row`).
+//! (`IsRegister`). Of a core that was opened soundly it is so from the opening on, and after each kind of step
+//! (`each_agreement`, `each_agreement_of_a_transaction`, `each_commit`). `each_number` says which numbers steps answer.
+//! For each record number the commits up to it give the table (`each_table`). A seat reads its own rows off its session
+//! (`each_sight`, `each_row`).
 //!
 //! Lemmas about its public words that crates above may cite, in `proofs`: `Laws` and `CoreLaws` (of `core_laws`).
 #![tactic(auto)]
