@@ -6,7 +6,8 @@
 //! exported on either; and what is salvaged of a harmed one. And rows as comma-separated fields, without a file
 //! (`test_rows`).
 //!
-//! Proved of them is safety. Outside the gate, `tools/kill_store.py` kills the program at random moments.
+//! Proved of them is safety. What a test ends with is left (`forget`): to prove that it is let go costs more than the
+//! test. Outside the gate, `tools/kill_store.py` kills the program at random moments.
 #![tactic(auto)]
 
 #[cfg(test)]

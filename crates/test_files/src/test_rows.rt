@@ -1,10 +1,11 @@
 //! Tests of the crate `program_rows`: rows that are loaded from a text, and written to one as comma-separated fields.
-use crate::claims::{claim, leave};
+use crate::claims::claim;
 use program_rows::{
     ColumnNames, HeaderError, RowError, RowReader, TextError, header, line_of, record_of,
 };
 use records::Row;
 use std::alloc::Global;
+use std::mem::forget;
 
 // More than the records of a text.
 const MOST: usize = 9;
@@ -21,7 +22,7 @@ struct Given {
 fn line_by(alloc: Global, row: &Row) -> Result<Vec<u8>, TextError> {
     let record = record_of(alloc, row)?;
     let line = line_of(alloc, &record);
-    leave(record);
+    forget(record);
     line
 }
 
@@ -29,7 +30,7 @@ fn line_by(alloc: Global, row: &Row) -> Result<Vec<u8>, TextError> {
 fn first_line(alloc: Global) -> Result<Vec<u8>, TextError> {
     let record = header(alloc)?;
     let line = line_of(alloc, &record);
-    leave(record);
+    forget(record);
     line
 }
 
@@ -37,7 +38,7 @@ impl Given {
     fn add(&mut self, alloc: Global, row: &Row) -> Result<(), TextError> {
         let line = line_by(alloc, row)?;
         let added = self.text.extend_from_slice(line.as_slice());
-        leave(line);
+        forget(line);
         Ok(added?)
     }
 
@@ -106,7 +107,7 @@ fn given_by(alloc: Global, rows: &mut Rows<'_>) -> Result<Given, TextError> {
     match take_all(alloc, rows, &mut given) {
         Ok(()) => Ok(given),
         Err(error) => {
-            leave(given);
+            forget(given);
             Err(error)
         }
     }
@@ -120,7 +121,7 @@ fn read_all(
 ) -> Result<Given, TextError> {
     let mut rows = opened(alloc, text, names)?;
     let read = given_by(alloc, &mut rows);
-    leave(rows);
+    forget(rows);
     read
 }
 
@@ -166,7 +167,7 @@ fn comes_to(alloc: Global, case: &Case) -> bool {
             let is_so = given.text.as_slice() == wanted
                 && given.lines == lines
                 && given.refused == refused;
-            leave(given);
+            forget(given);
             is_so
         }
         Err(_) => false,
@@ -184,7 +185,7 @@ fn rows_are_loaded_and_exported(rt: HostRuntime) {
 fn fault_of(alloc: Global, text: &[u8], names: Option<ColumnNames<'_>>) -> Option<HeaderError> {
     match read_all(alloc, text, names) {
         Ok(given) => {
-            leave(given);
+            forget(given);
             None
         }
         Err(TextError::Header(error)) => Some(error),

@@ -1,6 +1,6 @@
 // A store is stopped at each call of its device in turn, and crashes; and so are restarts behind it, at one call in 16.
 use crate::answer::Answer;
-use crate::claims::{claim, claim_at, leave};
+use crate::claims::{claim, claim_at};
 use crate::contents::Contents;
 use crate::disk::Disk;
 use crate::jobs::{Job, Task, do_all};
@@ -10,6 +10,7 @@ use records::Error;
 use restart::Event;
 use sector_device::{Fate, Which};
 use std::alloc::Global;
+use std::mem::forget;
 use std::process::Abort;
 use test_store::Script;
 
@@ -34,6 +35,7 @@ pub(crate) struct Case {
 
 // The requests of a script, what they are answered while nothing fails, and what the store holds at first and whenever
 // all is told to be safe.
+#[derive(Drop)]
 struct Whole<'a> {
     events: &'a [Event],
     answers: Vec<Answer>,
@@ -78,7 +80,7 @@ fn whole_by_new<'a, M: StoreMemory>(
     match run {
         Ok(()) => Ok(whole),
         Err(fail) => {
-            leave(whole);
+            forget(whole);
             Err(fail)
         }
     }
@@ -290,7 +292,7 @@ pub(crate) fn stop_in_each<M: StoreMemory>(
 ) -> Result<(), Error> {
     let whole = whole_by_new(rt, memory, alloc, events)?;
     let stopped = stop_whole(rt, memory, alloc, &whole, cases);
-    leave(whole);
+    forget(whole);
     stopped
 }
 

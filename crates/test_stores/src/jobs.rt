@@ -1,5 +1,5 @@
 // What is done over stores in memory. One function alone names the memory's type, and all else is generic over it.
-use crate::claims::{claim, leave};
+use crate::claims::claim;
 use crate::store::StoreMemory;
 use crate::{
     build_tests, byte_tests, crash_tests, damage_tests, image_tests, memory_tests, migration_tests,
@@ -7,6 +7,7 @@ use crate::{
 use records::Error;
 use restart::Event;
 use std::alloc::Global;
+use std::mem::forget;
 use std::process::Abort;
 use test_memory::Refusing;
 use test_store::{Script, requests_of};
@@ -66,7 +67,7 @@ fn do_over<M: StoreMemory>(
 fn do_with(rt: &impl Abort, alloc: Global, events: &[Event], job: Job<'_>) {
     let memory = Refusing::new(alloc, u64::MAX);
     let done = do_over(rt, &memory, alloc, events, job);
-    leave(memory);
+    forget(memory);
     claim(rt, done.is_ok(), "that nothing else is refused");
 }
 
@@ -75,7 +76,7 @@ fn do_job(rt: &impl Abort, alloc: Global, scripts: &[Script<'_>], job: Job<'_>) 
     match requests_of(alloc, scripts) {
         Ok(events) => {
             do_with(rt, alloc, &events, job);
-            leave(events);
+            forget(events);
         }
         Err(_) => claim(rt, false, "requests"),
     }

@@ -4,7 +4,8 @@
 //! refused by name. Images are taken, and an index is built over every place. Stores of version 1, written by the
 //! format's text, are moved and hindered.
 //!
-//! Proved of them is safety. `test_files` has the tests of stores in files.
+//! Proved of them is safety. What a test ends with is left (`forget`): to prove that it is let go costs more than the
+//! test. `test_files` has the tests of stores in files.
 #![tactic(auto)]
 
 #[cfg(test)]

@@ -1,7 +1,7 @@
 // Memory is refused to a store, each allocation in turn. What was refused for want of memory is asked again, and every
 // other reply is that of a store to which nothing was refused.
 use crate::answer::Answer;
-use crate::claims::{claim, claim_at, leave};
+use crate::claims::{claim, claim_at};
 use crate::contents::Contents;
 use crate::disk::Disk;
 use crate::jobs::{Job, Task, do_all};
@@ -11,6 +11,7 @@ use records::Error;
 use restart::Event;
 use sector_device::Fate;
 use std::alloc::Global;
+use std::mem::forget;
 use std::process::Abort;
 use test_store::Script;
 
@@ -42,6 +43,7 @@ fn ask_again<M: StoreMemory>(
 
 // What a play of requests gave: the answers, how many requests were made again, what a crash leaves then, and how many
 // allocations were refused.
+#[derive(Drop)]
 struct Played {
     answers: Vec<Answer>,
     again: u32,
@@ -120,7 +122,7 @@ fn play_short<M: StoreMemory>(
     let played = play(rt, memory, alloc, events, (pages, before))?;
     let is_same = played.answers == whole.answers && played.left == whole.left;
     let told = (played.again, played.refused);
-    leave(played);
+    forget(played);
     claim_at(rt, is_same, "the same without allocation", before);
     Ok(told)
 }
@@ -155,7 +157,7 @@ pub(crate) fn refuse_each<M: StoreMemory>(
 ) -> Result<(), Error> {
     let whole = play(rt, memory, alloc, events, (wanted.pages, u64::MAX))?;
     let again = refuse_until_none(rt, memory, alloc, events, wanted.pages, &whole);
-    leave(whole);
+    forget(whole);
     let requests = again?;
     claim_at(
         rt,

@@ -1,9 +1,10 @@
 // What is done over memory of which an allocation may be refused. One function alone names the memory's type, and all
 // else is generic over it.
-use crate::values::{Memory, leave};
+use crate::values::Memory;
 use crate::{memory_tests, quiet_tests, tree_tests};
 use records::Error;
 use std::alloc::{Allocator, Global};
+use std::mem::forget;
 use std::process::Abort;
 use test_memory::Refusing;
 
@@ -51,6 +52,6 @@ pub(crate) fn do_job(
     let memory = Refusing::new(alloc, before);
     let done = do_over(rt, alloc, &memory, &memory, job);
     let refused = memory.refused();
-    leave(memory);
+    forget(memory);
     (done, refused)
 }

@@ -4,7 +4,8 @@
 //! words that threads share (`board`). And of what is lower: values (`test_values`), and blocks (`test_blocks`).
 //!
 //! Proved of them is safety. Each allocation is refused in turn. The calls that take no memory are made where the next
-//! allocation would be refused, and counted.
+//! allocation would be refused, and counted. What a test ends with is mostly left (`forget`): to prove that it is let
+//! go costs more than the test.
 #![tactic(auto)]
 
 #[cfg(test)]

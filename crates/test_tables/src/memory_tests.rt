@@ -1,12 +1,13 @@
 // Each part is used with each of its allocations refused in turn: it wants memory just where one was refused.
 use crate::jobs::{Job, do_job};
 use crate::quiet_tests::{hand_out, set_row};
-use crate::values::{claim, claim_at, leave, pair_of, row_of};
+use crate::values::{claim, claim_at, pair_of, row_of};
 use heap_pages::Heap;
 use marked_index::MarkedIndex;
 use records::{Change, Error, Geometry, Mark, Pair, Rid, Rows, SLOTS_PER_PAGE};
 use sorted_scan::Scan;
 use std::alloc::{Allocator, Global};
+use std::mem::forget;
 use std::process::Abort;
 use txn_table::TxnTable;
 
@@ -22,7 +23,7 @@ pub(crate) fn take_page<A: Allocator + Copy>(
     assert!(rt; heap.pages() == 1 && scan.wants_page() == Some(0));
     let pairs = heap.page_pairs(0)?;
     let taken = scan.take_page(0, &pairs);
-    leave(pairs);
+    forget(pairs);
     taken
 }
 
@@ -48,7 +49,7 @@ fn scan_all<A: Allocator + Copy>(rt: &impl Abort, memory: A, heap: &Heap<A>) -> 
     let mut scan = Scan::new(memory, None, 1);
     let taken = take_page(rt, heap, &mut scan);
     let pairs = handed_out(&mut scan);
-    leave(scan);
+    forget(scan);
     claim(
         rt,
         taken.is_err() || pairs == SLOTS_PER_PAGE,
@@ -70,7 +71,7 @@ fn fill_and_scan<A: Allocator + Copy>(
 fn scan_page<A: Allocator + Copy>(rt: &impl Abort, memory: A) -> Result<(), Error> {
     let mut heap = Heap::new(memory, 1)?;
     let scanned = fill_and_scan(rt, memory, &mut heap);
-    leave(heap);
+    forget(heap);
     scanned
 }
 
@@ -96,7 +97,7 @@ fn change_rows<A: Allocator + Copy>(memory: A) -> Result<(), Error> {
     let new = row_of(0)?;
     let mut table = TxnTable::new(memory);
     let changed = change_in(&mut table, &Rows::Inserted { new });
-    leave(table);
+    forget(table);
     changed
 }
 
@@ -139,7 +140,7 @@ fn shown_of<A: Allocator + Copy>(
 ) -> Result<usize, Error> {
     let shown = index.shown_of(memory, pair.key)?;
     let places = shown.len();
-    leave(shown);
+    forget(shown);
     Ok(places)
 }
 
@@ -166,7 +167,7 @@ fn add_entries<A: Allocator + Copy>(rt: &impl Abort, memory: A) -> Result<(), Er
     let geometry = Geometry::new(1, 256, 4)?;
     let mut index = MarkedIndex::new(memory, geometry);
     let added = add_to(rt, memory, &mut index);
-    leave(index);
+    forget(index);
     added
 }
 

@@ -4,7 +4,7 @@ ghost use Rattle.std.specs.Prelude.{◌≡◌};
 use crate::jobs::{Job, do_job};
 use crate::memory_tests::take_page;
 use crate::tree_tests::{found, put, put_quietly, take};
-use crate::values::{Memory, RID, claim, claim_at, leave, pair_of, row_of};
+use crate::values::{Memory, RID, claim, claim_at, pair_of, row_of};
 use board::{Board, BuildView, FlushView, View};
 use btree_node::BTree;
 use heap_pages::{Heap, HeapPage};
@@ -14,6 +14,7 @@ use records::{Change, Error, Geometry, Mark, Pair, Rid, Row, Rows, Txn};
 use sector_device::{Device, MemDisk, SECTOR_SIZE};
 use sorted_scan::Scan;
 use std::alloc::{Allocator, Global};
+use std::mem::forget;
 use std::process::Abort;
 use txn_table::TxnTable;
 
@@ -32,7 +33,7 @@ fn use_page(rt: &impl Abort, row: Option<Row>) {
     let mut page = HeapPage::new();
     set_slot(&mut page, row);
     claim(rt, row_in_slot(&page) == row, "a row of a page");
-    leave(page);
+    forget(page);
 }
 
 pub(crate) fn set_row<A: Allocator + Copy>(
@@ -66,7 +67,7 @@ fn use_heap<A: Allocator + Copy>(
     use_page(rt, Some(*row));
     set_and_get(rt, &mut heap, Some(*row));
     set_and_get(rt, &mut heap, None);
-    leave(heap);
+    forget(heap);
     Ok(())
 }
 
@@ -121,7 +122,7 @@ fn split_and_join<A: Allocator + Copy>(
 fn use_tree<A: Allocator + Copy>(rt: &impl Abort, memory: &Memory, within: A) -> Result<(), Error> {
     let mut tree = BTree::new(within);
     let used = split_and_join(rt, memory, &mut tree);
-    leave(tree);
+    forget(tree);
     used
 }
 
@@ -187,7 +188,7 @@ fn use_index<A: Allocator + Copy>(
     let geometry = Geometry::new(1, 64, 4)?;
     let mut index = MarkedIndex::new(within, geometry);
     let used = mark_quietly(rt, memory, &mut index, pair);
-    leave(index);
+    forget(index);
     used
 }
 
@@ -242,7 +243,7 @@ fn use_table<A: Allocator + Copy>(
     };
     let mut table = TxnTable::new(within);
     let used = change_and_undo(rt, memory, &mut table, change);
-    leave(table);
+    forget(table);
     used
 }
 
@@ -271,7 +272,7 @@ fn scan_row<A: Allocator + Copy>(
     let mut heap = Heap::new(within, 1)?;
     set_row(rt, &mut heap, RID, Some(row));
     let taken = take_page(rt, &heap, scan);
-    leave(heap);
+    forget(heap);
     taken
 }
 
@@ -286,7 +287,7 @@ fn use_scan<A: Allocator + Copy>(
     let scanned = scan_row(rt, within, &mut scan, row);
     memory.refuse_after(0);
     let is_handed = hands_out(&mut scan, pair);
-    leave(scan);
+    forget(scan);
     claim(rt, scanned.is_err() || is_handed, "the pair");
     scanned
 }
@@ -347,7 +348,7 @@ fn use_core<A: Allocator + Copy>(
 ) -> Result<(), Error> {
     let mut core = new_core(within)?;
     let used = insert_quietly(rt, memory, &mut core, row);
-    leave(core);
+    forget(core);
     used
 }
 
@@ -379,7 +380,7 @@ fn use_disk<A: Allocator + Copy>(rt: &impl Abort, memory: &Memory, within: A) ->
     let mut disk = MemDisk::new(within, 3, 8)?;
     memory.refuse_after(0);
     use_sectors(rt, &mut disk);
-    leave(disk);
+    forget(disk);
     Ok(())
 }
 
@@ -413,7 +414,7 @@ fn use_board<A: Allocator>(rt: &impl Abort, memory: &Memory, within: A) -> Resul
     memory.refuse_after(0);
     let mut flush = flush.begin();
     use_views(rt, &board, &mut flush, &mut build, &mut view);
-    leave(board);
+    forget(board);
     Ok(())
 }
 
@@ -463,7 +464,7 @@ pub(crate) fn begin_without<A: Allocator + Copy>(memory: &Memory, within: A) -> 
     let mut table = TxnTable::new(within);
     memory.refuse_after(0);
     let begun = table.begin();
-    leave(table);
+    forget(table);
     begun.and(Ok(()))
 }
 

@@ -1,15 +1,16 @@
 // The tree of the entries: how high it is, and what a refused plan leaves.
 use crate::jobs::{Job, do_job};
-use crate::values::{Memory, claim, claim_at, leave, pair_of};
+use crate::values::{Memory, claim, claim_at, pair_of};
 use btree_node::{BTree, ENTRIES_MAX};
 use records::{Error, Mark, Pair};
 use std::alloc::{AllocError, Allocator, Global};
+use std::mem::forget;
 use std::process::Abort;
 
 // Plans the insertion of a pair.
 fn plan<A: Allocator + Copy>(rt: &impl Abort, tree: &BTree<A>, pair: &Pair) -> Result<(), Error> {
     assert!(rt; tree.len() < ENTRIES_MAX);
-    leave(tree.plan_insert(pair)?);
+    forget(tree.plan_insert(pair)?);
     Ok(())
 }
 
@@ -116,7 +117,7 @@ pub(crate) fn grow_and_shrink<A: Allocator + Copy>(
 ) -> Result<(), Error> {
     let mut tree = BTree::new(memory);
     let done = grow_and_shrink_in(rt, &mut tree);
-    leave(tree);
+    forget(tree);
     done
 }
 
@@ -165,7 +166,7 @@ pub(crate) fn fill<A: Allocator + Copy>(
 ) -> Result<(), Error> {
     let mut tree = BTree::new(memory);
     let filled = fill_tree(rt, &mut tree, highest);
-    leave(tree);
+    forget(tree);
     filled
 }
 
@@ -304,8 +305,8 @@ pub(crate) fn refuse_and_put<A: Allocator + Copy>(
     let mut tree = BTree::new(within);
     let mut numbers = Vec::new(alloc);
     let put = refuse_and_check(rt, memory, &mut tree, &mut numbers);
-    leave(tree);
-    leave(numbers);
+    forget(tree);
+    forget(numbers);
     put
 }
 

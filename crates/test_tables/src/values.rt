@@ -1,7 +1,6 @@
 // Values for the tests.
 use records::{Body, Error, Key, Pair, Rid, Row};
 use std::alloc::Global;
-use std::mem::ManuallyDrop;
 use std::process::Abort;
 use test_memory::Refusing;
 
@@ -35,10 +34,4 @@ pub(crate) fn claim(rt: &impl Abort, holds: bool, what: &str) {
 /// The same, with a number.
 pub(crate) fn claim_at(rt: &impl Abort, holds: bool, what: &str, number: u32) {
     assert!(rt; holds, "{what} {number}");
-}
-
-/// Leaves a value as it is, for good. That is no more than to lose its memory, and a test has enough of it; to prove
-/// its destructor would cost more than the test.
-pub(crate) fn leave<T>(value: T) {
-    let _left = unsafe { ManuallyDrop::new_unchecked(value) };
 }

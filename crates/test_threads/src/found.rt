@@ -1,10 +1,10 @@
 //! Stores on disks in memory, and what is found behind a crash.
-use crate::claims::leave;
 use nsf_core::Core;
 use records::{Error, Geometry, LARGE_ENTRIES_MAX, Mark};
 use restart::restart;
 use sector_device::{Fate, FaultDisk, MemDisk, Which};
 use std::alloc::Global;
+use std::mem::forget;
 use threads_lifetime::format_store;
 
 /// A disk in memory that may fail.
@@ -20,7 +20,7 @@ pub fn formatted(
     match format_store(&mut disk, geometry) {
         Ok(()) => Ok(disk),
         Err(error) => {
-            leave(disk);
+            forget(disk);
             Err(error)
         }
     }
@@ -57,11 +57,11 @@ pub fn marked_behind_crash(alloc: Global, mut disk: MemDisk<Global>) -> Result<u
     match restart(alloc, disk) {
         Ok(engine) => {
             let marked = count_marked(engine.core());
-            leave(engine);
+            forget(engine);
             Ok(marked)
         }
         Err((error, device)) => {
-            leave(device);
+            forget(device);
             Err(error)
         }
     }

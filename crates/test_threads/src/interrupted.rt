@@ -5,7 +5,6 @@ ghost use Rattle.shared.specs.Seats.{AreNewSeats};
 use crate::at_seat::{Numbered, let_play};
 use crate::calls::Calls;
 use crate::chairs::Player;
-use crate::claims::leave;
 use crate::keyed::set_up;
 use crate::soloist::take_last;
 use crate::store::{open, start};
@@ -15,6 +14,7 @@ use shared::{BuildPart, Group, Kept, Seat, Shared};
 use std::alloc::Global;
 use std::cell::Cell;
 use std::marker::Brand;
+use std::mem::forget;
 use std::sync::Wait;
 use threads_lifetime::OpenStore;
 use threads_loops::{Gate, Point, build_loop};
@@ -52,6 +52,7 @@ fn index<B: Group, R: Wait>(
 }
 
 // A seat that drops the index as the builder first has scanned a page. Whether it was dropped.
+#[derive(Drop)]
 struct Dropping<'a, B: Group, R> {
     rt: &'a R,
     shared: &'a Shared<B>,
@@ -86,7 +87,7 @@ fn build_held<B: Group, R: Wait>(
     };
     let refused = build_loop(rt, shared, part, &gate).err();
     let dropped = gate.dropped.get();
-    leave(gate);
+    forget(gate);
     (refused, dropped)
 }
 
@@ -115,12 +116,12 @@ fn build_in<B: Group, D: Device + Drop, R: Wait>(rt: &R, store: OpenStore<D>) ->
     match start::<B, D, Global>(store) {
         Ok((shared, mut parts)) => {
             let built = build_with(rt, &shared, &mut parts.seats, &mut parts.build);
-            leave(parts);
-            leave(shared);
+            forget(parts);
+            forget(shared);
             Ok(built)
         }
         Err((error, device)) => {
-            leave(device);
+            forget(device);
             Err(error)
         }
     }
@@ -136,7 +137,7 @@ pub(crate) fn build_interrupted<D: Device + Drop, R: Wait>(
     match open(alloc, device, 1) {
         Ok(store) => build_in::<Brand, D, R>(rt, store),
         Err((error, device)) => {
-            leave(device);
+            forget(device);
             Err(error)
         }
     }

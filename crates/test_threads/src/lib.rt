@@ -6,7 +6,8 @@
 //! no step of the core take no memory. Proved of them is safety.
 //!
 //! The calls of a seat are a trait that promises nothing (`calls`), which what plays is generic over; each heavy call
-//! is made once (`at_seat`). A seat stays beside its number, which is looked at again in the end (`Numbered`).
+//! is made once (`at_seat`). A seat stays beside its number, which is looked at again in the end (`Numbered`). What a
+//! test ends with is mostly left (`forget`): to prove that it is let go costs more than the test.
 #![tactic(auto)]
 
 #[cfg(test)]

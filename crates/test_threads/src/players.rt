@@ -4,7 +4,6 @@ ghost use Rattle.shared.specs.Seats.{AreNewSeats};
 
 use crate::at_seat::let_play;
 use crate::chairs::{Chair, Player, THREADS_MAX, chairs_of};
-use crate::claims::leave;
 use crate::runs::{Ran, run};
 use crate::store::{give_up, start};
 use records::Error;
@@ -12,6 +11,7 @@ use sector_device::Device;
 use shared::{Group, Kept, LoopParts, Shared};
 use std::alloc::Global;
 use std::marker::Brand;
+use std::mem::forget;
 use std::sync::Wait;
 use std::thread::{Threads, for_each_mut};
 use threads_lifetime::{OpenStore, Parts};
@@ -93,7 +93,7 @@ fn end<B: Group, P: Drop, D: Device>(
         loops,
         flushed,
     } = ran;
-    leave(clients);
+    forget(clients);
     let device = give_up(shared, loops);
     Left {
         flusher: flushed.err(),
@@ -121,8 +121,8 @@ fn play_with<
     match play_parts(rt, alloc, &shared, parts, players, gate) {
         Ok(ran) => Ok(end(shared, ran)),
         Err(loops) => {
-            leave(shared);
-            leave(loops);
+            forget(shared);
+            forget(loops);
             Err(Error::NoMemory)
         }
     }
@@ -141,8 +141,8 @@ fn play_in<
     match start::<B, D, Global>(store) {
         Ok((shared, parts)) => play_with(rt, alloc, shared, parts, players, gate),
         Err((error, device)) => {
-            leave(device);
-            leave(players);
+            forget(device);
+            forget(players);
             Err(error)
         }
     }

@@ -1,5 +1,5 @@
 //! The program `nsf-threads`: what it prints, and its status; and what it tells of a device that fails.
-use crate::claims::{claim, claim_at, leave};
+use crate::claims::{claim, claim_at};
 use crate::found::{Disk, failing};
 use crate::help::HELP;
 use program_demonstration::{
@@ -10,6 +10,7 @@ use sector_device::Device;
 use std::alloc::{AllocError, Global};
 use std::fs::File;
 use std::io::{ErrorKind, Write};
+use std::mem::forget;
 use std::process::Abort;
 use std::rt::{Clock, Files};
 use std::sync::Wait;
@@ -285,11 +286,11 @@ fn worked<R: Threads + Wait + Clock + Sync>(
     match work_on(device, 4, team) {
         Ok(worked) => {
             let told = (worked.refusals, worked.acknowledged.len());
-            leave(worked);
+            forget(worked);
             Some(told)
         }
         Err((_, device)) => {
-            leave(device);
+            forget(device);
             None
         }
     }

@@ -1,12 +1,13 @@
 // Memory is refused to a store and its seat, each allocation in turn. What was refused is asked once more, and each
 // answer is as where nothing is refused.
-use crate::claims::{claim, claim_at, leave};
+use crate::claims::{claim, claim_at};
 use crate::found::formatted;
 use crate::play::Turn;
 use crate::requests::{Answer, Kind, Request};
 use crate::soloist::{Played, play};
 use records::{Error, Geometry};
 use std::alloc::Global;
+use std::mem::forget;
 use std::process::Abort;
 use std::sync::Wait;
 use test_memory::Refusing;
@@ -111,7 +112,7 @@ fn play_short<R: Wait>(
     let memory = Refusing::new(alloc, before);
     let played = play_on(rt, alloc, &memory, Turn::Asks(steps));
     let refused = memory.refused();
-    leave(memory);
+    forget(memory);
     (matches!(played, Ok(Played { right: true, .. })), refused)
 }
 
@@ -134,7 +135,7 @@ fn look_behind<R: Wait>(rt: &R, alloc: Global) -> bool {
     let memory = Refusing::new(alloc, u64::MAX);
     let played = play_on(rt, alloc, &memory, Turn::Looks);
     let refused = memory.refused();
-    leave(memory);
+    forget(memory);
     refused > 2
         && matches!(
             played,

@@ -1,5 +1,4 @@
 //! Four writers beside the loops, to the end of all threads.
-use crate::claims::leave;
 use crate::found::{marked_behind_crash, with_pages};
 use crate::players::{Left, play_beside};
 use crate::seats::{WRITERS, Writer, writers_on};
@@ -8,6 +7,7 @@ use crate::store::open;
 use records::Error;
 use sector_device::Device;
 use std::alloc::Global;
+use std::mem::forget;
 use std::rt::Clock;
 use std::sync::Wait;
 use std::thread::Threads;
@@ -23,8 +23,8 @@ fn play_on<'a, D: Device + Send + Drop, R: Threads + Wait + Clock + Sync>(
     match open(alloc, device, usize::from(WRITERS)) {
         Ok(store) => play_beside(rt, alloc, store, writers, stage),
         Err((error, device)) => {
-            leave(writers);
-            leave(device);
+            forget(writers);
+            forget(device);
             Err(error)
         }
     }

@@ -6,7 +6,6 @@ ghost use Rattle.shared.specs.Seats.{AreNewSeats};
 use crate::at_seat::{Numbered, let_play};
 use crate::calls::Calls;
 use crate::chairs::Player;
-use crate::claims::leave;
 use crate::looks::QueueEnd;
 use crate::play::{Solo, Turn};
 use crate::store::{open, start, take_back};
@@ -15,6 +14,7 @@ use sector_device::Device;
 use shared::{Group, Kept, Memory, Seat, Shared};
 use std::alloc::Global;
 use std::marker::Brand;
+use std::mem::forget;
 use std::sync::Wait;
 use test_memory::Refusing;
 use threads_flusher::FlushPart;
@@ -105,13 +105,13 @@ fn put_back<B: Group, A: Memory>(
     ensures { OnOk result (AreAllSeats (length seats.old.items + 1) seats.new.items) }
 {
     if at.number != seats.len() {
-        leave(at);
+        forget(at);
         return Err(Error::Stopped);
     }
     match seats.push(at.seat) {
         Ok(()) => Ok(()),
         Err(failed) => {
-            leave(failed);
+            forget(failed);
             Err(Error::NoMemory)
         }
     }
@@ -148,8 +148,8 @@ fn play_with<B: Group, D: Device + Drop, A: Memory, R: Wait>(
     match play_at_last(rt, &shared, &mut parts.seats, &mut parts.flush, solo) {
         Ok(()) => Ok(take_back(rt, alloc, shared, parts)),
         Err(error) => {
-            leave(parts);
-            leave(shared);
+            forget(parts);
+            forget(shared);
             Err((error, None))
         }
     }

@@ -3,10 +3,10 @@ ghost use Rattle.std.specs.Prelude.{◌≡◌, IfOk};
 ghost use Rattle.threads_lifetime.specs.Gathered.{AreAllSeats};
 ghost use Rattle.shared.specs.Seats.{AreNewSeats};
 
-use crate::claims::leave;
 use records::Error;
 use sector_device::Device;
 use shared::{Group, Kept, LoopParts, Memory, Shared};
+use std::mem::forget;
 use std::sync::Wait;
 use threads_lifetime::{OpenError, OpenStore, Parts, finish, let_go, open_store};
 
@@ -58,7 +58,7 @@ pub(crate) fn give_up<B: Group, D: Device, A: Memory>(
         build,
         clean,
     } = loops;
-    leave(build);
-    leave(clean);
+    forget(build);
+    forget(clean);
     let_go(shared, flush)
 }
