@@ -5,7 +5,7 @@
 //!
 //! Proved of them is safety. Each allocation is refused in turn. The calls that take no memory are made where the next
 //! allocation would be refused, and counted. What a test ends with is mostly left (`forget`): to prove that it is let
-//! go costs more than the test.
+//! go costs more than the test. A page, a heap and a board are let go of where memory would be refused.
 #![tactic(auto)]
 
 #[cfg(test)]

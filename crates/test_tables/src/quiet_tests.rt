@@ -1,12 +1,13 @@
-// The calls that take no memory. Each is made where the next allocation would be refused, and counted.
+// The calls that take no memory. Each is made where the next allocation would be refused, and counted. A page, a heap
+// and a board are let go of there too.
 ghost use Rattle.std.specs.Prelude.{◌≡◌};
 
 use crate::jobs::{Job, do_job};
 use crate::memory_tests::take_page;
-use crate::tree_tests::{found, put, put_quietly, take};
+use crate::tree_tests::{found, put, put_in_leaf, put_quietly, take};
 use crate::values::{Memory, RID, claim, claim_at, pair_of, row_of};
 use board::{Board, BuildView, FlushView, View};
-use btree_node::BTree;
+use btree_node::{BTree, InLeaf};
 use heap_pages::{Heap, HeapPage};
 use marked_index::MarkedIndex;
 use nsf_core::{Core, Owed};
@@ -33,7 +34,7 @@ fn use_page(rt: &impl Abort, row: Option<Row>) {
     let mut page = HeapPage::new();
     set_slot(&mut page, row);
     claim(rt, row_in_slot(&page) == row, "a row of a page");
-    forget(page);
+    drop(page);
 }
 
 pub(crate) fn set_row<A: Allocator + Copy>(
@@ -67,7 +68,7 @@ fn use_heap<A: Allocator + Copy>(
     use_page(rt, Some(*row));
     set_and_get(rt, &mut heap, Some(*row));
     set_and_get(rt, &mut heap, None);
-    forget(heap);
+    drop(heap);
     Ok(())
 }
 
@@ -106,7 +107,29 @@ fn fill_leaf<A: Allocator + Copy>(rt: &impl Abort, tree: &mut BTree<A>) -> Resul
     Ok(())
 }
 
-// The pair that is put last splits a leaf, and with it the tree gets a root. Its removal makes them one leaf again.
+// A full leaf has no room for a pair. Where another one was taken out it is put in, and is found there then.
+fn fill_again<A: Allocator + Copy>(
+    rt: &impl Abort,
+    tree: &mut BTree<A>,
+    pair: &Pair,
+    other: &Pair,
+) {
+    let full = put_in_leaf(rt, tree, pair, Mark::Live);
+    claim(rt, full == InLeaf::NoRoom, "a full leaf");
+    take(rt, tree, other);
+    let with_room = put_in_leaf(rt, tree, pair, Mark::Live);
+    claim(rt, with_room == InLeaf::Added, "a leaf with room");
+    let held = put_in_leaf(rt, tree, pair, Mark::Marked);
+    claim(
+        rt,
+        held == InLeaf::Found(Mark::Live),
+        "a pair that is there",
+    );
+    claim(rt, tree.len() == 32, "32 pairs again");
+}
+
+// The pair that is put last splits a leaf, and with it the tree gets a root. Its removal makes them one leaf again,
+// which is full.
 fn split_and_join<A: Allocator + Copy>(
     rt: &impl Abort,
     memory: &Memory,
@@ -116,6 +139,7 @@ fn split_and_join<A: Allocator + Copy>(
     fill_leaf(rt, tree)?;
     put_quietly(rt, tree, &pair, memory)?;
     join(rt, tree, &pair, &before);
+    fill_again(rt, tree, &pair, &before);
     Ok(())
 }
 
@@ -414,7 +438,7 @@ fn use_board<A: Allocator>(rt: &impl Abort, memory: &Memory, within: A) -> Resul
     memory.refuse_after(0);
     let mut flush = flush.begin();
     use_views(rt, &board, &mut flush, &mut build, &mut view);
-    forget(board);
+    drop(board);
     Ok(())
 }
 

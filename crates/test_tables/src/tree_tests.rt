@@ -1,7 +1,7 @@
 // The tree of the entries: how high it is, and what a refused plan leaves.
 use crate::jobs::{Job, do_job};
 use crate::values::{Memory, claim, claim_at, pair_of};
-use btree_node::{BTree, ENTRIES_MAX};
+use btree_node::{BTree, ENTRIES_MAX, InLeaf};
 use records::{Error, Mark, Pair};
 use std::alloc::{AllocError, Allocator, Global};
 use std::mem::forget;
@@ -52,6 +52,17 @@ pub(crate) fn put<A: Allocator + Copy>(
 ) -> Result<(), Error> {
     let pair = pair_of(number)?;
     put_pair(rt, tree, &pair)
+}
+
+/// Puts a pair into its leaf, if that has room and no entry of it.
+pub(crate) fn put_in_leaf<A: Allocator + Copy>(
+    rt: &impl Abort,
+    tree: &mut BTree<A>,
+    pair: &Pair,
+    mark: Mark,
+) -> InLeaf {
+    assert!(rt; tree.len() < ENTRIES_MAX);
+    tree.put_in_leaf(pair, mark)
 }
 
 /// Takes a pair out that is present.
