@@ -10,8 +10,8 @@ use Rattle.threads_sessions.specs.Values.{CommitValue, SessionValue, rows_of}
 use Rattle.shared.specs.Changed.{HasChanged, IsGoingBack}
 use Rattle.shared.specs.Seats.{AckValue, SeatValue}
 use Rattle.shared.specs.Waits.{HasReadWhy}
-use Rattle.program_team.specs.Kept.{told_ticket}
-use Rattle.program_team.specs.Private.{Adds, Commits, HasMade, HasTicket, KeepsCommits, Tells}
+use Rattle.program_team.specs.Kept.{HasTicket, told_ticket}
+use Rattle.program_team.specs.Private.{Adds, Commits, HasMade, KeepsCommits, Tells}
 use Rattle.program_team.specs.declared.writer.Acknowledged.{Acknowledged}
 
 -- ---- a seat

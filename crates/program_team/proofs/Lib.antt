@@ -1,3 +1,4 @@
 mod Keeping
+mod Leaving
 mod Orders
 mod Surviving

@@ -1,6 +1,6 @@
 -- What was acknowledged is in what a crash leaves.
 use Rattle.std.proofs.Common.{◌≡◌, ◌∙◌, ◌+◌, ◌++◌, ◌≤◌, ◌∷◌, [], zero, suc, ⊎_elim, ◌⊎◌, All, Bool, List, Some, ℕ, ap, arith, cond, false, filter, inl, inr}
-use Rattle.std.proofs.Common.{map, refl, subst, sym, true}
+use Rattle.std.proofs.Common.{map, refl, subst, sym, take, true}
 use Rattle.std.proofs.Math.Logic.{∥∥₁_map}
 use Rattle.std.proofs.lemmas.Bool.{le-leb}
 use Rattle.std.proofs.lemmas.List.Elements.{All-from_recursion, All-weaker, recursion_from_All}
@@ -8,17 +8,18 @@ use Rattle.std.specs.List.{AllByRecursion}
 use Rattle.std.specs.Prelude.{flat_map, nat_le, slice_get, ◌==◌}
 use Rattle.record_values.specs.GeometryValue.{GeometryValue}
 use Rattle.records.specs.RecordValue.{RecordValue}
+use Rattle.model.specs.Given.{given_after}
 use Rattle.core_model.specs.Histories.{Opened}
 use Rattle.core_parts.specs.declared.parts.Ticket.{Ticket}
 use Rattle.threads_register.specs.Register.{Commits, made_by}
 use Rattle.sector_device.specs.Disk.{CrashState}
 use Rattle.threads_sessions.specs.Values.{CommitValue, SessionValue}
 use Rattle.shared.specs.Seats.{AckValue, SeatValue}
-use Rattle.threads_lifetime.specs.Closing.{GivesSome}
+use Rattle.threads_lifetime.specs.Closing.{GivesSome, up_to}
 use Rattle.threads_lifetime.specs.Gathered.{sessions_of}
 use Rattle.program_team.proofs.Orders.{get_first, in_mapped}
-use Rattle.program_team.specs.Kept.{KeepsCommit, told_ticket}
-use Rattle.program_team.specs.Private.{AllTell, HasMade, HasTicket, Tells}
+use Rattle.program_team.specs.Kept.{HasTicket, KeepsTold, LeavesOpened, told_ticket}
+use Rattle.program_team.specs.Private.{AllTell, HasMade, Tells}
 use Rattle.program_team.specs.declared.writer.Acknowledged.{Acknowledged}
 
 head_is : {X : Type 0} {x y : X} {xs ys : List X} → x ∷ xs ≡ y ∷ ys → x ≡ y
@@ -93,8 +94,26 @@ pub record HasCommit (seats : List SeatValue) (floor : ℕ) (ticket : Ticket) : 
   pub is : commit.ticket ≡ ticket
   pub low : commit.ticket.«record» ≤ floor
 
+-- the table of what was opened with their commits set over it
+abbrev leaves_of : (o : Opened) (g : GeometryValue) (seats : List SeatValue) (popped : List RecordValue) (floor : ℕ) (image : CrashState)
+    → GivesSome o g seats popped floor image → LeavesOpened o image
+leaves_of o g seats popped floor image some = record {
+  geometry = g;
+  given = given_after o.given (take some.count (some.pushed ++ some.core.outbox));
+  gives = some.gives;
+  seats = seats;
+  core = some.core;
+  pushed = some.pushed;
+  shared = some.shared;
+  commits = some.commits;
+  gathered = some.all;
+  number = o.given.last + some.count;
+  table = some.table;
+}
+
 keeps_commit : (o : Opened) (g : GeometryValue) (seats : List SeatValue) (popped : List RecordValue) (floor : ℕ) (image : CrashState) (ticket : Ticket)
-    → HasCommit seats floor ticket → GivesSome o g seats popped floor image → KeepsCommit o image ticket
+    → HasCommit seats floor ticket → (some : GivesSome o g seats popped floor image)
+    → HasTicket (λ (c : CommitValue). c.ticket) (up_to (o.given.last + some.count) some.commits) ticket
 keeps_commit o g seats popped floor image ticket has some =
     let all = some.all.all in
     let c = has.commit in
@@ -103,24 +122,7 @@ keeps_commit o g seats popped floor image ticket has some =
     let of_seat : IsIn c (made_by has.seat all.commits) = subst (λ cs. IsIn c cs) (all.in_sessions has.seat has.session has.here) has.among in
     let of_all : IsIn c some.commits = subst (λ cs. IsIn c cs) (sym some.all.by_number) (made_in has.seat c all.commits of_seat) in
     let is = in_filter (λ (d : CommitValue). nat_le d.ticket.«record» number) c some.commits (le-leb _ _ low) of_all in
-    record {
-      geometry = g;
-      given = _;
-      gives = some.gives;
-      seats = seats;
-      core = some.core;
-      pushed = some.pushed;
-      shared = some.shared;
-      commits = some.commits;
-      gathered = some.all;
-      number = number;
-      table = some.table;
-      before = is.before;
-      commit = c;
-      after = is.after;
-      there = is.there;
-      is = has.is;
-    }
+    record { before = is.before; one = c; after = is.after; there = is.there; is = has.is }
 
 -- ---- all writers
 
@@ -196,14 +198,18 @@ pub all_kept : {W : Type 0} (seat : W → SeatValue) (acks : W → List AckValue
     → seats ≡ map seat writers ++ last ∷ [] → all_acks ≡ flat_map acks writers → all_told ≡ flat_map told writers
     → (o : Opened) (g : GeometryValue) (popped : List RecordValue) (floor : ℕ) (image : CrashState)
     → All (λ a. a.ticket.«record» ≤ floor) all_acks → AllTell seat acks told writers → ∥ GivesSome o g seats popped floor image ∥₁
-    → All (λ made. ∥ KeepsCommit o image (told_ticket made) ∥₁) all_told
+    → ∥ KeepsTold o image all_told ∥₁
 all_kept seat acks told writers last seats all_acks all_told seats_are acks_are told_are o g popped floor image low tell some =
     let lows = recursion_from_All (λ (a : AckValue). a.ticket.«record» ≤ floor) (flat_map acks writers)
     (subst (λ (list : List AckValue). All (λ a. a.ticket.«record» ≤ floor) list) acks_are low) in
     let have = subst (λ (ss : List SeatValue). AllByRecursion (λ (made : Acknowledged). HasCommit ss floor (told_ticket made)) (flat_map told writers))
     (sym seats_are) (all_commits seat acks told floor writers last lows tell) in
-    All-weaker (λ (made : Acknowledged). HasCommit seats floor (told_ticket made)) (λ (made : Acknowledged). ∥ KeepsCommit o image (told_ticket made) ∥₁)
-    (λ made has. ∥∥₁_map some (keeps_commit o g seats popped floor image (told_ticket made) has))
-    all_told
-    (All-from_recursion (λ (made : Acknowledged). HasCommit seats floor (told_ticket made)) all_told
-    (subst (λ (ts : List Acknowledged). AllByRecursion (λ (made : Acknowledged). HasCommit seats floor (told_ticket made)) ts) (sym told_are) have))
+    let each = All-from_recursion (λ (made : Acknowledged). HasCommit seats floor (told_ticket made)) all_told
+    (subst (λ (ts : List Acknowledged). AllByRecursion (λ (made : Acknowledged). HasCommit seats floor (told_ticket made)) ts) (sym told_are) have) in
+    ∥∥₁_map some (λ (gives : GivesSome o g seats popped floor image). record {
+      leaves = leaves_of o g seats popped floor image gives;
+      each = All-weaker (λ (made : Acknowledged). HasCommit seats floor (told_ticket made))
+          (λ (made : Acknowledged). HasTicket (λ (c : CommitValue). c.ticket) (up_to (o.given.last + gives.count) gives.commits) (told_ticket made))
+          (λ made has. keeps_commit o g seats popped floor image (told_ticket made) has gives)
+          all_told each;
+    })

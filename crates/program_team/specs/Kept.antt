@@ -20,10 +20,17 @@ use Rattle.program_team.specs.declared.writer.Acknowledged.{Acknowledged}
 abbrev pub told_ticket : Acknowledged → Ticket
 told_ticket made = record { «record» = made.«record»; commit = made.commit }
 
--- A store on a device with this content gives the table of what was opened with the commits of some seats set over it,
--- up to the number of a record, as a core has them that may lie under the lock with the sessions of these seats; and
--- that of this ticket is one of them.
-pub record KeepsCommit (o : Opened) (image : CrashState) (ticket : Ticket) : Type 0 where
+-- one of these has the ticket
+pub record HasTicket {X : Type 0} (ticket_of : X → Ticket) (xs : List X) (ticket : Ticket) : Type 0 where
+  pub before : List X
+  pub one : X
+  pub after : List X
+  pub there : xs ≡ before ++ one ∷ after
+  pub is : ticket_of one ≡ ticket
+
+-- A store on a device with this content gives the table of what was opened with commits set over it. They are those of
+-- some seats, up to the number of a record. A core has them that may lie under the lock with the seats' sessions.
+pub record LeavesOpened (o : Opened) (image : CrashState) : Type 0 where
   pub geometry : GeometryValue
   pub given : Given
   pub gives : Gives image geometry given
@@ -35,13 +42,13 @@ pub record KeepsCommit (o : Opened) (image : CrashState) (ticket : Ticket) : Typ
   pub gathered : AreCommitsOf seats commits
   pub number : ℕ
   pub table : given.table ≡ table_with o.given.table (up_to number commits)
-  pub before : List CommitValue
-  pub commit : CommitValue
-  pub after : List CommitValue
-  pub there : up_to number commits ≡ before ++ commit ∷ after
-  pub is : commit.ticket ≡ ticket
 
--- whatever a crash leaves of the device keeps the commit of each row that is told as acknowledged
+-- it does, and the commit of each row that is told as acknowledged is among those in the table
+pub record KeepsTold (o : Opened) (image : CrashState) (told : List Acknowledged) : Type 0 where
+  pub leaves : LeavesOpened o image
+  pub each : All (λ made. HasTicket (λ c. c.ticket) (up_to leaves.number leaves.commits) (told_ticket made)) told
+
+-- so it is of whatever a crash leaves of the device
 abbrev pub KeepsAll : {D : Type 0} → (D → DevicePast) → Opened → D → List Acknowledged → Type 0
 KeepsAll past_of o device told = (image : CrashState) → IsCrashState (past_of device).disk image
-    → All (λ made. ∥ KeepsCommit o image (told_ticket made) ∥₁) told
+    → ∥ KeepsTold o image told ∥₁

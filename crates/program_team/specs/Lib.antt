@@ -1,2 +1,3 @@
 pub mod Kept
 pub mod Private
+pub mod Refusals

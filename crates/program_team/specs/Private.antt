@@ -4,7 +4,7 @@ use Rattle.model.specs.declared.write.Write.{Write}
 use Rattle.core_parts.specs.declared.parts.Ticket.{Ticket}
 use Rattle.threads_sessions.specs.Values.{CommitValue}
 use Rattle.shared.specs.Seats.{AckValue, SeatValue}
-use Rattle.program_team.specs.Kept.{told_ticket}
+use Rattle.program_team.specs.Kept.{HasTicket, told_ticket}
 use Rattle.program_team.specs.declared.writer.Acknowledged.{Acknowledged}
 
 -- the seat has its number, and the commits that it had
@@ -22,14 +22,6 @@ Commits old new ticket =
 abbrev pub Adds : (old new : SeatValue) → Type 0
 Adds old new = (new.number ≡ old.number) × ((more : List CommitValue)
     × (new.session.commits ≡ old.session.commits ++ more))
-
--- one of these has the ticket
-pub record HasTicket {X : Type 0} (ticket_of : X → Ticket) (xs : List X) (ticket : Ticket) : Type 0 where
-  pub before : List X
-  pub one : X
-  pub after : List X
-  pub there : xs ≡ before ++ one ∷ after
-  pub is : ticket_of one ≡ ticket
 
 -- the seat has made the commit of this ticket
 abbrev pub HasMade : SeatValue → Ticket → Type 0

@@ -1,4 +1,7 @@
 //! Why the threads could not work on a store.
+ghost use Rattle.std.specs.Prelude.{◌≡◌};
+ghost use Rattle.program_team.specs.Refusals.{told_as};
+
 use records::Error;
 use threads_lifetime::OpenError;
 
@@ -12,7 +15,9 @@ pub enum NotOpened {
 }
 
 /// The same refusal.
-pub(crate) fn not_opened(error: OpenError) -> NotOpened {
+pub(crate) fn not_opened(error: OpenError) -> NotOpened
+    ensures { result ≡ told_as error }
+{
     match error {
         OpenError::Refused(error) => NotOpened::Refused(error),
         OpenError::Unsound => NotOpened::Unsound,

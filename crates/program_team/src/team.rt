@@ -1,6 +1,6 @@
 //! The threads of the program.
-ghost use Rattle.std.specs.Prelude.{◌≡◌, ◌≤◌, ◌<◌, ◌++◌, ◌∷◌, [], ℕ, All, IfOk, OnOk, Some, flat_map, map, slice_get};
-ghost use Rattle.std.specs.Prelude.{slice_index_or, vec_len};
+ghost use Rattle.std.specs.Prelude.{◌≡◌, ◌≤◌, ◌<◌, ◌+◌, ◌++◌, ◌∷◌, [], ℕ, All, IfErr, IfOk, OnOk, Some, flat_map, map};
+ghost use Rattle.std.specs.Prelude.{slice_get, slice_index_or, vec_len};
 ghost use Rattle.store_writer.specs.Parts.{halves_of, synced_of};
 ghost use Rattle.threads_flusher.specs.Part.{popped_by};
 ghost use Rattle.threads_lifetime.specs.Closing.{GivesSome};
@@ -8,9 +8,11 @@ ghost use Rattle.threads_lifetime.specs.Gathered.{AreAllSeats};
 ghost use Rattle.sector_device.specs.Disk.{CrashState, IsCrashState};
 ghost use Rattle.shared.specs.Seats.{AreNewSeats};
 ghost use Rattle.core_model.specs.Histories.{Opened};
-ghost use Rattle.threads_lifetime.specs.Openings.{Opens};
-ghost use Rattle.program_team.specs.Kept.{KeepsAll};
+ghost use Rattle.threads_lifetime.specs.Openings.{IsNotShared, Opens};
+ghost use Rattle.threads_lifetime.specs.declared.refusal.OpenError.{OpenError};
+ghost use Rattle.program_team.specs.Kept.{KeepsAll, LeavesOpened};
 ghost use Rattle.program_team.specs.Private.{AllTell, GoesOn};
+ghost use Rattle.program_team.specs.Refusals.{told_as};
 
 use crate::beginning::{Beginning, prepare};
 use crate::listener::Listener;
@@ -28,8 +30,9 @@ use std::mem::forget;
 use std::rt::Clock;
 use std::sync::Wait;
 use std::thread::{Threads, for_each_mut, join};
+use threads_flusher::FlushPart;
 use threads_leader::{BuilderEnd, Course, Desk, Ended, NoGate, NotRun, run_led};
-use threads_lifetime::{OpenStore, Parts, finish, let_go, open_store};
+use threads_lifetime::{OpenStore, Parts, finish, open_store};
 
 // No more writers than this run side by side.
 const THREADS_MAX: usize = 64;
@@ -292,16 +295,30 @@ fn gather<B: Group>(
     }
 }
 
+// The device, where nothing more is written to it. What was popped of the queue is compared with what was pushed to it:
+// then it is known whose records a crash leaves.
+fn give_back<B: Group, D: Device, R: Wait>(rt: &R, shared: Shared<B>, flush: FlushPart<B, D>) -> D
+    ensures { (image : CrashState) → IsCrashState (D.past_of result).disk image
+        → ∥ LeavesOpened B.site.opened image ∥₁ }
+{
+    let (mut locked, queue, registry, board) = shared.into_parts();
+    let (device, mut ends) = flush.into_parts();
+    locked.compare(rt, &queue, &mut ends);
+    drop((ends, locked, queue, registry, board));
+    device
+}
+
 // What is left where the threads could not begin, or where there was no memory for what they left, with what was
 // refused before.
-fn given_up<B: Group, D: Device>(
+fn given_up<B: Group, D: Device, R: Wait>(
+    rt: &R,
     alloc: Global,
     shared: Shared<B>,
     loops: LoopParts<B, D>,
     before: Refusals,
     error: Error,
 ) -> Worked<D>
-    ensures { (o : Opened) → KeepsAll D.past_of o result.device result.acknowledged.items }
+    ensures { KeepsAll D.past_of B.site.opened result.device result.acknowledged.items }
 {
     let LoopParts {
         flush,
@@ -310,7 +327,7 @@ fn given_up<B: Group, D: Device>(
     } = loops;
     drop(build);
     drop(clean);
-    let device = let_go(shared, flush);
+    let device = give_back(rt, shared, flush);
     let mut refusals = before;
     refusals.end = Some(error);
     Worked {
@@ -355,7 +372,7 @@ fn take_back<B: Group, D: Device + Drop, R: Wait>(
     ensures { KeepsAll D.past_of B.site.opened result.device result.acknowledged.items }
 {
     let Ok(gathered) = gather(alloc, writers, last) else {
-        return given_up(alloc, shared, loops, before, Error::NoMemory);
+        return given_up(rt, alloc, shared, loops, before, Error::NoMemory);
     };
     let Gathered {
         seats,
@@ -540,7 +557,7 @@ fn work_staffed<
         Ok(ended) => end(rt, alloc, shared, ended, last),
         Err(loops) => {
             drop(last);
-            given_up(alloc, shared, loops, Refusals::none(), Error::NoMemory)
+            given_up(rt, alloc, shared, loops, Refusals::none(), Error::NoMemory)
         }
     }
 }
@@ -556,13 +573,14 @@ fn work_together<
     requires seats { AreNewSeats B.site.board B.site.seats parts.seats.items }
     ensures { KeepsAll D.past_of B.site.opened result.device result.acknowledged.items }
 {
+    let rt = team.rt;
     let alloc = team.alloc;
     let (seats, loops) = parts.split();
-    match staff_of(team.rt, alloc, &shared, seats, team.beginning) {
+    match staff_of(rt, alloc, &shared, seats, team.beginning) {
         Ok(staff) => work_staffed(team, shared, staff, loops),
         Err(error) => {
             drop(team);
-            given_up(alloc, shared, loops, Refusals::none(), error)
+            given_up(rt, alloc, shared, loops, Refusals::none(), error)
         }
     }
 }
@@ -576,7 +594,8 @@ fn begin<
     E: Write + Send + Drop,
 >(store: OpenStore<D>, team: Team<'_, R, L, E>) -> Result<Worked<D>, (NotOpened, D)>
     requires names { store.site ≡ B.site }
-    ensures { IfOk result (λ worked. KeepsAll D.past_of B.site.opened worked.device worked.acknowledged.items) }
+    ensures kept { IfOk result (λ worked. KeepsAll D.past_of B.site.opened worked.device worked.acknowledged.items) }
+    ensures refused { IfErr result (λ r. (r.0 ≡ NotOpened.Refused Error.NoMemory) × (r.1 ≡ store.device)) }
 {
     match store.start::<B, Kept>() {
         Ok((shared, parts)) => Ok(work_together(team, shared, parts)),
@@ -590,7 +609,9 @@ fn begin<
 /// Opens the store on the device, with a seat for each writer and one more, lets the threads work, and takes back what
 /// they leave.
 ///
-/// Whatever was refused, the commit of each row that is told as acknowledged is kept by a crash of the device (`kept`).
+/// Whatever was refused, a crash of the device leaves the opened table with the commits of some seats set over it. The
+/// commit of each row that is told as acknowledged is among them (`kept`). Why nothing was opened is told as
+/// `open_store` tells it, of the device that is given back (`refused`).
 pub fn work_on<
     D: Device + Send + Drop,
     R: Threads + Wait + Clock + Sync,
@@ -599,6 +620,8 @@ pub fn work_on<
 >(device: D, writers: u8, team: Team<'_, R, L, E>) -> Result<Worked<D>, (NotOpened, D)>
     ensures kept { IfOk result (λ worked. (o : Opened) × Opens (D.past_of device).disk.content o
         × KeepsAll D.past_of o worked.device worked.acknowledged.items) }
+    ensures refused { IfErr result (λ r. (e : OpenError) × (r.0 ≡ told_as e)
+        × IsNotShared D.past_of D.failures device (writers + 1) r.1 e) }
 {
     let seats = usize::from(writers) + 1;
     match open_store(team.alloc, device, seats) {

@@ -1,8 +1,23 @@
-use Rattle.std.proofs.lemmas.Result.{IfOk-weaker}
+use Rattle.std.proofs.Common.{inl, inr, refl}
+use Rattle.std.proofs.lemmas.Result.{IfErr-weaker, IfOk-weaker}
+use Rattle.record_values.specs.declared.error.Error.TheVariants.{NoMemory}
+use Rattle.threads_lifetime.specs.declared.refusal.OpenError.TheVariants.{Refused}
+use Rattle.program_team.proofs.Leaving.{lacks_memory}
 use Rattle.program_team.proofs.team.work_on.Goals as goal
 
 pub returns-in-Ok : goal.returns-in-Ok
 returns-in-Ok g c = record {
   kept = IfOk-weaker c.begin.result _ _ (λ worked kept.
-      (c.in-Ok.store.site.opened, c.in-Ok.ensures.opened.opened, kept)) c.begin.ensures;
+      (c.in-Ok.store.site.opened, c.in-Ok.ensures.opened.opened, kept)) c.begin.ensures.kept;
+  refused = IfErr-weaker c.begin.result _ _ (λ r is. (
+    Refused NoMemory,
+    is.0,
+    inr (inl (refl, lacks_memory g.D.Device.past_of g.D.Device.failures c.args.device _ c.in-Ok.store r.1 c.in-Ok.ensures.opened is.1)),
+  )) c.begin.ensures.refused;
+}
+
+pub returns-in-Err : goal.returns-in-Err
+returns-in-Err g c = record {
+  kept = tt;
+  refused = (c.in-Err.error, c.not_opened.ensures, c.in-Err.ensures.refused);
 }

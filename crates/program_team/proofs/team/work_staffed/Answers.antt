@@ -10,6 +10,3 @@ pub end-requires-clause-told : goal.end-requires-clause-told
 end-requires-clause-told g c =
     all_tell (λ w. w.seat) (λ w. w.acks.items) (λ w. w.acknowledged.items) c.args.staff.writers c.in-Ok.ended.clients c.in-Ok.ensures.len
     c.requires.none (λ k w within. (c.in-Ok.ensures.wrote k w within).tells)
-
-pub returns-in-Err : goal.returns-in-Err
-returns-in-Err g c = c.given_up.ensures g.B.Group.site.opened
