@@ -5,9 +5,10 @@
 //! `store_moving` promises.
 //!
 //! `read_disk` tells what a disk's content says of its store: its size, the slots and records behind its last image,
-//! the number of its last record. `Refused` says why a file or a store was refused, to `nsf-store` and to
-//! `nsf-threads`: a refused file comes to what `refusal_of` says, and a failed device to a reason, or none
-//! (`IsBecause`; which one, no clause says). Where `refuse_damaged` is content, each sector fits (`whole`).
+//! the number of its last record. Else it tells what a reader refuses (`refused`). `Refused` says why a file or a store
+//! was refused, to `nsf-store` and to `nsf-threads`: a refused file comes to what `refusal_of` says, and a failed
+//! device to a reason, or none (`IsBecause`; which one, no clause says). Where `refuse_damaged` is content, each sector
+//! fits (`whole`).
 //!
 //! Only tested: what is said of a file that is no store, or is damaged; that a store of version 2 or 3 is copied as a
 //! whole, and that the use of a device is ended. The steps below have the promises of `program_commands`, `store_file`,

@@ -1,16 +1,18 @@
 //! Stores on disks are read, and the devices of files opened.
-ghost use Rattle.std.specs.Prelude.{◌≡◌, IfOk};
+ghost use Rattle.std.specs.Prelude.{◌≡◌, ◌≢◌, IfErr, IfOk, OnOk, false, true};
 ghost use Rattle.sector_device.specs.Disk.{IsSynced};
 ghost use Rattle.sector_device.specs.DevicePast.{OnlyReads};
 ghost use Rattle.block_file.specs.Disks.{disk_failures, disk_past};
+ghost use Rattle.block_file.specs.Good.{IsGood};
 ghost use Rattle.block_host.specs.FileBlocks as blocks;
-ghost use Rattle.block_host.specs.Kinds.{failures_by, past_by};
+ghost use Rattle.block_host.specs.Kinds.{IsInBlocks, IsInPlain, are_blocks, failures_by, past_by, show_blocks};
+ghost use Rattle.block_host.specs.Opened.{IsOpened, first_read};
 ghost use Rattle.store_file.specs.FileDisk as plain;
-ghost use Rattle.program_files.specs.Stored.{IsStored};
+ghost use Rattle.program_files.specs.Stored.{IsNotRead, IsStored};
 
 use crate::refused::Refused;
 use block_host::{OpenDevice, device_in, take_within};
-use records::{Geometry, Version};
+use records::{Error, Geometry, Version};
 use sector_device::Device;
 use std::alloc::Global;
 use std::fs::File;
@@ -30,9 +32,17 @@ pub struct Stored {
 }
 
 /// What the disk itself says (`stored`). It is only read (`reads`).
+///
+/// It is refused as `read_store` refuses it (`refused`). A log that was found is read, but for want of memory, or where
+/// the device fails. With any other error no call of the device has failed (`told`).
 pub fn read_disk<D: Device>(alloc: Global, disk: &mut D) -> Result<Stored, Refused>
     ensures stored { IfOk result (IsStored (D.past_of disk.old).disk.content) }
+    ensures refused { IfErr result
+        (IsNotRead (D.failures disk.old) (D.failures disk.new) (D.past_of disk.old).disk.content) }
     ensures reads { OnlyReads (D.past_of disk.old) (D.past_of disk.new) }
+    ensures quiet { OnOk result (D.failures disk.new ≡ D.failures disk.old) }
+    ensures told { IfErr result (λ told. told ≢ Refused.Store Error.DeviceFailed
+        → D.failures disk.new ≡ D.failures disk.old) }
 {
     let found = read_store(alloc, disk)?;
     let (mut log, restored) = (found.log, found.restored);
@@ -46,13 +56,18 @@ pub fn read_disk<D: Device>(alloc: Global, disk: &mut D) -> Result<Stored, Refus
     })
 }
 
-/// The device in the file, which is waited for so many seconds where another process has it open: all that it holds is
-/// safe, and no call of it has failed.
+/// The device in the file, which is waited for so many seconds where another process has it open. All that it holds is
+/// safe, and no call of it has failed. What the file is, and what of it is known, are as `device_in` says.
 pub fn open_within<R: Files<File = File> + Clock + AllocGlobal>(
     rt: &R,
     path: &str,
     seconds: u32,
 ) -> Result<OpenDevice<File, Global>, Refused>
+    ensures told { IfOk result (λ d. IsInPlain d (λ disk. are_blocks (plain.past_of disk).disk.content ≡ false)) }
+    ensures shown { IfOk result (λ d. IsInBlocks d (λ disk. show_blocks (first_read disk) ≡ true)) }
+    ensures opened { IfOk result (λ d. IsInBlocks d (λ disk. IsOpened disk)) }
+    ensures good { IfOk result (λ d. IsInBlocks d (λ disk. IsGood blocks.past_of disk)) }
+    ensures sound { IfOk result (λ d. IsInPlain d (λ disk. plain.has_failed_of disk ≡ false)) }
     ensures synced { IfOk result (λ d. IsSynced (past_by plain.past_of (disk_past blocks.past_of) d).disk) }
     ensures failures { IfOk result (λ d. failures_by plain.failures_of (disk_failures blocks.failures_of) d ≡ 0) }
 {

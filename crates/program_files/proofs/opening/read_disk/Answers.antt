@@ -1,11 +1,52 @@
-use Rattle.std.proofs.Common.{◌∙◌, ◌≡◌, List, ap, length, refl, rules, subst, sym, vec_len}
+use Rattle.std.proofs.Common.{◌∙◌, ◌≡◌, ◌⊎◌, ⊎_elim, Err, List, ap, inl, length, refl, rules, subst, sym, vec_len, ℕ}
+use Rattle.std.proofs.lemmas.Result.{err_from_is_err_and}
 use Rattle.records.specs.RecordValue.{RecordValue}
+use Rattle.record_values.specs.declared.error.Error.{Error}
+use Rattle.record_values.specs.declared.error.Error.TheVariants.{Damaged}
 use Rattle.record_values.specs.declared.version.Version.TheVariants.{Two}
 use Rattle.sector_device.specs.Disk.{CrashState, Disk}
-use Rattle.gate_log.specs.Area.{Area, HoldsGroupsIn, records_of}
-use Rattle.gate_log.proofs.Readings.{one_reading}
+use Rattle.gate_log.specs.Area.{Area, HoldsGroupsIn, IsFirstDamagedSlotIn, Refuses, records_of}
+use Rattle.gate_log.proofs.Readings.{not_damaged, one_reading}
 use Rattle.store_reader.specs.Restored.{given_in}
+use Rattle.program_files.specs.declared.refused.Refused.TheVariants.{Store}
 use Rattle.program_files.proofs.opening.read_disk.Goals as goal
+
+-- a log that was found is refused only for want of memory, or where the device failed
+not_read : (area : Area) (old mid : CrashState) (groups : List (List RecordValue)) (before between now : ℕ) (e : Error) → mid ≡ old → between ≡ before
+    → HoldsGroupsIn Two area old groups
+    → Refuses between now e ⊎ ((sector : ℕ) × (e ≡ Damaged sector) × IsFirstDamagedSlotIn Two area mid sector) → Refuses before now e
+not_read area old mid groups before between now e content quiet held why = ⊎_elim
+    (λ refuses. subst (λ (n : ℕ). Refuses n now e) quiet refuses)
+    (λ harmed. absurd (not_damaged Two area mid harmed.0 groups harmed.2
+    (subst (λ (image : CrashState). HoldsGroupsIn Two area image groups) (sym content) held)))
+    why
+
+pub returns-in_err-found-clause-refused : goal.returns-in_err-found-clause-refused
+returns-in_err-found-clause-refused g c =
+    let p = err_from_is_err_and c.from_residual.result c.from_residual.ensures.1 in
+    rw (p.1 ∙ ap Err p.2) (_, refl, c.in_err-found.ensures.refused)
+
+pub returns-in_err-found-clause-told : goal.returns-in_err-found-clause-told
+returns-in_err-found-clause-told g c =
+    let p = err_from_is_err_and c.from_residual.result c.from_residual.ensures.1 in
+    rw (p.1 ∙ ap Err p.2) (λ other. c.in_err-found.ensures.told (λ same. other (ap Store same)))
+
+pub returns-in_err-records-clause-refused : goal.returns-in_err-records-clause-refused
+returns-in_err-records-clause-refused g c =
+    let p = err_from_is_err_and c.from_residual.result c.from_residual.ensures.1 in
+    let found = c.in_ok-found.ensures.found in
+    let content = ap (λ (d : Disk). d.content) c.read_store.ensures.reads.disk in
+    rw (p.1 ∙ ap Err p.2) (
+      _,
+      refl,
+      inl (not_read c.in_ok-found.found.log.area _ _ found.gives.holds.groups _ _ _ _ content
+          c.in_ok-found.ensures.quiet found.stands.held c.in_err-records.ensures.refused),
+    )
+
+pub returns-in_err-records-clause-told : goal.returns-in_err-records-clause-told
+returns-in_err-records-clause-told g c =
+    let p = err_from_is_err_and c.from_residual.result c.from_residual.ensures.1 in
+    rw (p.1 ∙ ap Err p.2) (λ other. c.in_err-records.ensures.told (λ same. other (ap Store same)) ∙ c.in_ok-found.ensures.quiet)
 
 pub returns-clause-stored : goal.returns-clause-stored
 returns-clause-stored g c =
