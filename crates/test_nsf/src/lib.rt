@@ -1,5 +1,5 @@
-//! Examples of README and of `nsf`, run: one thread makes a store, and many go on with it, also such as write what they
-//! wait for. And tests of the crate `headline`, over disks in memory.
+//! Examples of README and of `nsf`, run: one thread makes a store, and many go on with it. Some write what they
+//! wait for, and look at both ends of the index. And tests of the crate `headline`, over disks in memory.
 //!
 //! Four days and a build; and a day that is stopped at each moment of each of its requests, and of its opening, over a
 //! disk that loses what was done later. That is done once more where a call of the device fails, and where an
