@@ -1,6 +1,7 @@
-use Rattle.std.proofs.Common.{inl, inr, refl}
+use Rattle.std.proofs.Common.{◌+◌, inl, inr, refl, subst, ℕ}
 use Rattle.std.proofs.lemmas.Result.{IfErr-weaker, IfOk-weaker}
 use Rattle.record_values.specs.declared.error.Error.TheVariants.{NoMemory}
+use Rattle.threads_lifetime.specs.Openings.{IsNotShared}
 use Rattle.threads_lifetime.specs.declared.refusal.OpenError.TheVariants.{Refused}
 use Rattle.program_team.proofs.Leaving.{lacks_memory}
 use Rattle.program_team.proofs.team.work_on.Goals as goal
@@ -19,5 +20,10 @@ returns-in-Ok g c = record {
 pub returns-in-Err : goal.returns-in-Err
 returns-in-Err g c = record {
   kept = tt;
-  refused = (c.in-Err.error, c.not_opened.ensures, c.in-Err.ensures.refused);
+  refused = (
+    c.in-Err.error,
+    c.not_opened.ensures,
+    subst (λ (n : ℕ). IsNotShared g.D.Device.past_of g.D.Device.failures c.args.device (n + 1) c.in-Err.device c.in-Err.error) c.from-seats.ensures
+        c.in-Err.ensures.refused,
+  );
 }
