@@ -33,7 +33,7 @@ returns-in_err-found-clause-told g c =
 
 pub returns-in_err-records-clause-refused : goal.returns-in_err-records-clause-refused
 returns-in_err-records-clause-refused g c =
-    let p = err_from_is_err_and c.from_residual.result c.from_residual.ensures.1 in
+    let p = err_from_is_err_and c.from_residual-in_err-records.result c.from_residual-in_err-records.ensures.1 in
     let found = c.in_ok-found.ensures.found in
     let content = ap (λ (d : Disk). d.content) c.read_store.ensures.reads.disk in
     rw (p.1 ∙ ap Err p.2) (
@@ -45,7 +45,7 @@ returns-in_err-records-clause-refused g c =
 
 pub returns-in_err-records-clause-told : goal.returns-in_err-records-clause-told
 returns-in_err-records-clause-told g c =
-    let p = err_from_is_err_and c.from_residual.result c.from_residual.ensures.1 in
+    let p = err_from_is_err_and c.from_residual-in_err-records.result c.from_residual-in_err-records.ensures.1 in
     rw (p.1 ∙ ap Err p.2) (λ other. c.in_err-records.ensures.told (λ same. other (ap Store same)) ∙ c.in_ok-found.ensures.quiet)
 
 pub returns-clause-stored : goal.returns-clause-stored
