@@ -81,7 +81,7 @@ fn above<A: Allocator + Copy>(tree: &BTree<A>, pair: &Pair) -> Option<(Pair, Mar
     tree.above(Some(pair))
 }
 
-// The last pair of a tree of two levels, and the one before: it is found, marked and taken out, and one leaf is left.
+// The last pair of a tree of two levels, and the one before: it is found, marked and taken out.
 fn join<A: Allocator + Copy>(rt: &impl Abort, tree: &mut BTree<A>, pair: &Pair, before: &Pair) {
     claim(
         rt,
@@ -107,7 +107,8 @@ fn fill_leaf<A: Allocator + Copy>(rt: &impl Abort, tree: &mut BTree<A>) -> Resul
     Ok(())
 }
 
-// A full leaf has no room for a pair. Where another one was taken out it is put in, and is found there then.
+// A full leaf has no room for a pair. Where another one was taken out it is put in, and is found there then. In the
+// end the leaf has what it had.
 fn fill_again<A: Allocator + Copy>(
     rt: &impl Abort,
     tree: &mut BTree<A>,
@@ -125,11 +126,13 @@ fn fill_again<A: Allocator + Copy>(
         held == InLeaf::Found(Mark::Live),
         "a pair that is there",
     );
+    take(rt, tree, pair);
+    let again = put_in_leaf(rt, tree, other, Mark::Live);
+    claim(rt, again == InLeaf::Added, "what was taken out");
     claim(rt, tree.len() == 32, "32 pairs again");
 }
 
-// The pair that is put last splits a leaf, and with it the tree gets a root. Its removal makes them one leaf again,
-// which is full.
+// The pair that is put last splits a full leaf, and with it the tree gets a root.
 fn split_and_join<A: Allocator + Copy>(
     rt: &impl Abort,
     memory: &Memory,
@@ -137,9 +140,9 @@ fn split_and_join<A: Allocator + Copy>(
 ) -> Result<(), Error> {
     let (pair, before) = (pair_of(32)?, pair_of(31)?);
     fill_leaf(rt, tree)?;
+    fill_again(rt, tree, &pair, &before);
     put_quietly(rt, tree, &pair, memory)?;
     join(rt, tree, &pair, &before);
-    fill_again(rt, tree, &pair, &before);
     Ok(())
 }
 
