@@ -18,3 +18,5 @@ mod Descending
 mod Ways
 mod Labels
 mod Placed
+mod Handing
+mod Rooms

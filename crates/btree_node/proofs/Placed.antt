@@ -43,7 +43,7 @@ same_outcome o zero m h k = ap (outcome o) (sym (h refl))
 same_outcome o (suc n) zero h k = let none : suc n ≡ 0 = k refl in absurd (omega arith)
 same_outcome o (suc n) (suc m) h k = no_room o (suc n) (suc m) (omega arith) (omega arith)
 
-no_split : (s d : ℕ) (b : Bool) → 0 < d → s ≡ 0 → s + cond ((s == d) && b) 1 0 ≡ 0
+pub no_split : (s d : ℕ) (b : Bool) → 0 < d → s ≡ 0 → s + cond ((s == d) && b) 1 0 ≡ 0
 no_split s d b h e = grind (arith, nat_tests)
 
 pub outcome_of : {A : Type 0} {t u : Tree} {cs : List (Child A)} {k : ℕ} {c : Child A} {p : Pair} → IsAt t u cs k c p
@@ -54,7 +54,7 @@ outcome_of {t} {u} {cs} {k} {c} {p} a =
     ∙ same_outcome (mark_in (entries t) p) (splits u p) (splits t p)
     (λ e. more ∙ no_split (splits u p) (depth u) (length cs == 32) (root_deep u) e) (λ e. omega (arith, more, e))
 
-no_top : (s d : ℕ) → 0 < d → s ≡ 0 → s + cond (s == d) 1 0 ≡ 0
+pub no_top : (s d : ℕ) → 0 < d → s ≡ 0 → s + cond (s == d) 1 0 ≡ 0
 no_top s d h e = grind (arith, nat_tests)
 
 pub outcome_top : (t : Tree) (p : Pair) → 0 < length (entries t) → outcome (mark_in (entries t) p) (splits t p)
@@ -130,7 +130,7 @@ pub tried_count : {A : Type 0} {t u : Tree} {cs : List (Child A)} {k : ℕ} {c b
     → IsTried r u c b e → count t ≤ length (trees_of (forest_of (trees (set cs k b))))
 tried_count {t} {cs = cs} {k} {b = b} a n = omega (arith, ap count a.seen, rows.length-trees cs, rows.length-trees (set cs k b), length-set cs k b)
 
-trees-same : {A : Type 0} (cs : List (Child A)) (k : ℕ) (b d : Child A) → b.node.value ≡ (get_or cs k d).node.value → trees (set cs k b) ≡ trees cs
+pub trees-same : {A : Type 0} (cs : List (Child A)) (k : ℕ) (b d : Child A) → b.node.value ≡ (get_or cs k d).node.value → trees (set cs k b) ≡ trees cs
 trees-same [] k b d e = refl
 trees-same (c ∷ cs) zero b d e = ap (λ x. x ∷ trees cs) e
 trees-same (c ∷ cs) (suc k) b d e = ap (λ xs. c.node.value ∷ xs) (trees-same cs k b d e)

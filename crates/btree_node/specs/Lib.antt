@@ -10,3 +10,4 @@ pub mod Without
 pub mod Mended
 pub mod Path
 pub mod Placed
+pub mod Handed

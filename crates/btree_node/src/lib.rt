@@ -4,16 +4,18 @@
 //! read: a way tells the mark of a pair (`mark`) and serves its insertion (`way`), and `plan` answers `NoMemory` alone
 //! (`no_memory`). `insert`, `set_mark`, `remove` and `take` can't fail; the first three change the named pair alone,
 //! and `take` answers what the tree held (`taken`). `put_in_leaf` puts a pair that isn't there into its leaf, where
-//! that has room, and else changes nothing and says why (`outcome`, `added`, `unchanged`). `above` and `below` answer
-//! the next entry either way. A look-up goes down by a `Descent`, which counts each node that it visits. `get` and
-//! `find_way` visit as many as the tree is high (`visited`), at most six (`few_visited`). `run_above` answers entries
-//! that follow one another (`run`), and none only where none is above (`none`). Only tested (`test_tables`): plans with
-//! each allocation refused in turn; heights of full trees, and how many runs a walk over one takes. Neither: how many
-//! nodes `put_in_leaf`, `above`, `below` and `run_above` look at; that `put_in_leaf` takes no memory; when memory is
-//! freed; speed; stack. By hand: the `unsafe impl` of an allocator that always refuses.
+//! that has room, and else changes nothing and says why (`outcome`, `added`, `unchanged`). `make_room` keeps the map
+//! (`contents`), says just where a leaf can hand entries over (`made`), and the pair has room then (`room`).
+//! `above` and `below` answer the next entry either way. A look-up goes down by a `Descent`, which counts each node
+//! that it visits. `get` and `find_way` visit as many as the tree is high (`visited`), at most six (`few_visited`).
+//! `run_above` answers entries that follow one another (`run`), and none only where none is above (`none`). Only
+//! tested (`test_tables`): plans with each allocation refused in turn; heights of full trees, and how many runs a walk
+//! over one takes. Neither: how many nodes `put_in_leaf`, `make_room`, `above`, `below` and `run_above` look at; that
+//! the first two take no memory; when memory is freed; speed; stack. By hand: the `unsafe impl` of an allocator that
+//! always refuses.
 #![tactic(auto)]
 
-ghost use Rattle.std.specs.Prelude.{◌≡◌, ◌≢◌, ◌<◌, ◌≤◌, ◌↔◌, None, IfOk, IfErr, IsSome, IsTrue};
+ghost use Rattle.std.specs.Prelude.{◌≡◌, ◌≢◌, ◌<◌, ◌≤◌, ◌↔◌, None, IfOk, IfErr, IsSome, IsTrue, false};
 ghost use Rattle.std.specs.Option.{option_copied};
 ghost use Rattle.std.specs.FinMap as map;
 ghost use Rattle.btree_node.specs.Contents.{contents};
@@ -22,6 +24,7 @@ ghost use Rattle.btree_node.specs.Plans.{IsPlanFor, IsWayIn};
 ghost use Rattle.btree_node.specs.Grown.{AreExactly};
 ghost use Rattle.btree_node.specs.Above.{IsLeastAbove};
 ghost use Rattle.btree_node.specs.Below.{IsGreatestBelow};
+ghost use Rattle.btree_node.specs.Handed.{can_make_room};
 ghost use Rattle.btree_node.specs.Placed.{outcome};
 
 mod inline;
@@ -30,6 +33,7 @@ mod lookup;
 mod marking;
 mod placing;
 mod removal;
+mod room;
 mod runs;
 mod spares;
 mod walk;
@@ -45,6 +49,7 @@ pub use placing::InLeaf;
 use placing::put_below;
 use records::{Error, Mark, Pair};
 use removal::{remove_below, shrink};
+use room::make_room_below;
 use smallvec::SmallVec;
 use spares::Spares;
 use std::alloc::Allocator;
@@ -348,6 +353,20 @@ impl<A: Allocator + Clone> BTree<A> {
         };
         self.len += 1;
         put
+    }
+
+    /// Makes room in the full leaf where a pair belongs, whose first entries go to the leaf before it. Says whether it
+    /// did: both have to hang from one node, and that leaf has to be half full at most. It takes no memory.
+    pub fn make_room(&mut self, pair: &Pair) -> bool
+        ensures contents { contents self.new ≡ contents self.old }
+        ensures made { result ≡ can_make_room self.old pair.now }
+        ensures room { IsTrue result → nodes_for self.new pair.now ≡ 0 }
+        ensures unchanged { result ≡ false → self.new ≡ self.old }
+    {
+        let Some(root) = &mut self.root else {
+            return false;
+        };
+        make_room_below(root, pair)
     }
 
     /// Gives the entry of a pair another mark. It takes no memory and succeeds.

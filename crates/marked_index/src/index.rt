@@ -1,6 +1,6 @@
 //! The index.
 ghost use Rattle.std.specs.Prelude.{◌≡◌, ◌⊎◌, [], ◌+◌, ◌-◌, ◌<◌, ◌≤◌, ◌↔◌, None, Some, Contains, IfOk, IfErr, IsErr};
-ghost use Rattle.std.specs.Prelude.{IsOk, IsSome, IsTrue, OnErr, OnOk};
+ghost use Rattle.std.specs.Prelude.{IsOk, IsSome, IsTrue, OnErr, OnOk, false};
 ghost use Rattle.std.specs.FinMap as map;
 ghost use Rattle.std.specs.List.{AllPairs};
 ghost use Rattle.std.specs.Option.{option_copied};
@@ -86,6 +86,19 @@ fn plant<A: Allocator + Clone>(tree: &mut BTree<A>, pair: &Pair, mark: Mark) -> 
     Ok(())
 }
 
+/// Puts an absent pair into the tree, live, if its full leaf can hand entries to the leaf before it. Says whether it
+/// did. It takes no memory.
+fn put_beside<A: Allocator + Clone>(tree: &mut BTree<A>, pair: &Pair) -> bool
+    requires room { map.len (contents tree.old) < ENTRIES_MAX }
+    ensures put { IsTrue result → contents tree.new ≡ map.insert (contents tree.old) pair.now Mark.Live }
+    ensures unchanged { result ≡ false → contents tree.new ≡ contents tree.old }
+{
+    if !tree.make_room(pair) {
+        return false;
+    }
+    matches!(tree.put_in_leaf(pair, Mark::Live), InLeaf::Added)
+}
+
 /// Puts a pair into the tree, live, unless it has an entry, and says whether it did. The one error is `NoMemory`.
 fn put_absent<A: Allocator + Clone>(tree: &mut BTree<A>, pair: &Pair) -> Result<bool, Error>
     requires room { IsAbsent (contents tree.old) pair.now → map.len (contents tree.old) < ENTRIES_MAX }
@@ -98,6 +111,9 @@ fn put_absent<A: Allocator + Clone>(tree: &mut BTree<A>, pair: &Pair) -> Result<
         InLeaf::Added => return Ok(true),
         InLeaf::Found(_) => return Ok(false),
         InLeaf::NoRoom => {}
+    }
+    if put_beside(tree, pair) {
+        return Ok(true);
     }
     plant(tree, pair, Mark::Live)?;
     Ok(true)

@@ -9,7 +9,7 @@
 //! `Order`, `Places` and `RowLemmas`.
 #![tactic(auto)]
 
-ghost use Rattle.std.specs.Prelude.{◌≡◌, ℕ, ◌+◌, ◌<◌, ◌≤◌, ◌++◌, length, Some, IfOk, IfErr};
+ghost use Rattle.std.specs.Prelude.{◌≡◌, ℕ, ◌+◌, ◌<◌, ◌≤◌, ◌++◌, ◌↔◌, length, Some, IfOk, IfErr, IsTrue};
 ghost use Rattle.std.specs.List.{insert, remove};
 ghost use Rattle.node_parts.specs.Tree.{Tree, leaf, entries, depth, IsLeaf, count, an_empty_leaf, an_empty_inner};
 ghost use Rattle.node_parts.specs.Balance.{IsTree};
@@ -110,6 +110,13 @@ impl<A: Allocator> Node<A> {
         }
     }
 
+    /// Whether the node holds entries, and no children.
+    pub fn is_leaf(&self) -> bool
+        ensures { IsTrue result ↔ IsLeaf self.now }
+    {
+        matches!(&self.parts, NodeParts::Leaf(_))
+    }
+
     /// The least pair in the node.
     pub fn least(&self) -> Pair
         requires some { 0 < length (entries self.now) }
@@ -178,6 +185,27 @@ impl<A: Allocator> Node<A> {
             unreachable!()
         };
         rows::split_into(row, place, entry, upper_row);
+    }
+
+    /// Moves so many entries from the front of a leaf to the end of its left neighbour, a leaf too.
+    pub fn hand_left(&mut self, left: &mut Node<A>, moved: usize)
+        requires leaf { IsLeaf self.old }
+        requires left_leaf { IsLeaf left.old }
+        requires some { moved ≤ count self.old }
+        requires room { count left.old + moved ≤ 32 }
+        ensures leaf { IsLeaf self.new }
+        ensures left_leaf { IsLeaf left.new }
+        ensures joined { entries left.new ++ entries self.new ≡ entries left.old ++ entries self.old }
+        ensures count { count self.new + moved ≡ count self.old }
+        ensures left_count { count left.new ≡ count left.old + moved }
+    {
+        let NodeParts::Leaf(row) = &mut self.parts else {
+            unreachable!()
+        };
+        let NodeParts::Leaf(left_row) = &mut left.parts else {
+            unreachable!()
+        };
+        rows::move_front(left_row, row, moved);
     }
 
     /// Moves an entry or child from the fuller of two neighbours of one level to the other, which is not full.

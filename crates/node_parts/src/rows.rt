@@ -49,6 +49,22 @@ pub fn move_upper<T: Drop, A: Allocator>(row: &mut Vec<T, A>, place: usize, righ
     }
 }
 
+/// Moves so many items from the front of the right row to the end of the left one.
+pub fn move_front<T: Drop, A: Allocator>(left: &mut Vec<T, A>, right: &mut Vec<T, A>, count: usize)
+    requires in_range { count ≤ vec_len right.old }
+    requires room { vec_len left.old + count ≤ vec_capacity left.old }
+    ensures moved { left.new.items ≡ left.old.items ++ take count right.old.items }
+    ensures len { vec_len left.new ≡ vec_len left.old + count }
+    ensures capacity { vec_capacity left.new ≡ vec_capacity left.old }
+    ensures kept { right.new.items ≡ drop count right.old.items }
+    ensures right_len { vec_len right.new + count ≡ vec_len right.old }
+    ensures right_capacity { vec_capacity right.new ≡ vec_capacity right.old }
+{
+    for item in right.drain(..count) {
+        left.push_reserved(item);
+    }
+}
+
 /// Moves the first item of the right row to the end of the left one.
 pub fn borrow_first<T: Drop, A: Allocator>(left: &mut Vec<T, A>, right: &mut Vec<T, A>)
     requires some { 0 < vec_len right.old }
