@@ -11,6 +11,7 @@ pub mod Leaving
 pub mod Next
 pub mod Building
 pub mod Cleaning
+pub mod KeptLive
 pub mod Walked
 pub mod Finding
 mod Stepped

@@ -5,9 +5,11 @@ pub mod Replies
 pub mod Detached
 pub mod Builds
 pub mod Cleaning
+pub mod Passing
 pub mod Opening
 pub mod Asked
 pub mod Undoing
 pub mod Private
 pub use Rattle.marked_index.specs.Index
+pub use Rattle.marked_index.specs.Counts
 pub use Rattle.heap_pages.specs.Pages

@@ -6,7 +6,7 @@
 //! speed.
 //!
 //! Lemmas about its public words that crates above may cite, in `proofs`: `Building`, `Changing`, `Checking`,
-//! `Cleaning`, `Due`, `Finding`, `Inserting`, `Leaving`, `Moved`, `Next`, `Pairs`, `Undoing` and `Walked`.
+//! `Cleaning`, `Due`, `Finding`, `Inserting`, `KeptLive`, `Leaving`, `Moved`, `Next`, `Pairs`, `Undoing` and `Walked`.
 #![tactic(auto)]
 
 mod build;
@@ -17,6 +17,7 @@ mod index;
 mod opening;
 mod owed;
 mod parts;
+mod passing;
 mod reply;
 mod step;
 mod undo;

@@ -41,7 +41,7 @@ sorted-page n i (Some row ∷ slots) rest sorted above =
     (below-page (at n i) n (i + 1) slots rest (λ j le. less_slot (at n i) (at n j) refl (omega arith)) (above i))
     ∙ sorted-page n (i + 1) slots rest sorted above
 
-sorted-heap : (n : ℕ) (pages : List (List (Option Row))) → is_sorted rid_cmp (heap_entries n pages) ≡ true
+pub sorted-heap : (n : ℕ) (pages : List (List (Option Row))) → is_sorted rid_cmp (heap_entries n pages) ≡ true
 sorted-heap n [] = refl
 sorted-heap n (slots ∷ pages) =
     sorted-page n 0 slots (heap_entries (n + 1) pages) (sorted-heap (n + 1) pages) (λ j. below-heap (at n j) (n + 1) pages (omega arith))

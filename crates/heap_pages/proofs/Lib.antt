@@ -4,6 +4,7 @@ mod RidOrder
 mod Cells
 mod Writes
 mod Empty
+mod Counted
 mod Free
 mod Full
 mod Held

@@ -58,6 +58,14 @@ row_slot slots page s is long within there =
     by None some = absurd cc
     by (Some row) some = refl
 
+-- what tells whether a slot is open tells whether it has a row
+pub row_told : (slots : List (Option Row)) (page : Slots) (s : ℕ) (open_slots : List Bool) → page_of slots ≡ page → open_slots ≡ map is_none slots → (b : Bool)
+    → slice_get open_slots s ≡ Some b → not b ≡ is_some (get page s)
+row_told slots page s open_slots is told true e =
+    sym (ap is_some (open_slot slots page s is (ap (λ (l : List Bool). slice_get l s) (sym told) ∙ e)))
+row_told slots page s open_slots is told false e =
+    sym (taken_slot slots page s is (ap (λ (l : List Bool). slice_get l s) (sym told) ∙ e))
+
 module _ (slots : List (Option Row)) (page : Slots) (is : page_of slots ≡ page) (long : length slots ≡ SLOTS_PER_PAGE) (flags held : List Bool)
     (told : flags ≡ map is_none slots) where
   in_open : (s : ℕ) → s < SLOTS_PER_PAGE → get page s ≡ None → slice_get flags s ≡ Some true

@@ -1,9 +1,10 @@
 //! The pages of the heap.
-ghost use Rattle.std.specs.Prelude.{◌≡◌, ◌≢◌, ◌+◌, ◌*◌, ◌/◌, ◌<◌, ◌≤◌, ◌↔◌, ℕ, map, length, slice_get, Some, None};
+ghost use Rattle.std.specs.Prelude.{◌≡◌, ◌≢◌, ◌+◌, ◌*◌, ◌/◌, ◌^◌, ◌<◌, ◌≤◌, ◌↔◌, ℕ, map, length, slice_get, Some, None};
+ghost use Rattle.std.specs.Prelude.{if◌then◌else◌, true};
 ghost use Rattle.std.specs.Prelude.{All, Contains, IfSome, IfNone, IfOk, IfErr, IsErr, IsSome};
 ghost use Rattle.std.specs.List.Sorted.{IsStrictlyIncreasing};
 ghost use Rattle.std.specs.declared.cmp.Ordering.{Ordering};
-ghost use Rattle.std.specs.FinMap.{get, empty};
+ghost use Rattle.std.specs.FinMap.{get, empty, len};
 ghost use Rattle.record_values.specs.Values.{Place};
 ghost use Rattle.record_values.specs.Orders.{rid_cmp};
 ghost use Rattle.record_values.specs.Maps.{set_at};
@@ -30,10 +31,13 @@ pub struct Heap<A: Allocator> {
     pages: Vec<HeapPage, A>,
     // of each run of as many pages as a page has slots, those that aren't full
     open_pages: Vec<SlotSet, A>,
+    // how many rows there are
+    count: usize,
 }
 
 impl<A: Allocator> Model for Heap<A> {
     ghost use Rattle.std.specs.Prelude.{◌≡◌, ◌<◌, ◌+◌, ◌/◌, ◌^◌, map, length};
+    ghost use Rattle.std.specs.FinMap.{len};
     ghost use Rattle.record_values.specs.declared.rid.TheConstants.{SLOTS_PER_PAGE};
     ghost use Rattle.heap_pages.specs.Slots.{slots_of};
     ghost use Rattle.heap_pages.specs.Pages.{HeapValue, coded_heap, rows_of, OthersAreFull};
@@ -49,7 +53,8 @@ impl<A: Allocator> Model for Heap<A> {
 
     ghost invariant = { λ h. (length h.pages.items < 2 ^ 32)
         × (length h.open_pages.items ≡ length h.pages.items / SLOTS_PER_PAGE + 1)
-        × OthersAreFull h.open_pages.items h.pages.items };
+        × OthersAreFull h.open_pages.items h.pages.items
+        × (h.count ≡ len (rows_of (map slots_of h.pages.items))) };
 }
 
 // So many runs of pages, none of which is full.
@@ -63,6 +68,18 @@ fn all_open<A: Allocator>(alloc: A, runs: u32) -> Result<Vec<SlotSet, A>, Error>
         sets.push(SlotSet::all())?;
     }
     Ok(sets)
+}
+
+// How many rows there are, once a place that had one, or none, has one, or none.
+fn recount(count: usize, had_row: bool, has_row: bool) -> usize
+    requires had { had_row ≡ true → 0 < count }
+    requires few { count < 2 ^ 63 }
+    ensures { result + (if had_row then 1 else 0) ≡ count + (if has_row then 1 else 0) }
+{
+    if had_row {
+        return if has_row { count } else { count - 1 };
+    }
+    if has_row { count + 1 } else { count }
 }
 
 impl<A: Allocator + Copy> Heap<A> {
@@ -82,6 +99,7 @@ impl<A: Allocator + Copy> Heap<A> {
             alloc,
             pages: made,
             open_pages: all_open(alloc, pages / RUN + 1)?,
+            count: 0,
         })
     }
 
@@ -99,6 +117,13 @@ impl<A: Allocator + Copy> Heap<A> {
         ensures rows_inside { (r : Place) → IsSome (get self.now.rows r) → IsPlaceInside self.now r }
     {
         self.pages.len() as u32
+    }
+
+    /// How many rows there are.
+    pub fn len(&self) -> usize
+        ensures { result ≡ len self.now.rows }
+    {
+        self.count
     }
 
     /// The row at the place: none where it is empty, or on a page that the heap does not have.
@@ -134,10 +159,13 @@ impl<A: Allocator + Copy> Heap<A> {
         ensures { self.new ≡ record self.old { rows = set_at self.old.rows rid row } }
     {
         let page = &mut self.pages[rid.page as usize];
+        let had_row = page.has_row(rid.slot);
+        let has_row = row.is_some();
         page.set(rid.slot, row);
         let is_open = !page.is_full();
         let run = &mut self.open_pages[(rid.page / RUN) as usize];
         run.put((rid.page % RUN) as u16, is_open);
+        self.count = recount(self.count, had_row, has_row);
     }
 
     /// The least place that is empty and not among the held ones: first by its page, then by its

@@ -1,5 +1,6 @@
 //! A page of the heap.
-ghost use Rattle.std.specs.Prelude.{◌≡◌, ◌<◌, ◌↔◌, ℕ, Some, None, IsTrue, IsSome, IfSome, MatchOption, slice_get};
+ghost use Rattle.std.specs.Prelude.{◌≡◌, ◌<◌, ◌↔◌, ℕ, Some, None, IsTrue, IsSome, IfSome, MatchOption, is_some};
+ghost use Rattle.std.specs.Prelude.{slice_get};
 ghost use Rattle.std.specs.FinMap.{get, empty};
 ghost use Rattle.record_values.specs.Maps.{set_at};
 ghost use Rattle.heap_pages.specs.Slots.{IsFirstFree, NoneFree};
@@ -88,6 +89,14 @@ impl HeapPage {
     {
         self.open.put(slot, row.is_none());
         self.slots[slot as usize] = row;
+    }
+
+    /// Whether the slot has a row.
+    pub(crate) fn has_row(&self, slot: u16) -> bool
+        requires { slot < SLOTS_PER_PAGE }
+        ensures { result ≡ is_some (get self.now slot) }
+    {
+        !self.open.has(slot)
     }
 
     /// Whether each slot has a row.

@@ -6,6 +6,7 @@ use mathlib.Core.HLevel.{⊥_prop}
 use Rattle.std.specs.Prelude.{slice_get, slice_set}
 use Rattle.records.specs.RecordValue.{RecordValue}
 use Rattle.record_values.specs.Values.{Place}
+use Rattle.record_values.specs.declared.pair.Pair.{Pair}
 use Rattle.record_values.specs.declared.error.Error.{Error}
 use Rattle.record_values.specs.declared.error.Error.TheVariants.{NoSuchTxn}
 use Rattle.record_values.specs.declared.row.Row.{Row}
@@ -20,6 +21,7 @@ use Rattle.nsf_core.specs.Outbox.{HandsOn}
 use Rattle.core_parts.specs.Replies.{reply_by, reply_of_detached, reply_of_ticket}
 use Rattle.core_parts.specs.View.{CoreValue, Serves}
 use Rattle.core_parts.specs.Moves.{IsReadyOrNone, txn_shown}
+use Rattle.core_parts.specs.Passing.{HasKept, PassesLive}
 use Rattle.core_parts.specs.Undoing.{undone_reply}
 use Rattle.core_parts.specs.declared.parts.Detached.{Detached}
 use Rattle.core_parts.specs.declared.parts.Ticket.{Ticket}
@@ -168,6 +170,15 @@ module _ (o : Opened) (core new : CoreValue) (pushed : List RecordValue) (book :
   pushed_kept after on =
       let register : IsRegister o after new book = pushed_agreed o pushed core book shared.register new after on in
       record { opens = shared.opens; register = register; tables = tables_shown o shared.opens after new book register }
+
+module _ (o : Opened) (pushed : List RecordValue) (book : List SessionValue) where
+  kept_each : (core new : CoreValue) (ps : List Pair) → HasKept core ps new → IsShared o core pushed book → IsShared o new pushed book
+  kept_each core new [] kept shared = subst (λ v. IsShared o v pushed book) (sym kept) shared
+  kept_each core new (p ∷ ps) kept shared = kept_each (record core { cleaned = Some p }) new ps kept.2
+      (others_kept o core (record core { cleaned = Some p }) pushed book shared Event.Clean _ tt kept.1)
+
+  pub passed_kept : (core new : CoreValue) (most : ℕ) → PassesLive core most new → IsShared o core pushed book → IsShared o new pushed book
+  passed_kept core new most passes = kept_each core new passes.passed passes.kept
 
 -- ---- the beginning
 

@@ -22,6 +22,7 @@ ghost use Rattle.core_parts.specs.Moves.{HasNoChange, txn_shown};
 ghost use Rattle.nsf_core.specs.Outbox.{HandsOn};
 ghost use Rattle.core_parts.specs.Replies.{reply_by, reply_of_detached, reply_of_ticket};
 ghost use Rattle.core_parts.specs.Detached.{entries_of};
+ghost use Rattle.core_parts.specs.Passing.{PassesLive};
 ghost use Rattle.core_parts.specs.Undoing.{undone_reply};
 ghost use Rattle.core_parts.specs.View.{Serves};
 ghost use Rattle.nsf_core.specs.Value.{value_of};
@@ -497,6 +498,15 @@ impl<B: Group, A: Memory> Locked<B, A> {
         ensures book { (locked_of self.new).book ≡ (locked_of self.old).book }
     {
         self.core.clean_step()
+    }
+
+    /// Moves the cleaner's place over live entries, many at once, as the core's `pass_live` does.
+    pub fn pass_live(&mut self, runs: u32)
+        ensures passed { PassesLive (locked_of self.old).core runs (locked_of self.new).core }
+        ensures pushed { (locked_of self.new).pushed ≡ (locked_of self.old).pushed }
+        ensures book { (locked_of self.new).book ≡ (locked_of self.old).book }
+    {
+        self.core.pass_live(runs);
     }
 
     /// The row at the place, as it is now, also before its transaction's commit. If a transaction holds the place, that

@@ -13,7 +13,7 @@ use Rattle.model.specs.declared.key_action.KeyAction.TheVariants.{BuildPut, Clea
 use Rattle.model.specs.KeyActions.{after_action}
 use Rattle.model.specs.Table.{Index}
 use Rattle.btree_node.specs.Placed.{outcome}
-use Rattle.btree_node.specs.declared.placing.InLeaf.TheVariants.{Found}
+use Rattle.btree_node.specs.declared.placing.InLeaf.TheVariants.{Added, Found}
 use Rattle.record_values.specs.declared.geometry.TheConstants.{LARGE_ENTRIES_MAX}
 use Rattle.record_values.specs.declared.error.Error.{Error}
 use Rattle.marked_index.specs.Index.{IndexValue, IsFull, IsWithinCapacity, entries_after}
@@ -46,17 +46,17 @@ after_no_clean v p allowed h = same_value v _ (as_it_was v.entries p _ (sym (sta
 
 -- ---- how many entries there are after a change of one
 
-len_added : (m : Index) (p : Pair) (x : Mark) → map.get m p ≡ None → map.len (map.insert m p x) ≡ map.len m + 1
+pub len_added : (m : Index) (p : Pair) (x : Mark) → map.get m p ≡ None → map.len (map.insert m p x) ≡ map.len m + 1
 len_added m p x e = map.len-insert pair_cmp_total m p x ∙ ap (λ o. cond (is_some o) (map.len m) (map.len m + 1)) e
 
-len_changed : (m : Index) (p : Pair) (x : Mark) → is_some (map.get m p) ≡ true → map.len (map.insert m p x) ≡ map.len m
+pub len_changed : (m : Index) (p : Pair) (x : Mark) → is_some (map.get m p) ≡ true → map.len (map.insert m p x) ≡ map.len m
 len_changed m p x e = map.len-insert pair_cmp_total m p x ∙ ap (λ b. cond b (map.len m) (map.len m + 1)) e
 
 at_most : (b : Bool) (n : ℕ) → cond b (n - 1) n ≤ n
 at_most true n = omega arith
 at_most false n = omega arith
 
-len_removed : (m : Index) (p : Pair) → map.len (map.remove m p) ≤ map.len m
+pub len_removed : (m : Index) (p : Pair) → map.len (map.remove m p) ≤ map.len m
 len_removed m p = subst (λ n. n ≤ map.len m) (sym (map.len-remove pair_cmp_total m p)) (at_most (is_some (map.get m p)) (map.len m))
 
 -- ---- room for what a change leaves
@@ -78,7 +78,7 @@ room_added m n p x j c fits most absent e = record { within = omega (arith, len_
 pub build_there : (m : Index) (p : Pair) → is_some (map.get m p) ≡ true → m ≡ entries_after m BuildPut p
 build_there m p e = sym (as_it_was m p _ (sym (build_leaves_there (map.get m p) e)))
 
-by_mark : (P : Type 0) (o : Option Mark) → (o ≡ None → P) → (is_some o ≡ true → P) → P
+pub by_mark : (P : Type 0) (o : Option Mark) → (o ≡ None → P) → (is_some o ≡ true → P) → P
 by_mark P None absent there = absent refl
 by_mark P (Some x) absent there = there refl
 
@@ -113,10 +113,17 @@ place_left v p lacks is free absent = omega (arith, not_full)
 pub removed_none : (v : IndexValue) (p : Pair) → is_some (map.get v.entries p) ≡ false → v ≡ record v { entries = map.remove v.entries p }
 removed_none v p e = same_value v _ (as_it_was v.entries p None (none_of _ e))
 
-pub found_there : (o : Option Mark) (n : ℕ) (m : Mark) → Found m ≡ outcome o n → is_some o ≡ true
-found_there (Some x) n m e = refl
-found_there None zero m e = cc
-found_there None (suc n) m e = cc
+-- what was found is there
+pub found_is : (o : Option Mark) (n : ℕ) (m : Mark) → Found m ≡ outcome o n → o ≡ Some m
+found_is (Some x) n m e = cc
+found_is None zero m e = cc
+found_is None (suc n) m e = cc
+
+-- what was added was not there
+pub added_is : (o : Option Mark) (n : ℕ) → Added ≡ outcome o n → o ≡ None
+added_is (Some x) n e = cc
+added_is None zero e = refl
+added_is None (suc n) e = cc
 
 pub there_of : (o : Option Mark) (added : Bool) → (IsTrue added ↔ o ≡ None) → added ≡ false → is_some o ≡ true
 there_of None added is e = let yes : added ≡ true = is.1 refl in absurd (cc (yes, e))

@@ -13,11 +13,13 @@ ghost use Rattle.btree_node.specs.Above.{IsLeastAbove};
 ghost use Rattle.btree_node.specs.Below.{IsGreatestBelow};
 ghost use Rattle.btree_node.specs.Contents.{contents};
 ghost use Rattle.btree_node.specs.Runs.{IsRunAbove};
+ghost use Rattle.marked_index.specs.Counts.{live_in, marked_in};
 ghost use Rattle.marked_index.specs.Index.{IsWithinCapacity, IsFull, IsAbsent, entries_after, pledges_used};
 ghost use Rattle.marked_index.specs.Index.{after_txn_action};
 ghost use Rattle.marked_index.specs.Shown.{IsNextOf, mark_at};
 
-use btree_node::{BTree, Cleared, ENTRIES_MAX, Entry, InLeaf};
+use crate::entries::Entries;
+use btree_node::{Cleared, Entry};
 use records::{Error, Geometry, Key, Mark, PLACES_PER_CHANGE, Pair, Rid};
 use std::alloc::Allocator;
 use std::marker::Model;
@@ -49,7 +51,7 @@ pub enum Built {
 /// has pledged its places is never refused for want of room, and neither is its undoing.
 #[derive(Drop)]
 pub struct MarkedIndex<A: Allocator> {
-    tree: BTree<A>,
+    entries: Entries<A>,
     // how many places are pledged and not used yet
     pledged: usize,
     // how many entries there is room for
@@ -57,87 +59,19 @@ pub struct MarkedIndex<A: Allocator> {
 }
 
 impl<A: Allocator> Model for MarkedIndex<A> {
-    ghost use Rattle.btree_node.specs.Contents.{contents};
     ghost use Rattle.marked_index.specs.Index.{IndexValue, coded_index, IsWithinCapacity};
 
     ghost Value = { IndexValue };
 
     ghost coded = { coded_index };
 
-    ghost view = { λ i. record { entries = contents i.tree; pledged = i.pledged; capacity = i.capacity } };
+    ghost view = { λ i. record { entries = i.entries; pledged = i.pledged; capacity = i.capacity } };
 
     ghost invariant = { λ i. IsWithinCapacity (record {
-      entries = contents i.tree;
+      entries = i.entries;
       pledged = i.pledged;
       capacity = i.capacity;
     }) };
-}
-
-/// Puts an absent pair into the tree with a mark. The one error is `NoMemory`.
-fn plant<A: Allocator + Clone>(tree: &mut BTree<A>, pair: &Pair, mark: Mark) -> Result<(), Error>
-    requires room { map.len (contents tree.old) < ENTRIES_MAX }
-    requires absent { IsAbsent (contents tree.old) pair.now }
-    ensures planted { OnOk result (contents tree.new ≡ map.insert (contents tree.old) pair.now mark) }
-    ensures no_memory { IfErr result (λ e. e ≡ Error.NoMemory) }
-    ensures unchanged { OnErr result (contents tree.new ≡ contents tree.old) }
-{
-    let plan = tree.plan_insert(pair)?;
-    tree.insert(plan, mark);
-    Ok(())
-}
-
-/// Puts an absent pair into the tree, live, if its full leaf can hand entries to the leaf before it. Says whether it
-/// did. It takes no memory.
-fn put_beside<A: Allocator + Clone>(tree: &mut BTree<A>, pair: &Pair) -> bool
-    requires room { map.len (contents tree.old) < ENTRIES_MAX }
-    ensures put { IsTrue result → contents tree.new ≡ map.insert (contents tree.old) pair.now Mark.Live }
-    ensures unchanged { result ≡ false → contents tree.new ≡ contents tree.old }
-{
-    if !tree.make_room(pair) {
-        return false;
-    }
-    matches!(tree.put_in_leaf(pair, Mark::Live), InLeaf::Added)
-}
-
-/// Puts a pair into the tree, live, unless it has an entry, and says whether it did. The one error is `NoMemory`.
-fn put_absent<A: Allocator + Clone>(tree: &mut BTree<A>, pair: &Pair) -> Result<bool, Error>
-    requires room { IsAbsent (contents tree.old) pair.now → map.len (contents tree.old) < ENTRIES_MAX }
-    ensures put { OnOk result (contents tree.new ≡ entries_after (contents tree.old) KeyAction.BuildPut pair.now) }
-    ensures added { IfOk result (λ added. IsTrue added ↔ IsAbsent (contents tree.old) pair.now) }
-    ensures no_memory { IfErr result (λ e. (e ≡ Error.NoMemory) × IsAbsent (contents tree.old) pair.now) }
-    ensures unchanged { OnErr result (contents tree.new ≡ contents tree.old) }
-{
-    match tree.put_in_leaf(pair, Mark::Live) {
-        InLeaf::Added => return Ok(true),
-        InLeaf::Found(_) => return Ok(false),
-        InLeaf::NoRoom => {}
-    }
-    if put_beside(tree, pair) {
-        return Ok(true);
-    }
-    plant(tree, pair, Mark::Live)?;
-    Ok(true)
-}
-
-/// Gives the entry of a pair a mark, or puts the pair in with it, and says whether it was put in. The one error is
-/// `NoMemory`.
-fn set<A: Allocator + Clone>(tree: &mut BTree<A>, pair: &Pair, mark: Mark) -> Result<bool, Error>
-    requires room { IsAbsent (contents tree.old) pair.now → map.len (contents tree.old) < ENTRIES_MAX }
-    ensures set { OnOk result (contents tree.new ≡ map.insert (contents tree.old) pair.now mark) }
-    ensures added { IfOk result (λ added. IsTrue added ↔ IsAbsent (contents tree.old) pair.now) }
-    ensures no_memory { IfErr result (λ e. (e ≡ Error.NoMemory) × IsAbsent (contents tree.old) pair.now) }
-    ensures unchanged { OnErr result (contents tree.new ≡ contents tree.old) }
-{
-    match tree.put_in_leaf(pair, mark) {
-        InLeaf::Added => return Ok(true),
-        InLeaf::Found(_) => {
-            tree.set_mark(pair, mark);
-            return Ok(false);
-        }
-        InLeaf::NoRoom => {}
-    }
-    plant(tree, pair, mark)?;
-    Ok(true)
 }
 
 impl<A: Allocator + Clone> MarkedIndex<A> {
@@ -148,7 +82,7 @@ impl<A: Allocator + Clone> MarkedIndex<A> {
         ensures { result ≡ record { entries = map.empty; pledged = 0; capacity = geometry.entries } }
     {
         MarkedIndex {
-            tree: BTree::new(alloc),
+            entries: Entries::new(alloc),
             pledged: 0,
             capacity: geometry.entries as usize,
         }
@@ -167,14 +101,22 @@ impl<A: Allocator + Clone> MarkedIndex<A> {
         ensures len { result ≡ map.len self.now.entries }
         ensures room { IsWithinCapacity self.now }
     {
-        self.tree.len()
+        self.entries.len()
     }
 
     /// Whether there is no entry.
     pub fn is_empty(&self) -> bool
         ensures { IsTrue result ↔ (self.now.entries ≡ map.empty) }
     {
-        self.tree.is_empty()
+        self.entries.is_empty()
+    }
+
+    /// How many entries are marked. The others are live.
+    pub fn marked(&self) -> usize
+        ensures number { result ≡ marked_in self.now.entries }
+        ensures live { map.len self.now.entries - result ≡ live_in self.now.entries }
+    {
+        self.entries.marked()
     }
 
     /// How many places are pledged and not used yet.
@@ -189,21 +131,21 @@ impl<A: Allocator + Clone> MarkedIndex<A> {
     pub fn get(&self, pair: &Pair) -> Option<Mark>
         ensures { result ≡ map.get self.now.entries pair.now }
     {
-        self.tree.get(pair).0
+        self.entries.get(pair)
     }
 
     /// The least entry whose pair comes after the given one, or the least of all.
     pub fn above(&self, pair: Option<&Pair>) -> Option<(Pair, Mark)>
         ensures { IsLeastAbove self.now.entries (option_copied pair.entry) result }
     {
-        self.tree.above(pair)
+        self.entries.above(pair)
     }
 
     /// The greatest entry whose pair comes before the given one, or the greatest of all.
     pub fn below(&self, pair: Option<&Pair>) -> Option<(Pair, Mark)>
         ensures { IsGreatestBelow self.now.entries (option_copied pair.entry) result }
     {
-        self.tree.below(pair)
+        self.entries.below(pair)
     }
 
     /// The next entries above the pair, or the first of all: some that stand together, in order. There is none only
@@ -212,7 +154,7 @@ impl<A: Allocator + Clone> MarkedIndex<A> {
         ensures run { IsRunAbove self.now.entries (option_copied pair.entry) result.now }
         ensures none { result.now ≡ [] → IsLeastAbove self.now.entries (option_copied pair.entry) None }
     {
-        self.tree.run_above(pair)
+        self.entries.run_above(pair)
     }
 
     /// Sets the entry of a pair, or takes it out, as a restart does with what it reads.
@@ -235,7 +177,7 @@ impl<A: Allocator + Clone> MarkedIndex<A> {
         if self.lacks_place(pair) {
             return Err(Error::IndexFull);
         }
-        set(&mut self.tree, pair, mark)?;
+        self.entries.set(pair, mark)?;
         Ok(())
     }
 
@@ -243,8 +185,8 @@ impl<A: Allocator + Clone> MarkedIndex<A> {
     fn take_out(&mut self, pair: &Pair)
         ensures { self.new ≡ record self.old { entries = map.remove self.old.entries pair.now } }
     {
-        if self.get(pair).is_some() {
-            self.tree.remove(pair);
+        if let Some(mark) = self.get(pair) {
+            self.entries.remove(pair, mark);
         }
     }
 
@@ -294,7 +236,7 @@ impl<A: Allocator + Clone> MarkedIndex<A> {
         ensures no_memory { IfErr result (λ e. (e ≡ Error.NoMemory) × IsAbsent self.old.entries pair.now) }
         ensures unchanged { OnErr result (self.new ≡ self.old) }
     {
-        let is_added = set(&mut self.tree, pair, mark)?;
+        let is_added = self.entries.set(pair, mark)?;
         if !is_added {
             return Ok(Stepped::Found);
         }
@@ -319,7 +261,7 @@ impl<A: Allocator + Clone> MarkedIndex<A> {
         if self.lacks_place(pair) {
             return Err(Error::IndexFull);
         }
-        let is_added = put_absent(&mut self.tree, pair)?;
+        let is_added = self.entries.put_absent(pair)?;
         if is_added {
             return Ok(Built::Placed);
         }
@@ -347,7 +289,7 @@ impl<A: Allocator + Clone> MarkedIndex<A> {
         let is_marked = self.get(pair) == Some(Mark::Marked);
         let takes_out = is_marked && allowed;
         if takes_out {
-            self.tree.remove(pair);
+            self.entries.remove(pair, Mark::Marked);
         }
         takes_out
     }
@@ -360,7 +302,7 @@ impl<A: Allocator + Clone> MarkedIndex<A> {
         ensures cleared { self.new ≡ record self.old { entries = map.empty } }
         ensures taken { contents result ≡ self.old.entries }
     {
-        self.tree.take()
+        self.entries.take()
     }
 
     /// Whether there is room for the places of one more change, so that `pledge` won't refuse.

@@ -3,3 +3,4 @@ pub mod Loading
 pub mod Outbox
 pub mod Steps
 pub mod Opening
+pub mod Counts

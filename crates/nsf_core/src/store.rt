@@ -25,6 +25,7 @@ ghost use Rattle.core_model.specs.Histories as opening;
 ghost use Rattle.core_model.specs.Histories.{CanOpen};
 ghost use Rattle.core_parts.specs.Builds.{built};
 ghost use Rattle.core_parts.specs.Cleaning.{cleaner};
+ghost use Rattle.core_parts.specs.Passing.{PassesLive};
 ghost use Rattle.core_parts.specs.Undoing.{undone_reply};
 ghost use Rattle.txn_table.specs.Sound.{IsSoundTable};
 ghost use Rattle.txn_table.specs.Table.{holds_rows};
@@ -587,6 +588,19 @@ impl<A: Allocator + Copy> Core<A> {
             return Ok(CleanReply::Wrapped);
         };
         self.parts.clean_at(entry)
+    }
+
+    /// Moves the cleaner's place over live entries, as steps of it that keep them would: over so many at least, or over
+    /// all up to the first that isn't live. Without an index it does nothing.
+    ///
+    /// It goes over so many leaves of the tree at most, a leaf at a time, and takes no memory (no clause says so).
+    pub fn pass_live(&mut self, runs: u32)
+        ensures { PassesLive (value_of self.old) runs (value_of self.new) }
+    {
+        if !self.parts.indexed() {
+            return;
+        }
+        self.parts.pass_live(runs);
     }
 
     /// Hands the records that wait on to the sink, in the order of their making. One that the sink

@@ -13,7 +13,7 @@
 //! that the seat holds answers its own row (`own`).
 //! `scan`, `scan_back` and `count` read the index of such a core in order (`page`, `count`). `get_committed`,
 //! `find_committed` and `scan_committed` read what is committed of it (`row`, `found`, `page`), so no row that a
-//! transaction may take back.
+//! transaction may take back. `counts` tells how many rows and entries it has (`counts`).
 //! An acknowledgement is of a ticket that a horizon reached (`acked`), no horizon falls (`rises`), what the seat has
 //! seen leaves a wait one answer (the law `one_wait`), and the horizon that it had seen with its mark was published by
 //! the moment that this marks, if it isn't 0 (`noted`).
@@ -31,6 +31,7 @@ mod calls;
 mod changes;
 mod cleaner;
 mod committed;
+mod counts;
 mod laws;
 mod one_change;
 mod opening;

@@ -1,5 +1,5 @@
 //! The loop that cleans the index.
-ghost use Rattle.std.specs.Prelude.{◌≡◌, false, true};
+ghost use Rattle.std.specs.Prelude.{◌≡◌, IfSome, false, true};
 ghost use Rattle.core_model.specs.Events.{Event};
 ghost use Rattle.core_parts.specs.Cleaning.{cleaner};
 ghost use Rattle.core_parts.specs.Replies.{reply_by};
@@ -13,7 +13,11 @@ use shared::{CleanPart, Group, Memory, Shared};
 use std::sync::atomic::AtomicU64;
 use std::sync::{MutexGuard, Wait};
 
-/// Makes steps of the cleaner, each under the lock anew, until the stop flag is read. What is refused it passes over.
+// Before a step the cleaner passes over the live entries of so many leaves.
+const RUNS_A_STEP: u32 = 64;
+
+/// Makes steps of the cleaner, each under the lock anew, until the stop flag is read. Before each it passes over live
+/// entries, as many as some leaves have. Where no entry is marked it makes no step. What is refused it passes over.
 /// After some steps that removed nothing it leaves room for the others by a pause, and behind a round through the index
 /// that removed nothing it sleeps, longer each time. Behind a round in which no record was made it makes no step until
 /// one is: nothing more can be taken out before.
@@ -73,7 +77,10 @@ fn clean_on<B: Group, R: Wait, A: Memory>(
     if sweep.found_nothing() && !sweep.go_round(records_made(rt, shared, part)) {
         return Ok(CleanReply::Wrapped);
     }
-    let reply = clean_step(rt, shared, part)?;
+    let Some(reply) = clean_step(rt, shared, part) else {
+        return Ok(CleanReply::Wrapped);
+    };
+    let reply = reply?;
     if let CleanReply::Wrapped = reply {
         sweep.go_round(records_made(rt, shared, part));
     }
@@ -92,18 +99,23 @@ fn records_made<B: Group, R: Wait, A: Memory>(
     made
 }
 
-// One step of the cleaner.
+// One step of the cleaner, behind the live entries that come before it. None where no entry is marked.
 fn clean_step<B: Group, R: Wait, A: Memory>(
     rt: &R,
     shared: &Shared<B, A>,
     part: &CleanPart<B>,
-) -> Result<CleanReply, Error>
-    ensures { ∥ WasServed B.site.opened Event.Clean (reply_by cleaner result) ∥₁ }
+) -> Option<Result<CleanReply, Error>>
+    ensures { IfSome result (λ cleaned. ∥ WasServed B.site.opened Event.Clean (reply_by cleaner cleaned) ∥₁) }
 {
     let mut locked = shared.hold_to_clean(rt, part);
     locked.push_outbox(rt, shared.queue());
+    if locked.core().counts().marked == 0 {
+        MutexGuard::unlock(locked);
+        return None;
+    }
+    locked.pass_live(RUNS_A_STEP);
     let cleaned = locked.clean_step();
     locked.push_outbox(rt, shared.queue());
     MutexGuard::unlock(locked);
-    cleaned
+    Some(cleaned)
 }

@@ -9,6 +9,6 @@ use Rattle.threads_loops.proofs.clean.clean_step.Goals as goal
 
 pub returns : goal.returns
 returns g c =
-    let was = c.deref_mut-2.result.now in
+    let was = c.deref_mut-3.result.now in
     was_served g.B.Group.site.opened (value_of was.core) (value_of c.clean_step-cleaned.new.self.core) was.pusher.records
     (map shown was.book.items) was.shared Event.Clean (reply_by cleaner c.clean_step-cleaned.result) c.clean_step-cleaned.ensures.served

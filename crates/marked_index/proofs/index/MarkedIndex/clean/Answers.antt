@@ -1,12 +1,11 @@
 use Rattle.std.proofs.Common.{◌≡◌, Some, ◌∙◌}
 use Rattle.record_values.specs.declared.pair.Mark.TheVariants.{Marked}
-use Rattle.btree_node.specs.Contents.{contents}
 use Rattle.marked_index.proofs.Actions.{room_removed, after_no_clean}
 use Rattle.marked_index.proofs.index.MarkedIndex.clean.Goals as goal
 use Rattle.marked_index.proofs.index.MarkedIndex.clean.Goals.{then-is_marked, else-is_marked}
 
 pub invariant_of-self : goal.invariant_of-self
-invariant_of-self g c = room_removed (contents c.self.inside.tree) _ c.args.pair.now _ _ c.self.invariant c.remove.ensures
+invariant_of-self g c = room_removed c.self.inside.entries _ c.args.pair.now _ _ c.self.invariant c.remove.ensures
 
 pub returns-else-takes_out-clause-entries : goal.returns-else-takes_out-clause-entries
 returns-else-takes_out-clause-entries g c =

@@ -1,22 +1,21 @@
 use Rattle.std.proofs.Common.{◌≡◌, ◌+◌, ◌<◌, None, sym, subst}
 use Rattle.std.specs.FinMap as map
-use Rattle.btree_node.specs.Contents.{contents}
 use Rattle.marked_index.specs.Index.{IndexValue}
 use Rattle.marked_index.proofs.Actions.{place_left, room_set}
 use Rattle.marked_index.proofs.index.MarkedIndex.load.Goals as goal
 
 pub invariant_of-self : goal.invariant_of-self
 invariant_of-self g c =
-    let room : map.get (contents c.self.inside.tree) c.args.pair.now ≡ None
-    → map.len (contents c.self.inside.tree) + c.self.inside.pledged < c.self.inside.capacity =
+    let room : map.get c.self.inside.entries c.args.pair.now ≡ None
+    → map.len c.self.inside.entries + c.self.inside.pledged < c.self.inside.capacity =
     subst (λ (v : IndexValue). map.get v.entries c.args.pair.now ≡ None → map.len v.entries + v.pledged < v.capacity) (sym c.self.view_is)
     (place_left c.args.self.now c.args.pair.now _ c.lacks_place.ensures c.if-lacks_place.false) in
-    room_set (contents c.self.inside.tree) _ c.args.pair.now c.in-Some.mark _ _ c.set.result c.self.invariant room c.set.ensures.set c.set.ensures.unchanged
+    room_set c.self.inside.entries _ c.args.pair.now c.in-Some.mark _ _ c.set.result c.self.invariant room c.set.ensures.set c.set.ensures.unchanged
 
 pub invariant_of-self-2 : goal.invariant_of-self-2
 invariant_of-self-2 g c =
-    let room : map.get (contents c.self.inside.tree) c.args.pair.now ≡ None
-    → map.len (contents c.self.inside.tree) + c.self.inside.pledged < c.self.inside.capacity =
+    let room : map.get c.self.inside.entries c.args.pair.now ≡ None
+    → map.len c.self.inside.entries + c.self.inside.pledged < c.self.inside.capacity =
     subst (λ (v : IndexValue). map.get v.entries c.args.pair.now ≡ None → map.len v.entries + v.pledged < v.capacity) (sym c.self.view_is)
     (place_left c.args.self.now c.args.pair.now _ c.lacks_place.ensures c.if-lacks_place.false) in
-    room_set (contents c.self.inside.tree) _ c.args.pair.now c.in-Some.mark _ _ c.set.result c.self.invariant room c.set.ensures.set c.set.ensures.unchanged
+    room_set c.self.inside.entries _ c.args.pair.now c.in-Some.mark _ _ c.set.result c.self.invariant room c.set.ensures.set c.set.ensures.unchanged
