@@ -51,6 +51,14 @@ pub trait Blocks {
         ensures err { OnErr result ((past_of self.new).file ≡ (past_of self.old).file) }
         ensures time { Elapses (past_of self.old) (past_of self.new) }
         ensures counts { CountsFailure (failures self.old) (failures self.new) result };
+
+    /// Writes so many blocks again as they are, from the first one's number on, and syncs them. So what a sync of an
+    /// earlier process left in the memory of the system alone is safe then. Nothing changes, whatever it answers: a
+    /// crash within it leaves what one before it does. (So a write of the bytes that a block has is to harm nothing.)
+    fn keep(&mut self, first: u64, count: u64) -> Result<(), Failed>
+        requires { first + count ≤ length (past_of self.old).file.content }
+        ensures past { past_of self.new ≡ past_of self.old }
+        ensures counts { CountsFailure (failures self.old) (failures self.new) result };
 }
 
 /// A law: a file has fewer than 2^64 blocks.

@@ -135,4 +135,15 @@ impl<A: Allocator + Copy> Blocks for MemBlocks<A> {
         self.held.settle();
         Ok(())
     }
+
+    /// It does nothing: what it holds is its own, and no sync leaves any of it behind. It never fails.
+    fn keep(&mut self, _first: u64, _count: u64) -> Result<(), Failed>
+        requires { _first + _count ≤ length (past_of self.old).file.content }
+        ensures past { past_of self.new ≡ past_of self.old }
+        ensures counts { CountsFailure (failures_of self.old) (failures_of self.new) result }
+        ensures succeeds { IsOk result }
+        ensures same { self.new ≡ self.old }
+    {
+        Ok(())
+    }
 }

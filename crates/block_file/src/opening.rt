@@ -223,11 +223,12 @@ fn compared<B: Blocks, A: Allocator + Copy>(
 /// data is compared with its digest. No block of the file is loose. So each sector can be read, where the file
 /// doesn't fail (`good`).
 ///
-/// The blocks of the batch before the last one are put in their places; what was read is not written back. Once each
-/// block fits, the last batch is handed on as one of its own, and then all blocks are put in their places: no area of
-/// the journal is needed, and no block is loose (`alone`, `safe`, `handed`). So what was acknowledged is not in the
-/// journal alone. Behind the last numbers of 64 bits none can be handed on (`failed`).
-/// (That the last batch is handed on before its blocks come to their places, no clause says.)
+/// What was read of the journal's areas is written back, and synced, before anything else is written. The blocks of the
+/// batch before the last one are put in their places. Once each block fits, the last batch is handed on as one of its
+/// own, and then all blocks are put in their places: no area of the journal is needed, and no block is loose (`alone`,
+/// `safe`, `handed`). So what was acknowledged is not in the journal alone. Behind the last numbers of 64 bits none can
+/// be handed on (`failed`). (That the areas are written back, and that the last batch is handed on before its blocks
+/// come to their places, no clause says.)
 ///
 /// Whatever it answers, a crash at any moment of it leaves, under the premise, what stands for the same blocks
 /// (`any_moment`, `refused`), behind the same headers (`headers`, `headers_refused`). The premise is needed only once

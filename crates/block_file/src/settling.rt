@@ -12,9 +12,9 @@ use block_table::CheckedBlocks;
 use sector_device::Failed;
 use std::alloc::Allocator;
 
-/// Puts all blocks of a file that was just opened in their places. After a sync that failed, the last batch may be in
-/// the memory of the system alone. So it is handed on first, as a batch of its own in the other area: no block of it
-/// comes to its place before it is safe there. Behind an empty batch no area is needed.
+/// Puts all blocks of a file that was just opened in their places. The last batch is handed on first, as a batch of its
+/// own in the other area, over the one before it: the journal's opening has made the last one safe in its own. No block
+/// of it comes to its place before that. Behind an empty batch no area is needed.
 pub(crate) fn settle<B: Blocks, A: Allocator + Copy>(
     checked: &mut CheckedBlocks<B, A>,
 ) -> Result<(), Failed>

@@ -180,6 +180,25 @@ impl<F: Stored + Drop, A: Allocator> FileBlocks<F, A> {
     {
         !self.has_failed && self.below.sync().is_ok()
     }
+
+    // Whether what is below took these blocks once more, and synced them.
+    fn keep_below(&mut self, first: u64, count: u64) -> bool
+        requires { first + count ≤ length (past_of self.old).file.content }
+        ensures held { self.new.held ≡ self.old.held }
+        ensures past { self.new.past ≡ self.old.past }
+        ensures failures { self.new.failures ≡ self.old.failures }
+        ensures failed { self.new.has_failed ≡ self.old.has_failed }
+        ensures sound { result ≡ true → self.old.has_failed ≡ false }
+        ensures alone { self.old.has_failed ≡ true → self.new.below ≡ self.old.below }
+    {
+        if self.has_failed {
+            return false;
+        }
+        let at = first as usize;
+        let end = at + count as usize;
+        let run = &self.held.content[at..end];
+        put_blocks(&mut self.below, first, run).is_ok() && self.below.sync().is_ok()
+    }
 }
 
 impl<F: Backing + Drop, A: Allocator> Troubled for FileBlocks<F, A> {
@@ -256,6 +275,23 @@ impl<F: Stored + Drop, A: Allocator> Blocks for FileBlocks<F, A> {
         }
         self.past = self.past.and(&self.held);
         self.held.settle();
+        Ok(())
+    }
+
+    /// Writes the mirror's bytes to what is below, and syncs that. One that has failed fails from then on (`sound`,
+    /// `failed`), and leaves what is below as it is (`alone`).
+    fn keep(&mut self, first: u64, count: u64) -> Result<(), Failed>
+        requires { first + count ≤ length (past_of self.old).file.content }
+        ensures past { past_of self.new ≡ past_of self.old }
+        ensures counts { CountsFailure (failures_of self.old) (failures_of self.new) result }
+        ensures sound { OnOk result ((has_failed_of self.old ≡ false) × (has_failed_of self.new ≡ false)) }
+        ensures failed { OnErr result (has_failed_of self.new ≡ true) }
+        ensures alone { has_failed_of self.old ≡ true → below_of self.new ≡ below_of self.old }
+    {
+        if !self.keep_below(first, count) {
+            self.refuse();
+            return Err(Failed);
+        }
         Ok(())
     }
 }

@@ -53,7 +53,9 @@ impl<B: Blocks, A: Allocator> Model for Journal<B, A> {
 }
 
 impl<B: Blocks, A: Allocator + Copy> Journal<B, A> {
-    /// Opens the journal of a file. What the last batches left that a crash cut off is replayed, and synced.
+    /// Opens the journal of a file. What was read of its areas is written back, and synced, where one has a batch: a
+    /// sync that failed may have left it in the memory of the system alone. (No clause says that.) Then what the last
+    /// batches left that a crash cut off is replayed, and synced.
     ///
     /// No block is loose but those that a replay sets. Whatever it answers, a crash at any moment of it leaves what
     /// stands for the same blocks (`any_moment`, `refused`), and has the batches of both areas (`batches`,

@@ -11,7 +11,7 @@ ghost use Rattle.block_journal.specs.Value.{content_of, next_batch, settled_of};
 
 use crate::gathered::Gathered;
 use crate::lookup::read_block;
-use crate::reading::{areas_of, read_areas, replay};
+use crate::reading::{areas_of, replay, take_areas};
 use crate::writing::write_batch;
 use crate::{OpenError, Shape};
 use block_device::{BLOCK_SIZE, Blocks};
@@ -114,7 +114,8 @@ impl<B: Blocks, A: Allocator + Copy> JournalParts<B, A> {
         Ok(())
     }
 
-    /// Reads the areas of a file that isn't opened yet, into empty buffers, and replays what is pending.
+    /// Reads the areas of a file that isn't opened yet, into empty buffers, writes them back, and replays what is
+    /// pending.
     pub(crate) fn recover(&mut self) -> Result<(), OpenError>
         requires inside { IsInside self.old.shape (B.past_of self.old.below).file.content }
         requires small { kept_start self.old.shape + self.old.shape.kept < 2 ^ 64 }
@@ -144,7 +145,7 @@ impl<B: Blocks, A: Allocator + Copy> JournalParts<B, A> {
         ensures failed { IfErr result (λ e. e ≡ OpenError.FileFailed
             → Rises (B.failures self.old.below) (B.failures self.new.below)) }
     {
-        match read_areas(&mut self.below, self.shape, &mut self.last, &mut self.next) {
+        match take_areas(&mut self.below, self.shape, &mut self.last, &mut self.next) {
             Err(_) => Err(OpenError::FileFailed),
             Ok(None) => Err(OpenError::NoBatch),
             Ok(Some((number, before))) => self.settle(number, before),

@@ -98,9 +98,9 @@ fn read_area<B: Blocks, A: Allocator + Copy>(
     Ok(buffer.load(a))
 }
 
-/// Reads both areas into empty buffers: the last batch into the one, and what comes before it into the other. Their
-/// numbers, or nothing where neither area has a batch.
-pub(crate) fn read_areas<B: Blocks, A: Allocator + Copy>(
+// Reads both areas into empty buffers: the last batch into the one, and what comes before it into the other. Their
+// numbers, or nothing where neither area has a batch.
+fn read_areas<B: Blocks, A: Allocator + Copy>(
     below: &mut B,
     shape: Shape,
     last: &mut Gathered<A>,
@@ -132,6 +132,53 @@ pub(crate) fn read_areas<B: Blocks, A: Allocator + Copy>(
         Some(order) => {
             order.arrange(last, other);
             Ok(Some((order.number, order.before)))
+        }
+    }
+}
+
+// Writes both areas back as they are, and syncs them.
+fn keep_areas<B: Blocks>(below: &mut B, shape: Shape) -> Result<(), Failed>
+    requires inside { IsInside shape (B.past_of below.old).file.content }
+    requires small { kept_start shape + shape.kept < 2 ^ 64 }
+    ensures reads { OnlyReads (B.past_of below.old) (B.past_of below.new) }
+    ensures counts { CountsFailure (B.failures below.old) (B.failures below.new) result }
+{
+    below.keep(shape.first, 2 * shape.area)
+}
+
+/// Reads both areas as [`read_areas`] does. Where one has a batch, what was read is written back, and synced: a sync of
+/// an earlier process that failed may have left it in the memory of the system alone.
+pub(crate) fn take_areas<B: Blocks, A: Allocator + Copy>(
+    below: &mut B,
+    shape: Shape,
+    last: &mut Gathered<A>,
+    other: &mut Gathered<A>,
+) -> Result<Option<(u64, Option<u64>)>, Failed>
+    requires inside { IsInside shape (B.past_of below.old).file.content }
+    requires small { kept_start shape + shape.kept < 2 ^ 64 }
+    requires last { IsBuffer last.old }
+    requires last_size { length last.old.area.items ≡ shape.area }
+    requires last_none { last.old.count ≡ 0 }
+    requires other { IsBuffer other.old }
+    requires other_size { length other.old.area.items ≡ shape.area }
+    requires other_none { other.old.count ≡ 0 }
+    ensures taken { IfOk result (λ found. IfSome found (λ numbers. HasTakenBoth shape
+        (B.past_of below.old).file.content numbers.0 numbers.1 last.new other.new)) }
+    ensures none { IfOk result (λ numbers. numbers ≡ None → (found shape (B.past_of below.old).file.content 0 ≡ None)
+        × (found shape (B.past_of below.old).file.content 1 ≡ None)) }
+    ensures last { IsBuffer last.new }
+    ensures last_size { length last.new.area.items ≡ shape.area }
+    ensures other { IsBuffer other.new }
+    ensures other_size { length other.new.area.items ≡ shape.area }
+    ensures reads { OnlyReads (B.past_of below.old) (B.past_of below.new) }
+    ensures counts { CountsFailure (B.failures below.old) (B.failures below.new) result }
+{
+    let found = read_areas(below, shape, last, other)?;
+    match found {
+        None => Ok(None),
+        Some(numbers) => {
+            keep_areas(below, shape)?;
+            Ok(Some(numbers))
         }
     }
 }

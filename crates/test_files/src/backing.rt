@@ -12,6 +12,8 @@ pub enum Loss {
     Kept,
     // The first half of each is there.
     Torn,
+    // The same of each that the next sync would have written. What a sync that failed left is dropped.
+    TornDirty,
 }
 
 /// A sector.
@@ -41,6 +43,8 @@ impl Page {
             Loss::Dropped => self.safe,
             Loss::Kept => self.shown,
             Loss::Torn => torn(&self.safe, &self.shown),
+            Loss::TornDirty if self.is_dirty => torn(&self.safe, &self.shown),
+            Loss::TornDirty => self.safe,
         }
     }
 

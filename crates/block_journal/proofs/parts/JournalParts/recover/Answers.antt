@@ -15,8 +15,8 @@ use Rattle.block_journal.proofs.Recovering.{stays_recovered, within_pending}
 use Rattle.block_journal.proofs.Results.{err_rises, on_ok}
 use Rattle.block_journal.proofs.parts.JournalParts.recover.Goals as goal
 
-pub read_areas-requires : goal.read_areas-requires
-read_areas-requires g c = record {
+pub take_areas-requires : goal.take_areas-requires
+take_areas-requires g c = record {
   inside = c.requires.inside;
   small = c.requires.small;
   last = c.requires.last.buffer;
@@ -31,7 +31,7 @@ pub returns-in-Err : goal.returns-in-Err
 returns-in-Err g c =
     let h = g.B.Blocks.past_of in
     let p = c.args.self.now in
-    let reads = c.read_areas.ensures.reads in
+    let reads = c.take_areas.ensures.reads in
     record {
       sound = tt;
       good = tt;
@@ -41,16 +41,16 @@ returns-in-Err g c =
       found = tt;
       shape = refl;
       refused = refl;
-      stays = stays_recovered p.shape (h p.below) (h c.read_areas.new.below) c.requires.inside
+      stays = stays_recovered p.shape (h p.below) (h c.take_areas.new.below) c.requires.inside
           (within_same (InRunOrKept p.shape 0 0 (pending_in p.shape (h p.below).file.content)) (h p.below).file.content (h p.below) (h p.below)
-          (h c.read_areas.new.below) (within_pending p.shape (h p.below) c.requires.synced) reads.time reads.file);
-      before = leaves_before p.shape (InRunOrKept p.shape 0 0 (pending_in p.shape (h p.below).file.content)) (h p.below) (h c.read_areas.new.below)
+          (h c.take_areas.new.below) (within_pending p.shape (h p.below) c.requires.synced) reads.time reads.file);
+      before = leaves_before p.shape (InRunOrKept p.shape 0 0 (pending_in p.shape (h p.below).file.content)) (h p.below) (h c.take_areas.new.below)
           (not_by_replay p.shape (pending_in p.shape (h p.below).file.content))
           (within_same (InRunOrKept p.shape 0 0 (pending_in p.shape (h p.below).file.content)) (h p.below).file.content (h p.below) (h p.below)
-          (h c.read_areas.new.below) (within_pending p.shape (h p.below) c.requires.synced) reads.time reads.file);
-      batches = keeps_areas p.shape (pending_in p.shape (h p.below).file.content) (h p.below) (h c.read_areas.new.below) c.requires.inside
+          (h c.take_areas.new.below) (within_pending p.shape (h p.below) c.requires.synced) reads.time reads.file);
+      batches = keeps_areas p.shape (pending_in p.shape (h p.below).file.content) (h p.below) (h c.take_areas.new.below) c.requires.inside
           (within_same (InRunOrKept p.shape 0 0 (pending_in p.shape (h p.below).file.content)) (h p.below).file.content (h p.below) (h p.below)
-          (h c.read_areas.new.below) (within_pending p.shape (h p.below) c.requires.synced) reads.time reads.file);
+          (h c.take_areas.new.below) (within_pending p.shape (h p.below) c.requires.synced) reads.time reads.file);
       quiet = tt;
       no_memory = λ never. absurd (cc);
       no_batch = λ never. absurd (cc);
@@ -61,7 +61,7 @@ pub returns-in-Ok-None : goal.returns-in-Ok-None
 returns-in-Ok-None g c =
     let h = g.B.Blocks.past_of in
     let p = c.args.self.now in
-    let reads = c.read_areas.ensures.reads in
+    let reads = c.take_areas.ensures.reads in
     record {
       sound = tt;
       good = tt;
@@ -71,16 +71,16 @@ returns-in-Ok-None g c =
       found = tt;
       shape = refl;
       refused = refl;
-      stays = stays_recovered p.shape (h p.below) (h c.read_areas.new.below) c.requires.inside
+      stays = stays_recovered p.shape (h p.below) (h c.take_areas.new.below) c.requires.inside
           (within_same (InRunOrKept p.shape 0 0 (pending_in p.shape (h p.below).file.content)) (h p.below).file.content (h p.below) (h p.below)
-          (h c.read_areas.new.below) (within_pending p.shape (h p.below) c.requires.synced) reads.time reads.file);
-      before = leaves_before p.shape (InRunOrKept p.shape 0 0 (pending_in p.shape (h p.below).file.content)) (h p.below) (h c.read_areas.new.below)
+          (h c.take_areas.new.below) (within_pending p.shape (h p.below) c.requires.synced) reads.time reads.file);
+      before = leaves_before p.shape (InRunOrKept p.shape 0 0 (pending_in p.shape (h p.below).file.content)) (h p.below) (h c.take_areas.new.below)
           (not_by_replay p.shape (pending_in p.shape (h p.below).file.content))
           (within_same (InRunOrKept p.shape 0 0 (pending_in p.shape (h p.below).file.content)) (h p.below).file.content (h p.below) (h p.below)
-          (h c.read_areas.new.below) (within_pending p.shape (h p.below) c.requires.synced) reads.time reads.file);
-      batches = keeps_areas p.shape (pending_in p.shape (h p.below).file.content) (h p.below) (h c.read_areas.new.below) c.requires.inside
+          (h c.take_areas.new.below) (within_pending p.shape (h p.below) c.requires.synced) reads.time reads.file);
+      batches = keeps_areas p.shape (pending_in p.shape (h p.below).file.content) (h p.below) (h c.take_areas.new.below) c.requires.inside
           (within_same (InRunOrKept p.shape 0 0 (pending_in p.shape (h p.below).file.content)) (h p.below).file.content (h p.below) (h p.below)
-          (h c.read_areas.new.below) (within_pending p.shape (h p.below) c.requires.synced) reads.time reads.file);
+          (h c.take_areas.new.below) (within_pending p.shape (h p.below) c.requires.synced) reads.time reads.file);
       quiet = tt;
       no_memory = λ never. absurd (cc);
       no_batch = λ _. c.in-Ok-None.ensures.none c.in-Ok-None.field-0-is;
@@ -91,7 +91,7 @@ pub settle-requires : goal.settle-requires
 settle-requires g c =
     let h = g.B.Blocks.past_of in
     let p = c.args.self.now in
-    let read = c.read_areas.ensures in
+    let read = c.take_areas.ensures in
     record {
       inside = subst (λ (f : BlockFile). IsInside p.shape f.content) (sym read.reads.file) c.requires.inside;
       small = c.requires.small;
@@ -99,7 +99,7 @@ settle-requires g c =
       last_size = read.last_size;
       next = read.other;
       next_size = read.other_size;
-      taken = subst (λ (f : BlockFile). HasTakenBoth p.shape f.content c.in-Ok-Some.number c.in-Ok-Some.before c.read_areas.new.last c.read_areas.new.other)
+      taken = subst (λ (f : BlockFile). HasTakenBoth p.shape f.content c.in-Ok-Some.number c.in-Ok-Some.before c.take_areas.new.last c.take_areas.new.other)
           (sym read.reads.file) (rw c.in-Ok-Some.field-0-is at c.in-Ok-Some.ensures.taken);
     }
 
@@ -107,20 +107,20 @@ pub returns-in-Ok-Some : goal.returns-in-Ok-Some
 returns-in-Ok-Some g c =
     let h = g.B.Blocks.past_of in
     let p = c.args.self.now in
-    let reads = c.read_areas.ensures.reads in
+    let reads = c.take_areas.ensures.reads in
     let same = reads.file in
     let r = c.settle.result in
     let done = c.settle.ensures in
     let counted = c.in-Ok-Some.ensures.counts.none in
     let S = λ (f : BlockFile). InRunOrKept p.shape 0 0 (pending_in p.shape f.content) in
     let old = (h p.below).file in
-    let mid = (h c.read_areas.new.below).file in
-    let read : RunsWithin (S old) old.content (h p.below) (h c.read_areas.new.below) =
-    within_same (S old) old.content (h p.below) (h p.below) (h c.read_areas.new.below) (within_pending p.shape (h p.below) c.requires.synced) reads.time same in
+    let mid = (h c.take_areas.new.below).file in
+    let read : RunsWithin (S old) old.content (h p.below) (h c.take_areas.new.below) =
+    within_same (S old) old.content (h p.below) (h p.below) (h c.take_areas.new.below) (within_pending p.shape (h p.below) c.requires.synced) reads.time same in
     let within : RunsWithin (S old) old.content (h p.below) (h c.settle.new.self.below) =
     subst (λ (f : BlockFile). RunsWithin (S f) old.content (h p.below) (h c.settle.new.self.below)) same
     (done.within old.content (h p.below)
-    (subst (λ (f : BlockFile). RunsWithin (S f) old.content (h p.below) (h c.read_areas.new.below)) (sym same) read)) in
+    (subst (λ (f : BlockFile). RunsWithin (S f) old.content (h p.below) (h c.take_areas.new.below)) (sym same) read)) in
     record {
       sound = done.sound;
       good = done.good;
