@@ -19,7 +19,7 @@ use Rattle.threads_lifetime.specs.Closing.{GivesSome, up_to}
 use Rattle.threads_lifetime.specs.Gathered.{sessions_of}
 use Rattle.program_team.proofs.Orders.{get_first, in_mapped}
 use Rattle.program_team.specs.Kept.{HasTicket, KeepsTold, LeavesOpened, told_ticket}
-use Rattle.program_team.specs.Private.{AllTell, HasMade, Tells}
+use Rattle.program_team.specs.Private.{AllTell, HasMade}
 use Rattle.program_team.specs.declared.writer.Acknowledged.{Acknowledged}
 
 head_is : {X : Type 0} {x y : X} {xs ys : List X} → x ∷ xs ≡ y ∷ ys → x ≡ y
