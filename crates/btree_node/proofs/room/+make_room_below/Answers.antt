@@ -139,7 +139,8 @@ pub returns-then-hand_at-clause-made : goal.returns-then-hand_at-clause-made
 returns-then-hand_at-clause-made g t c =
     let seen = inner_is _ _ _ c.node.view_is c.in-Inner.is in
     let s = sound_inner _ _ c.node.invariant c.in-Inner.is in
-    made_here _ c.in-Inner.row.items _ c.args.pair.now seen s.2 c.requires.ascending (c.place-at.ensures ∙ place_in-row c.args.pair.now c.in-Inner.row.items _ seen s.2)
+    made_here _ c.in-Inner.row.items _ c.args.pair.now seen s.2 c.requires.ascending
+    (c.place-at.ensures ∙ place_in-row c.args.pair.now c.in-Inner.row.items _ seen s.2)
     (sym c.if-hand_at.true ∙ c.hand_at.ensures.made)
 
 pub returns-clause-made : goal.returns-clause-made
