@@ -4,43 +4,13 @@ use model::Life;
 use nsf_core::Core;
 use program_files::Stored;
 use program_values::Answer;
-use records::{Geometry, Mark, Pair, Rid, SLOTS_PER_PAGE};
+use records::{Geometry, SLOTS_PER_PAGE};
 use std::alloc::Global;
 use std::io;
 use std::io::Write;
 
 // The version of a store that isn't small.
 const LARGE_VERSION: u32 = VERSION + 1;
-
-// How many rows there are.
-fn rows_in(core: &Core<Global>) -> u64 {
-    let mut rows: u64 = 0;
-    for page in 0..core.pages() {
-        for slot in 0..SLOTS_PER_PAGE {
-            if core.get(Rid { page, slot }).is_some() {
-                rows = rows.saturating_add(1);
-            }
-        }
-    }
-    rows
-}
-
-// How many entries are live, and how many marked.
-fn entries_in(core: &Core<Global>) -> (u64, u64) {
-    let (mut live, mut marked): (u64, u64) = (0, 0);
-    let mut last: Option<Pair> = None;
-    for _ in 0..u32::MAX {
-        let Some((pair, mark)) = core.above(last.as_ref()) else {
-            break;
-        };
-        match mark {
-            Mark::Live => live = live.saturating_add(1),
-            Mark::Marked => marked = marked.saturating_add(1),
-        }
-        last = Some(pair);
-    }
-    (live, marked)
-}
 
 fn write_life<W: Write>(life: Life, output: &mut W) -> io::Result<()> {
     let answer = Answer::Life(life);
@@ -80,16 +50,15 @@ fn sizes_of(stored: &Stored) -> [Told; 7] {
 // How many rows and entries there are, and how many more there is room for. No transaction is active behind an opening,
 // so no place is reserved.
 fn counts_of(core: &Core<Global>, geometry: Geometry) -> [Told; 6] {
-    let rows = rows_in(core);
-    let (live, marked) = entries_in(core);
-    let places = u64::from(geometry.entries);
+    let counts = core.counts();
+    let (rows, entries) = (counts.rows as u64, counts.entries as u64);
     let room = u64::from(geometry.pages).saturating_mul(u64::from(SLOTS_PER_PAGE));
     [
         ("rows", rows),
-        ("live", live),
-        ("marked", marked),
+        ("live", counts.visible() as u64),
+        ("marked", counts.marked as u64),
         ("reserved", 0),
-        ("free", places.saturating_sub(live.saturating_add(marked))),
+        ("free", u64::from(geometry.entries).saturating_sub(entries)),
         ("rows free", room.saturating_sub(rows)),
     ]
 }

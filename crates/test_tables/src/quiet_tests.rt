@@ -153,6 +153,43 @@ fn use_tree<A: Allocator + Copy>(rt: &impl Abort, memory: &Memory, within: A) ->
     used
 }
 
+fn make_room<A: Allocator + Copy>(tree: &mut BTree<A>, pair: &Pair) -> bool {
+    tree.make_room(pair)
+}
+
+// A full leaf behind a half full one hands it entries, and then has room.
+fn hand_over<A: Allocator + Copy>(rt: &impl Abort, tree: &mut BTree<A>, pair: &Pair) {
+    let full = put_in_leaf(rt, tree, pair, Mark::Live);
+    claim(rt, full == InLeaf::NoRoom, "a full leaf behind another");
+    claim(rt, make_room(tree, pair), "a half full leaf before it");
+    let with_room = put_in_leaf(rt, tree, pair, Mark::Live);
+    claim(rt, with_room == InLeaf::Added, "a leaf that has room now");
+    claim(rt, !make_room(tree, pair), "a leaf that isn't full");
+    claim(rt, tree.len() == 49, "49 pairs");
+}
+
+// Two leaves: the first one is half full, the second one is full.
+fn fill_and_hand<A: Allocator + Copy>(
+    rt: &impl Abort,
+    memory: &Memory,
+    tree: &mut BTree<A>,
+) -> Result<(), Error> {
+    let pair = pair_of(48)?;
+    for number in 0..48u32 {
+        put(rt, tree, number)?;
+    }
+    memory.refuse_after(0);
+    hand_over(rt, tree, &pair);
+    Ok(())
+}
+
+fn use_leaves<A: Allocator + Copy>(rt: &impl Abort, memory: &Memory, within: A) -> Result<(), Error> {
+    let mut tree = BTree::new(within);
+    let used = fill_and_hand(rt, memory, &mut tree);
+    forget(tree);
+    used
+}
+
 fn pledge<A: Allocator + Copy>(rt: &impl Abort, index: &mut MarkedIndex<A>) -> Result<(), Error> {
     index.pledge()?;
     assert!(rt; 0 < index.pledged());
@@ -460,6 +497,7 @@ fn use_part<A: Allocator + Copy>(
         4 => use_scan(rt, memory, within, row, pair),
         5 => use_core(rt, memory, within, &row),
         6 => use_disk(rt, memory, within),
+        8 => use_leaves(rt, memory, within),
         _ => use_board(rt, memory, within),
     }
 }
@@ -498,7 +536,7 @@ pub(crate) fn begin_without<A: Allocator + Copy>(memory: &Memory, within: A) -> 
 // The count is not blind: a call that wants memory is refused, and counted.
 #[test]
 fn these_calls_make_no_call_of_the_allocator(rt: HostRuntime) {
-    for part in 0..8 {
+    for part in 0..9 {
         look_at_part(&rt, rt.alloc(), part);
     }
     let (begun, refused) = do_job(&rt, rt.alloc(), u64::MAX, Job::BeginWithout);

@@ -20,8 +20,8 @@ const CHANGES: u16 = 15;
 // The most rows that the first writer puts before both loops are held.
 const ROWS_MAX: u16 = 60;
 
-// Within so many steps the cleaner has looked at each entry.
-const STEPS_OF_CLEANER: u64 = 400;
+// Within so many steps the cleaner has come to a marked entry: it passes over the live ones before it.
+const STEPS_OF_CLEANER: u64 = 16;
 
 // The first halves of the keys of other rows than the writers'.
 const FILLING: u16 = 101;
