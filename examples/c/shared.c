@@ -79,17 +79,22 @@ static void *write_rows(void *at)
     return NULL;
 }
 
-/* Counts the pairs of a scan, a few at a time. */
-static unsigned long count_pairs(nsf_seat *seat, nsf_scan scan)
+/* Counts the pairs of a scan, a few at a time, by nsf_seat_scan or from the end by nsf_seat_scan_back. */
+static unsigned long count_by(nsf_seat *seat, nsf_scan scan, uint32_t (*read)(nsf_seat *, nsf_scan *, nsf_reply *, size_t, size_t *))
 {
     nsf_reply pairs[16];
     size_t count;
     unsigned long all = 0;
     do {
-        must(nsf_seat_scan(seat, &scan, pairs, 16, &count), "scan");
+        must(read(seat, &scan, pairs, 16, &count), "scan");
         all += count;
     } while (count == 16);
     return all;
+}
+
+static unsigned long count_pairs(nsf_seat *seat, nsf_scan scan)
+{
+    return count_by(seat, scan, nsf_seat_scan);
 }
 
 static void await_index(nsf_seat *seat)
@@ -162,7 +167,8 @@ int main(int words, char **word)
     must(nsf_shared_open(&shared, word[1]), word[1]);
     must(nsf_seat_take(&seat, &shared), "take a seat");
     await_index(&seat);
-    const bool is_same = count_rows(&seat) == rows && count_pairs(&seat, nsf_scan_all()) == rows;
+    const bool is_same = count_rows(&seat) == rows && count_pairs(&seat, nsf_scan_all()) == rows
+        && count_by(&seat, nsf_scan_all(), nsf_seat_scan_back) == rows;
     printf("rows of the first writer %lu\n", count_pairs(&seat, nsf_scan_prefix("w0-", 3)));
     printf("all as it was acknowledged: %s\n", is_same ? "yes" : "no");
     nsf_seat_leave(&seat);

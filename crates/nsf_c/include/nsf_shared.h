@@ -660,11 +660,11 @@ static inline uint32_t nsf_seat_find(nsf_seat *seat, const void *key, size_t key
     return refused;
 }
 
-static inline uint32_t nsf_serve_scan(nsf_shared *shared, nsf_request *request)
+static inline uint32_t nsf_serve_pairs(nsf_shared *shared, nsf_request *request, uint32_t (*read)(nsf_handle *, nsf_scan *, nsf_reply *))
 {
     uint32_t refused = NSF_OK;
     while (request->number < request->room) {
-        refused = nsf_scan_next(shared->handle, request->scan, &request->replies[request->number]);
+        refused = read(shared->handle, request->scan, &request->replies[request->number]);
         if (refused || request->replies[request->number].kind == NSF_AT_END)
             break;
         request->number++;
@@ -672,16 +672,38 @@ static inline uint32_t nsf_serve_scan(nsf_shared *shared, nsf_request *request)
     return refused;
 }
 
-/* The next pairs of a scan, as many as there is room for, all of one moment; fewer where no more are left. Tells how many. */
-static inline uint32_t nsf_seat_scan(nsf_seat *seat, nsf_scan *scan, nsf_reply *pairs, size_t room, size_t *count)
+static inline uint32_t nsf_serve_scan(nsf_shared *shared, nsf_request *request)
+{
+    return nsf_serve_pairs(shared, request, nsf_scan_next);
+}
+
+static inline uint32_t nsf_serve_scan_back(nsf_shared *shared, nsf_request *request)
+{
+    return nsf_serve_pairs(shared, request, nsf_scan_previous);
+}
+
+static inline uint32_t nsf_want_pairs(nsf_seat *seat, nsf_scan *scan, nsf_reply *pairs, size_t room, size_t *count,
+                                      uint32_t (*serve)(nsf_shared *, nsf_request *))
 {
     nsf_request request = nsf_no_request();
     request.scan = scan;
     request.replies = pairs;
     request.room = room;
-    uint32_t refused = nsf_want(seat, &request, nsf_serve_scan);
+    uint32_t refused = nsf_want(seat, &request, serve);
     *count = (size_t)request.number;
     return refused;
+}
+
+/* The next pairs of a scan, as many as there is room for, all of one moment; fewer where no more are left. Tells how many. */
+static inline uint32_t nsf_seat_scan(nsf_seat *seat, nsf_scan *scan, nsf_reply *pairs, size_t room, size_t *count)
+{
+    return nsf_want_pairs(seat, scan, pairs, room, count, nsf_serve_scan);
+}
+
+/* The same from the end: at first the last pairs of the scan, the last one first. A scan of what is committed is refused. */
+static inline uint32_t nsf_seat_scan_back(nsf_seat *seat, nsf_scan *scan, nsf_reply *pairs, size_t room, size_t *count)
+{
+    return nsf_want_pairs(seat, scan, pairs, room, count, nsf_serve_scan_back);
 }
 
 static inline uint32_t nsf_serve_create_index(nsf_shared *shared, nsf_request *request)

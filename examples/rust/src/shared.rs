@@ -15,6 +15,8 @@ const BUILD_STEPS_A_FLUSH: u32 = 1024;
 
 type Job = Box<dyn FnOnce(&mut Owner) + Send>;
 type Waiting = Box<dyn FnOnce(Result<(), u32>) + Send>;
+// reads a pair of a range, from either end
+type ReadPair = fn(&mut Range, &mut Store) -> Result<Option<Pair>, Refused>;
 
 enum Wanted {
     // what is done at once
@@ -444,11 +446,21 @@ impl Seat {
 
     /// The next pairs of a range, so many at most, all of one moment; fewer where no more are left.
     pub fn scan(&self, range: &mut Range, limit: usize) -> Result<Vec<Pair>, Refused> {
+        self.read(range, limit, Range::read_next)
+    }
+
+    /// The same from the end: at first the last pairs of the range, the last one first. A range that is read as is
+    /// committed is refused.
+    pub fn scan_back(&self, range: &mut Range, limit: usize) -> Result<Vec<Pair>, Refused> {
+        self.read(range, limit, Range::read_previous)
+    }
+
+    fn read(&self, range: &mut Range, limit: usize, read: ReadPair) -> Result<Vec<Pair>, Refused> {
         let mut here = range.clone();
         let (pairs, there) = self.ask(move |owner| {
             let mut pairs = Vec::new();
             while pairs.len() < limit {
-                match here.read_next(&mut owner.store)? {
+                match read(&mut here, &mut owner.store)? {
                     Some(pair) => pairs.push(pair),
                     None => break,
                 }

@@ -90,6 +90,24 @@ fn what_is_committed_is_read_beside_what_is_not() {
 }
 
 #[test]
+fn pairs_are_read_from_either_end() {
+    let shared = Shared::start(|| Store::in_memory(GEOMETRY)).unwrap();
+    let seat = shared.seat();
+    for key in [b"a", b"b", b"c"] {
+        seat.put(key, b"row").unwrap();
+    }
+    seat.create_index(PATIENCE).unwrap();
+    await_index(&seat);
+    let mut range = Range::all();
+    let last = seat.scan_back(&mut range, 2).unwrap();
+    assert_eq!([&last[0].key, &last[1].key], [b"c", b"b"]);
+    let first = seat.scan_back(&mut range, 2).unwrap();
+    assert_eq!(first.len(), 1);
+    assert_eq!(first[0].key, b"a");
+    assert!(seat.scan_back(&mut Range::all().committed(), 1).is_err());
+}
+
+#[test]
 fn creation_waits_and_then_gives_up() {
     let shared = Shared::start(|| Store::in_memory(GEOMETRY)).unwrap();
     let (seat, other) = (shared.seat(), shared.seat());
