@@ -209,6 +209,9 @@ typedef struct nsf_status {
     uint64_t last;     /* the number of the last record made */
     uint64_t horizon;  /* every record up to this one is synced */
     uint64_t attempts; /* attempts of the builder since the store was opened */
+    uint64_t rows;     /* rows of the table, committed or not */
+    uint64_t entries;  /* entries of the index */
+    uint64_t marked;   /* those of them that are marked; the others are visible */
     uint32_t pages;
     uint32_t life;     /* NSF_ABSENT to NSF_COMPLETE */
 } nsf_status;

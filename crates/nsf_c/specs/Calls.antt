@@ -15,6 +15,7 @@ use Rattle.flip_image.specs.declared.half.Half.TheVariants.{A}
 use Rattle.flip_image.specs.Store.{AreGatesClosed, IsFormatted}
 use Rattle.core_model.specs.Histories.{CanOpen}
 use Rattle.core_laws.specs.Holds.{committed_rows}
+use Rattle.core_parts.specs.Counts.{marked_in}
 use Rattle.core_parts.specs.Opening.{opened_of}
 use Rattle.core_parts.specs.View.{CoreValue}
 use Rattle.restart.specs.Parts.{core_of}
@@ -88,6 +89,9 @@ stat_of s = record {
   last = serving.last_made (store_of s);
   horizon = serving.horizon_of (store_of s);
   attempts = (core_of (serving.engine_of (store_of s))).attempts;
+  rows = map.len (core_of (serving.engine_of (store_of s))).heap.rows;
+  entries = map.len (core_of (serving.engine_of (store_of s))).index.entries;
+  marked = marked_in (core_of (serving.engine_of (store_of s))).index.entries;
   pages = serving.pages_of (store_of s);
   life = (life_told (serving.life_of (store_of s))).kind;
 }

@@ -101,10 +101,14 @@ pub extern "C" fn nsf_stat(alloc: Global, handle: &mut Handle, stat: &mut Stat)
 {
     let held = handle.take(alloc);
     let core = held.store.store().core();
+    let counts = core.counts();
     *stat = Stat {
         last: core.last(),
         horizon: held.store.store().horizon(),
         attempts: core.attempts(),
+        rows: counts.rows as u64,
+        entries: counts.entries as u64,
+        marked: counts.marked as u64,
         pages: core.pages(),
         life: life_told(&core.life()).kind,
     };

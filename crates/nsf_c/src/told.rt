@@ -35,6 +35,12 @@ pub struct Stat {
     pub horizon: u64,
     /// The attempts of the builder since the store was opened.
     pub attempts: u64,
+    /// The rows, committed or not.
+    pub rows: u64,
+    /// The entries of the index.
+    pub entries: u64,
+    /// Those of them that are marked.
+    pub marked: u64,
     /// The pages of rows.
     pub pages: u32,
     /// How far the index is, as the kind of a reply.

@@ -126,6 +126,12 @@ pub struct Status {
     pub last: u64,
     pub horizon: u64,
     pub attempts: u64,
+    /// Rows of the table, committed or not.
+    pub rows: u64,
+    /// Entries of the index.
+    pub entries: u64,
+    /// Those of them that are marked. The others are visible.
+    pub marked: u64,
     pub pages: u32,
     pub life: Life,
 }
@@ -447,6 +453,9 @@ impl Store {
             last: status.last,
             horizon: status.horizon,
             attempts: status.attempts,
+            rows: status.rows,
+            entries: status.entries,
+            marked: status.marked,
             pages: status.pages,
             life: match status.life {
                 kind::ABSENT => Life::Absent,

@@ -64,6 +64,9 @@ pub struct Status {
     pub last: u64,
     pub horizon: u64,
     pub attempts: u64,
+    pub rows: u64,
+    pub entries: u64,
+    pub marked: u64,
     pub pages: u32,
     pub life: u32,
 }
