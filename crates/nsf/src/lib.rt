@@ -41,7 +41,8 @@
 //! program's own: it makes an error of a reply that tells that nothing was done (`Refused`, `Skipped`, `LogFull`).
 //!
 //! The index is read in order by `scan`, a page of a range at a time, and `count` counts. They ask for a core: that of
-//! an engine is `engine.core()`, whose `counts` tells how many rows and entries there are, at once. Here the range is the keys that begin with a prefix.
+//! an engine is `engine.core()`, whose `counts` tells how many rows and entries there are, at once. Here the range is
+//! the keys that begin with a prefix.
 //!
 //! ```
 //! fn first_two(alloc: Global, core: &Core<Global>, prefix: Key) -> Result<(Page<Global>, Page<Global>), Error> {
