@@ -144,10 +144,10 @@ impl<A: Allocator + Clone> Entries<A> {
         if !self.tree.make_room(pair) {
             return false;
         }
-        match self.tree.put_in_leaf(pair, Mark::Live) {
-            InLeaf::Added => true,
-            InLeaf::Found(_) | InLeaf::NoRoom => false,
-        }
+        let InLeaf::Added = self.tree.put_in_leaf(pair, Mark::Live) else {
+            return false;
+        };
+        true
     }
 
     /// Puts a pair in, live, unless it has an entry, and says whether it did. The one error is `NoMemory`.
