@@ -11,7 +11,7 @@ use Rattle.model.specs.Pairs.{is_indexed}
 use Rattle.model.specs.Table.{Index}
 use Rattle.marked_index.specs.Passing.{IsBehindLive, IsLiveNext, IsLivePath}
 use Rattle.core_model.specs.Events.{Cleaner, Event, Kept}
-use Rattle.core_parts.specs.Passing.{HasKept, IsAtLive, IsFarPath, PassesLive}
+use Rattle.core_parts.specs.Passing.{HasKept, HasPassedRun, PassesLive}
 use Rattle.core_parts.specs.Private.{MayClean}
 use Rattle.core_parts.specs.View.{CoreValue, IsSafe, Serves}
 use Rattle.core_parts.proofs.Cleaning.{keep_serves}
@@ -19,35 +19,32 @@ use Rattle.core_parts.proofs.Due.{stays_safe}
 
 -- ---- a walk over live entries
 
--- so many steps of the walk came to this place
-pub record IsOnPath (index : Index) (start : Option Pair) (steps : ℕ) (end : Option Pair) : Type 0 where
+joined : (index : Index) (start mid end : Option Pair) (ps qs : List Pair) → IsLivePath index start ps mid → IsLivePath index mid qs end
+    → IsLivePath index start (ps ++ qs) end
+joined index start mid end [] qs first rest = subst (λ (o : Option Pair). IsLivePath index o qs end) first rest
+joined index start mid end (p ∷ ps) qs first rest = (first.0, joined index (Some p) mid end ps qs first.1 rest)
+
+-- the cleaner passed over so many runs at least
+pub record IsOnWay (v : CoreValue) (runs : ℕ) (new : CoreValue) : Type 0 where
+  pub place : Option Pair
   pub passed : List Pair
-  pub path : IsLivePath index start passed end
-  pub many : steps ≤ length passed
+  pub path : IsLivePath v.index.entries v.cleaned passed place
+  pub many : runs ≤ length passed
+  pub moved : new ≡ record v { cleaned = place }
 
-module _ (index : Index) where
-  joined : (start mid end : Option Pair) (ps qs : List Pair) → IsLivePath index start ps mid → IsLivePath index mid qs end
-      → IsLivePath index start (ps ++ qs) end
-  joined start mid end [] qs first rest = subst (λ o. IsLivePath index o qs end) first rest
-  joined start mid end (p ∷ ps) qs first rest = (first.0, joined (Some p) mid end ps qs first.1 rest)
+pub way_begun : (v : CoreValue) → IsOnWay v 0 v
+way_begun v = record { place = v.cleaned; passed = []; path = refl; many = omega arith; moved = refl }
 
-  pub path_begun : (start : Option Pair) → IsOnPath index start 0 start
-  path_begun start = record { passed = []; path = refl; many = omega arith }
-
-  pub path_more : (start place : Option Pair) (steps : ℕ) (last : Pair) → IsOnPath index start steps place → IsBehindLive index place last
-      → IsOnPath index start (steps + 1) (Some last)
-  path_more start place steps last on more = record {
-    passed = on.passed ++ more.passed;
-    path = joined start place (Some last) on.passed more.passed on.path more.path;
-    many = omega (arith, length-append on.passed more.passed, on.many, more.some);
-  }
-
-  pub path_ended : (start place : Option Pair) (steps most : ℕ) → IsOnPath index start steps place → (IsLiveNext index place → ⊥)
-      → IsFarPath index start most place
-  path_ended start place steps most on none = record { passed = on.passed; path = on.path; far = λ few next. none next }
-
-  pub path_long : (start place : Option Pair) (steps most : ℕ) → IsOnPath index start steps place → most ≤ steps → IsFarPath index start most place
-  path_long start place steps most on all = record { passed = on.passed; path = on.path; far = λ few next. absurd (omega (arith, few, on.many, all)) }
+pub way_more : (v mid new : CoreValue) (runs : ℕ) → IsOnWay v runs mid → HasPassedRun mid new → IsOnWay v (runs + 1) new
+way_more v mid new runs on run =
+    let here : HasPassedRun (record v { cleaned = on.place }) new = subst (λ (m : CoreValue). HasPassedRun m new) on.moved run in
+    record {
+      place = Some here.0;
+      passed = on.passed ++ here.1.passed;
+      path = joined v.index.entries v.cleaned on.place (Some here.0) on.passed here.1.passed on.path here.1.path;
+      many = omega (arith, length-append on.passed here.1.passed, on.many, here.1.some);
+      moved = here.2;
+    }
 
 -- ---- what the machine makes of it
 
@@ -66,13 +63,20 @@ path_kept v indexed (p ∷ ps) place path = (
   path_kept (record v { cleaned = Some p }) indexed ps place path.1,
 )
 
-pub passes_live : (v : CoreValue) (most : ℕ) (place : Option Pair) → is_indexed v.life ≡ true → IsFarPath v.index.entries v.cleaned most place
-    → PassesLive v most (record v { cleaned = place })
-passes_live v most place indexed far = record {
-  passed = far.passed;
-  kept = path_kept v indexed far.passed place far.path;
-  far = λ few next. far.far few next.1;
-}
+module _ (v new : CoreValue) (runs most : ℕ) (indexed : is_indexed v.life ≡ true) (on : IsOnWay v runs new) where
+  passes_by : (length on.passed < most → IsLiveNext v.index.entries on.place → ⊥) → PassesLive v most new
+  passes_by far = subst (PassesLive v most) (sym on.moved) (record {
+    passed = on.passed;
+    kept = path_kept v indexed on.passed on.place on.path;
+    far = λ few next. far few next.1;
+  })
+
+  -- there it came before an entry that isn't live
+  pub way_ended : (IsLiveNext new.index.entries new.cleaned → ⊥) → PassesLive v most new
+  way_ended none = passes_by (λ few next. subst (λ (m : CoreValue). IsLiveNext m.index.entries m.cleaned → ⊥) on.moved none next)
+
+  pub way_done : most ≤ runs → PassesLive v most new
+  way_done all = passes_by (λ few next. absurd (omega (arith, few, on.many, all)))
 
 -- without an index there is nothing to pass over
 pub passes_none : (v : CoreValue) (most : ℕ) → is_indexed v.life ≡ false → PassesLive v most v

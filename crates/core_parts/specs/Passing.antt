@@ -4,8 +4,7 @@ use Rattle.std.specs.Prelude.{List, Option, Some, [], length, true, ℕ, ◌<◌
 use Rattle.record_values.specs.declared.pair.Mark.TheVariants.{Live}
 use Rattle.record_values.specs.declared.pair.Pair.{Pair}
 use Rattle.model.specs.Pairs.{is_indexed}
-use Rattle.model.specs.Table.{Index}
-use Rattle.marked_index.specs.Passing.{IsLiveNext, IsLivePath}
+use Rattle.marked_index.specs.Passing.{IsBehindLive, IsLiveNext}
 use Rattle.core_model.specs.Events.{Cleaner, Event, Kept}
 use Rattle.core_parts.specs.View.{CoreValue, Serves}
 
@@ -28,9 +27,6 @@ pub record PassesLive (old : CoreValue) (most : ℕ) (new : CoreValue) : Type 0 
   pub kept : HasKept old passed new
   pub far : length passed < most → IsAtLive new → ⊥
 
--- live entries lead from one place to another: so many at least, or all up to the first that isn't live (no public
--- clause cites this)
-pub record IsFarPath (index : Index) (start : Option Pair) (most : ℕ) (end : Option Pair) : Type 0 where
-  pub passed : List Pair
-  pub path : IsLivePath index start passed end
-  pub far : length passed < most → IsLiveNext index end → ⊥
+-- the cleaner's place is behind some live entries that came next, and nothing else differs (no public clause cites this)
+abbrev pub HasPassedRun : CoreValue → CoreValue → Type 0
+HasPassedRun old new = (p : Pair) × IsBehindLive old.index.entries old.cleaned p × (new ≡ record old { cleaned = Some p })
