@@ -2,7 +2,7 @@
 use Rattle.std.specs.Prelude.{ℕ, false, slice_index_or}
 use Rattle.block_device.specs.declared.held.Held.{Held}
 use Rattle.block_device.specs.declared.memory.MemBlocks.{MemBlocks}
-use Rattle.block_device.specs.Blocks.{BlockFile}
+use Rattle.block_device.specs.Blocks.{CrashFile, BlockFile}
 use Rattle.block_device.specs.BlocksPast.{BlocksPast, past_with}
 use Rattle.block_device.specs.Crash.{Torn}
 
@@ -22,6 +22,10 @@ module _ {A : Type 0} where
   -- what a crash gives fates to
   abbrev pub state_of : MemBlocks A → Torn
   state_of m = torn_of m.held
+
+  -- the content at the last sync
+  abbrev pub last_synced_of : MemBlocks A → CrashFile
+  last_synced_of m = (state_of m).synced
 
   -- how many calls have failed
   abbrev pub failures_of : MemBlocks A → ℕ

@@ -38,6 +38,7 @@ impl<A: Allocator + Copy> Held<A> {
     pub(crate) fn new(alloc: A, blocks: usize) -> Result<Self, AllocError>
         ensures zeros { IfOk result (λ h. (file_of h).content ≡ replicate blocks zero_block) }
         ensures synced { IfOk result (λ h. IsSynced (file_of h)) }
+        ensures last_synced { IfOk result (λ h. (torn_of h).synced ≡ (file_of h).content) }
     {
         Ok(Held {
             content: zeros(alloc, blocks)?,
@@ -51,6 +52,7 @@ impl<A: Allocator + Copy> Held<A> {
         requires { first + length run.now ≤ length (file_of self.old).content }
         ensures written { file_of self.new ≡ after_write (file_of self.old) first run.now }
         ensures run { IsWhole run.now }
+        ensures last_synced { (torn_of self.new).synced ≡ (torn_of self.old).synced }
     {
         put_run(&mut self.content, first, run);
         mark_run(&mut self.loose, first, run.len());
@@ -58,7 +60,8 @@ impl<A: Allocator + Copy> Held<A> {
 
     /// Makes all that it holds synced.
     pub(crate) fn settle(&mut self)
-        ensures { file_of self.new ≡ after_sync (file_of self.old) }
+        ensures settled { file_of self.new ≡ after_sync (file_of self.old) }
+        ensures last_synced { (torn_of self.new).synced ≡ (file_of self.old).content }
     {
         self.synced.copy_from_slice(&self.content);
         self.loose.fill(false);
@@ -69,6 +72,7 @@ impl<A: Allocator + Copy> Held<A> {
         ensures crash { IsCrashFile (file_of self.old) (file_of self.new).content }
         ensures fates { IsCrashed fates.now (torn_of self.old) (file_of self.new).content }
         ensures synced { IsSynced (file_of self.new) }
+        ensures last_synced { (torn_of self.new).synced ≡ (file_of self.new).content }
     {
         tear(&mut self.content, &self.synced, &self.loose, fates);
         self.settle();

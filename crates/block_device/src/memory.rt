@@ -23,7 +23,7 @@ pub struct MemBlocks<A: Allocator> {
 
 impl<A: Allocator + Copy> MemBlocks<A> {
     ghost use Rattle.block_device.specs.Crash.{IsCrashed};
-    ghost use Rattle.block_device.specs.MemBlocks.{past_of, state_of, failures_of, calls_left};
+    ghost use Rattle.block_device.specs.MemBlocks.{past_of, state_of, failures_of, last_synced_of, calls_left};
 
     /// A file of zeros, of whose writes and syncs so many succeed.
     pub fn new(alloc: A, blocks: u64, calls: u64) -> Result<Self, AllocError>
@@ -31,6 +31,7 @@ impl<A: Allocator + Copy> MemBlocks<A> {
         ensures synced { IfOk result (λ m. IsSynced (past_of m).file) }
         ensures moment { IfOk result (λ m. (past_of m).moment ≡ 0) }
         ensures failures { IfOk result (λ m. failures_of m ≡ 0) }
+        ensures last_synced { IfOk result (λ m. last_synced_of m ≡ (past_of m).file.content) }
         ensures left { IfOk result (λ m. calls_left m ≡ calls) }
     {
         Ok(MemBlocks {
@@ -50,6 +51,7 @@ impl<A: Allocator + Copy> MemBlocks<A> {
         ensures synced { IsSynced (past_of self.new).file }
         ensures moment { (past_of self.new).moment ≡ 0 }
         ensures failures { failures_of self.new ≡ failures_of self.old }
+        ensures last_synced { last_synced_of self.new ≡ (past_of self.new).file.content }
         ensures left { calls_left self.new ≡ calls }
     {
         self.held.crash(fates);
@@ -76,7 +78,7 @@ impl<A: Allocator + Copy> MemBlocks<A> {
 }
 
 impl<A: Allocator + Copy> Blocks for MemBlocks<A> {
-    ghost use Rattle.block_device.specs.MemBlocks.{past_of, failures_of, calls_left};
+    ghost use Rattle.block_device.specs.MemBlocks.{past_of, failures_of, last_synced_of, calls_left};
 
     ghost past_of = { past_of };
 
@@ -95,6 +97,7 @@ impl<A: Allocator + Copy> Blocks for MemBlocks<A> {
         ensures time { Elapses (past_of self.old) (past_of self.new) }
         ensures counts { CountsFailure (failures_of self.old) (failures_of self.new) result }
         ensures succeeds { IsOk result }
+        ensures last_synced { last_synced_of self.new ≡ last_synced_of self.old }
         ensures left { calls_left self.new ≡ calls_left self.old }
     {
         let at = first as usize;
@@ -114,6 +117,7 @@ impl<A: Allocator + Copy> Blocks for MemBlocks<A> {
         ensures written { (past_of self.new).file ≡ after_write (past_of self.old).file first run.now }
         ensures succeeds { 0 < calls_left self.old → IsOk result }
         ensures stops { calls_left self.old ≡ 0 → IsErr result }
+        ensures last_synced { last_synced_of self.new ≡ last_synced_of self.old }
         ensures left { calls_left self.new ≡ calls_left self.old - 1 }
     {
         self.past = self.past.and(&self.held);
@@ -128,6 +132,8 @@ impl<A: Allocator + Copy> Blocks for MemBlocks<A> {
         ensures counts { CountsFailure (failures_of self.old) (failures_of self.new) result }
         ensures succeeds { 0 < calls_left self.old → IsOk result }
         ensures stops { calls_left self.old ≡ 0 → IsErr result }
+        ensures last_synced { OnOk result (last_synced_of self.new ≡ (past_of self.old).file.content) }
+        ensures last_synced_err { OnErr result (last_synced_of self.new ≡ last_synced_of self.old) }
         ensures left { calls_left self.new ≡ calls_left self.old - 1 }
     {
         self.count()?;

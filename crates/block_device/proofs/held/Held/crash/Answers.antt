@@ -23,4 +23,4 @@ invariant_of-self g c =
     }
 
 pub returns-clause-synced : goal.returns-clause-synced
-returns-clause-synced g c = λ n. ap (λ (f : BlockFile). f.loose n) c.settle.ensures
+returns-clause-synced g c = λ n. ap (λ (f : BlockFile). f.loose n) c.settle.ensures.settled
