@@ -1,8 +1,22 @@
 -- The numbers of a head are written one after the other.
-use Rattle.std.proofs.Common.{◌≡◌, ◌≢◌, inl, inr, ℕ, ◌+◌, ◌*◌, ◌<◌, List, length, slice_index, slice_set, sym, ◌∙◌, ap, arith, length-set}
-use Rattle.std.proofs.lemmas.Bool.{cases_eq}
-use Rattle.std.proofs.lemmas.List.{get_or-set_other}
+use Rattle.std.proofs.Common.{◌≡◌, ◌≢◌, inl, inr, ⊎_elim, ℕ, ◌+◌, ◌*◌, ◌<◌, ◌≤◌, List, length, replicate, slice_index, slice_set, sym, ◌∙◌, ap, arith}
+use Rattle.std.proofs.Common.{length-set}
+use Rattle.std.proofs.Math.ListN.{length-replicate}
+use Rattle.std.proofs.lemmas.Bool.{cases_eq, cases_lt}
+use Rattle.std.proofs.lemmas.List.{get_or-replicate, get_or-set_other, get_or_past}
 use Rattle.std.proofs.lemmas.Grind.{get_or-set_at}
+
+-- a number of zeros is zero, also behind them
+zero_at : (n k : ℕ) → slice_index (replicate n 0) k ≡ 0
+zero_at n k = ⊎_elim (λ below. get_or-replicate {A = ℕ} n k 0 0 below) (λ past. get_or_past {X = ℕ} (replicate n 0) k 0 (omega (arith, length-replicate {A = ℕ} n 0, past))) (cases_lt k n)
+
+-- and so it is behind the first three of them, once these are written
+pub zero_behind : (text number count k : ℕ) → 3 ≤ k → slice_index (slice_set (slice_set (slice_set (replicate 512 0) 0 text) 1 number) 2 count) k ≡ 0
+zero_behind text number count k from =
+    get_or-set_other (slice_set (slice_set (replicate 512 0) 0 text) 1 number) 2 k count 0 (omega (arith, from))
+    ∙ get_or-set_other (slice_set (replicate 512 0) 0 text) 1 k number 0 (omega (arith, from))
+    ∙ get_or-set_other (replicate 512 0) 0 k text 0 (omega (arith, from))
+    ∙ zero_at 512 k
 
 module _ (words places digests : List ℕ) (i : ℕ) (room : 3 + 2 * i + 1 < length words) where
   abbrev pub wrote : List ℕ

@@ -1,6 +1,7 @@
 // The head of a batch.
 ghost use Rattle.std.specs.Prelude.{◌≡◌, ◌+◌, ◌*◌, ◌≤◌, ◌<◌, ℕ, true, length, slice_index};
 ghost use Rattle.block_device.specs.Blocks.{block};
+ghost use Rattle.block_words.specs.Words.{word};
 ghost use Rattle.block_batch.specs.Batch.{is_batch, number_in, count_in, place_in, block_digest};
 
 use block_device::BLOCK_SIZE;
@@ -68,6 +69,7 @@ fn head_of(number: u64, places: &[u64], digests: &[u64]) -> [u64; WORDS]
         → slice_index result (3 + 2 * i) ≡ slice_index places.now i }
     ensures digests { (i : ℕ) → i < length places.now
         → slice_index result (4 + 2 * i) ≡ slice_index digests.now i }
+    ensures rest { (i : ℕ) → 3 + 2 * length places.now ≤ i → slice_index result i ≡ 0 }
 {
     let mut words = [0; WORDS];
     words[0] = TEXT;
@@ -81,7 +83,7 @@ fn head_of(number: u64, places: &[u64], digests: &[u64]) -> [u64; WORDS]
 }
 
 /// Makes a batch of an area whose blocks stand behind the place of its head: of this number, with the place and the
-/// digest of each.
+/// digest of each. The numbers of the head that it doesn't need are zero (`rest`).
 pub fn seal(area: &mut [[u8; BLOCK_SIZE]], number: u64, places: &[u64], digests: &[u64])
     requires few { length places.now ≤ PLACES_MAX }
     requires room { length places.now < length area.old }
@@ -92,6 +94,7 @@ pub fn seal(area: &mut [[u8; BLOCK_SIZE]], number: u64, places: &[u64], digests:
     ensures number { number_in area.new ≡ number }
     ensures count { count_in area.new ≡ length places.now }
     ensures places { (i : ℕ) → i < length places.now → place_in area.new i ≡ slice_index places.now i }
+    ensures rest { (i : ℕ) → 3 + 2 * length places.now ≤ i → i < 511 → word (block area.new 0) i ≡ 0 }
     ensures blocks { (n : ℕ) → 0 < n → block area.new n ≡ block area.old n }
     ensures size { length area.new ≡ length area.old }
 {
