@@ -8,7 +8,8 @@ use Rattle.std.proofs.lemmas.Grind.{get_or-set_at}
 
 -- a number of zeros is zero, also behind them
 zero_at : (n k : ℕ) → slice_index (replicate n 0) k ≡ 0
-zero_at n k = ⊎_elim (λ below. get_or-replicate {A = ℕ} n k 0 0 below) (λ past. get_or_past {X = ℕ} (replicate n 0) k 0 (omega (arith, length-replicate {A = ℕ} n 0, past))) (cases_lt k n)
+zero_at n k = ⊎_elim (λ below. get_or-replicate {A = ℕ} n k 0 0 below)
+    (λ past. get_or_past {X = ℕ} (replicate n 0) k 0 (omega (arith, length-replicate {A = ℕ} n 0, past))) (cases_lt k n)
 
 -- and so it is behind the first three of them, once these are written
 pub zero_behind : (text number count k : ℕ) → 3 ≤ k → slice_index (slice_set (slice_set (slice_set (replicate 512 0) 0 text) 1 number) 2 count) k ≡ 0

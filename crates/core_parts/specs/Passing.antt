@@ -27,6 +27,8 @@ pub record PassesLive (old : CoreValue) (most : ℕ) (new : CoreValue) : Type 0 
   pub kept : HasKept old passed new
   pub far : length passed < most → IsAtLive new → ⊥
 
--- the cleaner's place is behind some live entries that came next, and nothing else differs (no public clause cites this)
+-- the cleaner's place is behind some live entries that came next, and nothing else differs (no public clause cites
+-- this)
 abbrev pub HasPassedRun : CoreValue → CoreValue → Type 0
-HasPassedRun old new = (p : Pair) × IsBehindLive old.index.entries old.cleaned p × (new ≡ record old { cleaned = Some p })
+HasPassedRun old new = (p : Pair) × IsBehindLive old.index.entries old.cleaned p
+    × (new ≡ record old { cleaned = Some p })
