@@ -189,11 +189,17 @@ module _ (area : CrashFile) (places : List ℕ) (i place : ℕ) (bytes : List �
     put_is count (inl at) =
         let most : max count (i + 1) ≡ count = omega (arith, at.low) in
         ap (λ (m : ℕ). replayed (entries_in area' places' m) image) most ∙ put_there count at
-    put_is count (inr is) =
-        let most : max count (i + 1) ≡ i + 1 = omega (arith, is) in
+    put_is count (inr new) =
+        let most : max count (i + 1) ≡ i + 1 = omega (arith, new.0) in
         ap (λ (m : ℕ). replayed (entries_in area' places' m) image) most
         ∙ put_last
-        ∙ ap (λ (m : ℕ). slice_set (replayed (entries_in area places m) image) place bytes) is
+        ∙ ap (λ (m : ℕ). slice_set (replayed (entries_in area places m) image) place bytes) new.0
+
+-- a block whose place is there makes them no more
+pub put_in_place : (area : CrashFile) (places : List ℕ) (count place i : ℕ) → IsSlot places count place i → IsPlace (entries_in area places count) place
+    → max count (i + 1) ≡ count
+put_in_place area places count place i (inl at) there = omega (arith, at.low)
+put_in_place area places count place i (inr new) there = absurd (no_place area places count place new.1 there)
 
 -- ---- what a head tells is taken
 

@@ -22,9 +22,9 @@ pub record IsLastAt (places : List ℕ) (count place i : ℕ) : Type 0 where
 abbrev pub HasNone : List ℕ → ℕ → ℕ → Type 0
 HasNone places count place = (k : ℕ) → k < count → slice_index places k ≢ place
 
--- where a block with this place goes: to the last one that has it, or behind them
+-- where a block with this place goes: to the last one that has it, or where none has it, behind them
 abbrev pub IsSlot : List ℕ → ℕ → ℕ → ℕ → Type 0
-IsSlot places count place i = IsLastAt places count place i ⊎ (i ≡ count)
+IsSlot places count place i = IsLastAt places count place i ⊎ ((i ≡ count) × HasNone places count place)
 
 -- so many blocks of an area have these digests in their places
 abbrev pub AreDigests : CrashFile → (places digests : List ℕ) → ℕ → Type 0

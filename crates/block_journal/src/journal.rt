@@ -3,7 +3,7 @@ ghost use Rattle.std.specs.Prelude.{◌≡◌, ◌⊎◌, ◌+◌, ◌-◌, ◌^
 ghost use Rattle.std.specs.Prelude.{OnErr, slice_set, Contains, IfOk, IfErr};
 ghost use Rattle.sector_device.specs.DevicePast.{CountsFailure, Rises};
 ghost use Rattle.block_device.specs.Blocks.{CrashFile, IsCrashFile, IsSynced, block};
-ghost use Rattle.block_batch.specs.Batch.{Batch, block_digest, replayed};
+ghost use Rattle.block_batch.specs.Batch.{Batch, IsPlace, block_digest, replayed};
 ghost use Rattle.block_journal.specs.Layout.{IsHonest, IsInside, found, kept_of, recovered};
 ghost use Rattle.block_journal.specs.Journal.{AreInAreas, IsPending, KeepsAreas, KeepsBatch, LeavesBefore};
 ghost use Rattle.block_journal.specs.Journal.{NeedsNoArea, OnlyReads, StaysRecovered};
@@ -148,6 +148,7 @@ impl<B: Blocks, A: Allocator + Copy> Journal<B, A> {
             ≡ slice_set (replayed self.old.next image) place bytes.now }
         ensures rest { self.new ≡ record self.old { next = self.new.next } }
         ensures room { room_of self.old ≤ room_of self.new + 1 }
+        ensures in_place { IsPlace self.old.next place → room_of self.new ≡ room_of self.old }
         ensures digest { result ≡ block_digest place bytes.now }
     {
         self.gather(place, bytes);
@@ -162,6 +163,7 @@ impl<B: Blocks, A: Allocator + Copy> Journal<B, A> {
             ≡ slice_set (replayed self.old.next image) place bytes.now }
         ensures rest { self.new ≡ record self.old { next = self.new.next } }
         ensures room { room_of self.old ≤ room_of self.new + 1 }
+        ensures in_place { IsPlace self.old.next place → room_of self.new ≡ room_of self.old }
     {
         self.parts.next.put(place, bytes);
     }

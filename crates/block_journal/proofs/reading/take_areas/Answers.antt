@@ -1,9 +1,8 @@
-use Rattle.std.proofs.Common.{◌≡◌, Err, sym, ◌∙◌, ap, subst}
+use Rattle.std.proofs.Common.{ℕ, Err, sym, ◌∙◌, ap, subst, arith}
 use Rattle.std.proofs.lemmas.Result.{err_from_is_err_and}
-use Rattle.sector_device.proofs.Counts.{counts_later}
+use Rattle.sector_device.specs.DevicePast.{Rises}
 use Rattle.block_device.specs.Blocks.{BlockFile}
 use Rattle.block_journal.specs.Layout.{IsInside}
-use Rattle.block_journal.specs.Opening.{HasTakenBoth}
 use Rattle.block_journal.proofs.OnlyReading.{reads_then}
 use Rattle.block_journal.proofs.reading.take_areas.Goals as goal
 
@@ -40,10 +39,31 @@ keep_areas-requires g c = record {
   small = c.requires.small;
 }
 
-pub returns-in-Some : goal.returns-in-Some
-returns-in-Some g c =
+pub returns-in_err-keep_areas-in-Some : goal.returns-in_err-keep_areas-in-Some
+returns-in_err-keep_areas-in-Some g c =
+    let p = err_from_is_err_and c.from_residual-in_err-keep_areas-in-Some.result c.from_residual-in_err-keep_areas-in-Some.ensures.1 in
     let read = c.read_areas.ensures in
-    let counts = counts_later _ _ _ _ c.in_ok-found.ensures.counts.none c.keep_areas.ensures.counts in
+    let kept = c.keep_areas.ensures in
+    rw (p.1 ∙ ap Err p.2) (record {
+      taken = tt;
+      none = tt;
+      last = read.last;
+      last_size = read.last_size;
+      other = read.other;
+      other_size = read.other_size;
+      reads = reads_then _ _ _ read.reads kept.reads;
+      counts = record {
+        later = omega (arith, read.counts.later, kept.counts.later);
+        none = tt;
+        failed = subst (λ (a : ℕ). Rises a (g.B.Blocks.failures c.keep_areas.new.below)) c.in_ok-found.ensures.counts.none
+            c.in_err-keep_areas-in-Some.ensures.counts.failed;
+      };
+    })
+
+pub returns-in_ok-keep_areas-in-Some : goal.returns-in_ok-keep_areas-in-Some
+returns-in_ok-keep_areas-in-Some g c =
+    let read = c.read_areas.ensures in
+    let kept = c.keep_areas.ensures in
     record {
       taken = rw c.in-Some.is at c.in_ok-found.ensures.taken;
       none = λ is. absurd (cc);
@@ -51,6 +71,10 @@ returns-in-Some g c =
       last_size = read.last_size;
       other = read.other;
       other_size = read.other_size;
-      reads = reads_then _ _ _ read.reads c.keep_areas.ensures.reads;
-      counts = record { later = counts.later; none = counts.none; failed = tt };
+      reads = reads_then _ _ _ read.reads kept.reads;
+      counts = record {
+        later = omega (arith, read.counts.later, kept.counts.later);
+        none = c.in_ok-keep_areas-in-Some.ensures.counts.none ∙ c.in_ok-found.ensures.counts.none;
+        failed = tt;
+      };
     }

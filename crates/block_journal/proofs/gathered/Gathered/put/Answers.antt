@@ -4,7 +4,7 @@ use Rattle.block_device.proofs.CrashFiles.{written_back}
 use Rattle.block_batch.specs.Batch.{replayed}
 use Rattle.block_journal.specs.Entries.{entries_in}
 use Rattle.block_journal.proofs.Buffers.{put_buffer}
-use Rattle.block_journal.proofs.Entries.{put_is}
+use Rattle.block_journal.proofs.Entries.{put_in_place, put_is}
 use Rattle.block_journal.proofs.gathered.Gathered.put.Goals as goal
 
 pub put_block-requires : goal.put_block-requires
@@ -30,6 +30,7 @@ returns g c =
           ∙ put_is b.area.items b.places i place bytes (omega (arith, low, c.requires.room))
           (omega (arith, low, c.requires.room, c.requires.buffer.few, c.requires.buffer.places)) l b.count slot;
       count = omega (arith, low, c.max-self.ensures);
+      in_place = λ there. c.max-self.ensures ∙ put_in_place b.area.items b.places b.count place i slot there;
       buffer = put_buffer b _ c.requires.buffer i place bytes c.requires.room low slot back refl c.max-self.ensures;
       size = ap length back ∙ length-set b.area.items (i + 1) bytes;
     }

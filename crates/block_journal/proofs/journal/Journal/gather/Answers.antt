@@ -27,6 +27,12 @@ returns g c =
         length-entries next.area.items next.places next.count,
         c.put.ensures.count,
       );
+      in_place = λ there. omega (
+        arith,
+        length-entries p.next.area.items p.next.places p.next.count,
+        length-entries next.area.items next.places next.count,
+        c.put.ensures.in_place there,
+      );
     })
 
 pub invariant_of-self : goal.invariant_of-self
