@@ -194,9 +194,10 @@ impl<F: Stored + Drop, A: Allocator> FileBlocks<F, A> {
         if self.has_failed {
             return false;
         }
+        let held = &self.held;
         let at = first as usize;
         let end = at + count as usize;
-        let run = &self.held.content[at..end];
+        let run = &held.content[at..end];
         put_blocks(&mut self.below, first, run).is_ok() && self.below.sync().is_ok()
     }
 }
