@@ -16,6 +16,6 @@ returns-clause-rest c =
     let head = c.head_of-words in
     let long : length head.result ≡ 512 = search rules in
     λ i from below.
-        sealed_word c.args.area.now _ head.result c.spell_words-head.result c.spell_words.result c.args.places.now c.args.digests.now c.digest.result long
-        c.spell_words-head.ensures.spelled c.spell_words.ensures.spelled c.spell_words.ensures.again refl c.requires.few c.requires.room i below
-        ∙ head.ensures.rest i from
+    sealed_word c.args.area.now _ head.result c.spell_words-head.result c.spell_words.result c.args.places.now c.args.digests.now c.digest.result long
+    c.spell_words-head.ensures.spelled c.spell_words.ensures.spelled c.spell_words.ensures.again refl c.requires.few c.requires.room i below
+    ∙ head.ensures.rest i from
