@@ -140,7 +140,8 @@ impl<B: Blocks, A: Allocator + Copy> Journal<B, A> {
         self.parts.read(place, bytes)
     }
 
-    /// Gathers a block for the next batch, in place of the one that was gathered for its place. Its digest.
+    /// Gathers a block for the next batch. It takes no room where one was gathered for its place (`in_place`). Its
+    /// digest.
     pub fn put(&mut self, place: u64, bytes: &[u8; BLOCK_SIZE]) -> u64
         requires inside { place < self.old.shape.kept }
         requires room { 0 < room_of self.old }
@@ -182,8 +183,9 @@ impl<B: Blocks, A: Allocator + Copy> Journal<B, A> {
     ///
     /// A crash at any moment of it leaves, under the premise, the blocks as they were settled, or with those that were
     /// gathered (`any_moment`). It leaves the last batch in its area too, so that an opening finds one (`holds`). Once
-    /// a call has failed, no other one is made of the file (`refused`). Where nothing was gathered, it puts all blocks
-    /// in their places, and then needs no area (`places`, `areas`).
+    /// a call has failed, no later commit makes another one of the file (`refused`). (Within the commit that failed no
+    /// clause says it.) Where nothing was gathered, it puts all blocks in their places, and then needs no area
+    /// (`places`, `areas`).
     pub fn commit(&mut self) -> Result<(), Failed>
         ensures ok { OnOk result (settled_of B.past_of self.new ≡ content_of B.past_of self.old) }
         ensures none { OnOk result (self.new.next ≡ []) }
