@@ -1,9 +1,10 @@
 -- A header that is spelled, and one that is tested.
 use Rattle.std.proofs.Common.{◌≡◌, ◌≢◌, ℕ, ◌*◌, ◌<◌, ◌≤◌, Bool, true, false, ◌&&◌, ◌==◌, if◌then◌else◌, List, length, take, slice_index, slice_set}
-use Rattle.std.proofs.Common.{Option, Some, None, ⊎_elim, refl, sym, ◌∙◌, ap, arith}
-use Rattle.std.proofs.lemmas.Bool.{cases_eq}
+use Rattle.std.proofs.Common.{Option, Some, None, ⊎_elim, replicate, refl, sym, ◌∙◌, ap, arith}
+use Rattle.std.proofs.Math.ListN.{length-replicate}
+use Rattle.std.proofs.lemmas.Bool.{cases_eq, cases_lt}
 use Rattle.std.proofs.lemmas.Bool.Decides.{nat_tests}
-use Rattle.std.proofs.lemmas.List.{take-set-le, get_or-set_same, get_or-set_other}
+use Rattle.std.proofs.lemmas.List.{take-set-le, get_or-replicate, get_or-set_same, get_or-set_other, get_or_past}
 use Rattle.std.specs.List.{flat_map}
 use Rattle.byteorder.specs.Endian.{big_bytes}
 use Rattle.block_digest.specs.Digest.{digest}
@@ -76,7 +77,7 @@ front words d n few = take_spelled (slice_set words 511 d) n ∙ ap (flat_map (b
 module _ (words spelled bytes : List ℕ) (d : ℕ) (long : length words ≡ 512) (first : spelled ≡ flat_map (big_bytes 8) words)
     (second : bytes ≡ flat_map (big_bytes 8) (slice_set words 511 d))
     (again : (i : ℕ) → i < 512 → word bytes i ≡ slice_index (slice_set words 511 d) i) (is : d ≡ digest (take 4088 spelled)) where
-  says : (i : ℕ) → i < 511 → word bytes i ≡ slice_index words i
+  pub says : (i : ℕ) → i < 511 → word bytes i ≡ slice_index words i
   says i below = again i (omega (arith, below)) ∙ get_or-set_other words 511 i d 0 (omega (arith, below))
 
   fits : word bytes 511 ≡ digest (take 4088 bytes)
@@ -93,3 +94,23 @@ module _ (words spelled bytes : List ℕ) (d : ℕ) (long : length words ≡ 512
       tells bytes (yes_header bytes (says 0 (omega arith) ∙ text) (says 1 (omega arith) ∙ version) fits)
       ∙ (λ i. if can_be (second i) (third i) (fourth i) then Some (plan_for (second i) (third i) (fourth i)) else None)
       ∙ plan_some s l a (plan_for s l a) can
+
+-- ---- the numbers that it doesn't need
+
+zero_at : (n k : ℕ) → slice_index (replicate n 0) k ≡ 0
+zero_at n k = ⊎_elim (λ below. get_or-replicate {A = ℕ} n k 0 0 below)
+    (λ past. get_or_past {X = ℕ} (replicate n 0) k 0 (omega (arith, length-replicate {A = ℕ} n 0, past))) (cases_lt k n)
+
+-- behind the first five of them, which are written, each is zero
+module _ (text version sectors lead area k : ℕ) (behind : 4 < k) where
+  abbrev first_three : List ℕ
+  first_three = slice_set (slice_set (slice_set (replicate 512 0) 0 text) 1 version) 2 sectors
+
+  pub zero_behind : slice_index (slice_set (slice_set first_three 3 lead) 4 area) k ≡ 0
+  zero_behind =
+      get_or-set_other (slice_set first_three 3 lead) 4 k area 0 (omega (arith, behind))
+      ∙ get_or-set_other first_three 3 k lead 0 (omega (arith, behind))
+      ∙ get_or-set_other (slice_set (slice_set (replicate 512 0) 0 text) 1 version) 2 k sectors 0 (omega (arith, behind))
+      ∙ get_or-set_other (slice_set (replicate 512 0) 0 text) 1 k version 0 (omega (arith, behind))
+      ∙ get_or-set_other (replicate 512 0) 0 k text 0 (omega (arith, behind))
+      ∙ zero_at 512 k

@@ -7,7 +7,6 @@ use Rattle.block_words.specs.Words.{word}
 use Rattle.block_journal.specs.Layout.{IsInside, found}
 use Rattle.block_table.specs.Table.{kept_count}
 use Rattle.block_file.specs.declared.plan.Plan.{Plan}
-use Rattle.block_file.specs.declared.header.TheConstants.{TEXT, VERSION}
 
 -- Where a device of so many sectors is: behind two headers the areas, the table, and the data.
 abbrev pub plan_for : (sectors lead area : ℕ) → Plan
@@ -27,11 +26,12 @@ pub record CanBeTold (p : Plan) : Type 0 where
   pub can : can_be p.sectors p.lead p.shape.area ≡ true
   pub same : p ≡ plan_for p.sectors p.lead p.shape.area
 
--- The first numbers of a header are the text `NSFBLOCK`, the version, how many sectors the device has, how many others
--- are before the first one in its block, and how many blocks an area has. The last one is the digest of the bytes
--- before it.
+-- The first numbers of a header are the text `NSFBLOCK`, the version, which is 2, how many sectors the device has, how
+-- many others are before the first one in its block, and how many blocks an area has. The last one is the digest of the
+-- bytes before it.
 abbrev pub is_header : List ℕ → Bool
-is_header bytes = (word bytes 0 == TEXT) && ((word bytes 1 == VERSION) && (word bytes 511 == digest (take 4088 bytes)))
+is_header bytes = (word bytes 0 == 5643932008587412299)
+    && ((word bytes 1 == 2) && (word bytes 511 == digest (take 4088 bytes)))
 
 -- the plan that a block tells, if it is a header of a device that can be
 abbrev pub told_by : List ℕ → Option Plan

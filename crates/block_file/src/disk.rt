@@ -7,8 +7,9 @@ ghost use Rattle.block_file.specs.Plans.{IsPlan};
 ghost use Rattle.block_file.specs.Sectors.{sectors_of};
 ghost use Rattle.block_table.specs.Checked.{settled_data};
 ghost use Rattle.block_device.specs.Blocks.{CrashFile, IsCrashFile};
+ghost use Rattle.block_journal.specs.Journal.{OnlyReads};
 ghost use Rattle.block_journal.specs.Layout.{IsHonest, recovered};
-ghost use Rattle.block_journal.specs.Value.{LeavesEither, failures_of};
+ghost use Rattle.block_journal.specs.Value.{LeavesEither, failures_of, room_of};
 
 use crate::Plan;
 use crate::parts::{DiskParts, Held};
@@ -213,8 +214,9 @@ impl<B: Blocks, A: Allocator + Copy> Device for BlockDisk<B, A> {
 
     /// Where it fails, the sector holds what it held (`kept`), unsynced. It fails as a read of the sector does, and
     /// where a batch that is full can't be committed (`failed`). The same blocks fit as before (`fits`), and a commit
-    /// has failed only where it had before, or that one does (`broken`). A crash meanwhile leaves a file that can be
-    /// opened (`opens`), with the table and the data as they were committed, or as they were put (`any_moment`).
+    /// has failed only where it had before, or that one does (`broken`). Where a batch has room for two blocks, nothing
+    /// is committed, and the file is only read (`gathers`). A crash meanwhile leaves a file that can be opened
+    /// (`opens`), with the table and the data as they were committed, or as they were put (`any_moment`).
     fn write(&mut self, n: u64, bytes: &[u8; SECTOR_SIZE]) -> Result<(), Failed>
         requires { n < length (disk_past B.past_of self.old).disk.content }
         ensures ok { OnOk result ((disk_past B.past_of self.new).disk
@@ -243,6 +245,8 @@ impl<B: Blocks, A: Allocator + Copy> Device for BlockDisk<B, A> {
             → LeavesEither B.past_of (disk_journal self.old) (disk_journal self.new) }
         ensures good { IsGood B.past_of self.old → disk_failed self.new ≡ false → IsGood B.past_of self.new }
         ensures opens { IsGood B.past_of self.old → OpensMeanwhile B.past_of self.old self.new }
+        ensures gathers { 1 < room_of (disk_journal self.old)
+            → OnlyReads (B.past_of (disk_file self.old)) (B.past_of (disk_file self.new)) }
         ensures plan { disk_plan self.new ≡ disk_plan self.old }
     {
         self.parts.write(n, bytes)

@@ -1,5 +1,7 @@
 // The header of a file of blocks.
-ghost use Rattle.std.specs.Prelude.{◌≡◌, ◌+◌, ◌-◌, ◌*◌, ◌^◌, ◌<◌, true, Some, None, if◌then◌else◌, slice_index, IfSome};
+ghost use Rattle.std.specs.Prelude.{◌≡◌, ◌+◌, ◌-◌, ◌*◌, ◌^◌, ◌<◌, ℕ, true, Some, None, if◌then◌else◌, slice_index};
+ghost use Rattle.std.specs.Prelude.{IfSome};
+ghost use Rattle.block_words.specs.Words.{word};
 ghost use Rattle.block_journal.specs.Layout.{kept_start};
 ghost use Rattle.block_file.specs.Header.{CanBeTold, can_be, plan_for, told_by};
 ghost use Rattle.block_file.specs.Plans.{IsPlan};
@@ -96,6 +98,7 @@ fn numbers_of(plan: Plan) -> [u64; WORDS]
     ensures sectors { slice_index result 2 ≡ plan.sectors }
     ensures lead { slice_index result 3 ≡ plan.lead }
     ensures area { slice_index result 4 ≡ plan.shape.area }
+    ensures rest { (i : ℕ) → 4 < i → slice_index result i ≡ 0 }
 {
     let mut words = [0; WORDS];
     words[0] = TEXT;
@@ -106,10 +109,11 @@ fn numbers_of(plan: Plan) -> [u64; WORDS]
     words
 }
 
-/// The header that tells a plan.
+/// The header that tells a plan. The numbers that it doesn't need are zero (`rest`).
 pub fn spell_header(plan: Plan) -> [u8; BLOCK_SIZE]
     requires { can_be plan.sectors plan.lead plan.shape.area ≡ true }
-    ensures { told_by result ≡ Some (plan_for plan.sectors plan.lead plan.shape.area) }
+    ensures told { told_by result ≡ Some (plan_for plan.sectors plan.lead plan.shape.area) }
+    ensures rest { (i : ℕ) → 4 < i → i < 511 → word result i ≡ 0 }
 {
     let mut words = numbers_of(plan);
     let spelled = spell_words(&words);

@@ -3,8 +3,8 @@ ghost use Rattle.std.specs.Prelude.{◌≡◌, ◌⊎◌, ◌+◌, ◌-◌, ◌^
 ghost use Rattle.std.specs.Prelude.{OnErr, OnOk};
 ghost use Rattle.sector_device.specs.Disk.{IsFailedWrite, IsSynced, after_sync, after_write, sector};
 ghost use Rattle.sector_device.specs.DevicePast.{CountsFailure, Elapses, Rises};
-ghost use Rattle.block_journal.specs.Journal.{KeepsBatch};
-ghost use Rattle.block_journal.specs.Value.{LeavesEither};
+ghost use Rattle.block_journal.specs.Journal.{KeepsBatch, OnlyReads};
+ghost use Rattle.block_journal.specs.Value.{LeavesEither, room_of};
 ghost use Rattle.block_table.specs.Checked.{CountsRead};
 
 use crate::Plan;
@@ -112,6 +112,8 @@ impl<B: Blocks, A: Allocator + Copy> DiskParts<B, A> {
             → LeavesEither B.past_of (disk_journal self.old) (disk_journal self.new) }
         ensures good { IsGood B.past_of self.old → disk_failed self.new ≡ false → IsGood B.past_of self.new }
         ensures opens { IsGood B.past_of self.old → OpensMeanwhile B.past_of self.old self.new }
+        ensures gathers { 1 < room_of (disk_journal self.old)
+            → OnlyReads (B.past_of (disk_file self.old)) (B.past_of (disk_file self.new)) }
         ensures plan { disk_plan self.new ≡ disk_plan self.old }
         ensures time { Elapses (disk_past B.past_of self.old) (disk_past B.past_of self.new) }
         ensures counts { CountsFailure (disk_failures B.failures self.old) (disk_failures B.failures self.new) result }

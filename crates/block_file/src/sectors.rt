@@ -61,6 +61,8 @@ fn make_room<B: Blocks, A: Allocator + Copy>(
 ) -> Result<(), ReadError>
     requires { 2 < checked.old.journal.shape.area }
     ensures room { OnOk result (1 < room_of checked.new.journal) }
+    ensures gathers { 1 < room_of checked.old.journal
+        → OnlyReads (B.past_of checked.old.journal.below) (B.past_of checked.new.journal.below) }
     ensures good { OnOk result (checked.new.journal.has_failed ≡ checked.old.journal.has_failed) }
     ensures quiet { OnOk result (B.failures checked.new.journal.below ≡ B.failures checked.old.journal.below) }
     ensures number { checked.new.journal.last.number ≤ checked.old.journal.last.number + 1 }
@@ -110,6 +112,8 @@ pub(crate) fn write_sector<B: Blocks, A: Allocator + Copy>(
         ⊎ Rises (B.failures checked.old.journal.below) (B.failures checked.new.journal.below) }
     ensures number { checked.new.journal.last.number ≤ checked.old.journal.last.number + 1 }
     ensures alone { checked.old.journal.has_failed ≡ true → checked.new.journal.below ≡ checked.old.journal.below }
+    ensures gathers { 1 < room_of checked.old.journal
+        → OnlyReads (B.past_of checked.old.journal.below) (B.past_of checked.new.journal.below) }
     ensures moves { Moves B.past_of checked.old checked.new }
     ensures counts { CountsRead (failures_of B.failures checked.old.journal)
         (failures_of B.failures checked.new.journal) result }

@@ -63,12 +63,12 @@ returns g c =
     λ image same. same_zeros plan mid.file.content image (recovers_same plan.shape mid.file.content image two inside same) behind.zeros in
     record {
       told = on_ok (block new.file.content 0 ≡ c.spell_header.result) (plan_told new.file.content ≡ Some plan) c.write_headers.result
-          (λ is. first_tells new.file.content c.spell_header.result plan is (c.spell_header.ensures ∙ ap (λ (p : Plan). Some p) (sym told.same)))
+          (λ is. first_tells new.file.content c.spell_header.result plan is (c.spell_header.ensures.told ∙ ap (λ (p : Plan). Some p) (sym told.same)))
           head.first;
       headers = on_ok _ (TellTwice plan new.file.content) c.write_headers.result
           (λ (both : (block new.file.content 0 ≡ c.spell_header.result) × (block new.file.content 1 ≡ c.spell_header.result)). record {
-            first = ap told_by both.0 ∙ c.spell_header.ensures ∙ ap (λ (p : Plan). Some p) (sym told.same);
-            second = ap told_by both.1 ∙ c.spell_header.ensures ∙ ap (λ (p : Plan). Some p) (sym told.same);
+            first = ap told_by both.0 ∙ c.spell_header.ensures.told ∙ ap (λ (p : Plan). Some p) (sym told.same);
+            second = ap told_by both.1 ∙ c.spell_header.ensures.told ∙ ap (λ (p : Plan). Some p) (sym told.same);
           }) (on_ok_both _ _ c.write_headers.result head.first head.second);
       zeros = on_ok (block new.file.content 0 ≡ c.spell_header.result) (HoldsZeros plan new.file.content) c.write_headers.result
           (λ is. held new.file.content agrees) head.first;

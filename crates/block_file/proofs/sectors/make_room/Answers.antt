@@ -2,12 +2,14 @@ use Rattle.std.proofs.Common.{List, length, refl, sym, ◌∙◌, ap, arith}
 use Rattle.block_batch.specs.Batch.{Batch, Entry}
 use Rattle.block_journal.specs.declared.shape.Shape.{Shape}
 use Rattle.block_journal.specs.Value.{JournalValue}
+use Rattle.block_journal.proofs.OnlyReading.{reads_none}
 use Rattle.block_file.proofs.Moving.{kept_commit, moves_commit, moves_none}
 use Rattle.block_file.proofs.sectors.make_room.Goals as goal
 
 pub returns-then-room-gt0 : goal.returns-then-room-gt0
 returns-then-room-gt0 g c = record {
   room = omega (arith, c.room.ensures, c.if-room-gt0.true);
+  gathers = λ _. reads_none (g.B.Blocks.past_of c.args.checked.now.journal.below);
   good = refl;
   quiet = refl;
   number = omega arith;
@@ -26,6 +28,7 @@ returns-in-Ok g c =
     let done = c.commit.ensures in
     record {
       room = omega (arith, ap (λ (l : List Entry). length l) c.in-Ok.ensures.none, ap (λ (s : Shape). s.area) done.shape, c.requires);
+      gathers = λ more. absurd (omega (arith, c.room.ensures, c.if-room-gt0.false, more));
       good = c.in-Ok.ensures.sound.1 ∙ sym c.in-Ok.ensures.sound.0;
       quiet = c.in-Ok.ensures.quiet;
       number = omega (arith, ap (λ (b : Batch). b.number) c.in-Ok.ensures.last);
@@ -45,6 +48,7 @@ returns-in-Err g c =
     let done = c.commit.ensures in
     record {
       room = tt;
+      gathers = λ more. absurd (omega (arith, c.room.ensures, c.if-room-gt0.false, more));
       good = tt;
       quiet = tt;
       number = omega (arith, ap (λ (b : Batch). b.number) c.in-Err.ensures.last_stays);

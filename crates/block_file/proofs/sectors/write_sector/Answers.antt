@@ -8,6 +8,7 @@ use Rattle.block_device.specs.BlocksPast.{BlocksPast}
 use Rattle.block_journal.specs.declared.shape.Shape.{Shape}
 use Rattle.block_journal.specs.Journal.{OnlyReads}
 use Rattle.block_journal.specs.Value.{JournalValue, failures_of, room_of, settled_of}
+use Rattle.block_journal.proofs.OnlyReading.{reads_then}
 use Rattle.block_table.specs.Checked.{CheckedValue, data_now, kept_table}
 use Rattle.block_table.specs.Table.{IsFit, data_of}
 use Rattle.block_table.proofs.Contents.{length-data, settled_read, table_read}
@@ -35,6 +36,7 @@ returns-in_err-make_room g c =
       broken = λ _. done.fails;
       number = done.number;
       alone = done.alone;
+      gathers = done.gathers;
       moves = done.moves;
       counts = done.counts;
     })
@@ -70,6 +72,7 @@ returns-in_err-read g c =
       broken = λ now. inl (sym room.good ∙ sym (ap (λ (v : JournalValue g.row.B.Denot). v.has_failed) journal) ∙ now);
       number = omega (arith, room.number, ap (λ (v : JournalValue g.row.B.Denot). v.last.number) journal);
       alone = λ was. ap (λ (v : JournalValue g.row.B.Denot). v.below) (done.refused (room.good ∙ was)) ∙ room.alone was;
+      gathers = λ more. reads_then _ _ _ (room.gathers more) done.reads;
       moves = moves_then h old mid new room.moves (ap (λ (v : JournalValue g.row.B.Denot). v.shape) journal) blocks
           (ap (λ (v : JournalValue g.row.B.Denot). v.offered) journal) (settled_read h mid.journal new.journal journal done.reads) done.reads;
       counts = read_later _ _ _ _ (room.counts.quiet (λ is. absurd (cc))) done.counts;
@@ -144,6 +147,7 @@ returns g c =
         ap (λ (v : JournalValue g.row.B.Denot). v.last.number) behind,
       );
       alone = λ was. absurd (false≢true (sym (sym room.good ∙ good) ∙ was));
+      gathers = λ more. reads_then _ _ _ (room.gathers more) below;
       moves = moves_then h old mid new room.moves
           (ap (λ (v : JournalValue g.row.B.Denot). v.shape) behind ∙ ap (λ (v : JournalValue g.row.B.Denot). v.shape) journal)
           (ap (λ (x : CheckedValue g.row.B.Denot). x.blocks) put.rest ∙ blocks)

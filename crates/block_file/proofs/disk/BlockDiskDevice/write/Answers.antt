@@ -32,6 +32,7 @@ returns g c =
       any_moment = done.any_moment;
       good = done.good;
       opens = done.opens;
+      gathers = done.gathers;
       plan = done.plan;
     })
 

@@ -52,6 +52,7 @@ returns g c =
       any_moment = done.moves.any_moment;
       good = λ good kept. good_moved h d n refl c.and-self.ensures good kept done.moves.settled done.fits;
       opens = λ good. moves_reopen h d new sound done.moves good;
+      gathers = done.gathers;
       plan = refl;
       time = disk_elapses h d n refl c.and-self.ensures;
       counts = c.count.ensures.counts _ _ done.counts;
