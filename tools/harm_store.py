@@ -13,7 +13,8 @@ cuts: a copy is cut off or made longer, by blocks, sectors and bytes.
 torn: the writes and syncs of a process are recorded (by strace, which must be there). At moments that are drawn the file is made anew as
 a loss of power could leave it: all that was synced, and of each block of 4096 bytes that was written since one of: what it held, what it
 holds, a half of each, or junk. `dump` must find a prefix of the commits with all that was acknowledged by then, and `check` a sound index.
-A block that was written with the bytes that it had keeps them (an opening writes back what it read), but with --same it may be junk too.
+A block that was written with the bytes that it had keeps them (an opening writes back each sector of a plain file, or the areas of a file
+of blocks), but with --same it may be junk too.
 
 Each copy is told as: `refused` (nothing is answered), `same` (nothing that is answered changed), or `silent`: rows are answered that are
 not those that were acknowledged, and no error is told. Ends with 1 where something is silent.

@@ -183,7 +183,11 @@ fn fill_and_hand<A: Allocator + Copy>(
     Ok(())
 }
 
-fn use_leaves<A: Allocator + Copy>(rt: &impl Abort, memory: &Memory, within: A) -> Result<(), Error> {
+fn use_leaves<A: Allocator + Copy>(
+    rt: &impl Abort,
+    memory: &Memory,
+    within: A,
+) -> Result<(), Error> {
     let mut tree = BTree::new(within);
     let used = fill_and_hand(rt, memory, &mut tree);
     forget(tree);

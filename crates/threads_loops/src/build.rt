@@ -140,7 +140,6 @@ fn build_step<B: Group, R: Wait, A: Memory>(
     ensures quiet { (e : ErrorValue) → result.0 ≡ Err e → result.2 ≡ true → ∥ HasRefused B.site.opened e ∥₁ }
 {
     let mut locked = shared.hold_to_build(rt, build);
-    locked.push_outbox(rt, shared.queue());
     let built = locked.build_step();
     let attempts = locked.attempts();
     let is_quiet = locked.is_quiet();

@@ -108,8 +108,8 @@ fn clean_step<B: Group, R: Wait, A: Memory>(
     ensures { IfSome result (λ cleaned. ∥ WasServed B.site.opened Event.Clean (reply_by cleaner cleaned) ∥₁) }
 {
     let mut locked = shared.hold_to_clean(rt, part);
-    locked.push_outbox(rt, shared.queue());
     if locked.core().counts().marked == 0 {
+        locked.push_outbox(rt, shared.queue());
         MutexGuard::unlock(locked);
         return None;
     }

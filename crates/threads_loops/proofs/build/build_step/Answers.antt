@@ -11,7 +11,7 @@ use Rattle.threads_loops.proofs.build.build_step.Goals as goal
 
 pub returns-clause-stepped : goal.returns-clause-stepped
 returns-clause-stepped g c =
-    let was = c.deref_mut-2.result.now in
+    let was = c.deref_mut.result.now in
     ∥∥₁_map was.shared (λ all. record {
       served = record {
         core = value_of was.core;
@@ -26,7 +26,7 @@ returns-clause-stepped g c =
 
 pub returns-clause-quiet : goal.returns-clause-quiet
 returns-clause-quiet g c = λ e is on.
-    let was = c.deref_mut-2.result.now in
+    let was = c.deref_mut.result.now in
     let new = c.build_step-built.new.self in
     ∥∥₁_map was.shared (λ all. record {
       served = record {
