@@ -21,6 +21,8 @@ pub(crate) enum Job {
     GrowAndShrink,
     /// A tree gets as many pairs as it may have, rising from 0 or falling from this number.
     Fill(u32),
+    /// An index is built of pairs in rising order.
+    Build,
     /// Each insertion is refused before it is made.
     RefusePlans,
 }
@@ -38,6 +40,7 @@ fn do_over<A: Allocator + Copy>(
         Job::BeginWithout => quiet_tests::begin_without(memory, within),
         Job::GrowAndShrink => tree_tests::grow_and_shrink(rt, within),
         Job::Fill(highest) => tree_tests::fill(rt, within, highest),
+        Job::Build => tree_tests::build(rt, within),
         Job::RefusePlans => tree_tests::refuse_and_put(rt, alloc, memory, within),
     }
 }

@@ -2,7 +2,8 @@
 use crate::jobs::{Job, do_job};
 use crate::values::{Memory, claim, claim_at, pair_of};
 use btree_node::{BTree, ENTRIES_MAX, InLeaf};
-use records::{Error, Mark, Pair};
+use marked_index::MarkedIndex;
+use records::{Error, Geometry, Mark, Pair};
 use std::alloc::{AllocError, Allocator, Global};
 use std::mem::forget;
 use std::process::Abort;
@@ -181,6 +182,37 @@ pub(crate) fn fill<A: Allocator + Copy>(
     filled
 }
 
+// How many leaves the entries of an index stand in.
+fn leaves_of<A: Allocator + Copy>(index: &MarkedIndex<A>) -> usize {
+    let mut last = None;
+    for leaves in 0..index.len() {
+        let run = index.run_above(last.as_ref());
+        let Some(entry) = run.last() else {
+            return leaves;
+        };
+        last = Some(entry.pair);
+    }
+    index.len()
+}
+
+// The builder's pairs, in rising order.
+fn build_up<A: Allocator + Copy>(index: &mut MarkedIndex<A>) -> Result<(), Error> {
+    for number in 0..2_400u32 {
+        index.build_put(&pair_of(number)?)?;
+    }
+    Ok(())
+}
+
+/// Builds an index of pairs that rise. A leaf has 24 of them: it is full to three quarters.
+pub(crate) fn build<A: Allocator + Copy>(rt: &impl Abort, memory: A) -> Result<(), Error> {
+    let geometry = Geometry::new(40, 2_560, 4)?;
+    let mut index = MarkedIndex::new(memory, geometry);
+    let built = build_up(&mut index);
+    claim(rt, leaves_of(&index) == 100, "100 leaves of 2,400 pairs");
+    forget(index);
+    built
+}
+
 // Whether a walk meets just the pairs of these numbers, which all are live.
 fn walks<A: Allocator + Copy>(tree: &BTree<A>, numbers: &[u32]) -> Result<bool, Error> {
     let mut last = None;
@@ -321,8 +353,9 @@ pub(crate) fn refuse_and_put<A: Allocator + Copy>(
     put
 }
 
-static JOBS: [Job; 4] = [
+static JOBS: [Job; 5] = [
     Job::GrowAndShrink,
+    Job::Build,
     Job::Fill(0),
     Job::Fill(65_535),
     Job::RefusePlans,
