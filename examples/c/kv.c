@@ -146,7 +146,7 @@ static void time_in_memory(void)
 {
     nsf_handle store = NSF_VACANT;
     nsf_reply reply = NSF_NO_REPLY;
-    nsf_status status = {0, 0, 0, 0, 0, 0, 0, 0};
+    nsf_status status = NSF_NO_STATUS;
     nsf_place place = {0, 0};
     uint64_t found, ticket;
     double began;

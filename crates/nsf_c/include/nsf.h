@@ -216,6 +216,9 @@ typedef struct nsf_status {
     uint32_t life;     /* NSF_ABSENT to NSF_COMPLETE */
 } nsf_status;
 
+/* What a status is set to before nsf_stat fills it. */
+#define NSF_NO_STATUS {0, 0, 0, 0, 0, 0, 0, 0}
+
 /* How many sectors of 512 bytes a store of 1 to 65536 pages, 64 to 8388608 entries and 4 to 16384 slots needs; 0 for any other numbers. */
 uint64_t nsf_sectors(uint32_t pages, uint32_t entries, uint32_t slots);
 

@@ -109,7 +109,7 @@ static inline void nsf_push(nsf_request **list, nsf_request *request)
 /* Looks how far the index is. */
 static inline void nsf_look_at_index(nsf_shared *shared)
 {
-    nsf_status status = {0, 0, 0, 0, 0, 0, 0, 0};
+    nsf_status status = NSF_NO_STATUS;
     nsf_stat(shared->handle, &status);
     shared->builds = status.life == NSF_BUILDING || status.life == NSF_BUILDING_AT;
 }
@@ -141,7 +141,7 @@ static inline void nsf_serve_now(nsf_shared *shared, nsf_request *request)
 /* Whether an index is there. */
 static inline bool nsf_has_index(nsf_shared *shared)
 {
-    nsf_status status = {0, 0, 0, 0, 0, 0, 0, 0};
+    nsf_status status = NSF_NO_STATUS;
     nsf_stat(shared->handle, &status);
     return status.life != NSF_ABSENT;
 }
