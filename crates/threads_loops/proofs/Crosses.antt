@@ -29,6 +29,7 @@ use Rattle.nsf_core.below.node_parts.specs.declared.Node.TheDeep as deep
 use Rattle.nsf_core.below.node_parts.specs.contracts.Node as Node
 use Rattle.nsf_core.below.node_parts.specs.contracts.Node.TheKnot as knot
 use Rattle.nsf_core.below.btree_node.specs.contracts.BTree as BTree
+use Rattle.nsf_core.below.marked_index.specs.contracts.entries.Entries as Entries
 use Rattle.nsf_core.below.marked_index.specs.contracts.index.MarkedIndex as MarkedIndex
 use Rattle.nsf_core.below.heap_pages.proofs.heap.Heap.TheSendSync as pages
 use Rattle.nsf_core.below.txn_table.proofs.table.TxnTable.TheSendSync as table
@@ -110,10 +111,18 @@ tree_send =
     recorded_send (BTree.TheInside.the_field H ghosts).row _ _ (BTree.TheInside.the_type H ghosts).to_one f in
     search view_send depth 3
 
+entries_send : IsSend (Entries.the_row H ghosts)
+entries_send =
+    let f : IsSend (Entries.TheInside.the_field H ghosts).row =
+    struct_send (shape (Entries.TheInside.the_type H ghosts)) (tree_send, (search sendable depth 6, tt)) in
+    let w : IsSend (Entries.TheInside.the_row H ghosts) =
+    recorded_send (Entries.TheInside.the_field H ghosts).row _ _ (Entries.TheInside.the_type H ghosts).to_one f in
+    search view_send depth 3
+
 index_send : IsSend (MarkedIndex.the_row H ghosts)
 index_send =
     let f : IsSend (MarkedIndex.TheInside.the_field H ghosts).row =
-    struct_send (shape (MarkedIndex.TheInside.the_type H ghosts)) (tree_send, (search sendable depth 6, (search sendable depth 6, tt))) in
+    struct_send (shape (MarkedIndex.TheInside.the_type H ghosts)) (entries_send, (search sendable depth 6, (search sendable depth 6, tt))) in
     let w : IsSend (MarkedIndex.TheInside.the_row H ghosts) =
     recorded_send (MarkedIndex.TheInside.the_field H ghosts).row _ _ (MarkedIndex.TheInside.the_type H ghosts).to_one f in
     search view_send depth 3
