@@ -1,5 +1,5 @@
 -- Live entries that follow one another.
-use Rattle.std.specs.Prelude.{◌≡◌, ◌<◌, ℕ, Bool, not, List, [], ◌∷◌, length, Option, Some}
+use Rattle.std.specs.Prelude.{◌≡◌, ◌<◌, ℕ, not, List, [], ◌∷◌, length, Option, Some}
 use Rattle.std.specs.List.{prefix_len}
 use Rattle.record_values.specs.declared.pair.Mark.TheVariants.{Live}
 use Rattle.record_values.specs.declared.pair.Pair.{Pair}

@@ -1,4 +1,4 @@
-use Rattle.std.proofs.Common.{◌≡◌, ◌<◌, None, Some, true, is_some, ap, sym, subst, refl, ◌∙◌}
+use Rattle.std.proofs.Common.{◌≡◌, ◌<◌, None, true, is_some, ap, sym, subst, refl, ◌∙◌}
 use Rattle.std.specs.FinMap as map
 use Rattle.record_values.specs.declared.geometry.TheConstants.{LARGE_ENTRIES_MAX}
 use Rattle.record_values.specs.declared.pair.Mark.TheVariants.{Live}

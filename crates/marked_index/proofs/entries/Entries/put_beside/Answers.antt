@@ -1,4 +1,4 @@
-use Rattle.std.proofs.Common.{◌≡◌, ◌<◌, None, Some, ap, sym, subst, refl, ◌∙◌, arith}
+use Rattle.std.proofs.Common.{◌≡◌, ◌<◌, None, ap, sym, subst, refl, ◌∙◌, arith}
 use Rattle.std.specs.FinMap as map
 use Rattle.record_values.specs.declared.geometry.TheConstants.{LARGE_ENTRIES_MAX}
 use Rattle.record_values.specs.declared.pair.Mark.TheVariants.{Live}

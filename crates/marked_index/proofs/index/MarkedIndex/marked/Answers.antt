@@ -1,4 +1,4 @@
-use Rattle.std.proofs.Common.{ap, arith, sym, ◌∙◌}
+use Rattle.std.proofs.Common.{ap, arith, ◌∙◌}
 use Rattle.marked_index.specs.Counts.{marked_in}
 use Rattle.marked_index.specs.Index.{IndexValue}
 use Rattle.marked_index.proofs.Counted.{each_counted}
