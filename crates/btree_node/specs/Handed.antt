@@ -8,6 +8,7 @@ use Rattle.node_parts.specs.Rows.{trees}
 use Rattle.node_parts.specs.Tree.{Tree, Forest, leaf, branch, none, more, forest_of, count, IsLeaf}
 use Rattle.btree_node.specs.Splits.{splits, is_before_all}
 
+-- ---- two children of a row (no public clause cites these)
 -- the second child is a full leaf, and the first no more than half full
 abbrev pub CanHand : {A : Type 0} → Child A → Child A → Type 0
 CanHand left full = IsLeaf full.node.value × (count full.node.value ≡ 32) × (count left.node.value ≤ 16)
@@ -43,7 +44,7 @@ abbrev mutual
   can_below none p = false
   can_below (more t f) p = cond (is_before_all p f) (can_make_room t p) (can_below f p)
 
--- whether the child at k can hand entries to the one before it
+-- whether the child at k can hand entries to the one before it (no public clause cites this)
 abbrev pub can_hand_at : {A : Type 0} → ℕ → List (Child A) → Bool
 can_hand_at k [] = false
 can_hand_at k (c ∷ []) = false

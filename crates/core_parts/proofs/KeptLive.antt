@@ -63,24 +63,24 @@ path_kept v indexed (p ∷ ps) place path = (
   path_kept (record v { cleaned = Some p }) indexed ps place path.1,
 )
 
-module _ (v new : CoreValue) (runs most : ℕ) (indexed : is_indexed v.life ≡ true) (on : IsOnWay v runs new) where
-  passes_by : (length on.passed < most → IsLiveNext v.index.entries on.place → ⊥) → PassesLive v most new
-  passes_by far = subst (PassesLive v most) (sym on.moved) (record {
+module _ (v new : CoreValue) (runs least : ℕ) (indexed : is_indexed v.life ≡ true) (on : IsOnWay v runs new) where
+  passes_by : (length on.passed < least → IsLiveNext v.index.entries on.place → ⊥) → PassesLive v least new
+  passes_by far = subst (PassesLive v least) (sym on.moved) (record {
     passed = on.passed;
     kept = path_kept v indexed on.passed on.place on.path;
     far = λ few next. far few next.1;
   })
 
   -- there it came before an entry that isn't live
-  pub way_ended : (IsLiveNext new.index.entries new.cleaned → ⊥) → PassesLive v most new
+  pub way_ended : (IsLiveNext new.index.entries new.cleaned → ⊥) → PassesLive v least new
   way_ended none = passes_by (λ few next. subst (λ (m : CoreValue). IsLiveNext m.index.entries m.cleaned → ⊥) on.moved none next)
 
-  pub way_done : most ≤ runs → PassesLive v most new
+  pub way_done : least ≤ runs → PassesLive v least new
   way_done all = passes_by (λ few next. absurd (omega (arith, few, on.many, all)))
 
 -- without an index there is nothing to pass over
-pub passes_none : (v : CoreValue) (most : ℕ) → is_indexed v.life ≡ false → PassesLive v most v
-passes_none v most none = record { passed = []; kept = refl; far = λ few next. false≢true (sym none ∙ next.0) }
+pub passes_none : (v : CoreValue) (least : ℕ) → is_indexed v.life ≡ false → PassesLive v least v
+passes_none v least none = record { passed = []; kept = refl; far = λ few next. false≢true (sym none ∙ next.0) }
 
 kept_safe : (old new : CoreValue) (ps : List Pair) → HasKept old ps new → IsSafe old → IsSafe new
 kept_safe old new [] kept safe = subst IsSafe (sym kept) safe
@@ -88,5 +88,5 @@ kept_safe old new (p ∷ ps) kept safe = kept_safe (record old { cleaned = Some 
     (stays_safe old Event.Clean (Cleaner (Kept p)) (record old { cleaned = Some p }) kept.1 safe)
 
 -- and what the core keeps stays true
-pub passed_safe : (old new : CoreValue) (most : ℕ) → PassesLive old most new → ∥ IsSafe old ∥₁ → ∥ IsSafe new ∥₁
-passed_safe old new most passes safe = ∥∥₁_map safe (kept_safe old new passes.passed passes.kept)
+pub passed_safe : (old new : CoreValue) (least : ℕ) → PassesLive old least new → ∥ IsSafe old ∥₁ → ∥ IsSafe new ∥₁
+passed_safe old new least passes safe = ∥∥₁_map safe (kept_safe old new passes.passed passes.kept)

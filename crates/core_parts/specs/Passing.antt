@@ -22,10 +22,10 @@ IsAtLive v = (is_indexed v.life ≡ true) × IsLiveNext v.index.entries v.cleane
 
 -- The cleaner passed over live entries, as if it had kept each of them: so many at least, or all up to the first that
 -- isn't live.
-pub record PassesLive (old : CoreValue) (most : ℕ) (new : CoreValue) : Type 0 where
+pub record PassesLive (old : CoreValue) (least : ℕ) (new : CoreValue) : Type 0 where
   pub passed : List Pair
   pub kept : HasKept old passed new
-  pub far : length passed < most → IsAtLive new → ⊥
+  pub far : length passed < least → IsAtLive new → ⊥
 
 -- the cleaner's place is behind some live entries that came next, and nothing else differs (no public clause cites
 -- this)

@@ -22,7 +22,9 @@ impl<A: Allocator + Copy> CoreParts<A> {
         true
     }
 
-    /// Moves the cleaner's place behind so many runs of live entries, or before the first entry that isn't live.
+    /// Moves the cleaner's place over live entries: over so many at least, or over all up to the first that isn't live.
+    ///
+    /// It goes no further than over so many runs of them (no clause says so).
     pub fn pass_live(&mut self, runs: u32)
         requires { pairs.is_indexed (parts_of self.old).life ≡ true }
         ensures { PassesLive (parts_of self.old) runs (parts_of self.new) }

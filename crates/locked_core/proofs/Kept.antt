@@ -177,8 +177,8 @@ module _ (o : Opened) (pushed : List RecordValue) (book : List SessionValue) whe
   kept_each core new (p ∷ ps) kept shared = kept_each (record core { cleaned = Some p }) new ps kept.2
       (others_kept o core (record core { cleaned = Some p }) pushed book shared Event.Clean _ tt kept.1)
 
-  pub passed_kept : (core new : CoreValue) (most : ℕ) → PassesLive core most new → IsShared o core pushed book → IsShared o new pushed book
-  passed_kept core new most passes = kept_each core new passes.passed passes.kept
+  pub passed_kept : (core new : CoreValue) (least : ℕ) → PassesLive core least new → IsShared o core pushed book → IsShared o new pushed book
+  passed_kept core new least passes = kept_each core new passes.passed passes.kept
 
 -- ---- the beginning
 

@@ -7,9 +7,9 @@
 //!
 //! Proved: whoever takes the lock finds that core, queue and sessions agree (`IsShared`, which the type keeps): the law
 //! `each_hold`. A step of a seat is served by the core (`served`), changes the seat's session as it tells (`ok`), and
-//! no other (`book`). `push_outbox` pushes the first records that wait, in order (`pushed`). `compare` tells that what
-//! was popped is the first of what was pushed (`beginning`). Neither: that a record is pushed where the queue would
-//! take it.
+//! no other (`book`). `pass_live` moves the cleaner's place over live entries, as the core's does (`passed`).
+//! `push_outbox` pushes the first records that wait, in order (`pushed`). `compare` tells that what was popped is the
+//! first of what was pushed (`beginning`). Neither: that a record is pushed where the queue would take it.
 #![tactic(auto)]
 
 mod group;

@@ -191,7 +191,7 @@ impl<A: Allocator> Node<A> {
     pub fn hand_left(&mut self, left: &mut Node<A>, moved: usize)
         requires leaf { IsLeaf self.old }
         requires left_leaf { IsLeaf left.old }
-        requires some { moved ≤ count self.old }
+        requires enough { moved ≤ count self.old }
         requires room { count left.old + moved ≤ 32 }
         ensures leaf { IsLeaf self.new }
         ensures left_leaf { IsLeaf left.new }

@@ -16,11 +16,12 @@ use std::sync::{MutexGuard, Wait};
 // Before a step the cleaner passes over the live entries of so many leaves.
 const RUNS_A_STEP: u32 = 64;
 
-/// Makes steps of the cleaner, each under the lock anew, until the stop flag is read. Before each it passes over live
-/// entries, as many as some leaves have. Where no entry is marked it makes no step. What is refused it passes over.
-/// After some steps that removed nothing it leaves room for the others by a pause, and behind a round through the index
-/// that removed nothing it sleeps, longer each time. Behind a round in which no record was made it makes no step until
-/// one is: nothing more can be taken out before.
+/// Makes steps of the cleaner, each under the lock anew, until the stop flag is read. What is refused it passes over.
+///
+/// No clause says when it makes a step. Before each it passes over live entries, as many as some leaves have. Where no
+/// entry is marked it makes none. After some steps that removed nothing it leaves room for the others by a pause, and
+/// behind a round through the index that removed nothing it sleeps, longer each time. Behind a round in which no record
+/// was made it makes no step until one is: nothing more can be taken out before.
 pub fn clean_loop<B: Group, R: Wait, G: Gate, A: Memory>(
     rt: &R,
     shared: &Shared<B, A>,
