@@ -43,7 +43,7 @@ fn is_inside(geometry: Geometry, life: Life) -> bool
 }
 
 /// What the sector of a header says. `None` where it says nothing.
-pub(crate) fn header_in(
+pub fn header_in(
     version: Version,
     geometry: Geometry,
     bytes: &[u8; SECTOR_SIZE],

@@ -1,9 +1,8 @@
 //! The entries of an index are left out.
-ghost use Rattle.std.specs.Prelude.{◌≡◌, ◌⊎◌, ◌<◌, ◌≤◌, ◌↔◌, IsTrue, Some, length, IfErr, IfOk, IfSome, OnOk};
+ghost use Rattle.std.specs.Prelude.{◌≡◌, ◌⊎◌, ◌<◌, ◌≤◌, length, IfErr, IfOk, OnOk};
 ghost use Rattle.sector_device.specs.Disk.{sector};
 ghost use Rattle.sector_device.specs.DevicePast.{OnlyReads};
 ghost use Rattle.record_values.specs.GeometryValue.{sectors_of};
-ghost use Rattle.record_values.specs.declared.pair.Pair.{Pair};
 ghost use Rattle.store_image_half.specs.Image.{IsHeader};
 ghost use Rattle.gate_log.specs.Area.{Refuses};
 ghost use Rattle.store_image_parts.specs.declared.header.Header.{Header};
@@ -11,39 +10,9 @@ ghost use Rattle.flip_image.specs.Layout.{header_sector};
 ghost use Rattle.store_salvage.specs.Salvage.{HasNoHeader, IsUnindexed};
 
 use flip_image::Halves;
-use model::Life;
 use records::{Error, Geometry, Version};
-use sector_device::{Device, SECTOR_SIZE, zero_sector};
-use store_image_half::write_header;
-use store_image_parts::{Header, read_header};
-
-// Whether a highest pair names a row of the store's pages, where there is one.
-fn is_inside(geometry: Geometry, life: Life) -> bool
-    ensures { IsTrue result ↔ ((p : Pair) → life ≡ Life.Building (Some p) → p.rid.page < geometry.pages) }
-{
-    match life {
-        Life::Building {
-            highest: Some(pair),
-        } => pair.rid.page < geometry.pages,
-        _ => true,
-    }
-}
-
-// What the sector of a header says. `None` where it says nothing.
-fn header_in(geometry: Geometry, bytes: &[u8; SECTOR_SIZE]) -> Option<Header>
-    ensures found { IfSome result (IsHeader geometry bytes.now) }
-    ensures again { (h : Header) → IsHeader geometry bytes.now h → result ≡ Some h }
-{
-    let header = read_header(bytes)?;
-    if geometry.entries < header.entries {
-        return None;
-    }
-    if is_inside(geometry, header.life) {
-        Some(header)
-    } else {
-        None
-    }
-}
+use sector_device::{Device, zero_sector};
+use store_image_half::{Header, header_in, write_header};
 
 // What the header in a sector says. `Damaged` with the sector where it says nothing.
 fn header_at<D: Device>(device: &mut D, geometry: Geometry, first: u64) -> Result<Header, Error>
@@ -59,7 +28,7 @@ fn header_at<D: Device>(device: &mut D, geometry: Geometry, first: u64) -> Resul
     if device.read(first, &mut bytes).is_err() {
         return Err(Error::DeviceFailed);
     }
-    header_in(geometry, &bytes).ok_or(Error::Damaged { sector: first })
+    header_in(Version::Two, geometry, &bytes).ok_or(Error::Damaged { sector: first })
 }
 
 /// Writes the header of the current half's image anew, without entries. `Damaged` with its sector where that says
