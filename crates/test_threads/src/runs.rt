@@ -13,6 +13,28 @@ pub(crate) struct Ran<B: Group, D: Device, X> {
     pub flushed: Result<(), Error>,
 }
 
+// What ran, without what the builder ended with.
+fn ran_of<B: Group, D: Device, X>(ended: Ended<B, D, X>) -> Ran<B, D, X> {
+    let Ended {
+        clients,
+        flush,
+        build,
+        clean,
+        flushed,
+        built: _,
+    } = ended;
+    let loops = LoopParts {
+        flush,
+        build,
+        clean,
+    };
+    Ran {
+        clients,
+        loops,
+        flushed,
+    }
+}
+
 /// Runs the clients beside the loops. Where there is no thread for a loop, the parts of the loops come back.
 pub(crate) fn run<
     B: Group + Send + Sync,
@@ -37,26 +59,7 @@ pub(crate) fn run<
     } = loops;
     let told = BuilderEnd::new();
     match run_beside(rt, shared, flush, build, clean, &told, gate, clients) {
-        Ok((ended, _)) => {
-            let Ended {
-                clients,
-                flush,
-                build,
-                clean,
-                flushed,
-                built: _,
-            } = ended;
-            let loops = LoopParts {
-                flush,
-                build,
-                clean,
-            };
-            Ok(Ran {
-                clients,
-                loops,
-                flushed,
-            })
-        }
+        Ok((ended, _)) => Ok(ran_of(ended)),
         Err(not_run) => {
             let NotRun {
                 flush,
