@@ -13,12 +13,12 @@ use shared::{CleanPart, Group, Memory, Shared};
 use std::sync::atomic::AtomicU64;
 use std::sync::{MutexGuard, Wait};
 
-// Before a step the cleaner passes over the live entries of so many leaves.
-const RUNS_A_STEP: u32 = 64;
+// Before a step the cleaner passes over the live entries of so many leaves. It has the lock meanwhile, so they are few.
+const RUNS_A_STEP: u32 = 1;
 
 /// Makes steps of the cleaner, each under the lock anew, until the stop flag is read. What is refused it passes over.
 ///
-/// No clause says when it makes a step. Before each it passes over live entries, as many as some leaves have. Where no
+/// No clause says when it makes a step. Before each it passes over live entries, as many as a leaf has. Where no
 /// entry is marked it makes none. After some steps that removed nothing it leaves room for the others by a pause, and
 /// behind a round through the index that removed nothing it sleeps, longer each time. Behind a round in which no record
 /// was made it makes no step until one is: nothing more can be taken out before.
