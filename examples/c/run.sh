@@ -1,6 +1,6 @@
 #!/bin/sh
-# Builds the library, proving it, and runs the examples over it: run.sh [--time]. With NSF_LIBRARY set to a libnsf_c.a that is built
-# already, that is taken. CFLAGS are passed on, as -fsanitize=thread.
+# Builds the library, proving it, and runs the examples over it: run.sh [--time]. With NSF_LIBRARY set to one that is built already, as
+# by scripts/library, that is taken. CFLAGS are passed on, as -fsanitize=thread.
 set -e
 here=$(cd "$(dirname "$0")" && pwd)
 . "$here/../library.sh"

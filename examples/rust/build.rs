@@ -1,10 +1,13 @@
-//! Links the libraries that NSF_LIBRARIES names, as run.sh does. A package that depends on this one links them too.
+//! Links the library that NSF_LIBRARY names, a libnsf.a of scripts/library, or those that NSF_LIBRARIES names, as run.sh does.
+//! A package that depends on this one links them too.
 use std::path::Path;
 
 fn main() {
     println!("cargo:rerun-if-env-changed=NSF_LIBRARIES");
+    println!("cargo:rerun-if-env-changed=NSF_LIBRARY");
     let libraries = std::env::var("NSF_LIBRARIES")
-        .expect("NSF_LIBRARIES names libnsf_c.a and the kit's: see run.sh");
+        .or_else(|_| std::env::var("NSF_LIBRARY"))
+        .expect("NSF_LIBRARY names a libnsf.a: see scripts/library");
     for library in libraries.split_whitespace() {
         let path = Path::new(library);
         let name = path
