@@ -18,7 +18,7 @@
 //! seen leaves a wait one answer (the law `one_wait`), and the horizon that it had seen with its mark was published by
 //! the moment that this marks, if it isn't 0 (`noted`).
 //!
-//! Neither: that a call which takes the lock or waits returns; fairness; that `find`, `scan`, `count`, `counts`, `life`,
+//! Neither: that a call which takes the lock or waits returns; fairness; that `find`, `scan`, `count`, `counts`, `life`
 //! or `get` of another's place is of now; that taking back was tried where a transaction is left (want of memory may
 //! refuse each step of it); that a dropped seat gives its transactions back (they stay active until the store is opened
 //! again).
