@@ -6,7 +6,7 @@ use records::{Error, Mark, Pair, Rid, Row, Txn};
 use std::fmt;
 
 /// A line of the output.
-#[derive(Debug, Drop, PartialEq, Eq)]
+#[derive(Drop)]
 pub enum Answer {
     /// The number of the new transaction: `txn <n>`.
     Txn(Txn),

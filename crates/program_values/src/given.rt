@@ -9,7 +9,7 @@ use sector_device::Fate;
 pub const FATES: [&str; 5] = ["old", "new", "zero", "a5", "junk"];
 
 /// What the arguments ask for.
-#[derive(Clone, Copy, Debug, PartialEq, Eq)]
+#[derive(Clone, Copy)]
 pub struct Arguments {
     /// The pages of the store.
     pub pages: u32,
@@ -26,7 +26,7 @@ pub struct Arguments {
 }
 
 /// The arguments as they are given, each of which may be left out.
-#[derive(Clone, Copy, Debug, PartialEq, Eq)]
+#[derive(Clone, Copy)]
 pub struct Options {
     /// The pages of the store.
     pub pages: Option<u32>,

@@ -8,7 +8,7 @@ use records::Pair;
 use std::fmt;
 
 /// What a step of the builder or of the cleaner did.
-#[derive(Clone, Copy, Debug, PartialEq, Eq)]
+#[derive(Clone, Copy)]
 pub enum Step {
     /// The builder took the pairs of a page: `scanned <page>`.
     Scanned(u32),
