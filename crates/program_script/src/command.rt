@@ -5,7 +5,7 @@ use records::{Rid, Txn};
 
 /// One command of a script. `insert`, `delete` and `update` make the first step of a change, and
 /// `step` makes each further one.
-#[derive(Debug, Drop, PartialEq, Eq)]
+#[derive(Drop)]
 pub enum Command {
     /// Begins a transaction: `begin`.
     Begin,

@@ -1,7 +1,7 @@
 //! Fates of what was not yet synced.
 
 /// What a crash does with each sector that was written and not yet synced.
-#[derive(Clone, Copy, Debug, PartialEq, Eq)]
+#[derive(Clone, Copy)]
 pub enum Fate {
     /// It is as before the write: `old`.
     Old,
