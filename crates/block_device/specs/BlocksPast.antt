@@ -1,5 +1,5 @@
 -- A file of blocks as time goes on: its moments, and what a crash between two of them leaves.
-use Rattle.std.specs.Prelude.{◌≡◌, ◌⊎◌, ℕ, ◌≤◌, List, length, slice_index_or}
+use Rattle.std.specs.Prelude.{◌≡◌, ◌⊎◌, ℕ, ◌≤◌, List, [], ◌∷◌, ◌++◌, length, slice_index_or}
 use Rattle.std.proofs.Common.{ap}
 use Rattle.std.proofs.Math.Nat.{le_refl}
 use Rattle.std.proofs.lemmas.List.{get_or_past}
@@ -18,6 +18,16 @@ pub record Elapses (old new : BlocksPast) : Type 0 where
   pub later : old.moment ≤ new.moment
   pub kept : (t : ℕ) → t ≤ old.moment → new.file_at t ≡ old.file_at t
   pub during : (t : ℕ) → old.moment ≤ t → t ≤ new.moment → (new.file_at t ≡ old.file) ⊎ (new.file_at t ≡ new.file)
+
+-- so many blocks, from the first on, were written back at this moment
+pub record WrittenBack : Type 0 where
+  pub first : ℕ
+  pub count : ℕ
+  pub moment : ℕ
+
+-- these, and behind them one more
+abbrev pub and_back : List WrittenBack → (first count moment : ℕ) → List WrittenBack
+and_back runs first count moment = runs ++ record { first = first; count = count; moment = moment } ∷ []
 
 -- each crash file of the moments from one to another has P
 abbrev pub Between : (ℕ → BlockFile) → ℕ → ℕ → (CrashFile → Type 0) → Type 0

@@ -1,3 +1,4 @@
+pub mod BackRuns
 pub mod Blocks
 pub mod BlocksPast
 pub mod Crash

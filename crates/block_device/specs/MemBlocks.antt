@@ -1,9 +1,10 @@
 -- What a file in memory holds.
-use Rattle.std.specs.Prelude.{ℕ, false, slice_index_or}
+use Rattle.std.specs.Prelude.{ℕ, false, List, slice_index_or}
 use Rattle.block_device.specs.declared.held.Held.{Held}
 use Rattle.block_device.specs.declared.memory.MemBlocks.{MemBlocks}
 use Rattle.block_device.specs.Blocks.{CrashFile, BlockFile}
-use Rattle.block_device.specs.BlocksPast.{BlocksPast, past_with}
+use Rattle.block_device.specs.BackRuns.{runs_in}
+use Rattle.block_device.specs.BlocksPast.{BlocksPast, WrittenBack, past_with}
 use Rattle.block_device.specs.Crash.{Torn}
 
 module _ {A : Type 0} where
@@ -30,6 +31,10 @@ module _ {A : Type 0} where
   -- how many calls have failed
   abbrev pub failures_of : MemBlocks A → ℕ
   failures_of m = m.failures
+
+  -- which runs were written back since it began
+  abbrev pub written_back_of : MemBlocks A → List WrittenBack
+  written_back_of m = runs_in m.back
 
   -- how many writes and syncs succeed yet
   abbrev pub calls_left : MemBlocks A → ℕ

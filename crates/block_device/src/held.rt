@@ -3,7 +3,7 @@ ghost use Rattle.std.specs.Prelude.{◌≡◌, ◌+◌, ◌≤◌, length, repli
 ghost use Rattle.block_device.specs.Blocks.{IsWhole, IsSynced, IsCrashFile, after_write, after_sync, zero_block};
 
 use crate::crash::tear;
-use crate::runs::{mark_run, put_run, zero_block};
+use crate::runs::{mark_run, put_run, zero_blocks};
 use crate::{BLOCK_SIZE, Fate};
 use std::alloc::{AllocError, Allocator};
 
@@ -19,17 +19,6 @@ pub(crate) struct Held<A: Allocator> {
     ghost loose_size: { length loose.items ≡ length content.items },
 }
 
-// Blocks of zeros.
-fn zeros<A: Allocator>(alloc: A, blocks: usize) -> Result<Vec<[u8; BLOCK_SIZE], A>, AllocError>
-    ensures { IfOk result (λ image. image.items ≡ replicate blocks zero_block) }
-{
-    let mut image = Vec::with_capacity(alloc, blocks)?;
-    for _ in 0..blocks {
-        image.push(zero_block())?;
-    }
-    Ok(image)
-}
-
 impl<A: Allocator + Copy> Held<A> {
     ghost use Rattle.block_device.specs.Crash.{IsCrashed};
     ghost use Rattle.block_device.specs.MemBlocks.{file_of, torn_of};
@@ -41,8 +30,8 @@ impl<A: Allocator + Copy> Held<A> {
         ensures last_synced { IfOk result (λ h. (torn_of h).synced ≡ (file_of h).content) }
     {
         Ok(Held {
-            content: zeros(alloc, blocks)?,
-            synced: zeros(alloc, blocks)?,
+            content: zero_blocks(alloc, blocks)?,
+            synced: zero_blocks(alloc, blocks)?,
             loose: vec![in alloc; false; blocks]?,
         })
     }

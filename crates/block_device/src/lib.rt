@@ -2,12 +2,14 @@
 //! may leave. Where a sector is harmed alone (`sector_device`), a block is harmed as a whole.
 //!
 //! Proved of `MemBlocks`: the clauses of `Blocks`: what each call does, and what it leaves where it fails (`ok`,
-//! `err`); what a crash leaves around it (`time`); that failures are counted (`counts`). `crash` leaves the crash file
-//! that the fates name (`crash`, `fates`). Neither: that a real file behaves so. That is the premise of all above it.
+//! `err`); what a crash leaves around it (`time`); that failures are counted (`counts`); which runs of blocks were
+//! written back, and when (`back`). `crash` leaves the crash file that the fates name (`crash`, `fates`), by what the
+//! last sync left (`last_synced`). Neither: that a real file behaves so. That is the premise of all above it.
 //!
 //! Lemmas about its public words that crates above may cite, in `proofs`: `CrashFiles`, `Moments` and `Within`.
 #![tactic(auto)]
 
+mod back;
 mod blocks;
 mod crash;
 mod fate;
@@ -15,7 +17,8 @@ mod held;
 mod memory;
 mod runs;
 
+pub use back::BackRuns;
 pub use blocks::{BLOCK_SIZE, Blocks, few_blocks};
 pub use fate::Fate;
 pub use memory::MemBlocks;
-pub use runs::{put_run, zero_block};
+pub use runs::{put_run, zero_block, zero_blocks};

@@ -1,14 +1,30 @@
 // Runs of blocks.
-ghost use Rattle.std.specs.Prelude.{◌≡◌, ◌+◌, ◌≤◌, ℕ, true, false, ◌||◌, length, slice_index_or};
+ghost use Rattle.std.specs.Prelude.{◌≡◌, ◌+◌, ◌≤◌, ℕ, true, false, ◌||◌, length, replicate, slice_index_or};
+ghost use Rattle.std.specs.Prelude.{IfOk};
 ghost use Rattle.block_device.specs.Blocks.{IsBlock, IsWhole, with_run, is_in_run, zero_block};
 
 use crate::BLOCK_SIZE;
+use std::alloc::{AllocError, Allocator};
 
 /// A block of zeros.
 pub fn zero_block() -> [u8; BLOCK_SIZE]
     ensures { result ≡ zero_block }
 {
     [0; BLOCK_SIZE]
+}
+
+/// So many blocks of zeros. The error is that memory was refused.
+pub fn zero_blocks<A: Allocator>(
+    alloc: A,
+    blocks: usize,
+) -> Result<Vec<[u8; BLOCK_SIZE], A>, AllocError>
+    ensures { IfOk result (λ image. image.items ≡ replicate blocks zero_block) }
+{
+    let mut image = Vec::with_capacity(alloc, blocks)?;
+    for _ in 0..blocks {
+        image.push(zero_block())?;
+    }
+    Ok(image)
 }
 
 // A block of these bytes.

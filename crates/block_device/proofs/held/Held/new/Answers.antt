@@ -6,8 +6,8 @@ use Rattle.block_device.proofs.held.Held.new.Goals as goal
 
 pub invariant_of-result : goal.invariant_of-result
 invariant_of-result g c =
-    let content = c.in_ok-zeros.ensures in
-    let synced = c.in_ok-zeros-2.ensures in
+    let content = c.in_ok-zero_blocks.ensures in
+    let synced = c.in_ok-zero_blocks-2.ensures in
     let marks : c.in_ok-vec.field-0.items ≡ replicate c.args.blocks false = c.in_ok-vec.ensures.items_if_clones_equal (λ y is. is) in
     record {
       whole = subst IsWhole (sym content) (zeros_are_whole c.args.blocks);

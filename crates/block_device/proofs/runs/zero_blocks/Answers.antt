@@ -1,7 +1,7 @@
 use Rattle.std.proofs.Common.{◌∙◌, ap, ◌++◌, [], ◌∷◌, List, ℕ}
 use Rattle.std.proofs.lemmas.List.{replicate_more}
 use Rattle.block_device.specs.Blocks.{zero_block}
-use Rattle.block_device.proofs.held.zeros.Goals as goal
+use Rattle.block_device.proofs.runs.zero_blocks.Goals as goal
 
 pub loop-preserved : goal.loop-preserved
 loop-preserved g c =
