@@ -1,5 +1,5 @@
 -- Which runs of blocks were written back, as a list that only clauses read.
-use Rattle.std.specs.Prelude.{ℕ, ◌-◌, List, length, map}
+use Rattle.std.specs.Prelude.{◌-◌, List, length, map}
 use Rattle.block_device.specs.declared.back.BackRun.{BackRun}
 use Rattle.block_device.specs.declared.back.BackRuns.{BackRuns}
 use Rattle.block_device.specs.BlocksPast.{WrittenBack}
