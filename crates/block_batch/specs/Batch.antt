@@ -5,7 +5,7 @@ use Rattle.std.specs.List.{range_with_len}
 use Rattle.block_digest.specs.Digest.{digest, digest_from}
 use Rattle.block_device.specs.Blocks.{CrashFile, block}
 use Rattle.block_words.specs.Words.{word}
-use Rattle.block_batch.specs.declared.head.TheConstants.{TEXT, PLACES_MAX}
+use Rattle.block_batch.specs.declared.head.TheConstants.{PLACES_MAX}
 
 -- a block of a batch: its place, and its bytes
 pub record Entry : Type 0 where
@@ -45,10 +45,10 @@ abbrev pub do_fit : CrashFile → ℕ → Bool
 do_fit area zero = true
 do_fit area (suc n) = do_fit area n && (digest_in area n == block_digest (place_in area n) (block area (1 + n)))
 
--- Whether the area has a batch: the text, a count that a head can tell, room for so many blocks, and digests that
--- fit.
+-- Whether the area has a batch: the text as a number, a count that a head can tell, room for so many blocks, and
+-- digests that fit.
 abbrev pub is_batch : CrashFile → Bool
-is_batch area = (word (block area 0) 0 == TEXT)
+is_batch area = (word (block area 0) 0 == 5643932008403190600)
     && (nat_le (count_in area) PLACES_MAX
     && (nat_lt (count_in area) (length area)
     && ((word (block area 0) 511 == head_digest area) && do_fit area (count_in area))))

@@ -84,6 +84,17 @@ no_place area places (suc n) p none there =
     (place_either (entries_in area places n) (entry_at area places n ∷ []) p
     (subst (λ (l : List Entry). IsPlace l p) (ap (entries_in area places) next ∙ entries_more area places n) there))
 
+pub place_index : (area : CrashFile) (places : List ℕ) (n p : ℕ) → IsPlace (entries_in area places n) p
+    → (k : ℕ) × (k < n) × (slice_index places k ≡ p)
+place_index area places zero p there = absurd there
+place_index area places (suc n) p there =
+    let next : suc n ≡ n + 1 = omega arith in
+    ⊎_elim
+    (λ before. let k = place_index area places n p before in (k.0, omega (arith, k.1), k.2))
+    (λ last. ⊎_elim (λ is. (n, omega arith, sym is)) (λ never. absurd never) last)
+    (place_either (entries_in area places n) (entry_at area places n ∷ []) p
+    (subst (λ (l : List Entry). IsPlace l p) (ap (entries_in area places) next ∙ entries_more area places n) there))
+
 -- ---- what a block is after a replay
 
 module _ (area : CrashFile) (places : List ℕ) (image : CrashFile) (place : ℕ) where
@@ -200,6 +211,41 @@ pub put_in_place : (area : CrashFile) (places : List ℕ) (count place i : ℕ) 
     → max count (i + 1) ≡ count
 put_in_place area places count place i (inl at) there = omega (arith, at.low)
 put_in_place area places count place i (inr new) there = absurd (no_place area places count place new.1 there)
+
+-- and the places are those that were there, and its own
+module _ (area other : CrashFile) (places : List ℕ) (count place i n : ℕ) (room : i < length places) (most : n ≡ max count (i + 1)) where
+  before_last : IsSlot places count place i → (k : ℕ) → k < n → k ≢ i → k < count
+  before_last (inl at) k below apart = omega (arith, at.low, most, below)
+  before_last (inr new) k below apart = omega (arith, new.0, most, below, apart)
+
+  same_place : IsSlot places count place i → (k p : ℕ) → k < count → k ≡ i → slice_index places k ≡ p → place ≡ p
+  same_place (inl at) k p below same is = sym at.here ∙ ap (slice_index places) (sym same) ∙ is
+  same_place (inr new) k p below same is = absurd (omega (arith, new.0, below, same))
+
+  its_own : slice_index (slice_set places i place) i ≡ place
+  its_own = get_or-set_at places i i place 0 refl room
+
+  pub places_then : IsSlot places count place i → (p : ℕ) → IsPlace (entries_in other (slice_set places i place) n) p
+      → (p ≡ place) ⊎ IsPlace (entries_in area places count) p
+  places_then slot p there =
+      let k = place_index other (slice_set places i place) n p there in
+      elim (cases_eq k.0 i) [
+        | inl same ↦ inl (sym k.2 ∙ ap (slice_index (slice_set places i place)) same ∙ its_own)
+        | inr apart ↦
+            inr (place_there area places count k.0 p (before_last slot k.0 k.1 apart) (sym (get_or-set_other places i k.0 place 0 apart) ∙ k.2))
+      ]
+
+  pub places_still : IsSlot places count place i → (p : ℕ) → (p ≡ place) ⊎ IsPlace (entries_in area places count) p
+      → IsPlace (entries_in other (slice_set places i place) n) p
+  places_still slot p (inl is) = place_there other (slice_set places i place) n i p (omega (arith, most)) (its_own ∙ sym is)
+  places_still slot p (inr there) =
+      let k = place_index area places count p there in
+      elim (cases_eq k.0 i) [
+        | inl same ↦
+            place_there other (slice_set places i place) n i p (omega (arith, most)) (its_own ∙ same_place slot k.0 p k.1 same k.2)
+        | inr apart ↦
+            place_there other (slice_set places i place) n k.0 p (omega (arith, most, k.1)) (get_or-set_other places i k.0 place 0 apart ∙ k.2)
+      ]
 
 -- ---- what a head tells is taken
 

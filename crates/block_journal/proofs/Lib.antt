@@ -14,3 +14,4 @@ pub mod Parting
 pub mod Placing
 mod Recovering
 pub mod Results
+pub mod WritingBack

@@ -3,13 +3,13 @@ use Rattle.std.proofs.Common.{◌≡◌, ◌≢◌, inr, ⊎_elim, ℕ, ◌+◌,
 use Rattle.std.proofs.Common.{◌∙◌, ap, subst, arith}
 use Rattle.std.proofs.lemmas.Bool.{cases_Bool, cases_eq}
 use Rattle.block_device.specs.Blocks.{CrashFile}
-use Rattle.block_device.specs.BlocksPast.{BlocksPast, RunsWithin}
+use Rattle.block_device.specs.BlocksPast.{BlocksPast, RunsWithin, WrittenBack}
 use Rattle.block_device.proofs.Within.{within_start}
 use Rattle.block_batch.specs.Batch.{Entry, Batch, batch_in, IsPlace}
 use Rattle.block_journal.specs.declared.shape.Shape.{Shape}
 use Rattle.block_journal.specs.declared.gathered.Gathered.{Gathered}
 use Rattle.block_journal.specs.Layout.{IsInside, found}
-use Rattle.block_journal.specs.Journal.{InRunOrKept, IsPending, StaysRecovered, pending_in}
+use Rattle.block_journal.specs.Journal.{InRunOrKept, IsPending, OnlyReads, StaysRecovered, WritesBackFirst, areas_back, pending_in}
 use Rattle.block_journal.specs.Gathered.{entries_of}
 use Rattle.block_journal.specs.declared.reading.Order.{Order}
 use Rattle.block_journal.specs.Opening.{AreFound, HasTaken, HasTakenBoth, IsBefore, IsOrder, first_entries}
@@ -112,4 +112,25 @@ module _ (g : Shape) (old : BlocksPast) where
         (wider (InRunOrKept g 0 0 all) (IsPending g old.file.content) old.file.content c
         (λ n there. ⊎_elim (λ run. absurd (omega (arith, run.0, run.1))) (λ kept. kept) there)
         (within.run.each t c from to crash));
+  }
+
+-- the areas were read, and then written back
+module _ {A : Type 0} where
+  is_lower : (earlier : Option ℕ) (has : Option Batch) (number a : ℕ) (other : Gathered A) → HasTaken has a other earlier
+      → IfSome earlier (λ n. n < number) → IfSome has (λ x. x.number < number)
+  is_lower None has number a other taken low = subst (λ (o : Option Batch). IfSome o (λ x. x.number < number)) (sym taken.0) tt
+  is_lower (Some n) has number a other taken low = subst (λ (o : Option Batch). IfSome o (λ x. x.number < number)) (sym taken.0) low
+
+  pub writes_back_first : (g : Shape) (old mid : BlocksPast) (number : ℕ) (earlier : Option ℕ) (last other : Gathered A) (before now : List WrittenBack)
+      → HasTakenBoth g old.file.content number earlier last other → OnlyReads old mid → now ≡ areas_back g number mid.moment before
+      → WritesBackFirst g old mid before now
+  writes_back_first g old mid number earlier last other before now taken reads back = record {
+    last = record { number = number; entries = entries_of last };
+    here = taken.of_last.0;
+    other = is_lower earlier (found g old.file.content ((number + 1) % 2)) number ((number + 1) % 2) other taken.of_other taken.low;
+    moment = mid.moment;
+    later = reads.time.later;
+    until = omega arith;
+    still = λ t from to. ⊎_elim (λ is. is) (λ is. is ∙ reads.file) (reads.time.during t from to);
+    back = back;
   }

@@ -49,6 +49,10 @@ pub on_ok_always : {T E : Type 0} (P : Type 0) (r : Result T E) → P → OnOk r
 on_ok_always P (Ok x) h = h
 on_ok_always P (Err e) h = tt
 
+pub on_err_always : {T E : Type 0} (P : Type 0) (r : Result T E) → P → OnErr r P
+on_err_always P (Ok x) h = tt
+on_err_always P (Err e) h = h
+
 -- what failed after calls that succeeded raises the count
 pub err_rises : {T E : Type 0} (r : Result T E) (P : E → Type 0) (a b c : ℕ) → b ≡ a → OnErr r (Rises b c) → IfErr r (λ e. P e → Rises a c)
 err_rises (Ok x) P a b c same rises = tt

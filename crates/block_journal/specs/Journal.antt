@@ -1,7 +1,7 @@
 -- What a journal keeps.
-use Rattle.std.specs.Prelude.{◌≡◌, ◌⊎◌, ℕ, ◌+◌, ◌%◌, ◌≤◌, ◌<◌, List, Some, None, Contains}
-use Rattle.block_device.specs.Blocks.{CrashFile, InRun, SameOutside, block}
-use Rattle.block_device.specs.BlocksPast.{BlocksPast, Elapses, LeavesOnly}
+use Rattle.std.specs.Prelude.{◌≡◌, ◌⊎◌, ℕ, ◌+◌, ◌%◌, ◌≤◌, ◌<◌, List, Some, None, IfSome, Contains}
+use Rattle.block_device.specs.Blocks.{BlockFile, CrashFile, InRun, SameOutside, block}
+use Rattle.block_device.specs.BlocksPast.{BlocksPast, Elapses, LeavesOnly, WrittenBack, and_back}
 use Rattle.block_batch.specs.Batch.{Entry, Batch, replayed, IsPlace}
 use Rattle.block_batch.specs.Replay.{IsCommitted, pending}
 use Rattle.block_journal.specs.declared.shape.Shape.{Shape}
@@ -75,7 +75,30 @@ pending_in g image = pending (found g image 0) (found g image 1)
 abbrev pub IsPending : Shape → CrashFile → ℕ → Type 0
 IsPending g image n = KeepsOne g (pending_in g image) n
 
--- calls were made that change nothing
+-- calls were made that change nothing (blocks may be written back as they are)
 pub record OnlyReads (old new : BlocksPast) : Type 0 where
   pub file : new.file ≡ old.file
   pub time : Elapses old new
+
+-- Both areas were written back at a moment: the one that the batch of this number doesn't have, and then the one that
+-- it has.
+abbrev pub areas_back : Shape → (number moment : ℕ) → List WrittenBack → List WrittenBack
+areas_back g number moment runs =
+    and_back (and_back runs (area_start g ((number + 1) % 2)) g.area moment) (area_start g (number % 2)) g.area moment
+
+-- Both areas were written back, that of the last batch behind the other one, and no other block. From this moment until
+-- then the file stayed what it was.
+pub record WritesBackFrom (g : Shape) (was : BlockFile) (from : ℕ) (new : BlocksPast) (before now : List WrittenBack)
+    : Type 0 where
+  pub last : Batch
+  pub here : found g was.content (last.number % 2) ≡ Some last
+  pub other : IfSome (found g was.content ((last.number + 1) % 2)) (λ x. x.number < last.number)
+  pub moment : ℕ
+  pub later : from ≤ moment
+  pub until : moment ≤ new.moment
+  pub still : (t : ℕ) → from ≤ t → t ≤ moment → new.file_at t ≡ was
+  pub back : now ≡ areas_back g last.number moment before
+
+-- so it was from a moment that is past
+abbrev pub WritesBackFirst : Shape → (old new : BlocksPast) → (before now : List WrittenBack) → Type 0
+WritesBackFirst g old new before now = WritesBackFrom g old.file old.moment new before now

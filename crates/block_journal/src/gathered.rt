@@ -1,5 +1,6 @@
 // A buffer of an area: blocks that are gathered for a batch, with their places.
-ghost use Rattle.std.specs.Prelude.{◌≡◌, ◌+◌, ◌≤◌, ◌<◌, ℕ, true, length, slice_index, slice_set, IfOk, IfSome, IfNone};
+ghost use Rattle.std.specs.Prelude.{◌≡◌, ◌⊎◌, ◌↔◌, ◌+◌, ◌≤◌, ◌<◌, ℕ, true, length, slice_index, slice_set, IfOk};
+ghost use Rattle.std.specs.Prelude.{IfSome, IfNone};
 ghost use Rattle.block_device.specs.Blocks.{CrashFile, block};
 ghost use Rattle.block_batch.specs.Batch.{IsPlace, block_digest, count_in, is_batch, number_in, place_in, replayed};
 ghost use Rattle.block_batch.specs.Head.{count_of, number_of, place_of};
@@ -148,6 +149,7 @@ impl<A: Allocator + Copy> Gathered<A> {
             ≡ slice_set (replayed (entries_of self.old) image) place bytes.now }
         ensures count { self.new.count ≤ self.old.count + 1 }
         ensures in_place { IsPlace (entries_of self.old) place → self.new.count ≡ self.old.count }
+        ensures places { (m : ℕ) → IsPlace (entries_of self.new) m ↔ ((m ≡ place) ⊎ IsPlace (entries_of self.old) m) }
         ensures buffer { IsBuffer self.new }
         ensures size { length self.new.area.items ≡ length self.old.area.items }
     {

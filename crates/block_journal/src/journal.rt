@@ -1,12 +1,12 @@
 //! A journal over a file of blocks.
-ghost use Rattle.std.specs.Prelude.{◌≡◌, ◌⊎◌, ◌+◌, ◌-◌, ◌^◌, ◌%◌, ◌<◌, ◌≤◌, ℕ, [], false, true, None, Some, OnOk};
-ghost use Rattle.std.specs.Prelude.{OnErr, slice_set, Contains, IfOk, IfErr};
+ghost use Rattle.std.specs.Prelude.{◌≡◌, ◌⊎◌, ◌↔◌, ◌+◌, ◌-◌, ◌^◌, ◌%◌, ◌<◌, ◌≤◌, ℕ, [], false, true, None, Some};
+ghost use Rattle.std.specs.Prelude.{OnErr, OnOk, slice_set, Contains, IfOk, IfErr};
 ghost use Rattle.sector_device.specs.DevicePast.{CountsFailure, Rises};
 ghost use Rattle.block_device.specs.Blocks.{CrashFile, IsCrashFile, IsSynced, block};
 ghost use Rattle.block_batch.specs.Batch.{Batch, IsPlace, block_digest, replayed};
 ghost use Rattle.block_journal.specs.Layout.{IsHonest, IsInside, found, kept_of, recovered};
 ghost use Rattle.block_journal.specs.Journal.{AreInAreas, IsPending, KeepsAreas, KeepsBatch, LeavesBefore};
-ghost use Rattle.block_journal.specs.Journal.{NeedsNoArea, OnlyReads, StaysRecovered};
+ghost use Rattle.block_journal.specs.Journal.{NeedsNoArea, OnlyReads, StaysRecovered, WritesBackFirst};
 ghost use Rattle.block_journal.specs.Value.{CanCommit, LeavesEither, Offers, content_of, failures_of, next_batch};
 ghost use Rattle.block_journal.specs.Value.{room_of, settled_of};
 
@@ -54,8 +54,9 @@ impl<B: Blocks, A: Allocator> Model for Journal<B, A> {
 
 impl<B: Blocks, A: Allocator + Copy> Journal<B, A> {
     /// Opens the journal of a file. What was read of its areas is written back, and synced, where one has a batch: a
-    /// sync that failed may have left it in the memory of the system alone. (No clause says that.) Then what the last
-    /// batches left that a crash cut off is replayed, and synced.
+    /// sync that failed may have left it in the memory of the system alone. Until then nothing is written
+    /// (`written_back`, `written_back_refused`). Then what the last batches left that a crash cut off is replayed, and
+    /// synced.
     ///
     /// No block is loose but those that a replay sets. Whatever it answers, a crash at any moment of it leaves what
     /// stands for the same blocks (`any_moment`, `refused`), and has the batches of both areas (`batches`,
@@ -73,11 +74,18 @@ impl<B: Blocks, A: Allocator + Copy> Journal<B, A> {
         ensures any_moment { IfOk result (λ j. StaysRecovered shape (B.past_of below) (B.past_of j.below)) }
         ensures before { IfOk result (λ j. LeavesBefore shape (B.past_of below) (B.past_of j.below)) }
         ensures batches { IfOk result (λ j. KeepsAreas shape (B.past_of below) (B.past_of j.below)) }
+        ensures written_back { IfOk result (λ j. WritesBackFirst shape (B.past_of below) (B.past_of j.below)
+            (B.written_back below) (B.written_back j.below)) }
         ensures quiet { IfOk result (λ j. B.failures j.below ≡ B.failures below) }
         ensures unrefused { IfOk result (λ j. j.refused ≡ 0) }
         ensures refused { IfErr result (λ e. StaysRecovered shape (B.past_of below) (B.past_of e.file)) }
         ensures before_refused { IfErr result (λ e. LeavesBefore shape (B.past_of below) (B.past_of e.file)) }
         ensures batches_refused { IfErr result (λ e. KeepsAreas shape (B.past_of below) (B.past_of e.file)) }
+        ensures written_back_refused { IfErr result (λ e. OnlyReads (B.past_of below) (B.past_of e.file)
+            ⊎ WritesBackFirst shape (B.past_of below) (B.past_of e.file) (B.written_back below)
+            (B.written_back e.file)) }
+        ensures back_none { IfErr result (λ e. e.error ≡ OpenError.NoBatch
+            → B.written_back e.file ≡ B.written_back below) }
         ensures no_batch { IfErr result (λ e. e.error ≡ OpenError.NoBatch
             → (found shape (B.past_of below).file.content 0 ≡ None)
             × (found shape (B.past_of below).file.content 1 ≡ None)) }
@@ -128,6 +136,7 @@ impl<B: Blocks, A: Allocator + Copy> Journal<B, A> {
         ensures good { self.old.has_failed ≡ false → self.new ≡ record self.old { below = self.new.below } }
         ensures refused { self.old.has_failed ≡ true → self.new ≡ record self.old { refused = self.new.refused } }
         ensures reads { OnlyReads (B.past_of self.old.below) (B.past_of self.new.below) }
+        ensures back { B.written_back self.new.below ≡ B.written_back self.old.below }
         ensures fails { OnErr result ((self.old.has_failed ≡ true)
             ⊎ Rises (B.failures self.old.below) (B.failures self.new.below)) }
         ensures sound { OnOk result (self.old.has_failed ≡ false) }
@@ -140,8 +149,8 @@ impl<B: Blocks, A: Allocator + Copy> Journal<B, A> {
         self.parts.read(place, bytes)
     }
 
-    /// Gathers a block for the next batch. It takes no room where one was gathered for its place (`in_place`). Its
-    /// digest.
+    /// Gathers a block for the next batch, beside those of other places (`places`). It takes no room where one was
+    /// gathered for its place (`in_place`). Its digest.
     pub fn put(&mut self, place: u64, bytes: &[u8; BLOCK_SIZE]) -> u64
         requires inside { place < self.old.shape.kept }
         requires room { 0 < room_of self.old }
@@ -150,6 +159,7 @@ impl<B: Blocks, A: Allocator + Copy> Journal<B, A> {
         ensures rest { self.new ≡ record self.old { next = self.new.next } }
         ensures room { room_of self.old ≤ room_of self.new + 1 }
         ensures in_place { IsPlace self.old.next place → room_of self.new ≡ room_of self.old }
+        ensures places { (m : ℕ) → IsPlace self.new.next m ↔ ((m ≡ place) ⊎ IsPlace self.old.next m) }
         ensures digest { result ≡ block_digest place bytes.now }
     {
         self.gather(place, bytes);
@@ -165,6 +175,7 @@ impl<B: Blocks, A: Allocator + Copy> Journal<B, A> {
         ensures rest { self.new ≡ record self.old { next = self.new.next } }
         ensures room { room_of self.old ≤ room_of self.new + 1 }
         ensures in_place { IsPlace self.old.next place → room_of self.new ≡ room_of self.old }
+        ensures places { (m : ℕ) → IsPlace self.new.next m ↔ ((m ≡ place) ⊎ IsPlace self.old.next m) }
     {
         self.parts.next.put(place, bytes);
     }
@@ -210,6 +221,7 @@ impl<B: Blocks, A: Allocator + Copy> Journal<B, A> {
         ensures refused { self.old.has_failed ≡ true → self.new ≡ record self.old { refused = self.new.refused } }
         ensures can { OnOk result (CanCommit self.old) }
         ensures untouched { ¬ CanCommit self.old → self.new.below ≡ self.old.below }
+        ensures back { B.written_back self.new.below ≡ B.written_back self.old.below }
         ensures shape { self.new.shape ≡ self.old.shape }
         ensures fails { OnErr result ((self.old.has_failed ≡ true) ⊎ (self.old.last.number ≡ 2 ^ 64 - 1)
             ⊎ Rises (B.failures self.old.below) (B.failures self.new.below)) }
@@ -251,6 +263,7 @@ impl<B: Blocks, A: Allocator + Copy> Journal<B, A> {
         ensures refused { self.old.has_failed ≡ true → self.new ≡ record self.old { refused = self.new.refused } }
         ensures can { OnOk result (CanCommit self.old) }
         ensures untouched { ¬ CanCommit self.old → self.new.below ≡ self.old.below }
+        ensures back { B.written_back self.new.below ≡ B.written_back self.old.below }
         ensures shape { self.new.shape ≡ self.old.shape }
         ensures fails { OnErr result ((self.old.has_failed ≡ true) ⊎ (self.old.last.number ≡ 2 ^ 64 - 1)
             ⊎ Rises (B.failures self.old.below) (B.failures self.new.below)) }

@@ -26,6 +26,7 @@ fn read_kept<B: Blocks>(
     ensures ok { OnOk result (bytes.new ≡ block (kept_of shape (B.past_of below.old).file.content) place) }
     ensures err { OnErr result (bytes.new ≡ bytes.old) }
     ensures reads { OnlyReads (B.past_of below.old) (B.past_of below.new) }
+    ensures back { B.written_back below.new ≡ B.written_back below.old }
     ensures counts { CountsFailure (B.failures below.old) (B.failures below.new) result }
 {
     let kept = shape.first + 2 * shape.area;
@@ -51,6 +52,7 @@ fn read_settled<B: Blocks, A: Allocator + Copy>(
         (kept_of shape (B.past_of below.old).file.content)) place) }
     ensures err { OnErr result (bytes.new ≡ bytes.old) }
     ensures reads { OnlyReads (B.past_of below.old) (B.past_of below.new) }
+    ensures back { B.written_back below.new ≡ B.written_back below.old }
     ensures counts { CountsFailure (B.failures below.old) (B.failures below.new) result }
 {
     match last.find(place) {
@@ -80,6 +82,7 @@ pub(crate) fn read_block<B: Blocks, A: Allocator + Copy>(
         (kept_of shape (B.past_of below.old).file.content))) place) }
     ensures err { OnErr result (bytes.new ≡ bytes.old) }
     ensures reads { OnlyReads (B.past_of below.old) (B.past_of below.new) }
+    ensures back { B.written_back below.new ≡ B.written_back below.old }
     ensures counts { CountsFailure (B.failures below.old) (B.failures below.new) result }
 {
     match next.find(place) {

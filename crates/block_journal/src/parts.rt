@@ -6,7 +6,7 @@ ghost use Rattle.block_device.specs.Blocks.{CrashFile, block};
 ghost use Rattle.block_device.specs.BlocksPast.{BlocksPast, RunsWithin};
 ghost use Rattle.block_journal.specs.Layout.{IsHonest, IsInside, found, kept_start, recovered};
 ghost use Rattle.block_journal.specs.Journal.{AreInAreas, InRunOrKept, IsPending, KeepsAreas, LeavesBefore, MayWrite};
-ghost use Rattle.block_journal.specs.Journal.{OnlyReads, StaysRecovered, pending_in};
+ghost use Rattle.block_journal.specs.Journal.{OnlyReads, StaysRecovered, WritesBackFirst, pending_in};
 ghost use Rattle.block_journal.specs.Value.{content_of, next_batch, settled_of};
 
 use crate::gathered::Gathered;
@@ -62,6 +62,7 @@ impl<B: Blocks, A: Allocator + Copy> JournalParts<B, A> {
         ensures err { OnErr result (bytes.new ≡ bytes.old) }
         ensures rest { value_of self.new ≡ record (value_of self.old) { below = self.new.below } }
         ensures reads { OnlyReads (B.past_of self.old.below) (B.past_of self.new.below) }
+        ensures back { B.written_back self.new.below ≡ B.written_back self.old.below }
         ensures counts { CountsFailure (B.failures self.old.below) (B.failures self.new.below) result }
         ensures sound { IsSound B.past_of self.new }
     {
@@ -98,6 +99,7 @@ impl<B: Blocks, A: Allocator + Copy> JournalParts<B, A> {
         ensures within { RunsWithin (MayWrite self.old.shape ((self.old.number + 1) % 2)
             (value_of self.old).last.entries) (B.past_of self.old.below).file.content (B.past_of self.old.below)
             (B.past_of self.new.below) }
+        ensures back { B.written_back self.new.below ≡ B.written_back self.old.below }
         ensures counts { CountsFailure (B.failures self.old.below) (B.failures self.new.below) result }
         ensures sound { IsSound B.past_of self.new }
     {
@@ -137,6 +139,13 @@ impl<B: Blocks, A: Allocator + Copy> JournalParts<B, A> {
         ensures stays { StaysRecovered self.old.shape (B.past_of self.old.below) (B.past_of self.new.below) }
         ensures before { LeavesBefore self.old.shape (B.past_of self.old.below) (B.past_of self.new.below) }
         ensures batches { KeepsAreas self.old.shape (B.past_of self.old.below) (B.past_of self.new.below) }
+        ensures written_back { OnOk result (WritesBackFirst self.old.shape (B.past_of self.old.below)
+            (B.past_of self.new.below) (B.written_back self.old.below) (B.written_back self.new.below)) }
+        ensures back_err { OnErr result (OnlyReads (B.past_of self.old.below) (B.past_of self.new.below)
+            ⊎ WritesBackFirst self.old.shape (B.past_of self.old.below) (B.past_of self.new.below)
+            (B.written_back self.old.below) (B.written_back self.new.below)) }
+        ensures back_none { IfErr result (λ e. e ≡ OpenError.NoBatch
+            → B.written_back self.new.below ≡ B.written_back self.old.below) }
         ensures quiet { OnOk result (B.failures self.new.below ≡ B.failures self.old.below) }
         ensures no_memory { IfErr result (λ e. e ≢ OpenError.NoMemory) }
         ensures no_batch { IfErr result (λ e. e ≡ OpenError.NoBatch
@@ -179,6 +188,7 @@ impl<B: Blocks, A: Allocator + Copy> JournalParts<B, A> {
         ensures shape { self.new.shape ≡ self.old.shape }
         ensures refused { self.new.refused ≡ self.old.refused }
         ensures err { IfErr result (λ e. e ≡ OpenError.FileFailed) }
+        ensures back { B.written_back self.new.below ≡ B.written_back self.old.below }
         ensures counts { CountsFailure (B.failures self.old.below) (B.failures self.new.below) result }
     {
         if replay(

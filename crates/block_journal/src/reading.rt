@@ -3,10 +3,10 @@ ghost use Rattle.std.specs.Prelude.{◌≡◌, ◌⊎◌, ◌+◌, ◌%◌, ◌^
 ghost use Rattle.std.specs.Prelude.{[], IfOk, IfSome, OnOk, MatchOption, true, false};
 ghost use Rattle.sector_device.specs.DevicePast.{CountsFailure};
 ghost use Rattle.block_device.specs.Blocks.{CrashFile, IsSynced, SameOutside};
-ghost use Rattle.block_device.specs.BlocksPast.{BlocksPast, RunsWithin};
+ghost use Rattle.block_device.specs.BlocksPast.{BlocksPast, RunsWithin, and_back};
 ghost use Rattle.block_batch.specs.Batch.{Entry, IsPlace, batch_in, replayed};
-ghost use Rattle.block_journal.specs.Layout.{IsInside, area_of, found, kept_of, kept_start};
-ghost use Rattle.block_journal.specs.Journal.{InRunOrKept, OnlyReads};
+ghost use Rattle.block_journal.specs.Layout.{IsInside, area_of, area_start, found, kept_of, kept_start};
+ghost use Rattle.block_journal.specs.Journal.{InRunOrKept, OnlyReads, areas_back};
 ghost use Rattle.block_journal.specs.Gathered.{batches_of, entries_of, IsBuffer};
 ghost use Rattle.block_journal.specs.Opening.{HasTaken, HasTakenBoth, first_entries, found_batches};
 
@@ -91,6 +91,7 @@ fn read_area<B: Blocks, A: Allocator + Copy>(
     ensures buffer { IsBuffer buffer.new }
     ensures size { length buffer.new.area.items ≡ shape.area }
     ensures reads { OnlyReads (B.past_of below.old) (B.past_of below.new) }
+    ensures back { B.written_back below.new ≡ B.written_back below.old }
     ensures counts { CountsFailure (B.failures below.old) (B.failures below.new) result }
 {
     let start = shape.first + a * shape.area;
@@ -123,6 +124,7 @@ fn read_areas<B: Blocks, A: Allocator + Copy>(
     ensures other { IsBuffer other.new }
     ensures other_size { length other.new.area.items ≡ shape.area }
     ensures reads { OnlyReads (B.past_of below.old) (B.past_of below.new) }
+    ensures back { B.written_back below.new ≡ B.written_back below.old }
     ensures counts { CountsFailure (B.failures below.old) (B.failures below.new) result }
 {
     let first = read_area(below, shape, 0, last)?;
@@ -136,18 +138,38 @@ fn read_areas<B: Blocks, A: Allocator + Copy>(
     }
 }
 
-// Writes both areas back as they are, and syncs them.
-fn keep_areas<B: Blocks>(below: &mut B, shape: Shape) -> Result<(), Failed>
+// Writes an area back as it is, and syncs it.
+fn keep_area<B: Blocks>(below: &mut B, shape: Shape, a: u64) -> Result<(), Failed>
     requires inside { IsInside shape (B.past_of below.old).file.content }
     requires small { kept_start shape + shape.kept < 2 ^ 64 }
-    ensures reads { OnlyReads (B.past_of below.old) (B.past_of below.new) }
+    requires low { a < 2 }
+    ensures past { B.past_of below.new ≡ B.past_of below.old }
+    ensures back { OnOk result (B.written_back below.new ≡ and_back (B.written_back below.old) (area_start shape a)
+        shape.area (B.past_of below.old).moment) }
     ensures counts { CountsFailure (B.failures below.old) (B.failures below.new) result }
 {
-    below.keep(shape.first, 2 * shape.area)
+    let start = shape.first + a * shape.area;
+    below.keep(start, shape.area)
 }
 
-/// Reads both areas as [`read_areas`] does. Where one has a batch, what was read is written back, and synced: a sync of
-/// an earlier process that failed may have left it in the memory of the system alone.
+// Writes both areas back as they are, that of the batch of this number behind the other one: so one of them is always
+// whole.
+fn keep_areas<B: Blocks>(below: &mut B, shape: Shape, number: u64) -> Result<(), Failed>
+    requires inside { IsInside shape (B.past_of below.old).file.content }
+    requires small { kept_start shape + shape.kept < 2 ^ 64 }
+    ensures past { B.past_of below.new ≡ B.past_of below.old }
+    ensures back { OnOk result (B.written_back below.new
+        ≡ areas_back shape number (B.past_of below.old).moment (B.written_back below.old)) }
+    ensures counts { CountsFailure (B.failures below.old) (B.failures below.new) result }
+{
+    let last = number % 2;
+    keep_area(below, shape, 1 - last)?;
+    keep_area(below, shape, last)
+}
+
+/// Reads both areas as [`read_areas`] does. Where one has a batch, what was read is written back, and synced, the area
+/// of the last batch behind the other one (`back`): a sync of an earlier process that failed may have left it in the
+/// memory of the system alone.
 pub(crate) fn take_areas<B: Blocks, A: Allocator + Copy>(
     below: &mut B,
     shape: Shape,
@@ -171,13 +193,17 @@ pub(crate) fn take_areas<B: Blocks, A: Allocator + Copy>(
     ensures other { IsBuffer other.new }
     ensures other_size { length other.new.area.items ≡ shape.area }
     ensures reads { OnlyReads (B.past_of below.old) (B.past_of below.new) }
+    ensures back { IfOk result (λ found. IfSome found (λ numbers. B.written_back below.new
+        ≡ areas_back shape numbers.0 (B.past_of below.new).moment (B.written_back below.old))) }
+    ensures back_none { IfOk result (λ numbers. numbers ≡ None
+        → B.written_back below.new ≡ B.written_back below.old) }
     ensures counts { CountsFailure (B.failures below.old) (B.failures below.new) result }
 {
     let found = read_areas(below, shape, last, other)?;
     match found {
         None => Ok(None),
         Some(numbers) => {
-            keep_areas(below, shape)?;
+            keep_areas(below, shape, numbers.0)?;
             Ok(Some(numbers))
         }
     }
@@ -237,6 +263,7 @@ fn replay_before<B: Blocks, A: Allocator + Copy>(
     ensures placed { OnOk result (SameOutside (IsPlace (entries_of last.now))
         (replayed (first_entries number before (entries_of other.now))
         (kept_of shape (B.past_of below.old).file.content)) (kept_of shape (B.past_of below.new).file.content)) }
+    ensures back { B.written_back below.new ≡ B.written_back below.old }
     ensures counts { CountsFailure (B.failures below.old) (B.failures below.new) result }
 {
     if follows(before, number) {
@@ -271,6 +298,7 @@ pub(crate) fn replay<B: Blocks, A: Allocator + Copy>(
         (replayed (first_entries number before (entries_of other.now))
         (kept_of shape (B.past_of below.old).file.content)) (kept_of shape (B.past_of below.new).file.content)) }
     ensures synced { OnOk result (IsSynced (B.past_of below.new).file) }
+    ensures back { B.written_back below.new ≡ B.written_back below.old }
     ensures counts { CountsFailure (B.failures below.old) (B.failures below.new) result }
 {
     replay_before(below, shape, number, before, other, last)?;

@@ -35,6 +35,7 @@ fn write_area<B: Blocks, A: Allocator + Copy>(
     ensures kept { kept_of shape (B.past_of below.new).file.content
         ≡ kept_of shape (B.past_of below.old).file.content }
     ensures size { length (B.past_of below.new).file.content ≡ length (B.past_of below.old).file.content }
+    ensures back { B.written_back below.new ≡ B.written_back below.old }
     ensures counts { CountsFailure (B.failures below.old) (B.failures below.new) result }
 {
     let start = shape.first + (number % 2) * shape.area;
@@ -125,6 +126,7 @@ fn write_run<B: Blocks, A: Allocator + Copy>(
         ≡ with_run (kept_of shape (B.past_of below.old).file.content) (slice_index last.now.places i)
         (run_of last.now.area.items (1 + i) count)) }
     ensures size { length (B.past_of below.new).file.content ≡ length (B.past_of below.old).file.content }
+    ensures back { B.written_back below.new ≡ B.written_back below.old }
     ensures counts { CountsFailure (B.failures below.old) (B.failures below.new) result }
 {
     let kept = shape.first + 2 * shape.area;
@@ -161,6 +163,7 @@ fn write_next<B: Blocks, A: Allocator + Copy>(
         (replayed (entries_in last.now.area.items last.now.places (i + n)) start)
         (kept_of shape (B.past_of below.new).file.content)) }
     ensures size { length (B.past_of below.new).file.content ≡ length (B.past_of below.old).file.content }
+    ensures back { B.written_back below.new ≡ B.written_back below.old }
     ensures counts { CountsFailure (B.failures below.old) (B.failures below.new) result }
 {
     if i == last.count {
@@ -195,6 +198,7 @@ pub(crate) fn write_places<B: Blocks, A: Allocator + Copy>(
         (replayed (entries_of last.now) (kept_of shape (B.past_of below.old).file.content))
         (kept_of shape (B.past_of below.new).file.content)) }
     ensures size { length (B.past_of below.new).file.content ≡ length (B.past_of below.old).file.content }
+    ensures back { B.written_back below.new ≡ B.written_back below.old }
     ensures counts { CountsFailure (B.failures below.old) (B.failures below.new) result }
 {
     let mut i = 0;
@@ -225,6 +229,7 @@ pub(crate) fn write_batch<B: Blocks, A: Allocator + Copy>(
         (record { number = number; entries = entries_of next.now })
         (replayed (entries_of last.now) (kept_of shape (B.past_of below.old).file.content))) }
     ensures synced { OnOk result (IsSynced (B.past_of below.new).file) }
+    ensures back { B.written_back below.new ≡ B.written_back below.old }
     ensures counts { CountsFailure (B.failures below.old) (B.failures below.new) result }
 {
     write_area(below, shape, number, next)?;

@@ -33,6 +33,7 @@ returns-in-Some g c =
       ok = c.block.ensures ∙ sym (block_found next.area.items next.places kept c.args.place next.count _ c.in-Some.ensures.found room);
       err = tt;
       reads = reads_none (h c.args.below.now);
+      back = refl;
       counts = record { later = omega arith; none = refl; failed = tt };
     }
 
@@ -48,5 +49,6 @@ returns-in-None g c =
           c.read_settled.result (λ ok. ok ∙ sym (block_none next.area.items next.places kept c.args.place next.count c.in-None.ensures.none)) done.ok;
       err = done.err;
       reads = done.reads;
+      back = done.back;
       counts = done.counts;
     }

@@ -12,6 +12,7 @@ returns-in_err-read g c =
       ok = tt;
       err = refl;
       reads = record { file = c.read.ensures.file; time = c.read.ensures.time };
+      back = c.read.ensures.back;
       counts = c.in_err-read.ensures.counts;
     })
 
@@ -27,5 +28,6 @@ returns g c =
           ∙ sym (block_of_run content (kept_start shape) shape.kept c.args.place c.requires.kept);
       err = tt;
       reads = record { file = c.read.ensures.file; time = c.read.ensures.time };
+      back = c.read.ensures.back;
       counts = c.in_ok-read.ensures.counts;
     }

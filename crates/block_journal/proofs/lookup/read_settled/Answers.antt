@@ -26,6 +26,7 @@ returns-in-Some g c =
       ok = c.block.ensures ∙ sym (block_found last.area.items last.places kept c.args.place last.count _ c.in-Some.ensures.found room);
       err = tt;
       reads = reads_none (h c.args.below.now);
+      back = refl;
       counts = record { later = omega arith; none = refl; failed = tt };
     }
 
@@ -40,5 +41,6 @@ returns-in-None g c =
           c.read_kept.result (λ ok. ok ∙ sym (block_none last.area.items last.places kept c.args.place last.count c.in-None.ensures.none)) done.ok;
       err = done.err;
       reads = done.reads;
+      back = done.back;
       counts = done.counts;
     }

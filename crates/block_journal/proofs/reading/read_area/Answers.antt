@@ -43,6 +43,7 @@ returns-in_err-read g c =
       buffer = empty_buffer b _ c.requires.buffer (ap length back ∙ size) refl refl;
       size = ap length back ∙ size ∙ c.requires.size;
       reads = record { file = c.read.ensures.file; time = c.read.ensures.time };
+      back = c.read.ensures.back;
       counts = record { later = c.in_err-read.ensures.counts.later; none = tt; failed = c.in_err-read.ensures.counts.failed };
     })
 
@@ -63,5 +64,6 @@ returns g c =
       buffer = c.load.ensures.buffer;
       size = c.load.ensures.size ∙ ap length back ∙ size ∙ c.requires.size;
       reads = record { file = c.read.ensures.file; time = c.read.ensures.time };
+      back = c.read.ensures.back;
       counts = record { later = c.in_ok-read.ensures.counts.later; none = c.in_ok-read.ensures.counts.none; failed = tt };
     }

@@ -32,6 +32,7 @@ returns-in_err-first g c =
       other = c.requires.other;
       other_size = c.requires.other_size;
       reads = read.reads;
+      back = read.back;
       counts = record { later = c.in_err-first.ensures.counts.later; none = tt; failed = c.in_err-first.ensures.counts.failed };
     })
 
@@ -59,6 +60,7 @@ returns-in_err-second g c =
       other = second.buffer;
       other_size = second.size;
       reads = reads_then _ _ _ first.reads second.reads;
+      back = second.back ∙ first.back;
       counts = record { later = counts.later; none = tt; failed = counts.failed };
     })
 
@@ -82,6 +84,7 @@ returns-in-None g c =
       other = second.buffer;
       other_size = second.size;
       reads = reads_then _ _ _ first.reads second.reads;
+      back = second.back ∙ first.back;
       counts = record { later = counts.later; none = counts.none; failed = tt };
     }
 
@@ -108,5 +111,6 @@ returns-in-Some g c =
       other = whole.1.0;
       other_size = whole.1.1;
       reads = reads_then _ _ _ first.reads second.reads;
+      back = second.back ∙ first.back;
       counts = record { later = counts.later; none = counts.none; failed = tt };
     }

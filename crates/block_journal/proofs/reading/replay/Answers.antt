@@ -21,6 +21,7 @@ returns-in_err-replay_before g c =
       size = done.size;
       placed = tt;
       synced = tt;
+      back = done.back;
       counts = c.in_err-replay_before.ensures.counts;
     })
 
@@ -44,5 +45,6 @@ returns g c =
           (λ ok. subst (λ (image : CrashFile). SameOutside S first (kept_of shape image)) (sym (ap (λ (f : BlockFile). f.content) ok))
           c.in_ok-replay_before.ensures.placed) c.sync.ensures.ok;
       synced = on_ok (new ≡ after_sync mid) (IsSynced new) c.sync.result (λ ok. subst IsSynced (sym ok) (λ n. refl)) c.sync.ensures.ok;
+      back = c.sync.ensures.back ∙ done.back;
       counts = counts_later _ _ _ c.sync.result c.in_ok-replay_before.ensures.counts.none c.sync.ensures.counts;
     }

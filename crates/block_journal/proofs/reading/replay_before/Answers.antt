@@ -19,6 +19,7 @@ returns-then-follows g c =
       size = done.size;
       placed = on_ok _ _ c.write_places.result (λ placed. subst (λ (l : List Entry). SameOutside (IsPlace (entries_of c.args.last.now)) (replayed l kept)
           (kept_of c.args.shape (h c.write_places.new.below).file.content)) (sym is) placed) done.placed;
+      back = done.back;
       counts = done.counts;
     }
 
@@ -33,5 +34,6 @@ returns-else-follows g c =
       size = refl;
       placed = subst (λ (l : List Entry). SameOutside (IsPlace (entries_of c.args.last.now)) (replayed l kept) kept) (sym none)
           (record { size = refl; same = λ n out. refl });
+      back = refl;
       counts = record { later = omega arith; none = refl; failed = tt };
     }

@@ -1,9 +1,10 @@
-use Rattle.std.proofs.Common.{ℕ, Err, sym, ◌∙◌, ap, subst, arith}
+use Rattle.std.proofs.Common.{◌≡◌, ℕ, Err, sym, ◌∙◌, ap, subst, arith}
 use Rattle.std.proofs.lemmas.Result.{err_from_is_err_and}
 use Rattle.sector_device.specs.DevicePast.{Rises}
 use Rattle.block_device.specs.Blocks.{BlockFile}
+use Rattle.block_device.specs.BlocksPast.{BlocksPast}
 use Rattle.block_journal.specs.Layout.{IsInside}
-use Rattle.block_journal.proofs.OnlyReading.{reads_then}
+use Rattle.block_journal.specs.Journal.{OnlyReads, areas_back}
 use Rattle.block_journal.proofs.reading.take_areas.Goals as goal
 
 pub read_areas-requires : goal.read_areas-requires
@@ -30,6 +31,8 @@ returns-in_err-found g c =
       other = read.other;
       other_size = read.other_size;
       reads = read.reads;
+      back = tt;
+      back_none = tt;
       counts = record { later = c.in_err-found.ensures.counts.later; none = tt; failed = c.in_err-found.ensures.counts.failed };
     })
 
@@ -44,6 +47,7 @@ returns-in_err-keep_areas-in-Some g c =
     let p = err_from_is_err_and c.from_residual-in_err-keep_areas-in-Some.result c.from_residual-in_err-keep_areas-in-Some.ensures.1 in
     let read = c.read_areas.ensures in
     let kept = c.keep_areas.ensures in
+    let start = g.B.Blocks.past_of c.args.below.now in
     rw (p.1 ∙ ap Err p.2) (record {
       taken = tt;
       none = tt;
@@ -51,7 +55,9 @@ returns-in_err-keep_areas-in-Some g c =
       last_size = read.last_size;
       other = read.other;
       other_size = read.other_size;
-      reads = reads_then _ _ _ read.reads kept.reads;
+      reads = subst (λ (h : BlocksPast). OnlyReads start h) (sym kept.past) read.reads;
+      back = tt;
+      back_none = tt;
       counts = record {
         later = omega (arith, read.counts.later, kept.counts.later);
         none = tt;
@@ -64,6 +70,14 @@ pub returns-in_ok-keep_areas-in-Some : goal.returns-in_ok-keep_areas-in-Some
 returns-in_ok-keep_areas-in-Some g c =
     let read = c.read_areas.ensures in
     let kept = c.keep_areas.ensures in
+    let h = g.B.Blocks.past_of in
+    let start = h c.args.below.now in
+    let number = c.in-Some.numbers.0 in
+    let before : g.B.Blocks.written_back c.read_areas.new.below ≡ g.B.Blocks.written_back c.args.below.now = read.back in
+    let past : h c.keep_areas.new.below ≡ h c.read_areas.new.below = kept.past in
+    let back : areas_back c.args.shape number (h c.read_areas.new.below).moment (g.B.Blocks.written_back c.read_areas.new.below)
+    ≡ areas_back c.args.shape number (h c.keep_areas.new.below).moment (g.B.Blocks.written_back c.args.below.now) =
+    λ i. areas_back c.args.shape number (sym past i).moment (before i) in
     record {
       taken = rw c.in-Some.is at c.in_ok-found.ensures.taken;
       none = λ is. absurd (cc);
@@ -71,7 +85,9 @@ returns-in_ok-keep_areas-in-Some g c =
       last_size = read.last_size;
       other = read.other;
       other_size = read.other_size;
-      reads = reads_then _ _ _ read.reads kept.reads;
+      reads = subst (λ (p : BlocksPast). OnlyReads start p) (sym past) read.reads;
+      back = c.in_ok-keep_areas-in-Some.ensures.back ∙ back;
+      back_none = λ is. absurd (cc);
       counts = record {
         later = omega (arith, read.counts.later, kept.counts.later);
         none = c.in_ok-keep_areas-in-Some.ensures.counts.none ∙ c.in_ok-found.ensures.counts.none;

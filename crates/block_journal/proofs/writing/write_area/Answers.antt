@@ -55,5 +55,6 @@ returns g c =
           (λ some size. area_kept shape old.content c.requires.inside a some low (omega (arith, short, size)));
       size = holds_after_write (λ f. length f.content ≡ length old.content) old (area_start shape a) run new c.write.result
           c.write.ensures.ok c.write.ensures.err (λ some size. length-with_run old.content (area_start shape a) some);
+      back = c.write.ensures.back;
       counts = c.write.ensures.counts;
     }

@@ -30,6 +30,7 @@ returns-in_err-write_area g c =
           (within_start S start.file.content start (synced_all S start.file c.requires.synced));
       written = tt;
       synced = tt;
+      back = c.write_area.ensures.back;
       counts = c.in_err-write_area.ensures.counts;
     })
 
@@ -47,6 +48,7 @@ returns-in_err-write_places g c =
           (within_start S start.file.content start (synced_all S start.file c.requires.synced)));
       written = tt;
       synced = tt;
+      back = c.write_places.ensures.back ∙ c.write_area.ensures.back;
       counts = counts_later _ _ _ _ c.in_ok-write_area.ensures.counts.none c.in_err-write_places.ensures.counts;
     })
 
@@ -83,5 +85,6 @@ returns g c =
       written = on_ok (new ≡ after_sync mid) (IsWritten shape new.content next settled) c.sync.result
           (λ ok. subst (λ (image : CrashFile). IsWritten shape image next settled) (sym (ap (λ (f : BlockFile). f.content) ok)) written) c.sync.ensures.ok;
       synced = on_ok (new ≡ after_sync mid) (IsSynced new) c.sync.result (λ ok. subst IsSynced (sym ok) (λ n. refl)) c.sync.ensures.ok;
+      back = c.sync.ensures.back ∙ c.write_places.ensures.back ∙ c.write_area.ensures.back;
       counts = counts_later _ _ _ c.sync.result (c.in_ok-write_places.ensures.counts.none ∙ c.in_ok-write_area.ensures.counts.none) c.sync.ensures.counts;
     }

@@ -18,6 +18,7 @@ loop-init g c = record {
   low = omega arith;
   placed = record { size = refl; same = λ n out. refl };
   size = refl;
+  back = refl;
   quiet = refl;
 }
 
@@ -42,6 +43,7 @@ returns-in_err-i g c =
       areas = λ a low. done.areas a low ∙ so_far.areas a low;
       placed = tt;
       size = done.size ∙ so_far.size;
+      back = done.back ∙ so_far.back;
       counts = record { later = counts.later; none = tt; failed = counts.failed };
     })
 
@@ -62,6 +64,7 @@ loop-preserved g c =
       low = here.low;
       placed = here.placed (kept_of c.args.shape (h c.args.below.now).file.content) so_far.placed;
       size = done.size ∙ so_far.size;
+      back = done.back ∙ so_far.back;
       quiet = here.counts.none ∙ so_far.quiet;
     }
 
@@ -78,5 +81,6 @@ returns g c =
           (replayed (entries_in last.area.items last.places n) (kept_of c.args.shape (h c.args.below.now).file.content))
           (kept_of c.args.shape (h c.loop.below).file.content)) all so_far.placed;
       size = so_far.size;
+      back = so_far.back;
       counts = record { later = omega (arith, so_far.quiet); none = so_far.quiet; failed = tt };
     }

@@ -23,5 +23,6 @@ invariant-loop g l =
           (replayed (entries_in l.last.area.items l.last.places l.i) (kept_of l.shape (h l.initial.below).file.content))
           (kept_of l.shape (h l.below).file.content);
       size : length (h l.below).file.content ≡ length (h l.initial.below).file.content;
+      back : g.B.Blocks.written_back l.below ≡ g.B.Blocks.written_back l.initial.below;
       quiet : g.B.Blocks.failures l.below ≡ g.B.Blocks.failures l.initial.below;
     }

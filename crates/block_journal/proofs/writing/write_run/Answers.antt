@@ -41,5 +41,6 @@ returns g c =
           c.write.ensures.ok;
       size = holds_after_write (λ f. length f.content ≡ length old.content) old at run new c.write.result
           c.write.ensures.ok c.write.ensures.err (λ some long. length-with_run old.content at some);
+      back = c.write.ensures.back;
       counts = c.write.ensures.counts;
     }

@@ -65,6 +65,7 @@ returns-then-can_commit g c =
       refused = λ was. absurd (false≢true (sym good ∙ was));
       can = on_ok_always _ r (c.if-can_commit.ensures.can refl);
       untouched = λ not. absurd (not (c.if-can_commit.ensures.can refl));
+      back = done.back;
       shape = shape;
       fails = on_err _ _ r (λ rises. inr (inr rises)) done.counts.failed;
       counts = counts_with _ _ _ _ r done.counts refused;
@@ -102,6 +103,7 @@ returns-else-can_commit g c =
       refused = λ was. ap (λ (b : Bool). record (value_of p) { has_failed = b; refused = c.saturating_add-self-inside.result }) (sym was);
       can = tt;
       untouched = λ _. refl;
+      back = refl;
       shape = refl;
       fails = ⊎_elim (λ was. inl was) (λ most. inr (inl most)) (c.if-can_commit.ensures.cannot refl);
       counts = counts_refused (g.B.Blocks.failures p.below) p.refused c.saturating_add-self-inside.result _ (omega arith) c.saturating_add-self-inside.ensures;

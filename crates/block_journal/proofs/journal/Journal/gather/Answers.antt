@@ -33,6 +33,7 @@ returns g c =
         length-entries next.area.items next.places next.count,
         c.put.ensures.in_place there,
       );
+      places = c.put.ensures.places;
     })
 
 pub invariant_of-self : goal.invariant_of-self

@@ -1,8 +1,9 @@
-use Rattle.std.proofs.Common.{refl, ap, arith}
+use Rattle.std.proofs.Common.{inl, refl, ap, arith}
 use Rattle.block_journal.specs.Entries.{entries_in}
 use Rattle.block_journal.specs.Journal.{InRunOrKept, pending_in}
 use Rattle.block_journal.proofs.Before.{leaves_before, not_by_replay}
 use Rattle.block_journal.proofs.Keeping.{keeps_areas}
+use Rattle.block_journal.proofs.OnlyReading.{reads_none}
 use Rattle.block_journal.proofs.Recovering.{stays_recovered, within_pending}
 use Rattle.block_journal.proofs.journal.Journal.open.Goals as goal
 
@@ -20,12 +21,15 @@ returns-in_default g c =
       any_moment = tt;
       before = tt;
       batches = tt;
+      written_back = tt;
       quiet = tt;
       unrefused = tt;
       refused = stays_recovered shape h h c.requires.inside (within_pending shape h c.requires.synced);
       before_refused = leaves_before shape (InRunOrKept shape 0 0 (pending_in shape h.file.content)) h h
           (not_by_replay shape (pending_in shape h.file.content)) (within_pending shape h c.requires.synced);
       batches_refused = keeps_areas shape (pending_in shape h.file.content) h h c.requires.inside (within_pending shape h c.requires.synced);
+      written_back_refused = inl (reads_none h);
+      back_none = λ never. absurd (cc);
       no_batch = λ never. absurd (cc);
       failed = λ never. absurd (cc);
       no_memory = λ _. refl;
@@ -57,11 +61,14 @@ returns-in-Ok-recover g c =
       any_moment = c.recover.ensures.stays;
       before = c.recover.ensures.before;
       batches = c.recover.ensures.batches;
+      written_back = done.written_back;
       quiet = done.quiet;
       unrefused = c.recover.ensures.refused;
       refused = tt;
       before_refused = tt;
       batches_refused = tt;
+      written_back_refused = tt;
+      back_none = tt;
       no_batch = tt;
       failed = tt;
       no_memory = tt;
@@ -80,11 +87,14 @@ returns-in-Err g c =
       any_moment = tt;
       before = tt;
       batches = tt;
+      written_back = tt;
       quiet = tt;
       unrefused = tt;
       refused = c.recover.ensures.stays;
       before_refused = c.recover.ensures.before;
       batches_refused = c.recover.ensures.batches;
+      written_back_refused = done.back_err;
+      back_none = done.back_none;
       no_batch = done.no_batch;
       failed = done.failed;
       no_memory = λ is. absurd (done.no_memory is);

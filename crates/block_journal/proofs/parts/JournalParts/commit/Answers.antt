@@ -50,6 +50,7 @@ returns-then-is_err g c =
           (offered_more past_of p sound c.requires.good c.seal.new.self seal.sealed seal.entries seal.buffer seal.size c.write_batch.new.below within n
           c.and-self.ensures) within refl refl;
       within = within;
+      back = c.write_batch.ensures.back;
       counts = record { later = counts.later; none = tt; failed = from_err _ _ failed counts.failed };
       sound = failed_sound past_of p sound c.requires.good c.seal.new.self seal.sealed seal.entries seal.buffer seal.size c.write_batch.new.below within n
           c.and-self.ensures refl;
@@ -86,6 +87,7 @@ returns g c =
       err = tt;
       unsettled = tt;
       within = within;
+      back = c.write_batch.ensures.back;
       counts = record { later = counts.later; none = from_ok _ _ done counts.none; failed = tt };
       sound = committed_sound past_of p sound c.requires.good c.seal.new.self seal.sealed seal.entries seal.buffer seal.size c.write_batch.new.below within n
           c.and-self.ensures c.swap.new.x next refl c.swap.ensures.x_after freed written (from_ok _ _ done c.write_batch.ensures.synced);

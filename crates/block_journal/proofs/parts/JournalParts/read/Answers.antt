@@ -19,6 +19,7 @@ returns g c =
       err = done.err;
       rest = refl;
       reads = done.reads;
+      back = done.back;
       counts = done.counts;
       sound = sound_read g.B.Blocks.past_of c.args.self.now c.requires.sound c.read_block.new.below done.reads.file;
     }

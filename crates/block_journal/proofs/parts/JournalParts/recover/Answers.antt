@@ -1,18 +1,19 @@
-use Rattle.std.proofs.Common.{◌≡◌, refl, sym, ◌∙◌, ap, subst}
+use Rattle.std.proofs.Common.{◌≡◌, inl, inr, ℕ, false, refl, sym, ◌∙◌, ap, subst}
 use Rattle.std.proofs.lemmas.Result.{IfErr-weaker}
 use Rattle.block_device.specs.Blocks.{BlockFile}
 use Rattle.block_device.specs.BlocksPast.{RunsWithin}
 use Rattle.block_device.proofs.Within.{within_same}
 use Rattle.block_journal.specs.Layout.{IsHonest, IsInside, recovered}
-use Rattle.block_journal.specs.Journal.{AreInAreas, InRunOrKept, pending_in}
+use Rattle.block_journal.specs.Journal.{AreInAreas, InRunOrKept, IsPending, WritesBackFirst, pending_in}
 use Rattle.block_journal.proofs.Before.{leaves_before, not_by_replay}
 use Rattle.block_journal.proofs.Keeping.{keeps_areas}
 use Rattle.block_journal.specs.declared.refusal.OpenError.{OpenError}
 use Rattle.block_journal.specs.declared.refusal.OpenError.TheVariants.{FileFailed}
 use Rattle.block_journal.specs.Opening.{HasTakenBoth}
 use Rattle.block_journal.specs.JournalParts.{value_of}
-use Rattle.block_journal.proofs.Recovering.{stays_recovered, within_pending}
-use Rattle.block_journal.proofs.Results.{err_rises, on_ok}
+use Rattle.block_journal.proofs.Recovering.{stays_recovered, within_pending, writes_back_first}
+use Rattle.block_journal.proofs.Results.{err_rises, on_err_always, on_ok, on_ok_always}
+use Rattle.block_journal.proofs.WritingBack.{writes_back_later}
 use Rattle.block_journal.proofs.parts.JournalParts.recover.Goals as goal
 
 pub take_areas-requires : goal.take_areas-requires
@@ -51,6 +52,9 @@ returns-in-Err g c =
       batches = keeps_areas p.shape (pending_in p.shape (h p.below).file.content) (h p.below) (h c.take_areas.new.below) c.requires.inside
           (within_same (InRunOrKept p.shape 0 0 (pending_in p.shape (h p.below).file.content)) (h p.below).file.content (h p.below) (h p.below)
           (h c.take_areas.new.below) (within_pending p.shape (h p.below) c.requires.synced) reads.time reads.file);
+      written_back = tt;
+      back_err = inl reads;
+      back_none = λ never. absurd (cc);
       quiet = tt;
       no_memory = λ never. absurd (cc);
       no_batch = λ never. absurd (cc);
@@ -81,6 +85,9 @@ returns-in-Ok-None g c =
       batches = keeps_areas p.shape (pending_in p.shape (h p.below).file.content) (h p.below) (h c.take_areas.new.below) c.requires.inside
           (within_same (InRunOrKept p.shape 0 0 (pending_in p.shape (h p.below).file.content)) (h p.below).file.content (h p.below) (h p.below)
           (h c.take_areas.new.below) (within_pending p.shape (h p.below) c.requires.synced) reads.time reads.file);
+      written_back = tt;
+      back_err = inl reads;
+      back_none = λ _. c.in-Ok-None.ensures.back_none c.in-Ok-None.field-0-is;
       quiet = tt;
       no_memory = λ never. absurd (cc);
       no_batch = λ _. c.in-Ok-None.ensures.none c.in-Ok-None.field-0-is;
@@ -121,6 +128,18 @@ returns-in-Ok-Some g c =
     subst (λ (f : BlockFile). RunsWithin (S f) old.content (h p.below) (h c.settle.new.self.below)) same
     (done.within old.content (h p.below)
     (subst (λ (f : BlockFile). RunsWithin (S f) old.content (h p.below) (h c.take_areas.new.below)) (sym same) read)) in
+    let start : RunsWithin (S mid) mid.content (h c.take_areas.new.below) (h c.take_areas.new.below) =
+    within_pending p.shape (h c.take_areas.new.below)
+    (subst (λ (f : BlockFile). (n : ℕ) → ¬ IsPending p.shape f.content n → f.loose n ≡ false) (sym same) c.requires.synced) in
+    let since = (done.within mid.content (h c.take_areas.new.below) start).run in
+    let back = g.B.Blocks.written_back in
+    let first : WritesBackFirst p.shape (h p.below) (h c.take_areas.new.below) (back p.below) (back c.take_areas.new.below) =
+    writes_back_first p.shape (h p.below) (h c.take_areas.new.below) c.in-Ok-Some.number c.in-Ok-Some.before c.take_areas.new.last c.take_areas.new.other
+    (back p.below) (back c.take_areas.new.below) (rw c.in-Ok-Some.field-0-is at c.in-Ok-Some.ensures.taken) reads
+    (rw c.in-Ok-Some.field-0-is at c.in-Ok-Some.ensures.back) in
+    let wrote : WritesBackFirst p.shape (h p.below) (h c.settle.new.self.below) (back p.below) (back c.settle.new.self.below) =
+    writes_back_later p.shape (h p.below) (h c.take_areas.new.below) (h c.settle.new.self.below) (back p.below) (back c.take_areas.new.below)
+    (back c.settle.new.self.below) first since.later since.kept done.back in
     record {
       sound = done.sound;
       good = done.good;
@@ -133,6 +152,9 @@ returns-in-Ok-Some g c =
       before = leaves_before p.shape (S old) (h p.below) (h c.settle.new.self.below) (not_by_replay p.shape (pending_in p.shape old.content)) within;
       batches = keeps_areas p.shape (pending_in p.shape old.content) (h p.below) (h c.settle.new.self.below) c.requires.inside within;
       stays = stays_recovered p.shape (h p.below) (h c.settle.new.self.below) c.requires.inside within;
+      written_back = on_ok_always _ r wrote;
+      back_err = on_err_always _ r (inr wrote);
+      back_none = IfErr-weaker r _ _ (λ e is never. absurd (cc)) done.err;
       quiet = on_ok _ _ r (λ ok. ok ∙ counted) done.counts.none;
       no_memory = IfErr-weaker r _ _ (λ e is never. absurd (cc)) done.err;
       no_batch = IfErr-weaker r _ _ (λ e is never. absurd (cc)) done.err;

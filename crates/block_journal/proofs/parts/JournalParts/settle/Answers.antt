@@ -37,6 +37,7 @@ returns-then-is_err g c =
       shape = refl;
       refused = refl;
       err = refl;
+      back = c.replay.ensures.back;
       counts = record { later = counts.later; none = tt; failed = from_err _ _ failed counts.failed };
     }
 
@@ -79,5 +80,6 @@ returns g c =
       shape = refl;
       refused = refl;
       err = tt;
+      back = replayed.back;
       counts = record { later = counts.later; none = from_ok _ _ done counts.none; failed = tt };
     }
