@@ -43,11 +43,7 @@ fn is_inside(geometry: Geometry, life: Life) -> bool
 }
 
 /// What the sector of a header says. `None` where it says nothing.
-pub fn header_in(
-    version: Version,
-    geometry: Geometry,
-    bytes: &[u8; SECTOR_SIZE],
-) -> Option<Header>
+pub fn header_in(version: Version, geometry: Geometry, bytes: &[u8; SECTOR_SIZE]) -> Option<Header>
     ensures found { IfSome result (IsHeaderIn version geometry bytes.now) }
     ensures again { (h : Header) → IsHeaderIn version geometry bytes.now h → result ≡ Some h }
 {
