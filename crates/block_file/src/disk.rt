@@ -24,7 +24,8 @@ use std::marker::Model;
 /// is full is committed by the next write.
 ///
 /// Where a call of the file fails, the call of the device fails (`quiet`). Once a commit has failed, each call fails
-/// from then on (`sound`; `unfailed` of a check), and the file is left alone (`left_alone`).
+/// from then on (`sound`; `unfailed` of a check), and the file is left alone (`left_alone`). Only an opening writes
+/// back what a file has (`back`).
 #[derive(Drop)]
 pub struct BlockDisk<B: Blocks, A: Allocator> {
     parts: DiskParts<B, A>,
@@ -128,6 +129,7 @@ impl<B: Blocks, A: Allocator + Copy> BlockDisk<B, A> {
         ensures good { IsGood B.past_of self.old → disk_failed self.new ≡ false → IsGood B.past_of self.new }
         ensures opens { IsGood B.past_of self.old → OpensMeanwhile B.past_of self.old self.new }
         ensures left_alone { disk_failed self.old ≡ true → disk_file self.new ≡ disk_file self.old }
+        ensures back { B.written_back (disk_file self.new) ≡ B.written_back (disk_file self.old) }
         ensures table { disk_table B.past_of self.new ≡ disk_table B.past_of self.old }
         ensures number { OnOk result (disk_number self.new ≡ disk_number self.old + 2) }
         ensures quiet { OnOk result (B.failures (disk_file self.new) ≡ B.failures (disk_file self.old)) }
@@ -151,6 +153,7 @@ impl<B: Blocks, A: Allocator + Copy> BlockDisk<B, A> {
         ensures unfailed { from < (disk_plan self.old).sectors → OnOk result (disk_failed self.old ≡ false) }
         ensures quiet { OnOk result (B.failures (disk_file self.new) ≡ B.failures (disk_file self.old)) }
         ensures left_alone { disk_failed self.old ≡ true → disk_file self.new ≡ disk_file self.old }
+        ensures back { B.written_back (disk_file self.new) ≡ B.written_back (disk_file self.old) }
         ensures reads { ReadsAlone B.past_of self.old self.new }
         ensures good { IsGood B.past_of self.old → IsGood B.past_of self.new }
         ensures disk { (disk_past B.past_of self.new).disk ≡ (disk_past B.past_of self.old).disk }
@@ -191,7 +194,7 @@ impl<B: Blocks, A: Allocator + Copy> Device for BlockDisk<B, A> {
     }
 
     /// It answers only what fits its digest (`fits`). It fails where that doesn't, where the file does, and once a
-    /// commit has failed (`failed`). It only reads (`reads`).
+    /// commit has failed (`failed`). It changes nothing, and writes nothing back (`reads`, `back`).
     fn read(&mut self, n: u64, buffer: &mut [u8; SECTOR_SIZE]) -> Result<(), Failed>
         requires { n < length (disk_past B.past_of self.old).disk.content }
         ensures ok { OnOk result (buffer.new ≡ sector (disk_past B.past_of self.old).disk.content n) }
@@ -206,6 +209,7 @@ impl<B: Blocks, A: Allocator + Copy> Device for BlockDisk<B, A> {
         ensures sound { OnOk result (disk_failed self.old ≡ false) }
         ensures quiet { OnOk result (B.failures (disk_file self.new) ≡ B.failures (disk_file self.old)) }
         ensures left_alone { disk_failed self.old ≡ true → disk_file self.new ≡ disk_file self.old }
+        ensures back { B.written_back (disk_file self.new) ≡ B.written_back (disk_file self.old) }
         ensures reads { ReadsAlone B.past_of self.old self.new }
         ensures good { IsGood B.past_of self.old → IsGood B.past_of self.new }
     {
@@ -215,8 +219,9 @@ impl<B: Blocks, A: Allocator + Copy> Device for BlockDisk<B, A> {
     /// Where it fails, the sector holds what it held (`kept`), unsynced. It fails as a read of the sector does, and
     /// where a batch that is full can't be committed (`failed`). The same blocks fit as before (`fits`), and a commit
     /// has failed only where it had before, or that one does (`broken`). Where a batch has room for two blocks, nothing
-    /// is committed, and the file is only read (`gathers`). A crash meanwhile leaves a file that can be opened
-    /// (`opens`), with the table and the data as they were committed, or as they were put (`any_moment`).
+    /// is committed, the file stays as it is (`gathers`), and the batch takes two blocks more at most (`room`). A crash
+    /// meanwhile leaves a file that can be opened (`opens`), with the table and the data as they were committed, or as
+    /// they were put (`any_moment`).
     fn write(&mut self, n: u64, bytes: &[u8; SECTOR_SIZE]) -> Result<(), Failed>
         requires { n < length (disk_past B.past_of self.old).disk.content }
         ensures ok { OnOk result ((disk_past B.past_of self.new).disk
@@ -233,6 +238,7 @@ impl<B: Blocks, A: Allocator + Copy> Device for BlockDisk<B, A> {
         ensures sound { OnOk result ((disk_failed self.old ≡ false) × (disk_failed self.new ≡ false)) }
         ensures quiet { OnOk result (B.failures (disk_file self.new) ≡ B.failures (disk_file self.old)) }
         ensures left_alone { disk_failed self.old ≡ true → disk_file self.new ≡ disk_file self.old }
+        ensures back { B.written_back (disk_file self.new) ≡ B.written_back (disk_file self.old) }
         ensures fits { FitsAsBefore (disk_plan self.old) (disk_table B.past_of self.old)
             (disk_table B.past_of self.new) }
         ensures broken { disk_failed self.new ≡ true → (disk_failed self.old ≡ true)
@@ -247,6 +253,8 @@ impl<B: Blocks, A: Allocator + Copy> Device for BlockDisk<B, A> {
         ensures opens { IsGood B.past_of self.old → OpensMeanwhile B.past_of self.old self.new }
         ensures gathers { 1 < room_of (disk_journal self.old)
             → OnlyReads (B.past_of (disk_file self.old)) (B.past_of (disk_file self.new)) }
+        ensures room { 1 < room_of (disk_journal self.old)
+            → room_of (disk_journal self.old) ≤ room_of (disk_journal self.new) + 2 }
         ensures plan { disk_plan self.new ≡ disk_plan self.old }
     {
         self.parts.write(n, bytes)
@@ -271,6 +279,7 @@ impl<B: Blocks, A: Allocator + Copy> Device for BlockDisk<B, A> {
         ensures good { IsGood B.past_of self.old → disk_failed self.new ≡ false → IsGood B.past_of self.new }
         ensures opens { IsGood B.past_of self.old → OpensMeanwhile B.past_of self.old self.new }
         ensures left_alone { disk_failed self.old ≡ true → disk_file self.new ≡ disk_file self.old }
+        ensures back { B.written_back (disk_file self.new) ≡ B.written_back (disk_file self.old) }
         ensures table { disk_table B.past_of self.new ≡ disk_table B.past_of self.old }
         ensures quiet { OnOk result (B.failures (disk_file self.new) ≡ B.failures (disk_file self.old)) }
         ensures number { OnOk result (disk_number self.new ≡ disk_number self.old + 1) }

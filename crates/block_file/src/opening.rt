@@ -4,7 +4,7 @@ ghost use Rattle.std.specs.Prelude.{IfOk, IfSome};
 ghost use Rattle.sector_device.specs.Disk.{IsSynced};
 ghost use Rattle.sector_device.specs.DevicePast.{Rises};
 ghost use Rattle.block_journal.specs.Layout.{IsHonest, IsInside, recovered};
-ghost use Rattle.block_journal.specs.Journal.{LeavesBefore, OnlyReads};
+ghost use Rattle.block_journal.specs.Journal.{LeavesBefore, OnlyReads, WritesBackFirst};
 ghost use Rattle.block_journal.specs.Value.{failures_of};
 ghost use Rattle.block_table.specs.Checked.{settled_data, settled_table};
 ghost use Rattle.block_table.specs.Table.{EachFits, IsFirstUnfit};
@@ -99,6 +99,7 @@ pub fn read_plan<B: Blocks>(below: &mut B) -> Result<Plan, FileError>
     ensures failed { IfErr result (λ e. e ≡ FileError.FileFailed
         → Rises (B.failures below.old) (B.failures below.new)) }
     ensures reads { OnlyReads (B.past_of below.old) (B.past_of below.new) }
+    ensures back { B.written_back below.new ≡ B.written_back below.old }
 {
     if below.blocks() < 2 {
         return Err(FileError::TooShort);
@@ -154,6 +155,8 @@ fn settled<B: Blocks, A: Allocator + Copy>(
     ensures table { IfOk result (λ d. disk_table B.past_of d ≡ settled_table B.past_of checked) }
     ensures committed { IfOk result (λ d. disk_settled B.past_of d ≡ disk_table B.past_of d) }
     ensures hands { IfOk result (λ d. IsHandingOn B.past_of checked.journal (B.past_of (disk_file d))) }
+    ensures back { IfOk result (λ d. B.written_back (disk_file d) ≡ B.written_back checked.journal.below) }
+    ensures back_refused { IfErr result (λ e. B.written_back e.file ≡ B.written_back checked.journal.below) }
     ensures refused { IfErr result (λ e. IsHandingOn B.past_of checked.journal (B.past_of e.file)) }
     ensures why { IfErr result (λ e. e.error ≡ FileError.FileFailed) }
     ensures failed { IfErr result (λ e. (2 ^ 64 - 2 ≤ checked.journal.last.number)
@@ -195,6 +198,8 @@ fn compared<B: Blocks, A: Allocator + Copy>(
     ensures each { IfOk result (λ d. EachFits plan.blocks (disk_table B.past_of d)) }
     ensures committed { IfOk result (λ d. disk_settled B.past_of d ≡ disk_table B.past_of d) }
     ensures hands { IfOk result (λ d. IsHandingOn B.past_of checked.journal (B.past_of (disk_file d))) }
+    ensures back { IfOk result (λ d. B.written_back (disk_file d) ≡ B.written_back checked.journal.below) }
+    ensures back_refused { IfErr result (λ e. B.written_back e.file ≡ B.written_back checked.journal.below) }
     ensures refused { IfErr result (λ e. IsRefusedBehind B.past_of checked.journal e.error (B.past_of e.file)) }
     ensures damaged { IfErr result (λ e. (n : ℕ) → e.error ≡ FileError.Damaged n
         → IsFirstUnfit plan.blocks (settled_table B.past_of checked) 0 n) }
@@ -223,18 +228,18 @@ fn compared<B: Blocks, A: Allocator + Copy>(
 /// data is compared with its digest. No block of the file is loose. So each sector can be read, where the file
 /// doesn't fail (`good`).
 ///
-/// What was read of the journal's areas is written back, and synced, before anything else is written. The blocks of the
-/// batch before the last one are put in their places. Once each block fits, the last batch is handed on as one of its
-/// own, and then all blocks are put in their places: no area of the journal is needed, and no block is loose (`alone`,
-/// `safe`, `handed`). So what was acknowledged is not in the journal alone. Behind the last numbers of 64 bits none can
-/// be handed on (`failed`). (That the areas are written back, and that the last batch is handed on before its blocks
-/// come to their places, no clause says.)
+/// What was read of the journal's areas is written back, and synced, before anything else is written (`written_back`,
+/// `written_back_refused`). The blocks of the batch before the last one are put in their places. Once each block fits,
+/// the last batch is handed on as one of its own, and then all blocks are put in their places: no area of the journal
+/// is needed, and no block is loose (`alone`, `safe`, `handed`). So what was acknowledged is not in the journal alone.
+/// Behind the last numbers of 64 bits none can be handed on (`failed`). (That the last batch is handed on before its
+/// blocks come to their places, no clause says.)
 ///
 /// Whatever it answers, a crash at any moment of it leaves, under the premise, what stands for the same blocks
 /// (`any_moment`, `refused`), behind the same headers (`headers`, `headers_refused`). The premise is needed only once
-/// batches are handed on. Where the file has no plan that it has room for, nothing is written (`left_alone`). One that
-/// can be opened is refused for want of memory, or as the file failed (`only`), and a crash meanwhile leaves one that
-/// can be opened (`again`, `refused`).
+/// batches are handed on. Where the file has no plan that it has room for, nothing changes, and nothing is written back
+/// (`left_alone`, `back_alone`). One that can be opened is refused for want of memory, or as the file failed (`only`),
+/// and a crash meanwhile leaves one that can be opened (`again`, `refused`).
 pub fn open<B: Blocks, A: Allocator + Copy>(
     alloc: A,
     below: B,
@@ -260,13 +265,21 @@ pub fn open<B: Blocks, A: Allocator + Copy>(
         (B.past_of (disk_file d))) }
     ensures headers { IfOk result (λ d. LeavesBefore (disk_plan d).shape (B.past_of below)
         (B.past_of (disk_file d))) }
+    ensures written_back { IfOk result (λ d. WritesBackFirst (disk_plan d).shape (B.past_of below)
+        (B.past_of (disk_file d)) (B.written_back below) (B.written_back (disk_file d))) }
     ensures left_alone { IfErr result (λ e. HasNoPlan (B.past_of below).file.content
         → OnlyReads (B.past_of below) (B.past_of e.file)) }
+    ensures back_alone { IfErr result (λ e. HasNoPlan (B.past_of below).file.content
+        → B.written_back e.file ≡ B.written_back below) }
     ensures headers_refused { IfErr result (λ e. (p : Plan) → plan_told (B.past_of below).file.content ≡ Some p
         → LeavesBefore p.shape (B.past_of below) (B.past_of e.file)) }
     ensures refused { IfErr result (λ e. (p : Plan) → plan_told (B.past_of below).file.content ≡ Some p
         → IsInside p.shape (B.past_of below).file.content
         → IsLeft p e.error (B.past_of below) (B.past_of e.file)) }
+    ensures written_back_refused { IfErr result (λ e. (p : Plan)
+        → plan_told (B.past_of below).file.content ≡ Some p → OnlyReads (B.past_of below) (B.past_of e.file)
+        ⊎ WritesBackFirst p.shape (B.past_of below) (B.past_of e.file) (B.written_back below)
+        (B.written_back e.file)) }
     ensures damaged { IfErr result (λ e. (n : ℕ) → e.error ≡ FileError.Damaged n
         → IsDamagedAt n (B.past_of below).file.content) }
     ensures no_header { IfErr result (λ e. e.error ≡ FileError.NoHeader

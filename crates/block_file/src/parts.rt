@@ -72,6 +72,7 @@ impl<B: Blocks, A: Allocator + Copy> DiskParts<B, A> {
         ensures working { OnOk result (disk_failed self.old ≡ false) }
         ensures quiet { OnOk result (B.failures (disk_file self.new) ≡ B.failures (disk_file self.old)) }
         ensures left_alone { disk_failed self.old ≡ true → disk_file self.new ≡ disk_file self.old }
+        ensures back { B.written_back (disk_file self.new) ≡ B.written_back (disk_file self.old) }
         ensures reads { ReadsAlone B.past_of self.old self.new }
         ensures good { IsGood B.past_of self.old → IsGood B.past_of self.new }
         ensures disk { (disk_past B.past_of self.new).disk ≡ (disk_past B.past_of self.old).disk }
@@ -100,6 +101,7 @@ impl<B: Blocks, A: Allocator + Copy> DiskParts<B, A> {
         ensures working { OnOk result ((disk_failed self.old ≡ false) × (disk_failed self.new ≡ false)) }
         ensures quiet { OnOk result (B.failures (disk_file self.new) ≡ B.failures (disk_file self.old)) }
         ensures left_alone { disk_failed self.old ≡ true → disk_file self.new ≡ disk_file self.old }
+        ensures back { B.written_back (disk_file self.new) ≡ B.written_back (disk_file self.old) }
         ensures fits { FitsAsBefore (disk_plan self.old) (disk_table B.past_of self.old)
             (disk_table B.past_of self.new) }
         ensures broken { disk_failed self.new ≡ true → (disk_failed self.old ≡ true)
@@ -114,6 +116,8 @@ impl<B: Blocks, A: Allocator + Copy> DiskParts<B, A> {
         ensures opens { IsGood B.past_of self.old → OpensMeanwhile B.past_of self.old self.new }
         ensures gathers { 1 < room_of (disk_journal self.old)
             → OnlyReads (B.past_of (disk_file self.old)) (B.past_of (disk_file self.new)) }
+        ensures room { 1 < room_of (disk_journal self.old)
+            → room_of (disk_journal self.old) ≤ room_of (disk_journal self.new) + 2 }
         ensures plan { disk_plan self.new ≡ disk_plan self.old }
         ensures time { Elapses (disk_past B.past_of self.old) (disk_past B.past_of self.new) }
         ensures counts { CountsFailure (disk_failures B.failures self.old) (disk_failures B.failures self.new) result }
@@ -144,6 +148,7 @@ impl<B: Blocks, A: Allocator + Copy> DiskParts<B, A> {
             (disk_journal self.old).last (B.past_of (disk_file self.old)) (B.past_of (disk_file self.new)) }
         ensures offers { OffersOne (disk_journal self.old) (disk_journal self.new) }
         ensures left_alone { disk_failed self.old ≡ true → disk_file self.new ≡ disk_file self.old }
+        ensures back { B.written_back (disk_file self.new) ≡ B.written_back (disk_file self.old) }
         ensures table { disk_table B.past_of self.new ≡ disk_table B.past_of self.old }
         ensures last { OnOk result (disk_number self.new ≡ disk_number self.old + 1) }
         ensures quiet { OnOk result (B.failures (disk_file self.new) ≡ B.failures (disk_file self.old)) }
@@ -172,6 +177,7 @@ impl<B: Blocks, A: Allocator + Copy> DiskParts<B, A> {
         ensures opens { IsGood B.past_of self.old → OpensMeanwhile B.past_of self.old self.new }
         ensures offers { OffersOne (disk_journal self.old) (disk_journal self.new) }
         ensures left_alone { disk_failed self.old ≡ true → disk_file self.new ≡ disk_file self.old }
+        ensures back { B.written_back (disk_file self.new) ≡ B.written_back (disk_file self.old) }
         ensures table { disk_table B.past_of self.new ≡ disk_table B.past_of self.old }
         ensures last { OnOk result (disk_number self.new ≡ disk_number self.old + 1) }
         ensures quiet { OnOk result (B.failures (disk_file self.new) ≡ B.failures (disk_file self.old)) }
@@ -206,6 +212,7 @@ impl<B: Blocks, A: Allocator + Copy> DiskParts<B, A> {
         ensures good { IsGood B.past_of self.old → disk_failed self.new ≡ false → IsGood B.past_of self.new }
         ensures opens { IsGood B.past_of self.old → OpensMeanwhile B.past_of self.old self.new }
         ensures left_alone { disk_failed self.old ≡ true → disk_file self.new ≡ disk_file self.old }
+        ensures back { B.written_back (disk_file self.new) ≡ B.written_back (disk_file self.old) }
         ensures table { disk_table B.past_of self.new ≡ disk_table B.past_of self.old }
         ensures number { OnOk result (disk_number self.new ≡ disk_number self.old + 2) }
         ensures quiet { OnOk result (B.failures (disk_file self.new) ≡ B.failures (disk_file self.old)) }
@@ -231,6 +238,7 @@ impl<B: Blocks, A: Allocator + Copy> DiskParts<B, A> {
         ensures unfailed { from < (disk_plan self.old).sectors → OnOk result (disk_failed self.old ≡ false) }
         ensures quiet { OnOk result (B.failures (disk_file self.new) ≡ B.failures (disk_file self.old)) }
         ensures left_alone { disk_failed self.old ≡ true → disk_file self.new ≡ disk_file self.old }
+        ensures back { B.written_back (disk_file self.new) ≡ B.written_back (disk_file self.old) }
         ensures reads { ReadsAlone B.past_of self.old self.new }
         ensures good { IsGood B.past_of self.old → IsGood B.past_of self.new }
         ensures disk { (disk_past B.past_of self.new).disk ≡ (disk_past B.past_of self.old).disk }

@@ -38,6 +38,7 @@ pub(crate) fn read_sector<B: Blocks, A: Allocator + Copy>(
     ensures sound { OnOk result (checked.old.journal.has_failed ≡ false) }
     ensures quiet { OnOk result (B.failures checked.new.journal.below ≡ B.failures checked.old.journal.below) }
     ensures alone { checked.old.journal.has_failed ≡ true → checked.new.journal.below ≡ checked.old.journal.below }
+    ensures back { B.written_back checked.new.journal.below ≡ B.written_back checked.old.journal.below }
     ensures rest { checked.new ≡ record checked.old {
       journal = record checked.old.journal {
         below = checked.new.journal.below;
@@ -63,10 +64,13 @@ fn make_room<B: Blocks, A: Allocator + Copy>(
     ensures room { OnOk result (1 < room_of checked.new.journal) }
     ensures gathers { 1 < room_of checked.old.journal
         → OnlyReads (B.past_of checked.old.journal.below) (B.past_of checked.new.journal.below) }
+    ensures room_stays { 1 < room_of checked.old.journal
+        → room_of checked.new.journal ≡ room_of checked.old.journal }
     ensures good { OnOk result (checked.new.journal.has_failed ≡ checked.old.journal.has_failed) }
     ensures quiet { OnOk result (B.failures checked.new.journal.below ≡ B.failures checked.old.journal.below) }
     ensures number { checked.new.journal.last.number ≤ checked.old.journal.last.number + 1 }
     ensures alone { checked.old.journal.has_failed ≡ true → checked.new.journal.below ≡ checked.old.journal.below }
+    ensures back { B.written_back checked.new.journal.below ≡ B.written_back checked.old.journal.below }
     ensures fails { OnErr result ((checked.old.journal.has_failed ≡ true)
         ⊎ (checked.old.journal.last.number ≡ 2 ^ 64 - 1)
         ⊎ Rises (B.failures checked.old.journal.below) (B.failures checked.new.journal.below)) }
@@ -112,8 +116,11 @@ pub(crate) fn write_sector<B: Blocks, A: Allocator + Copy>(
         ⊎ Rises (B.failures checked.old.journal.below) (B.failures checked.new.journal.below) }
     ensures number { checked.new.journal.last.number ≤ checked.old.journal.last.number + 1 }
     ensures alone { checked.old.journal.has_failed ≡ true → checked.new.journal.below ≡ checked.old.journal.below }
+    ensures back { B.written_back checked.new.journal.below ≡ B.written_back checked.old.journal.below }
     ensures gathers { 1 < room_of checked.old.journal
         → OnlyReads (B.past_of checked.old.journal.below) (B.past_of checked.new.journal.below) }
+    ensures room { 1 < room_of checked.old.journal
+        → room_of checked.old.journal ≤ room_of checked.new.journal + 2 }
     ensures moves { Moves B.past_of checked.old checked.new }
     ensures counts { CountsRead (failures_of B.failures checked.old.journal)
         (failures_of B.failures checked.new.journal) result }
@@ -166,6 +173,7 @@ pub(crate) fn first_damaged<B: Blocks, A: Allocator + Copy>(
     ensures unfailed { from < plan.sectors → OnOk result (checked.old.journal.has_failed ≡ false) }
     ensures quiet { OnOk result (B.failures checked.new.journal.below ≡ B.failures checked.old.journal.below) }
     ensures alone { checked.old.journal.has_failed ≡ true → checked.new.journal.below ≡ checked.old.journal.below }
+    ensures back { B.written_back checked.new.journal.below ≡ B.written_back checked.old.journal.below }
     ensures rest { checked.new ≡ record checked.old {
       journal = record checked.old.journal {
         below = checked.new.journal.below;

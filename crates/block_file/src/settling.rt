@@ -32,6 +32,7 @@ pub(crate) fn settle<B: Blocks, A: Allocator + Copy>(
         ≡ failures_of B.failures checked.old.journal) }
     ensures fails { OnErr result ((2 ^ 64 - 2 ≤ checked.old.journal.last.number)
         ⊎ Rises (B.failures checked.old.journal.below) (B.failures checked.new.journal.below)) }
+    ensures back { B.written_back checked.new.journal.below ≡ B.written_back checked.old.journal.below }
     ensures hands { IsHandingOn B.past_of checked.old.journal (B.past_of checked.new.journal.below) }
     ensures shape { checked.new.journal.shape ≡ checked.old.journal.shape }
     ensures blocks { checked.new.blocks ≡ checked.old.blocks }

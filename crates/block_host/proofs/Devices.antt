@@ -1,9 +1,10 @@
 -- Devices in files of the system.
-use Rattle.std.proofs.Common.{◌≡◌, ◌≢◌, ◌⊎◌, inl, inr, ℕ, ◌+◌, ◌^◌, false, Some, length, nat_lt, replicate, refl, sym, ◌∙◌, ap, subst, arith, ◌&&◌}
+use Rattle.std.proofs.Common.{◌≡◌, ◌≢◌, ◌⊎◌, inl, inr, ℕ, ◌+◌, ◌^◌, List, [], false, Some, length, nat_lt, replicate, refl, sym, ◌∙◌, ap, subst, arith, ◌&&◌}
 use Rattle.std.proofs.lemmas.Bool.{and_parts, ltb-true}
 use Rattle.std.proofs.Math.ListN.{length-replicate}
 use Rattle.block_device.specs.Blocks.{BlockFile, CrashFile, block, zero_block}
-use Rattle.block_journal.specs.Journal.{LeavesBefore}
+use Rattle.block_device.specs.BlocksPast.{WrittenBack}
+use Rattle.block_journal.specs.Journal.{LeavesBefore, WritesBackFirst, WritesBackFrom}
 use Rattle.block_journal.specs.Layout.{IsInside, kept_start, recovered}
 use Rattle.block_table.specs.Table.{EachFits}
 use Rattle.block_file.specs.Closing.{StandsAlone}
@@ -16,18 +17,23 @@ use Rattle.block_file.specs.declared.opening.FileError.{FileError}
 use Rattle.block_file.specs.declared.opening.FileError.TheVariants.{Damaged, FileFailed, NoBatch, NoHeader, NoMemory, TooShort}
 use Rattle.block_file.specs.declared.parts.DiskParts.{DiskParts}
 use Rattle.block_file.specs.declared.plan.Plan.{Plan}
-use Rattle.block_host.specs.FileBlocks.{past_of}
+use Rattle.block_host.specs.FileBlocks.{past_of, written_back_of}
 use Rattle.block_host.specs.Opened.{IsOpened, IsRead, first_read}
 use Rattle.block_host.specs.declared.error.DiskError.{DiskError}
 use Rattle.block_host.specs.declared.error.DiskError.TheVariants as disk
 use Rattle.block_host.specs.declared.error.DiskError.TheVariants.{File, Open}
 use Rattle.block_host.specs.declared.mirror.FileBlocks.{FileBlocks}
 
--- what the file of a device held first is what it held as it was just read
+-- what the file of a device was first is what it was as it was just read
+file_first : {F A : Type 0} (b : FileBlocks F A) (d : DiskParts (FileBlocks F A) A) → (past_of b).moment ≡ 0
+    → LeavesBefore d.plan.shape (past_of b) (past_of (journal_in d.now).below) → (past_of (journal_in d.now).below).file_at 0 ≡ (past_of b).file
+file_first b d none before =
+    before.kept 0 (omega arith) ∙ subst (λ (t : ℕ). (past_of b).file_at t ≡ (past_of b).file) none (past_of b).now
+
+-- so it held the same
 pub as_first : {F A : Type 0} (b : FileBlocks F A) (d : DiskParts (FileBlocks F A) A) → (past_of b).moment ≡ 0
     → LeavesBefore d.plan.shape (past_of b) (past_of (journal_in d.now).below) → first_read d ≡ (past_of b).file.content
-as_first b d none before = ap (λ (f : BlockFile). f.content)
-    (before.kept 0 (omega arith) ∙ subst (λ (t : ℕ). (past_of b).file_at t ≡ (past_of b).file) none (past_of b).now)
+as_first b d none before = ap (λ (f : BlockFile). f.content) (file_first b d none before)
 
 -- a device that was opened in a file which was just read
 module _ {F A : Type 0} (b : FileBlocks F A) (d : DiskParts (FileBlocks F A) A) (none : (past_of b).moment ≡ 0)
@@ -36,18 +42,32 @@ module _ {F A : Type 0} (b : FileBlocks F A) (d : DiskParts (FileBlocks F A) A) 
   as_read : first_read d ≡ (past_of b).file.content
   as_read = as_first b d none before
 
+  wrote_back : written_back_of b ≡ []
+      → WritesBackFirst d.plan.shape (past_of b) (past_of (journal_in d.now).below) (written_back_of b) (written_back_of (journal_in d.now).below)
+      → WritesBackFrom d.plan.shape ((past_of (journal_in d.now).below).file_at 0) 0 (past_of (journal_in d.now).below) []
+      (written_back_of (journal_in d.now).below)
+  wrote_back none_back wrote =
+      let new = past_of (journal_in d.now).below in
+      let now = written_back_of (journal_in d.now).below in
+      subst (λ (f : BlockFile). WritesBackFrom d.plan.shape f 0 new [] now) (sym (file_first b d none before))
+      (subst (λ (t : ℕ). WritesBackFrom d.plan.shape (past_of b).file t new [] now) none
+      (subst (λ (l : List WrittenBack). WritesBackFirst d.plan.shape (past_of b) new l now) none_back wrote))
+
   pub opened : plan_told (past_of b).file.content ≡ Some d.plan → (disk_past past_of d).disk.content ≡ disk_image d.plan (past_of b).file.content
       → EachFits d.plan.blocks (recovered d.plan.shape (past_of b).file.content)
       → AreHandedOn d.plan.shape (past_of b).file.content (journal_in d.now).offered
       → (CanBeOpened d.plan (past_of b).file.content
       → OpensUnder (journal_in d.now).offered d.plan (past_of b) (past_of (journal_in d.now).below))
       → StandsAlone d.plan (past_of (journal_in d.now).below).file.content (disk_past past_of d).disk.content
-      → ((n : ℕ) → (past_of (journal_in d.now).below).file.loose n ≡ false) → IsOpened d
-  opened told content fits handed again alone safe = record {
+      → ((n : ℕ) → (past_of (journal_in d.now).below).file.loose n ≡ false) → written_back_of b ≡ []
+      → WritesBackFirst d.plan.shape (past_of b) (past_of (journal_in d.now).below) (written_back_of b) (written_back_of (journal_in d.now).below)
+      → IsOpened d
+  opened told content fits handed again alone safe none_back wrote = record {
     told = ap plan_told as_read ∙ told;
     content = content ∙ ap (disk_image d.plan) (sym as_read);
     fits = subst (λ (l : CrashFile). EachFits d.plan.blocks (recovered d.plan.shape l)) (sym as_read) fits;
     handed = subst (λ (l : CrashFile). AreHandedOn d.plan.shape l (journal_in d.now).offered) (sym as_read) handed;
+    back = wrote_back none_back wrote;
     any_moment = λ t c from to crash honest.
         stays.each t c (omega (arith, none)) to crash honest ∙ ap (recovered d.plan.shape) (sym as_read);
     opens = λ can t c from to crash. (again (subst (CanBeOpened d.plan) as_read can)).each t c (omega (arith, none)) to crash;

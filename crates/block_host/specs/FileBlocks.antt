@@ -1,7 +1,8 @@
 -- What a file of blocks over what is below holds, as far as its calls tell.
 use Rattle.std.specs.Prelude.{◌≡◌, ℕ, Bool, false, ◌||◌, List, [], ◌∷◌}
 use Rattle.block_device.specs.Blocks.{BlockFile, is_in_run}
-use Rattle.block_device.specs.BlocksPast.{BlocksPast, past_with}
+use Rattle.block_device.specs.BackRuns.{runs_in}
+use Rattle.block_device.specs.BlocksPast.{BlocksPast, WrittenBack, past_with}
 use Rattle.block_host.specs.declared.held.Run.{Run}
 use Rattle.block_host.specs.declared.held.Held.{Held}
 use Rattle.block_host.specs.declared.mirror.FileBlocks.{FileBlocks}
@@ -25,9 +26,13 @@ module _ {F A : Type 0} where
   abbrev pub failures_of : FileBlocks F A → ℕ
   failures_of b = b.failures
 
-  -- whether a write or a sync of it has failed, behind which each fails
+  -- whether a write, a sync or a `keep` of it has failed, behind which each fails
   abbrev pub has_failed_of : FileBlocks F A → Bool
   has_failed_of b = b.has_failed
+
+  -- which runs were written back since it was opened
+  abbrev pub written_back_of : FileBlocks F A → List WrittenBack
+  written_back_of b = runs_in b.back
 
   -- what is below
   abbrev pub below_of : FileBlocks F A → F

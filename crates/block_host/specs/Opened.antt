@@ -1,7 +1,8 @@
 -- A device that was opened in a file of the system.
-use Rattle.std.specs.Prelude.{◌≡◌, ℕ, ◌<◌, false, Some}
+use Rattle.std.specs.Prelude.{◌≡◌, ℕ, ◌<◌, [], false, Some}
 use Rattle.block_device.specs.Blocks.{CrashFile, block}
 use Rattle.block_device.specs.BlocksPast.{Between, BlocksPast}
+use Rattle.block_journal.specs.Journal.{WritesBackFrom}
 use Rattle.block_journal.specs.Layout.{IsHonest, recovered}
 use Rattle.block_table.specs.Table.{EachFits}
 use Rattle.block_file.specs.Closing.{StandsAlone}
@@ -11,7 +12,7 @@ use Rattle.block_file.specs.Header.{plan_told}
 use Rattle.block_file.specs.Plans.{disk_image}
 use Rattle.block_file.specs.Settling.{AreHandedOn}
 use Rattle.block_file.specs.declared.parts.DiskParts.{DiskParts}
-use Rattle.block_host.specs.FileBlocks.{past_of}
+use Rattle.block_host.specs.FileBlocks.{past_of, written_back_of}
 use Rattle.block_host.specs.declared.mirror.FileBlocks.{FileBlocks}
 
 module _ {F A : Type 0} where
@@ -31,14 +32,17 @@ module _ {F A : Type 0} where
   abbrev pub IsPremise : DiskParts (FileBlocks F A) A → CrashFile → Type 0
   IsPremise d c = IsHonest (disk_journal d).offered (disk_plan d).shape c
 
-  -- As it was read, the file told this device, and each block of data fitted its digest. Under the premise, whatever a
-  -- crash leaves since then stands for the same blocks, behind the same headers, and can be opened if the file could.
-  -- Now the file stands for the device, whatever batches the areas of its journal lose, and no block is loose.
+  -- As it was read, the file told this device, and each block of data fitted its digest. Until both areas of its
+  -- journal were written back, the file stayed so. Under the premise, whatever a crash leaves since then stands for the
+  -- same blocks, behind the same headers, and can be opened if the file could. Now the file stands for the device,
+  -- whatever batches the areas of its journal lose, and no block is loose.
   pub record IsOpened (d : DiskParts (FileBlocks F A) A) : Type 0 where
     pub told : plan_told (first_read d) ≡ Some (disk_plan d)
     pub content : (disk_past past_of d).disk.content ≡ disk_image (disk_plan d) (first_read d)
     pub fits : EachFits (disk_plan d).blocks (recovered (disk_plan d).shape (first_read d))
     pub handed : AreHandedOn (disk_plan d).shape (first_read d) (disk_journal d).offered
+    pub back : WritesBackFrom (disk_plan d).shape ((file_past d).file_at 0) 0 (file_past d) []
+        (written_back_of (disk_file d))
     pub any_moment : SinceRead d
         (λ c. IsPremise d c → recovered (disk_plan d).shape c ≡ recovered (disk_plan d).shape (first_read d))
     pub opens : CanBeOpened (disk_plan d) (first_read d)

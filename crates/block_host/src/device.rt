@@ -86,13 +86,14 @@ impl<P, F: Stored + Drop, A: Allocator + Copy> InFile
     ghost use Rattle.block_file.specs.Disks.{ReadsAlone, disk_failed, disk_failures, disk_file, disk_number, disk_past};
     ghost use Rattle.block_file.specs.Disks.{disk_plan, disk_settled, disk_table};
     ghost use Rattle.block_file.specs.Good.{IsGood, OpensMeanwhile};
-    ghost use Rattle.block_host.specs.FileBlocks.{failures_of, past_of};
+    ghost use Rattle.block_host.specs.FileBlocks.{failures_of, past_of, written_back_of};
     ghost use Rattle.block_host.specs.Fits.{IsFitIn};
 
     ghost fits = { IsFitIn past_of };
 
     /// Of a file of blocks the first sector whose block doesn't fit its digest (`damaged`, `fit`), and of a plain file
-    /// none (`plain`). It only reads (`reads`), and once a commit has failed, it leaves the file alone (`left_alone`).
+    /// none (`plain`). It changes nothing, and writes nothing back (`reads`, `back`). Once a commit has failed, it
+    /// leaves the file alone (`left_alone`).
     fn check(&mut self, from: u64) -> Result<Option<u64>, Failed>
         ensures harmed { IfOk result (λ found. IfSome found (λ n. (from ≤ n) × (¬ IsFitIn past_of self.old n))) }
         ensures whole { IfOk result (λ found. IfNone found ((n : ℕ) → from ≤ n → IsFitIn past_of self.old n)) }
@@ -102,6 +103,8 @@ impl<P, F: Stored + Drop, A: Allocator + Copy> InFile
             → n < (disk_plan disk).sectors → IsSectorFit (disk_plan disk) (disk_table past_of disk) n))) }
         ensures plain { IsInPlain self.old (λ _. result ≡ Ok None) }
         ensures reads { StaysPlain (ReadsAlone past_of) self.old self.new }
+        ensures back { InBlocks (λ old new. written_back_of (disk_file new) ≡ written_back_of (disk_file old))
+            self.old self.new }
         ensures disk { InBlocks (λ old new. (disk_past past_of new).disk ≡ (disk_past past_of old).disk)
             self.old self.new }
         ensures good { InBlocks (λ old new. IsGood past_of old → IsGood past_of new) self.old self.new }

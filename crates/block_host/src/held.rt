@@ -2,7 +2,7 @@
 ghost use Rattle.std.specs.Prelude.{◌≡◌, ◌+◌, ◌≤◌, length, replicate, IfOk};
 ghost use Rattle.block_device.specs.Blocks.{IsSynced, IsWhole, after_sync, after_write, zero_block};
 
-use block_device::{BLOCK_SIZE, put_run, zero_block};
+use block_device::{BLOCK_SIZE, put_run, zero_blocks};
 use ghost_list::GhostList;
 use std::alloc::{AllocError, Allocator};
 
@@ -21,17 +21,6 @@ pub(crate) struct Held<A: Allocator> {
     ghost whole: { IsWhole content.items },
 }
 
-// Blocks of zeros.
-fn zeros<A: Allocator>(alloc: A, blocks: usize) -> Result<Vec<[u8; BLOCK_SIZE], A>, AllocError>
-    ensures { IfOk result (λ image. image.items ≡ replicate blocks zero_block) }
-{
-    let mut image = Vec::with_capacity(alloc, blocks)?;
-    for _ in 0..blocks {
-        image.push(zero_block())?;
-    }
-    Ok(image)
-}
-
 impl<A: Allocator> Held<A> {
     ghost use Rattle.block_host.specs.FileBlocks.{file_of};
 
@@ -40,7 +29,7 @@ impl<A: Allocator> Held<A> {
         ensures zeros { IfOk result (λ h. (file_of h).content ≡ replicate blocks zero_block) }
         ensures synced { IfOk result (λ h. IsSynced (file_of h)) }
     {
-        let content = zeros(alloc, blocks)?;
+        let content = zero_blocks(alloc, blocks)?;
         Ok(Held {
             content,
             written: GhostList::new(),

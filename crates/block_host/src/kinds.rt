@@ -1,5 +1,5 @@
 //! Devices are opened in files of either kind.
-ghost use Rattle.std.specs.Prelude.{◌≡◌, false, true, Some, IfOk};
+ghost use Rattle.std.specs.Prelude.{◌≡◌, [], false, true, Some, IfOk};
 ghost use Rattle.sector_device.specs.Disk.{IsSynced};
 ghost use Rattle.block_file.specs.Disks.{disk_failures, disk_past, disk_plan, first_content};
 ghost use Rattle.block_file.specs.Good.{IsGood};
@@ -105,6 +105,7 @@ fn blocks_in<F: Stored + Drop, A: Allocator + Copy>(
     ensures synced { IfOk result (λ b. blocks.IsFileSynced b) }
     ensures moment { IfOk result (λ b. (blocks.past_of b).moment ≡ 0) }
     ensures failures { IfOk result (λ b. blocks.failures_of b ≡ 0) }
+    ensures back { IfOk result (λ b. blocks.written_back_of b ≡ []) }
 {
     let count = taken.sectors / SECTORS;
     let file = FileBlocks::over(alloc, taken.below, count as usize)?;

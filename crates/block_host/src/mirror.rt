@@ -1,13 +1,13 @@
 //! A file of blocks over what is below: it answers from a mirror in memory, and writes go through.
-ghost use Rattle.std.specs.Prelude.{◌≡◌, ◌+◌, ◌≤◌, length, replicate, false, true, IfOk, IsOk, OnErr, OnOk};
+ghost use Rattle.std.specs.Prelude.{◌≡◌, ◌+◌, ◌≤◌, [], length, replicate, false, true, IfOk, IsOk, OnErr, OnOk};
 ghost use Rattle.sector_device.specs.DevicePast.{CountsFailure, Rises};
 ghost use Rattle.block_device.specs.Blocks.{IsFailedWrite, IsSynced, after_sync, after_write, run_of, zero_block};
-ghost use Rattle.block_device.specs.BlocksPast.{Elapses};
+ghost use Rattle.block_device.specs.BlocksPast.{Elapses, and_back};
 ghost use Rattle.block_host.specs.FileBlocks.{file_of};
 
 use crate::held::Held;
 use crate::passing::{get_blocks, put_blocks};
-use block_device::{BLOCK_SIZE, Blocks};
+use block_device::{BLOCK_SIZE, BackRuns, Blocks};
 use ghost_list::GhostList;
 use sector_device::Failed;
 use std::alloc::{AllocError, Allocator};
@@ -26,6 +26,8 @@ pub struct FileBlocks<F, A: Allocator> {
     held: Held<A>,
     // what it held before each write and sync, which takes no memory
     past: GhostList<Held<A>>,
+    // which runs of blocks were written back, which takes none either
+    back: BackRuns<Held<A>>,
     failures: u64,
     has_failed: bool,
 }
@@ -58,13 +60,14 @@ fn refused_by<F: Backing>(below: &F, error: io::Error) -> OpenError {
 }
 
 impl<F: Drop, A: Allocator> FileBlocks<F, A> {
-    ghost use Rattle.block_host.specs.FileBlocks.{past_of, failures_of, has_failed_of, below_of};
+    ghost use Rattle.block_host.specs.FileBlocks.{past_of, failures_of, has_failed_of, below_of, written_back_of};
 
     // Over what is below, which is to hold this, with no loose block.
     fn holding(below: F, held: Held<A>) -> Self
         ensures file { (past_of result).file ≡ file_of held }
         ensures moment { (past_of result).moment ≡ 0 }
         ensures failures { failures_of result ≡ 0 }
+        ensures back { written_back_of result ≡ [] }
         ensures sound { has_failed_of result ≡ false }
         ensures below { below_of result ≡ below }
     {
@@ -72,6 +75,7 @@ impl<F: Drop, A: Allocator> FileBlocks<F, A> {
             below,
             held,
             past: GhostList::new(),
+            back: BackRuns::new(),
             failures: 0,
             has_failed: false,
         }
@@ -84,6 +88,7 @@ impl<F: Drop, A: Allocator> FileBlocks<F, A> {
         ensures synced { IfOk result (λ b. IsSynced (past_of b).file) }
         ensures moment { IfOk result (λ b. (past_of b).moment ≡ 0) }
         ensures failures { IfOk result (λ b. failures_of b ≡ 0) }
+        ensures back { IfOk result (λ b. written_back_of b ≡ []) }
         ensures sound { IfOk result (λ b. has_failed_of b ≡ false) }
         ensures below { IfOk result (λ b. below_of b ≡ below) }
     {
@@ -109,6 +114,7 @@ impl<F: Drop, A: Allocator> FileBlocks<F, A> {
     pub fn with_below<G: Drop>(self, below: G) -> FileBlocks<G, A>
         ensures past { past_of result ≡ past_of self }
         ensures failures { failures_of result ≡ failures_of self }
+        ensures back { written_back_of result ≡ written_back_of self }
         ensures failed { has_failed_of result ≡ has_failed_of self }
         ensures below { below_of result ≡ below }
     {
@@ -116,6 +122,7 @@ impl<F: Drop, A: Allocator> FileBlocks<F, A> {
             below,
             held: self.held,
             past: self.past,
+            back: self.back,
             failures: self.failures,
             has_failed: self.has_failed,
         }
@@ -125,6 +132,7 @@ impl<F: Drop, A: Allocator> FileBlocks<F, A> {
     fn refuse(&mut self)
         ensures held { self.new.held ≡ self.old.held }
         ensures past { self.new.past ≡ self.old.past }
+        ensures back { self.new.back ≡ self.old.back }
         ensures later { failures_of self.old ≤ failures_of self.new }
         ensures rises { Rises (failures_of self.old) (failures_of self.new) }
         ensures failed { has_failed_of self.new ≡ true }
@@ -136,7 +144,7 @@ impl<F: Drop, A: Allocator> FileBlocks<F, A> {
 }
 
 impl<F: Stored + Drop, A: Allocator> FileBlocks<F, A> {
-    ghost use Rattle.block_host.specs.FileBlocks.{past_of, failures_of, has_failed_of, below_of};
+    ghost use Rattle.block_host.specs.FileBlocks.{past_of, failures_of, has_failed_of, below_of, written_back_of};
 
     /// A file of blocks over what is below, which holds so many blocks, as that does, all of them to be safe. That is
     /// synced before it is read, as a process that was killed may have written to it. Nothing is written. (That it
@@ -146,6 +154,7 @@ impl<F: Stored + Drop, A: Allocator> FileBlocks<F, A> {
         ensures synced { IfOk result (λ b. IsSynced (past_of b).file) }
         ensures moment { IfOk result (λ b. (past_of b).moment ≡ 0) }
         ensures failures { IfOk result (λ b. failures_of b ≡ 0) }
+        ensures back { IfOk result (λ b. written_back_of b ≡ []) }
         ensures sound { IfOk result (λ b. has_failed_of b ≡ false) }
     {
         let mut below = below;
@@ -161,6 +170,7 @@ impl<F: Stored + Drop, A: Allocator> FileBlocks<F, A> {
     fn put_below(&mut self, first: u64, run: &[[u8; BLOCK_SIZE]]) -> bool
         ensures held { self.new.held ≡ self.old.held }
         ensures past { self.new.past ≡ self.old.past }
+        ensures back { self.new.back ≡ self.old.back }
         ensures failures { self.new.failures ≡ self.old.failures }
         ensures failed { self.new.has_failed ≡ self.old.has_failed }
         ensures sound { result ≡ true → self.old.has_failed ≡ false }
@@ -173,6 +183,7 @@ impl<F: Stored + Drop, A: Allocator> FileBlocks<F, A> {
     fn sync_below(&mut self) -> bool
         ensures held { self.new.held ≡ self.old.held }
         ensures past { self.new.past ≡ self.old.past }
+        ensures back { self.new.back ≡ self.old.back }
         ensures failures { self.new.failures ≡ self.old.failures }
         ensures failed { self.new.has_failed ≡ self.old.has_failed }
         ensures sound { result ≡ true → self.old.has_failed ≡ false }
@@ -186,6 +197,7 @@ impl<F: Stored + Drop, A: Allocator> FileBlocks<F, A> {
         requires { first + count ≤ length (past_of self.old).file.content }
         ensures held { self.new.held ≡ self.old.held }
         ensures past { self.new.past ≡ self.old.past }
+        ensures back { self.new.back ≡ self.old.back }
         ensures failures { self.new.failures ≡ self.old.failures }
         ensures failed { self.new.has_failed ≡ self.old.has_failed }
         ensures sound { result ≡ true → self.old.has_failed ≡ false }
@@ -209,11 +221,13 @@ impl<F: Backing + Drop, A: Allocator> Troubled for FileBlocks<F, A> {
 }
 
 impl<F: Stored + Drop, A: Allocator> Blocks for FileBlocks<F, A> {
-    ghost use Rattle.block_host.specs.FileBlocks.{past_of, failures_of, has_failed_of, below_of};
+    ghost use Rattle.block_host.specs.FileBlocks.{past_of, failures_of, has_failed_of, below_of, written_back_of};
 
     ghost past_of = { past_of };
 
     ghost failures = { failures_of };
+
+    ghost written_back = { written_back_of };
 
     fn blocks(&self) -> u64 {
         self.held.content.len() as u64
@@ -226,6 +240,7 @@ impl<F: Stored + Drop, A: Allocator> Blocks for FileBlocks<F, A> {
         ensures size { length run.new ≡ length run.old }
         ensures file { (past_of self.new).file ≡ (past_of self.old).file }
         ensures time { Elapses (past_of self.old) (past_of self.new) }
+        ensures back { written_back_of self.new ≡ written_back_of self.old }
         ensures counts { CountsFailure (failures_of self.old) (failures_of self.new) result }
         ensures succeeds { IsOk result }
         ensures failed { has_failed_of self.new ≡ has_failed_of self.old }
@@ -245,6 +260,7 @@ impl<F: Stored + Drop, A: Allocator> Blocks for FileBlocks<F, A> {
         ensures err { OnErr result (IsFailedWrite (past_of self.old).file first (length run.now)
             (past_of self.new).file) }
         ensures time { Elapses (past_of self.old) (past_of self.new) }
+        ensures back { written_back_of self.new ≡ written_back_of self.old }
         ensures counts { CountsFailure (failures_of self.old) (failures_of self.new) result }
         ensures written { (past_of self.new).file ≡ after_write (past_of self.old).file first run.now }
         ensures sound { OnOk result ((has_failed_of self.old ≡ false) × (has_failed_of self.new ≡ false)) }
@@ -265,6 +281,7 @@ impl<F: Stored + Drop, A: Allocator> Blocks for FileBlocks<F, A> {
         ensures ok { OnOk result ((past_of self.new).file ≡ after_sync (past_of self.old).file) }
         ensures err { OnErr result ((past_of self.new).file ≡ (past_of self.old).file) }
         ensures time { Elapses (past_of self.old) (past_of self.new) }
+        ensures back { written_back_of self.new ≡ written_back_of self.old }
         ensures counts { CountsFailure (failures_of self.old) (failures_of self.new) result }
         ensures sound { OnOk result ((has_failed_of self.old ≡ false) × (has_failed_of self.new ≡ false)) }
         ensures failed { OnErr result (has_failed_of self.new ≡ true) }
@@ -279,11 +296,14 @@ impl<F: Stored + Drop, A: Allocator> Blocks for FileBlocks<F, A> {
         Ok(())
     }
 
-    /// Writes the mirror's bytes to what is below, and syncs that. One that has failed fails from then on (`sound`,
-    /// `failed`), and leaves what is below as it is (`alone`).
+    /// Writes the mirror's bytes to what is below, and syncs that (no clause says so). One that has failed fails from
+    /// then on (`sound`, `failed`), and leaves what is below as it is (`alone`).
     fn keep(&mut self, first: u64, count: u64) -> Result<(), Failed>
         requires { first + count ≤ length (past_of self.old).file.content }
         ensures past { past_of self.new ≡ past_of self.old }
+        ensures back { OnOk result (written_back_of self.new
+            ≡ and_back (written_back_of self.old) first count (past_of self.old).moment) }
+        ensures back_err { OnErr result (written_back_of self.new ≡ written_back_of self.old) }
         ensures counts { CountsFailure (failures_of self.old) (failures_of self.new) result }
         ensures sound { OnOk result ((has_failed_of self.old ≡ false) × (has_failed_of self.new ≡ false)) }
         ensures failed { OnErr result (has_failed_of self.new ≡ true) }
@@ -293,6 +313,7 @@ impl<F: Stored + Drop, A: Allocator> Blocks for FileBlocks<F, A> {
             self.refuse();
             return Err(Failed);
         }
+        self.back = self.back.and(first, count, &self.past, &self.held);
         Ok(())
     }
 }

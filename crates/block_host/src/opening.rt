@@ -1,5 +1,5 @@
 //! A device in a file of blocks is opened, or made.
-ghost use Rattle.std.specs.Prelude.{◌≡◌, ◌≢◌, ◌⊎◌, ◌+◌, ◌*◌, ◌<◌, ℕ, false, length, replicate, Some, IfErr, IfOk};
+ghost use Rattle.std.specs.Prelude.{◌≡◌, ◌≢◌, ◌⊎◌, ◌+◌, ◌*◌, ◌<◌, ℕ, [], false, length, replicate, Some, IfErr, IfOk};
 ghost use Rattle.sector_device.specs.Disk.{IsSynced};
 ghost use Rattle.sector_device.specs.Values.{zero_sector};
 ghost use Rattle.block_device.specs.Blocks.{zero_block};
@@ -8,7 +8,7 @@ ghost use Rattle.block_file.specs.Good.{IsGood};
 ghost use Rattle.block_file.specs.Header.{CanBeTold, TellTwice, plan_told};
 ghost use Rattle.block_file.specs.declared.opening.FileError.{FileError};
 ghost use Rattle.block_file.specs.declared.opening.FileError.TheVariants.{FileFailed, NoMemory};
-ghost use Rattle.block_host.specs.FileBlocks.{past_of, failures_of, has_failed_of, IsFileSynced};
+ghost use Rattle.block_host.specs.FileBlocks.{past_of, failures_of, has_failed_of, written_back_of, IsFileSynced};
 ghost use Rattle.block_host.specs.Opened.{IsOpened, first_read};
 ghost use Rattle.store_file.specs.declared.draft.TheConstants.{SECTORS_MAX};
 
@@ -38,6 +38,7 @@ where
     ensures synced { IfOk result (λ b. IsFileSynced b) }
     ensures moment { IfOk result (λ b. (past_of b).moment ≡ 0) }
     ensures failures { IfOk result (λ b. failures_of b ≡ 0) }
+    ensures back { IfOk result (λ b. written_back_of b ≡ []) }
     ensures sound { IfOk result (λ b. has_failed_of b ≡ false) }
 {
     let disk = store_file::create(rt, alloc, path, blocks.saturating_mul(SECTORS))?;
@@ -71,6 +72,7 @@ pub(crate) fn disk_in<F: Stored + Drop, A: Allocator + Copy>(
     requires synced { IsFileSynced below }
     requires moment { (past_of below).moment ≡ 0 }
     requires failures { failures_of below ≡ 0 }
+    requires back { written_back_of below ≡ [] }
     ensures first { IfOk result (λ d. first_read d ≡ (past_of below).file.content) }
     ensures opened { IfOk result (λ d. IsOpened d) }
     ensures still { IfOk result (λ d. plan_told (first_content past_of d) ≡ Some (disk_plan d)) }

@@ -5,10 +5,10 @@ ghost use Rattle.sector_device.specs.DevicePast.{CountsFailure, Rises};
 ghost use Rattle.block_device.specs.Blocks.{CrashFile, IsCrashFile, IsSynced, block};
 ghost use Rattle.block_journal.specs.Layout.{IsHonest, IsInside, found, kept_of, recovered};
 ghost use Rattle.block_journal.specs.Journal.{AreInAreas, IsPending, KeepsAreas, KeepsBatch, LeavesBefore};
-ghost use Rattle.block_journal.specs.Journal.{NeedsNoArea, OnlyReads, StaysRecovered};
-ghost use Rattle.block_batch.specs.Batch.{Batch};
+ghost use Rattle.block_journal.specs.Journal.{NeedsNoArea, OnlyReads, StaysRecovered, WritesBackFirst};
+ghost use Rattle.block_batch.specs.Batch.{Batch, IsPlace};
 ghost use Rattle.block_journal.specs.Value.{CanCommit, LeavesEither, Offers, failures_of, next_batch, room_of};
-ghost use Rattle.block_table.specs.Table.{IsFirstUnfit, IsFit, kept_count};
+ghost use Rattle.block_table.specs.Table.{IsFirstUnfit, IsFit, kept_count, place_of};
 
 use crate::rows::{is_at, is_fit, kept_at, known_with, read_rows, set_digest};
 use block_device::{BLOCK_SIZE, Blocks, few_blocks};
@@ -64,7 +64,8 @@ impl<B: Blocks, A: Allocator + Copy> CheckedBlocks<B, A> {
     ghost use Rattle.block_table.specs.Checked.{CountsRead, data_now, kept_table, settled_table};
 
     /// Opens the journal of a file that keeps so many blocks of data behind their table, and reads the table. `check`
-    /// compares the blocks.
+    /// compares the blocks. Nothing is written before both areas of the journal are written back (`written_back`,
+    /// `written_back_refused`).
     pub fn open(alloc: A, below: B, shape: Shape, blocks: u64) -> Result<Self, Unopened<B>>
         requires inside { IsInside shape (B.past_of below).file.content }
         requires kept { shape.kept ≡ kept_count blocks }
@@ -81,11 +82,18 @@ impl<B: Blocks, A: Allocator + Copy> CheckedBlocks<B, A> {
         ensures any_moment { IfOk result (λ c. StaysRecovered shape (B.past_of below) (B.past_of c.journal.below)) }
         ensures before { IfOk result (λ c. LeavesBefore shape (B.past_of below) (B.past_of c.journal.below)) }
         ensures batches { IfOk result (λ c. KeepsAreas shape (B.past_of below) (B.past_of c.journal.below)) }
+        ensures written_back { IfOk result (λ c. WritesBackFirst shape (B.past_of below) (B.past_of c.journal.below)
+            (B.written_back below) (B.written_back c.journal.below)) }
         ensures quiet { IfOk result (λ c. B.failures c.journal.below ≡ B.failures below) }
         ensures unrefused { IfOk result (λ c. c.journal.refused ≡ 0) }
         ensures refused { IfErr result (λ e. StaysRecovered shape (B.past_of below) (B.past_of e.file)) }
         ensures before_refused { IfErr result (λ e. LeavesBefore shape (B.past_of below) (B.past_of e.file)) }
         ensures batches_refused { IfErr result (λ e. KeepsAreas shape (B.past_of below) (B.past_of e.file)) }
+        ensures written_back_refused { IfErr result (λ e. OnlyReads (B.past_of below) (B.past_of e.file)
+            ⊎ WritesBackFirst shape (B.past_of below) (B.past_of e.file) (B.written_back below)
+            (B.written_back e.file)) }
+        ensures back_none { IfErr result (λ e. e.error ≡ OpenError.NoBatch
+            → B.written_back e.file ≡ B.written_back below) }
         ensures no_batch { IfErr result (λ e. e.error ≡ OpenError.NoBatch
             → (found shape (B.past_of below).file.content 0 ≡ None)
             × (found shape (B.past_of below).file.content 1 ≡ None)) }
@@ -141,6 +149,7 @@ impl<B: Blocks, A: Allocator + Copy> CheckedBlocks<B, A> {
           refused = self.new.journal.refused;
         } }
         ensures reads { OnlyReads (B.past_of self.old.journal.below) (B.past_of self.new.journal.below) }
+        ensures back { B.written_back self.new.journal.below ≡ B.written_back self.old.journal.below }
         ensures counts { CountsRead (failures_of B.failures self.old.journal)
             (failures_of B.failures self.new.journal) result }
     {
@@ -183,6 +192,7 @@ impl<B: Blocks, A: Allocator + Copy> CheckedBlocks<B, A> {
         ensures quiet { OnOk result (B.failures self.new.journal.below ≡ B.failures self.old.journal.below) }
         ensures alone { self.old.journal.has_failed ≡ true → self.new.journal.below ≡ self.old.journal.below }
         ensures reads { OnlyReads (B.past_of self.old.journal.below) (B.past_of self.new.journal.below) }
+        ensures back { B.written_back self.new.journal.below ≡ B.written_back self.old.journal.below }
         ensures counts { CountsFailure (failures_of B.failures self.old.journal)
             (failures_of B.failures self.new.journal) result }
     {
@@ -197,7 +207,8 @@ impl<B: Blocks, A: Allocator + Copy> CheckedBlocks<B, A> {
         Ok(None)
     }
 
-    /// Puts a block of data, with its digest, for the next commit.
+    /// Puts a block of data, with its digest, for the next commit. It takes no room where both blocks were gathered, that
+    /// of the data and that of the table (`in_place`, `places`).
     pub fn put(&mut self, n: u64, bytes: &[u8; BLOCK_SIZE])
         requires inside { n < self.old.blocks }
         requires room { 1 < room_of self.old.journal }
@@ -210,6 +221,10 @@ impl<B: Blocks, A: Allocator + Copy> CheckedBlocks<B, A> {
           journal = record self.old.journal { next = self.new.journal.next };
         } }
         ensures room { room_of self.old.journal ≤ room_of self.new.journal + 2 }
+        ensures in_place { IsPlace self.old.journal.next (place_of self.old.blocks n)
+            → IsPlace self.old.journal.next (n / 512) → room_of self.new.journal ≡ room_of self.old.journal }
+        ensures places { (m : ℕ) → IsPlace self.new.journal.next m
+            ↔ ((m ≡ place_of self.old.blocks n) ⊎ (m ≡ n / 512) ⊎ IsPlace self.old.journal.next m) }
     {
         self.journal.stands();
         let digest = self.journal.put(self.rows.len() as u64 + n, bytes);
@@ -256,6 +271,7 @@ impl<B: Blocks, A: Allocator + Copy> CheckedBlocks<B, A> {
         } }
         ensures can { OnOk result (CanCommit self.old.journal) }
         ensures untouched { ¬ CanCommit self.old.journal → self.new.journal.below ≡ self.old.journal.below }
+        ensures back { B.written_back self.new.journal.below ≡ B.written_back self.old.journal.below }
         ensures shape { self.new.journal.shape ≡ self.old.journal.shape }
         ensures blocks { self.new.blocks ≡ self.old.blocks }
         ensures fails { OnErr result ((self.old.journal.has_failed ≡ true) ⊎ (self.old.journal.last.number ≡ 2 ^ 64 - 1)
@@ -295,6 +311,7 @@ impl<B: Blocks, A: Allocator + Copy> CheckedBlocks<B, A> {
         } }
         ensures can { OnOk result (CanCommit self.old.journal) }
         ensures untouched { ¬ CanCommit self.old.journal → self.new.journal.below ≡ self.old.journal.below }
+        ensures back { B.written_back self.new.journal.below ≡ B.written_back self.old.journal.below }
         ensures shape { self.new.journal.shape ≡ self.old.journal.shape }
         ensures blocks { self.new.blocks ≡ self.old.blocks }
         ensures fails { OnErr result ((self.old.journal.has_failed ≡ true) ⊎ (self.old.journal.last.number ≡ 2 ^ 64 - 1)

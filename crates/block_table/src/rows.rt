@@ -108,6 +108,7 @@ fn read_row<B: Blocks, A: Allocator + Copy>(
         → slice_index row i ≡ word (block (content_of B.past_of journal.old) t) i) }
     ensures rest { journal.new ≡ record journal.old { below = journal.new.below } }
     ensures reads { OnlyReads (B.past_of journal.old.below) (B.past_of journal.new.below) }
+    ensures back { B.written_back journal.new.below ≡ B.written_back journal.old.below }
     ensures counts { CountsFailure (B.failures journal.old.below) (B.failures journal.new.below) result }
 {
     let mut block = [0; BLOCK_SIZE];
@@ -127,6 +128,7 @@ pub(crate) fn read_rows<B: Blocks, A: Allocator + Copy>(
     ensures count { IfOk result (λ rows. length rows.items ≡ count) }
     ensures rest { journal.new ≡ record journal.old { below = journal.new.below } }
     ensures reads { OnlyReads (B.past_of journal.old.below) (B.past_of journal.new.below) }
+    ensures back { B.written_back journal.new.below ≡ B.written_back journal.old.below }
     ensures quiet { IfOk result (λ _. B.failures journal.new.below ≡ B.failures journal.old.below) }
     ensures failed { IfErr result (λ e. e ≡ OpenError.FileFailed
         → Rises (B.failures journal.old.below) (B.failures journal.new.below)) }

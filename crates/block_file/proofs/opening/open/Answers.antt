@@ -1,13 +1,15 @@
-use Rattle.std.proofs.Common.{◌≡◌, inl, inr, ⊎_elim, ℕ, List, None, Some, refl, sym, ◌∙◌, ap, subst, arith}
+use Rattle.std.proofs.Common.{◌≡◌, ◌⊎◌, inl, inr, ⊎_elim, ℕ, List, None, Some, refl, sym, ◌∙◌, ap, subst, arith}
 use Rattle.std.proofs.lemmas.Result.{IfErr-weaker}
 use Rattle.sector_device.specs.DevicePast.{Rises}
 use Rattle.block_device.specs.Blocks.{CrashFile, BlockFile}
-use Rattle.block_device.specs.BlocksPast.{BlocksPast}
+use Rattle.block_device.specs.BlocksPast.{BlocksPast, WrittenBack}
 use Rattle.block_batch.specs.Batch.{Batch}
 use Rattle.block_journal.specs.Layout.{IsHonest, IsInside, found, recovered}
-use Rattle.block_journal.specs.Journal.{AreInAreas, LeavesBefore}
+use Rattle.block_journal.specs.Journal.{AreInAreas, LeavesBefore, OnlyReads, WritesBackFirst}
 use Rattle.block_journal.proofs.Before.{before_read}
 use Rattle.block_journal.proofs.Keeping.{areas_read}
+use Rattle.block_journal.proofs.OnlyReading.{reads_then}
+use Rattle.block_journal.proofs.WritingBack.{writes_back_behind, writes_back_later}
 use Rattle.block_table.specs.Checked.{CheckedValue, settled_table}
 use Rattle.block_table.specs.Table.{EachFits, IsFirstUnfit, data_of}
 use Rattle.block_table.proofs.Contents.{stays_read}
@@ -19,7 +21,7 @@ use Rattle.block_file.specs.Disks.{disk_past, first_content, journal_in}
 use Rattle.block_file.specs.Header.{plan_told}
 use Rattle.block_file.specs.Sectors.{sectors_of}
 use Rattle.block_file.specs.Settling.{AreHandedOn, IsLeft, OpensUnder, StaysUnder, handed_on}
-use Rattle.block_file.proofs.Openings.{before_then, if_err4, if_ok, if_ok3, if_ok5, reads_before, reads_recovered, same_plan, stays_then, why_refused}
+use Rattle.block_file.proofs.Openings.{before_then, if_err2, if_err4, if_ok, if_ok3, if_ok5, reads_before, reads_recovered, same_plan, stays_then, why_refused}
 use Rattle.block_file.proofs.Reopening.{good_opened, reads_reopen, reopens_then}
 use Rattle.block_file.proofs.HandingOn.{before_under, honest_handed, opens_under, stays_under, told_end}
 use Rattle.block_file.proofs.opening.open.Goals as goal
@@ -180,7 +182,10 @@ returns-in-Err g c =
       headers = tt;
       again = tt;
       good = tt;
+      written_back = tt;
       left_alone = λ _. c.in-Err.ensures.reads;
+      back_alone = λ _. c.read_plan.ensures.back;
+      written_back_refused = λ p told. inl c.in-Err.ensures.reads;
       headers_refused = λ p told. reads_before p.shape (h c.args.below) (h c.read_plan.new.below) c.requires c.in-Err.ensures.reads;
       refused = λ p told inside. inl (record {
         stays = reads_recovered p.shape (h c.args.below) (h c.read_plan.new.below) c.requires c.in-Err.ensures.reads;
@@ -472,3 +477,90 @@ returns-in-Ok-open-clause-alone g c =
 
 pub returns-in-Ok-open-clause-safe : goal.returns-in-Ok-open-clause-safe
 returns-in-Ok-open-clause-safe g c = c.compared.ensures.safe
+
+-- ---- it is too short
+
+pub returns-then-not-has_room-clause-back_alone : goal.returns-then-not-has_room-clause-back_alone
+returns-then-not-has_room-clause-back_alone g c = λ _. c.read_plan.ensures.back
+
+pub returns-then-not-has_room-clause-written_back_refused : goal.returns-then-not-has_room-clause-written_back_refused
+returns-then-not-has_room-clause-written_back_refused g c = λ p told. inl c.in-Ok.ensures.reads
+
+-- ---- what was written back
+
+pub returns-in-Err-open-clause-back_alone : goal.returns-in-Err-open-clause-back_alone
+returns-in-Err-open-clause-back_alone g c = λ none.
+    let plan : Plan = c.in-Ok.plan in
+    absurd (none plan c.in-Ok.ensures.told (subst (λ (f : BlockFile). IsInside plan.shape f.content) c.in-Ok.ensures.reads.file
+    (c.has_room.ensures.room c.if-not-has_room.false)))
+
+pub returns-in-Err-open-clause-written_back_refused : goal.returns-in-Err-open-clause-written_back_refused
+returns-in-Err-open-clause-written_back_refused g c = λ p told.
+    let h = g.B.Blocks.past_of in
+    let back = g.B.Blocks.written_back in
+    let plan : Plan = c.in-Ok.plan in
+    let old : BlocksPast = h c.args.below in
+    let mid : BlocksPast = h c.read_plan.new.below in
+    let new : BlocksPast = h c.in-Err-open.refused.file in
+    let reads = c.in-Ok.ensures.reads in
+    subst (λ (q : Plan). OnlyReads old new ⊎ WritesBackFirst q.shape old new (back c.args.below) (back c.in-Err-open.refused.file))
+    (same_plan _ plan p c.in-Ok.ensures.told told)
+    (⊎_elim
+    (λ read. inl (reads_then _ _ _ reads read))
+    (λ wrote. inr (subst (λ (l : List WrittenBack). WritesBackFirst plan.shape old new l (back c.in-Err-open.refused.file)) c.read_plan.ensures.back
+    (writes_back_behind plan.shape old mid new (back c.read_plan.new.below) (back c.in-Err-open.refused.file) reads
+    c.in-Err-open.ensures.refused.kept wrote)))
+    c.in-Err-open.ensures.written_back_refused)
+
+pub returns-in-Ok-open-clause-back_alone : goal.returns-in-Ok-open-clause-back_alone
+returns-in-Ok-open-clause-back_alone g c =
+    let plan : Plan = c.in-Ok.plan in
+    let inside = subst (λ (f : BlockFile). IsInside plan.shape f.content) c.in-Ok.ensures.reads.file
+    (c.has_room.ensures.room c.if-not-has_room.false) in
+    IfErr-weaker c.compared.result _ _ (λ e read none. absurd (none plan c.in-Ok.ensures.told inside)) c.compared.ensures.refused
+
+pub returns-in-Ok-open-clause-written_back : goal.returns-in-Ok-open-clause-written_back
+returns-in-Ok-open-clause-written_back g c =
+    let h = g.B.Blocks.past_of in
+    let back = g.B.Blocks.written_back in
+    let plan : Plan = c.in-Ok.plan in
+    let checked : CheckedValue g.row.B.Denot = c.in-Ok-open.checked in
+    let old : BlocksPast = h c.args.below in
+    let mid : BlocksPast = h c.read_plan.new.below in
+    let end : BlocksPast = h checked.journal.below in
+    let opened = c.in-Ok-open.ensures in
+    let first : WritesBackFirst plan.shape old end (back c.args.below) (back checked.journal.below) =
+    subst (λ (l : List WrittenBack). WritesBackFirst plan.shape old end l (back checked.journal.below)) c.read_plan.ensures.back
+    (writes_back_behind plan.shape old mid end (back c.read_plan.new.below) (back checked.journal.below) c.in-Ok.ensures.reads
+    opened.any_moment.kept opened.written_back) in
+    if_ok3 c.compared.result _ _ _ _
+    (λ d is same hands. subst (λ (p : Plan). WritesBackFirst p.shape old (h (journal_in d.now).below) (back c.args.below)
+    (back (journal_in d.now).below)) (sym is)
+    (writes_back_later plan.shape old end (h (journal_in d.now).below) (back c.args.below) (back checked.journal.below) (back (journal_in d.now).below)
+    first hands.stays.later hands.stays.kept same))
+    c.compared.ensures.plan c.compared.ensures.back c.compared.ensures.hands
+
+pub returns-in-Ok-open-clause-written_back_refused : goal.returns-in-Ok-open-clause-written_back_refused
+returns-in-Ok-open-clause-written_back_refused g c =
+    let h = g.B.Blocks.past_of in
+    let back = g.B.Blocks.written_back in
+    let plan : Plan = c.in-Ok.plan in
+    let checked : CheckedValue g.row.B.Denot = c.in-Ok-open.checked in
+    let old : BlocksPast = h c.args.below in
+    let mid : BlocksPast = h c.read_plan.new.below in
+    let end : BlocksPast = h checked.journal.below in
+    let opened = c.in-Ok-open.ensures in
+    let first : WritesBackFirst plan.shape old end (back c.args.below) (back checked.journal.below) =
+    subst (λ (l : List WrittenBack). WritesBackFirst plan.shape old end l (back checked.journal.below)) c.read_plan.ensures.back
+    (writes_back_behind plan.shape old mid end (back c.read_plan.new.below) (back checked.journal.below) c.in-Ok.ensures.reads
+    opened.any_moment.kept opened.written_back) in
+    if_err2 c.compared.result _ _ _
+    (λ e left same p told. subst (λ (q : Plan). OnlyReads old (h e.file) ⊎ WritesBackFirst q.shape old (h e.file) (back c.args.below) (back e.file))
+    (same_plan _ plan p c.in-Ok.ensures.told told)
+    (inr (⊎_elim
+    (λ read. writes_back_later plan.shape old end (h e.file) (back c.args.below) (back checked.journal.below) (back e.file)
+    first read.time.later read.time.kept same)
+    (λ both. writes_back_later plan.shape old end (h e.file) (back c.args.below) (back checked.journal.below) (back e.file)
+    first both.1.stays.later both.1.stays.kept same)
+    left)))
+    c.compared.ensures.refused c.compared.ensures.back_refused

@@ -52,6 +52,8 @@ returns-in-Ok g c =
           ∙ ap (λ (l : List Entry). replayed l (settled_table h new)) done.none ∙ all.settled;
       committed = sym (ap (λ (l : List Entry). replayed l (settled_of h (journal_in c.over.result.now))) none);
       hands = subst (λ (v : JournalValue g.row.B.Denot). IsHandingOn h old.journal (h v.below)) (sym made.journal) all.hands;
+      back = ap (λ (v : JournalValue g.row.B.Denot). g.B.Blocks.written_back v.below) made.journal ∙ all.back;
+      back_refused = tt;
       refused = tt;
       why = tt;
       failed = tt;
@@ -75,6 +77,8 @@ returns-in-Err g c =
       table = tt;
       committed = tt;
       hands = tt;
+      back = tt;
+      back_refused = ap g.B.Blocks.written_back c.into_file.ensures ∙ c.settle.ensures.back;
       refused = subst (λ (b : g.row.B.Denot). IsHandingOn h v (h b)) (sym c.into_file.ensures) c.settle.ensures.hands;
       why = refl;
       failed = subst (λ (b : g.row.B.Denot). (2 ^ 64 - 2 ≤ v.last.number) ⊎ Rises (F v.below) (F b)) (sym c.into_file.ensures) c.in-Err.ensures.fails;

@@ -16,6 +16,7 @@ returns-in_err-n g c =
       unfailed = λ _. tt;
       quiet = tt;
       alone = done.alone;
+      back = done.back;
       rest = done.rest;
       reads = done.reads;
       counts = done.counts;
@@ -40,6 +41,7 @@ returns-in-Some g c =
       unfailed = λ low. done.unfailed (omega (arith, low, c.requires.plan.room, c.requires.blocks));
       quiet = done.quiet;
       alone = done.alone;
+      back = done.back;
       rest = done.rest;
       reads = done.reads;
       counts = record { later = omega (arith, done.counts.later); none = done.counts.none; failed = tt };
@@ -61,6 +63,7 @@ returns-in-None g c =
       unfailed = λ low. done.unfailed (omega (arith, low, c.requires.plan.room, c.requires.blocks));
       quiet = done.quiet;
       alone = done.alone;
+      back = done.back;
       rest = done.rest;
       reads = done.reads;
       counts = record { later = omega (arith, done.counts.later); none = done.counts.none; failed = tt };

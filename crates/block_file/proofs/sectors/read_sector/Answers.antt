@@ -28,6 +28,7 @@ returns-in_err-read g c =
       alone = λ was. ap (λ (v : JournalValue g.row.B.Denot). v.below) (done.refused was);
       rest = done.rest;
       reads = done.reads;
+      back = done.back;
       counts = done.counts;
     })
 
@@ -52,5 +53,6 @@ returns g c =
       alone = λ was. ap (λ (v : JournalValue g.row.B.Denot). v.below) (done.refused was);
       rest = done.rest;
       reads = done.reads;
+      back = done.back;
       counts = done.counts;
     }

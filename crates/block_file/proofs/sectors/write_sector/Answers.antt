@@ -36,7 +36,9 @@ returns-in_err-make_room g c =
       broken = λ _. done.fails;
       number = done.number;
       alone = done.alone;
+      back = done.back;
       gathers = done.gathers;
+      room = λ more. omega (arith, done.room_stays more);
       moves = done.moves;
       counts = done.counts;
     })
@@ -72,7 +74,9 @@ returns-in_err-read g c =
       broken = λ now. inl (sym room.good ∙ sym (ap (λ (v : JournalValue g.row.B.Denot). v.has_failed) journal) ∙ now);
       number = omega (arith, room.number, ap (λ (v : JournalValue g.row.B.Denot). v.last.number) journal);
       alone = λ was. ap (λ (v : JournalValue g.row.B.Denot). v.below) (done.refused (room.good ∙ was)) ∙ room.alone was;
+      back = done.back ∙ room.back;
       gathers = λ more. reads_then _ _ _ (room.gathers more) done.reads;
+      room = λ more. omega (arith, room.room_stays more, ap (λ (v : JournalValue g.row.B.Denot). room_of v) journal);
       moves = moves_then h old mid new room.moves (ap (λ (v : JournalValue g.row.B.Denot). v.shape) journal) blocks
           (ap (λ (v : JournalValue g.row.B.Denot). v.offered) journal) (settled_read h mid.journal new.journal journal done.reads) done.reads;
       counts = read_later _ _ _ _ (room.counts.quiet (λ is. absurd (cc))) done.counts;
@@ -147,7 +151,9 @@ returns g c =
         ap (λ (v : JournalValue g.row.B.Denot). v.last.number) behind,
       );
       alone = λ was. absurd (false≢true (sym (sym room.good ∙ good) ∙ was));
+      back = ap (λ (v : JournalValue g.row.B.Denot). g.B.Blocks.written_back v.below) behind ∙ done.back ∙ room.back;
       gathers = λ more. reads_then _ _ _ (room.gathers more) below;
+      room = λ more. omega (arith, room.room_stays more, ap (λ (v : JournalValue g.row.B.Denot). room_of v) journal, put.room);
       moves = moves_then h old mid new room.moves
           (ap (λ (v : JournalValue g.row.B.Denot). v.shape) behind ∙ ap (λ (v : JournalValue g.row.B.Denot). v.shape) journal)
           (ap (λ (x : CheckedValue g.row.B.Denot). x.blocks) put.rest ∙ blocks)

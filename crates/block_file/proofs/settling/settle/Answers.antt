@@ -49,6 +49,7 @@ returns-in_err-commit g c =
       counted = tt;
       fails = ⊎_elim (λ was. absurd (false≢true (sym good ∙ was))) (⊎_elim (λ most. inl (omega (arith, most))) (λ up. inr up))
           (subst (λ (j : JournalValue g.row.B.Denot). (j.has_failed ≡ true) ⊎ (j.last.number ≡ 2 ^ 64 - 1) ⊎ Rises (F j.below) (F w.below)) is done.fails);
+      back = all.back ∙ ap (λ (j : JournalValue g.row.B.Denot). g.B.Blocks.written_back j.below) is;
       hands = record {
         stays = first_handed h v w good (here.last good) now (subst (λ (j : JournalValue g.row.B.Denot). LeavesEither h j w) is (all.any_moment good_now))
             (subst (λ (j : JournalValue g.row.B.Denot). Offers j w) is all.offered) holds
@@ -104,6 +105,7 @@ returns g c =
       fails = on_err _ _ r (⊎_elim (λ was. absurd (false≢true (sym good_then ∙ was)))
           (⊎_elim (λ most. inl (omega (arith, most, ap (λ (b : Batch). b.number) last)))
           (λ up. inr (subst (λ (a : ℕ). Rises a (F n.below)) quiet up)))) ends.fails;
+      back = ends.back ∙ all.back ∙ ap (λ (j : JournalValue g.row.B.Denot). g.B.Blocks.written_back j.below) is;
       hands = record {
         stays = joined (h v.below) (h w.below) (h n.below) (Handed h v w)
             (first_handed h v w good (here.last good) now (subst (λ (j : JournalValue g.row.B.Denot). LeavesEither h j w) is (all.any_moment good_now))

@@ -1,12 +1,14 @@
-use Rattle.std.proofs.Common.{◌≡◌, inl, inr, ℕ, ◌<◌, List, None, Some, sym, ◌∙◌, ap, subst, arith}
+use Rattle.std.proofs.Common.{◌≡◌, ◌⊎◌, inl, inr, ⊎_elim, ℕ, ◌<◌, List, None, Some, sym, ◌∙◌, ap, subst, arith}
 use Rattle.sector_device.specs.DevicePast.{Rises}
 use Rattle.block_device.specs.Blocks.{BlockFile, block}
 use Rattle.block_device.proofs.CrashFiles.{content_is_image}
 use Rattle.block_device.proofs.Moments.{at_end}
-use Rattle.block_device.specs.BlocksPast.{BlocksPast}
+use Rattle.block_device.specs.BlocksPast.{BlocksPast, WrittenBack}
 use Rattle.block_batch.specs.Batch.{Entry, replayed}
 use Rattle.block_journal.specs.Layout.{IsInside, found, recovered}
-use Rattle.block_journal.specs.Journal.{LeavesBefore, StaysRecovered}
+use Rattle.block_journal.specs.Journal.{LeavesBefore, OnlyReads, StaysRecovered, WritesBackFirst}
+use Rattle.block_journal.proofs.OnlyReading.{reads_then}
+use Rattle.block_journal.proofs.WritingBack.{writes_back_behind}
 use Rattle.block_journal.specs.Value.{JournalValue}
 use Rattle.block_table.specs.Checked.{CheckedValue, kept_table, settled_table}
 use Rattle.block_table.specs.Table.{data_of}
@@ -188,7 +190,10 @@ returns-in-Err g c =
       failures = tt;
       any_moment = tt;
       headers = tt;
+      written_back = tt;
       left_alone = λ _. c.in-Err.ensures.reads;
+      back_alone = λ _. c.read_plan.ensures.back;
+      written_back_refused = λ p told. inl c.in-Err.ensures.reads;
       headers_refused = λ p told. reads_before p.shape (h c.args.below) (h c.read_plan.new.below) c.requires c.in-Err.ensures.reads;
       refused = λ p told inside. reads_recovered p.shape (h c.args.below) (h c.read_plan.new.below) c.requires c.in-Err.ensures.reads;
       undamaged = λ n is. absurd (c.in-Err.ensures.undamaged n is);
@@ -197,3 +202,56 @@ returns-in-Err g c =
       failed = c.in-Err.ensures.failed;
       no_batch = λ is. absurd (c.in-Err.ensures.batch is);
     }
+
+-- ---- it is too short
+
+pub returns-then-not-has_room-clause-back_alone : goal.returns-then-not-has_room-clause-back_alone
+returns-then-not-has_room-clause-back_alone g c = λ _. c.read_plan.ensures.back
+
+pub returns-then-not-has_room-clause-written_back_refused : goal.returns-then-not-has_room-clause-written_back_refused
+returns-then-not-has_room-clause-written_back_refused g c = λ p told. inl c.in-Ok.ensures.reads
+
+-- ---- what was written back
+
+pub returns-in-Err-open-clause-back_alone : goal.returns-in-Err-open-clause-back_alone
+returns-in-Err-open-clause-back_alone g c = λ none.
+    let plan : Plan = c.in-Ok.plan in
+    absurd (none plan c.in-Ok.ensures.told (subst (λ (f : BlockFile). IsInside plan.shape f.content) c.in-Ok.ensures.reads.file
+    (c.has_room.ensures.room c.if-not-has_room.false)))
+
+pub returns-in-Err-open-clause-written_back_refused : goal.returns-in-Err-open-clause-written_back_refused
+returns-in-Err-open-clause-written_back_refused g c = λ p told.
+    let h = g.B.Blocks.past_of in
+    let back = g.B.Blocks.written_back in
+    let plan : Plan = c.in-Ok.plan in
+    let old : BlocksPast = h c.args.below in
+    let mid : BlocksPast = h c.read_plan.new.below in
+    let new : BlocksPast = h c.in-Err-open.refused.file in
+    let reads = c.in-Ok.ensures.reads in
+    subst (λ (q : Plan). OnlyReads old new ⊎ WritesBackFirst q.shape old new (back c.args.below) (back c.in-Err-open.refused.file))
+    (same_plan _ plan p c.in-Ok.ensures.told told)
+    (⊎_elim
+    (λ read. inl (reads_then _ _ _ reads read))
+    (λ wrote. inr (subst (λ (l : List WrittenBack). WritesBackFirst plan.shape old new l (back c.in-Err-open.refused.file)) c.read_plan.ensures.back
+    (writes_back_behind plan.shape old mid new (back c.read_plan.new.below) (back c.in-Err-open.refused.file) reads
+    c.in-Err-open.ensures.refused.kept wrote)))
+    c.in-Err-open.ensures.written_back_refused)
+
+pub returns-in-Ok-open-clause-written_back : goal.returns-in-Ok-open-clause-written_back
+returns-in-Ok-open-clause-written_back g c =
+    let h = g.B.Blocks.past_of in
+    let back = g.B.Blocks.written_back in
+    let plan : Plan = c.in-Ok.plan in
+    let checked : CheckedValue g.row.B.Denot = c.in-Ok-open.checked in
+    let old : BlocksPast = h c.args.below in
+    let mid : BlocksPast = h c.read_plan.new.below in
+    let end : BlocksPast = h checked.journal.below in
+    let opened = c.in-Ok-open.ensures in
+    let first : WritesBackFirst plan.shape old end (back c.args.below) (back checked.journal.below) =
+    subst (λ (l : List WrittenBack). WritesBackFirst plan.shape old end l (back checked.journal.below)) c.read_plan.ensures.back
+    (writes_back_behind plan.shape old mid end (back c.read_plan.new.below) (back checked.journal.below) c.in-Ok.ensures.reads
+    opened.any_moment.kept opened.written_back) in
+    subst (λ (p : Plan). WritesBackFirst p.shape old (h (journal_in (c.over.result).now).below) (back c.args.below)
+    (back (journal_in (c.over.result).now).below)) (sym c.over.ensures.plan)
+    (subst (λ (v : JournalValue g.row.B.Denot). WritesBackFirst plan.shape old (h v.below) (back c.args.below) (back v.below))
+    (sym c.over.ensures.journal) first)

@@ -19,6 +19,7 @@ returns-in_err-read g c =
       row = tt;
       rest = rest;
       reads = done.reads;
+      back = done.back;
       counts = record { later = counts.later; none = tt; failed = counts.failed };
     })
 
@@ -32,5 +33,6 @@ returns g c =
       row = λ i low. c.words_of.ensures i low ∙ ap (λ (b : List ℕ). word b i) done.ok;
       rest = rest;
       reads = done.reads;
+      back = done.back;
       counts = record { later = counts.later; none = counts.none; failed = tt };
     }

@@ -17,6 +17,7 @@ loop-t-init g c = record {
   count = ap length c.new-rows.ensures.items;
   rest = refl;
   reads = reads_none (g.B.Blocks.past_of c.args.journal.now.below);
+  back = refl;
   quiet = refl;
 }
 
@@ -36,6 +37,7 @@ returns-in_default g c =
       count = tt;
       rest = journal_then c.args.journal.now c.loop-t.journal c.read_row.new.journal so_far.rest c.read_row.ensures.rest;
       reads = reads_then _ _ _ so_far.reads c.read_row.ensures.reads;
+      back = c.read_row.ensures.back ∙ so_far.back;
       quiet = tt;
       failed = λ _. subst (λ (a : ℕ). Rises a (g.B.Blocks.failures c.read_row.new.journal.below)) so_far.quiet c.in_default.ensures.counts.failed;
       no_batch = λ never. absurd (cc);
@@ -49,6 +51,7 @@ returns-in_default-push g c =
       count = tt;
       rest = journal_then c.args.journal.now c.loop-t.journal c.read_row.new.journal so_far.rest c.read_row.ensures.rest;
       reads = reads_then _ _ _ so_far.reads c.read_row.ensures.reads;
+      back = c.read_row.ensures.back ∙ so_far.back;
       quiet = tt;
       failed = λ never. absurd (cc);
       no_batch = λ never. absurd (cc);
@@ -67,6 +70,7 @@ loop-t-preserved g c =
       count = ap length c.in-Ok-push.ensures.items ∙ length_push c.loop-t.rows.items c.in-Ok.row ∙ ap (λ (n : ℕ). n + 1) so_far.count;
       rest = journal_then start c.loop-t.journal c.read_row.new.journal so_far.rest c.read_row.ensures.rest;
       reads = reads_then _ _ _ so_far.reads c.read_row.ensures.reads;
+      back = c.read_row.ensures.back ∙ so_far.back;
       quiet = c.in-Ok.ensures.counts.none ∙ so_far.quiet;
     }
 
@@ -79,6 +83,7 @@ returns g c =
       count = so_far.count ∙ all;
       rest = so_far.rest;
       reads = so_far.reads;
+      back = so_far.back;
       quiet = so_far.quiet;
       failed = tt;
       no_batch = tt;

@@ -12,5 +12,6 @@ invariant-loop-t g l =
       count : length l.rows.items ≡ l.t;
       rest : l.journal ≡ record l.initial.journal { below = l.journal.below };
       reads : OnlyReads (h l.initial.journal.below) (h l.journal.below);
+      back : g.B.Blocks.written_back l.journal.below ≡ g.B.Blocks.written_back l.initial.journal.below;
       quiet : g.B.Blocks.failures l.journal.below ≡ g.B.Blocks.failures l.initial.journal.below;
     }

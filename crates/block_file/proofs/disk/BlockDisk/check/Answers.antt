@@ -14,6 +14,7 @@ returns g c =
       unfailed = done.unfailed;
       quiet = done.quiet;
       left_alone = done.left_alone;
+      back = done.back;
       reads = done.reads;
       good = done.good;
       disk = done.disk;

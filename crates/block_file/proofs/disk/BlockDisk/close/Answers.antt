@@ -19,6 +19,7 @@ returns g c =
       good = done.good;
       opens = done.opens;
       left_alone = done.left_alone;
+      back = done.back;
       table = done.table;
       number = done.number;
       quiet = done.quiet;

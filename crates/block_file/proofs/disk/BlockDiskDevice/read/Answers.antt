@@ -26,6 +26,7 @@ returns g c =
       sound = done.working;
       quiet = done.quiet;
       left_alone = done.left_alone;
+      back = done.back;
       reads = done.reads;
       good = done.good;
     })

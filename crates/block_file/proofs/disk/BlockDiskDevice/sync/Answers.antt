@@ -21,6 +21,7 @@ returns g c =
       good = done.good;
       opens = done.opens;
       left_alone = done.left_alone;
+      back = done.back;
       table = done.table;
       quiet = done.quiet;
       number = done.last;

@@ -25,6 +25,7 @@ returns g c =
       sound = done.working;
       quiet = done.quiet;
       left_alone = done.left_alone;
+      back = done.back;
       fits = done.fits;
       broken = done.broken;
       number = done.number;
@@ -33,6 +34,7 @@ returns g c =
       good = done.good;
       opens = done.opens;
       gathers = done.gathers;
+      room = done.room;
       plan = done.plan;
     })
 

@@ -46,6 +46,7 @@ returns g c =
       unfailed = done.unfailed;
       quiet = done.quiet;
       left_alone = done.alone;
+      back = done.back;
       reads = record { plan = refl; table = table; journal = journal; file = done.reads };
       good = λ good. good_same h d n refl c.and-self.ensures good
           (ap (λ (v : JournalValue g.row.B.Denot). v.has_failed) journal ∙ good.sound)

@@ -42,6 +42,7 @@ returns-in_err-sync g c =
       good = c.sync.ensures.good;
       opens = c.sync.ensures.opens;
       left_alone = c.sync.ensures.left_alone;
+      back = c.sync.ensures.back;
       table = c.sync.ensures.table;
       number = tt;
       quiet = tt;
@@ -92,6 +93,7 @@ returns g c =
           (subst (λ (p : Plan). OpensUnder n.offered p (h m.below) (h n.below)) c.sync.ensures.plan
           (second.opens (c.sync.ensures.good good first.working.1)));
       left_alone = λ was. absurd (false≢true (sym first.working.0 ∙ was));
+      back = second.back ∙ c.sync.ensures.back;
       table = second.table ∙ c.sync.ensures.table;
       number = on_ok _ _ r (λ is. omega (arith, is, first.last)) second.last;
       quiet = on_ok _ _ r (λ same. same ∙ first.quiet) second.quiet;

@@ -50,6 +50,7 @@ returns g c =
       working = through_ok _ c.read_sector-done.result c.count.result c.count.ensures.ok done.sound;
       quiet = through_ok _ c.read_sector-done.result c.count.result c.count.ensures.ok done.quiet;
       left_alone = done.alone;
+      back = done.back;
       reads = record { plan = refl; table = table; journal = journal; file = done.reads };
       good = λ good. good_same h d n refl c.and-self.ensures good
           (ap (λ (v : JournalValue g.row.B.Denot). v.has_failed) journal ∙ good.sound)

@@ -54,6 +54,7 @@ returns g c =
       opens = λ good. moves_reopen h d new sound moves good;
       offers = moves.offers;
       left_alone = λ was. ap (λ (v : JournalValue g.row.B.Denot). v.below) (all.refused was);
+      back = all.back;
       table = table;
       last = on_ok _ _ r (λ is. ap (λ (b : Batch). b.number) is) all.last;
       quiet = all.quiet;

@@ -18,6 +18,7 @@ loop-n-init g c = record {
   fits = λ m behind below. absurd (omega (arith, behind, below));
   rest = refl;
   reads = reads_none (g.B.Blocks.past_of c.args.self.now.journal.below);
+  back = refl;
   sound = λ below. absurd (omega (arith, below));
   alone = λ _. refl;
   still = refl;
@@ -52,6 +53,7 @@ loop-n-preserved g c =
           (cases_eq m n);
       rest = read_then start mid c.read.new.self so_far.rest c.read.ensures.rest;
       reads = reads_then _ _ _ so_far.reads c.read.ensures.reads;
+      back = c.read.ensures.back ∙ so_far.back;
       sound = λ _. began;
       alone = λ failed. absurd (false≢true (sym began ∙ failed));
       still = omega (arith, same, refused, so_far.still);
@@ -88,6 +90,7 @@ returns-in-Err-Damaged g c =
       quiet = omega (arith, same, refused, so_far.still);
       alone = λ failed. absurd (false≢true (sym began ∙ failed));
       reads = reads_then _ _ _ so_far.reads read.reads;
+      back = read.back ∙ so_far.back;
       counts = record { later = omega (arith, none); none = none; failed = tt };
     }
 
@@ -112,6 +115,7 @@ returns-in-Err-FileFailed g c =
       alone = λ failed. ap (λ (v : JournalValue g.row.B.Denot). v.below)
           (read.refused (ap (λ (x : CheckedValue g.row.B.Denot). x.journal.has_failed) so_far.rest ∙ failed)) ∙ so_far.alone failed;
       reads = reads_then _ _ _ so_far.reads read.reads;
+      back = read.back ∙ so_far.back;
       counts = record {
         later = omega (arith, read.counts.later, so_far.quiet);
         none = tt;
@@ -134,5 +138,6 @@ returns g c =
       quiet = so_far.still;
       alone = so_far.alone;
       reads = so_far.reads;
+      back = so_far.back;
       counts = record { later = omega (arith, so_far.quiet); none = so_far.quiet; failed = tt };
     }

@@ -14,6 +14,7 @@ invariant-loop-n g l =
         journal = record l.initial.self.journal { below = l.self.journal.below; refused = l.self.journal.refused };
       };
       reads : OnlyReads (h l.initial.self.journal.below) (h l.self.journal.below);
+      back : g.B.Blocks.written_back l.self.journal.below ≡ g.B.Blocks.written_back l.initial.self.journal.below;
       sound : l.from < l.n → l.initial.self.journal.has_failed ≡ false;
       alone : l.initial.self.journal.has_failed ≡ true → l.self.journal.below ≡ l.initial.self.journal.below;
       still : g.B.Blocks.failures l.self.journal.below ≡ g.B.Blocks.failures l.initial.self.journal.below;

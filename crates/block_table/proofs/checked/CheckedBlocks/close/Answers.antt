@@ -29,6 +29,7 @@ returns g c =
       refused = done.refused;
       can = done.can;
       untouched = done.untouched;
+      back = done.back;
       shape = done.shape;
       blocks = refl;
       fails = done.fails;

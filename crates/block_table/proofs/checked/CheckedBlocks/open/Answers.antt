@@ -1,12 +1,13 @@
-use Rattle.std.proofs.Common.{◌≡◌, ℕ, ◌-◌, Err, refl, sym, ◌∙◌, ap, subst, arith}
+use Rattle.std.proofs.Common.{◌≡◌, ◌⊎◌, inr, ℕ, ◌-◌, Err, refl, sym, ◌∙◌, ap, subst, arith}
 use Rattle.std.proofs.lemmas.Result.{err_from_is_err_and}
 use Rattle.sector_device.specs.DevicePast.{Rises}
-use Rattle.block_journal.specs.Journal.{KeepsAreas, LeavesBefore, StaysRecovered}
+use Rattle.block_journal.specs.Journal.{KeepsAreas, LeavesBefore, OnlyReads, StaysRecovered, WritesBackFirst}
 use Rattle.block_journal.proofs.Before.{before_read}
 use Rattle.block_journal.proofs.Keeping.{areas_read}
 use Rattle.block_journal.specs.Value.{JournalValue, content_of}
 use Rattle.block_journal.specs.declared.shape.Shape.{Shape}
 use Rattle.block_journal.proofs.Parting.{as_read}
+use Rattle.block_journal.proofs.WritingBack.{writes_back_later}
 use Rattle.block_table.specs.Table.{table_count}
 use Rattle.block_table.specs.Rows.{AreNumbers}
 use Rattle.block_table.proofs.Contents.{content_read, settled_read, stays_read}
@@ -27,11 +28,14 @@ returns-in_err-journal g c =
       any_moment = tt;
       before = tt;
       batches = tt;
+      written_back = tt;
       quiet = tt;
       unrefused = tt;
       refused = done.refused;
       before_refused = done.before_refused;
       batches_refused = done.batches_refused;
+      written_back_refused = done.written_back_refused;
+      back_none = done.back_none;
       no_batch = done.no_batch;
       failed = done.failed;
     })
@@ -69,6 +73,11 @@ returns-in-Ok g c =
     let m : JournalValue g.row.B.Denot = c.read_rows.new.journal in
     let rest = c.read_rows.ensures.rest in
     let read = as_read v m rest in
+    let reads = c.read_rows.ensures.reads in
+    let back = g.B.Blocks.written_back in
+    let wrote : WritesBackFirst c.args.shape (h c.args.below) (h m.below) (back c.args.below) (back m.below) =
+    writes_back_later c.args.shape (h c.args.below) (h v.below) (h m.below) (back c.args.below) (back v.below) (back m.below)
+    opened.written_back reads.time.later reads.time.kept c.read_rows.ensures.back in
     record {
       settled = settled_read h v m read c.read_rows.ensures.reads ∙ opened.settled;
       none = ap (λ (w : JournalValue g.row.B.Denot). w.next) rest ∙ opened.none;
@@ -80,11 +89,14 @@ returns-in-Ok g c =
       any_moment = stays_read c.args.shape (h c.args.below) (h v.below) (h m.below) opened.any_moment c.read_rows.ensures.reads;
       before = before_read c.args.shape (h c.args.below) (h v.below) (h m.below) opened.before c.read_rows.ensures.reads;
       batches = areas_read c.args.shape (h c.args.below) (h v.below) (h m.below) opened.batches c.read_rows.ensures.reads;
+      written_back = wrote;
       quiet = c.in-Ok.ensures.quiet ∙ opened.quiet;
       unrefused = ap (λ (w : JournalValue g.row.B.Denot). w.refused) rest ∙ opened.unrefused;
       refused = tt;
       before_refused = tt;
       batches_refused = tt;
+      written_back_refused = tt;
+      back_none = tt;
       no_batch = tt;
       failed = tt;
     }
@@ -95,6 +107,11 @@ returns-in-Err g c =
     let opened = c.in_ok-journal.ensures in
     let v : JournalValue g.row.B.Denot = c.in_ok-journal.journal in
     let m : JournalValue g.row.B.Denot = c.read_rows.new.journal in
+    let reads = c.read_rows.ensures.reads in
+    let back = g.B.Blocks.written_back in
+    let wrote : WritesBackFirst c.args.shape (h c.args.below) (h m.below) (back c.args.below) (back m.below) =
+    writes_back_later c.args.shape (h c.args.below) (h v.below) (h m.below) (back c.args.below) (back v.below) (back m.below)
+    opened.written_back reads.time.later reads.time.kept c.read_rows.ensures.back in
     record {
       settled = tt;
       none = tt;
@@ -106,6 +123,7 @@ returns-in-Err g c =
       any_moment = tt;
       before = tt;
       batches = tt;
+      written_back = tt;
       quiet = tt;
       unrefused = tt;
       refused = subst (λ (b : g.row.B.Denot). StaysRecovered c.args.shape (h c.args.below) (h b)) (sym c.into_file.ensures)
@@ -114,6 +132,9 @@ returns-in-Err g c =
           (before_read c.args.shape (h c.args.below) (h v.below) (h m.below) opened.before c.read_rows.ensures.reads);
       batches_refused = subst (λ (b : g.row.B.Denot). KeepsAreas c.args.shape (h c.args.below) (h b)) (sym c.into_file.ensures)
           (areas_read c.args.shape (h c.args.below) (h v.below) (h m.below) opened.batches c.read_rows.ensures.reads);
+      written_back_refused = subst (λ (b : g.row.B.Denot). OnlyReads (h c.args.below) (h b)
+          ⊎ WritesBackFirst c.args.shape (h c.args.below) (h b) (back c.args.below) (back b)) (sym c.into_file.ensures) (inr wrote);
+      back_none = λ is. absurd (c.in-Err.ensures.no_batch is);
       no_batch = λ is. absurd (c.in-Err.ensures.no_batch is);
       failed = λ is. subst (λ (b : g.row.B.Denot). Rises (g.B.Blocks.failures c.args.below) (g.B.Blocks.failures b)) (sym c.into_file.ensures)
           (subst (λ (a : ℕ). Rises a (g.B.Blocks.failures m.below)) opened.quiet (c.in-Err.ensures.failed is));

@@ -1,9 +1,9 @@
 use Rattle.std.proofs.Common.{◌≡◌, ◌≢◌, ℕ, ◌+◌, ◌/◌, ◌%◌, ◌<◌, List, [], ◌++◌, length, take, drop, slice_index, slice_index_or, slice_set}
-use Rattle.std.proofs.Common.{inl, inr, Some, sym, ◌∙◌, ap, subst, arith}
+use Rattle.std.proofs.Common.{inl, inr, ⊎_elim, Some, sym, ◌∙◌, ap, subst, arith}
 use Rattle.std.proofs.lemmas.Bool.{cases_eq}
 use Rattle.block_device.specs.Blocks.{CrashFile, block}
 use Rattle.block_device.proofs.CrashFiles.{written_back}
-use Rattle.block_batch.specs.Batch.{block_digest}
+use Rattle.block_batch.specs.Batch.{IsPlace, block_digest}
 use Rattle.block_journal.specs.Value.{JournalValue, content_of}
 use Rattle.block_words.specs.Words.{word}
 use Rattle.block_table.specs.Rows.{AreNumbers, IsSeen}
@@ -54,6 +54,18 @@ returns g c =
       );
       rest = ap (λ (w : JournalValue g.row.B.Denot). record { journal = w; blocks = blocks }) rest;
       room = omega (arith, c.put-digest.ensures.room, c.gather.ensures.room);
+      in_place = λ here row. c.gather.ensures.in_place ((c.put-digest.ensures.places (n / 512)).1 (inr row))
+          ∙ c.put-digest.ensures.in_place (subst (IsPlace v.next) (sym place) here);
+      places = λ k. (
+        (λ there. ⊎_elim
+            (λ is. inr (inl is))
+            (λ before. ⊎_elim (λ is. inl (is ∙ place)) (λ was. inr (inr was)) ((c.put-digest.ensures.places k).0 before))
+            ((c.gather.ensures.places k).0 there)),
+        (λ here. (c.gather.ensures.places k).1 (⊎_elim
+            (λ is. inr ((c.put-digest.ensures.places k).1 (inl (is ∙ sym place))))
+            (⊎_elim (λ is. inl is) (λ was. inr ((c.put-digest.ensures.places k).1 (inr was))))
+            here)),
+      );
     })
 
 pub invariant_of-self : goal.invariant_of-self

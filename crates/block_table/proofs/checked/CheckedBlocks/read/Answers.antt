@@ -33,6 +33,7 @@ returns-then-is_at g c =
       good = λ _. refl;
       refused = λ failed. absurd (false≢true (sym seen.good ∙ failed));
       reads = reads_none (h v.below);
+      back = refl;
       counts = record { later = omega arith; quiet = λ _. refl; rises = λ is. absurd (cc) };
     })
 
@@ -52,6 +53,7 @@ returns-then-is_err g c =
       good = λ sound. ap (λ (w : JournalValue g.row.B.Denot). record { journal = w; blocks = c.self.inside.blocks }) (done.good sound);
       refused = done.refused;
       reads = done.reads;
+      back = done.back;
       counts = record {
         later = done.counts.later;
         quiet = λ other. absurd (other refl);
@@ -106,6 +108,7 @@ returns-then-not-is_fit g c =
       good = λ sound. ap (λ (w : JournalValue g.row.B.Denot). record { journal = w; blocks = c.self.inside.blocks }) (done.good sound);
       refused = done.refused;
       reads = done.reads;
+      back = done.back;
       counts = record {
         later = done.counts.later;
         quiet = λ _. from_ok _ _ good done.counts.none;
@@ -140,6 +143,7 @@ returns g c =
       good = λ sound. ap (λ (w : JournalValue g.row.B.Denot). record { journal = w; blocks = c.self.inside.blocks }) (done.good sound);
       refused = done.refused;
       reads = done.reads;
+      back = done.back;
       counts = record {
         later = done.counts.later;
         quiet = λ _. from_ok _ _ good done.counts.none;

@@ -1,6 +1,0 @@
-use Rattle.std.proofs.Common.{◌≡◌, replicate}
-use Rattle.block_device.specs.Blocks.{zero_block}
-use Rattle.block_host.proofs.held.zeros.Given as goal
-
-abbrev pub invariant-loop : goal.invariant-loop
-invariant-loop g l = l.image.items ≡ replicate l.counter zero_block
