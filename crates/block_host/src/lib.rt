@@ -11,12 +11,12 @@
 //! and only such a one (`check`); its use is ended as the device's (`end`). One that is opened or read is synced.
 //!
 //! Trusted: that a file holds what was written and synced; that writing a block harms no other one, and writing one
-//! back harms it only where the file has other bytes. No clause says that the mirror holds what is below, that a write, a sync or a
-//! `keep` is passed on to that, or that nothing reaches it behind a failure. Nor that a file of blocks is synced before
-//! it is read, that a new file's name was free, or that a refused one is removed. Nor that what is read alone is not
-//! written, why an opening is refused, which file is opened, taken or made (that it has the path's name), or when a
-//! file that is in use is tried again. Only tested (`test_files`): the verbs of `nsf-store` on such files, whole and
-//! harmed; that what was committed is kept, whichever calls of what is below fail.
+//! back harms it only where the file has other bytes. No clause says that the mirror holds what is below, that a write,
+//! a sync or a `keep` is passed on to that, or that nothing reaches it behind a failure. Nor that a file of blocks is
+//! synced before it is read, that a new file's name was free, or that a refused one is removed. Nor that what is read
+//! alone is not written, why an opening is refused, which file is opened, taken or made (that it has the path's name),
+//! or when a file that is in use is tried again. Only tested (`test_files`): the verbs of `nsf-store` on such files,
+//! whole and harmed; that what was committed is kept, whichever calls of what is below fail.
 #![tactic(auto)]
 
 mod device;

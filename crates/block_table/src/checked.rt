@@ -207,8 +207,8 @@ impl<B: Blocks, A: Allocator + Copy> CheckedBlocks<B, A> {
         Ok(None)
     }
 
-    /// Puts a block of data, with its digest, for the next commit. It takes no room where both blocks were gathered, that
-    /// of the data and that of the table (`in_place`, `places`).
+    /// Puts a block of data, with its digest, for the next commit. It takes no room where both blocks were gathered,
+    /// that of the data and that of the table (`in_place`, `places`).
     pub fn put(&mut self, n: u64, bytes: &[u8; BLOCK_SIZE])
         requires inside { n < self.old.blocks }
         requires room { 1 < room_of self.old.journal }
