@@ -1,9 +1,10 @@
 //! The lines that the program prints.
 use crate::step::Step;
-use crate::text::{EntryText, LifeText, Place, Places, Refusal, RowText};
+use crate::text::{EntryText, Place, Places, Refusal, RowText, write_life, write_number};
 use model::Life;
 use records::{Error, Mark, Pair, Rid, Row, Txn};
 use std::fmt;
+use std::fmt::Display;
 
 /// A line of the output.
 #[derive(Drop)]
@@ -74,23 +75,23 @@ impl fmt::Display for Answer {
 
     fn fmt<W: fmt::Write>(&self, f: &mut fmt::Formatter<W>) -> fmt::Result {
         match self {
-            Answer::Txn(txn) => write!(f, "txn {}", txn.number()),
+            Answer::Txn(txn) => write_number(f, "txn ", txn.number()),
             Answer::Rid(rid) => write!(f, "rid {}", Place(*rid)),
             Answer::Done => f.write_str("ok"),
             Answer::Undone => f.write_str("undone"),
             Answer::Empty => f.write_str("empty"),
-            Answer::Ticket(number) => write!(f, "ticket {number}"),
-            Answer::Made(step) => write!(f, "{step}"),
-            Answer::Horizon(number) => write!(f, "horizon {number}"),
+            Answer::Ticket(number) => write_number(f, "ticket ", *number),
+            Answer::Made(step) => step.fmt(f),
+            Answer::Horizon(number) => write_number(f, "horizon ", *number),
             Answer::Flipped => f.write_str("flipped"),
             Answer::Row(row) => write!(f, "row {}", RowText(*row)),
             Answer::NoRow => f.write_str("none"),
-            Answer::Found(rids) => write!(f, "{}", Places(rids.as_slice())),
+            Answer::Found(rids) => Places(rids.as_slice()).fmt(f),
             Answer::Several(rids) => write!(f, "refused several {}", Places(rids.as_slice())),
-            Answer::Life(life) => write!(f, "life {}", LifeText(*life)),
+            Answer::Life(life) => write_life(f, "life ", *life),
             Answer::RowAt { rid, row } => write!(f, "row {} {}", Place(*rid), RowText(*row)),
-            Answer::Entry { pair, mark } => write!(f, "{}", EntryText(*pair, *mark)),
-            Answer::Restart(life) => write!(f, "restart {}", LifeText(*life)),
+            Answer::Entry { pair, mark } => EntryText(*pair, *mark).fmt(f),
+            Answer::Restart(life) => write_life(f, "restart ", *life),
             Answer::Stopped => f.write_str("stopped"),
             Answer::Skipped => f.write_str("skipped"),
             Answer::Refused(error) => write!(f, "refused {}", Refusal(*error)),

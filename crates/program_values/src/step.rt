@@ -3,7 +3,7 @@ ghost use Rattle.std.specs.Prelude.{◌≡◌, Some};
 ghost use Rattle.program_values.specs.Texts.{step_text};
 ghost use Rattle.program_values.specs.Steps.{ends_steps};
 
-use crate::text::PairText;
+use crate::text::{PairText, write_number, write_pair};
 use records::Pair;
 use std::fmt;
 
@@ -44,29 +44,17 @@ impl fmt::Display for Step {
 
     fn fmt<W: fmt::Write>(&self, f: &mut fmt::Formatter<W>) -> fmt::Result {
         match *self {
-            Step::Scanned(page) => write!(f, "scanned {page}"),
-            Step::Placed(pair) => {
-                let pair = PairText(pair);
-                write!(f, "placed {pair}")
-            }
-            Step::Rejected(pair) => {
-                let pair = PairText(pair);
-                write!(f, "rejected {pair}")
-            }
+            Step::Scanned(page) => write_number(f, "scanned ", u64::from(page)),
+            Step::Placed(pair) => write_pair(f, "placed ", pair),
+            Step::Rejected(pair) => write_pair(f, "rejected ", pair),
             Step::Marked(pair, number) => {
                 let pair = PairText(pair);
                 write!(f, "marked {pair} ticket {number}")
             }
-            Step::Completed(number) => write!(f, "done ticket {number}"),
+            Step::Completed(number) => write_number(f, "done ticket ", number),
             Step::Idle => f.write_str("idle"),
-            Step::Cleaned(pair) => {
-                let pair = PairText(pair);
-                write!(f, "cleaned {pair}")
-            }
-            Step::Kept(pair) => {
-                let pair = PairText(pair);
-                write!(f, "kept {pair}")
-            }
+            Step::Cleaned(pair) => write_pair(f, "cleaned ", pair),
+            Step::Kept(pair) => write_pair(f, "kept ", pair),
             Step::Wrapped => f.write_str("wrapped"),
         }
     }

@@ -1,6 +1,6 @@
 //! How values are spelled in answers.
-ghost use Rattle.std.specs.Prelude.{◌≤◌, Some, length};
-ghost use Rattle.std.specs.Fmt.{DisplaysOnOk};
+ghost use Rattle.std.specs.Prelude.{◌≤◌, ◌++◌, Some, length};
+ghost use Rattle.std.specs.Fmt.{DisplaysOnOk, decimal};
 ghost use Rattle.program_script.specs.Grammar.{rid_text};
 ghost use Rattle.program_values.specs.Texts.{bytes_text, further_text, places_text, row_text, pair_text, entry_text};
 ghost use Rattle.program_values.specs.Texts.{life_text, refusal_text};
@@ -8,6 +8,7 @@ ghost use Rattle.program_values.specs.Texts.{life_text, refusal_text};
 use model::Life;
 use records::{BODY_MAX, Error, Mark, Pair, Rid, Row};
 use std::fmt;
+use std::fmt::Display;
 
 // The most digits that bytes are spelled with.
 const DIGITS_MAX: usize = 2 * BODY_MAX;
@@ -48,8 +49,7 @@ impl fmt::Display for Places<'_> {
         match self.0 {
             [] => f.write_str("-"),
             [first, rest @ ..] => {
-                let place = Place(*first);
-                write!(f, "{place}")?;
+                Place(*first).fmt(f)?;
                 write_further(f, rest)
             }
         }
@@ -97,6 +97,29 @@ impl fmt::Display for PairText {
     }
 }
 
+/// Writes a text, and a number behind it.
+pub(crate) fn write_number<W: fmt::Write>(
+    f: &mut fmt::Formatter<W>,
+    text: &str,
+    number: u64,
+) -> fmt::Result
+    ensures { DisplaysOnOk W.write_str_gives f.old result (Some (text.now ++ decimal number)) f.new }
+{
+    write!(f, "{text}{number}")
+}
+
+/// Writes a text, and a pair behind it.
+pub(crate) fn write_pair<W: fmt::Write>(
+    f: &mut fmt::Formatter<W>,
+    text: &str,
+    pair: Pair,
+) -> fmt::Result
+    ensures { DisplaysOnOk W.write_str_gives f.old result (Some (text.now ++ pair_text pair)) f.new }
+{
+    let pair = PairText(pair);
+    write!(f, "{text}{pair}")
+}
+
 /// An entry: `live` or `marked`, and its pair.
 #[derive(Clone, Copy)]
 pub struct EntryText(pub Pair, pub Mark);
@@ -105,10 +128,9 @@ impl fmt::Display for EntryText {
     ghost output = { λ e. Some (entry_text e.0 e.1) };
 
     fn fmt<W: fmt::Write>(&self, f: &mut fmt::Formatter<W>) -> fmt::Result {
-        let pair = PairText(self.0);
         match self.1 {
-            Mark::Live => write!(f, "live {pair}"),
-            Mark::Marked => write!(f, "marked {pair}"),
+            Mark::Live => write_pair(f, "live ", self.0),
+            Mark::Marked => write_pair(f, "marked ", self.0),
         }
     }
 }
@@ -125,14 +147,23 @@ impl fmt::Display for LifeText {
             Life::Absent => f.write_str("none"),
             Life::Building { highest } => match highest {
                 None => f.write_str("building -"),
-                Some(pair) => {
-                    let pair = PairText(pair);
-                    write!(f, "building {pair}")
-                }
+                Some(pair) => write_pair(f, "building ", pair),
             },
             Life::Complete => f.write_str("complete"),
         }
     }
+}
+
+/// Writes a text, and how far the index is behind it.
+pub(crate) fn write_life<W: fmt::Write>(
+    f: &mut fmt::Formatter<W>,
+    text: &str,
+    life: Life,
+) -> fmt::Result
+    ensures { DisplaysOnOk W.write_str_gives f.old result (Some (text.now ++ life_text life)) f.new }
+{
+    let life = LifeText(life);
+    write!(f, "{text}{life}")
 }
 
 /// A refusal: its number and its name, and the sector or line that it names.
