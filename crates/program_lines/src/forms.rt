@@ -50,32 +50,41 @@ static FORMS: [Form; 24] = [
     ("quit", "", "ends the input"),
 ];
 
+// The last line of help.
+const MARKS: &str =
+    "A key or body is `=` and graphic bytes, as `=ant`, or `:` and hexadecimal digits, as `:616e74`\n";
+
+fn forms() -> &'static [Form] {
+    &FORMS
+}
+
 /// Prints how each line is written, and what it does.
 pub(crate) fn print_help<W: Write>(output: &mut W) -> io::Result<()> {
-    for (name, words, does) in &FORMS {
+    for (name, words, does) in forms() {
         writeln!(output, "{name}{words}: {does}")?;
     }
-    writeln!(
-        output,
-        "A key or body is `=` and graphic bytes, as `=ant`, or `:` and hexadecimal digits, as `:616e74`"
-    )
+    output.write_all(MARKS.as_bytes())
+}
+
+fn is_space(byte: &u8) -> bool {
+    *byte == b' '
 }
 
 // The first word of a line.
 fn first_word(line: &[u8]) -> &[u8] {
-    line.split(|byte| *byte == b' ').next().unwrap_or(line)
+    line.split(is_space).next().unwrap_or(line)
 }
 
 // How the line with this first word is written.
 fn form_named(word: &[u8]) -> Option<&'static Form> {
-    FORMS.iter().find(|form| form.0.as_bytes() == word)
+    forms().iter().find(|form| form.0.as_bytes() == word)
 }
 
 // The name that is nearest to a word, where fewer letters than three, and than all, are others.
 fn nearest_name(alloc: Global, word: &str) -> Option<&'static str> {
     let mut least = word.len().min(3);
     let mut found = None;
-    for (name, _, _) in &FORMS {
+    for (name, _, _) in forms() {
         let distance = levenshtein(alloc, word, name).unwrap_or(least);
         if distance < least {
             least = distance;
@@ -90,21 +99,51 @@ fn takes_bytes(words: &str) -> bool {
     words.contains("<key>") || words.contains("<first>")
 }
 
-// A word behind the first one that begins with a letter, and is no name of its own there, as a key or body without its
+// Whether a word begins with a letter, and is no name of its own behind the first one, as a key or body without its
 // mark does.
+fn is_unmarked(word: &&[u8]) -> bool {
+    let word = *word;
+    match word {
+        [first, ..] => first.is_ascii_alphabetic()
+            && word != b"count".as_slice()
+            && word != b"back".as_slice(),
+        [] => false,
+    }
+}
+
+// A word behind the first one that is so.
 fn unmarked_word(line: &[u8]) -> Option<&[u8]> {
-    line.split(|byte| *byte == b' ').skip(1).find(|word| *word != b"count".as_slice()
-        && *word != b"back".as_slice()
-        && word.first().is_some_and(|byte| byte.is_ascii_alphabetic()))
+    line.split(is_space).skip(1).find(is_unmarked)
+}
+
+fn is_empty(word: &[u8]) -> bool {
+    word.is_empty()
 }
 
 fn has_empty_word(line: &[u8]) -> bool {
-    line.split(|byte| *byte == b' ').any(|word| word.is_empty())
+    line.split(is_space).any(is_empty)
+}
+
+fn is_no_text(byte: &u8) -> bool {
+    *byte != b' ' && !byte.is_ascii_graphic()
 }
 
 fn has_no_text(line: &[u8]) -> bool {
-    line.iter()
-        .any(|byte| *byte != b' ' && !byte.is_ascii_graphic())
+    line.iter().any(is_no_text)
+}
+
+// Tells of the line of this number: a text, in which the others stand behind its pieces.
+fn tell<E: Write>(
+    errors: &mut E,
+    number: u64,
+    [first, second, third]: [&'static str; 3],
+    word: &str,
+    name: &str,
+) {
+    let _ = writeln!(
+        errors,
+        "nsf-store: line {number}: {first}{word}{second}{name}{third}"
+    );
 }
 
 // Tells of a line of words whose first one is no name.
@@ -112,36 +151,40 @@ fn tell_unknown<E: Write>(alloc: Global, line: &[u8], number: u64, errors: &mut 
     let Ok(word) = std::str::from_utf8(first_word(line)) else {
         return;
     };
-    let _ = match nearest_name(alloc, word) {
-        Some(name) => writeln!(
-            errors,
-            "nsf-store: line {number}: `{word}` is no command; is `{name}` meant?"
-        ),
-        None => writeln!(
-            errors,
-            "nsf-store: line {number}: `{word}` is no command; `help` tells of all"
-        ),
-    };
+    match nearest_name(alloc, word) {
+        Some(name) => {
+            let text = ["`", "` is no command; is `", "` meant?"];
+            tell(errors, number, text, word, name);
+        }
+        None => {
+            let text = ["`", "` is no command; `help` tells of all", ""];
+            tell(errors, number, text, word, "");
+        }
+    }
+}
+
+// The word behind the first one that lacks its mark, of a line that has words of bytes.
+fn unmarked_in<'a>(line: &'a [u8], words: &str) -> Option<&'a str> {
+    if !takes_bytes(words) {
+        return None;
+    }
+    std::str::from_utf8(unmarked_word(line)?).ok()
 }
 
 // Tells of a line of words with this first one.
 fn tell_form<E: Write>(line: &[u8], number: u64, form: &Form, errors: &mut E) {
     let (name, words, _) = form;
-    let unmarked = if takes_bytes(words) {
-        unmarked_word(line)
-    } else {
-        None
-    };
-    let _ = match unmarked.and_then(|word| std::str::from_utf8(word).ok()) {
-        Some(word) => writeln!(
-            errors,
-            "nsf-store: line {number}: `{word}` begins with neither `=` nor `:`, as a key or body does"
-        ),
-        None => writeln!(
-            errors,
-            "nsf-store: line {number}: it is written `{name}{words}`"
-        ),
-    };
+    match unmarked_in(line, words) {
+        Some(word) => {
+            let text = [
+                "`",
+                "` begins with neither `=` nor `:`, as a key or body does",
+                "",
+            ];
+            tell(errors, number, text, word, "");
+        }
+        None => tell(errors, number, ["it is written `", "", "`"], name, words),
+    }
 }
 
 // What is wrong with the bytes of a line, if they are.
@@ -169,7 +212,7 @@ fn without_line_feed(line: &[u8]) -> &[u8] {
 pub(crate) fn tell_why<E: Write>(alloc: Global, line: &[u8], number: u64, errors: &mut E) {
     let line = without_line_feed(line);
     if let Some(fault) = fault_of_bytes(line) {
-        let _ = writeln!(errors, "nsf-store: line {number}: {fault}");
+        tell(errors, number, [fault, "", ""], "", "");
         return;
     }
     match form_named(first_word(line)) {
