@@ -39,9 +39,14 @@ impl Bell {
     /// Rings, and wakes all that sleep on it.
     pub fn ring(&self) {
         self.rings.fetch_add(1, Ordering::SeqCst);
-        if self.sleepers.load(Ordering::SeqCst) > 0 {
+        if self.has_sleepers() {
             self.rings.wake_all();
         }
+    }
+
+    /// Whether some thread sleeps on it.
+    pub fn has_sleepers(&self) -> bool {
+        self.sleepers.load(Ordering::SeqCst) > 0
     }
 
     /// Looks so often whether it rings, where no other thread does, and says whether it has: a short wait costs less so

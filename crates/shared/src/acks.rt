@@ -14,8 +14,11 @@ use std::sync::Wait;
 use std::time::Duration;
 use threads_sessions::Keeping;
 
-// A seat looks so often for the horizon before it sleeps, and no sleep is longer than so many microseconds.
+// A seat looks so often for the horizon before it sleeps: more often where no other seat sleeps for it. No sleep is
+// longer than so many microseconds.
 const LOOKS: u32 = 16;
+
+const LOOKS_ALONE: u32 = 128;
 
 // Where it is the only one, it looks so often for a ring before that.
 const RING_LOOKS: u32 = 400;
@@ -127,11 +130,16 @@ impl<B: Group, A: Memory> Shared<B, A> {
 
     // Goes on at once where there were few looks for the horizon, and else sleeps until the flusher has published.
     fn look_or_sleep<R: Wait>(&self, rt: &R, looks: u32, rings: u64) {
-        if looks < LOOKS {
+        let published = &self.board.waits().published;
+        let most = if published.has_sleepers() {
+            LOOKS
+        } else {
+            LOOKS_ALONE
+        };
+        if looks < most {
             hint::spin_loop();
             return;
         }
-        let published = &self.board.waits().published;
         if !published.look(rings, RING_LOOKS) {
             published.sleep(rt, rings, Duration::from_micros(LONGEST_SLEEP));
         }

@@ -82,7 +82,7 @@ pub(crate) fn flush_until<B: Group, D: Device, R: Wait, G: Gate, A: Memory>(
             return Ok(());
         }
         let seen = flush_round(rt, shared, part, &mut rounds, rings, gate);
-        quiet = rest_flusher(rt, bell, rings, seen, quiet);
+        quiet = rest_flusher(rt, shared.board().waits(), rings, seen, quiet);
     }
     unreachable!()
 }

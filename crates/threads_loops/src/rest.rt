@@ -17,12 +17,17 @@ const LONGEST: u64 = 48_000;
 // So many rounds in which the flusher found nothing it looks again at once, and then sleeps.
 const LOOKS: u32 = 16;
 
-// So often the flusher looks behind a group whether records were made meanwhile, before it sleeps.
+// So often the flusher looks behind a group whether records were made meanwhile, before it sleeps: more often where no
+// seat slept for the group.
 const RING_LOOKS: u32 = 400;
 
-// How many microseconds the flusher sleeps where nothing waits, at first, and where an image is copied; and the builder
-// where it leaves room for the others.
+const RING_LOOKS_ALONE: u32 = 4_000;
+
+// How many microseconds the flusher sleeps where nothing waits, at first, and how often that doubles; how many where an
+// image is copied; and the builder where it leaves room for the others.
 const FLUSHER_SLEEP: u64 = 1_000;
+
+const DOUBLINGS: u32 = 6;
 
 const COPY_PAUSE: u64 = 20;
 
@@ -84,15 +89,16 @@ pub enum Found {
 /// The sleep of the flusher behind a round, and how many rounds found nothing, with it.
 pub(crate) fn rest_flusher<R: Wait>(
     rt: &R,
-    bell: &Bell,
+    waits: &Waits,
     rings: u64,
     found: Found,
     quiet: u32,
 ) -> u32 {
+    let bell = &waits.pushed;
     match found {
         Found::More => 0,
         Found::Records => {
-            await_ring(rt, bell, rings);
+            await_ring(rt, waits, rings);
             0
         }
         Found::Image => {
@@ -103,8 +109,8 @@ pub(crate) fn rest_flusher<R: Wait>(
             if quiet < LOOKS {
                 thread::yield_now();
             } else {
-                let longer = u64::from(quiet - LOOKS).saturating_add(1);
-                let micros = FLUSHER_SLEEP.saturating_mul(longer).min(LONGEST);
+                let doublings = (quiet - LOOKS).min(DOUBLINGS);
+                let micros = (FLUSHER_SLEEP << doublings).min(LONGEST);
                 bell.sleep(rt, rings, Duration::from_micros(micros));
             }
             quiet.saturating_add(1)
@@ -112,10 +118,17 @@ pub(crate) fn rest_flusher<R: Wait>(
     }
 }
 
-// Looks a few times whether the bell has rung, and then sleeps until it rings.
-fn await_ring<R: Wait>(rt: &R, bell: &Bell, rings: u64) {
-    if !bell.look(rings, RING_LOOKS) {
-        bell.sleep(rt, rings, Duration::from_micros(FLUSHER_SLEEP));
+// Looks a few times whether records were made, and then sleeps until they are.
+fn await_ring<R: Wait>(rt: &R, waits: &Waits, rings: u64) {
+    let times = if waits.published.has_sleepers() {
+        RING_LOOKS
+    } else {
+        RING_LOOKS_ALONE
+    };
+    if !waits.pushed.look(rings, times) {
+        waits
+            .pushed
+            .sleep(rt, rings, Duration::from_micros(FLUSHER_SLEEP));
     }
 }
 
