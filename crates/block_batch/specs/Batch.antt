@@ -45,8 +45,8 @@ abbrev pub do_fit : CrashFile → ℕ → Bool
 do_fit area zero = true
 do_fit area (suc n) = do_fit area n && (digest_in area n == block_digest (place_in area n) (block area (1 + n)))
 
--- Whether the area has a batch: the text as a number, a count that a head can tell, room for so many blocks, and
--- digests that fit.
+-- Whether the area has a batch: the text `NSFBATCH` as a number, a count that a head can tell, room for so many blocks,
+-- and digests that fit.
 abbrev pub is_batch : CrashFile → Bool
 is_batch area = (word (block area 0) 0 == 5643932008403190600)
     && (nat_le (count_in area) PLACES_MAX
