@@ -1,15 +1,15 @@
 -- A journal is opened: from what its buffers have taken to what it is then.
-use Rattle.std.proofs.Common.{◌≡◌, ◌≢◌, inr, ⊎_elim, ℕ, ◌+◌, ◌%◌, ◌<◌, ◌≤◌, Bool, true, false, List, Option, Some, None, IfSome, refl, sym}
+use Rattle.std.proofs.Common.{◌≡◌, ◌≢◌, ◌⊎◌, inl, inr, ⊎_elim, ℕ, ◌+◌, ◌%◌, ◌<◌, ◌≤◌, Bool, true, false, List, Option, Some, None, IfSome, refl, sym}
 use Rattle.std.proofs.Common.{◌∙◌, ap, subst, arith}
 use Rattle.std.proofs.lemmas.Bool.{cases_Bool, cases_eq}
 use Rattle.block_device.specs.Blocks.{CrashFile}
-use Rattle.block_device.specs.BlocksPast.{BlocksPast, RunsWithin, WrittenBack}
+use Rattle.block_device.specs.BlocksPast.{BlocksPast, RunsWithin, WrittenBack, and_back}
 use Rattle.block_device.proofs.Within.{within_start}
 use Rattle.block_batch.specs.Batch.{Entry, Batch, batch_in, IsPlace}
 use Rattle.block_journal.specs.declared.shape.Shape.{Shape}
 use Rattle.block_journal.specs.declared.gathered.Gathered.{Gathered}
-use Rattle.block_journal.specs.Layout.{IsInside, found}
-use Rattle.block_journal.specs.Journal.{InRunOrKept, IsPending, OnlyReads, StaysRecovered, WritesBackFirst, areas_back, pending_in}
+use Rattle.block_journal.specs.Layout.{IsInside, area_start, found}
+use Rattle.block_journal.specs.Journal.{BeginsBack, InRunOrKept, IsPending, OnlyReads, StaysRecovered, WritesBackFirst, areas_back, pending_in}
 use Rattle.block_journal.specs.Gathered.{entries_of}
 use Rattle.block_journal.specs.declared.reading.Order.{Order}
 use Rattle.block_journal.specs.Opening.{AreFound, HasTaken, HasTakenBoth, IsBefore, IsOrder, first_entries}
@@ -121,6 +121,22 @@ module _ {A : Type 0} where
   is_lower None has number a other taken low = subst (λ (o : Option Batch). IfSome o (λ x. x.number < number)) (sym taken.0) tt
   is_lower (Some n) has number a other taken low = subst (λ (o : Option Batch). IfSome o (λ x. x.number < number)) (sym taken.0) low
 
+  pub begins_back : (g : Shape) (old mid : BlocksPast) (number : ℕ) (earlier : Option ℕ) (last other : Gathered A) (before now : List WrittenBack)
+      → HasTakenBoth g old.file.content number earlier last other → OnlyReads old mid
+      → (now ≡ before) ⊎ (now ≡ and_back before (area_start g ((number + 1) % 2)) g.area mid.moment) → BeginsBack g old mid before now
+  begins_back g old mid number earlier last other before now taken reads back = record {
+    reads = reads;
+    back = ⊎_elim (λ none. inl none) (λ one. inr (record {
+      last = record { number = number; entries = entries_of last };
+      here = taken.of_last.0;
+      other = is_lower earlier (found g old.file.content ((number + 1) % 2)) number ((number + 1) % 2) other taken.of_other taken.low;
+      moment = mid.moment;
+      later = reads.time.later;
+      until = omega arith;
+      back = one;
+    })) back;
+  }
+
   pub writes_back_first : (g : Shape) (old mid : BlocksPast) (number : ℕ) (earlier : Option ℕ) (last other : Gathered A) (before now : List WrittenBack)
       → HasTakenBoth g old.file.content number earlier last other → OnlyReads old mid → now ≡ areas_back g number mid.moment before
       → WritesBackFirst g old mid before now
@@ -134,3 +150,10 @@ module _ {A : Type 0} where
     still = λ t from to. ⊎_elim (λ is. is) (λ is. is ∙ reads.file) (reads.time.during t from to);
     back = back;
   }
+
+-- the same behind what is read, at a moment that is the same
+pub one_back : (g : Shape) (number : ℕ) (before mid now : List WrittenBack) {m n : ℕ} → m ≡ n → mid ≡ before
+    → (now ≡ mid) ⊎ (now ≡ and_back mid (area_start g ((number + 1) % 2)) g.area m)
+    → (now ≡ before) ⊎ (now ≡ and_back before (area_start g ((number + 1) % 2)) g.area n)
+one_back g number before mid now same is back = ⊎_elim (λ none. inl (none ∙ is))
+    (λ one. inr (one ∙ (λ i. and_back (is i) (area_start g ((number + 1) % 2)) g.area (same i)))) back

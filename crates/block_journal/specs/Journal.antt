@@ -99,6 +99,21 @@ pub record WritesBackFrom (g : Shape) (was : BlockFile) (from : ℕ) (new : Bloc
   pub still : (t : ℕ) → from ≤ t → t ≤ moment → new.file_at t ≡ was
   pub back : now ≡ areas_back g last.number moment before
 
--- so it was from a moment that is past
+-- the same of the file as it was before these calls, from that moment on
 abbrev pub WritesBackFirst : Shape → (old new : BlocksPast) → (before now : List WrittenBack) → Type 0
 WritesBackFirst g old new before now = WritesBackFrom g old.file old.moment new before now
+
+-- The area alone that the last batch doesn't have was written back, at a moment meanwhile.
+pub record OneAreaBack (g : Shape) (old new : BlocksPast) (before now : List WrittenBack) : Type 0 where
+  pub last : Batch
+  pub here : found g old.file.content (last.number % 2) ≡ Some last
+  pub other : IfSome (found g old.file.content ((last.number + 1) % 2)) (λ x. x.number < last.number)
+  pub moment : ℕ
+  pub later : old.moment ≤ moment
+  pub until : moment ≤ new.moment
+  pub back : now ≡ and_back before (area_start g ((last.number + 1) % 2)) g.area moment
+
+-- The file stayed what it was, and nothing was written back, or that one area.
+pub record BeginsBack (g : Shape) (old new : BlocksPast) (before now : List WrittenBack) : Type 0 where
+  pub reads : OnlyReads old new
+  pub back : (now ≡ before) ⊎ OneAreaBack g old new before now

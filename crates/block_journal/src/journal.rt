@@ -6,7 +6,7 @@ ghost use Rattle.block_device.specs.Blocks.{CrashFile, IsCrashFile, IsSynced, bl
 ghost use Rattle.block_batch.specs.Batch.{Batch, IsPlace, block_digest, replayed};
 ghost use Rattle.block_journal.specs.Layout.{IsHonest, IsInside, found, kept_of, recovered};
 ghost use Rattle.block_journal.specs.Journal.{AreInAreas, IsPending, KeepsAreas, KeepsBatch, LeavesBefore};
-ghost use Rattle.block_journal.specs.Journal.{NeedsNoArea, OnlyReads, StaysRecovered, WritesBackFirst};
+ghost use Rattle.block_journal.specs.Journal.{BeginsBack, NeedsNoArea, OnlyReads, StaysRecovered, WritesBackFirst};
 ghost use Rattle.block_journal.specs.Value.{CanCommit, LeavesEither, Offers, content_of, failures_of, next_batch};
 ghost use Rattle.block_journal.specs.Value.{room_of, settled_of};
 
@@ -55,7 +55,8 @@ impl<B: Blocks, A: Allocator> Model for Journal<B, A> {
 impl<B: Blocks, A: Allocator + Copy> Journal<B, A> {
     /// Opens the journal of a file. What was read of its areas is written back, and synced, where one has a batch: a
     /// sync that failed may have left it in the memory of the system alone. Until then nothing is written
-    /// (`written_back`, `written_back_refused`). Then what the last batches left that a crash cut off is replayed, and
+    /// (`written_back`). One that is refused meanwhile has written back nothing, or the area alone that the last batch
+    /// doesn't have (`written_back_refused`). Then what the last batches left that a crash cut off is replayed, and
     /// synced.
     ///
     /// No block is loose but those that a replay sets. Whatever it answers, a crash at any moment of it leaves what
@@ -81,7 +82,8 @@ impl<B: Blocks, A: Allocator + Copy> Journal<B, A> {
         ensures refused { IfErr result (λ e. StaysRecovered shape (B.past_of below) (B.past_of e.file)) }
         ensures before_refused { IfErr result (λ e. LeavesBefore shape (B.past_of below) (B.past_of e.file)) }
         ensures batches_refused { IfErr result (λ e. KeepsAreas shape (B.past_of below) (B.past_of e.file)) }
-        ensures written_back_refused { IfErr result (λ e. OnlyReads (B.past_of below) (B.past_of e.file)
+        ensures written_back_refused { IfErr result (λ e. BeginsBack shape (B.past_of below) (B.past_of e.file)
+            (B.written_back below) (B.written_back e.file)
             ⊎ WritesBackFirst shape (B.past_of below) (B.past_of e.file) (B.written_back below)
             (B.written_back e.file)) }
         ensures back_none { IfErr result (λ e. e.error ≡ OpenError.NoBatch

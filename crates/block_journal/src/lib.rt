@@ -8,10 +8,10 @@
 //! `gather`). A commit that succeeds settles what is gathered, and at any moment of one a crash leaves, under the
 //! premise `IsHonest`, the blocks as before it or as after it (`commit`). An opening settles what the file stands for,
 //! and a crash within it changes nothing of that (`open`). Before it writes anything else, it writes both areas back as
-//! they are (`written_back`, `written_back_refused`); no other call writes any back (`back`). Whatever a crash leaves
-//! has a batch for the next opening (`holds`, `batches`). The last batch can be handed on to the other area
-//! (`gather_last`). After an empty batch no area is needed (`close`). Once a commit has failed, no later call makes one
-//! of the file. Neither: the premise, which no hash is known to keep.
+//! they are, and no other block (`written_back`, `written_back_refused`); no other call writes any back (`back`).
+//! Whatever a crash leaves has a batch for the next opening (`holds`, `batches`). The last batch can be handed on to
+//! the other area (`gather_last`). After an empty batch no area is needed (`close`). Once a commit has failed, no later
+//! call makes one of the file. Neither: the premise, which no hash is known to keep.
 //!
 //! Laws: what a crash leaves while a batch is committed is recovered as before it, or as after it (`crash_of_commit`,
 //! `at_any_moment`). Once it is committed, it is the last one (`next_is_last`). A crash may leave any bytes where a run

@@ -6,7 +6,7 @@ ghost use Rattle.block_device.specs.Blocks.{CrashFile, block};
 ghost use Rattle.block_device.specs.BlocksPast.{BlocksPast, RunsWithin};
 ghost use Rattle.block_journal.specs.Layout.{IsHonest, IsInside, found, kept_start, recovered};
 ghost use Rattle.block_journal.specs.Journal.{AreInAreas, InRunOrKept, IsPending, KeepsAreas, LeavesBefore, MayWrite};
-ghost use Rattle.block_journal.specs.Journal.{OnlyReads, StaysRecovered, WritesBackFirst, pending_in};
+ghost use Rattle.block_journal.specs.Journal.{BeginsBack, OnlyReads, StaysRecovered, WritesBackFirst, pending_in};
 ghost use Rattle.block_journal.specs.Value.{content_of, next_batch, settled_of};
 
 use crate::gathered::Gathered;
@@ -141,7 +141,8 @@ impl<B: Blocks, A: Allocator + Copy> JournalParts<B, A> {
         ensures batches { KeepsAreas self.old.shape (B.past_of self.old.below) (B.past_of self.new.below) }
         ensures written_back { OnOk result (WritesBackFirst self.old.shape (B.past_of self.old.below)
             (B.past_of self.new.below) (B.written_back self.old.below) (B.written_back self.new.below)) }
-        ensures back_err { OnErr result (OnlyReads (B.past_of self.old.below) (B.past_of self.new.below)
+        ensures back_err { OnErr result (BeginsBack self.old.shape (B.past_of self.old.below)
+            (B.past_of self.new.below) (B.written_back self.old.below) (B.written_back self.new.below)
             ⊎ WritesBackFirst self.old.shape (B.past_of self.old.below) (B.past_of self.new.below)
             (B.written_back self.old.below) (B.written_back self.new.below)) }
         ensures back_none { IfErr result (λ e. e ≡ OpenError.NoBatch

@@ -1,12 +1,12 @@
 // The areas of a journal are read, and the blocks before the last batch are replayed.
 ghost use Rattle.std.specs.Prelude.{◌≡◌, ◌⊎◌, ◌+◌, ◌%◌, ◌^◌, ◌≤◌, ◌<◌, ℕ, List, Option, None, Some, length, map, Vec};
-ghost use Rattle.std.specs.Prelude.{[], IfOk, IfSome, OnOk, MatchOption, true, false};
+ghost use Rattle.std.specs.Prelude.{[], IfOk, IfSome, OnErr, OnOk, MatchOption, true, false};
 ghost use Rattle.sector_device.specs.DevicePast.{CountsFailure};
 ghost use Rattle.block_device.specs.Blocks.{CrashFile, IsSynced, SameOutside};
 ghost use Rattle.block_device.specs.BlocksPast.{BlocksPast, RunsWithin, and_back};
 ghost use Rattle.block_batch.specs.Batch.{Entry, IsPlace, batch_in, replayed};
 ghost use Rattle.block_journal.specs.Layout.{IsInside, area_of, area_start, found, kept_of, kept_start};
-ghost use Rattle.block_journal.specs.Journal.{InRunOrKept, OnlyReads, areas_back};
+ghost use Rattle.block_journal.specs.Journal.{BeginsBack, InRunOrKept, OnlyReads, areas_back};
 ghost use Rattle.block_journal.specs.Gathered.{batches_of, entries_of, IsBuffer};
 ghost use Rattle.block_journal.specs.Opening.{HasTaken, HasTakenBoth, first_entries, found_batches};
 
@@ -146,6 +146,7 @@ fn keep_area<B: Blocks>(below: &mut B, shape: Shape, a: u64) -> Result<(), Faile
     ensures past { B.past_of below.new ≡ B.past_of below.old }
     ensures back { OnOk result (B.written_back below.new ≡ and_back (B.written_back below.old) (area_start shape a)
         shape.area (B.past_of below.old).moment) }
+    ensures back_err { OnErr result (B.written_back below.new ≡ B.written_back below.old) }
     ensures counts { CountsFailure (B.failures below.old) (B.failures below.new) result }
 {
     let start = shape.first + a * shape.area;
@@ -160,6 +161,9 @@ fn keep_areas<B: Blocks>(below: &mut B, shape: Shape, number: u64) -> Result<(),
     ensures past { B.past_of below.new ≡ B.past_of below.old }
     ensures back { OnOk result (B.written_back below.new
         ≡ areas_back shape number (B.past_of below.old).moment (B.written_back below.old)) }
+    ensures back_err { OnErr result ((B.written_back below.new ≡ B.written_back below.old)
+        ⊎ (B.written_back below.new ≡ and_back (B.written_back below.old) (area_start shape ((number + 1) % 2))
+        shape.area (B.past_of below.old).moment)) }
     ensures counts { CountsFailure (B.failures below.old) (B.failures below.new) result }
 {
     let last = number % 2;
@@ -197,6 +201,8 @@ pub(crate) fn take_areas<B: Blocks, A: Allocator + Copy>(
         ≡ areas_back shape numbers.0 (B.past_of below.new).moment (B.written_back below.old))) }
     ensures back_none { IfOk result (λ numbers. numbers ≡ None
         → B.written_back below.new ≡ B.written_back below.old) }
+    ensures back_err { OnErr result (BeginsBack shape (B.past_of below.old) (B.past_of below.new)
+        (B.written_back below.old) (B.written_back below.new)) }
     ensures counts { CountsFailure (B.failures below.old) (B.failures below.new) result }
 {
     let found = read_areas(below, shape, last, other)?;

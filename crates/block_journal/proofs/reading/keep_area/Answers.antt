@@ -12,4 +12,4 @@ pub keep-requires : goal.keep-requires
 keep-requires g c = omega (arith, area_before_kept c.args.shape c.args.a c.requires.low, c.requires.inside.room)
 
 pub returns : goal.returns
-returns g c = record { past = c.keep.ensures.past; back = c.keep.ensures.back; counts = c.keep.ensures.counts }
+returns g c = record { past = c.keep.ensures.past; back = c.keep.ensures.back; back_err = c.keep.ensures.back_err; counts = c.keep.ensures.counts }

@@ -1,10 +1,10 @@
-use Rattle.std.proofs.Common.{◌≡◌, ℕ, ◌+◌, ◌-◌, ◌%◌, List, Err, sym, ◌∙◌, ap, subst, arith}
+use Rattle.std.proofs.Common.{◌≡◌, inl, inr, ℕ, ◌+◌, ◌-◌, ◌%◌, List, Err, sym, ◌∙◌, ap, subst, arith}
 use Rattle.std.proofs.lemmas.Result.{err_from_is_err_and}
 use Rattle.sector_device.proofs.Counts.{counts_later}
 use Rattle.block_device.specs.BlocksPast.{BlocksPast, WrittenBack, and_back}
 use Rattle.block_journal.specs.Layout.{IsInside, area_start}
 use Rattle.block_journal.specs.Journal.{areas_back}
-use Rattle.block_journal.proofs.Results.{on_ok}
+use Rattle.block_journal.proofs.Results.{on_err, on_ok}
 use Rattle.block_journal.proofs.reading.keep_areas.Goals as goal
 
 pub keep_area-requires : goal.keep_area-requires
@@ -16,6 +16,7 @@ returns-in_err-keep_area g c =
     rw (p.1 ∙ ap Err p.2) (record {
       past = c.keep_area.ensures.past;
       back = tt;
+      back_err = inl c.in_err-keep_area.ensures.back_err;
       counts = c.in_err-keep_area.ensures.counts;
     })
 
@@ -43,5 +44,6 @@ returns g c =
     record {
       past = c.keep_area-2.ensures.past ∙ past;
       back = on_ok _ _ c.keep_area-2.result (λ is. is ∙ both) c.keep_area-2.ensures.back;
+      back_err = on_err _ _ c.keep_area-2.result (λ is. inr (is ∙ first)) c.keep_area-2.ensures.back_err;
       counts = counts_later _ _ _ _ c.in_ok-keep_area.ensures.counts.none c.keep_area-2.ensures.counts;
     }

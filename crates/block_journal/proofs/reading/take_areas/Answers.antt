@@ -1,10 +1,11 @@
-use Rattle.std.proofs.Common.{◌≡◌, ℕ, Err, sym, ◌∙◌, ap, subst, arith}
+use Rattle.std.proofs.Common.{◌≡◌, inl, ℕ, Err, sym, ◌∙◌, ap, subst, arith}
 use Rattle.std.proofs.lemmas.Result.{err_from_is_err_and}
 use Rattle.sector_device.specs.DevicePast.{Rises}
 use Rattle.block_device.specs.Blocks.{BlockFile}
 use Rattle.block_device.specs.BlocksPast.{BlocksPast}
 use Rattle.block_journal.specs.Layout.{IsInside}
 use Rattle.block_journal.specs.Journal.{OnlyReads, areas_back}
+use Rattle.block_journal.proofs.Recovering.{begins_back, one_back}
 use Rattle.block_journal.proofs.reading.take_areas.Goals as goal
 
 pub read_areas-requires : goal.read_areas-requires
@@ -33,6 +34,7 @@ returns-in_err-found g c =
       reads = read.reads;
       back = tt;
       back_none = tt;
+      back_err = record { reads = read.reads; back = inl read.back };
       counts = record { later = c.in_err-found.ensures.counts.later; none = tt; failed = c.in_err-found.ensures.counts.failed };
     })
 
@@ -48,6 +50,9 @@ returns-in_err-keep_areas-in-Some g c =
     let read = c.read_areas.ensures in
     let kept = c.keep_areas.ensures in
     let start = g.B.Blocks.past_of c.args.below.now in
+    let taken = rw c.in-Some.is at c.in_ok-found.ensures.taken in
+    let begun = one_back c.args.shape c.in-Some.numbers.0 _ _ _ (ap (λ (h : BlocksPast). h.moment) (sym kept.past))
+    read.back c.in_err-keep_areas-in-Some.ensures.back_err in
     rw (p.1 ∙ ap Err p.2) (record {
       taken = tt;
       none = tt;
@@ -58,6 +63,8 @@ returns-in_err-keep_areas-in-Some g c =
       reads = subst (λ (h : BlocksPast). OnlyReads start h) (sym kept.past) read.reads;
       back = tt;
       back_none = tt;
+      back_err = begins_back c.args.shape start (g.B.Blocks.past_of c.keep_areas.new.below) c.in-Some.numbers.0 c.in-Some.numbers.1
+          c.read_areas.new.last c.read_areas.new.other _ _ taken (subst (λ (h : BlocksPast). OnlyReads start h) (sym kept.past) read.reads) begun;
       counts = record {
         later = omega (arith, read.counts.later, kept.counts.later);
         none = tt;
@@ -88,6 +95,7 @@ returns-in_ok-keep_areas-in-Some g c =
       reads = subst (λ (p : BlocksPast). OnlyReads start p) (sym past) read.reads;
       back = c.in_ok-keep_areas-in-Some.ensures.back ∙ back;
       back_none = λ is. absurd (cc);
+      back_err = tt;
       counts = record {
         later = omega (arith, read.counts.later, kept.counts.later);
         none = c.in_ok-keep_areas-in-Some.ensures.counts.none ∙ c.in_ok-found.ensures.counts.none;

@@ -28,7 +28,7 @@ returns-in_default g c =
       before_refused = leaves_before shape (InRunOrKept shape 0 0 (pending_in shape h.file.content)) h h
           (not_by_replay shape (pending_in shape h.file.content)) (within_pending shape h c.requires.synced);
       batches_refused = keeps_areas shape (pending_in shape h.file.content) h h c.requires.inside (within_pending shape h c.requires.synced);
-      written_back_refused = inl (reads_none h);
+      written_back_refused = inl (record { reads = reads_none h; back = inl refl });
       back_none = λ never. absurd (cc);
       no_batch = λ never. absurd (cc);
       failed = λ never. absurd (cc);

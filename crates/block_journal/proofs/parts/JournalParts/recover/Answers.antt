@@ -53,7 +53,7 @@ returns-in-Err g c =
           (within_same (InRunOrKept p.shape 0 0 (pending_in p.shape (h p.below).file.content)) (h p.below).file.content (h p.below) (h p.below)
           (h c.take_areas.new.below) (within_pending p.shape (h p.below) c.requires.synced) reads.time reads.file);
       written_back = tt;
-      back_err = inl reads;
+      back_err = inl c.in-Err.ensures.back_err;
       back_none = λ never. absurd (cc);
       quiet = tt;
       no_memory = λ never. absurd (cc);
@@ -86,7 +86,7 @@ returns-in-Ok-None g c =
           (within_same (InRunOrKept p.shape 0 0 (pending_in p.shape (h p.below).file.content)) (h p.below).file.content (h p.below) (h p.below)
           (h c.take_areas.new.below) (within_pending p.shape (h p.below) c.requires.synced) reads.time reads.file);
       written_back = tt;
-      back_err = inl reads;
+      back_err = inl (record { reads = reads; back = inl (c.in-Ok-None.ensures.back_none c.in-Ok-None.field-0-is) });
       back_none = λ _. c.in-Ok-None.ensures.back_none c.in-Ok-None.field-0-is;
       quiet = tt;
       no_memory = λ never. absurd (cc);
