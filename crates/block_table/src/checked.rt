@@ -5,7 +5,7 @@ ghost use Rattle.sector_device.specs.DevicePast.{CountsFailure, Rises};
 ghost use Rattle.block_device.specs.Blocks.{CrashFile, IsCrashFile, IsSynced, block};
 ghost use Rattle.block_journal.specs.Layout.{IsHonest, IsInside, found, kept_of, recovered};
 ghost use Rattle.block_journal.specs.Journal.{AreInAreas, IsPending, KeepsAreas, KeepsBatch, LeavesBefore};
-ghost use Rattle.block_journal.specs.Journal.{NeedsNoArea, OnlyReads, StaysRecovered, WritesBackFirst};
+ghost use Rattle.block_journal.specs.Journal.{BeginsBack, NeedsNoArea, OnlyReads, StaysRecovered, WritesBackFirst};
 ghost use Rattle.block_batch.specs.Batch.{Batch, IsPlace};
 ghost use Rattle.block_journal.specs.Value.{CanCommit, LeavesEither, Offers, failures_of, next_batch, room_of};
 ghost use Rattle.block_table.specs.Table.{IsFirstUnfit, IsFit, kept_count, place_of};
@@ -89,7 +89,8 @@ impl<B: Blocks, A: Allocator + Copy> CheckedBlocks<B, A> {
         ensures refused { IfErr result (λ e. StaysRecovered shape (B.past_of below) (B.past_of e.file)) }
         ensures before_refused { IfErr result (λ e. LeavesBefore shape (B.past_of below) (B.past_of e.file)) }
         ensures batches_refused { IfErr result (λ e. KeepsAreas shape (B.past_of below) (B.past_of e.file)) }
-        ensures written_back_refused { IfErr result (λ e. OnlyReads (B.past_of below) (B.past_of e.file)
+        ensures written_back_refused { IfErr result (λ e. BeginsBack shape (B.past_of below) (B.past_of e.file)
+            (B.written_back below) (B.written_back e.file)
             ⊎ WritesBackFirst shape (B.past_of below) (B.past_of e.file) (B.written_back below)
             (B.written_back e.file)) }
         ensures back_none { IfErr result (λ e. e.error ≡ OpenError.NoBatch

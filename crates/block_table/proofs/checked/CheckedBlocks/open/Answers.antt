@@ -1,7 +1,7 @@
 use Rattle.std.proofs.Common.{◌≡◌, ◌⊎◌, inr, ℕ, ◌-◌, Err, refl, sym, ◌∙◌, ap, subst, arith}
 use Rattle.std.proofs.lemmas.Result.{err_from_is_err_and}
 use Rattle.sector_device.specs.DevicePast.{Rises}
-use Rattle.block_journal.specs.Journal.{KeepsAreas, LeavesBefore, OnlyReads, StaysRecovered, WritesBackFirst}
+use Rattle.block_journal.specs.Journal.{BeginsBack, KeepsAreas, LeavesBefore, StaysRecovered, WritesBackFirst}
 use Rattle.block_journal.proofs.Before.{before_read}
 use Rattle.block_journal.proofs.Keeping.{areas_read}
 use Rattle.block_journal.specs.Value.{JournalValue, content_of}
@@ -132,7 +132,7 @@ returns-in-Err g c =
           (before_read c.args.shape (h c.args.below) (h v.below) (h m.below) opened.before c.read_rows.ensures.reads);
       batches_refused = subst (λ (b : g.row.B.Denot). KeepsAreas c.args.shape (h c.args.below) (h b)) (sym c.into_file.ensures)
           (areas_read c.args.shape (h c.args.below) (h v.below) (h m.below) opened.batches c.read_rows.ensures.reads);
-      written_back_refused = subst (λ (b : g.row.B.Denot). OnlyReads (h c.args.below) (h b)
+      written_back_refused = subst (λ (b : g.row.B.Denot). BeginsBack c.args.shape (h c.args.below) (h b) (back c.args.below) (back b)
           ⊎ WritesBackFirst c.args.shape (h c.args.below) (h b) (back c.args.below) (back b)) (sym c.into_file.ensures) (inr wrote);
       back_none = λ is. absurd (c.in-Err.ensures.no_batch is);
       no_batch = λ is. absurd (c.in-Err.ensures.no_batch is);
