@@ -1,22 +1,23 @@
 -- The file of a new device, as it is laid out.
-use Rattle.std.proofs.Common.{◌≡◌, inl, inr, ℕ, zero, suc, ◌+◌, ◌*◌, ◌/◌, ◌%◌, ◌^◌, ◌<◌, Bool, true, false, if◌then◌else◌, List, []}
+use Rattle.std.proofs.Common.{◌≡◌, inl, inr, ⊎_elim, ℕ, zero, suc, ◌+◌, ◌*◌, ◌/◌, ◌%◌, ◌^◌, ◌<◌, ◌≤◌, Bool, true, false, if◌then◌else◌, List, []}
 use Rattle.std.proofs.Common.{Option, Some, None, length, map, slice_index, slice_set, refl, sym, ◌∙◌, ap, subst, arith, nat_lt, ◌&&◌}
 use Rattle.std.specs.Prelude.{IfSome}
 use Rattle.std.specs.List.{range_with_len}
 use Rattle.std.proofs.lemmas.Bool.{and_parts, cases_eq, ltb-true}
 use Rattle.std.proofs.lemmas.List.{get_or-set_other}
 use Rattle.std.proofs.lemmas.Grind.{get_or-set_at}
-use Rattle.block_device.specs.Blocks.{CrashFile, InRun, SameOutside, block, zero_block}
-use Rattle.block_device.specs.BlocksPast.{BlocksPast, LeavesOnly}
-use Rattle.block_batch.specs.Batch.{batch_in, block_digest, count_in, number_in, place_in, replayed}
+use Rattle.block_device.specs.Blocks.{BlockFile, CrashFile, InRun, SameOutside, block, zero_block}
+use Rattle.block_device.specs.BlocksPast.{BlocksPast, LeavesOnly, WrittenBack, and_back}
+use Rattle.block_batch.specs.Batch.{Batch, batch_in, block_digest, count_in, number_in, place_in, replayed}
 use Rattle.block_batch.specs.Replay.{pending}
 use Rattle.block_journal.specs.declared.shape.Shape.{Shape}
+use Rattle.block_journal.specs.Journal.{BeginsBack, WritesBackFirst, areas_back}
 use Rattle.block_journal.specs.Layout.{IsInside, area_of, area_start, found, found_in, kept_of, kept_start, recovered}
 use Rattle.block_journal.proofs.Crash.{area_before_kept, block_of_run, run_same}
 use Rattle.block_table.specs.Table.{EachFits, data_of, digest_of, kept_count, place_of, table_count}
 use Rattle.block_file.specs.declared.plan.Plan.{Plan}
 use Rattle.block_file.specs.Header.{CanBeTold, can_be, first_of, plan_for, plan_told, told_by}
-use Rattle.block_file.specs.Making.{AreBegun, HoldsZeros, IsBehind, IsNewBlock}
+use Rattle.block_file.specs.Making.{AreBegun, BeginsNewBack, HoldsZeros, IsBehind, IsNewBlock, WritesNewBack}
 use Rattle.block_file.specs.Plans.{IsPlan}
 use Rattle.block_file.specs.Sectors.{sectors_of}
 use Rattle.block_file.proofs.Zeros.{data_block, zero_sectors}
@@ -191,3 +192,48 @@ both_begun g image first second (suc (suc a)) low = absurd (omega (arith, low))
 -- and stay so where only headers are written
 pub begun_same : (g : Shape) (image c : CrashFile) → g.first ≡ 2 → IsInside g image → SameOutside (InRun 0 2) image c → AreBegun g image → AreBegun g c
 begun_same g image c two inside agrees begun a low = found_same g image c a (area_same g image c two inside agrees a low) ∙ begun a low
+
+-- ---- its areas are written back
+
+-- the number of a batch, if there is one
+abbrev number_of : Option Batch → ℕ
+number_of None = 0
+number_of (Some x) = x.number
+
+-- the last one is that of number 1
+pub last_is_one : (g : Shape) (image : CrashFile) (last : Batch) → AreBegun g image → found g image (last.number % 2) ≡ Some last
+    → IfSome (found g image ((last.number + 1) % 2)) (λ x. x.number < last.number) → last.number ≡ 1
+last_is_one g image last begun here other =
+    let low : last.number % 2 ≡ last.number = ap number_of (sym (begun (last.number % 2) (omega arith)) ∙ here) in
+    let one : (last.number + 1) % 2 < last.number =
+    subst (λ (o : Option Batch). IfSome o (λ x. x.number < last.number)) (begun ((last.number + 1) % 2) (omega arith)) other in
+    omega (arith, low, one)
+
+module _ (p : Plan) (from : ℕ) (mid new : BlocksPast) (before now : List WrittenBack) (told : plan_told mid.file.content ≡ Some p)
+    (begun : AreBegun p.shape mid.file.content) (later : from ≤ mid.moment) where
+  pub new_back : WritesBackFirst p.shape mid new before now → WritesNewBack p from new before now
+  new_back wrote =
+      let same : new.file_at wrote.moment ≡ mid.file = wrote.still wrote.moment wrote.later (omega arith) in
+      record {
+        moment = wrote.moment;
+        later = omega (arith, later, wrote.later);
+        until = wrote.until;
+        told = ap (λ (f : BlockFile). plan_told f.content) same ∙ told;
+        begun = subst (λ (f : BlockFile). AreBegun p.shape f.content) (sym same) begun;
+        back = wrote.back ∙ ap (λ (n : ℕ). areas_back p.shape n wrote.moment before)
+            (last_is_one p.shape mid.file.content wrote.last begun wrote.here wrote.other);
+      }
+
+  pub begins_new_back : BeginsBack p.shape mid new before now → BeginsNewBack p from new before now
+  begins_new_back begins = ⊎_elim (λ none. inl none) (λ one.
+      let same : new.file_at one.moment ≡ mid.file =
+      ⊎_elim (λ is. is) (λ is. is ∙ begins.reads.file) (begins.reads.time.during one.moment one.later one.until) in
+      inr (inl (record {
+        moment = one.moment;
+        later = omega (arith, later, one.later);
+        until = one.until;
+        told = ap (λ (f : BlockFile). plan_told f.content) same ∙ told;
+        begun = subst (λ (f : BlockFile). AreBegun p.shape f.content) (sym same) begun;
+        back = one.back ∙ ap (λ (n : ℕ). and_back before (area_start p.shape ((n + 1) % 2)) p.shape.area one.moment)
+            (last_is_one p.shape mid.file.content one.last begun one.here one.other);
+      }))) begins.back

@@ -7,7 +7,7 @@ ghost use Rattle.block_journal.specs.Layout.{IsInside};
 ghost use Rattle.block_file.specs.Disks.{disk_failures, disk_file, disk_past, disk_plan, first_content};
 ghost use Rattle.block_file.specs.Good.{IsGood};
 ghost use Rattle.block_file.specs.Header.{CanBeTold, TellTwice, plan_told};
-ghost use Rattle.block_file.specs.Making.{BecomesZeros};
+ghost use Rattle.block_file.specs.Making.{BecomesZeros, BeginsNewBack, WritesNewBack};
 
 use crate::making::lay_out;
 use crate::opening::{error_of, has_room};
@@ -17,7 +17,8 @@ use block_table::CheckedBlocks;
 use std::alloc::Allocator;
 
 /// Makes a file of blocks for a new device, whose sectors are of zeros, as [`lay_out`] does, and opens it. No block of
-/// the file is loose.
+/// the file is loose. The opening writes back both areas of the journal, and no other block (`written_back`,
+/// `written_back_refused`).
 ///
 /// It is refused where the file has fewer blocks than the plan asks for, and is then left alone (`left_alone`); where
 /// the file fails; and where memory is refused.
@@ -40,7 +41,11 @@ pub fn create<B: Blocks, A: Allocator + Copy>(
     ensures good { IfOk result (λ d. IsGood B.past_of d) }
     ensures failures { IfOk result (λ d. disk_failures B.failures d ≡ B.failures below) }
     ensures any_moment { IfOk result (λ d. BecomesZeros plan (B.past_of below) (B.past_of (disk_file d))) }
+    ensures written_back { IfOk result (λ d. WritesNewBack plan (B.past_of below).moment (B.past_of (disk_file d))
+        (B.written_back below) (B.written_back (disk_file d))) }
     ensures refused { IfErr result (λ e. BecomesZeros plan (B.past_of below) (B.past_of e.file)) }
+    ensures written_back_refused { IfErr result (λ e. BeginsNewBack plan (B.past_of below).moment (B.past_of e.file)
+        (B.written_back below) (B.written_back e.file)) }
     ensures left_alone { IfErr result (λ e. e.error ≡ FileError.TooShort → e.file ≡ below) }
     ensures too_short { IfErr result (λ e. e.error ≡ FileError.TooShort
         → ¬ IsInside plan.shape (B.past_of below).file.content) }

@@ -51,6 +51,7 @@ fn write_one<B: Blocks>(below: &mut B, n: u64, bytes: &[u8; BLOCK_SIZE]) -> Resu
     ensures size { length (B.past_of below.new).file.content ≡ length (B.past_of below.old).file.content }
     ensures within { (image : CrashFile) (start : BlocksPast) → RunsWithin IsBehind image start (B.past_of below.old)
         → RunsWithin IsBehind image start (B.past_of below.new) }
+    ensures back { B.written_back below.new ≡ B.written_back below.old }
     ensures counts { CountsFailure (B.failures below.old) (B.failures below.new) result }
 {
     below.write(n, &[*bytes])
@@ -66,6 +67,7 @@ fn write_kept<B: Blocks>(below: &mut B, first: u64, table: u64, count: u64) -> R
     ensures size { length (B.past_of below.new).file.content ≡ length (B.past_of below.old).file.content }
     ensures within { (image : CrashFile) (start : BlocksPast) → RunsWithin IsBehind image start (B.past_of below.old)
         → RunsWithin IsBehind image start (B.past_of below.new) }
+    ensures back { B.written_back below.new ≡ B.written_back below.old }
     ensures counts { CountsFailure (B.failures below.old) (B.failures below.new) result }
 {
     few_blocks(below);
@@ -89,6 +91,7 @@ fn begin_area<B: Blocks>(below: &mut B, shape: Shape, a: u64) -> Result<(), Fail
     ensures size { length (B.past_of below.new).file.content ≡ length (B.past_of below.old).file.content }
     ensures within { (image : CrashFile) (start : BlocksPast) → RunsWithin IsBehind image start (B.past_of below.old)
         → RunsWithin IsBehind image start (B.past_of below.new) }
+    ensures back { B.written_back below.new ≡ B.written_back below.old }
     ensures counts { CountsFailure (B.failures below.old) (B.failures below.new) result }
 {
     few_blocks(below);
@@ -107,6 +110,7 @@ fn write_behind<B: Blocks>(below: &mut B, plan: Plan) -> Result<(), Failed>
     ensures size { length (B.past_of below.new).file.content ≡ length (B.past_of below.old).file.content }
     ensures within { (image : CrashFile) (start : BlocksPast) → RunsWithin IsBehind image start (B.past_of below.old)
         → RunsWithin IsBehind image start (B.past_of below.new) }
+    ensures back { B.written_back below.new ≡ B.written_back below.old }
     ensures counts { CountsFailure (B.failures below.old) (B.failures below.new) result }
 {
     few_blocks(below);
@@ -128,6 +132,7 @@ fn write_headers<B: Blocks>(below: &mut B, header: &[u8; BLOCK_SIZE]) -> Result<
     ensures synced { OnOk result (IsSynced (B.past_of below.new).file) }
     ensures within { RunsWithin (InRun 0 2) (B.past_of below.old).file.content (B.past_of below.old)
         (B.past_of below.new) }
+    ensures back { B.written_back below.new ≡ B.written_back below.old }
     ensures counts { CountsFailure (B.failures below.old) (B.failures below.new) result }
 {
     below.write(0, &[*header, *header])?;
@@ -138,7 +143,7 @@ fn write_headers<B: Blocks>(below: &mut B, header: &[u8; BLOCK_SIZE]) -> Result<
 /// each area of the journal; behind a sync the header, twice. What the file had before is lost.
 ///
 /// Whatever it answers, a crash at any moment of it leaves headers that tell what they told before, or zeros
-/// (`any_moment`).
+/// (`any_moment`). Nothing is written back (`back`).
 pub fn lay_out<B: Blocks>(below: &mut B, plan: Plan) -> Result<(), Failed>
     requires told { CanBeTold plan }
     requires room { IsInside plan.shape (B.past_of below.old).file.content }
@@ -150,6 +155,7 @@ pub fn lay_out<B: Blocks>(below: &mut B, plan: Plan) -> Result<(), Failed>
     ensures synced { OnOk result (IsSynced (B.past_of below.new).file) }
     ensures any_moment { BecomesZeros plan (B.past_of below.old) (B.past_of below.new) }
     ensures size { length (B.past_of below.new).file.content ≡ length (B.past_of below.old).file.content }
+    ensures back { B.written_back below.new ≡ B.written_back below.old }
     ensures counts { CountsFailure (B.failures below.old) (B.failures below.new) result }
 {
     write_behind(below, plan)?;

@@ -4,7 +4,7 @@ ghost use Rattle.std.specs.Prelude.{IfOk, IfSome};
 ghost use Rattle.sector_device.specs.Disk.{IsSynced};
 ghost use Rattle.sector_device.specs.DevicePast.{Rises};
 ghost use Rattle.block_journal.specs.Layout.{IsHonest, IsInside, recovered};
-ghost use Rattle.block_journal.specs.Journal.{LeavesBefore, OnlyReads, WritesBackFirst};
+ghost use Rattle.block_journal.specs.Journal.{BeginsBack, LeavesBefore, OnlyReads, WritesBackFirst};
 ghost use Rattle.block_journal.specs.Value.{failures_of};
 ghost use Rattle.block_table.specs.Checked.{settled_data, settled_table};
 ghost use Rattle.block_table.specs.Table.{EachFits, IsFirstUnfit};
@@ -228,18 +228,20 @@ fn compared<B: Blocks, A: Allocator + Copy>(
 /// data is compared with its digest. No block of the file is loose. So each sector can be read, where the file
 /// doesn't fail (`good`).
 ///
-/// What was read of the journal's areas is written back, and synced, before anything else is written (`written_back`,
-/// `written_back_refused`). The blocks of the batch before the last one are put in their places. Once each block fits,
-/// the last batch is handed on as one of its own, and then all blocks are put in their places: no area of the journal
-/// is needed, and no block is loose (`alone`, `safe`, `handed`). So what was acknowledged is not in the journal alone.
-/// Behind the last numbers of 64 bits none can be handed on (`failed`). (That the last batch is handed on before its
-/// blocks come to their places, no clause says.)
+/// What was read of the journal's areas is written back, and synced, before anything else is written (`written_back`).
+/// One that is refused meanwhile has written back nothing, or one area alone (`written_back_refused`). The blocks of
+/// the batch before the last one are put in their places. Once each block fits, the last batch is handed on as one of
+/// its own, and then all blocks are put in their places: no area of the journal is needed, and no block is loose
+/// (`alone`, `safe`, `handed`). So what was acknowledged is not in the journal alone. Behind the last numbers of 64
+/// bits none can be handed on (`failed`). (That the last batch is handed on before its blocks come to their places, no
+/// clause says.)
 ///
 /// Whatever it answers, a crash at any moment of it leaves, under the premise, what stands for the same blocks
 /// (`any_moment`, `refused`), behind the same headers (`headers`, `headers_refused`). The premise is needed only once
 /// batches are handed on. Where the file has no plan that it has room for, nothing changes, and nothing is written back
-/// (`left_alone`, `back_alone`). One that can be opened is refused for want of memory, or as the file failed (`only`),
-/// and a crash meanwhile leaves one that can be opened (`again`, `refused`).
+/// (`left_alone`, `back_alone`). Nor is anything where the journal has no batch (`back_none`). One that can be opened
+/// is refused for want of memory, or as the file failed (`only`), and a crash meanwhile leaves one that can be opened
+/// (`again`, `refused`).
 pub fn open<B: Blocks, A: Allocator + Copy>(
     alloc: A,
     below: B,
@@ -271,13 +273,16 @@ pub fn open<B: Blocks, A: Allocator + Copy>(
         → OnlyReads (B.past_of below) (B.past_of e.file)) }
     ensures back_alone { IfErr result (λ e. HasNoPlan (B.past_of below).file.content
         → B.written_back e.file ≡ B.written_back below) }
+    ensures back_none { IfErr result (λ e. e.error ≡ FileError.NoBatch
+        → B.written_back e.file ≡ B.written_back below) }
     ensures headers_refused { IfErr result (λ e. (p : Plan) → plan_told (B.past_of below).file.content ≡ Some p
         → LeavesBefore p.shape (B.past_of below) (B.past_of e.file)) }
     ensures refused { IfErr result (λ e. (p : Plan) → plan_told (B.past_of below).file.content ≡ Some p
         → IsInside p.shape (B.past_of below).file.content
         → IsLeft p e.error (B.past_of below) (B.past_of e.file)) }
     ensures written_back_refused { IfErr result (λ e. (p : Plan)
-        → plan_told (B.past_of below).file.content ≡ Some p → OnlyReads (B.past_of below) (B.past_of e.file)
+        → plan_told (B.past_of below).file.content ≡ Some p
+        → BeginsBack p.shape (B.past_of below) (B.past_of e.file) (B.written_back below) (B.written_back e.file)
         ⊎ WritesBackFirst p.shape (B.past_of below) (B.past_of e.file) (B.written_back below)
         (B.written_back e.file)) }
     ensures damaged { IfErr result (λ e. (n : ℕ) → e.error ≡ FileError.Damaged n

@@ -3,7 +3,7 @@ ghost use Rattle.std.specs.Prelude.{◌≡◌, ◌≢◌, ◌⊎◌, ◌<◌, �
 ghost use Rattle.sector_device.specs.Disk.{IsSynced};
 ghost use Rattle.sector_device.specs.DevicePast.{Rises};
 ghost use Rattle.block_journal.specs.Layout.{IsInside, recovered};
-ghost use Rattle.block_journal.specs.Journal.{LeavesBefore, OnlyReads, StaysRecovered, WritesBackFirst};
+ghost use Rattle.block_journal.specs.Journal.{BeginsBack, LeavesBefore, OnlyReads, StaysRecovered, WritesBackFirst};
 ghost use Rattle.block_file.specs.Disks.{disk_failed, disk_failures, disk_file, disk_past, disk_plan, disk_table};
 ghost use Rattle.block_file.specs.Disks.{first_content};
 ghost use Rattle.block_file.specs.Header.{HasNoBatch, HasNoPlan, IsCut, plan_told};
@@ -19,7 +19,7 @@ use std::alloc::Allocator;
 /// Opens a file of blocks as [`crate::open`] does, but compares no block with its digest: each is compared as it is
 /// read, and [`BlockDisk::check`] tells those that don't fit. So it is never refused for such a block (`undamaged`). No
 /// batch is handed on, so the areas of the journal are needed still. They are written back as by that (`written_back`,
-/// `written_back_refused`).
+/// `written_back_refused`, `back_none`).
 pub fn open_uncompared<B: Blocks, A: Allocator + Copy>(
     alloc: A,
     below: B,
@@ -44,13 +44,16 @@ pub fn open_uncompared<B: Blocks, A: Allocator + Copy>(
         → OnlyReads (B.past_of below) (B.past_of e.file)) }
     ensures back_alone { IfErr result (λ e. HasNoPlan (B.past_of below).file.content
         → B.written_back e.file ≡ B.written_back below) }
+    ensures back_none { IfErr result (λ e. e.error ≡ FileError.NoBatch
+        → B.written_back e.file ≡ B.written_back below) }
     ensures headers_refused { IfErr result (λ e. (p : Plan) → plan_told (B.past_of below).file.content ≡ Some p
         → LeavesBefore p.shape (B.past_of below) (B.past_of e.file)) }
     ensures refused { IfErr result (λ e. (p : Plan) → plan_told (B.past_of below).file.content ≡ Some p
         → IsInside p.shape (B.past_of below).file.content
         → StaysRecovered p.shape (B.past_of below) (B.past_of e.file)) }
     ensures written_back_refused { IfErr result (λ e. (p : Plan)
-        → plan_told (B.past_of below).file.content ≡ Some p → OnlyReads (B.past_of below) (B.past_of e.file)
+        → plan_told (B.past_of below).file.content ≡ Some p
+        → BeginsBack p.shape (B.past_of below) (B.past_of e.file) (B.written_back below) (B.written_back e.file)
         ⊎ WritesBackFirst p.shape (B.past_of below) (B.past_of e.file) (B.written_back below)
         (B.written_back e.file)) }
     ensures undamaged { IfErr result (λ e. (n : ℕ) → e.error ≢ FileError.Damaged n) }

@@ -1,12 +1,12 @@
-use Rattle.std.proofs.Common.{◌≡◌, ◌⊎◌, inl, inr, ℕ, ◌<◌, List, [], Some, None, sym, ◌∙◌, ap, subst, arith}
+use Rattle.std.proofs.Common.{◌≡◌, ◌⊎◌, inl, inr, ⊎_elim, ℕ, ◌<◌, List, [], Some, None, refl, sym, ◌∙◌, ap, subst, arith}
 use Rattle.sector_device.specs.DevicePast.{Rises}
 use Rattle.block_device.specs.Blocks.{CrashFile, block}
-use Rattle.block_device.specs.BlocksPast.{BlocksPast}
+use Rattle.block_device.specs.BlocksPast.{BlocksPast, WrittenBack}
 use Rattle.block_device.proofs.CrashFiles.{content_is_image, crash_synced}
 use Rattle.block_device.proofs.Moments.{at_end, joined, started}
 use Rattle.block_batch.specs.Batch.{Entry, replayed}
 use Rattle.block_journal.specs.Layout.{found, recovered}
-use Rattle.block_journal.specs.Journal.{StaysRecovered}
+use Rattle.block_journal.specs.Journal.{BeginsBack, StaysRecovered}
 use Rattle.block_journal.specs.Value.{JournalValue, content_of, settled_of}
 use Rattle.block_journal.proofs.Placing.{inside_same}
 use Rattle.block_journal.proofs.Results.{from_err, from_ok}
@@ -14,11 +14,11 @@ use Rattle.block_table.specs.Checked.{CheckedValue}
 use Rattle.block_table.specs.Table.{EachFits, data_of}
 use Rattle.block_file.specs.declared.plan.Plan.{Plan}
 use Rattle.block_file.specs.Header.{TellTwice, plan_told}
-use Rattle.block_file.specs.Making.{BecomesZeros, HoldsZeros}
+use Rattle.block_file.specs.Making.{AreBegun, BecomesZeros, BeginsNewBack, HoldsZeros, WritesNewBack}
 use Rattle.block_file.specs.Sectors.{sectors_of}
 use Rattle.block_file.specs.Disks.{journal_in}
 use Rattle.block_file.proofs.Heading.{still_told, twice_still}
-use Rattle.block_file.proofs.NewFile.{leaves_weaker, same_zeros, told_is_plan, told_small}
+use Rattle.block_file.proofs.NewFile.{begins_new_back, leaves_weaker, new_back, same_zeros, told_is_plan, told_small}
 use Rattle.block_file.proofs.Reopening.{good_opened}
 use Rattle.block_file.proofs.creating.create.Goals as goal
 
@@ -60,6 +60,9 @@ returns-then-not-has_room-clause-refused g c =
     started old (λ image. (plan_told image ≡ plan_told old.file.content) ⊎ HoldsZeros c.args.plan image)
     (λ image crash. inl (ap plan_told (crash_synced old.file image c.requires.synced crash)))
 
+pub returns-then-not-has_room-clause-written_back_refused : goal.returns-then-not-has_room-clause-written_back_refused
+returns-then-not-has_room-clause-written_back_refused g c = inl refl
+
 pub returns-then-is_err : goal.returns-then-is_err
 returns-then-is_err g c =
     let failed = sym c.is_err.ensures.value ∙ c.if-is_err.true in
@@ -72,7 +75,9 @@ returns-then-is_err g c =
       good = tt;
       failures = tt;
       any_moment = tt;
+      written_back = tt;
       refused = c.lay_out.ensures.any_moment;
+      written_back_refused = inl c.lay_out.ensures.back;
       left_alone = λ is. absurd (cc);
       too_short = λ is. absurd (cc);
       failed = λ is. from_err _ _ failed c.lay_out.ensures.counts.failed;
@@ -84,6 +89,7 @@ returns-then-is_err g c =
 pub returns-in-Ok : goal.returns-in-Ok
 returns-in-Ok g c =
     let h = g.B.Blocks.past_of in
+    let back = g.B.Blocks.written_back in
     let plan : Plan = c.args.plan in
     let good = sym c.is_err.ensures.value ∙ c.if-is_err.false in
     let old : BlocksPast = h c.args.below in
@@ -114,7 +120,12 @@ returns-in-Ok g c =
       failures = omega (arith, over.failures, opened.quiet, opened.unrefused, from_ok _ _ good c.lay_out.ensures.counts.none);
       any_moment = subst (λ (v : JournalValue g.row.B.Denot). BecomesZeros plan old (h v.below)) (sym over.journal)
           (goes_on plan old mid (h checked.journal.below) c.lay_out.ensures.any_moment held opened.any_moment);
+      written_back = subst (λ (v : JournalValue g.row.B.Denot). WritesNewBack plan old.moment (h v.below) (back c.args.below) (back v.below))
+          (sym over.journal) (subst (λ (l : List WrittenBack). WritesNewBack plan old.moment end l (back checked.journal.below)) c.lay_out.ensures.back
+          (new_back plan old.moment mid end (back c.lay_out.new.below) (back checked.journal.below) (from_ok _ _ good c.lay_out.ensures.told)
+          (from_ok _ _ good c.lay_out.ensures.begun) c.lay_out.ensures.any_moment.later opened.written_back));
       refused = tt;
+      written_back_refused = tt;
       left_alone = tt;
       too_short = tt;
       failed = tt;
@@ -127,12 +138,17 @@ pub returns-in-Err : goal.returns-in-Err
 returns-in-Err g c =
     let h = g.B.Blocks.past_of in
     let F = g.B.Blocks.failures in
+    let back = g.B.Blocks.written_back in
     let plan : Plan = c.args.plan in
     let good = sym c.is_err.ensures.value ∙ c.if-is_err.false in
     let old : BlocksPast = h c.args.below in
     let mid : BlocksPast = h c.lay_out.new.below in
+    let new : BlocksPast = h c.in-Err.refused.file in
     let refused = c.in-Err.ensures in
     let kind = c.error_of.ensures in
+    let later = c.lay_out.ensures.any_moment.later in
+    let told : plan_told mid.file.content ≡ Some plan = from_ok _ _ good c.lay_out.ensures.told in
+    let both : AreBegun plan.shape mid.file.content = from_ok _ _ good c.lay_out.ensures.begun in
     let held : HoldsZeros plan mid.file.content = from_ok _ _ good c.lay_out.ensures.zeros in
     let begun : found plan.shape mid.file.content 0 ≡ Some (record { number = 0; entries = [] }) = from_ok _ _ good c.lay_out.ensures.begun 0 (omega arith) in
     record {
@@ -144,7 +160,14 @@ returns-in-Err g c =
       good = tt;
       failures = tt;
       any_moment = tt;
+      written_back = tt;
       refused = goes_on plan old mid (h c.in-Err.refused.file) c.lay_out.ensures.any_moment held refused.refused;
+      written_back_refused = subst (λ (l : List WrittenBack). BeginsNewBack plan old.moment new l (back c.in-Err.refused.file)) c.lay_out.ensures.back
+          (⊎_elim
+          (λ (begins : BeginsBack plan.shape mid new (back c.lay_out.new.below) (back c.in-Err.refused.file)).
+          begins_new_back plan old.moment mid new (back c.lay_out.new.below) (back c.in-Err.refused.file) told both later begins)
+          (λ wrote. inr (inr (new_back plan old.moment mid new (back c.lay_out.new.below) (back c.in-Err.refused.file) told both later wrote)))
+          refused.written_back_refused);
       left_alone = λ is. absurd (kind.short is);
       too_short = λ is. absurd (kind.short is);
       failed = λ is. subst (λ (a : ℕ). Rises a (F c.in-Err.refused.file)) (from_ok _ _ good c.lay_out.ensures.counts.none) (refused.failed (kind.failed is));

@@ -50,5 +50,6 @@ returns g c =
           all.ok;
       size = all.size;
       within = all.within;
+      back = all.back;
       counts = all.counts;
     }

@@ -42,6 +42,7 @@ returns-in_err-write_behind g c =
       any_moment = before_headers c.args.plan old (h c.write_behind.new.below) (c.write_behind.ensures.within old.file.content old
           (within_start IsBehind old.file.content old (synced_all IsBehind old.file c.requires.synced)));
       size = c.write_behind.ensures.size;
+      back = c.write_behind.ensures.back;
       counts = c.in_err-write_behind.ensures.counts;
     })
 
@@ -81,5 +82,6 @@ returns g c =
           (leaves_weaker mid new (SameOutside (InRun 0 2) mid.file.content)
           (λ c. (plan_told c ≡ plan_told old.file.content) ⊎ HoldsZeros plan c) (λ image same. inr (held image same)) head.within.run);
       size = agrees.size ∙ c.write_behind.ensures.size;
+      back = head.back ∙ c.write_behind.ensures.back;
       counts = counts_later _ _ _ c.write_headers.result behind.counts.none head.counts;
     }

@@ -48,6 +48,7 @@ returns-in_err-write_kept g c =
       synced = tt;
       size = c.write_kept.ensures.size;
       within = c.write_kept.ensures.within;
+      back = c.write_kept.ensures.back;
       counts = c.in_err-write_kept.ensures.counts;
     })
 
@@ -60,6 +61,7 @@ returns-in_err-begin_area g c =
       synced = tt;
       size = c.begin_area.ensures.size ∙ c.write_kept.ensures.size;
       within = λ image start from. c.begin_area.ensures.within image start (c.write_kept.ensures.within image start from);
+      back = c.begin_area.ensures.back ∙ c.write_kept.ensures.back;
       counts = counts_later _ _ _ _ c.in_ok-write_kept.ensures.counts.none c.in_err-begin_area.ensures.counts;
     })
 
@@ -73,6 +75,7 @@ returns-in_err-begin_area-2 g c =
       size = c.begin_area-2.ensures.size ∙ c.begin_area.ensures.size ∙ c.write_kept.ensures.size;
       within = λ image start from. c.begin_area-2.ensures.within image start
           (c.begin_area.ensures.within image start (c.write_kept.ensures.within image start from));
+      back = c.begin_area-2.ensures.back ∙ c.begin_area.ensures.back ∙ c.write_kept.ensures.back;
       counts = counts_later _ _ _ _ (c.in_ok-begin_area.ensures.counts.none ∙ c.in_ok-write_kept.ensures.counts.none)
           c.in_err-begin_area-2.ensures.counts;
     })
@@ -113,6 +116,7 @@ returns g c =
       size = holds_after_sync (λ f. length f.content ≡ length old.content) mid.file new.file c.sync.result done.ok done.err size size;
       within = λ image start from. within_sync IsBehind image start mid new (c.begin_area-2.ensures.within image start
           (c.begin_area.ensures.within image start (c.write_kept.ensures.within image start from))) done.time c.sync.result done.ok done.err;
+      back = done.back ∙ c.begin_area-2.ensures.back ∙ c.begin_area.ensures.back ∙ c.write_kept.ensures.back;
       counts = counts_later _ _ _ c.sync.result
           (c.in_ok-begin_area-2.ensures.counts.none ∙ c.in_ok-begin_area.ensures.counts.none ∙ c.in_ok-write_kept.ensures.counts.none) done.counts;
     }

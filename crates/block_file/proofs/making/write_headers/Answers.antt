@@ -25,6 +25,7 @@ returns-in_err-write g c =
       within = within_write (InRun 0 2) old.file.content old old mid
           (within_start (InRun 0 2) old.file.content old (synced_all (InRun 0 2) old.file c.requires.synced)) wrote.time 0 run c.write.result
           (λ n inside. inside) wrote.ok wrote.err;
+      back = wrote.back;
       counts = c.in_err-write.ensures.counts;
     })
 
@@ -49,5 +50,6 @@ returns g c =
       within = within_sync (InRun 0 2) old.file.content old mid new (within_write (InRun 0 2) old.file.content old old mid
           (within_start (InRun 0 2) old.file.content old (synced_all (InRun 0 2) old.file c.requires.synced)) wrote.time 0 run c.write.result
           (λ n inside. inside) wrote.ok wrote.err) done.time c.sync.result done.ok done.err;
+      back = done.back ∙ wrote.back;
       counts = counts_later _ _ _ c.sync.result c.in_ok-write.ensures.counts.none done.counts;
     }

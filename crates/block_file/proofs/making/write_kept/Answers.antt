@@ -9,6 +9,7 @@ loop-k-init g c = record {
   kept = λ j none. absurd (omega (arith, none));
   size = refl;
   within = λ image start so_far. so_far;
+  back = refl;
   quiet = refl;
 }
 
@@ -27,6 +28,7 @@ returns-in_err-write_one g c =
       kept = tt;
       size = all.size ∙ so_far.size;
       within = λ image start from. all.within image start (so_far.within image start from);
+      back = all.back ∙ so_far.back;
       counts = counts_later _ _ _ _ so_far.quiet c.in_err-write_one.ensures.counts;
     })
 
@@ -42,6 +44,7 @@ loop-k-preserved g c =
           (omega (arith, c.loop-k-test.true, c.requires.inside, so_far.size)) c.new_block.ensures so_far.kept;
       size = all.size ∙ so_far.size;
       within = λ image start from. all.within image start (so_far.within image start from);
+      back = all.back ∙ so_far.back;
       quiet = done.counts.none ∙ so_far.quiet;
     }
 
@@ -52,5 +55,6 @@ returns g c =
       kept = λ k below. so_far.kept k (omega (arith, below, c.loop-k-test.false));
       size = so_far.size;
       within = so_far.within;
+      back = so_far.back;
       counts = record { later = omega (arith, so_far.quiet); none = so_far.quiet; failed = tt };
     }

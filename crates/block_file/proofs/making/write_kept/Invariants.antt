@@ -11,5 +11,6 @@ invariant-loop-k g l =
       kept : (j : ℕ) → j < l.k → IsNewBlock l.table j (block (h l.below).file.content (l.first + j));
       size : length (h l.below).file.content ≡ length (h l.initial.below).file.content;
       within : (image : CrashFile) (start : BlocksPast) → RunsWithin IsBehind image start (h l.initial.below) → RunsWithin IsBehind image start (h l.below);
+      back : g.B.Blocks.written_back l.below ≡ g.B.Blocks.written_back l.initial.below;
       quiet : g.B.Blocks.failures l.below ≡ g.B.Blocks.failures l.initial.below;
     }

@@ -23,5 +23,6 @@ returns g c =
           (λ some size. length-with_run old.file.content n some);
       within = λ image start so_far. within_write IsBehind image start old new so_far done.time n run c.write.result
           (λ m inside. omega (arith, inside.0, c.requires.behind)) done.ok done.err;
+      back = done.back;
       counts = done.counts;
     }

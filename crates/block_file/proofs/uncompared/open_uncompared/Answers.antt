@@ -6,9 +6,9 @@ use Rattle.block_device.proofs.Moments.{at_end}
 use Rattle.block_device.specs.BlocksPast.{BlocksPast, WrittenBack}
 use Rattle.block_batch.specs.Batch.{Entry, replayed}
 use Rattle.block_journal.specs.Layout.{IsInside, found, recovered}
-use Rattle.block_journal.specs.Journal.{LeavesBefore, OnlyReads, StaysRecovered, WritesBackFirst}
+use Rattle.block_journal.specs.Journal.{BeginsBack, LeavesBefore, StaysRecovered, WritesBackFirst}
 use Rattle.block_journal.proofs.OnlyReading.{reads_then}
-use Rattle.block_journal.proofs.WritingBack.{writes_back_behind}
+use Rattle.block_journal.proofs.WritingBack.{begins_back_behind, writes_back_behind}
 use Rattle.block_journal.specs.Value.{JournalValue}
 use Rattle.block_table.specs.Checked.{CheckedValue, kept_table, settled_table}
 use Rattle.block_table.specs.Table.{data_of}
@@ -193,7 +193,8 @@ returns-in-Err g c =
       written_back = tt;
       left_alone = λ _. c.in-Err.ensures.reads;
       back_alone = λ _. c.read_plan.ensures.back;
-      written_back_refused = λ p told. inl c.in-Err.ensures.reads;
+      back_none = λ _. c.read_plan.ensures.back;
+      written_back_refused = λ p told. inl (record { reads = c.in-Err.ensures.reads; back = inl c.read_plan.ensures.back });
       headers_refused = λ p told. reads_before p.shape (h c.args.below) (h c.read_plan.new.below) c.requires c.in-Err.ensures.reads;
       refused = λ p told inside. reads_recovered p.shape (h c.args.below) (h c.read_plan.new.below) c.requires c.in-Err.ensures.reads;
       undamaged = λ n is. absurd (c.in-Err.ensures.undamaged n is);
@@ -208,8 +209,11 @@ returns-in-Err g c =
 pub returns-then-not-has_room-clause-back_alone : goal.returns-then-not-has_room-clause-back_alone
 returns-then-not-has_room-clause-back_alone g c = λ _. c.read_plan.ensures.back
 
+pub returns-then-not-has_room-clause-back_none : goal.returns-then-not-has_room-clause-back_none
+returns-then-not-has_room-clause-back_none g c = λ _. c.read_plan.ensures.back
+
 pub returns-then-not-has_room-clause-written_back_refused : goal.returns-then-not-has_room-clause-written_back_refused
-returns-then-not-has_room-clause-written_back_refused g c = λ p told. inl c.in-Ok.ensures.reads
+returns-then-not-has_room-clause-written_back_refused g c = λ p told. inl (record { reads = c.in-Ok.ensures.reads; back = inl c.read_plan.ensures.back })
 
 -- ---- what was written back
 
@@ -218,6 +222,10 @@ returns-in-Err-open-clause-back_alone g c = λ none.
     let plan : Plan = c.in-Ok.plan in
     absurd (none plan c.in-Ok.ensures.told (subst (λ (f : BlockFile). IsInside plan.shape f.content) c.in-Ok.ensures.reads.file
     (c.has_room.ensures.room c.if-not-has_room.false)))
+
+pub returns-in-Err-open-clause-back_none : goal.returns-in-Err-open-clause-back_none
+returns-in-Err-open-clause-back_none g c = λ is.
+    c.in-Err-open.ensures.back_none (c.error_of.ensures.batch is) ∙ c.read_plan.ensures.back
 
 pub returns-in-Err-open-clause-written_back_refused : goal.returns-in-Err-open-clause-written_back_refused
 returns-in-Err-open-clause-written_back_refused g c = λ p told.
@@ -228,10 +236,14 @@ returns-in-Err-open-clause-written_back_refused g c = λ p told.
     let mid : BlocksPast = h c.read_plan.new.below in
     let new : BlocksPast = h c.in-Err-open.refused.file in
     let reads = c.in-Ok.ensures.reads in
-    subst (λ (q : Plan). OnlyReads old new ⊎ WritesBackFirst q.shape old new (back c.args.below) (back c.in-Err-open.refused.file))
+    subst (λ (q : Plan). BeginsBack q.shape old new (back c.args.below) (back c.in-Err-open.refused.file)
+        ⊎ WritesBackFirst q.shape old new (back c.args.below) (back c.in-Err-open.refused.file))
     (same_plan _ plan p c.in-Ok.ensures.told told)
     (⊎_elim
-    (λ read. inl (reads_then _ _ _ reads read))
+    (λ (begun : BeginsBack plan.shape mid new (back c.read_plan.new.below) (back c.in-Err-open.refused.file)). inl
+    (subst (λ (l : List WrittenBack). BeginsBack plan.shape old new l (back c.in-Err-open.refused.file)) c.read_plan.ensures.back
+    (begins_back_behind plan.shape old mid new (back c.read_plan.new.below) (back c.in-Err-open.refused.file) reads
+    (reads_then _ _ _ reads begun.reads) begun)))
     (λ wrote. inr (subst (λ (l : List WrittenBack). WritesBackFirst plan.shape old new l (back c.in-Err-open.refused.file)) c.read_plan.ensures.back
     (writes_back_behind plan.shape old mid new (back c.read_plan.new.below) (back c.in-Err-open.refused.file) reads
     c.in-Err-open.ensures.refused.kept wrote)))
