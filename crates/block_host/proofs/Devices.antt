@@ -11,6 +11,7 @@ use Rattle.block_file.specs.Closing.{StandsAlone}
 use Rattle.block_file.specs.Damage.{CanBeOpened}
 use Rattle.block_file.specs.Disks.{disk_failed, disk_past, journal_in}
 use Rattle.block_file.specs.Header.{CanBeTold, plan_told}
+use Rattle.block_file.specs.Making.{WritesNewBack}
 use Rattle.block_file.specs.Plans.{disk_image}
 use Rattle.block_file.specs.Settling.{AreHandedOn, OpensUnder, StaysUnder}
 use Rattle.block_file.specs.declared.opening.FileError.{FileError}
@@ -85,6 +86,16 @@ is_read b d none before told content sound = record {
   content = content ∙ ap (disk_image d.plan) (sym (as_first b d none before));
   sound = sound;
 }
+
+-- one that was made in a file which was just made
+pub made_back : {F A : Type 0} (p : Plan) (b : FileBlocks F A) (d : DiskParts (FileBlocks F A) A) → (past_of b).moment ≡ 0 → written_back_of b ≡ []
+    → WritesNewBack p (past_of b).moment (past_of (journal_in d.now).below) (written_back_of b) (written_back_of (journal_in d.now).below)
+    → WritesNewBack p 0 (past_of (journal_in d.now).below) [] (written_back_of (journal_in d.now).below)
+made_back p b d none none_back wrote =
+    let new = past_of (journal_in d.now).below in
+    let now = written_back_of (journal_in d.now).below in
+    subst (λ (l : List WrittenBack). WritesNewBack p 0 new l now) none_back
+    (subst (λ (t : ℕ). WritesNewBack p t new (written_back_of b) now) none wrote)
 
 -- a file of zeros that has as many blocks as a plan asks for
 pub has_room : (p : Plan) (image : CrashFile) (blocks : ℕ) → CanBeTold p → blocks ≡ kept_start p.shape + p.shape.kept → image ≡ replicate blocks zero_block

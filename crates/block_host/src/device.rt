@@ -123,8 +123,8 @@ impl<P, F: Stored + Drop, A: Allocator + Copy> InFile
 
     /// Ends its use. A file of blocks is synced, and all its blocks are put in their places: then it stands for the
     /// device, whatever batches the areas of its journal lose (`alone`), and no block is loose (`safe`). A crash
-    /// meanwhile leaves a file that can be opened (`opens`). A plain file needs no end (`plain`), and stays as it is
-    /// (`content`).
+    /// meanwhile leaves a file that can be opened (`opens`). Nothing is written back (`back`). A plain file needs no
+    /// end (`plain`), and stays as it is (`content`).
     fn end(&mut self) -> Result<(), Failed>
         ensures plain { IsInPlain self.old (λ _. IsOk result) }
         ensures content { StaysPlain (λ old new. (disk_past past_of new).disk.content
@@ -142,6 +142,8 @@ impl<P, F: Stored + Drop, A: Allocator + Copy> InFile
         ensures failed { InBlocks (λ old new. OnErr result ((disk_failed old ≡ true) ⊎ (2 ^ 64 - 2 ≤ disk_number old)
             ⊎ Rises (failures_of (disk_file old)) (failures_of (disk_file new)))) self.old self.new }
         ensures left_alone { InBlocks (λ old new. disk_failed old ≡ true → disk_file new ≡ disk_file old)
+            self.old self.new }
+        ensures back { InBlocks (λ old new. written_back_of (disk_file new) ≡ written_back_of (disk_file old))
             self.old self.new }
         ensures counts { InBlocks (λ old new. CountsFailure (disk_failures failures_of old)
             (disk_failures failures_of new) result) self.old self.new }

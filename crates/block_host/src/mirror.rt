@@ -17,8 +17,8 @@ use store_file::{Backing, OpenError, Stored, Trouble, Troubled};
 // How many blocks are read in one call where a file is opened.
 const RUN: usize = 16;
 
-/// A file of blocks over what is below. Once a write or a sync of that failed, nothing is written any more, and each
-/// write and sync fails (`has_failed_of`): what is below is not known then, until it is read again. (Where that is a
+/// A file of blocks over what is below. Once a write, a sync or a `keep` has failed, nothing is written any more, and
+/// each of them fails (`has_failed_of`): what is below is not known then, until it is read again. (Where that is a
 /// handle, the clauses say that the handle stays, and not that nothing reaches the file.)
 #[derive(Drop)]
 pub struct FileBlocks<F, A: Allocator> {

@@ -3,9 +3,10 @@ ghost use Rattle.std.specs.Prelude.{◌≡◌, ◌≢◌, ◌⊎◌, ◌+◌, �
 ghost use Rattle.sector_device.specs.Disk.{IsSynced};
 ghost use Rattle.sector_device.specs.Values.{zero_sector};
 ghost use Rattle.block_device.specs.Blocks.{zero_block};
-ghost use Rattle.block_file.specs.Disks.{disk_failures, disk_past, disk_plan, first_content};
+ghost use Rattle.block_file.specs.Disks.{disk_failures, disk_file, disk_past, disk_plan, first_content};
 ghost use Rattle.block_file.specs.Good.{IsGood};
 ghost use Rattle.block_file.specs.Header.{CanBeTold, TellTwice, plan_told};
+ghost use Rattle.block_file.specs.Making.{WritesNewBack};
 ghost use Rattle.block_file.specs.declared.opening.FileError.{FileError};
 ghost use Rattle.block_file.specs.declared.opening.FileError.TheVariants.{FileFailed, NoMemory};
 ghost use Rattle.block_host.specs.FileBlocks.{past_of, failures_of, has_failed_of, written_back_of, IsFileSynced};
@@ -86,9 +87,10 @@ pub(crate) fn disk_in<F: Stored + Drop, A: Allocator + Copy>(
     }
 }
 
-/// Makes a file, as [`create`] does, and in it a device of zeros. Where it is refused, no file is left, if that can be
-/// removed (no clause says so). The refusals are those of [`create`], and of a device want of memory, or that the file
-/// failed (`refused`); a new file isn't told as damaged (`undamaged`).
+/// Makes a file, as [`create`] does, and in it a device of zeros. Both areas of its journal were written back, and no
+/// other block (`written_back`). Where it is refused, no file is left, if that can be removed (no clause says so). The
+/// refusals are those of [`create`], and of a device want of memory, or that the file failed (`refused`); a new file
+/// isn't told as damaged (`undamaged`).
 pub fn create_disk<R: Files + AllocGlobal, A: Allocator + Copy>(
     rt: &R,
     alloc: A,
@@ -105,6 +107,8 @@ where
     ensures synced { IfOk result (λ d. IsSynced (disk_past past_of d).disk) }
     ensures good { IfOk result (λ d. IsGood past_of d) }
     ensures failures { IfOk result (λ d. disk_failures failures_of d ≡ 0) }
+    ensures written_back { IfOk result (λ d. WritesNewBack plan 0 (past_of (disk_file d)) []
+        (written_back_of (disk_file d))) }
     ensures refused { IfErr result (λ e. (error : FileError) → e ≡ DiskError.File error
         → (error ≡ NoMemory) ⊎ (error ≡ FileFailed)) }
     ensures undamaged { IfErr result (λ e. (n : ℕ) → e ≢ DiskError.Damaged n) }
