@@ -512,7 +512,7 @@ returns-in-Err-open-clause-written_back_refused g c = λ p told.
     let new : BlocksPast = h c.in-Err-open.refused.file in
     let reads = c.in-Ok.ensures.reads in
     subst (λ (q : Plan). BeginsBack q.shape old new (back c.args.below) (back c.in-Err-open.refused.file)
-        ⊎ WritesBackFirst q.shape old new (back c.args.below) (back c.in-Err-open.refused.file))
+    ⊎ WritesBackFirst q.shape old new (back c.args.below) (back c.in-Err-open.refused.file))
     (same_plan _ plan p c.in-Ok.ensures.told told)
     (⊎_elim
     (λ (begun : BeginsBack plan.shape mid new (back c.read_plan.new.below) (back c.in-Err-open.refused.file)). inl
@@ -571,7 +571,7 @@ returns-in-Ok-open-clause-written_back_refused g c =
     opened.any_moment.kept opened.written_back) in
     if_err2 c.compared.result _ _ _
     (λ e left same p told. subst (λ (q : Plan). BeginsBack q.shape old (h e.file) (back c.args.below) (back e.file)
-        ⊎ WritesBackFirst q.shape old (h e.file) (back c.args.below) (back e.file))
+    ⊎ WritesBackFirst q.shape old (h e.file) (back c.args.below) (back e.file))
     (same_plan _ plan p c.in-Ok.ensures.told told)
     (inr (⊎_elim
     (λ read. writes_back_later plan.shape old end (h e.file) (back c.args.below) (back checked.journal.below) (back e.file)

@@ -237,7 +237,7 @@ returns-in-Err-open-clause-written_back_refused g c = λ p told.
     let new : BlocksPast = h c.in-Err-open.refused.file in
     let reads = c.in-Ok.ensures.reads in
     subst (λ (q : Plan). BeginsBack q.shape old new (back c.args.below) (back c.in-Err-open.refused.file)
-        ⊎ WritesBackFirst q.shape old new (back c.args.below) (back c.in-Err-open.refused.file))
+    ⊎ WritesBackFirst q.shape old new (back c.args.below) (back c.in-Err-open.refused.file))
     (same_plan _ plan p c.in-Ok.ensures.told told)
     (⊎_elim
     (λ (begun : BeginsBack plan.shape mid new (back c.read_plan.new.below) (back c.in-Err-open.refused.file)). inl
