@@ -9,14 +9,14 @@ use Rattle.program_script.specs.declared.scan.Scan.{Scan}
 use Rattle.program_script.specs.declared.shell_line.ShellLine.{ShellLine}
 use Rattle.program_script.specs.declared.shell_line.ShellLine.TheVariants as shell
 use Rattle.program_script.specs.Grammar.{IsByteText, IsLineOf, Spell, parted_by, words}
-use Rattle.program_script.specs.Reading.{command_at, first_four, first_two, only_txn_at, store_command_at, text_at, txn_at, ◌>>=◌}
+use Rattle.program_script.specs.Reading.{command_at, first_four, first_two, name_at, only, only_txn_at, store_command_at, text_at, txn_at, ◌>>=◌}
 use Rattle.program_script.specs.ReadingScans.{keys_at}
-use Rattle.program_script.specs.ReadingShell.{bare_at, delete_key_at, shell_at, update_key_at}
+use Rattle.program_script.specs.ReadingShell.{backup_at, bare_at, delete_key_at, shell_at, update_key_at}
 use Rattle.program_script.specs.Shell.{IsShellLineOf, SpellShell}
-use Rattle.program_script.proofs.Commands.{command_again, four_take, only_txn_takes, spelled_so, two_take, txn_again, txn_takes}
+use Rattle.program_script.proofs.Commands.{command_again, four_take, only_takes, only_txn_takes, spelled_so, two_take, txn_again, txn_takes}
 use Rattle.program_script.proofs.Scanning.{scan_again, scan_takes}
 use Rattle.program_script.proofs.Steps.{bind_some, by_name, mapped, some_is}
-use Rattle.program_script.proofs.Texts.{text_again, text_takes}
+use Rattle.program_script.proofs.Texts.{name_again, name_takes, text_again, text_takes}
 
 -- ---- a line without further words
 
@@ -93,6 +93,15 @@ commit_line verb args l is e =
     let number = only_txn_takes args txn.0 txn.1 in
     subst (SpellShell (verb ∷ args)) txn.2 (spelled_so verb (codes "commit!") args (decimal txn.0 ∷ []) is number.0, number.1)
 
+backup_line : (verb : List ℕ) (args : List (List ℕ)) (l : ShellLine) → verb ≡ codes "backup" → backup_at args ≡ Some l → SpellShell (verb ∷ args) l
+unfolding backup_at
+backup_line verb args l is e =
+    let word = bind_some (only args) (λ word. name_at word >>= λ file. Some (shell.Backup file)) l e in
+    let file = bind_some (name_at word.0) (λ file. Some (shell.Backup file)) l word.2 in
+    let name = name_takes word.0 file.0 file.1 in
+    subst (SpellShell (verb ∷ args)) (some_is (shell.Backup file.0) l file.2)
+    (spelled_so verb (codes "backup") args (file.0 ∷ []) is (only_takes args word.0 word.1 ∙ ap one_word name.0), name.1)
+
 shell_takes : (words : List (List ℕ)) (l : ShellLine) → shell_at words ≡ Some l → SpellShell words l
 unfolding shell_at
 shell_takes [] l e = absurd cc
@@ -101,12 +110,13 @@ shell_takes (verb ∷ args) l e =
     (by_name verb (codes "delete-key") (delete_key_takes verb args l)
     (by_name verb (codes "update-key") (update_key_takes verb args l)
     (by_name verb (codes "commit!") (commit_line verb args l)
+    (by_name verb (codes "backup") (backup_line verb args l)
     (by_name verb (codes "help") (λ is h. bare_takes verb args shell.Help l (ap one_word is) h)
-    (by_name verb (codes "quit") (λ is h. bare_takes verb args shell.Quit l (ap one_word is) h) (λ h. absurd cc))))))
+    (by_name verb (codes "quit") (λ is h. bare_takes verb args shell.Quit l (ap one_word is) h) (λ h. absurd cc)))))))
     e
 
 shell_again : (words : List (List ℕ)) (l : ShellLine) → SpellShell words l → shell_at words ≡ Some l
-unfolding shell_at delete_key_at update_key_at only_txn_at
+unfolding shell_at delete_key_at update_key_at only_txn_at backup_at
 shell_again words (shell.Scan scan) h =
     let s = scan_again words scan h in
     ap shell_at s.1 ∙ ap (λ (o : Option Scan). option_map shell.Scan o) s.2
@@ -114,6 +124,7 @@ shell_again words (shell.DeleteKey txn key) h = ap shell_at h.1 ∙ rw (txn_agai
 shell_again words (shell.UpdateKey txn old key body) h = ap shell_at h.3
     ∙ rw (txn_again txn h.4, text_again h.0 old h.5, text_again h.1 key h.6, text_again h.2 body h.7) refl
 shell_again words (shell.CommitNow txn) h = ap shell_at h.0 ∙ rw (txn_again txn h.1) refl
+shell_again words (shell.Backup file) h = ap shell_at h.0 ∙ rw (name_again file h.1) refl
 shell_again words shell.Help h = ap shell_at h
 shell_again words shell.Quit h = ap shell_at h
 
@@ -138,6 +149,7 @@ is_no_command words (shell.Scan scan) h = ap command_at h.3
 is_no_command words (shell.DeleteKey txn key) h = ap command_at h.1
 is_no_command words (shell.UpdateKey txn old key body) h = ap command_at h.3
 is_no_command words (shell.CommitNow txn) h = ap command_at h.0
+is_no_command words (shell.Backup file) h = ap command_at h.0
 is_no_command words shell.Help h = ap command_at h
 is_no_command words shell.Quit h = ap command_at h
 

@@ -13,8 +13,8 @@ use Rattle.hex.specs.declared.error.FromHexError.TheVariants.{OddLength}
 use Rattle.hex.specs.Hex.{IsBytes, lower_digits, encode_with, encode_lower, hex_digit_value, ◌>>=◌, digit_or_error, value_at, pair_value, decode_pairs}
 use Rattle.hex.specs.Hex.{decode_of}
 use Rattle.hex.proofs.HexLemmas.{decode_of-encode_lower}
-use Rattle.program_script.specs.Grammar.{IsByteText}
-use Rattle.program_script.specs.Reading.{hex_at, text_at}
+use Rattle.program_script.specs.Grammar.{IsByteText, IsName}
+use Rattle.program_script.specs.Reading.{hex_at, is_name, name_at, text_at}
 use Rattle.program_script.proofs.Steps.{some_is, passed, passed_not, by_byte}
 
 -- ---- digits
@@ -173,3 +173,29 @@ text_again word bytes (inl h) =
     list_all-from_AllPass is_ascii_graphic bytes (All-weaker IsAsciiGraphic (λ x. is_ascii_graphic x ≡ true) graphic_to bytes h.1) in
     ap text_at h.0 ∙ rw each refl
 text_again word bytes (inr h) = ap text_at h.0 ∙ hex_again bytes h.1
+
+-- ---- names of files
+
+name_is : (word : List ℕ) → is_name word ≡ true → IsName word
+name_is [] h = absurd cc
+name_is (first ∷ rest) h = (
+  omega arith,
+  All-weaker (λ x. is_ascii_graphic x ≡ true) IsAsciiGraphic graphic_from (first ∷ rest) (AllPass-from_list_all is_ascii_graphic (first ∷ rest) h),
+)
+
+is_of_name : (word : List ℕ) → IsName word → is_name word ≡ true
+is_of_name [] h = absurd (omega (arith, h.0))
+is_of_name (first ∷ rest) h =
+    list_all-from_AllPass is_ascii_graphic (first ∷ rest)
+    (All-weaker IsAsciiGraphic (λ x. is_ascii_graphic x ≡ true) graphic_to (first ∷ rest) h.1)
+
+pub name_takes : (word name : List ℕ) → name_at word ≡ Some name → (word ≡ name) × IsName name
+unfolding name_at
+name_takes word name e =
+    let p = passed (is_name word) (Some word) name e in
+    let same = some_is word name p.1 in
+    (same, subst IsName same (name_is word p.0))
+
+pub name_again : (name : List ℕ) → IsName name → name_at name ≡ Some name
+unfolding name_at
+name_again name h = rw (is_of_name name h) refl

@@ -57,6 +57,10 @@ abbrev pub IsByteText : List ℕ → List ℕ → Type 0
 IsByteText word bytes = ((word ≡ 61 ∷ bytes) × All IsAsciiGraphic bytes)
     ⊎ ((word ≡ 58 ∷ encode_lower bytes) × IsBytes bytes)
 
+-- the words that name a file: graphic bytes, one at least
+abbrev pub IsName : List ℕ → Type 0
+IsName name = (0 < length name) × All IsAsciiGraphic name
+
 -- the name of each fate
 abbrev pub fate_name : Fate → List ℕ
 fate_name Old = codes "old"

@@ -102,6 +102,14 @@ text_at (first ∷ rest) =
     else if first == 58 then hex_at rest
     else None
 
+-- graphic bytes, one at least
+abbrev pub is_name : List ℕ → Bool
+is_name [] = false
+is_name (first ∷ rest) = is_ascii_graphic first && list_all is_ascii_graphic rest
+
+unfoldable pub name_at : List ℕ → Option (List ℕ)
+name_at word = if is_name word then Some word else None
+
 -- the fate that a word names
 abbrev pub fate_at : List ℕ → Option Fate
 fate_at word =

@@ -2,7 +2,7 @@
 use Rattle.std.specs.Prelude.{[], codes, if◌then◌else◌, List, None, Option, Some, ℕ, ◌∷◌}
 use Rattle.std.specs.Option.{option_map}
 use Rattle.std.specs.Str.{bytes_eq}
-use Rattle.program_script.specs.Reading.{first_four, first_two, only_txn_at, text_at, txn_at, ◌>>=◌}
+use Rattle.program_script.specs.Reading.{first_four, first_two, name_at, only, only_txn_at, text_at, txn_at, ◌>>=◌}
 use Rattle.program_script.specs.ReadingScans.{keys_at}
 use Rattle.program_script.specs.declared.shell_line.ShellLine.{ShellLine}
 use Rattle.program_script.specs.declared.shell_line.ShellLine.TheVariants as shell
@@ -28,6 +28,12 @@ update_key_at args = do
   body ← text_at four.3
   Some (shell.UpdateKey txn old key body)
 
+unfoldable pub backup_at : List (List ℕ) → Option ShellLine
+backup_at args = do
+  word ← only args
+  file ← name_at word
+  Some (shell.Backup file)
+
 unfoldable pub shell_at : List (List ℕ) → Option ShellLine
 shell_at [] = None
 shell_at (verb ∷ args) =
@@ -35,6 +41,7 @@ shell_at (verb ∷ args) =
     else if bytes_eq verb (codes "delete-key") then delete_key_at args
     else if bytes_eq verb (codes "update-key") then update_key_at args
     else if bytes_eq verb (codes "commit!") then option_map shell.CommitNow (only_txn_at args)
+    else if bytes_eq verb (codes "backup") then backup_at args
     else if bytes_eq verb (codes "help") then bare_at shell.Help args
     else if bytes_eq verb (codes "quit") then bare_at shell.Quit args
     else None

@@ -1,7 +1,7 @@
 -- The lines that are served beside the commands of a script. None of them is a command.
 use Rattle.std.specs.Prelude.{[], codes, List, ℕ, ◌∷◌, ◌≡◌}
 use Rattle.std.specs.Fmt.{decimal}
-use Rattle.program_script.specs.Grammar.{IsByteText, IsTxn, words}
+use Rattle.program_script.specs.Grammar.{IsByteText, IsName, IsTxn, words}
 use Rattle.program_script.specs.Scans.{SpellScan}
 use Rattle.program_script.specs.declared.shell_line.ShellLine.{ShellLine}
 use Rattle.program_script.specs.declared.shell_line.ShellLine.TheVariants as shell
@@ -15,6 +15,7 @@ SpellShell words (shell.UpdateKey txn old key body) = (o k b : List ℕ)
     × (words ≡ codes "update-key" ∷ decimal txn ∷ o ∷ k ∷ b ∷ []) × IsTxn txn × IsByteText o old × IsByteText k key
     × IsByteText b body
 SpellShell words (shell.CommitNow txn) = (words ≡ codes "commit!" ∷ decimal txn ∷ []) × IsTxn txn
+SpellShell words (shell.Backup file) = (words ≡ codes "backup" ∷ file ∷ []) × IsName file
 SpellShell words shell.Help = words ≡ codes "help" ∷ []
 SpellShell words shell.Quit = words ≡ codes "quit" ∷ []
 

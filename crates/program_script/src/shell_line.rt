@@ -6,15 +6,15 @@ ghost use Rattle.record_values.specs.declared.error.Error.TheVariants.{NoMemory}
 ghost use Rattle.program_script.specs.declared.shell_line.ShellLine.{ShellLine as ShellLineValue};
 ghost use Rattle.program_script.specs.Grammar.{words};
 ghost use Rattle.program_script.specs.Reading.{parts_left};
-ghost use Rattle.program_script.specs.ReadingShell.{bare_at, delete_key_at, shell_at, update_key_at};
+ghost use Rattle.program_script.specs.ReadingShell.{backup_at, bare_at, delete_key_at, shell_at, update_key_at};
 ghost use Rattle.program_script.specs.Shell.{IsShellLineOf};
 
 use crate::byte_text::ByteText;
 use crate::line::only_txn;
 use crate::lines::without_last_line_feed;
-use crate::parts::{cut_at, four_parts, two_parts};
+use crate::parts::{cut_at, four_parts, only_part, two_parts};
 use crate::scan::{Scan, keys_of};
-use crate::word::{bytes_of, txn_of};
+use crate::word::{bytes_of, name_of, txn_of};
 use records::{Error, Txn};
 use std::alloc::{AllocError, Global};
 
@@ -39,6 +39,10 @@ pub enum ShellLine {
     /// Commits a transaction, and flushes: `commit! <t>`.
     CommitNow {
         txn: Txn,
+    },
+    /// Flushes, and copies the store to the new file of this name: `backup <file>`.
+    Backup {
+        file: ByteText,
     },
     /// Asks what there is to be asked: `help`.
     Help,
@@ -89,6 +93,17 @@ fn update_key_of(alloc: Global, rest: Option<&[u8]>) -> Result<Option<ShellLine>
     }))
 }
 
+#[tactic(auto, unfolding(crate::specs::ReadingShell::backup_at))]
+fn backup_of(alloc: Global, rest: Option<&[u8]>) -> Result<Option<ShellLine>, AllocError>
+    ensures { IfOk result (λ r. r ≡ backup_at (parts_left 32 (option_map (λ r. r.now) rest.entry))) }
+{
+    let Some(word) = only_part(b' ', rest) else {
+        return Ok(None);
+    };
+    let file = name_of(alloc, word)?;
+    Ok(file.map(|file| ShellLine::Backup { file }))
+}
+
 // The line, where no word is left.
 fn bare(rest: Option<&[u8]>, line: ShellLine) -> Option<ShellLine>
     ensures { result ≡ bare_at line (parts_left 32 (option_map (λ r. r.now) rest.entry)) }
@@ -113,6 +128,8 @@ fn shell_line_of(alloc: Global, line: &[u8]) -> Result<Option<ShellLine>, AllocE
         update_key_of(alloc, rest)
     } else if verb == b"commit!".as_slice() {
         Ok(only_txn(rest).map(|txn| ShellLine::CommitNow { txn }))
+    } else if verb == b"backup".as_slice() {
+        backup_of(alloc, rest)
     } else if verb == b"help".as_slice() {
         Ok(bare(rest, ShellLine::Help))
     } else if verb == b"quit".as_slice() {

@@ -1,9 +1,10 @@
-//! Words of a line: numbers, places of rows, and bytes.
+//! Words of a line: numbers, places of rows, bytes, and names of files.
 ghost use Rattle.std.specs.Prelude.{◌≡◌, IfOk, IfSome, List, None, ℕ};
 ghost use Rattle.std.specs.List.{list_all, list_any};
 ghost use Rattle.std.specs.Char.{is_ascii_graphic, is_ascii_uppercase};
 ghost use Rattle.program_script.specs.Grammar.{IsByteText};
 ghost use Rattle.program_script.specs.Reading.{begins_as_number, number_at, txn_at, count_at, rid_at, text_at, hex_at};
+ghost use Rattle.program_script.specs.Reading.{is_name, name_at};
 
 use crate::byte_text::ByteText;
 use crate::parts::{cut_at, only_part};
@@ -120,6 +121,28 @@ pub fn bytes_of(alloc: Global, word: &[u8]) -> Result<Option<ByteText>, AllocErr
         [b':', digits @ ..] => hex_of(alloc, digits),
         _ => Ok(None),
     }
+}
+
+// Whether the word is graphic bytes, one at least.
+fn is_name(word: &[u8]) -> bool
+    ensures { result ≡ is_name word.now }
+{
+    match word {
+        [] => false,
+        [first, rest @ ..] => first.is_ascii_graphic() && is_graphic(rest),
+    }
+}
+
+/// The name of a file that this word is.
+#[tactic(auto, unfolding(crate::specs::Reading::name_at))]
+pub fn name_of(alloc: Global, word: &[u8]) -> Result<Option<ByteText>, AllocError>
+    ensures { IfOk result (λ r. r ≡ name_at word.now) }
+{
+    if !is_name(word) {
+        return Ok(None);
+    }
+    let bytes = Vec::from_slice(alloc, word)?;
+    Ok(Some(ByteText::new(bytes)))
 }
 
 /// The bytes that a word gives, as one of a script does; none where it gives none.
