@@ -30,8 +30,8 @@ abbrev pub BecomesZeros : Plan → BlocksPast → BlocksPast → Type 0
 BecomesZeros p old new = LeavesOnly old new
     (λ image. (plan_told image ≡ plan_told old.file.content) ⊎ HoldsZeros p image)
 
--- At a moment from this one on the file told the plan, with an empty batch in each area. What was written back are
--- these runs, by that moment.
+-- At a moment, this one or a later one, the file told the plan, with an empty batch in each area. What was written
+-- back are these runs, by that moment.
 pub record RunsBack (p : Plan) (from : ℕ) (new : BlocksPast) (runs : ℕ → List WrittenBack) (now : List WrittenBack)
     : Type 0 where
   pub moment : ℕ
