@@ -11,10 +11,11 @@
 //! fits (`whole`).
 //!
 //! Only tested: what is said of a file that is no store, or is damaged; that a store of version 2 or 3 is copied as a
-//! whole, and that the use of a device is ended. The steps below have the promises of `program_commands`, `store_file`,
-//! `block_host` and `store_salvage`.
+//! whole, also one that is open (`copy_beside`), and that the use of a device is ended. The steps below have the
+//! promises of `program_commands`, `store_file`, `block_host` and `store_salvage`.
 #![tactic(auto)]
 
+mod beside;
 mod building;
 mod copying;
 mod damage;
@@ -25,6 +26,7 @@ mod refused;
 mod salvaging;
 mod taking;
 
+pub use beside::copy_beside;
 pub use building::build_file;
 pub use copying::{NotCopied, copy_disk};
 pub use damage::{refuse_damaged, write_damaged};

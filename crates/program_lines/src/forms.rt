@@ -7,7 +7,7 @@ use strsim::levenshtein;
 /// A line that is served: its name, the words behind that, and what it does.
 type Form = (&'static str, &'static str, &'static str);
 
-static FORMS: [Form; 24] = [
+static FORMS: [Form; 25] = [
     ("begin", "", "begins a transaction"),
     ("insert", " <t> <key> <body>", "inserts a row"),
     ("delete", " <t> <rid>", "deletes the row at a place"),
@@ -46,6 +46,11 @@ static FORMS: [Form; 24] = [
         "shows the index from key to key, or back",
     ),
     ("dump", "", "shows all rows and entries"),
+    (
+        "backup",
+        " <file>",
+        "flushes, and copies the store to a new file",
+    ),
     ("help", "", "shows this"),
     ("quit", "", "ends the input"),
 ];

@@ -6,6 +6,7 @@
 //! command has the promises of `program_commands`.
 #![tactic(auto)]
 
+mod backup;
 mod forms;
 mod name;
 mod running;

@@ -1,4 +1,6 @@
 //! The name under which a file was opened.
+use program_files::{NotMoved, copy_beside};
+use std::fs::File;
 use std::rt::Files;
 use store_file::{FileNumber, number_at};
 
@@ -23,5 +25,17 @@ impl<'a, R: Files> OpenName<'a, R> {
             Ok(found) => self.number.is_some() && found != self.number,
             Err(_) => false,
         }
+    }
+
+    /// The name.
+    pub(crate) fn path(&self) -> &str {
+        self.path
+    }
+}
+
+impl<'a, R: Files<File = File> + AllocGlobal> OpenName<'a, R> {
+    /// Copies the store in the file, which was flushed, to a new file. Refused where the file doesn't have this name.
+    pub(crate) fn copy_to(&self, new: &str) -> Result<(), NotMoved> {
+        copy_beside(self.rt, self.path, self.number, new)
     }
 }

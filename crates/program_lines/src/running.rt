@@ -14,7 +14,13 @@ use std::rt::{Clock, Files};
 use store_file::Troubled;
 
 // Serves the input over the store, flushes what is not flushed yet behind its last line, and tells how it ended.
-fn serve_all<R: Files, D: Device + Troubled, I: BufRead, W: Write, E: Write>(
+fn serve_all<
+    R: Files<File = File> + AllocGlobal,
+    D: Device + Troubled,
+    I: BufRead,
+    W: Write,
+    E: Write,
+>(
     alloc: Global,
     service: &mut Service<D>,
     name: &OpenName<'_, R>,
@@ -32,7 +38,13 @@ fn serve_all<R: Files, D: Device + Troubled, I: BufRead, W: Write, E: Write>(
 }
 
 // The same over the store on the disk, whose use is ended then.
-fn run_disk<R: Files, D: Device + Troubled + InFile + Drop, I: BufRead, W: Write, E: Write>(
+fn run_disk<
+    R: Files<File = File> + AllocGlobal,
+    D: Device + Troubled + InFile + Drop,
+    I: BufRead,
+    W: Write,
+    E: Write,
+>(
     alloc: Global,
     disk: D,
     name: &OpenName<'_, R>,

@@ -1,16 +1,18 @@
 //! The commands of the input, served line by line.
+use crate::backup::back_up;
 use crate::forms::{print_help, tell_why};
 use crate::name::OpenName;
 use crate::tally::{Came, Ended, Tally};
 use program_arguments::Serving;
 use program_commands::{GuardedStore, KeyRequest, Outcome, PageRequest, Request, Store};
 use program_files::Refused;
-use program_script::{Command, Scan, ShellLine};
+use program_script::{ByteText, Command, Scan, ShellLine};
 use program_values::Answer;
 use records::{Error, Txn};
 use restart::{Event, Reply};
 use sector_device::Device;
 use std::alloc::Global;
+use std::fs::File;
 use std::io;
 use std::io::{BufRead, Write};
 use std::rt::Files;
@@ -18,6 +20,9 @@ use store_file::Troubled;
 
 const FULL_INDEX: &str =
     "the index is full. What open transactions reserve comes free at their end, and `clean` takes marked entries out. Where neither helps, `drop` and then `create` make the index anew";
+
+// The answer to a copy that is refused, of which the error stream says why.
+const NO_BACKUP: &[u8] = b"refused backup\n";
 
 const LOST_NAME: &str =
     "the file that is open no longer has its name. Where it is gone, a flush tells so";
@@ -222,6 +227,25 @@ impl<D: Device + Troubled> Service<D> {
         self.serve_durably(alloc, Request::Event(Event::Commit { txn }), output)
     }
 
+    // Flushes, and copies the store to a new file. The answer is the flush's, unless the copy is refused.
+    fn serve_backup<R: Files<File = File> + AllocGlobal, W: Write, E: Write>(
+        &mut self,
+        alloc: Global,
+        name: &OpenName<'_, R>,
+        file: &ByteText,
+        output: &mut W,
+        errors: &mut E,
+    ) -> io::Result<Came> {
+        let mut answer = Vec::new(alloc);
+        let outcome = self.answer(Request::Flush, &mut answer)?;
+        if !outcome.is_refusal() && !back_up(name, file, errors) {
+            output.write_all(NO_BACKUP)?;
+            return Ok(Came::Refused);
+        }
+        output.write_all(answer.as_slice())?;
+        Ok(Came::of(outcome))
+    }
+
     // Prints how each line is written.
     fn serve_help<W: Write>(&self, output: &mut W) -> io::Result<Outcome> {
         match print_help(output) {
@@ -231,11 +255,13 @@ impl<D: Device + Troubled> Service<D> {
     }
 
     // Serves a line that is no command of a script.
-    fn serve_shell_line<W: Write>(
+    fn serve_shell_line<R: Files<File = File> + AllocGlobal, W: Write, E: Write>(
         &mut self,
         alloc: Global,
+        name: &OpenName<'_, R>,
         line: &ShellLine,
         output: &mut W,
+        errors: &mut E,
     ) -> io::Result<Came> {
         let served = match line {
             ShellLine::Scan(scan) => self.serve_scan(alloc, scan, output),
@@ -249,6 +275,9 @@ impl<D: Device + Troubled> Service<D> {
                 body,
             } => self.serve_key(KeyRequest::update(*txn, old, key, body), output),
             ShellLine::CommitNow { txn } => self.commit_now(alloc, *txn, output),
+            ShellLine::Backup { file } => {
+                return self.serve_backup(alloc, name, file, output, errors);
+            }
             ShellLine::Help => self.serve_help(output),
             ShellLine::Quit => return Ok(Came::Quit),
         };
@@ -279,15 +308,16 @@ impl<D: Device + Troubled> Service<D> {
     }
 
     // Serves a line.
-    fn serve_line<W: Write>(
+    fn serve_line<R: Files<File = File> + AllocGlobal, W: Write, E: Write>(
         &mut self,
         alloc: Global,
-        line: &[u8],
-        number: u64,
+        name: &OpenName<'_, R>,
+        (number, line): (u64, &[u8]),
         output: &mut W,
+        errors: &mut E,
     ) -> io::Result<Came> {
         match program_script::read_shell_line(alloc, line) {
-            Ok(Some(line)) => self.serve_shell_line(alloc, &line, output),
+            Ok(Some(line)) => self.serve_shell_line(alloc, name, &line, output, errors),
             Ok(None) => self.serve_script_line(alloc, line, number, output),
             Err(error) => refuse_line(error, number, output),
         }
@@ -326,15 +356,15 @@ impl<D: Device + Troubled> Service<D> {
     }
 
     // Serves a line that was read, and tells why, where it is none of those that are served.
-    fn serve_read<W: Write, E: Write>(
+    fn serve_read<R: Files<File = File> + AllocGlobal, W: Write, E: Write>(
         &mut self,
         alloc: Global,
-        line: &[u8],
-        number: u64,
+        name: &OpenName<'_, R>,
+        (number, line): (u64, &[u8]),
         output: &mut W,
         errors: &mut E,
     ) -> io::Result<Came> {
-        let came = self.serve_line(alloc, line, number, output)?;
+        let came = self.serve_line(alloc, name, (number, line), output, errors)?;
         output.flush()?;
         if matches!(came, Came::NoCommand) {
             tell_why(alloc, line, number, errors);
@@ -346,8 +376,8 @@ impl<D: Device + Troubled> Service<D> {
     /// none of those that are served is answered with its number, and the error stream says why.
     ///
     /// Where the index is full, the error stream tells once what helps; where the device failed, why; and once that the
-    /// file no longer has its name.
-    pub(crate) fn serve_lines<R: Files, I: BufRead, W: Write, E: Write>(
+    /// file no longer has its name. Why a copy was refused it tells each time.
+    pub(crate) fn serve_lines<R: Files<File = File> + AllocGlobal, I: BufRead, W: Write, E: Write>(
         &mut self,
         alloc: Global,
         name: &OpenName<'_, R>,
@@ -360,7 +390,7 @@ impl<D: Device + Troubled> Service<D> {
             if !self.read_line(input, &mut line, output)? {
                 break;
             }
-            let came = self.serve_read(alloc, line.as_slice(), number, output, errors)?;
+            let came = self.serve_read(alloc, name, (number, line.as_slice()), output, errors)?;
             self.tell(name.is_lost(), errors);
             if self.count(came, number) {
                 break;

@@ -237,17 +237,20 @@ const DURABLE: &[Deed] = &[
 ];
 
 const LOST: &str =
-    "nsf-store: the file that is open no longer has its name. Where it is gone, a flush tells so\n";
+    "nsf-store: the file that is open no longer has its name. Where it is gone, a flush tells so
+nsf-store: d: the file was removed while it was open, or another was put in its place
+nsf-store: commands refused: 1, the first in line 7
+";
 
-// The file that is open gets another name, and has what is committed then.
+// The file that is open gets another name, and has what is committed then. It isn't copied.
 const RENAMED: &[Deed] = &[
     NEW_D,
     Deed::Serve(ProgramRun {
         words: &["nsf-store", "run", "d"],
-        input: "begin\ninsert 1 =a =\ncommit 1\nbegin\ninsert 2 =b =\ncommit 2\n",
+        input: "begin\ninsert 1 =a =\ncommit 1\nbegin\ninsert 2 =b =\ncommit 2\nbackup copy\n",
         status: 0,
         look: Look::Moved("d", "e"),
-        printed: "txn 1\nrid 0.0\nticket 2\ntxn 2\nrid 0.1\nticket 4\n",
+        printed: "txn 1\nrid 0.0\nticket 2\ntxn 2\nrid 0.1\nticket 4\nrefused backup\n",
         said: LOST,
     }),
     Deed::Call(
@@ -257,6 +260,7 @@ const RENAMED: &[Deed] = &[
         "",
     ),
     Deed::Act("d", Act::Miss),
+    Deed::Act("copy", Act::Miss),
     Deed::Act("e", Act::Remove),
 ];
 

@@ -313,6 +313,7 @@ begin\x20
 find =\u{e9}
 xyzzy
 quit now
+backup
 ";
 
 const FAULTS_ANSWERED: &str = "refused 22 BadScript 1
@@ -325,6 +326,7 @@ refused 22 BadScript 7
 refused 22 BadScript 8
 refused 22 BadScript 9
 refused 22 BadScript 10
+refused 22 BadScript 11
 ";
 
 const FAULTS_SAID: &str = "nsf-store: line 1: `instert` is no command; is `insert` meant?
@@ -337,6 +339,7 @@ nsf-store: line 7: its words aren't parted by single spaces
 nsf-store: line 8: a byte in it is neither a space nor graphic ASCII
 nsf-store: line 9: `xyzzy` is no command; `help` tells of all
 nsf-store: line 10: it is written `quit`
+nsf-store: line 11: it is written `backup <file>`
 ";
 
 const HELPED: &str = "help: shows this
@@ -358,6 +361,92 @@ const TOLD: &[Deed] = &[
     REMOVE,
 ];
 
+// One transaction was committed and flushed, one committed alone, one flushed alone, and one is open.
+const COPYING: &str = "begin
+insert 1 =ant =1
+commit 1
+begin
+insert 2 =bee =2
+flush
+begin
+insert 3 =cow =3
+commit 3
+begin
+insert 4 =dog =4
+backup copy
+backup copy
+backup r
+backup none/copy
+commit 4
+commit 2
+";
+
+const COPYING_ANSWERED: &str = "txn 1
+rid 0.0
+ticket 2
+txn 2
+rid 0.1
+horizon 3
+txn 3
+rid 0.2
+ticket 5
+txn 4
+rid 0.3
+horizon 6
+refused backup
+refused backup
+refused backup
+ticket 7
+ticket 8
+";
+
+const COPYING_SAID: &str = "nsf-store: copy: it is there already
+nsf-store: r: it is there already
+nsf-store: none/copy: No such file or directory (os error 2)
+nsf-store: commands refused: 3, the first in line 13
+";
+
+// The copy has what was committed before it, and the store what was committed in the end.
+const COPIED: &[Deed] = &[
+    Deed::Feed(RUN, COPYING, 0, COPYING_ANSWERED, COPYING_SAID),
+    Deed::Act("copy.new", Act::Miss),
+    Deed::Call(&["nsf-store", "check", "copy"], 0, "sound\n", ""),
+    Deed::Call(
+        &["nsf-store", "dump", "copy"],
+        0,
+        "row 0.0 :616e74 :31\nrow 0.2 :636f77 :33\nlife none\n",
+        "",
+    ),
+    Deed::Call(
+        &["nsf-store", "export", "r"],
+        0,
+        "key,body\nant,1\nbee,2\ncow,3\ndog,4\n",
+        "",
+    ),
+    REMOVE,
+];
+
+const NEW_BLOCKS: Deed = Deed::Call(
+    &["nsf-store", "new", "r", "--pages", "1", "--blocks"],
+    0,
+    "",
+    "",
+);
+
+const NO_MOVE: &str = "nsf-store: copy: it holds a store of version 2 or 3, which needs no move\n";
+
+const REMOVE_COPY: Deed = Deed::Act("copy", Act::Remove);
+
+// The copy is of the same kind.
+const IS_PLAIN: Deed = Deed::Call(&["nsf-store", "migrate", "copy", "r"], 1, "", NO_MOVE);
+
+const IS_IN_BLOCKS: Deed = Deed::Call(
+    &["nsf-store", "migrate", "copy", "r", "--blocks"],
+    1,
+    "",
+    NO_MOVE,
+);
+
 static WAITED: [Deed; 2] = [
     Deed::Feed(
         &["nsf-store", "run", "r", "--wait", "1"],
@@ -369,10 +458,24 @@ static WAITED: [Deed; 2] = [
     REMOVE,
 ];
 
-static BEFORE: [&[Deed]; 6] = [SCANNED, &[REMOVE], KEYED, STOPPED, TOLD, &[NEW]];
+static BEFORE: [&[Deed]; 12] = [
+    SCANNED,
+    &[REMOVE],
+    KEYED,
+    STOPPED,
+    TOLD,
+    // a store that is open is copied
+    &[NEW],
+    COPIED,
+    &[IS_PLAIN, REMOVE_COPY],
+    &[NEW_BLOCKS],
+    COPIED,
+    &[IS_IN_BLOCKS, REMOVE_COPY],
+    &[NEW],
+];
 
 // Ranges are read in order, the one row with a key is changed, an input may end with a refusal, and it is told why a
-// line is none. A file in use is waited for.
+// line is none. An open store is copied. A file in use is waited for.
 fn feed_each<R: Abort + Files<File = File> + Clock + AllocGlobal>(rt: &R) {
     take_each(rt, &BEFORE);
     take_beside(rt, &IN_USE);
