@@ -14,9 +14,10 @@
 //! back harms it only where the file has other bytes. No clause says that the mirror holds what is below, that a write,
 //! a sync or a `keep` is passed on to that, or that nothing reaches it behind a failure. Nor that a file of blocks is
 //! synced before it is read, that a new file's name was free, or that a refused one is removed. Nor that what is read
-//! alone is not written, why an opening is refused, which file is opened, taken or made (that it has the path's name),
-//! or when a file that is in use is tried again. Only tested (`test_files`): the verbs of `nsf-store` on such files,
-//! whole and harmed; that what was committed is kept, whichever calls of what is below fail.
+//! alone is not written, why an opening is refused and what that leaves of the file (`block_file::open` has it), which
+//! file is opened, taken or made (that it has the path's name), or when a file that is in use is tried again. Only
+//! tested (`test_files`): the verbs of `nsf-store` on such files, whole and harmed; that what was committed is kept,
+//! whichever calls of what is below fail.
 #![tactic(auto)]
 
 mod device;
