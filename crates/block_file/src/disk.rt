@@ -25,7 +25,8 @@ use std::marker::Model;
 ///
 /// Where a call of the file fails, the call of the device fails (`quiet`). Once a commit has failed, each call fails
 /// from then on (`sound`; `unfailed` of a check), and the file is left alone (`left_alone`). Only an opening writes
-/// back what a file has (`written_back` of [`crate::open`] and [`crate::create`]): no other call does (`back`).
+/// back what a file has (`written_back` of [`crate::open`], [`crate::open_uncompared`] and [`crate::create`]): no other
+/// call does (`back`).
 #[derive(Drop)]
 pub struct BlockDisk<B: Blocks, A: Allocator> {
     parts: DiskParts<B, A>,

@@ -4,7 +4,7 @@ use std::fs::File;
 use std::rt::Files;
 use store_file::{FileNumber, number_at};
 
-/// The name under which a file was opened, and which file that is, where the system has told.
+/// The name under which a file was opened, and which file had it before that, where the system has told.
 #[derive(Drop)]
 pub(crate) struct OpenName<'a, R> {
     rt: &'a R,

@@ -75,7 +75,7 @@ pub fn run_file<R: Files<File = File> + Clock + AllocGlobal, I: BufRead, W: Writ
     output: &mut W,
     errors: &mut E,
 ) -> Result<Ended, Refused> {
-    let disk = open_within(rt, path, serving.wait)?;
     let name = OpenName::new(rt, path);
+    let disk = open_within(rt, path, serving.wait)?;
     run_disk(rt.alloc(), disk, &name, serving, input, output, errors)
 }
