@@ -80,8 +80,8 @@ fn take_beside<R: Files<File = File>>(
     Ok(Taken { below, sectors })
 }
 
-// The device in it, all of which counts as safe. What the file is, and what of it is known, are as `device_in` says. What
-// is written back is so in the mirror alone.
+// The device in it, all of which counts as safe. What the file is, and what of it is known, are as `device_in` says.
+// What is written back is so in the mirror alone.
 fn device_beside<R: Files<File = File> + AllocGlobal>(
     rt: &R,
     path: &str,
