@@ -1,21 +1,39 @@
 -- What an export prints.
-use Rattle.std.specs.Prelude.{ℕ, zero, suc, List, [], ◌++◌}
+use Rattle.std.specs.Prelude.{ℕ, zero, suc, List, [], ◌++◌, ◌≡◌, ◌⊎◌}
 use Rattle.std.specs.FinMap as map
 use Rattle.std.specs.List.{flat_map}
 use Rattle.std.specs.Option.{option_map_or}
 use Rattle.std.specs.declared.ops.Bound.TheVariants.{Unbounded}
 use Rattle.record_values.specs.Values.{Place}
+use Rattle.record_values.specs.declared.error.Error.TheVariants.{NoIndex, NoMemory, NotBuilt}
 use Rattle.record_values.specs.declared.pair.Pair.{Pair}
 use Rattle.record_values.specs.declared.rid.TheConstants.{SLOTS_PER_PAGE}
 use Rattle.record_values.specs.declared.row.Row.{Row}
+use Rattle.model.specs.Following.{IsBuilding}
 use Rattle.model.specs.Table.{Table}
+use Rattle.model.specs.declared.life.Life.{Life}
+use Rattle.model.specs.declared.life.Life.TheVariants.{Absent, Complete}
 use Rattle.core_parts.specs.View.{CoreValue}
 use Rattle.core_scan.specs.Visible.{visible}
 use Rattle.core_scan.specs.declared.range.KeyRange.{KeyRange}
 use Rattle.program_rows.specs.Objects.{json_of_row}
+use Rattle.program_rows.specs.Reading.{IsReadError}
 use Rattle.program_rows.specs.Rows.{line_of_row, own_header}
+use Rattle.program_rows.specs.declared.error.RowsError.{RowsError}
+use Rattle.program_rows.specs.declared.error.RowsError.TheVariants.{Store, Text}
 use Rattle.program_rows.specs.declared.exporting.Format.{Format}
 use Rattle.program_rows.specs.declared.exporting.Format.TheVariants.{Fields, Json}
+
+-- why rows aren't printed: their text can't be written, or there was no memory
+abbrev pub IsNotPrinted : RowsError → Type 0
+IsNotPrinted (Text e) = IsReadError e
+IsNotPrinted (Store e) = ⊥
+
+-- why they aren't in the order of an index that is so far: that; or it isn't there, or not built
+abbrev pub IsNotInOrder : Life → RowsError → Type 0
+IsNotInOrder life (Text e) = IsReadError e
+IsNotInOrder life (Store e) = ((e ≡ NoIndex) × (life ≡ Absent)) ⊎ ((e ≡ NotBuilt) × IsBuilding life)
+    ⊎ ((e ≡ NoMemory) × (life ≡ Complete))
 
 -- the line of a row, as fields or as an object
 abbrev pub line_by : Format → Row → List ℕ

@@ -56,7 +56,7 @@ module _ {R : Type 0} where
   abbrev pub has_ended : RowReader R → Bool
   has_ended r = has_failed (reader_of r)
 
--- the text couldn't be read, or there was no memory
+-- the text couldn't be read, or written; or there was no memory
 abbrev pub IsReadError : TextError → Type 0
 IsReadError (Header e) = ⊥
 IsReadError (Io e) = ⊤

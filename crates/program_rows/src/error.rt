@@ -1,4 +1,5 @@
 //! Why rows aren't read, written, loaded or exported.
+ghost use Rattle.std.specs.Prelude.{◌≡◌};
 ghost use Rattle.program_rows.specs.Reading.{IsReadError};
 
 use crate::columns::HeaderError;
@@ -19,12 +20,20 @@ pub enum TextError {
 }
 
 impl From<HeaderError> for TextError {
+    ghost use Rattle.program_rows.specs.declared.error.TextError.TheVariants.{Header};
+
+    ghost from_gives = { λ error result. result ≡ Header error };
+
     fn from(error: HeaderError) -> TextError {
         TextError::Header(error)
     }
 }
 
 impl From<AllocError> for TextError {
+    ghost use Rattle.program_rows.specs.declared.error.TextError.TheVariants.{NoMemory};
+
+    ghost from_gives = { λ _ result. result ≡ NoMemory };
+
     fn from(_error: AllocError) -> TextError {
         TextError::NoMemory
     }
@@ -41,12 +50,20 @@ pub(crate) fn error_of_text(error: csv::Error) -> TextError
 }
 
 impl From<csv::Error> for TextError {
+    ghost use Rattle.program_rows.specs.Reading.{IsReadError};
+
+    ghost from_gives = { λ _ result. IsReadError result };
+
     fn from(error: csv::Error) -> TextError {
         error_of_text(error)
     }
 }
 
 impl From<io::Error> for TextError {
+    ghost use Rattle.program_rows.specs.declared.error.TextError.TheVariants.{Io};
+
+    ghost from_gives = { λ error result. result ≡ Io error };
+
     fn from(error: io::Error) -> TextError {
         TextError::Io(error)
     }
@@ -62,12 +79,20 @@ pub enum RowsError {
 }
 
 impl From<TextError> for RowsError {
+    ghost use Rattle.program_rows.specs.declared.error.RowsError.TheVariants.{Text};
+
+    ghost from_gives = { λ error result. result ≡ Text error };
+
     fn from(error: TextError) -> RowsError {
         RowsError::Text(error)
     }
 }
 
 impl From<Error> for RowsError {
+    ghost use Rattle.program_rows.specs.declared.error.RowsError.TheVariants.{Store};
+
+    ghost from_gives = { λ error result. result ≡ Store error };
+
     fn from(error: Error) -> RowsError {
         RowsError::Store(error)
     }

@@ -1,11 +1,13 @@
 //! The rows of a core are printed.
-ghost use Rattle.std.specs.Prelude.{◌≡◌, IfOk, OnOk, take};
+ghost use Rattle.std.specs.Prelude.{◌≡◌, IfErr, IfOk, OnOk, take};
 ghost use Rattle.std.specs.Io.KnownBytes.{Appends};
 ghost use Rattle.nsf_core.specs.Value.{value_of};
 ghost use Rattle.core_scan.specs.Visible.{left_of, next_after};
+ghost use Rattle.program_rows.specs.Exported.{IsNotInOrder, IsNotPrinted};
 ghost use Rattle.program_rows.specs.Exported.{all_keys, json_by_key, json_by_place, line_by, pair_records};
 ghost use Rattle.program_rows.specs.Exported.{page_records, row_record, slot_records, text_by_key, text_by_place};
 ghost use Rattle.program_rows.specs.Exported.{visible_records};
+ghost use Rattle.program_rows.specs.Reading.{IsReadError};
 ghost use Rattle.program_rows.specs.Rows.{own_header};
 
 use crate::error::{RowsError, TextError};
@@ -33,7 +35,8 @@ enum Format {
 
 // The line of the row.
 fn line_by(alloc: Global, format: Format, row: &Row) -> Result<Vec<u8>, TextError>
-    ensures { IfOk result (λ text. text.items ≡ line_by format row.now) }
+    ensures text { IfOk result (λ text. text.items ≡ line_by format row.now) }
+    ensures refused { IfErr result IsReadError }
 {
     match format {
         Format::Fields => row_line(alloc, row),
@@ -45,7 +48,8 @@ fn line_by(alloc: Global, format: Format, row: &Row) -> Result<Vec<u8>, TextErro
 }
 
 fn print_header<W: Write>(alloc: Global, output: &mut W) -> Result<(), TextError>
-    ensures { OnOk result (Appends (W.contents output.old) (W.contents output.new) own_header) }
+    ensures printed { OnOk result (Appends (W.contents output.old) (W.contents output.new) own_header) }
+    ensures refused { IfErr result IsReadError }
 {
     let line = header_line(alloc)?;
     output.write_all(line.as_slice())?;
@@ -60,8 +64,9 @@ fn print_row<W: Write>(
     rid: Rid,
     output: &mut W,
 ) -> Result<(), TextError>
-    ensures { OnOk result (Appends (W.contents output.old) (W.contents output.new)
+    ensures printed { OnOk result (Appends (W.contents output.old) (W.contents output.new)
         (row_record format (value_of core.now).heap.rows rid)) }
+    ensures refused { IfErr result IsReadError }
 {
     let Some(row) = core.get(rid) else {
         return Ok(());
@@ -79,8 +84,9 @@ fn print_page<W: Write>(
     page: u32,
     output: &mut W,
 ) -> Result<(), TextError>
-    ensures { OnOk result (Appends (W.contents output.old) (W.contents output.new)
+    ensures printed { OnOk result (Appends (W.contents output.old) (W.contents output.new)
         (slot_records format (value_of core.now).heap.rows page SLOTS_PER_PAGE)) }
+    ensures refused { IfErr result IsReadError }
 {
     for slot in 0..SLOTS_PER_PAGE {
         print_row(alloc, core, format, Rid { page, slot }, output)?;
@@ -96,8 +102,9 @@ fn print_page_at_once<W: Write>(
     page: u32,
     output: &mut W,
 ) -> Result<(), TextError>
-    ensures { OnOk result (Appends (W.contents output.old) (W.contents output.new)
+    ensures printed { OnOk result (Appends (W.contents output.old) (W.contents output.new)
         (slot_records format (value_of core.now).heap.rows page SLOTS_PER_PAGE)) }
+    ensures refused { IfErr result IsReadError }
 {
     let mut text = Vec::new(alloc);
     print_page(alloc, core, format, page, &mut text)?;
@@ -112,8 +119,9 @@ fn print_pages<W: Write>(
     format: Format,
     output: &mut W,
 ) -> Result<(), TextError>
-    ensures { OnOk result (Appends (W.contents output.old) (W.contents output.new)
+    ensures printed { OnOk result (Appends (W.contents output.old) (W.contents output.new)
         (page_records format (value_of core.now).heap.rows (value_of core.now).heap.pages)) }
+    ensures refused { IfErr result IsReadError }
 {
     for page in 0..core.pages() {
         print_page_at_once(alloc, core, format, page, output)?;
@@ -123,14 +131,15 @@ fn print_pages<W: Write>(
 
 /// Prints a header and the record of each row, in the order of their places.
 ///
-/// The error is the output's, or that memory was refused: then a part is printed (which, no clause says).
+/// The error is the output's, or that memory was refused (`refused`): then a part is printed (which, no clause says).
 pub fn export_by_place<W: Write>(
     alloc: Global,
     core: &Core<Global>,
     output: &mut W,
 ) -> Result<(), RowsError>
-    ensures { OnOk result (Appends (W.contents output.old) (W.contents output.new)
+    ensures printed { OnOk result (Appends (W.contents output.old) (W.contents output.new)
         (text_by_place (value_of core.now))) }
+    ensures refused { IfErr result IsNotPrinted }
 {
     print_header(alloc, output)?;
     print_pages(alloc, core, Format::Fields, output)?;
@@ -139,14 +148,15 @@ pub fn export_by_place<W: Write>(
 
 /// Prints the object of each row, a line each, in the order of their places.
 ///
-/// The error is the output's, or that memory was refused: then a part is printed (which, no clause says).
+/// The error is the output's, or that memory was refused (`refused`): then a part is printed (which, no clause says).
 pub fn export_json_by_place<W: Write>(
     alloc: Global,
     core: &Core<Global>,
     output: &mut W,
 ) -> Result<(), RowsError>
-    ensures { OnOk result (Appends (W.contents output.old) (W.contents output.new)
+    ensures printed { OnOk result (Appends (W.contents output.old) (W.contents output.new)
         (json_by_place (value_of core.now))) }
+    ensures refused { IfErr result IsNotPrinted }
 {
     match print_pages(alloc, core, Format::Json, output) {
         Ok(()) => Ok(()),
@@ -162,8 +172,9 @@ fn print_pairs<W: Write>(
     pairs: &[Pair],
     output: &mut W,
 ) -> Result<(), TextError>
-    ensures { OnOk result (Appends (W.contents output.old) (W.contents output.new)
+    ensures printed { OnOk result (Appends (W.contents output.old) (W.contents output.new)
         (pair_records format (value_of core.now).heap.rows pairs.now)) }
+    ensures refused { IfErr result IsReadError }
 {
     for pair in pairs {
         print_row(alloc, core, format, pair.rid, output)?;
@@ -179,8 +190,9 @@ fn print_pairs_at_once<W: Write>(
     pairs: &[Pair],
     output: &mut W,
 ) -> Result<(), TextError>
-    ensures { OnOk result (Appends (W.contents output.old) (W.contents output.new)
+    ensures printed { OnOk result (Appends (W.contents output.old) (W.contents output.new)
         (pair_records format (value_of core.now).heap.rows pairs.now)) }
+    ensures refused { IfErr result IsReadError }
 {
     let mut text = Vec::new(alloc);
     print_pairs(alloc, core, format, pairs, &mut text)?;
@@ -211,6 +223,7 @@ fn print_next<W: Write>(
     ensures next { IfOk result (λ next. next ≡ next_after last PAIRS
         (left_of (value_of core.now).index.entries all_keys last)) }
     ensures complete { OnOk result ((value_of core.now).life ≡ Life.Complete) }
+    ensures refused { IfErr result (IsNotInOrder (value_of core.now).life) }
 {
     let page = scan(alloc, core, &all_keys(), last.as_ref(), PAIRS)?;
     print_pairs_at_once(alloc, core, format, page.pairs.as_slice(), output)?;
@@ -227,6 +240,7 @@ fn print_visible<W: Write>(
     ensures printed { OnOk result (Appends (W.contents output.old) (W.contents output.new)
         (visible_records format (value_of core.now))) }
     ensures complete { OnOk result ((value_of core.now).life ≡ Life.Complete) }
+    ensures refused { IfErr result (IsNotInOrder (value_of core.now).life) }
 {
     let mut last = print_next(alloc, core, format, None, output)?;
     while let Some(pair) = last {
@@ -237,8 +251,8 @@ fn print_visible<W: Write>(
 
 /// Prints a header and the record of each row, in the order of the index.
 ///
-/// `NoIndex`, `NotBuilt` while the index is built, and `NoMemory`: then a part is printed, or none (what, no clause
-/// says).
+/// `NoIndex`, `NotBuilt` while the index is built, and `NoMemory`; or the error is the output's (`refused`). Then a part
+/// is printed, or none (what, no clause says).
 pub fn export_by_key<W: Write>(
     alloc: Global,
     core: &Core<Global>,
@@ -247,6 +261,7 @@ pub fn export_by_key<W: Write>(
     ensures printed { OnOk result (Appends (W.contents output.old) (W.contents output.new)
         (text_by_key (value_of core.now))) }
     ensures complete { OnOk result ((value_of core.now).life ≡ Life.Complete) }
+    ensures refused { IfErr result (IsNotInOrder (value_of core.now).life) }
 {
     print_header(alloc, output)?;
     print_visible(alloc, core, Format::Fields, output)
@@ -261,6 +276,7 @@ pub fn export_json_by_key<W: Write>(
     ensures printed { OnOk result (Appends (W.contents output.old) (W.contents output.new)
         (json_by_key (value_of core.now))) }
     ensures complete { OnOk result ((value_of core.now).life ≡ Life.Complete) }
+    ensures refused { IfErr result (IsNotInOrder (value_of core.now).life) }
 {
     print_visible(alloc, core, Format::Json, output)
 }

@@ -1,7 +1,8 @@
 //! The text of a record.
-ghost use Rattle.std.specs.Prelude.{◌≡◌, IfOk};
+ghost use Rattle.std.specs.Prelude.{◌≡◌, IfErr, IfOk};
 ghost use Rattle.csv.specs.Records.{fields_of};
 ghost use Rattle.csv.specs.Writing.{default_writer, row_text};
+ghost use Rattle.program_rows.specs.Reading.{IsReadError};
 ghost use Rattle.program_rows.specs.Rows.{line_of_row, own_header};
 
 use crate::columns::header;
@@ -11,9 +12,11 @@ use csv::{ByteRecord, WriterBuilder};
 use records::Row;
 use std::alloc::Global;
 
-/// The line of the record, as a writer writes it. The error is that memory was refused (no clause says so).
+/// The line of the record, as a writer writes it. The error is that memory was refused, or is a writer's
+/// (`refused`; that a writer to memory has none, no clause says).
 pub fn line_of(alloc: Global, record: &ByteRecord) -> Result<Vec<u8>, TextError>
-    ensures { IfOk result (λ text. text.items ≡ row_text default_writer (fields_of record.now)) }
+    ensures text { IfOk result (λ text. text.items ≡ row_text default_writer (fields_of record.now)) }
+    ensures refused { IfErr result IsReadError }
 {
     let mut writer = WriterBuilder::new().from_writer(Vec::new(alloc));
     writer.write_byte_record(record)?;
@@ -25,7 +28,8 @@ pub fn line_of(alloc: Global, record: &ByteRecord) -> Result<Vec<u8>, TextError>
 
 /// The line of the row's record.
 pub fn row_line(alloc: Global, row: &Row) -> Result<Vec<u8>, TextError>
-    ensures { IfOk result (λ text. text.items ≡ line_of_row row.now) }
+    ensures text { IfOk result (λ text. text.items ≡ line_of_row row.now) }
+    ensures refused { IfErr result IsReadError }
 {
     let fields = record_of(alloc, row)?;
     line_of(alloc, &fields)
@@ -33,7 +37,8 @@ pub fn row_line(alloc: Global, row: &Row) -> Result<Vec<u8>, TextError>
 
 /// The line of the header of exported rows.
 pub fn header_line(alloc: Global) -> Result<Vec<u8>, TextError>
-    ensures { IfOk result (λ text. text.items ≡ own_header) }
+    ensures text { IfOk result (λ text. text.items ≡ own_header) }
+    ensures refused { IfErr result IsReadError }
 {
     let fields = header(alloc)?;
     line_of(alloc, &fields)

@@ -11,4 +11,4 @@ returns-clause-printed g c =
     let contents = g.W.Write.contents in
     on_ok_map c.print_visible.result _ _ c.print_visible.ensures.printed (λ printed.
     Appends-trans (contents c.args.output.now) (contents c.print_header.new.output) (contents c.print_visible.new.output) own_header
-    (visible_records Fields (value_of c.args.core.now)) c.in_ok-print_header.ensures printed)
+    (visible_records Fields (value_of c.args.core.now)) c.in_ok-print_header.ensures.printed printed)

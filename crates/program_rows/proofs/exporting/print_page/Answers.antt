@@ -17,4 +17,4 @@ loop-slot-preserved g c =
     rw add-one
     (Appends-trans (g.W.Write.contents c.args.output.now) (g.W.Write.contents c.loop-slot.output) (g.W.Write.contents c.print_row.new.output)
     (slot_records c.args.format rows c.args.page c.loop-slot.slot) (row_record c.args.format rows place)
-    c.loop-slot.invariant c.in_ok-print_row.ensures)
+    c.loop-slot.invariant c.in_ok-print_row.ensures.printed)

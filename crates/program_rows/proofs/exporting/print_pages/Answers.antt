@@ -16,4 +16,4 @@ loop-page-preserved g c =
     rw add-one
     (Appends-trans (g.W.Write.contents c.args.output.now) (g.W.Write.contents c.loop-page.output) (g.W.Write.contents c.print_page_at_once.new.output)
     (page_records c.args.format rows c.loop-page.page) (slot_records c.args.format rows c.loop-page.page SLOTS_PER_PAGE)
-    c.loop-page.invariant c.in_ok-print_page_at_once.ensures)
+    c.loop-page.invariant c.in_ok-print_page_at_once.ensures.printed)

@@ -20,10 +20,10 @@ loop-pair-preserved g c =
     subst (λ (bytes : List ℕ). Appends (contents c.args.output.now) (contents c.print_row.new.output) bytes)
     (sym (records_more c.args.format rows pairs i pair (omega arith) c.pair-item.is))
     (Appends-trans (contents c.args.output.now) (contents c.loop-pair.output) (contents c.print_row.new.output) (pair_records c.args.format rows (take i pairs))
-    (row_record c.args.format rows pair.rid) c.loop-pair.invariant c.in_ok-print_row.ensures)
+    (row_record c.args.format rows pair.rid) c.loop-pair.invariant c.in_ok-print_row.ensures.printed)
 
-pub returns : goal.returns
-returns g c =
+pub returns-clause-printed : goal.returns-clause-printed
+returns-clause-printed g c =
     let contents = g.W.Write.contents in
     let rows = (value_of c.args.core.now).heap.rows in
     let pairs = c.args.pairs.now in
