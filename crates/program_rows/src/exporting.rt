@@ -251,8 +251,8 @@ fn print_visible<W: Write>(
 
 /// Prints a header and the record of each row, in the order of the index.
 ///
-/// `NoIndex`, `NotBuilt` while the index is built, and `NoMemory`; or the error is the output's (`refused`). Then a part
-/// is printed, or none (what, no clause says).
+/// `NoIndex`, `NotBuilt` while the index is built, and `NoMemory`; or the error is the output's (`refused`). Then a
+/// part is printed, or none (what, no clause says).
 pub fn export_by_key<W: Write>(
     alloc: Global,
     core: &Core<Global>,
