@@ -3,7 +3,7 @@
 root=$(cd "$here/../.." && pwd)
 header=$root/crates/nsf_c/include
 if [ -z "$NSF_LIBRARY" ]; then
-    echo "the library is proved first, which takes hours once; scripts/library --try builds one without proof" >&2
+    echo "the library is proved first, which takes an hour or two, once; scripts/library --try builds one without proof" >&2
     (cd "$root/crates/nsf_c" && rt lib >&2)
     NSF_LIBRARY=$root/crates/nsf_c/out/libnsf_c.a
 fi

@@ -1,4 +1,6 @@
 //! What is below the disk of a store that C opened.
+ghost use Rattle.std.specs.Prelude.{◌≡◌, ◌↔◌, IsTrue};
+
 use sector_device::SECTOR_SIZE;
 use std::io::{Error, ErrorKind};
 use store_file::Backing;
@@ -15,10 +17,18 @@ pub enum Below {
 // The number that asks for a sync in place of a write.
 const SYNC: u64 = u64::MAX;
 
-// Whether the other end said that it is done, by a byte of 0.
+// Whether an answer says that what was asked is done: that one byte came, and it is 0.
+fn says_done(count: usize, answer: u8) -> bool
+    ensures { IsTrue result ↔ (count ≡ 1) × (answer ≡ 0) }
+{
+    count == 1 && answer == 0
+}
+
+// Whether the other end said that it is done.
 fn is_done(line: i32) -> bool {
     let mut answer = [1];
-    io::read_full(line, &mut answer) == 1 && answer[0] == 0
+    let count = io::read_full(line, &mut answer);
+    says_done(count, answer[0])
 }
 
 // Asks the other end, and waits for its answer.

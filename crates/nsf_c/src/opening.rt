@@ -1,11 +1,12 @@
 //! A store is made, opened and closed.
-ghost use Rattle.std.specs.Prelude.{◌≡◌, ◌≢◌, ◌⊎◌, Some, IfOk, IfErr, false};
+ghost use Rattle.std.specs.Prelude.{◌≡◌, ◌≢◌, ◌⊎◌, ◌<ℤ◌, ◌≤ℤ◌, pos, Some, IfOk, IfErr, false};
 ghost use Rattle.record_values.specs.Refusals.{number_of};
 ghost use Rattle.store_file.specs.FileDisk.{past_of};
 ghost use Rattle.program_commands.specs.Guarded.{knows_failure, store_of};
 ghost use Rattle.program_commands.specs.Store.{OpensOn};
 ghost use Rattle.nsf_c.specs.Calls.{Is, IsMade, IsNeeded, IsNotMade, IsNotOpened, IsOpenedOn, IsRefused, sectors_of};
 ghost use Rattle.nsf_c.specs.Handles.{Holds, IsOpen, IsVacant};
+ghost use Rattle.nsf_c.specs.declared.below.Below.TheVariants.{Line, Memory};
 
 use crate::below::Below;
 use crate::handle::Handle;
@@ -18,7 +19,10 @@ use std::alloc::Global;
 use store_file::FileDisk;
 
 // What is below, where the descriptor is of a line, or is none.
-fn below(line: i32) -> Below {
+fn below(line: i32) -> Below
+    ensures memory { line <ℤ pos 0 → result ≡ Memory }
+    ensures on_line { pos 0 ≤ℤ line → result ≡ Line line }
+{
     if line < 0 {
         Below::Memory
     } else {
