@@ -37,7 +37,7 @@ pub trait Client {
 
     /// What it does, once. It has the seat that it was given until it returns: so it is behind each call that takes the
     /// seat. Where it waits for an index, it asks why the builder has ended, if it has (`BuilderEnd::reason`): then the
-    /// index is not completed meanwhile (no clause says so).
+    /// index is not completed meanwhile (no clause says so, nor that the end is this run's).
     fn work<B: Group, R: Wait>(
         &mut self,
         rt: &R,

@@ -102,7 +102,8 @@ impl From<PutError> for Error {
 }
 
 /// What a client works with beside its seat: the runtime, what is shared, where a seat waits for its commits, and the
-/// builder's end. All calls of a seat but those below are those of `shared`, with `rt`.
+/// builder's end. All calls of a seat but those below are those of `shared`, with `rt`. (That `serve_led` lends where
+/// the seat waits, and the builder's end, of its own run, no clause says.)
 #[derive(Drop)]
 pub struct Connection<'a, B: Group, R, W> {
     pub rt: &'a R,

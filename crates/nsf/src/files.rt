@@ -6,8 +6,9 @@
 //! the new file failed (`refused`).
 //!
 //! No clause says what an opened file holds, nor that it is a store: `restart` and `open_store` read it, and tell. Nor
-//! that a store is made just where nothing has the name, that the file gets its name, or what a refusal leaves of it.
-//! That is only tested (`test_nsf`, `test_files`).
+//! that a store is made just where nothing has the name, that the file gets its name, and only once the store is safe
+//! (what gives it the name asks for that), or what a refusal leaves of it. That is only tested (`test_nsf`,
+//! `test_files`).
 ghost use Rattle.std.specs.Prelude.{◌≡◌, ◌+◌, ◌<◌, ◌≤◌, IfErr, IfOk, length};
 ghost use Rattle.record_values.specs.GeometryValue.{sectors_of};
 ghost use Rattle.sector_device.specs.Disk.{IsSynced};
@@ -67,6 +68,20 @@ impl From<io::Error> for FileError {
     }
 }
 
+// Gives the file of a disk its name: only once the disk is a store, and safe.
+fn give_name<R: Files + AllocGlobal, A: Allocator>(
+    rt: &R,
+    path: &str,
+    _disk: &FileDisk<HostFile<R::File>, A>,
+) -> Result<(), OpenError>
+where
+    R::File: StoreFile,
+    requires store { IsOpenable (past_of _disk.now).disk.content }
+    requires safe { IsSynced (past_of _disk.now).disk }
+{
+    publish(rt, path)
+}
+
 // Makes the disk of a draft a store, and gives the file its name.
 fn finish<R: Files + AllocGlobal, A: Allocator>(
     rt: &R,
@@ -84,13 +99,13 @@ where
     ensures refused { IfErr result IsNoDevice }
 {
     format_store(&mut disk, geometry)?;
-    publish(rt, path)?;
+    give_name(rt, path, &disk)?;
     Ok(disk)
 }
 
 /// Makes a store of this geometry, with no row and no index, in a new file, and its device, which is synced. The file
-/// gets its name once all of that is safe. Where it is refused before, no file is left, if that can be removed; behind
-/// that the file stands, whole.
+/// gets its name once all of that is safe (no clause says so). Where it is refused before, no file is left, if that can
+/// be removed; behind that the file stands, whole.
 ///
 /// The refusals are those of `file::create` and `file::publish`, and `DeviceFailed` where a write or a sync of the new
 /// file failed.
@@ -120,7 +135,8 @@ where
 }
 
 /// The device of the file of this name, which is opened as by `file::open`. Where nothing has the name, a store of this
-/// geometry is made there, as by `create_store`. The geometry is not looked at where the file is there.
+/// geometry is made there, as by `create_store`. The geometry is not looked at where the file is there. (Which of the
+/// two it does, no clause says.)
 ///
 /// The refusals are those of `file::open`, and of `create_store`: `Exists` where the file was made meanwhile. A draft
 /// that was left by a making that was cut off is told as `DraftExists`, or `DraftEmpty`.
