@@ -26,7 +26,7 @@ use threads_loops::{
 /// course once, by this equation. So one desk serves one run.
 ///
 /// How the flusher ended tells its part in the end: `DeviceFailed` where the device has failed, also where it did so
-/// under a seat (`sound`, `failed`). A gate is called with the desk's lock held.
+/// under a seat (`sound`, `failed`). A gate is called with the desk's lock held (no clause says so).
 pub fn run_led<
     't,
     C: Course<D, Global> + Send + Sync,
