@@ -3,10 +3,8 @@ use Rattle.std.specs.Prelude.{◌≡◌, ◌⊎◌, ◌≤◌, ◌++◌, ℕ, na
 use Rattle.std.specs.Prelude.{IfErr, IfSome, OnOk, option_and_then, slice_get}
 use Rattle.record_values.specs.GeometryValue.{GeometryValue}
 use Rattle.record_values.specs.declared.error.Error.{Error}
-use Rattle.record_values.specs.declared.error.Error.TheVariants.{DeviceFailed, NoMemory}
 use Rattle.records.specs.RecordValue.{RecordValue}
 use Rattle.model.specs.Given.{Given, given_after}
-use Rattle.sector_device.specs.DevicePast.{Rises}
 use Rattle.core_parts.specs.View.{CoreValue}
 use Rattle.threads_sessions.specs.Values.{CommitValue}
 use Rattle.locked_core.specs.Names.{IsShared}
@@ -15,7 +13,7 @@ use Rattle.nsf.specs.Gathered.{AreCommitsOf, sessions_of}
 use Rattle.nsf.specs.OpenErrors.{OpenError}
 use Rattle.nsf.specs.OpenErrors.TheVariants.{Refused}
 use Rattle.nsf.specs.Seats.{SeatValue}
-use Rattle.nsf.specs.Serving.{HaveWorked, TellsBuild}
+use Rattle.nsf.specs.Serving.{HaveWorked, TellsBuild, WhyUnwritten}
 use Rattle.restart.specs.Store.{over}
 use Rattle.headline.specs.declared.day.Day.{Day}
 use Rattle.headline.specs.declared.shared_day.End.{End}
@@ -76,7 +74,8 @@ pub record IsServedBeside {C : Type 0} (geometry : GeometryValue) (old : AtRest)
 -- clients did came later, and never came to the device. (The stop may have undone what the opening had read unsynced.
 -- So the store that was opened may be another that the days could leave.)
 --
--- The device's count of failures hasn't fallen. Where not all was written, there was no memory, or the device failed.
+-- The device's count of failures hasn't fallen. Where not all was written, there was no memory, and no call of the
+-- device failed; or one did.
 pub record HasLivedBeside {D M C : Type 0} (works : C → C → SeatValue → SeatValue → Type 0) (failures : D → ℕ)
     (geometry : GeometryValue) (began : AtRest) (days : List (Day M)) (answers : List (Answer M)) (day : SharedDay C)
     (answer : SharedAnswer C) (new : AtRest) : Type 0 where
@@ -88,7 +87,7 @@ pub record HasLivedBeside {D M C : Type 0} (works : C → C → SeatValue → Se
   pub served : IsServedBeside geometry before seats horizon day.end answer new
       ⊎ ((known_safe day.end seats horizon ≡ None) × (new ≡ record before { failed = new.failed }))
   pub later : before.failed ≤ new.failed
-  pub why : IfErr answer.written (λ e. (e ≡ NoMemory) ⊎ ((e ≡ DeviceFailed) × Rises before.failed new.failed))
+  pub why : IfErr answer.written (WhyUnwritten before.failed new.failed)
 
 -- Why there is no store behind its days and a day of clients. Before the days or behind them the store wasn't opened;
 -- or that of the clients wasn't opened behind them. There was no memory, or a call of the device failed.

@@ -1,7 +1,7 @@
 -- Why no client began, and why not all was written out that clients made.
-use Rattle.std.proofs.Common.{◌≡◌, ◌⊎◌, ◌≤◌, Bool, Err, IfErr, IfOk, Ok, Result, ap, false, inl, inr, refl, subst, sym, true, ◌∙◌, ℕ}
+use Rattle.std.proofs.Common.{◌≡◌, ◌≤◌, Bool, Err, IfErr, IfOk, Ok, Result, ap, false, inl, inr, refl, subst, sym, true, ◌∙◌, ℕ}
 use Rattle.record_values.specs.declared.error.Error.{Error}
-use Rattle.record_values.specs.declared.error.Error.TheVariants.{DeviceFailed, NoMemory}
+use Rattle.record_values.specs.declared.error.Error.TheVariants.{NoMemory}
 use Rattle.restart.specs.Reopening.{IsTurned}
 use Rattle.sector_device.specs.Disk.{IsSynced}
 use Rattle.sector_device.specs.DevicePast.{DevicePast, Rises}
@@ -9,7 +9,7 @@ use Rattle.threads_flusher.proofs.Going.{counted_then}
 use Rattle.threads_lifetime.specs.Openings.{IsNotShared, IsOpenedOver, LacksMemory, StoreValue}
 use Rattle.threads_lifetime.specs.declared.refusal.OpenError.{OpenError}
 use Rattle.threads_lifetime.specs.declared.refusal.OpenError.TheVariants.{Refused}
-use Rattle.nsf.specs.Serving.{WhyUnwritten}
+use Rattle.nsf.specs.Serving.{WhyRestUnwritten, WhyUnwritten}
 
 module _ {D : Type 0} (past_of : D → DevicePast) (failures : D
     → ℕ) (before : D) (count : ℕ) (s : StoreValue D) (is : IsOpenedOver past_of failures before count s) where
@@ -37,11 +37,10 @@ pub both : {T E : Type 0} (P Q : T → Type 0) (r : Result T E) → IfOk r P →
 both P Q (Ok x) p q = (p, q)
 both P Q (Err e) p q = tt
 
--- the device failed as the clients ran, or behind that
-pub unwritten_since : {U : Type 0} (old mid : Bool) (a b c : ℕ) → old ≡ false → a ≤ b → (mid ≡ true → old ≡ false → Rises a b) → (written : Result U Error)
-    → IfErr written (λ e. (e ≡ NoMemory) ⊎ ((e ≡ DeviceFailed) × (mid ≡ false → Rises b c))) → b ≤ c
-    → IfErr written (WhyUnwritten a c)
-unwritten_since old mid a b c sound low first (Ok x) why later = tt
-unwritten_since old mid a b c sound low first (Err e) (inl none) later = inl none
-unwritten_since old mid a b c sound low first (Err e) (inr failed) later =
+-- the device failed as the clients ran, or behind that; or it has not failed
+pub unwritten_since : {U : Type 0} (old mid : Bool) (a b c : ℕ) → old ≡ false → a ≤ b → (mid ≡ true → old ≡ false → Rises a b) → (mid ≡ false → b ≡ a)
+    → (written : Result U Error) → IfErr written (WhyRestUnwritten mid b c) → b ≤ c → IfErr written (WhyUnwritten a c)
+unwritten_since old mid a b c sound low first quiet (Ok x) why later = tt
+unwritten_since old mid a b c sound low first quiet (Err e) (inl none) later = inl (none.0, none.2 ∙ quiet none.1)
+unwritten_since old mid a b c sound low first quiet (Err e) (inr failed) later =
     inr (failed.0, counted_then old mid true a b c low later first (λ now before. failed.1 before) refl sound)

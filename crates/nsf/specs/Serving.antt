@@ -1,5 +1,5 @@
 -- What clients leave of a store.
-use Rattle.std.specs.Prelude.{[], false, List, IfErr, IfOk, OnOk, Result, vec_capacity, ℕ, ◌≡◌, ◌≤◌, ◌⊎◌, ◌∷◌}
+use Rattle.std.specs.Prelude.{[], Bool, false, List, IfErr, IfOk, OnOk, Result, vec_capacity, ℕ, ◌≡◌, ◌≤◌, ◌⊎◌, ◌∷◌}
 use Rattle.std.specs.List.{All}
 use Rattle.std.specs.declared.alloc.Global.{Global}
 use Rattle.std.specs.declared.vec.Vec.{Vec}
@@ -50,9 +50,15 @@ pub record LeavesCommits {D : Type 0} (past_of : D → DevicePast) (o : Opened) 
       (past_of device)) publications
   pub all : OnOk written ∥ HoldsAll o geometry seats popped (past_of device).disk ∥₁
 
--- why not all that was made was written out: there was no memory, or the device has failed
+-- why not all that was made was written out: there was no memory, and no call of the device has failed; or one has
 abbrev pub WhyUnwritten : (before now : ℕ) → Error → Type 0
-WhyUnwritten before now e = (e ≡ NoMemory) ⊎ ((e ≡ DeviceFailed) × Rises before now)
+WhyUnwritten before now e = ((e ≡ NoMemory) × (now ≡ before)) ⊎ ((e ≡ DeviceFailed) × Rises before now)
+
+-- and why the rest was not, once clients and loops had ended, by a device that may have failed before (no public clause
+-- cites this)
+abbrev pub WhyRestUnwritten : (failed : Bool) → (before now : ℕ) → Error → Type 0
+WhyRestUnwritten failed before now e = ((e ≡ NoMemory) × (failed ≡ false) × (now ≡ before))
+    ⊎ ((e ≡ DeviceFailed) × (failed ≡ false → Rises before now))
 
 -- What is told of the builder: the ticket of an index that a core which may lie under the lock completed; or why the
 -- builder ended.

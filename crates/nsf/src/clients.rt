@@ -1,11 +1,10 @@
 //! Clients of a store, each in a thread of its own.
-ghost use Rattle.std.specs.Prelude.{◌≡◌, ◌⊎◌, ◌<◌, ◌≤◌, Err, IfErr, IfOk, List, Some, false, ℕ, map, vec_len};
+ghost use Rattle.std.specs.Prelude.{◌≡◌, ◌<◌, ◌≤◌, Err, IfErr, IfOk, List, Some, ℕ, map, vec_len};
 ghost use Rattle.std.specs.Prelude.{slice_get, slice_index_or};
 ghost use Rattle.std.specs.Fn.{FnOnceReturnsAt};
 ghost use Rattle.std.specs.List.{All};
-ghost use Rattle.record_values.specs.declared.error.Error.TheVariants.{DeviceFailed, NoMemory, TooManyTxns};
+ghost use Rattle.record_values.specs.declared.error.Error.TheVariants.{NoMemory, TooManyTxns};
 ghost use Rattle.core_model.specs.Histories.{Opened};
-ghost use Rattle.sector_device.specs.DevicePast.{Rises};
 ghost use Rattle.store_writer.specs.Parts.{device_of, has_failed};
 ghost use Rattle.threads_flusher.specs.Going.{GoesOn};
 ghost use Rattle.threads_flusher.specs.Part.{IsSafeSince};
@@ -14,8 +13,8 @@ ghost use Rattle.threads_lifetime.specs.Gathered.{AreAllSeats};
 ghost use Rattle.restart.specs.Reopening.{IsTurned};
 ghost use Rattle.threads_lifetime.specs.Openings.{IsNewFlusher, IsNotShared, Opens};
 ghost use Rattle.threads_lifetime.specs.declared.refusal.OpenError.TheVariants.{Refused};
-ghost use Rattle.nsf.specs.Serving.{HadEnded, HasRoom, IsLaterPast, WhyUnwritten, KeepsSeat, LeavesCommits, LeavesWork};
-ghost use Rattle.nsf.specs.Serving.{TellsBuild, unnamed};
+ghost use Rattle.nsf.specs.Serving.{HadEnded, HasRoom, IsLaterPast, KeepsSeat, LeavesCommits, LeavesWork, TellsBuild};
+ghost use Rattle.nsf.specs.Serving.{WhyRestUnwritten, WhyUnwritten, unnamed};
 
 use nsf_core::Ticket;
 use records::Error;
@@ -75,8 +74,9 @@ pub struct Served<C, D> {
 /// the seat had seen then. Since the store was opened, a crash at any moment leaves the commits up to some record; and
 /// before that what one could leave before the call, or what gives the same (`leaves`).
 ///
-/// A refusal is `NoMemory`, or `DeviceFailed` where the device's count of failures has risen (`why`); that never falls
-/// (`later`). A transaction that a client left active is taken back when the store is opened again.
+/// A refusal is `NoMemory` where the device's count of failures is as it was, or `DeviceFailed` where it has risen
+/// (`why`). The count never falls (`later`). A transaction that a client left active is taken back when the store is
+/// opened again.
 ///
 /// The errors are those of `open_store`, as `TooManyTxns` where there are more than 16 clients (`many`), and
 /// `NoMemory`. That comes also where no thread can be made for what runs beside the clients; no client is called then.
@@ -357,8 +357,8 @@ fn close<B: Group, D: Device, R: Wait>(
     ensures leaves { LeavesCommits D.past_of B.site.opened parts.seats.items parts.flush.publications
         parts.flush.published.horizon result.0 result.1 }
     ensures goes { IsLaterPast (D.past_of (device_of parts.flush.writer)) (D.past_of result.0) }
-    ensures why { IfErr result.1 (λ e. (e ≡ NoMemory) ⊎ ((e ≡ DeviceFailed) × (has_failed parts.flush.writer ≡ false
-        → Rises (D.failures (device_of parts.flush.writer)) (D.failures result.0)))) }
+    ensures why { IfErr result.1 (WhyRestUnwritten (has_failed parts.flush.writer)
+        (D.failures (device_of parts.flush.writer)) (D.failures result.0)) }
     ensures later { D.failures (device_of parts.flush.writer) ≤ D.failures result.0 }
 {
     parts.flush.stands();
@@ -431,9 +431,8 @@ pub(crate) fn end<B: Group, C: Drop, D: Device, R: Wait>(
         → d.seat.sight.horizon ≤ ended.flush.published.horizon }
     ensures marked { (k : ℕ) (d : _) → slice_get ended.clients.items k ≡ Some d
         → IsSafeSince D.marks ended.flush.publications d.seat.sight.safe d.seat.sight.mark }
-    ensures why { IfErr result.written (λ e. (e ≡ NoMemory) ⊎ ((e ≡ DeviceFailed)
-        × (has_failed ended.flush.writer ≡ false
-        → Rises (D.failures (device_of ended.flush.writer)) (D.failures result.device)))) }
+    ensures why { IfErr result.written (WhyRestUnwritten (has_failed ended.flush.writer)
+        (D.failures (device_of ended.flush.writer)) (D.failures result.device)) }
     ensures later { D.failures (device_of ended.flush.writer) ≤ D.failures result.device }
     ensures built { result.built ≡ ended.built }
     ensures clients { vec_len result.clients ≡ vec_len ended.clients }

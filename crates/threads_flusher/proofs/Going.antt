@@ -79,6 +79,18 @@ module _ {D A : Type 0} (failures : D → ℕ) (old new : Writer D A) where
   counted_by_call (Ok x) sound err now before = absurd (false≢true (sym sound.1 ∙ now))
   counted_by_call (Err e) sound failed now before = failed.2 before
 
+  -- and where it did not fail, none is
+  pub quiet_by_flush : {T : Type 0} (result : Result T Error) → OnOk result (failures (device_of new) ≡ failures (device_of old))
+      → IfErr result (λ e. IsNotFlushed failures e old new) → has_failed new ≡ false → failures (device_of new) ≡ failures (device_of old)
+  quiet_by_flush (Ok x) quiet err sound = quiet
+  quiet_by_flush (Err e) quiet (inl none) sound = ap (λ (w : Writer D A). failures (device_of w)) none.4
+  quiet_by_flush (Err e) quiet (inr failed) sound = absurd (false≢true (sym sound ∙ failed.1))
+
+  pub quiet_by_call : {T : Type 0} (result : Result T Error) → OnOk result (failures (device_of new) ≡ failures (device_of old))
+      → IfErr result (λ e. HasFailed failures e old new) → has_failed new ≡ false → failures (device_of new) ≡ failures (device_of old)
+  quiet_by_call (Ok x) quiet err sound = quiet
+  quiet_by_call (Err e) quiet failed sound = absurd (false≢true (sym sound ∙ failed.1))
+
 -- ---- the part goes on
 
 module _ {D A : Type 0} (past_of : D → DevicePast) (failures : D → ℕ) (o : Opened) where
@@ -102,6 +114,8 @@ module _ {D A : Type 0} (past_of : D → DevicePast) (failures : D → ℕ) (o :
     images = started (past_of (device_of f.writer)) (FlushLeaves o f) (λ image crash. is_left past_of _ o f is image (is.writer.images image crash));
     later = omega arith;
     counted = counted_same (has_failed f.writer) (has_failed f.writer) (failures (device_of f.writer)) (failures (device_of f.writer)) refl;
+    stays = λ now. now;
+    quiet = λ _. refl;
   }
 
   -- as an image is given up, or forgotten
@@ -123,6 +137,8 @@ module _ {D A : Type 0} (past_of : D → DevicePast) (failures : D → ℕ) (o :
         images = here.images;
         later = here.later;
         counted = here.counted;
+        stays = here.stays;
+        quiet = here.quiet;
       })
 
   -- by records that are popped and handed in
@@ -146,6 +162,8 @@ module _ {D A : Type 0} (past_of : D → DevicePast) (failures : D → ℕ) (o :
         (started (past_of (device_of new.writer)) (FlushLeaves o new) (λ image crash. is_left past_of _ o new is image (is.writer.images image crash))));
     later = omega (arith, ap failures takes.got.device);
     counted = counted_same (has_failed old.writer) (has_failed new.writer) (failures (device_of old.writer)) (failures (device_of new.writer)) takes.got.failed;
+    stays = λ now. sym takes.got.failed ∙ now;
+    quiet = λ _. ap failures takes.got.device;
   }
 
   -- by a call of the writer
@@ -154,8 +172,9 @@ module _ {D A : Type 0} (past_of : D → DevicePast) (failures : D → ℕ) (o :
       → LeavesOnly (past_of (device_of old.writer)) (past_of (device_of new.writer)) (FlushLeaves o old)
       → failures (device_of old.writer) ≤ failures (device_of new.writer)
       → (has_failed new.writer ≡ true → has_failed old.writer ≡ false → Rises (failures (device_of old.writer)) (failures (device_of new.writer)))
-      → GoesOn past_of failures o old new
-  goes_by_call old new low publishes geometry rises images later counted = record {
+      → (has_failed new.writer ≡ false → has_failed old.writer ≡ false)
+      → (has_failed new.writer ≡ false → failures (device_of new.writer) ≡ failures (device_of old.writer)) → GoesOn past_of failures o old new
+  goes_by_call old new low publishes geometry rises images later counted stays quiet = record {
     popped = [];
     popped-are = ap (λ l. l ++ new.held) publishes.handed ∙ ap (λ l. old.handed ++ l) publishes.held ∙ sym (append-nil (popped_by old));
     more = [];
@@ -173,6 +192,8 @@ module _ {D A : Type 0} (past_of : D → DevicePast) (failures : D → ℕ) (o :
         (same_store o (halves_of old.writer).geometry (halves_of new.writer).geometry old.handed (synced_of old.writer) image geometry left)) images;
     later = later;
     counted = counted;
+    stays = stays;
+    quiet = quiet;
   }
 
   -- by one and then another
@@ -205,4 +226,6 @@ module _ {D A : Type 0} (past_of : D → DevicePast) (failures : D → ℕ) (o :
     later = omega (arith, first.later, second.later);
     counted = counted_then (has_failed old.writer) (has_failed mid.writer) (has_failed new.writer) (failures (device_of old.writer))
         (failures (device_of mid.writer)) (failures (device_of new.writer)) first.later second.later first.counted second.counted;
+    stays = λ now. first.stays (second.stays now);
+    quiet = λ now. second.quiet now ∙ first.quiet (second.stays now);
   }

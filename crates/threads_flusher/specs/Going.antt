@@ -28,7 +28,7 @@ LeavesImage copying old new = new ≡ record old { writer = without_image copyin
 -- lost; no horizon went back, what was published before stays noted, and the store is the same. What was published
 -- since was published at no earlier moment. A crash at any moment since leaves what some of the records that the writer
 -- has got now make of what was opened, the first ones, with all that were synced at first. And if the device failed
--- meanwhile, it counted that.
+-- meanwhile, it counted that, and else no failure. One that had failed stays so.
 pub record GoesOn {D A : Type 0} (past_of : D → DevicePast) (failures : D
     → ℕ) (o : Opened) (old new : FlushValue D A) : Type 0 where
   pub popped : List RecordValue
@@ -46,3 +46,5 @@ pub record GoesOn {D A : Type 0} (past_of : D → DevicePast) (failures : D
   pub later : failures (device_of old.writer) ≤ failures (device_of new.writer)
   pub counted : has_failed new.writer ≡ true → has_failed old.writer ≡ false
       → Rises (failures (device_of old.writer)) (failures (device_of new.writer))
+  pub stays : has_failed new.writer ≡ false → has_failed old.writer ≡ false
+  pub quiet : has_failed new.writer ≡ false → failures (device_of new.writer) ≡ failures (device_of old.writer)

@@ -1,7 +1,6 @@
 -- How the flusher's part goes on from call to call.
-use Rattle.std.proofs.Common.{◌≡◌, ◌⊎◌, ℕ, ◌≤◌, true, false, List, [], ◌++◌, Result, Ok, Err, IfErr, OnOk, OnErr, inl, inr, refl, sym, ap, ◌∙◌, subst, arith}
+use Rattle.std.proofs.Common.{◌≡◌, ◌⊎◌, ℕ, ◌≤◌, true, false, List, [], ◌++◌, Result, Ok, Err, OnOk, OnErr, inl, inr, refl, sym, ap, ◌∙◌, subst, arith}
 use Rattle.std.proofs.Common.{append-nil, append_assoc}
-use Rattle.std.proofs.lemmas.Bool.{false≢true}
 use Rattle.records.specs.RecordValue.{RecordValue}
 use Rattle.record_values.specs.declared.error.Error.{Error}
 use Rattle.record_values.specs.declared.error.Error.TheVariants.{DeviceFailed, NoMemory}
@@ -11,7 +10,7 @@ use Rattle.sector_device.specs.DevicePast.{DevicePast, LeavesOnly, Rises}
 use Rattle.sector_device.proofs.Moments.{joined, started, weaker}
 use Rattle.flip_image.specs.Layout.{HalvesValue}
 use Rattle.store_writer.specs.Parts.{device_of, halves_of, has_failed, synced_of, waiting_of}
-use Rattle.store_writer.specs.Writer.{HasFailed, IsNotFlushed}
+use Rattle.store_writer.specs.Writer.{IsNotFlushed}
 use Rattle.store_writer.specs.declared.writer.Writer.{Writer}
 use Rattle.threads_flusher.proofs.Going.{counted_same, counted_then}
 use Rattle.threads_flusher.proofs.Keeping.{is_left}
@@ -111,20 +110,6 @@ module _ {D A : Type 0} (past_of : D → DevicePast) (failures : D → ℕ) (o :
     stays = λ now. first.stays (second.stays now);
     quiet = λ now. second.quiet now ∙ first.quiet (second.stays now);
   }
-
--- ---- calls that met no failure of the device
-
-module _ {D A : Type 0} (failures : D → ℕ) (old new : Writer D A) where
-  pub quiet_flush : {T : Type 0} (result : Result T Error) → OnOk result (failures (device_of new) ≡ failures (device_of old))
-      → IfErr result (λ e. IsNotFlushed failures e old new) → has_failed new ≡ false → failures (device_of new) ≡ failures (device_of old)
-  quiet_flush (Ok x) quiet err sound = quiet
-  quiet_flush (Err e) quiet (inl none) sound = ap (λ (w : Writer D A). failures (device_of w)) none.4
-  quiet_flush (Err e) quiet (inr device) sound = absurd (false≢true (sym sound ∙ device.1))
-
-  pub quiet_call : {T : Type 0} (result : Result T Error) → OnOk result (failures (device_of new) ≡ failures (device_of old))
-      → IfErr result (λ e. HasFailed failures e old new) → has_failed new ≡ false → failures (device_of new) ≡ failures (device_of old)
-  quiet_call (Ok x) quiet err sound = quiet
-  quiet_call (Err e) quiet device sound = absurd (false≢true (sym sound ∙ device.1))
 
 -- why a call was refused
 pub why_not_flushed : {D A : Type 0} (failures : D → ℕ) (old new : Writer D A) (e : Error) → IsNotFlushed failures e old new

@@ -54,6 +54,8 @@ module _ {D A : Type 0} (past_of : D → DevicePast) (failures : D → ℕ) (o :
         counted = counted_then (has_failed old.writer) (has_failed mid.writer) (has_failed new.writer) (failures (device_of old.writer))
             (failures (device_of mid.writer)) (failures (device_of new.writer)) goes.later counts goes.counted
             (counted_same (has_failed mid.writer) (has_failed new.writer) (failures (device_of mid.writer)) (failures (device_of new.writer)) takes.got.failed);
+        stays = λ now. goes.stays (sym takes.got.failed ∙ now);
+        quiet = λ now. ap failures takes.got.device ∙ goes.quiet (sym takes.got.failed ∙ now);
       }
 
   -- or an image was given up
@@ -72,6 +74,8 @@ module _ {D A : Type 0} (past_of : D → DevicePast) (failures : D → ℕ) (o :
     images = goes.images;
     later = goes.later;
     counted = goes.counted;
+    stays = goes.stays;
+    quiet = goes.quiet;
   })
 
 module _ {D A : Type 0} (past_of : D → DevicePast) (marks : ℕ → ℕ → Type 0) (failures : D → ℕ) (o : Opened) where

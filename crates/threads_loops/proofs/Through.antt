@@ -11,8 +11,8 @@ use Rattle.store_writer.specs.Writer.{CanFlip, HasFailed, IsAsBefore, IsBeforeFl
 use Rattle.store_writer.specs.declared.writer.FlipReply.{FlipReply}
 use Rattle.store_writer.specs.declared.writer.FlushReply.{FlushReply}
 use Rattle.store_writer.specs.declared.writer.StepReply.{StepReply}
-use Rattle.threads_flusher.proofs.Going.{counted_by_call, counted_by_flush, flip_geometry, goes_by_call, step_geometry}
-use Rattle.threads_flusher.proofs.Keeping.{flip_rises, flush_rises}
+use Rattle.threads_flusher.proofs.Going.{counted_by_call, counted_by_flush, flip_geometry, goes_by_call, quiet_by_call, quiet_by_flush, step_geometry}
+use Rattle.threads_flusher.proofs.Keeping.{flip_rises, flush_rises, flush_sound, still_sound}
 use Rattle.store_writer.specs.declared.copying.Copying.TheVariants.{GivenUp, Idle, Steps}
 use Rattle.store_writer.specs.declared.writer.FlipReply.TheVariants.{Behind}
 use Rattle.store_writer.specs.declared.writer.Writer.{Writer}
@@ -75,8 +75,17 @@ module _ {D A : Type 0} {marks : ℕ → ℕ → Type 0} (past_of : D → Device
         by (inr (inl step)) = counted_by_call failures old.writer new.writer step.result step.sound step.err
         by (inr (inr flip)) = counted_by_call failures old.writer new.writer flip.result flip.sound flip.err
 
+    stays : Calls past_of marks failures o old new → has_failed new.writer ≡ false → has_failed old.writer ≡ false
+    stays call = by call.made
+      where
+        by : IsFlush failures old new ⊎ (IsStep failures o old new ⊎ IsFlip failures o old new) → has_failed new.writer ≡ false → has_failed old.writer ≡ false
+        by (inl flush) = flush_sound failures old.writer new.writer flush.result flush.sound flush.err
+        by (inr (inl step)) = still_sound failures old.writer new.writer step.result step.sound step.err
+        by (inr (inr flip)) = still_sound failures old.writer new.writer flip.result flip.sound flip.err
+
     pub goes_by : old.published.horizon ≤ synced_of old.writer → Calls past_of marks failures o old new → GoesOn past_of failures o old new
-    goes_by low call = goes_by_call past_of failures o old new low call.publishes call.geometry call.rises call.images call.later (counted call)
+    goes_by low call =
+        goes_by_call past_of failures o old new low call.publishes call.geometry call.rises call.images call.later (counted call) (stays call) call.quiet
 
     module _ (publishes : Publishes past_of marks old new)
         (images : LeavesOnly (past_of (device_of old.writer)) (past_of (device_of new.writer)) (FlushLeaves o old))
@@ -84,21 +93,24 @@ module _ {D A : Type 0} {marks : ℕ → ℕ → Type 0} (past_of : D → Device
       pub by_flush : (result : Result FlushReply Error) → halves_of new.writer ≡ halves_of old.writer
           → IfOk result (λ reply. IsFlushReply reply old.writer new.writer) → OnOk result ((has_failed old.writer ≡ false) × (has_failed new.writer ≡ false))
           → IfErr result (λ e. IsNotFlushed failures e old.writer new.writer) → OnErr result (synced_of new.writer ≡ synced_of old.writer)
-          → OnErr result (IsBeforeFlush old.writer new.writer) → Calls past_of marks failures o old new
-      by_flush result halves flushed sound err kept left = record {
+          → OnErr result (IsBeforeFlush old.writer new.writer) → OnOk result (failures (device_of new.writer) ≡ failures (device_of old.writer))
+          → Calls past_of marks failures o old new
+      by_flush result halves flushed sound err kept left quiet = record {
         made = inl (record { result = result; flushed = flushed; sound = sound; err = err; left = left });
         publishes = publishes;
         geometry = ap (λ (h : HalvesValue). h.geometry) halves;
         rises = flush_rises failures old.writer new.writer result flushed kept;
         images = images;
         later = later;
+        quiet = quiet_by_flush failures old.writer new.writer result quiet err;
       }
 
       pub by_step : (number : ℕ) (piece : Piece A) (result : Result StepReply Error) → IsChunk (run_of o old) old.writer number piece
           → (has_failed old.writer ≡ false → IsHalfFull old.writer) → IfOk result (λ reply. IsStepReply number piece reply old.writer new.writer)
           → OnOk result ((has_failed old.writer ≡ false) × (has_failed new.writer ≡ false)) → IfErr result (λ e. HasFailed failures e old.writer new.writer)
-          → synced_of new.writer ≡ synced_of old.writer → OnErr result (IsAsBefore old.writer new.writer) → Calls past_of marks failures o old new
-      by_step number piece result chunk late stepped sound err kept left = record {
+          → synced_of new.writer ≡ synced_of old.writer → OnErr result (IsAsBefore old.writer new.writer)
+          → OnOk result (failures (device_of new.writer) ≡ failures (device_of old.writer)) → Calls past_of marks failures o old new
+      by_step number piece result chunk late stepped sound err kept left quiet = record {
         made = inr (inl (record {
           number = number;
           piece = piece;
@@ -115,17 +127,20 @@ module _ {D A : Type 0} {marks : ℕ → ℕ → Type 0} (past_of : D → Device
         rises = omega (arith, kept);
         images = images;
         later = later;
+        quiet = quiet_by_call failures old.writer new.writer result quiet err;
       }
 
       pub by_flip : (result : Result FlipReply Error) → IfOk result (λ reply. IsFlipReply (last_handed o old) reply old.writer new.writer)
           → OnOk result ((has_failed old.writer ≡ false) × (has_failed new.writer ≡ false))
           → IfErr result (λ e. HasFailed failures e old.writer new.writer) → OnErr result (synced_of new.writer ≡ synced_of old.writer)
-          → OnErr result (IsAsBefore old.writer new.writer) → Calls past_of marks failures o old new
-      by_flip result flipped sound err kept left = record {
+          → OnErr result (IsAsBefore old.writer new.writer) → OnOk result (failures (device_of new.writer) ≡ failures (device_of old.writer))
+          → Calls past_of marks failures o old new
+      by_flip result flipped sound err kept left quiet = record {
         made = inr (inr (record { result = result; flipped = flipped; sound = sound; err = err; left = left }));
         publishes = publishes;
         geometry = flip_geometry old.writer new.writer (last_handed o old) result flipped left;
         rises = flip_rises failures old.writer new.writer (last_handed o old) result flipped kept;
         images = images;
         later = later;
+        quiet = quiet_by_call failures old.writer new.writer result quiet err;
       }

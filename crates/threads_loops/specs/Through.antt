@@ -48,7 +48,8 @@ pub record IsFlip {D A : Type 0} (failures : D → ℕ) (o : Opened) (old new : 
   pub left : OnErr result (IsAsBefore old.writer new.writer)
 
 -- One call of the writer: no record was popped or handed in, and what is published is what is synced now. A crash at
--- any moment of it leaves what one before it could, with all that were synced then.
+-- any moment of it leaves what one before it could, with all that were synced then. Unless the device failed in it or
+-- before, it counted no failure.
 pub record Calls {D A : Type 0} (past_of : D → DevicePast) (marks : ℕ → ℕ → Type 0) (failures : D
     → ℕ) (o : Opened) (old new : FlushValue D A) : Type 0 where
   pub made : IsFlush failures old new ⊎ (IsStep failures o old new ⊎ IsFlip failures o old new)
@@ -57,6 +58,7 @@ pub record Calls {D A : Type 0} (past_of : D → DevicePast) (marks : ℕ → �
   pub rises : synced_of old.writer ≤ synced_of new.writer
   pub images : LeavesOnly (past_of (device_of old.writer)) (past_of (device_of new.writer)) (FlushLeaves o old)
   pub later : failures (device_of old.writer) ≤ failures (device_of new.writer)
+  pub quiet : has_failed new.writer ≡ false → failures (device_of new.writer) ≡ failures (device_of old.writer)
 
 -- A whole image, which can't be made current yet, was given up: another is to be taken at once.
 abbrev pub DropsImage : {D A : Type 0} → Opened → FlushValue D A → FlushValue D A → Type 0

@@ -1,4 +1,4 @@
-use Rattle.std.proofs.Common.{⊎_elim, ap, arith, inl, inr}
+use Rattle.std.proofs.Common.{ap, arith}
 use Rattle.std.proofs.Math.Logic.{∥∥₁_map}
 use Rattle.store_writer.specs.Parts.{halves_of}
 use Rattle.nsf.proofs.Published.{newest_kept}
@@ -39,7 +39,7 @@ returns-in-Err-clause-leaves g c = record {
 }
 
 pub returns-in-Err-clause-why : goal.returns-in-Err-clause-why
-returns-in-Err-clause-why g c = ⊎_elim (λ none. inl none.0) (λ failed. inr failed) c.in-Err.ensures.err
+returns-in-Err-clause-why g c = c.in-Err.ensures.err
 
 pub returns-in-Ok-clause-goes : goal.returns-in-Ok-clause-goes
 returns-in-Ok-clause-goes g c = rw c.into_device.ensures (record { later = c.in-Ok.ensures.images.later; kept = c.in-Ok.ensures.images.kept })

@@ -1,9 +1,7 @@
-use Rattle.std.proofs.Common.{◌≡◌, ◌∙◌, ◌⊎◌, ◌≤◌, IfErr, false, subst, sym}
-use Rattle.record_values.specs.declared.error.Error.TheVariants.{DeviceFailed, NoMemory}
-use Rattle.sector_device.specs.DevicePast.{Rises}
+use Rattle.std.proofs.Common.{◌∙◌, ◌≤◌, IfErr, subst, sym}
 use Rattle.store_writer.specs.Parts.{device_of, has_failed}
 use Rattle.threads_lifetime.specs.Gathered.{AreAllSeats}
-use Rattle.nsf.specs.Serving.{IsLaterPast, LeavesCommits}
+use Rattle.nsf.specs.Serving.{IsLaterPast, LeavesCommits, WhyRestUnwritten}
 use Rattle.nsf.proofs.Orders.{left_so, marks_are}
 use Rattle.nsf.proofs.clients.end.Goals as goal
 
@@ -29,8 +27,7 @@ returns-clause-goes g c =
 pub returns-clause-why : goal.returns-clause-why
 returns-clause-why g c =
     let failures = g.D.Device.failures in
-    subst (λ f. IfErr c.close-device.result.1 (λ e. (e ≡ NoMemory) ⊎ ((e ≡ DeviceFailed) × (has_failed f.writer ≡ false
-    → Rises (failures (device_of f.writer)) (failures c.close-device.result.0)))))
+    subst (λ f. IfErr c.close-device.result.1 (WhyRestUnwritten (has_failed f.writer) (failures (device_of f.writer)) (failures c.close-device.result.0)))
     c.settle_chairs.ensures.same c.close-device.ensures.why
 
 pub returns-clause-later : goal.returns-clause-later

@@ -28,7 +28,7 @@ returns-in-Ok-run_all-clause-why g c =
     let mid = c.in-Ok-run_all.ended.flush.writer in
     let going = c.in-Ok-run_all.ensures.going in
     unwritten_since (has_failed old) (has_failed mid) (failures (device_of old)) (failures (device_of mid)) (failures c.end.result.device)
-    c.requires.flush.sound going.later going.counted c.end.result.written c.end.ensures.why c.end.ensures.later
+    c.requires.flush.sound going.later going.counted going.quiet c.end.result.written c.end.ensures.why c.end.ensures.later
 
 pub returns-in-Ok-run_all-clause-told : goal.returns-in-Ok-run_all-clause-told
 returns-in-Ok-run_all-clause-told g c = subst (TellsBuild g.B.Group.site.opened) (sym c.end.ensures.built) c.in-Ok-run_all.ensures.told

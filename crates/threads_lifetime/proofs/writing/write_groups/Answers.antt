@@ -1,10 +1,10 @@
 use Rattle.std.proofs.Common.{◌∙◌, Err, ap, refl}
 use Rattle.std.proofs.lemmas.Result.{err_from_is_err_and}
 use Rattle.flip_image.specs.Layout.{HalvesValue}
-use Rattle.threads_flusher.proofs.Going.{counted_by_flush}
+use Rattle.threads_flusher.proofs.Going.{counted_by_flush, quiet_by_flush}
 use Rattle.threads_flusher.proofs.Keeping.{flush_rises, flush_sound}
 use Rattle.threads_lifetime.specs.Written.{WritesOn}
-use Rattle.threads_lifetime.proofs.Going.{quiet_flush, why_not_flushed, writes_by_call, writes_nothing, writes_then}
+use Rattle.threads_lifetime.proofs.Going.{why_not_flushed, writes_by_call, writes_nothing, writes_then}
 use Rattle.threads_lifetime.proofs.writing.write_groups.Goals as goal
 
 pub loop-flush-init : goal.loop-flush-init
@@ -27,7 +27,7 @@ loop-flush-preserved g c =
           (flush_rises failures old.writer new.writer c.flush.result is.flushed is.kept) is.images is.later
           (counted_by_flush failures old.writer new.writer c.flush.result is.sound is.err)
           (flush_sound failures old.writer new.writer c.flush.result is.sound is.err)
-          (quiet_flush failures old.writer new.writer c.flush.result is.quiet is.err));
+          (quiet_by_flush failures old.writer new.writer c.flush.result is.quiet is.err));
       handed = is.publishes.handed ∙ c.loop-flush.invariant.handed;
     }
 
@@ -47,7 +47,7 @@ returns-in_err-flush g c =
           (flush_rises failures old.writer new.writer c.flush.result is.flushed is.kept) is.images is.later
           (counted_by_flush failures old.writer new.writer c.flush.result is.sound is.err)
           (flush_sound failures old.writer new.writer c.flush.result is.sound is.err)
-          (quiet_flush failures old.writer new.writer c.flush.result is.quiet is.err));
+          (quiet_by_flush failures old.writer new.writer c.flush.result is.quiet is.err));
       handed = is.publishes.handed ∙ c.loop-flush.invariant.handed;
       synced = tt;
       sound = tt;
@@ -66,7 +66,7 @@ returns-in-Nothing-clause-writes g c =
     (writes_by_call past_of failures o old new is.publishes (ap (λ (h : HalvesValue). h.geometry) is.around.halves-are)
     (flush_rises failures old.writer new.writer c.flush.result is.flushed is.kept) is.images is.later
     (counted_by_flush failures old.writer new.writer c.flush.result is.sound is.err) (flush_sound failures old.writer new.writer c.flush.result is.sound is.err)
-    (quiet_flush failures old.writer new.writer c.flush.result is.quiet is.err))
+    (quiet_by_flush failures old.writer new.writer c.flush.result is.quiet is.err))
 
 pub returns-in-Nothing-clause-handed : goal.returns-in-Nothing-clause-handed
 returns-in-Nothing-clause-handed g c = c.flush.ensures.publishes.handed ∙ c.loop-flush.invariant.handed
@@ -99,7 +99,7 @@ returns-in-LogFull g c =
     (writes_by_call past_of failures o old new is.publishes (ap (λ (h : HalvesValue). h.geometry) is.around.halves-are)
     (flush_rises failures old.writer new.writer c.flush.result is.flushed is.kept) is.images is.later
     (counted_by_flush failures old.writer new.writer c.flush.result is.sound is.err) (flush_sound failures old.writer new.writer c.flush.result is.sound is.err)
-    (quiet_flush failures old.writer new.writer c.flush.result is.quiet is.err)) in
+    (quiet_by_flush failures old.writer new.writer c.flush.result is.quiet is.err)) in
     record {
       writes = writes_then past_of failures o first new last writes written.writes;
       handed = written.handed ∙ (is.publishes.handed ∙ c.loop-flush.invariant.handed);

@@ -4,9 +4,9 @@ use Rattle.locked_core.specs.Locked.{locked_of}
 use Rattle.locked_core.specs.Made as lock
 use Rattle.store_writer.specs.Parts.{halves_of}
 use Rattle.threads_flusher.specs.Part.{last_handed}
-use Rattle.threads_flusher.proofs.Going.{counted_by_call, flip_geometry, step_geometry}
+use Rattle.threads_flusher.proofs.Going.{counted_by_call, flip_geometry, quiet_by_call, step_geometry}
 use Rattle.threads_flusher.proofs.Keeping.{flip_rises, still_sound}
-use Rattle.threads_lifetime.proofs.Going.{quiet_call, writes_by_call, writes_nothing, writes_then}
+use Rattle.threads_lifetime.proofs.Going.{writes_by_call, writes_nothing, writes_then}
 use Rattle.threads_lifetime.proofs.Pieces.{all_synced, image_taken, number_is, whole_chunk}
 use Rattle.threads_lifetime.proofs.writing.write_image.Goals as goal
 
@@ -42,7 +42,7 @@ returns-in_err-take_piece g c =
           (omega (arith, is.kept)) is.images is.later
           (counted_by_call g.D.Device.failures old.writer new.writer c.take_piece.result is.sound is.err)
           (still_sound g.D.Device.failures old.writer new.writer c.take_piece.result is.sound is.err)
-          (quiet_call g.D.Device.failures old.writer new.writer c.take_piece.result is.quiet is.err);
+          (quiet_by_call g.D.Device.failures old.writer new.writer c.take_piece.result is.quiet is.err);
       handed = is.publishes.handed;
       synced = tt;
       sound = tt;
@@ -68,12 +68,12 @@ returns-in_err-flip g c =
           (omega (arith, first.kept)) first.images first.later
           (counted_by_call failures old.writer mid.writer c.take_piece.result first.sound first.err)
           (still_sound failures old.writer mid.writer c.take_piece.result first.sound first.err)
-          (quiet_call failures old.writer mid.writer c.take_piece.result first.quiet first.err))
+          (quiet_by_call failures old.writer mid.writer c.take_piece.result first.quiet first.err))
           (writes_by_call past_of failures o mid new is.publishes (flip_geometry mid.writer new.writer (last_handed o mid) c.flip.result is.flipped is.left)
           (flip_rises failures mid.writer new.writer (last_handed o mid) c.flip.result is.flipped is.kept) is.images is.later
           (counted_by_call failures mid.writer new.writer c.flip.result is.sound is.err)
           (still_sound failures mid.writer new.writer c.flip.result is.sound is.err)
-          (quiet_call failures mid.writer new.writer c.flip.result is.quiet is.err));
+          (quiet_by_call failures mid.writer new.writer c.flip.result is.quiet is.err));
       handed = is.publishes.handed ∙ first.publishes.handed;
       synced = tt;
       sound = tt;
@@ -104,12 +104,12 @@ returns g c =
           (omega (arith, first.kept)) first.images first.later
           (counted_by_call failures old.writer mid.writer c.take_piece.result first.sound first.err)
           (still_sound failures old.writer mid.writer c.take_piece.result first.sound first.err)
-          (quiet_call failures old.writer mid.writer c.take_piece.result first.quiet first.err))
+          (quiet_by_call failures old.writer mid.writer c.take_piece.result first.quiet first.err))
           (writes_by_call past_of failures o mid new is.publishes (flip_geometry mid.writer new.writer (last_handed o mid) c.flip.result is.flipped is.left)
           (flip_rises failures mid.writer new.writer (last_handed o mid) c.flip.result is.flipped is.kept) is.images is.later
           (counted_by_call failures mid.writer new.writer c.flip.result is.sound is.err)
           (still_sound failures mid.writer new.writer c.flip.result is.sound is.err)
-          (quiet_call failures mid.writer new.writer c.flip.result is.quiet is.err));
+          (quiet_by_call failures mid.writer new.writer c.flip.result is.quiet is.err));
       handed = is.publishes.handed ∙ first.publishes.handed;
       synced = all_synced chunk.number (last_handed o mid) old.writer mid.writer new.writer image (omega (arith, number, kept))
           (omega (arith, c.stands.ensures.writer.reached, kept)) _ c.in_ok-flip.ensures.flipped

@@ -18,7 +18,7 @@ returns-in_err-flip g c =
     let new = c.flip.new.self in
     let is = c.flip.ensures in
     let call : Calls past_of g.D.Device.marks failures o old new = by_flip past_of failures o old new is.publishes is.images is.later c.flip.result is.flipped
-    is.sound is.err is.kept is.left in
+    is.sound is.err is.kept is.left is.quiet in
     let p = err_from_is_err_and c.from_residual.result c.from_residual.ensures.1 in
     rw p.1 (record {
       through = through_call past_of failures o old new call;
@@ -35,7 +35,7 @@ returns-in-Flipped g c =
     let new = c.flip.new.self in
     let is = c.flip.ensures in
     let call : Calls past_of g.D.Device.marks failures o old new = by_flip past_of failures o old new is.publishes is.images is.later c.flip.result is.flipped
-    is.sound is.err is.kept is.left in
+    is.sound is.err is.kept is.left is.quiet in
     let flipped : IsFlipReply (last_handed o old) (Flipped c.in-Flipped.field-0) old.writer new.writer =
     subst (λ (r : FlipReply). IsFlipReply (last_handed o old) r old.writer new.writer) c.in-Flipped.is c.in_ok-flip.ensures.flipped in
     record {
@@ -53,7 +53,7 @@ returns-then-may_wait g c =
     let new = c.flip.new.self in
     let is = c.flip.ensures in
     let call : Calls past_of g.D.Device.marks failures o old new = by_flip past_of failures o old new is.publishes is.images is.later c.flip.result is.flipped
-    is.sound is.err is.kept is.left in
+    is.sound is.err is.kept is.left is.quiet in
     let behind : IsFlipReply (last_handed o old) Behind old.writer new.writer =
     subst (λ (r : FlipReply). IsFlipReply (last_handed o old) r old.writer new.writer) c.in-Behind.is c.in_ok-flip.ensures.flipped in
     record {
@@ -72,7 +72,7 @@ returns-else-may_wait g c =
     let last = c.give_up.new.self in
     let is = c.flip.ensures in
     let call : Calls past_of g.D.Device.marks failures o old new = by_flip past_of failures o old new is.publishes is.images is.later c.flip.result is.flipped
-    is.sound is.err is.kept is.left in
+    is.sound is.err is.kept is.left is.quiet in
     let behind : IsFlipReply (last_handed o old) Behind old.writer new.writer =
     subst (λ (r : FlipReply). IsFlipReply (last_handed o old) r old.writer new.writer) c.in-Behind.is c.in_ok-flip.ensures.flipped in
     record {

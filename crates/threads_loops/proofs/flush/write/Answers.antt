@@ -22,7 +22,7 @@ returns-in_err-reply g c =
     let new = c.flush-flushed.new.self in
     let is = c.flush-flushed.ensures in
     let call : Calls past_of g.D.Device.marks failures o old new = by_flush past_of failures o old new is.publishes is.images is.later c.flush-flushed.result
-    is.around.halves-are is.flushed is.sound is.err is.kept is.left in
+    is.around.halves-are is.flushed is.sound is.err is.kept is.left is.quiet in
     let p = err_from_is_err_and c.from_residual.result c.from_residual.ensures.1 in
     rw p.1 (record {
       through = through_call past_of failures o old new call;
@@ -40,7 +40,7 @@ returns g c =
     let new = c.flush-flushed.new.self in
     let is = c.flush-flushed.ensures in
     let call : Calls past_of g.D.Device.marks failures o old new = by_flush past_of failures o old new is.publishes is.images is.later c.flush-flushed.result
-    is.around.halves-are is.flushed is.sound is.err is.kept is.left in
+    is.around.halves-are is.flushed is.sound is.err is.kept is.left is.quiet in
     record {
       through = through_call past_of failures o old new call;
       copying = stands_by_flush old new failures is.around.halves-are is.copying c.flush-flushed.result is.flushed is.sound is.err;
