@@ -30,7 +30,6 @@ fn sectors_in(length: u64) -> Result<u64, OpenError>
 fn remove_draft<R: Files, A: Allocator>(rt: &R, alloc: &A, path: &str) -> Result<(), OpenError> {
     let draft = draft_of(alloc, path)?;
     fs::remove_file(rt, draft.as_str())?;
-    sync_folder(rt, path)?;
     Ok(())
 }
 
@@ -44,7 +43,8 @@ pub struct Taken<F> {
 }
 
 /// Takes the file at the path: it is locked until it is dropped, and looked at. It is an advisory lock, which goes with
-/// the process. No sector is read or written.
+/// the process. No sector is read or written. The folder is synced: who made the file may have been cut off before its
+/// name was safe. (It is only tested.)
 ///
 /// `Busy` where another process has it open, `NotAFile` and `Linked` where the path names no regular file, a link, or
 /// one of several names of a file, `BadLength` where its length is no number of sectors from 1 to 2^23.
@@ -64,6 +64,7 @@ where
     if has_both(rt, alloc, &file, path)? {
         remove_draft(rt, alloc, path)?;
     }
+    sync_folder(rt, path)?;
     let length = file.metadata()?.len();
     let below = HostFile {
         file,

@@ -34,7 +34,7 @@ const HOLD_SEVENS: Step = Step::Use(Use::Hold(&[0, 7]));
 
 // While a disk is a draft, another file takes its name and goes again. A publication that was cut off leaves both
 // names: it is read, and an opening ends it. Where there is no memory for a file, no draft is left.
-const DRAFT: &[Scene] = &[
+static DRAFT: [Scene; 5] = [
     (
         Draft("kept", 2),
         Plain,
@@ -73,7 +73,7 @@ const DRAFT: &[Scene] = &[
     ),
 ];
 
-const LOCKED: &[Scene] = &[
+static LOCKED: [Scene; 5] = [
     (
         Nothing,
         Plain,
@@ -91,7 +91,7 @@ const LOCKED: &[Scene] = &[
 
 // A file of no whole sector, an empty one, a folder, and a link. Then a file gets a second name, and another one the
 // name of its draft.
-const REFUSED: &[Scene] = &[(
+static REFUSED: [Scene; 1] = [(
     Nothing,
     Plain,
     &[
@@ -125,9 +125,9 @@ const TWO: Step = Step::Use(Use::Write(2));
 
 const MADE: &[(&str, Step, &str)] = &[("harmed", MAKE, "done"), ("harmed", PUBLISH, "done")];
 
-// A disk is written, its file is harmed, and it is written once more. To a disk of one sector nothing is written: it is
-// only synced.
-const HARMED: &[Scene] = &[
+// A disk is written, its file is removed, and it is written once more. To a disk of one sector nothing is written: it
+// is only synced.
+static HARMED: [Scene; 4] = [
     (Nothing, Plain, MADE),
     (
         Disk("harmed"),
@@ -155,6 +155,10 @@ const HARMED: &[Scene] = &[
             ("harmed", TWO, "Gone"),
         ],
     ),
+];
+
+// The same where another file is put in its place, or it gets another length.
+static CHANGED: [Scene; 6] = [
     (Nothing, Plain, MADE),
     (
         Disk("harmed"),
@@ -192,8 +196,8 @@ const HARMED: &[Scene] = &[
 ];
 
 // What a file holds is synced, and its name. A sector takes two writes, which take only a part. A publication that was
-// cut off is ended by an opening, and that is safe then. The folder that is synced is the one that the file stands in.
-const SYNCED: &[Scene] = &[
+// cut off is ended by an opening. Each opening to write syncs the folder that the file stands in: its name is safe.
+static SYNCED: [Scene; 6] = [
     (
         Nothing,
         Calls(b"kwwwwsflrf", 0),
@@ -201,7 +205,7 @@ const SYNCED: &[Scene] = &[
     ),
     (
         Disk("synced"),
-        Calls(b"kwwwwswws", 0),
+        Calls(b"kfwwwwswws", 0),
         &[("synced", Step::Use(Use::Write(9)), "done")],
     ),
     (
@@ -231,7 +235,7 @@ const SYNCED: &[Scene] = &[
 ];
 
 // Somebody looks at a draft before it is locked. A draft that is empty is not locked by a look.
-const LOOKED_AT: &[Scene] = &[
+static LOOKED_AT: [Scene; 5] = [
     (Nothing, Calls(b"kkkkwwwwsf", 3), &[("left", MAKE, "done")]),
     (Nothing, Calls(b"h", 0), &[("left", MAKE, "DraftExists")]),
     (Nothing, Calls(b"rf", 0), &[("left", DISCARD, "done")]),
@@ -305,7 +309,7 @@ static TROUBLES: [(i32, &str); 4] = [
 
 fn fail_each<R: Files<File = File> + AllocGlobal + Abort>(rt: &R) {
     for (code, trouble) in &TROUBLES {
-        for before in 0..19 {
+        for before in 0..20 {
             fail_after(rt, before, *code, *trouble);
         }
     }
@@ -320,14 +324,14 @@ const SPOILED: &[(&str, Step, &str)] = &[
     ("spoiled", Step::Use(Use::EndWithFailure), "done"),
 ];
 
-const SPOIL: &[Scene] = &[
+static SPOIL: [Scene; 4] = [
     (
         Nothing,
         Plain,
         &[("spoiled", MAKE, "done"), ("spoiled", PUBLISH, "done")],
     ),
-    (Disk("spoiled"), Fails(6, 5), SPOILED),
-    (Disk("spoiled"), Fails(8, 5), SPOILED),
+    (Disk("spoiled"), Fails(7, 5), SPOILED),
+    (Disk("spoiled"), Fails(9, 5), SPOILED),
     (Nothing, Plain, &[("spoiled", REMOVE, "done")]),
 ];
 
@@ -339,22 +343,70 @@ const SINGLE: &[(&str, Step, &str)] = &[
 ];
 
 // The eighth call is to give a second name, which the file system doesn't.
-const SINGLES: &[Scene] = &[
+static SINGLES: [Scene; 2] = [
     (Nothing, Fails(7, 1), SINGLE),
     (Nothing, Fails(7, 95), SINGLE),
 ];
 
-static ALL: [&[Scene]; 8] = [
-    DRAFT, LOCKED, REFUSED, HARMED, SYNCED, LOOKED_AT, SPOIL, SINGLES,
-];
+fn draft() -> &'static [Scene] {
+    &DRAFT
+}
+
+fn locked() -> &'static [Scene] {
+    &LOCKED
+}
+
+fn refused() -> &'static [Scene] {
+    &REFUSED
+}
+
+fn harmed() -> &'static [Scene] {
+    &HARMED
+}
+
+fn changed() -> &'static [Scene] {
+    &CHANGED
+}
+
+fn synced() -> &'static [Scene] {
+    &SYNCED
+}
+
+fn looked_at() -> &'static [Scene] {
+    &LOOKED_AT
+}
+
+fn spoil() -> &'static [Scene] {
+    &SPOIL
+}
+
+fn singles() -> &'static [Scene] {
+    &SINGLES
+}
+
+// Each table is named by a function of its own: one that names all of them takes many times longer to prove.
+fn all() -> [&'static [Scene]; 9] {
+    [
+        draft(),
+        locked(),
+        refused(),
+        harmed(),
+        changed(),
+        synced(),
+        looked_at(),
+        spoil(),
+        singles(),
+    ]
+}
 
 // A draft is its maker's until it has its name, and a look at it is not in its maker's way. A file is locked while it
 // is open. What is no store is refused by name. A file that is harmed while it is open is told. Each write and name is
 // synced. Nothing is written behind a failure. That no second name is given is told. A call that fails leaves no draft,
 // and is told.
 fn play_each<R: Files<File = File> + AllocGlobal + Abort>(rt: &R) {
+    let all = all();
     let mut number: u64 = 0;
-    for scenes in &ALL {
+    for scenes in &all {
         number = number.saturating_add(10_000);
         play(rt, number, *scenes);
     }
