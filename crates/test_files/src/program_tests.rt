@@ -70,7 +70,7 @@ live :62 0.1
 life complete
 ";
 
-const SHOWN: &[Deed] = &[
+static SHOWN: [Deed; 5] = [
     Deed::Call(&["nsf-store", "--help"], 0, HELP, ""),
     Deed::Call(NEW, 0, "", ""),
     Deed::Call(NEW, 1, "", "nsf-store: s: it is there already\n"),
@@ -81,6 +81,9 @@ const SHOWN: &[Deed] = &[
         "",
         "nsf-store: s: it has no index; `create` in `run` begins one\n",
     ),
+];
+
+static SERVED: [Deed; 6] = [
     Deed::Serve(ProgramRun {
         words: &["nsf-store", "run", "s"],
         input: SCRIPT,
@@ -111,7 +114,7 @@ fn refuse<R: Abort + AllocGlobal>(rt: &R, kind: ErrorKind) {
     claim(rt, is_told, "what of the words is wrong");
 }
 
-const OTHER_KINDS: &[Deed] = &[
+static OTHER_KINDS: [Deed; 5] = [
     Deed::Act("t", Act::Put(1, 1_024)),
     Deed::Call(
         &["nsf-store", "check", "t"],
@@ -138,7 +141,7 @@ const FULL: &str =
 const AGAIN: &str =
     "nsf-store: f: its index is full: `nsf-store build --again` drops it, creates it anew and builds it\n";
 
-const WAY_OUT: &[Deed] = &[
+static WAY_OUT: [Deed; 6] = [
     Deed::Call(
         &["nsf-store", "new", "f", "--pages", "1", "--entries", "64"],
         0,
@@ -164,7 +167,7 @@ const WAY_OUT: &[Deed] = &[
     Deed::Act("f", Act::Remove),
 ];
 
-const TOO_SMALL: &[Deed] = &[
+static TOO_SMALL: [Deed; 4] = [
     Deed::Call(
         &["nsf-store", "new", "m", "--pages", "2", "--entries", "64"],
         0,
@@ -202,7 +205,7 @@ nsf-store: d: the file's length was changed while it was open
 
 const NEW_D: Deed = Deed::Call(&["nsf-store", "new", "d", "--pages", "1"], 0, "", "");
 
-const DURABLE: &[Deed] = &[
+static DURABLE: [Deed; 3] = [
     NEW_D,
     Deed::Serve(ProgramRun {
         words: &["nsf-store", "run", "--durable", "d"],
@@ -214,6 +217,9 @@ const DURABLE: &[Deed] = &[
         said: "nsf-store: commands refused: 1, the first in line 6\n",
     }),
     Deed::Act("d", Act::Remove),
+];
+
+static CUT_OFF: [Deed; 6] = [
     NEW_D,
     Deed::Serve(ProgramRun {
         words: &["nsf-store", "run", "d"],
@@ -243,7 +249,7 @@ nsf-store: commands refused: 1, the first in line 7
 ";
 
 // The file that is open gets another name, and has what is committed then. It isn't copied.
-const RENAMED: &[Deed] = &[
+static RENAMED: [Deed; 6] = [
     NEW_D,
     Deed::Serve(ProgramRun {
         words: &["nsf-store", "run", "d"],
@@ -326,8 +332,8 @@ const REMOVE_OLD: Deed = Deed::Act("old", Act::Remove);
 
 const REMOVE_NEW: Deed = Deed::Act("new", Act::Remove);
 
-// Stores of version 1 are moved, and are as before then.
-const MOVED: &[Deed] = &[
+// A store of version 1 is moved, and is as before then.
+static MOVED: [Deed; 9] = [
     Deed::Lay("old", (SECTORS, LOGGED)),
     OLD,
     Deed::Call(MOVE, 0, LOGGED_STAT, ""),
@@ -337,6 +343,9 @@ const MOVED: &[Deed] = &[
     Deed::Keep("old", (SECTORS, LOGGED)),
     REMOVE_OLD,
     REMOVE_NEW,
+];
+
+static MOVED_BUILDING: [Deed; 9] = [
     Deed::Lay("old", (SECTORS, BUILDING_1)),
     OLD,
     Deed::Call(MOVE, 0, BUILDING_STAT, ""),
@@ -355,7 +364,7 @@ const NO_FILE: Deed = Deed::Act("left", Act::Miss);
 const NO_DRAFT: Deed = Deed::Act("left.new", Act::Miss);
 
 // Such a file isn't moved, and this is said. No other file is left.
-const HARMED: &[Deed] = &[
+static HARMED: [Deed; 8] = [
     Deed::Lay("harmed", (SECTORS, &[SUPERBLOCK_1, (516, 0, b"\x01")])),
     Deed::Call(
         MIGRATE,
@@ -374,6 +383,9 @@ const HARMED: &[Deed] = &[
     ),
     NO_FILE,
     NO_DRAFT,
+];
+
+static CUT_SHORT: [Deed; 9] = [
     Deed::Lay("harmed", (SECTORS - 1, &[SUPERBLOCK_1])),
     Deed::Call(
         MIGRATE,
@@ -395,39 +407,78 @@ const HARMED: &[Deed] = &[
     Deed::Act("harmed", Act::Remove),
 ];
 
-static USED: [&[Deed]; 2] = [SHOWN, OTHER_KINDS];
-
-static FULL_INDEXES: [&[Deed]; 2] = [WAY_OUT, TOO_SMALL];
-
-static KEPT: [&[Deed]; 2] = [DURABLE, RENAMED];
-
-static OF_VERSION_1: [&[Deed]; 2] = [MOVED, HARMED];
-
-// A store is made, served, built and shown; another kind of file is told.
-fn take_used<R: Abort + Files<File = File> + Clock + AllocGlobal>(rt: &R) {
-    take_each(rt, &USED);
+fn shown() -> &'static [Deed] {
+    &SHOWN
 }
 
-// The way out of a full index is told, and that one is too small.
-fn take_full<R: Abort + Files<File = File> + Clock + AllocGlobal>(rt: &R) {
-    take_each(rt, &FULL_INDEXES);
+fn served() -> &'static [Deed] {
+    &SERVED
 }
 
-// A durable commit is kept, and what a file with another name has.
-fn take_kept<R: Abort + Files<File = File> + Clock + AllocGlobal>(rt: &R) {
-    take_each(rt, &KEPT);
+fn other_kinds() -> &'static [Deed] {
+    &OTHER_KINDS
 }
 
-// Stores of version 1 are moved, or not.
-fn take_old<R: Abort + Files<File = File> + Clock + AllocGlobal>(rt: &R) {
-    take_each(rt, &OF_VERSION_1);
+fn way_out() -> &'static [Deed] {
+    &WAY_OUT
+}
+
+fn too_small() -> &'static [Deed] {
+    &TOO_SMALL
+}
+
+fn durable() -> &'static [Deed] {
+    &DURABLE
+}
+
+fn cut_off() -> &'static [Deed] {
+    &CUT_OFF
+}
+
+fn renamed() -> &'static [Deed] {
+    &RENAMED
+}
+
+fn moved() -> &'static [Deed] {
+    &MOVED
+}
+
+fn moved_building() -> &'static [Deed] {
+    &MOVED_BUILDING
+}
+
+fn harmed() -> &'static [Deed] {
+    &HARMED
+}
+
+fn cut_short() -> &'static [Deed] {
+    &CUT_SHORT
+}
+
+// Each table is named by a function of its own: one that names all of them takes many times longer to prove.
+fn all() -> [&'static [Deed]; 12] {
+    [
+        // a store is made, served, built and shown; another kind of file is told
+        shown(),
+        served(),
+        other_kinds(),
+        // the way out of a full index is told, and that one is too small
+        way_out(),
+        too_small(),
+        // a durable commit is kept, and what a file with another name has
+        durable(),
+        cut_off(),
+        renamed(),
+        // stores of version 1 are moved, or not
+        moved(),
+        moved_building(),
+        harmed(),
+        cut_short(),
+    ]
 }
 
 #[test]
 fn the_verbs_behind_one_another(rt: HostRuntime) {
-    take_used(&rt);
-    take_full(&rt);
-    take_kept(&rt);
-    take_old(&rt);
+    take_each(&rt, &all());
     refuse(&rt, ErrorKind::InvalidData);
 }

@@ -73,8 +73,7 @@ const OBJECTS_IN_ORDER: &str = r#"{"key":"","body":""}
 {"key":"cow","body":"1"}
 "#;
 
-// What is exported is loaded again, into a store with an index.
-const LOADED: &[Deed] = &[
+static LOADED: [Deed; 5] = [
     Deed::Write("rows", ROWS),
     Deed::Call(LOAD, 3, "loaded 4\nrefused 3\n", REFUSED),
     Deed::Call(EXPORT, 0, EXPORTED, ""),
@@ -85,6 +84,10 @@ const LOADED: &[Deed] = &[
         "",
         "nsf-store: l: it has no index; `create` in `run` begins one\n",
     ),
+];
+
+// What is exported is loaded again, into a store with an index.
+static LOADED_AGAIN: [Deed; 9] = [
     Deed::Feed(
         &["nsf-store", "run", "l"],
         "begin\ndelete 1 0.0\ndelete 1 0.1\ndelete 1 0.2\ndelete 1 0.3\ncommit 1\ncreate\nbuild\nbuild\n",
@@ -103,7 +106,7 @@ const LOADED: &[Deed] = &[
 ];
 
 // A key in Latin-1 and a body that is cut within a character are no UTF-8.
-const NO_TEXT: &[Deed] = &[
+static NO_TEXT: [Deed; 3] = [
     Deed::Feed(
         &["nsf-store", "run", "l"],
         "begin\ninsert 1 :666fef =a\ninsert 1 :c3a9 :c3\ncommit 1\n",
@@ -121,7 +124,7 @@ const NO_TEXT: &[Deed] = &[
 ];
 
 // What is wrong with the rows is told before what is wrong with the store. Lines may end with a carriage return too.
-const HEADERS: &[Deed] = &[
+static HEADERS: [Deed; 5] = [
     Deed::Call(
         LOAD,
         1,
@@ -137,6 +140,9 @@ const HEADERS: &[Deed] = &[
         "",
         "nsf-store: rows: its header has one column, and a row needs two\n",
     ),
+];
+
+static COLUMNS: [Deed; 9] = [
     Deed::Write("rows", "a,b\r\nant,1\r\nbee\r\n"),
     Deed::Call(
         &["nsf-store", "load", "l", "rows", "--key", "c"],
@@ -173,12 +179,14 @@ const HEADERS: &[Deed] = &[
         "nsf-store: line 3: the header has 2 fields, and it 1\n",
     ),
     Deed::Call(EXPORT, 0, "key,body\n1,ant\n", ""),
+    REMOVE,
+    REMOVE_ROWS,
 ];
 
 // The last record begins in line 6, behind an empty line. Its quote isn't closed, and so it is no row.
 const OPEN: &str = "key,body\nant,1\n\"b\"\"\",\"2\n\"\n\ncow,\"3\n";
 
-const OPEN_QUOTES: &[Deed] = &[
+static OPEN_QUOTES: [Deed; 9] = [
     NEW,
     Deed::Write("rows", "key,\"body"),
     Deed::Call(
@@ -207,7 +215,7 @@ const MANY: &str = "key,body\n\
     ,\n,\n,\n,\n,\n,\n,\n,\n,\n,\n,\n,\n,\n,\n,\n,\n,\n,\n,\n,\n\
     a,\nb,\nc,\nd,\ne,\nf,\n";
 
-const FULL: &[Deed] = &[
+static FULL: [Deed; 9] = [
     Deed::Write("rows", MANY),
     Deed::Call(&["nsf-store", "new", "l", "--pages", "2"], 0, "", ""),
     Deed::Call(
@@ -248,7 +256,7 @@ rows free 62
 const BACKUP: &[&str] = &["nsf-store", "backup", "l", "copy"];
 
 // A backup is of the same kind, so that it is moved to the other one alone.
-const BACKED_UP: &[Deed] = &[
+static BACKED_UP: [Deed; 8] = [
     Deed::Write("rows", "key,body\nant,1\n"),
     Deed::Call(LOAD, 0, "loaded 1\nrefused 0\n", ""),
     Deed::Call(BACKUP, 0, STAT, ""),
@@ -277,32 +285,79 @@ const IS_IN_BLOCKS: Deed = Deed::Call(
     NO_MOVE,
 );
 
-static ALL: [&[Deed]; 16] = [
-    // rows are loaded and exported
-    &[NEW],
-    LOADED,
-    &[NEW_BLOCKS],
-    LOADED,
-    // bytes that are no text are digits
-    &[NEW],
-    NO_TEXT,
-    // columns are named
-    HEADERS,
-    &[REMOVE, REMOVE_ROWS],
-    // a quote that nothing closes is told
-    OPEN_QUOTES,
-    // a full table ends a load
-    FULL,
-    // a store is backed up
-    &[NEW],
-    BACKED_UP,
-    &[IS_PLAIN, REMOVE_COPY],
-    &[NEW_BLOCKS],
-    BACKED_UP,
-    &[IS_IN_BLOCKS, REMOVE_COPY],
-];
+static MADE: [Deed; 1] = [NEW];
+
+static MADE_BLOCKS: [Deed; 1] = [NEW_BLOCKS];
+
+static PLAIN: [Deed; 3] = [IS_PLAIN, REMOVE_COPY, NEW_BLOCKS];
+
+static IN_BLOCKS: [Deed; 2] = [IS_IN_BLOCKS, REMOVE_COPY];
+
+fn loaded() -> &'static [Deed] {
+    &LOADED
+}
+
+fn loaded_again() -> &'static [Deed] {
+    &LOADED_AGAIN
+}
+
+fn no_text() -> &'static [Deed] {
+    &NO_TEXT
+}
+
+fn headers() -> &'static [Deed] {
+    &HEADERS
+}
+
+fn columns() -> &'static [Deed] {
+    &COLUMNS
+}
+
+fn open_quotes() -> &'static [Deed] {
+    &OPEN_QUOTES
+}
+
+fn full() -> &'static [Deed] {
+    &FULL
+}
+
+fn backed_up() -> &'static [Deed] {
+    &BACKED_UP
+}
+
+// Each table is named by a function of its own: one that names all of them takes many times longer to prove.
+fn tests() -> [&'static [Deed]; 17] {
+    let loaded = loaded();
+    let again = loaded_again();
+    let backed_up = backed_up();
+    [
+        // rows are loaded, exported and loaded again
+        &MADE,
+        loaded,
+        again,
+        &MADE_BLOCKS,
+        loaded,
+        again,
+        // bytes that are no text are digits
+        &MADE,
+        no_text(),
+        // columns are named
+        headers(),
+        columns(),
+        // a quote that nothing closes is told
+        open_quotes(),
+        // a full table ends a load
+        full(),
+        // a store is backed up
+        &MADE,
+        backed_up,
+        &PLAIN,
+        backed_up,
+        &IN_BLOCKS,
+    ]
+}
 
 #[test]
 fn rows_are_loaded_exported_and_backed_up(rt: HostRuntime) {
-    take_each(&rt, &ALL);
+    take_each(&rt, &tests());
 }

@@ -103,7 +103,7 @@ nsf-store: transactions open at the end, of which nothing is kept: 2
 ";
 
 // The transaction that was open is taken back where the file is opened again.
-const SCANNED: &[Deed] = &[
+static SCANNED: [Deed; 4] = [
     NEW,
     Deed::Feed(RUN, RANGES, 0, RANGES_ANSWERED, RANGES_SAID),
     Deed::Call(
@@ -118,6 +118,9 @@ const SCANNED: &[Deed] = &[
         ":626565 0.1\n:626565 0.3\n:636f77 0.2\nend\n",
         "",
     ),
+];
+
+static LIMITED: [Deed; 6] = [
     Deed::Call(
         &["nsf-store", "scan", "r", "=b", ":626565", "--limit", "1"],
         0,
@@ -149,6 +152,9 @@ const SCANNED: &[Deed] = &[
         "",
         "nsf-store: a key is `=` and graphic bytes, as `=ant`, or `:` and hexadecimal digits, as `:616e74`\n",
     ),
+];
+
+static NOT_BUILT: [Deed; 6] = [
     REMOVE,
     NEW,
     Deed::Call(
@@ -164,6 +170,7 @@ const SCANNED: &[Deed] = &[
         "",
         "nsf-store: r: its index isn't complete; `nsf-store build` builds it to its end\n",
     ),
+    REMOVE,
 ];
 
 const KEYS: &str = "begin
@@ -226,7 +233,7 @@ live :636f77 0.2
 life complete
 ";
 
-const KEYED: &[Deed] = &[
+static KEYED: [Deed; 3] = [
     NEW,
     Deed::Feed(
         RUN,
@@ -238,7 +245,7 @@ const KEYED: &[Deed] = &[
     REMOVE,
 ];
 
-const STOPPED: &[Deed] = &[
+static STOPPED: [Deed; 7] = [
     NEW,
     Deed::Feed(
         STOPPING,
@@ -347,7 +354,7 @@ quit: ends the input
 A key or body is `=` and graphic bytes, as `=ant`, or `:` and hexadecimal digits, as `:616e74`
 ";
 
-const TOLD: &[Deed] = &[
+static TOLD: [Deed; 4] = [
     NEW,
     Deed::Feed(RUN, FAULTS, 1, FAULTS_ANSWERED, FAULTS_SAID),
     Deed::Serve(ProgramRun {
@@ -407,7 +414,7 @@ nsf-store: commands refused: 3, the first in line 13
 ";
 
 // The copy has what was committed before it, and the store what was committed in the end.
-const COPIED: &[Deed] = &[
+static COPIED: [Deed; 6] = [
     Deed::Feed(RUN, COPYING, 0, COPYING_ANSWERED, COPYING_SAID),
     Deed::Act("copy.new", Act::Miss),
     Deed::Call(&["nsf-store", "check", "copy"], 0, "sound\n", ""),
@@ -458,26 +465,63 @@ static WAITED: [Deed; 2] = [
     REMOVE,
 ];
 
-static BEFORE: [&[Deed]; 12] = [
-    SCANNED,
-    &[REMOVE],
-    KEYED,
-    STOPPED,
-    TOLD,
-    // a store that is open is copied
-    &[NEW],
-    COPIED,
-    &[IS_PLAIN, REMOVE_COPY],
-    &[NEW_BLOCKS],
-    COPIED,
-    &[IS_IN_BLOCKS, REMOVE_COPY],
-    &[NEW],
-];
+static BEFORE_COPIES: [Deed; 1] = [NEW];
+
+static PLAIN: [Deed; 3] = [IS_PLAIN, REMOVE_COPY, NEW_BLOCKS];
+
+static IN_BLOCKS: [Deed; 3] = [IS_IN_BLOCKS, REMOVE_COPY, NEW];
+
+fn scanned() -> &'static [Deed] {
+    &SCANNED
+}
+
+fn limited() -> &'static [Deed] {
+    &LIMITED
+}
+
+fn not_built() -> &'static [Deed] {
+    &NOT_BUILT
+}
+
+fn keyed() -> &'static [Deed] {
+    &KEYED
+}
+
+fn stopped() -> &'static [Deed] {
+    &STOPPED
+}
+
+fn told() -> &'static [Deed] {
+    &TOLD
+}
+
+fn copied() -> &'static [Deed] {
+    &COPIED
+}
+
+// Each table is named by a function of its own: one that names all of them takes many times longer to prove.
+fn before() -> [&'static [Deed]; 11] {
+    let copied = copied();
+    [
+        scanned(),
+        limited(),
+        not_built(),
+        keyed(),
+        stopped(),
+        told(),
+        // a store that is open is copied
+        &BEFORE_COPIES,
+        copied,
+        &PLAIN,
+        copied,
+        &IN_BLOCKS,
+    ]
+}
 
 // Ranges are read in order, the one row with a key is changed, an input may end with a refusal, and it is told why a
 // line is none. An open store is copied. A file in use is waited for.
 fn feed_each<R: Abort + Files<File = File> + Clock + AllocGlobal>(rt: &R) {
-    take_each(rt, &BEFORE);
+    take_each(rt, &before());
     take_beside(rt, &IN_USE);
     take_all(rt, &WAITED);
 }
