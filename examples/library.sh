@@ -1,4 +1,4 @@
-# Sets `libraries`, what a program of C or Rust links, and `header`, the folder of nsf.h. Read by the examples' scripts.
+# Sets `libraries`, what a program of C or Rust links, a line each, and `header`, the folder of nsf.h. Read by the examples' scripts.
 # NSF_LIBRARY names a libnsf.a of scripts/library, or a libnsf_c.a of `rt lib`.
 root=$(cd "$here/../.." && pwd)
 header=$root/crates/nsf_c/include
@@ -11,6 +11,8 @@ case $NSF_LIBRARY in
 */libnsf.a) libraries=$NSF_LIBRARY ;;
 *)
     kit=$(dirname "$(rt doc)")
-    libraries="$NSF_LIBRARY $kit/c/libos_c.a $kit/c/liblibc_c.a"
+    libraries="$NSF_LIBRARY
+$kit/c/libos_c.a
+$kit/c/liblibc_c.a"
     ;;
 esac

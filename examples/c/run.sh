@@ -6,12 +6,17 @@ here=$(cd "$(dirname "$0")" && pwd)
 . "$here/../library.sh"
 work=$(mktemp -d)
 trap 'rm -rf "$work"' EXIT
-for it in kv shared; do
+trap 'exit 130' INT TERM HUP
+for it in kv shared edges; do
     ${CC:-cc} -std=c99 -O2 -Wall -Wextra -pedantic $CFLAGS -I"$header" "$here/$it.c" $libraries -pthread -o "$work/$it"
 done
 if [ "$1" = --time ]; then
     "$work/kv" --time "$work/bank"
     "$work/shared" "$work/shared-bank" 3
 else
-    { "$work/kv" "$work/bank" && "$work/shared" "$work/shared-bank"; } | diff - "$here/expected.txt" && echo "as expected"
+    "$work/kv" "$work/bank" >"$work/told"
+    "$work/shared" "$work/shared-bank" >>"$work/told"
+    "$work/edges" "$work/edge-bank" >>"$work/told"
+    diff "$work/told" "$here/expected.txt"
+    echo "as expected"
 fi

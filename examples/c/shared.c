@@ -1,7 +1,7 @@
 /* A table of keys and values that several threads write at once, while its index is created, built and read: shared FILE [SECONDS].
  *
  * Each of four writers puts rows of its own; every fifth transaction changes three, every seventh is rolled back. Meanwhile another
- * thread creates the index and scans what is committed. Then the file is closed, opened again, and looked through. With SECONDS the
+ * thread creates the index and scans what is committed. Then the file is closed, opened again, looked through and cleaned. With SECONDS the
  * writers go on so long, and it tells commits a second. */
 #define _POSIX_C_SOURCE 200809L
 #include "nsf_shared.h"
@@ -130,6 +130,16 @@ static unsigned long count_rows(nsf_seat *seat)
     return all;
 }
 
+/* Whether a cleaning leaves no marked entry. No transaction is active. */
+static bool is_clean(nsf_seat *seat)
+{
+    nsf_status status;
+    uint64_t cleaned;
+    must(nsf_seat_clean(seat, &cleaned), "clean");
+    must(nsf_seat_progress(seat, &status), "progress");
+    return status.marked == 0;
+}
+
 int main(int words, char **word)
 {
     if (words < 2) {
@@ -168,7 +178,7 @@ int main(int words, char **word)
     must(nsf_seat_take(&seat, &shared), "take a seat");
     await_index(&seat);
     const bool is_same = count_rows(&seat) == rows && count_pairs(&seat, nsf_scan_all()) == rows
-        && count_by(&seat, nsf_scan_all(), nsf_seat_scan_back) == rows;
+        && count_by(&seat, nsf_scan_all(), nsf_seat_scan_back) == rows && is_clean(&seat) && count_rows(&seat) == rows;
     printf("rows of the first writer %lu\n", count_pairs(&seat, nsf_scan_prefix("w0-", 3)));
     printf("all as it was acknowledged: %s\n", is_same ? "yes" : "no");
     nsf_seat_leave(&seat);

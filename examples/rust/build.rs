@@ -1,5 +1,5 @@
-//! Links the library that NSF_LIBRARY names, a libnsf.a of scripts/library, or those that NSF_LIBRARIES names, as run.sh does.
-//! A package that depends on this one links them too.
+//! Links the library that NSF_LIBRARY names, a libnsf.a of scripts/library, or those that NSF_LIBRARIES names, a line
+//! each, as run.sh does. A package that depends on this one links them too.
 use std::path::Path;
 
 fn main() {
@@ -8,7 +8,7 @@ fn main() {
     let libraries = std::env::var("NSF_LIBRARIES")
         .or_else(|_| std::env::var("NSF_LIBRARY"))
         .expect("NSF_LIBRARY names a libnsf.a: see scripts/library");
-    for library in libraries.split_whitespace() {
+    for library in libraries.lines() {
         let path = Path::new(library);
         let name = path
             .file_stem()

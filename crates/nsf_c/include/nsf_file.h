@@ -4,8 +4,9 @@
  * was written and synced, and that writing 512 bytes at a multiple of 512 harms no other sector: a disk of 512-byte sectors, or one
  * that keeps what it acknowledged if the power fails. Link with -pthread.
  *
- * The file is locked (flock) as long as it is open: a second opening is refused by NSF_SYSTEM and EWOULDBLOCK. Needs POSIX of 2008: under
- * -std=c99, define _POSIX_C_SOURCE as 200809L before the first header. */
+ * The file is locked (flock) as long as it is open: a second opening is refused by NSF_SYSTEM and EWOULDBLOCK. Once it is closed, a child
+ * of a fork has neither lock nor line. The thread takes no signals. Needs POSIX of 2008: under -std=c99, define _POSIX_C_SOURCE as
+ * 200809L before the first header. */
 #ifndef NSF_FILE_H
 #define NSF_FILE_H
 
@@ -14,6 +15,7 @@
 #include <errno.h>
 #include <fcntl.h>
 #include <pthread.h>
+#include <signal.h>
 #include <stdio.h>
 #include <stdlib.h>
 #include <string.h>
@@ -61,12 +63,14 @@ static inline bool nsf_put_all_at(int to, const uint8_t *bytes, size_t length, o
     return true;
 }
 
-/* Does what is asked, and says so, until the store's end is closed. */
+/* Does what is asked, and says so, until the store's end is closed. However it ends, a store that waits for an answer is told that none
+ * will come. */
 static inline void *nsf_file_serve(void *at)
 {
     const nsf_file *f = (const nsf_file *)at;
     uint8_t asked[8 + NSF_SECTOR];
-    while (nsf_take_all(f->line[1], asked, 8)) {
+    ssize_t told = 1;
+    while (told == 1 && nsf_take_all(f->line[1], asked, 8)) {
         uint64_t number = 0;
         bool done;
         for (int i = 7; i >= 0; i--)
@@ -78,20 +82,32 @@ static inline void *nsf_file_serve(void *at)
         else
             break;
         uint8_t answer = done ? 0 : 1;
-        while (write(f->line[1], &answer, 1) < 0)
-            if (errno != EINTR) {
-                shutdown(f->line[1], SHUT_RDWR); /* so that the store doesn't wait for the answer */
-                return NULL;
-            }
+        do
+            told = write(f->line[1], &answer, 1);
+        while (told < 0 && errno == EINTR);
     }
+    shutdown(f->line[1], SHUT_WR);
     return NULL;
+}
+
+/* Starts a thread that takes no signals. Answers 0, or the number of the error. */
+static inline int nsf_start_thread(pthread_t *thread, void *(*run)(void *), void *at)
+{
+    sigset_t all, before;
+    sigfillset(&all);
+    pthread_sigmask(SIG_BLOCK, &all, &before);
+    int failed = pthread_create(thread, NULL, run, at);
+    pthread_sigmask(SIG_SETMASK, &before, NULL);
+    return failed;
 }
 
 static inline bool nsf_file_start(nsf_file *f)
 {
     if (socketpair(AF_UNIX, SOCK_STREAM, 0, f->line) != 0)
         return false;
-    int failed = pthread_create(&f->server, NULL, nsf_file_serve, f);
+    fcntl(f->line[0], F_SETFD, FD_CLOEXEC);
+    fcntl(f->line[1], F_SETFD, FD_CLOEXEC);
+    int failed = nsf_start_thread(&f->server, nsf_file_serve, f);
     if (failed) {
         close(f->line[0]);
         close(f->line[1]);
@@ -101,13 +117,25 @@ static inline bool nsf_file_start(nsf_file *f)
     return true;
 }
 
-/* Ends the thread, behind all that it was asked, and closes the file. */
+/* Unlocks the file, also for a child of a fork, and closes it. Leaves errno. */
+static inline void nsf_file_leave(const nsf_file *f)
+{
+    int why = errno;
+    flock(f->file, LOCK_UN);
+    close(f->file);
+    errno = why;
+}
+
+/* Ends the thread, behind all that it was asked, and closes the file. Leaves errno. */
 static inline void nsf_file_stop(nsf_file *f)
 {
-    close(f->line[0]);
+    int why = errno;
+    shutdown(f->line[0], SHUT_WR); /* a child of a fork may have this end too */
     pthread_join(f->server, NULL);
+    close(f->line[0]);
     close(f->line[1]);
-    close(f->file);
+    errno = why;
+    nsf_file_leave(f);
 }
 
 /* Syncs the folder that the path stands in, so that its names are safe. */
@@ -117,7 +145,7 @@ static inline bool nsf_sync_folder(const char *path)
     char *folder = end ? strndup(path, end == path ? 1 : (size_t)(end - path)) : strdup(".");
     if (!folder)
         return false;
-    int at = open(folder, O_RDONLY);
+    int at = open(folder, O_RDONLY | O_CLOEXEC);
     free(folder);
     if (at < 0)
         return false;
@@ -130,7 +158,7 @@ static inline bool nsf_sync_folder(const char *path)
 static inline bool nsf_file_clear(nsf_file *f, const char *path, uint64_t sectors)
 {
     static const uint8_t zeros[NSF_SECTOR] = {0};
-    f->file = open(path, O_RDWR | O_CREAT | O_EXCL, 0666);
+    f->file = open(path, O_RDWR | O_CREAT | O_EXCL | O_CLOEXEC, 0666);
     if (f->file < 0)
         return false;
     bool done = flock(f->file, LOCK_EX | LOCK_NB) == 0;
@@ -139,79 +167,108 @@ static inline bool nsf_file_clear(nsf_file *f, const char *path, uint64_t sector
     done = done && fsync(f->file) == 0;
     if (!done) {
         int why = errno;
-        close(f->file);
         unlink(path);
         errno = why;
+        nsf_file_leave(f);
     }
     return done;
 }
 
-/* Makes a store in a new file and opens it. Until it is made, the file has the name with .new behind it, so that a crash meanwhile
- * leaves no half of a store; one that has the name by then is left alone (EEXIST). `f` stays where it is until nsf_file_close. */
-static inline uint32_t nsf_file_create(nsf_file *f, const char *path, uint32_t pages, uint32_t entries, uint32_t slots)
+/* Gives the file of the draft its name, which is safe then. Where it is refused, the file has its draft's name alone. */
+static inline bool nsf_file_publish(const char *draft, const char *path)
 {
-    const nsf_handle vacant = NSF_VACANT;
-    uint64_t sectors = nsf_sectors(pages, entries, slots);
-    size_t length = strlen(path) + 5;
-    char *draft = (char *)malloc(length);
-    uint32_t refused = NSF_SYSTEM;
-    f->handle = vacant;
-    if (!draft)
+    if (link(draft, path) != 0)
+        return false;
+    if (nsf_sync_folder(path) && unlink(draft) == 0)
+        return true;
+    int why = errno;
+    unlink(path);
+    errno = why;
+    return false;
+}
+
+/* Makes the store in the file of the draft, and gives that its name. Where it is refused, the file is gone. */
+static inline uint32_t nsf_file_make(nsf_file *f, const char *draft, const char *path, uint32_t pages, uint32_t entries, uint32_t slots)
+{
+    if (!nsf_file_clear(f, draft, nsf_sectors(pages, entries, slots)))
         return NSF_SYSTEM;
-    snprintf(draft, length, "%s.new", path);
-    if (sectors == 0) {
-        refused = NSF_BAD_GEOMETRY;
-    } else if (access(path, F_OK) == 0) {
-        errno = EEXIST;
-    } else if (nsf_file_clear(f, draft, sectors)) {
-        if (nsf_file_start(f)) {
-            refused = nsf_create(&f->handle, f->line[0], pages, entries, slots);
-            if (!refused && (link(draft, path) != 0 || unlink(draft) != 0 || !nsf_sync_folder(path))) {
-                nsf_close(&f->handle);
-                refused = NSF_SYSTEM;
-            }
-            if (refused) {
-                int why = errno;
-                nsf_file_stop(f);
-                unlink(draft);
-                errno = why;
-            }
-        } else {
-            int why = errno;
-            close(f->file);
-            unlink(draft);
-            errno = why;
-        }
+    const bool is_started = nsf_file_start(f);
+    uint32_t refused = is_started ? nsf_create(&f->handle, f->line[0], pages, entries, slots) : (uint32_t)NSF_SYSTEM;
+    if (!refused && !nsf_file_publish(draft, path)) {
+        nsf_close(&f->handle);
+        refused = NSF_SYSTEM;
     }
-    free(draft);
+    if (refused) {
+        int why = errno;
+        unlink(draft); /* as long as it is locked: who has opened it by its name finds that it has none */
+        errno = why;
+        if (is_started)
+            nsf_file_stop(f);
+        else
+            nsf_file_leave(f);
+    }
     return refused;
 }
 
-/* Reads the file, which is locked then and whose bytes are safe. */
-static inline uint8_t *nsf_file_read(nsf_file *f, const char *path, size_t *length)
+/* Makes a store in a new file and opens it. Until it is made, the file has the name with .new behind it, so that a crash meanwhile
+ * leaves no half of a store. A file that has one of the names is left alone (EEXIST). Where it is refused, no file is left but that. `f`
+ * stays where it is until nsf_file_close. */
+static inline uint32_t nsf_file_create(nsf_file *f, const char *path, uint32_t pages, uint32_t entries, uint32_t slots)
+{
+    const nsf_handle vacant = NSF_VACANT;
+    size_t length = strlen(path) + 5;
+    uint32_t refused = NSF_SYSTEM;
+    f->handle = vacant;
+    if (nsf_sectors(pages, entries, slots) == 0)
+        return NSF_BAD_GEOMETRY;
+    if (access(path, F_OK) == 0) {
+        errno = EEXIST;
+        return NSF_SYSTEM;
+    }
+    char *draft = (char *)malloc(length);
+    if (!draft)
+        return NSF_SYSTEM;
+    snprintf(draft, length, "%s.new", path);
+    refused = nsf_file_make(f, draft, path, pages, entries, slots);
+    int why = errno;
+    free(draft);
+    errno = why;
+    return refused;
+}
+
+/* Whether the file can hold a store: by its kind and its length, and as it still has a name. */
+static inline bool nsf_file_fits(const nsf_file *f, size_t *length)
 {
     struct stat found;
+    if (fstat(f->file, &found) != 0)
+        return false;
+    *length = (size_t)found.st_size;
+    errno = found.st_nlink == 0 ? ENOENT : EINVAL;
+    return found.st_nlink > 0 && S_ISREG(found.st_mode) && found.st_size >= NSF_SECTOR && found.st_size % NSF_SECTOR == 0
+        && found.st_size <= (off_t)NSF_SECTOR << 23;
+}
+
+/* Reads the file, which is locked then. Its name and its bytes are safe: the folder is synced, if it may be read, and what was read is
+ * written back and synced. Behind a sync that failed in an earlier process the system may show bytes that no disk has, and call them
+ * safe. */
+static inline uint8_t *nsf_file_read(nsf_file *f, const char *path, size_t *length)
+{
     uint8_t *bytes = NULL;
-    f->file = open(path, O_RDWR);
+    f->file = open(path, O_RDWR | O_CLOEXEC);
     if (f->file < 0)
         return NULL;
-    if (flock(f->file, LOCK_EX | LOCK_NB) == 0 && fstat(f->file, &found) == 0) {
-        if (!S_ISREG(found.st_mode) || found.st_size < NSF_SECTOR || found.st_size % NSF_SECTOR || found.st_size > (off_t)NSF_SECTOR << 23) {
-            errno = EINVAL;
-        } else if (fsync(f->file) == 0) { /* what an earlier process wrote may not be safe yet */
-            *length = (size_t)found.st_size;
-            bytes = (uint8_t *)malloc(*length);
-            if (bytes && (lseek(f->file, 0, SEEK_SET) != 0 || !nsf_take_all(f->file, bytes, *length))) {
-                free(bytes);
-                bytes = NULL;
-            }
-        }
-    }
-    if (!bytes) {
+    if (flock(f->file, LOCK_EX | LOCK_NB) == 0 && nsf_file_fits(f, length)
+        && (nsf_sync_folder(path) || errno == EACCES))
+        bytes = (uint8_t *)malloc(*length);
+    if (bytes && (lseek(f->file, 0, SEEK_SET) != 0 || !nsf_take_all(f->file, bytes, *length)
+                  || !nsf_put_all_at(f->file, bytes, *length, 0) || fsync(f->file) != 0)) {
         int why = errno;
-        close(f->file);
+        free(bytes);
         errno = why;
+        bytes = NULL;
     }
+    if (!bytes)
+        nsf_file_leave(f);
     return bytes;
 }
 
@@ -219,7 +276,7 @@ static inline uint8_t *nsf_file_read(nsf_file *f, const char *path, size_t *leng
 static inline uint32_t nsf_file_open(nsf_file *f, const char *path)
 {
     const nsf_handle vacant = NSF_VACANT;
-    size_t length;
+    size_t length = 0;
     uint32_t refused = NSF_SYSTEM;
     uint8_t *bytes = nsf_file_read(f, path, &length);
     f->handle = vacant;
@@ -230,11 +287,11 @@ static inline uint32_t nsf_file_open(nsf_file *f, const char *path)
         if (refused)
             nsf_file_stop(f);
     } else {
-        int why = errno;
-        close(f->file);
-        errno = why;
+        nsf_file_leave(f);
     }
+    int why = errno;
     free(bytes);
+    errno = why;
     return refused;
 }
 

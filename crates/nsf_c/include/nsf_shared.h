@@ -11,7 +11,6 @@
 
 #include "nsf_file.h"
 
-#include <signal.h>
 #include <time.h>
 
 /* What was asked for is done, but a flush was refused, so that it isn't safe yet: nsf_seat_await tries again, and says why not. Where the
@@ -37,6 +36,7 @@ typedef struct nsf_shared {
     struct nsf_request *first; /* what is wanted and wasn't taken by the owner, the oldest first */
     struct nsf_request **last;
     bool stops;
+    uint64_t calls; /* of seats, that aren't over */
     /* what is to be opened, or made (`pages` is above 0) */
     const char *path;
     uint32_t pages;
@@ -83,6 +83,7 @@ typedef struct nsf_request {
     nsf_reply *replies;
     size_t room;
     nsf_scan *scan;
+    uint32_t (*read)(nsf_handle *handle, nsf_scan *scan, nsf_reply *reply); /* a pair of it */
     nsf_status *status;
 } nsf_request;
 
@@ -106,12 +107,18 @@ static inline void nsf_push(nsf_request **list, nsf_request *request)
     *list = request;
 }
 
-/* Looks how far the index is. */
-static inline void nsf_look_at_index(nsf_shared *shared)
+/* How far the index is. */
+static inline uint32_t nsf_life(nsf_shared *shared)
 {
     nsf_status status = NSF_NO_STATUS;
     nsf_stat(shared->handle, &status);
-    shared->builds = status.life == NSF_BUILDING || status.life == NSF_BUILDING_AT;
+    return status.life;
+}
+
+static inline void nsf_look_at_index(nsf_shared *shared)
+{
+    const uint32_t life = nsf_life(shared);
+    shared->builds = life == NSF_BUILDING || life == NSF_BUILDING_AT;
 }
 
 /* Makes all that was committed safe, and answers who waits for it. */
@@ -138,21 +145,13 @@ static inline void nsf_serve_now(nsf_shared *shared, nsf_request *request)
         nsf_answer(request, refused);
 }
 
-/* Whether an index is there. */
-static inline bool nsf_has_index(nsf_shared *shared)
-{
-    nsf_status status = NSF_NO_STATUS;
-    nsf_stat(shared->handle, &status);
-    return status.life != NSF_ABSENT;
-}
-
 /* Takes what a seat wants. A creation or dropping waits until no transaction is active, with whoever is to begin one behind it; where the
  * index is there already, or is not, it is answered at once. */
 static inline void nsf_take(nsf_shared *shared, nsf_request *request)
 {
     if (shared->quiet && (request->begins || request->wants_quiet)) {
         nsf_push(&shared->held, request);
-    } else if (request->wants_quiet && request->drops == nsf_has_index(shared)) {
+    } else if (request->wants_quiet && request->drops == (nsf_life(shared) != NSF_ABSENT)) {
         clock_gettime(CLOCK_MONOTONIC, &shared->patience);
         shared->patience.tv_sec += request->patience / 1000;
         shared->patience.tv_nsec += request->patience % 1000 * 1000000;
@@ -166,6 +165,15 @@ static inline void nsf_take(nsf_shared *shared, nsf_request *request)
     }
 }
 
+static inline void nsf_take_each(nsf_shared *shared, nsf_request *request)
+{
+    while (request) {
+        nsf_request *next = request->next;
+        nsf_take(shared, request);
+        request = next;
+    }
+}
+
 /* Whether the time of the creation or dropping that waits is over. */
 static inline bool nsf_is_late(const nsf_shared *shared)
 {
@@ -175,22 +183,19 @@ static inline bool nsf_is_late(const nsf_shared *shared)
         || (now.tv_sec == shared->patience.tv_sec && now.tv_nsec >= shared->patience.tv_nsec);
 }
 
-/* Serves the creation or dropping that waits, once no transaction is active or its time is over; then takes what waits behind it. */
+/* Serves the creation or dropping that waits, once no transaction is active or its time is over. Then it takes what waits behind it, up to
+ * the next of its kind that has to wait. */
 static inline void nsf_end_quiet(nsf_shared *shared)
 {
-    if (!shared->quiet || (shared->active > 0 && !nsf_is_late(shared)))
-        return;
-    nsf_request *request = shared->quiet;
-    shared->quiet = NULL;
-    nsf_serve_now(shared, request);
-    request = shared->held;
-    shared->held = NULL;
-    while (request) {
-        nsf_request *next = request->next;
-        nsf_take(shared, request);
-        request = next;
+    while (shared->quiet && (shared->active == 0 || nsf_is_late(shared))) {
+        nsf_request *request = shared->quiet;
+        shared->quiet = NULL;
+        nsf_serve_now(shared, request);
+        request = shared->held;
+        shared->held = NULL;
+        nsf_take_each(shared, request);
+        nsf_look_at_index(shared);
     }
-    nsf_look_at_index(shared);
 }
 
 /* Rolls back what couldn't be before. */
@@ -249,11 +254,7 @@ static inline void nsf_serve_all(nsf_shared *shared)
         shared->first = NULL;
         shared->last = &shared->first;
         pthread_mutex_unlock(&shared->lock);
-        while (request) {
-            nsf_request *next = request->next;
-            nsf_take(shared, request);
-            request = next;
-        }
+        nsf_take_each(shared, request);
         nsf_roll_back_left(shared);
         nsf_end_quiet(shared);
         if (shared->unsafe)
@@ -337,7 +338,6 @@ static inline void nsf_shared_unlock(nsf_shared *shared)
 static inline uint32_t nsf_shared_start(nsf_shared *shared, const char *path, uint32_t pages, uint32_t entries, uint32_t slots)
 {
     const nsf_handle vacant = NSF_VACANT;
-    sigset_t all, before;
     memset(shared, 0, sizeof *shared);
     shared->path = path;
     shared->pages = pages;
@@ -350,10 +350,7 @@ static inline uint32_t nsf_shared_start(nsf_shared *shared, const char *path, ui
     int failed = nsf_shared_locks(shared);
     if (failed)
         return nsf_refuse(failed);
-    sigfillset(&all);
-    pthread_sigmask(SIG_BLOCK, &all, &before);
-    failed = pthread_create(&shared->owner, NULL, nsf_own, shared);
-    pthread_sigmask(SIG_SETMASK, &before, NULL);
+    failed = nsf_start_thread(&shared->owner, nsf_own, shared);
     if (failed) {
         nsf_shared_unlock(shared);
         return nsf_refuse(failed);
@@ -390,8 +387,8 @@ static inline uint32_t nsf_shared_open_or_create(nsf_shared *shared, const char 
 }
 
 /* Makes what was committed safe and closes the store. No seat is in a call then, but one that waits to begin a transaction or to create
- * or drop the index, which is answered NSF_STOPPED; nor will be. Transactions that are active are lost. Answers why what was committed
- * isn't safe, if it isn't; the store is closed then too. */
+ * or drop the index, which is answered NSF_STOPPED; nor will be. It waits until that call is over. Transactions that are active are lost.
+ * Answers why what was committed isn't safe, if it isn't; the store is closed then too. */
 static inline uint32_t nsf_shared_close(nsf_shared *shared)
 {
     pthread_mutex_lock(&shared->lock);
@@ -399,6 +396,10 @@ static inline uint32_t nsf_shared_close(nsf_shared *shared)
     pthread_cond_signal(&shared->wanted);
     pthread_mutex_unlock(&shared->lock);
     pthread_join(shared->owner, NULL);
+    pthread_mutex_lock(&shared->lock);
+    while (shared->calls > 0)
+        pthread_cond_wait(&shared->told, &shared->lock);
+    pthread_mutex_unlock(&shared->lock);
     nsf_shared_unlock(shared);
     return shared->refused;
 }
@@ -416,7 +417,8 @@ static inline void nsf_seat_leave(nsf_seat *seat)
     pthread_cond_destroy(&seat->answered);
 }
 
-/* Hands the owner what is wanted, and waits until it is answered. A thread can't be cancelled meanwhile. */
+/* Hands the owner what is wanted, and waits until it is answered: by NSF_STOPPED where the store is being closed. A thread can't be
+ * cancelled meanwhile. */
 static inline uint32_t nsf_want(nsf_seat *seat, nsf_request *request, uint32_t (*serve)(nsf_shared *, nsf_request *))
 {
     nsf_shared *shared = seat->shared;
@@ -425,12 +427,19 @@ static inline uint32_t nsf_want(nsf_seat *seat, nsf_request *request, uint32_t (
     request->serve = serve;
     pthread_setcancelstate(PTHREAD_CANCEL_DISABLE, &cancels);
     pthread_mutex_lock(&shared->lock);
-    request->next = NULL;
-    *shared->last = request;
-    shared->last = &request->next;
-    pthread_cond_signal(&shared->wanted);
+    shared->calls++;
+    request->refused = NSF_STOPPED;
+    request->is_answered = shared->stops;
+    if (!request->is_answered) {
+        request->next = NULL;
+        *shared->last = request;
+        shared->last = &request->next;
+        pthread_cond_signal(&shared->wanted);
+    }
     while (!request->is_answered)
         pthread_cond_wait(&seat->answered, &shared->lock);
+    shared->calls--;
+    pthread_cond_signal(&shared->told); /* to who closes the store */
     pthread_mutex_unlock(&shared->lock);
     pthread_setcancelstate(cancels, NULL);
     return request->refused;
@@ -660,11 +669,11 @@ static inline uint32_t nsf_seat_find(nsf_seat *seat, const void *key, size_t key
     return refused;
 }
 
-static inline uint32_t nsf_serve_pairs(nsf_shared *shared, nsf_request *request, uint32_t (*read)(nsf_handle *, nsf_scan *, nsf_reply *))
+static inline uint32_t nsf_serve_pairs(nsf_shared *shared, nsf_request *request)
 {
     uint32_t refused = NSF_OK;
     while (request->number < request->room) {
-        refused = read(shared->handle, request->scan, &request->replies[request->number]);
+        refused = request->read(shared->handle, request->scan, &request->replies[request->number]);
         if (refused || request->replies[request->number].kind == NSF_AT_END)
             break;
         request->number++;
@@ -672,24 +681,15 @@ static inline uint32_t nsf_serve_pairs(nsf_shared *shared, nsf_request *request,
     return refused;
 }
 
-static inline uint32_t nsf_serve_scan(nsf_shared *shared, nsf_request *request)
-{
-    return nsf_serve_pairs(shared, request, nsf_scan_next);
-}
-
-static inline uint32_t nsf_serve_scan_back(nsf_shared *shared, nsf_request *request)
-{
-    return nsf_serve_pairs(shared, request, nsf_scan_previous);
-}
-
 static inline uint32_t nsf_want_pairs(nsf_seat *seat, nsf_scan *scan, nsf_reply *pairs, size_t room, size_t *count,
-                                      uint32_t (*serve)(nsf_shared *, nsf_request *))
+                                      uint32_t (*read)(nsf_handle *, nsf_scan *, nsf_reply *))
 {
     nsf_request request = nsf_no_request();
     request.scan = scan;
+    request.read = read;
     request.replies = pairs;
     request.room = room;
-    uint32_t refused = nsf_want(seat, &request, serve);
+    uint32_t refused = nsf_want(seat, &request, nsf_serve_pairs);
     *count = (size_t)request.number;
     return refused;
 }
@@ -697,13 +697,13 @@ static inline uint32_t nsf_want_pairs(nsf_seat *seat, nsf_scan *scan, nsf_reply 
 /* The next pairs of a scan, as many as there is room for, all of one moment; fewer where no more are left. Tells how many. */
 static inline uint32_t nsf_seat_scan(nsf_seat *seat, nsf_scan *scan, nsf_reply *pairs, size_t room, size_t *count)
 {
-    return nsf_want_pairs(seat, scan, pairs, room, count, nsf_serve_scan);
+    return nsf_want_pairs(seat, scan, pairs, room, count, nsf_scan_next);
 }
 
 /* The same from the end: at first the last pairs of the scan, the last one first. A scan of what is committed is refused. */
 static inline uint32_t nsf_seat_scan_back(nsf_seat *seat, nsf_scan *scan, nsf_reply *pairs, size_t room, size_t *count)
 {
-    return nsf_want_pairs(seat, scan, pairs, room, count, nsf_serve_scan_back);
+    return nsf_want_pairs(seat, scan, pairs, room, count, nsf_scan_previous);
 }
 
 static inline uint32_t nsf_serve_create_index(nsf_shared *shared, nsf_request *request)

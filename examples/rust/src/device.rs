@@ -1,6 +1,7 @@
 //! The other end of a store's line, over a file.
 use std::fs::File;
 use std::io::{self, Read, Write};
+use std::net::Shutdown;
 use std::os::fd::{AsRawFd, RawFd};
 use std::os::unix::fs::FileExt;
 use std::os::unix::net::UnixStream;
@@ -10,7 +11,7 @@ const SECTOR: usize = 512;
 
 /// A file that a thread writes and syncs as it is asked to.
 pub struct Device {
-    line: Option<UnixStream>,
+    line: UnixStream,
     server: Option<JoinHandle<()>>,
 }
 
@@ -32,24 +33,27 @@ fn serve(file: &File, line: &mut UnixStream) -> io::Result<()> {
 impl Device {
     pub fn start(file: File) -> io::Result<Device> {
         let (line, mut other) = UnixStream::pair()?;
-        let server = thread::spawn(move || {
+        let server = thread::Builder::new().spawn(move || {
             // the error is that the store's end was closed
             let _ = serve(&file, &mut other);
-        });
+            // a child of a fork may have it too
+            let _ = file.unlock();
+        })?;
         Ok(Device {
-            line: Some(line),
+            line,
             server: Some(server),
         })
     }
 
     pub fn line(&self) -> RawFd {
-        self.line.as_ref().map_or(-1, |line| line.as_raw_fd())
+        self.line.as_raw_fd()
     }
 }
 
 impl Drop for Device {
     fn drop(&mut self) {
-        self.line = None;
+        // a child of a fork may have this end too
+        let _ = self.line.shutdown(Shutdown::Write);
         if let Some(server) = self.server.take() {
             let _ = server.join();
         }

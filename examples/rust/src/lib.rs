@@ -3,15 +3,17 @@
 //! What the C interface asks of who calls is kept by this crate's types: a store is owned, it stays on one thread, and
 //! no call overlaps another. Many threads share one by its owner, a thread to which each has a [`Seat`].
 mod device;
+mod file;
 mod scan;
 mod shared;
 mod sys;
 
 use device::Device;
 use std::fmt;
-use std::fs::File;
-use std::io::{self, Read, Seek, SeekFrom, Write};
+use std::fs::{self, File, OpenOptions};
+use std::io::{self, ErrorKind, Read, Seek, SeekFrom, Write};
 use std::marker::PhantomData;
+use std::path::Path;
 
 pub use scan::{Pair, Range, Scan, ScanBack};
 pub use shared::{Seat, Shared};
@@ -155,6 +157,7 @@ mod kind {
     pub const COMMIT: u32 = 8;
     pub const CREATE: u32 = 9;
     pub const BUILD: u32 = 10;
+    pub const CLEAN: u32 = 11;
     pub const GET: u32 = 14;
     pub const FIND: u32 = 15;
     pub const DROP: u32 = 17;
@@ -163,12 +166,17 @@ mod kind {
     pub const UNDONE: u32 = 4;
     pub const DONE: u32 = 12;
     pub const IDLE: u32 = 13;
+    pub const CLEANED: u32 = 14;
+    pub const WRAPPED: u32 = 16;
     pub const ROW: u32 = 22;
     pub const ABSENT: u32 = 25;
     pub const COMPLETE: u32 = 28;
     pub const SKIPPED: u32 = 29;
     pub const PAIR: u32 = 30;
 }
+
+// So many steps of the cleaner at most before others have their turn.
+const CLEAN_STEPS: u32 = 256;
 
 // The row that is told of, if one is.
 fn row_of(reply: &sys::Reply) -> Option<Row> {
@@ -205,31 +213,61 @@ impl Store {
         Store::created(None, -1, geometry)
     }
 
-    /// Makes a store in a file that is empty, and locks it. Who is cut off leaves a file that is no store.
+    /// Makes a store in a new file. Until it is made, the file has the name with `.new` behind it, so that a crash
+    /// meanwhile leaves no half of a store. A file that has one of the two names is left alone. Where it is refused, no
+    /// file is left.
+    pub fn create_at(path: impl AsRef<Path>, geometry: Geometry) -> Result<Store, Refused> {
+        let path = path.as_ref();
+        let mut draft = path.as_os_str().to_owned();
+        draft.push(".new");
+        let file = OpenOptions::new()
+            .read(true)
+            .write(true)
+            .create_new(true)
+            .open(&draft)?;
+        // as long as it is locked: who has opened it by its name finds that it has none
+        let remove = || {
+            let _ = fs::remove_file(&draft);
+        };
+        let store = Store::create(file, geometry).inspect_err(|_| remove())?;
+        file::publish(&draft, path).inspect_err(|_| remove())?;
+        Ok(store)
+    }
+
+    /// Makes a store in a file, and locks it. One that isn't empty is refused. Who is cut off leaves a file that is no
+    /// store. Its name is safe once its folder is synced, which is the caller's to do.
     pub fn create(mut file: File, geometry: Geometry) -> Result<Store, Refused> {
-        file.try_lock().map_err(io::Error::from)?;
+        file::lock(&file)?;
+        if file.metadata()?.len() > 0 {
+            return Err(io::Error::from(ErrorKind::AlreadyExists).into());
+        }
         let Geometry {
             pages,
             entries,
             slots,
         } = geometry;
         let sectors = unsafe { sys::nsf_sectors(pages, entries, slots) };
-        for _ in 0..sectors {
-            file.write_all(&[0; 512])?;
-        }
-        file.sync_all()?;
+        file::fill(&mut file, sectors)?;
         let device = Device::start(file)?;
         let line = device.line();
         Store::created(Some(device), line, geometry)
     }
 
-    /// Opens the store in a file, and locks it.
+    /// Opens the store in the file of this name, and locks it. The name is safe then, if its folder may be read.
+    pub fn open_at(path: impl AsRef<Path>) -> Result<Store, Refused> {
+        Store::open(file::take(path.as_ref())?)
+    }
+
+    /// Opens the store in a file, which can be read and written, and locks it. What was read is written back and
+    /// synced: behind a sync that failed in an earlier process the system may show bytes that no disk has.
     pub fn open(mut file: File) -> Result<Store, Refused> {
-        file.try_lock().map_err(io::Error::from)?;
+        file::lock(&file)?;
         let mut bytes = Vec::new();
-        file.sync_all()?;
         file.seek(SeekFrom::Start(0))?;
         file.read_to_end(&mut bytes)?;
+        file.seek(SeekFrom::Start(0))?;
+        file.write_all(&bytes)?;
+        file.sync_all()?;
         let device = Device::start(file)?;
         let line = device.line();
         let mut store = Store::vacant(Some(device));
@@ -393,6 +431,31 @@ impl Store {
             kind::DONE | kind::IDLE => Ok(Built::Complete),
             _ => Ok(Built::Goes),
         }
+    }
+
+    /// Takes the marked entries out of the index that nobody needs any more, up to its end, and answers how many.
+    pub fn clean(&mut self) -> Result<u64, Refused> {
+        let mut taken = 0;
+        loop {
+            let (more, is_at_end) = self.clean_on()?;
+            taken += more;
+            if is_at_end {
+                return Ok(taken);
+            }
+        }
+    }
+
+    // How many entries some steps of the cleaner have taken out, and whether it is at the end of the index.
+    fn clean_on(&mut self) -> Result<(u64, bool), Refused> {
+        let mut taken = 0;
+        for _ in 0..CLEAN_STEPS {
+            match self.ask_of(kind::CLEAN, 0)?.kind {
+                kind::CLEANED => taken += 1,
+                kind::WRAPPED => return Ok((taken, true)),
+                _ => {}
+            }
+        }
+        Ok((taken, false))
     }
 
     /// The row at a place.

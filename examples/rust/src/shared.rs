@@ -83,23 +83,23 @@ impl Owner {
         }
     }
 
-    // Serves what waited for quiet, once no transaction is active or its time is over, and takes what waited behind it.
+    // The creation or dropping that waits, once no transaction is active or its time is over.
+    fn take_due(&mut self) -> Option<Job> {
+        let is_late = |at: Option<Instant>| at.is_some_and(|at| Instant::now() >= at);
+        let active = self.active;
+        let due = self.quiet.take_if(|(_, at)| active == 0 || is_late(*at));
+        due.map(|(job, _)| job)
+    }
+
+    // Serves what waited for quiet, and takes what waited behind it, up to the next of its kind that has to wait.
     fn end_quiet(&mut self) {
-        let is_late = |at: &Option<Instant>| at.is_some_and(|at| Instant::now() >= at);
-        let is_due = self
-            .quiet
-            .as_ref()
-            .is_some_and(|(_, at)| self.active == 0 || is_late(at));
-        if !is_due {
-            return;
-        }
-        if let Some((job, _)) = self.quiet.take() {
+        while let Some(job) = self.take_due() {
             job(self);
+            for wanted in std::mem::take(&mut self.held) {
+                self.take(wanted);
+            }
+            self.builds = is_building(&self.store.status());
         }
-        for wanted in std::mem::take(&mut self.held) {
-            self.take(wanted);
-        }
-        self.builds = is_building(&self.store.status());
     }
 
     // Rolls back what couldn't be before.
@@ -206,7 +206,7 @@ impl Shared {
     ) -> Result<Shared, Refused> {
         let (wanted, asked) = mpsc::channel();
         let (opened, is_open) = mpsc::sync_channel(1);
-        let owner = thread::spawn(move || match open() {
+        let owner = thread::Builder::new().spawn(move || match open() {
             Ok(store) => {
                 let _ = opened.send(Ok(()));
                 Owner::new(store).serve(&asked)
@@ -215,7 +215,7 @@ impl Shared {
                 let _ = opened.send(Err(refused));
                 Ok(())
             }
-        });
+        })?;
         is_open.recv().unwrap_or(Err(Refused::Store(STOPPED)))?;
         Ok(Shared {
             wanted,
@@ -503,6 +503,19 @@ impl Seat {
             owner.builds = is_building(&owner.store.status());
             Ok(())
         })
+    }
+
+    /// Takes the marked entries out of the index that nobody needs any more, up to its end, and answers how many. Other
+    /// seats have their turn meanwhile.
+    pub fn clean(&self) -> Result<u64, Refused> {
+        let mut taken = 0;
+        loop {
+            let (more, is_at_end) = self.ask(|owner| owner.store.clean_on())?;
+            taken += more;
+            if is_at_end {
+                return Ok(taken);
+            }
+        }
     }
 
     /// How far the store and its index are.

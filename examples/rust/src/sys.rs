@@ -1,4 +1,4 @@
-//! The functions of nsf.h, as Rust declares them.
+//! The functions of nsf.h, as Rust declares them, and one of the system.
 
 #[repr(C)]
 pub struct Handle {
@@ -83,6 +83,14 @@ pub type Read = unsafe extern "C" fn(
     usize,
     *mut Reply,
 ) -> u32;
+
+/// What asks for the flags that a file was opened with, and the one of them that all is appended.
+pub const F_GETFL: i32 = 3;
+pub const O_APPEND: i32 = 0o2000;
+
+extern "C" {
+    pub fn fcntl(descriptor: i32, command: i32, ...) -> i32;
+}
 
 extern "C" {
     pub fn nsf_sectors(pages: u32, entries: u32, slots: u32) -> u64;

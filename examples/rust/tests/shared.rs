@@ -87,6 +87,9 @@ fn what_is_committed_is_read_beside_what_is_not() {
     assert_eq!(keys(&Range::all().committed()), [b"old".to_vec()]);
     seat.commit(txn).unwrap();
     assert_eq!(keys(&Range::all().committed()), [b"new".to_vec()]);
+    assert_eq!(other.status().unwrap().marked, 1);
+    assert_eq!(other.clean().unwrap(), 1);
+    assert_eq!(other.status().unwrap().marked, 0);
 }
 
 #[test]
@@ -170,8 +173,8 @@ fn what_waits_behind_a_dropping_is_served_in_turn() {
     assert!(matches!(refused, Refused::Store(17)));
     let txn = seat.begin().unwrap();
     let asks: [fn(nsf::Seat); 3] = [
-        |seat| seat.drop_index(PATIENCE).unwrap(),
-        |seat| seat.create_index(PATIENCE).unwrap(),
+        |seat| seat.drop_index(Duration::MAX).unwrap(),
+        |seat| seat.create_index(Duration::MAX).unwrap(),
         |seat| {
             let _ = seat.put(b"key", b"row").unwrap();
         },

@@ -1,5 +1,6 @@
 use nsf::{Built, Geometry, Refused, Store};
 use std::fs::{File, OpenOptions};
+use std::io::ErrorKind;
 
 const GEOMETRY: Geometry = Geometry {
     pages: 4,
@@ -145,5 +146,94 @@ fn a_file_holds_what_was_flushed() {
     let mut store = Store::open(at(&path)).unwrap();
     assert_eq!(store.get(kept).unwrap(), None);
     drop(store);
+    std::fs::remove_file(path).unwrap();
+}
+
+#[test]
+fn what_is_marked_is_cleaned() {
+    let mut store = Store::in_memory(GEOMETRY).unwrap();
+    let places: Vec<_> = (0..20u8)
+        .map(|i| put(&mut store, &[i], b"row").unwrap())
+        .collect();
+    store.create_index().unwrap();
+    build(&mut store).unwrap();
+    let txn = store.begin().unwrap();
+    for place in &places[..10] {
+        store.delete(txn, *place).unwrap();
+    }
+    store.commit(txn).unwrap();
+    store.flush().unwrap();
+    assert_eq!(store.status().marked, 10);
+    assert_eq!(store.clean().unwrap(), 10);
+    assert_eq!(store.status().marked, 0);
+    assert_eq!(store.status().entries, 10);
+    assert!(store.is_sound());
+}
+
+#[test]
+fn a_file_is_made_and_opened_by_its_name() {
+    let path = std::env::temp_dir().join(format!("nsf-rust-named-{}", std::process::id()));
+    let mut store = Store::create_at(&path, GEOMETRY).unwrap();
+    let kept = put(&mut store, b"kept", b"row").unwrap();
+    store.flush().unwrap();
+    drop(store);
+    // a file that has the name, or that of the draft, is left alone
+    let is_left = |refused| matches!(refused, Some(Refused::System(it)) if it.kind() == ErrorKind::AlreadyExists);
+    assert!(is_left(Store::create_at(&path, GEOMETRY).err()));
+    let draft = path.with_extension("new");
+    assert!(!draft.exists());
+    std::fs::write(&draft, b"other").unwrap();
+    assert!(is_left(Store::create_at(&path, GEOMETRY).err()));
+    assert_eq!(std::fs::read(&draft).unwrap(), b"other");
+
+    let mut store = Store::open_at(&path).unwrap();
+    assert_eq!(store.get(kept).unwrap().unwrap().body, b"row");
+    drop(store);
+    std::fs::remove_file(draft).unwrap();
+    std::fs::remove_file(path).unwrap();
+}
+
+#[test]
+fn a_store_is_made_in_an_empty_file_alone() {
+    let path = std::env::temp_dir().join(format!("nsf-rust-empty-{}", std::process::id()));
+    let mut store = Store::create(at(&path), GEOMETRY).unwrap();
+    let kept = put(&mut store, b"kept", b"row").unwrap();
+    store.flush().unwrap();
+    drop(store);
+    let refused = Store::create(at(&path), GEOMETRY).err();
+    assert!(matches!(refused, Some(Refused::System(it)) if it.kind() == ErrorKind::AlreadyExists));
+    let mut store = Store::open_at(&path).unwrap();
+    assert_eq!(store.get(kept).unwrap().unwrap().body, b"row");
+    drop(store);
+    std::fs::remove_file(path).unwrap();
+}
+
+// What is written to a file that is opened so is put at its end, wherever it is to be.
+#[test]
+fn a_file_that_is_appended_to_is_refused() {
+    let path = std::env::temp_dir().join(format!("nsf-rust-append-{}", std::process::id()));
+    let appended = || {
+        let mut options = OpenOptions::new();
+        options.read(true).append(true).create(true);
+        options.open(&path).unwrap()
+    };
+    let is_invalid = |refused| matches!(refused, Some(Refused::System(it)) if it.kind() == ErrorKind::InvalidInput);
+    assert!(is_invalid(Store::create(appended(), GEOMETRY).err()));
+    drop(Store::create(at(&path), GEOMETRY).unwrap());
+    let before = std::fs::read(&path).unwrap();
+    assert!(is_invalid(Store::open(appended()).err()));
+    assert_eq!(std::fs::read(&path).unwrap(), before);
+    std::fs::remove_file(path).unwrap();
+}
+
+#[test]
+fn what_can_be_no_store_is_refused() {
+    let path = std::env::temp_dir().join(format!("nsf-rust-long-{}", std::process::id()));
+    let is_invalid = |refused| matches!(refused, Some(Refused::System(it)) if it.kind() == ErrorKind::InvalidInput);
+    assert!(is_invalid(Store::open_at("/dev/zero").err()));
+    at(&path).set_len(1 << 40).unwrap();
+    assert!(is_invalid(Store::open_at(&path).err()));
+    at(&path).set_len(100).unwrap();
+    assert!(matches!(Store::open_at(&path), Err(Refused::Store(_))));
     std::fs::remove_file(path).unwrap();
 }
