@@ -18,7 +18,6 @@ machine that does nothing else.
 import collections
 import os
 import re
-import shutil
 import statistics
 import subprocess
 import sys
@@ -53,12 +52,11 @@ def measure_own(writers, led):
 
 def measure_other(program, writers, seconds):
     for how in ("quiet", "build"):
-        room = tempfile.mkdtemp(prefix="peers-", dir="/dev/shm")
-        try:
-            said = printed(program, room, "nosync", how, str(writers), seconds, timeout=120)
-        except subprocess.TimeoutExpired:
-            said = ""
-        shutil.rmtree(room, ignore_errors=True)
+        with tempfile.TemporaryDirectory(prefix="peers-", dir="/dev/shm", ignore_cleanup_errors=True) as room:
+            try:
+                said = printed(program, room, "nosync", how, str(writers), seconds, timeout=120)
+            except subprocess.TimeoutExpired:
+                said = ""
         for name, kind, count, rate, worst, each in OTHER.findall(said):
             commits[name, kind, int(count)].append(float(rate))
             slowest[name, kind, int(count)].append(float(worst))
