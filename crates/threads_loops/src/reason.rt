@@ -16,7 +16,8 @@ pub(crate) struct Reason<B: Group> {
 }
 
 /// Why the builder of a run has ended, as all in the run are told: `Stopped` where the stop flag or the end of the run
-/// ended it; else the refusal of a step, as some core that may lie under the lock refuses it.
+/// ended it (that it comes for nothing else, no clause says); else the refusal of a step, as some core that may lie
+/// under the lock refuses it.
 #[derive(Drop)]
 pub struct Told<'t, B: Group> {
     pub error: Error,
