@@ -196,8 +196,9 @@ static CHANGED: [Scene; 6] = [
 ];
 
 // What a file holds is synced, and its name. A sector takes two writes, which take only a part. A publication that was
-// cut off is ended by an opening. Each opening to write syncs the folder that the file stands in: its name is safe.
-static SYNCED: [Scene; 6] = [
+// cut off is ended by an opening, not by one to read alone. Each opening to write syncs the folder that the file stands
+// in: its name is safe.
+static SYNCED: [Scene; 5] = [
     (
         Nothing,
         Calls(b"kwwwwsflrf", 0),
@@ -214,18 +215,37 @@ static SYNCED: [Scene; 6] = [
         &[
             ("synced", Step::Act(Act::Hold(0, 9, 1_024)), "done"),
             ("synced", Step::Act(Act::NameToo("synced.new")), "done"),
-            ("deep", Step::Act(Act::MakeFolder), "done"),
         ],
     ),
+    (Nothing, Calls(b"h", 0), &[("synced", READ, "done")]),
     (
         Nothing,
         Calls(b"krfwwwws", 0),
         &[("synced", OPEN, "done"), ("synced", REMOVE, "done")],
     ),
+];
+
+// The same in another folder than the one of the process.
+static DEEP: [Scene; 5] = [
+    (
+        Nothing,
+        Plain,
+        &[("deep", Step::Act(Act::MakeFolder), "done")],
+    ),
     (
         Nothing,
         Calls(b"kwwwwsdrd", 0),
         &[("deep/made", MAKE, "done"), ("deep/made", DISCARD, "done")],
+    ),
+    (
+        Nothing,
+        Calls(b"kwwwwsdlrd", 0),
+        &[("deep/made", MAKE, "done"), ("deep/made", PUBLISH, "done")],
+    ),
+    (
+        Nothing,
+        Calls(b"kdwwwws", 0),
+        &[("deep/made", OPEN, "done")],
     ),
     (
         Nothing,
@@ -372,6 +392,10 @@ fn synced() -> &'static [Scene] {
     &SYNCED
 }
 
+fn deep() -> &'static [Scene] {
+    &DEEP
+}
+
 fn looked_at() -> &'static [Scene] {
     &LOOKED_AT
 }
@@ -385,7 +409,7 @@ fn singles() -> &'static [Scene] {
 }
 
 // Each table is named by a function of its own: one that names all of them takes many times longer to prove.
-fn all() -> [&'static [Scene]; 9] {
+fn all() -> [&'static [Scene]; 10] {
     [
         draft(),
         locked(),
@@ -393,6 +417,7 @@ fn all() -> [&'static [Scene]; 9] {
         harmed(),
         changed(),
         synced(),
+        deep(),
         looked_at(),
         spoil(),
         singles(),
