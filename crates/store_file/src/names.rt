@@ -46,13 +46,26 @@ pub(crate) fn is_there<R: Files>(rt: &R, path: &str) -> io::Result<bool> {
     Ok(found_at(rt, path)?.is_some())
 }
 
+// The folder that the path stands in.
+fn open_folder<R: Files>(rt: &R, path: &str) -> io::Result<R::File> {
+    match Path::new(path).parent() {
+        Some(folder) if !folder.as_str().is_empty() => fs::open(rt, folder),
+        _ => fs::open(rt, "."),
+    }
+}
+
 /// Syncs the folder that the path stands in, so that its names are safe.
 pub(crate) fn sync_folder<R: Files>(rt: &R, path: &str) -> io::Result<()> {
-    let folder = match Path::new(path).parent() {
-        Some(folder) if !folder.as_str().is_empty() => fs::open(rt, folder)?,
-        _ => fs::open(rt, ".")?,
-    };
-    folder.sync_all()
+    open_folder(rt, path)?.sync_all()
+}
+
+/// Syncs it, unless this process may not read it.
+pub(crate) fn sync_readable_folder<R: Files>(rt: &R, path: &str) -> io::Result<()> {
+    match open_folder(rt, path) {
+        Ok(folder) => folder.sync_all(),
+        Err(error) if error.kind() == ErrorKind::PermissionDenied => Ok(()),
+        Err(error) => Err(error),
+    }
 }
 
 /// Refuses what is no regular file before it is opened, as an opening of some others waits.

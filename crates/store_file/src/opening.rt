@@ -8,7 +8,7 @@ use crate::draft::SECTORS_MAX;
 use crate::error::OpenError;
 use crate::host::{Held, HostFile, StoreFile};
 use crate::mirror::FileDisk;
-use crate::names::{draft_of, has_both, refuse_other, sync_folder};
+use crate::names::{draft_of, has_both, refuse_other, sync_readable_folder};
 use sector_device::SECTOR_SIZE;
 use std::alloc::Allocator;
 use std::fs;
@@ -43,8 +43,8 @@ pub struct Taken<F> {
 }
 
 /// Takes the file at the path: it is locked until it is dropped, and looked at. It is an advisory lock, which goes with
-/// the process. No sector is read or written. The folder is synced: who made the file may have been cut off before its
-/// name was safe. (It is only tested.)
+/// the process. No sector is read or written. The folder is synced, if it may be read: who made the file may have been
+/// cut off before its name was safe. (It is only tested.)
 ///
 /// `Busy` where another process has it open, `NotAFile` and `Linked` where the path names no regular file, a link, or
 /// one of several names of a file, `BadLength` where its length is no number of sectors from 1 to 2^23.
@@ -64,7 +64,7 @@ where
     if has_both(rt, alloc, &file, path)? {
         remove_draft(rt, alloc, path)?;
     }
-    sync_folder(rt, path)?;
+    sync_readable_folder(rt, path)?;
     let length = file.metadata()?.len();
     let below = HostFile {
         file,

@@ -84,7 +84,11 @@ static LOCKED: [Scene; 5] = [
         Plain,
         &[("locked", OPEN, "Busy"), ("locked", READ, "Busy")],
     ),
-    (Held("locked"), Plain, &[("locked", OPEN, "Busy")]),
+    (
+        Held("locked"),
+        Plain,
+        &[("locked", READ, "done"), ("locked", OPEN, "Busy")],
+    ),
     (Copy("locked"), Plain, &[("locked", OPEN, "done")]),
     (Nothing, Plain, &[("locked", REMOVE, "done")]),
 ];
@@ -225,8 +229,8 @@ static SYNCED: [Scene; 5] = [
     ),
 ];
 
-// The same in another folder than the one of the process.
-static DEEP: [Scene; 5] = [
+// The same in another folder than the one of the process; and an opening in one that may not be read.
+static DEEP: [Scene; 7] = [
     (
         Nothing,
         Plain,
@@ -250,7 +254,17 @@ static DEEP: [Scene; 5] = [
     (
         Nothing,
         Plain,
-        &[("deep", Step::Act(Act::RemoveFolder), "done")],
+        &[("deep", Step::Act(Act::Rename("closed")), "done")],
+    ),
+    (
+        Nothing,
+        Calls(b"kwwwws", 0),
+        &[("closed/made", OPEN, "done")],
+    ),
+    (
+        Nothing,
+        Plain,
+        &[("closed", Step::Act(Act::RemoveFolder), "done")],
     ),
 ];
 

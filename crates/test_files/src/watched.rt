@@ -15,6 +15,9 @@ use store_file::StoreFile;
 // How many bytes a write takes at most.
 const PART: usize = 300;
 
+// The folder of this name may not be read.
+const CLOSED: &str = "closed";
+
 /// What becomes of the calls of the system.
 #[derive(Clone, Copy)]
 pub enum System {
@@ -225,6 +228,9 @@ impl<'a, R: Files<File = File>> Files for Watched<'a, R> {
     type Dir = R::Dir;
 
     fn open_file(&self, how: &OpenOptions, path: &str) -> io::Result<WatchedFile<'a>> {
+        if path == CLOSED {
+            return Err(Error::from(ErrorKind::PermissionDenied));
+        }
         Ok(WatchedFile {
             file: self.rt.open_file(how, path)?,
             log: self.log,
