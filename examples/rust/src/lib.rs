@@ -197,25 +197,51 @@ impl Store {
         }
     }
 
-    fn created(device: Option<Device>, line: i32, geometry: Geometry) -> Result<Store, Refused> {
+    // Makes a store over the device. Where it is refused, that is told before the device goes.
+    fn created(
+        device: Option<Device>,
+        geometry: Geometry,
+        refuse: impl Fn(),
+    ) -> Result<Store, Refused> {
+        let line = device.as_ref().map_or(-1, Device::line);
         let mut store = Store::vacant(device);
         let Geometry {
             pages,
             entries,
             slots,
         } = geometry;
-        checked(unsafe { sys::nsf_create(&mut store.handle, line, pages, entries, slots) })?;
+        checked(unsafe { sys::nsf_create(&mut store.handle, line, pages, entries, slots) })
+            .inspect_err(|_| refuse())?;
         Ok(store)
+    }
+
+    // Makes a store in the file. Where it is refused, that is told while the file is locked, if it could be.
+    fn created_in(mut file: File, geometry: Geometry, refuse: impl Fn()) -> Result<Store, Refused> {
+        let Geometry {
+            pages,
+            entries,
+            slots,
+        } = geometry;
+        let sectors = unsafe { sys::nsf_sectors(pages, entries, slots) };
+        let locked = file::lock(&file).and_then(|()| {
+            file::fill(&mut file, sectors)?;
+            file.try_clone()
+        });
+        let locked = locked.inspect_err(|_| refuse())?;
+        let device = Device::start(file).inspect_err(|_| refuse())?;
+        let made = Store::created(Some(device), geometry, refuse);
+        drop(locked);
+        made
     }
 
     /// Makes a store in memory.
     pub fn in_memory(geometry: Geometry) -> Result<Store, Refused> {
-        Store::created(None, -1, geometry)
+        Store::created(None, geometry, || ())
     }
 
     /// Makes a store in a new file. Until it is made, the file has the name with `.new` behind it, so that a crash
     /// meanwhile leaves no half of a store. A file that has one of the two names is left alone. Where it is refused, no
-    /// file is left.
+    /// file is left but that.
     pub fn create_at(path: impl AsRef<Path>, geometry: Geometry) -> Result<Store, Refused> {
         let path = path.as_ref();
         let mut draft = path.as_os_str().to_owned();
@@ -229,28 +255,19 @@ impl Store {
         let remove = || {
             let _ = fs::remove_file(&draft);
         };
-        let store = Store::create(file, geometry).inspect_err(|_| remove())?;
+        let store = Store::created_in(file, geometry, &remove)?;
         file::publish(&draft, path).inspect_err(|_| remove())?;
         Ok(store)
     }
 
     /// Makes a store in a file, and locks it. One that isn't empty is refused. Who is cut off leaves a file that is no
     /// store. Its name is safe once its folder is synced, which is the caller's to do.
-    pub fn create(mut file: File, geometry: Geometry) -> Result<Store, Refused> {
+    pub fn create(file: File, geometry: Geometry) -> Result<Store, Refused> {
         file::lock(&file)?;
         if file.metadata()?.len() > 0 {
             return Err(io::Error::from(ErrorKind::AlreadyExists).into());
         }
-        let Geometry {
-            pages,
-            entries,
-            slots,
-        } = geometry;
-        let sectors = unsafe { sys::nsf_sectors(pages, entries, slots) };
-        file::fill(&mut file, sectors)?;
-        let device = Device::start(file)?;
-        let line = device.line();
-        Store::created(Some(device), line, geometry)
+        Store::created_in(file, geometry, || ())
     }
 
     /// Opens the store in the file of this name, and locks it. The name is safe then, if its folder may be read.
