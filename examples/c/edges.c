@@ -2,6 +2,7 @@
 #define _POSIX_C_SOURCE 200809L
 #include <errno.h>
 #include <signal.h>
+#include <stdint.h>
 #include <sys/wait.h>
 #include <unistd.h>
 
@@ -16,7 +17,19 @@ static int sync_or_fail(int file)
     return -1;
 }
 
+/* How many bytes this thread has written into files. */
+static __thread uint64_t written;
+
+static ssize_t write_and_count(int file, const void *bytes, size_t length, off_t at)
+{
+    const ssize_t put = pwrite(file, bytes, length, at);
+    if (put > 0)
+        written += (uint64_t)put;
+    return put;
+}
+
 #define fsync sync_or_fail
+#define pwrite write_and_count
 #include "nsf_shared.h"
 
 enum { PAGES = 4, ENTRIES = 256, SLOTS = 16, LONG = 1000000, WAITERS = 12, ROUNDS = 20 };
@@ -188,16 +201,20 @@ static bool leaves_others(const char *path, const char *draft)
     return is_so;
 }
 
-/* An opening syncs the folder and the file: where one fails, it is refused, and the file is there as before, and not locked. */
+/* An opening syncs the folder, and then the file, of which all is written back by then. Where a sync fails, it is refused, and the file is
+ * there as before, and not locked. */
 static bool is_made_safe(const char *path)
 {
+    const uint64_t length = nsf_sectors(PAGES, ENTRIES, SLOTS) * NSF_SECTOR;
     nsf_file file;
     bool is_so = true;
     must(nsf_file_create(&file, path, PAGES, ENTRIES, SLOTS), path);
     nsf_file_close(&file);
     for (int i = 0; i < 2; i++) {
         failing = i;
+        written = 0;
         is_so = is_so && nsf_file_open(&file, path) == NSF_SYSTEM && errno == EIO;
+        is_so = is_so && written == (i == 0 ? 0 : length);
     }
     failing = -1;
     must(nsf_file_open(&file, path), path);
