@@ -1,5 +1,5 @@
 -- Why no client began, and why not all was written out that clients made.
-use Rattle.std.proofs.Common.{◌≡◌, ◌≤◌, Bool, Err, IfErr, IfOk, Ok, Result, ap, false, inl, inr, refl, subst, sym, true, ◌∙◌, ℕ}
+use Rattle.std.proofs.Common.{◌≡◌, ◌≤◌, Bool, Err, IfErr, IfOk, Ok, OnOk, Result, ap, false, inl, inr, refl, subst, sym, true, ◌∙◌, ℕ}
 use Rattle.record_values.specs.declared.error.Error.{Error}
 use Rattle.record_values.specs.declared.error.Error.TheVariants.{NoMemory}
 use Rattle.restart.specs.Reopening.{IsTurned}
@@ -44,3 +44,9 @@ unwritten_since old mid a b c sound low first quiet (Ok x) why later = tt
 unwritten_since old mid a b c sound low first quiet (Err e) (inl none) later = inl (none.0, none.2 ∙ quiet none.1)
 unwritten_since old mid a b c sound low first quiet (Err e) (inr failed) later =
     inr (failed.0, counted_then old mid true a b c low later first (λ now before. failed.1 before) refl sound)
+
+-- all was written out: the device has not failed as the clients ran, nor behind that
+pub quiet_since : {U : Type 0} (mid : Bool) (a b c : ℕ) → (mid ≡ false → b ≡ a) → (written : Result U Error) → OnOk written (mid ≡ false)
+    → OnOk written (c ≡ b) → OnOk written (c ≡ a)
+quiet_since mid a b c quiet (Ok x) sound same = same ∙ quiet sound
+quiet_since mid a b c quiet (Err e) sound same = tt

@@ -1,6 +1,6 @@
 //! Clients of a store, each in a thread of its own.
-ghost use Rattle.std.specs.Prelude.{◌≡◌, ◌<◌, ◌≤◌, Err, IfErr, IfOk, List, Some, ℕ, map, vec_len};
-ghost use Rattle.std.specs.Prelude.{slice_get, slice_index_or};
+ghost use Rattle.std.specs.Prelude.{◌≡◌, ◌<◌, ◌≤◌, Err, IfErr, IfOk, List, OnOk, Some, ℕ, map, vec_len};
+ghost use Rattle.std.specs.Prelude.{false, slice_get, slice_index_or};
 ghost use Rattle.std.specs.Fn.{FnOnceReturnsAt};
 ghost use Rattle.std.specs.List.{All};
 ghost use Rattle.record_values.specs.declared.error.Error.TheVariants.{NoMemory, TooManyTxns};
@@ -75,8 +75,8 @@ pub struct Served<C, D> {
 /// before that what one could leave before the call, or what gives the same (`leaves`).
 ///
 /// A refusal is `NoMemory` where the device's count of failures is as it was, or `DeviceFailed` where it has risen
-/// (`why`). The count never falls (`later`). A transaction that a client left active is taken back when the store is
-/// opened again.
+/// (`why`). Where all was written, no call of the device has failed (`quiet`). The count never falls (`later`). A
+/// transaction that a client left active is taken back when the store is opened again.
 ///
 /// The errors are those of `open_store`, as `TooManyTxns` where there are more than 16 clients (`many`), and
 /// `NoMemory`. That comes also where no thread can be made for what runs beside the clients; no client is called then.
@@ -93,6 +93,7 @@ pub fn serve<C: Client + Send + Drop, D: Device + Send + Drop, R: Threads + Wait
         × (work : LeavesWork D.past_of D.marks C.works o clients.items s.clients.items opened s.device s.written)
         × (s.marks.items ≡ map (λ (seat : SeatValue). seat.sight.mark) work.seats) × TellsBuild o s.built) }
     ensures why { IfOk result (λ s. IfErr s.written (WhyUnwritten (D.failures device) (D.failures s.device))) }
+    ensures quiet { IfOk result (λ s. OnOk s.written (D.failures s.device ≡ D.failures device)) }
     ensures later { IfOk result (λ s. D.failures device ≤ D.failures s.device) }
     ensures clients { IfOk result (λ s. vec_len s.clients ≡ vec_len clients) }
     ensures refused { IfErr result (λ r. IsNotShared D.past_of D.failures device (vec_len clients) r.1 r.0) }
@@ -128,6 +129,7 @@ pub fn serve_and_see<
         × HadEnded D.past_of (λ d. FnOnceReturnsAt F.FnOnce see d r.1) o work.leaves.geometry work.seats
         work.leaves.popped work.floor opened r.0.device) }
     ensures why { IfOk result (λ r. IfErr r.0.written (WhyUnwritten (D.failures device) (D.failures r.0.device))) }
+    ensures quiet { IfOk result (λ r. OnOk r.0.written (D.failures r.0.device ≡ D.failures device)) }
     ensures later { IfOk result (λ r. D.failures device ≤ D.failures r.0.device) }
     ensures clients { IfOk result (λ r. vec_len r.0.clients ≡ vec_len clients) }
     ensures refused { IfErr result (λ r. IsNotShared D.past_of D.failures device (vec_len clients) r.1 r.0) }
@@ -164,6 +166,7 @@ fn begin<
     ensures told { IfOk result (λ r. TellsBuild B.site.opened r.0.built) }
     ensures why { IfOk result (λ r. IfErr r.0.written (WhyUnwritten (D.failures store.device)
         (D.failures r.0.device))) }
+    ensures quiet { IfOk result (λ r. OnOk r.0.written (D.failures r.0.device ≡ D.failures store.device)) }
     ensures later { IfOk result (λ r. D.failures store.device ≤ D.failures r.0.device) }
     ensures clients { IfOk result (λ r. vec_len r.0.clients ≡ vec_len clients) }
     ensures no_memory { IfErr result (λ r. (r.0 ≡ Refused NoMemory) × (r.1 ≡ store.device)) }
@@ -359,6 +362,8 @@ fn close<B: Group, D: Device, R: Wait>(
     ensures goes { IsLaterPast (D.past_of (device_of parts.flush.writer)) (D.past_of result.0) }
     ensures why { IfErr result.1 (WhyRestUnwritten (has_failed parts.flush.writer)
         (D.failures (device_of parts.flush.writer)) (D.failures result.0)) }
+    ensures sound { OnOk result.1 (has_failed parts.flush.writer ≡ false) }
+    ensures quiet { OnOk result.1 (D.failures result.0 ≡ D.failures (device_of parts.flush.writer)) }
     ensures later { D.failures (device_of parts.flush.writer) ≤ D.failures result.0 }
 {
     parts.flush.stands();
@@ -433,6 +438,8 @@ pub(crate) fn end<B: Group, C: Drop, D: Device, R: Wait>(
         → IsSafeSince D.marks ended.flush.publications d.seat.sight.safe d.seat.sight.mark }
     ensures why { IfErr result.written (WhyRestUnwritten (has_failed ended.flush.writer)
         (D.failures (device_of ended.flush.writer)) (D.failures result.device)) }
+    ensures sound { OnOk result.written (has_failed ended.flush.writer ≡ false) }
+    ensures quiet { OnOk result.written (D.failures result.device ≡ D.failures (device_of ended.flush.writer)) }
     ensures later { D.failures (device_of ended.flush.writer) ≤ D.failures result.device }
     ensures built { result.built ≡ ended.built }
     ensures clients { vec_len result.clients ≡ vec_len ended.clients }
@@ -514,6 +521,8 @@ fn seat_all<
     ensures told { IfOk result (λ r. TellsBuild B.site.opened r.0.built) }
     ensures why { IfOk result (λ r. IfErr r.0.written (WhyUnwritten (D.failures (device_of parts.flush.writer))
         (D.failures r.0.device))) }
+    ensures quiet { IfOk result (λ r. OnOk r.0.written (D.failures r.0.device
+        ≡ D.failures (device_of parts.flush.writer))) }
     ensures later { IfOk result (λ r. D.failures (device_of parts.flush.writer) ≤ D.failures r.0.device) }
     ensures clients { IfOk result (λ r. vec_len r.0.clients ≡ vec_len clients) }
     ensures back { IfErr result (λ d. d ≡ device_of parts.flush.writer) }

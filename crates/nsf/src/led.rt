@@ -1,5 +1,5 @@
 //! Clients that write what they wait for themselves, each in a thread of its own.
-ghost use Rattle.std.specs.Prelude.{◌≡◌, ◌<◌, ◌≤◌, Err, IfErr, IfOk, Some, ℕ, map, slice_index_or, vec_len};
+ghost use Rattle.std.specs.Prelude.{◌≡◌, ◌<◌, ◌≤◌, Err, IfErr, IfOk, OnOk, Some, ℕ, map, slice_index_or, vec_len};
 ghost use Rattle.record_values.specs.declared.error.Error.TheVariants.{NoMemory, TooManyTxns};
 ghost use Rattle.core_model.specs.Histories.{Opened};
 ghost use Rattle.store_writer.specs.Parts.{device_of};
@@ -57,6 +57,7 @@ pub fn serve_led<C: LedClient + Send + Drop, D: Device + Send + Drop, R: Threads
         × (work : LeavesWork D.past_of D.marks C.works o clients.items s.clients.items opened s.device s.written)
         × (s.marks.items ≡ map (λ (seat : SeatValue). seat.sight.mark) work.seats) × TellsBuild o s.built) }
     ensures why { IfOk result (λ s. IfErr s.written (WhyUnwritten (D.failures device) (D.failures s.device))) }
+    ensures quiet { IfOk result (λ s. OnOk s.written (D.failures s.device ≡ D.failures device)) }
     ensures later { IfOk result (λ s. D.failures device ≤ D.failures s.device) }
     ensures clients { IfOk result (λ s. vec_len s.clients ≡ vec_len clients) }
     ensures refused { IfErr result (λ r. IsNotShared D.past_of D.failures device (vec_len clients) r.1 r.0) }
@@ -86,6 +87,7 @@ fn begin<
         × (s.marks.items ≡ map (λ (seat : SeatValue). seat.sight.mark) work.seats)) }
     ensures told { IfOk result (λ s. TellsBuild B.site.opened s.built) }
     ensures why { IfOk result (λ s. IfErr s.written (WhyUnwritten (D.failures store.device) (D.failures s.device))) }
+    ensures quiet { IfOk result (λ s. OnOk s.written (D.failures s.device ≡ D.failures store.device)) }
     ensures later { IfOk result (λ s. D.failures store.device ≤ D.failures s.device) }
     ensures clients { IfOk result (λ s. vec_len s.clients ≡ vec_len clients) }
     ensures no_memory { IfErr result (λ r. (r.0 ≡ Refused NoMemory) × (r.1 ≡ store.device)) }
@@ -227,6 +229,8 @@ fn seat_all<
     ensures told { IfOk result (λ s. TellsBuild B.site.opened s.built) }
     ensures why { IfOk result (λ s. IfErr s.written (WhyUnwritten (D.failures (device_of parts.flush.writer))
         (D.failures s.device))) }
+    ensures quiet { IfOk result (λ s. OnOk s.written (D.failures s.device
+        ≡ D.failures (device_of parts.flush.writer))) }
     ensures later { IfOk result (λ s. D.failures (device_of parts.flush.writer) ≤ D.failures s.device) }
     ensures clients { IfOk result (λ s. vec_len s.clients ≡ vec_len clients) }
     ensures back { IfErr result (λ d. d ≡ device_of parts.flush.writer) }

@@ -1,4 +1,4 @@
-use Rattle.std.proofs.Common.{ap, arith}
+use Rattle.std.proofs.Common.{ap, arith, ◌∙◌}
 use Rattle.std.proofs.Math.Logic.{∥∥₁_map}
 use Rattle.store_writer.specs.Parts.{halves_of}
 use Rattle.nsf.proofs.Published.{newest_kept}
@@ -46,6 +46,9 @@ returns-in-Ok-clause-goes g c = rw c.into_device.ensures (record { later = c.in-
 
 pub returns-in-Err-clause-goes : goal.returns-in-Err-clause-goes
 returns-in-Err-clause-goes g c = record { later = c.in-Err.ensures.left.later; kept = c.in-Err.ensures.left.kept }
+
+pub returns-in-Ok-clause-quiet : goal.returns-in-Ok-clause-quiet
+returns-in-Ok-clause-quiet g c = ap g.D.Device.failures c.into_device.ensures ∙ c.in-Ok.ensures.quiet
 
 pub returns-in-Ok-clause-later : goal.returns-in-Ok-clause-later
 returns-in-Ok-clause-later g c = omega (arith, c.in-Ok.ensures.quiet, ap g.D.Device.failures c.into_device.ensures)

@@ -1,4 +1,4 @@
-use Rattle.std.proofs.Common.{◌∙◌, ◌≤◌, IfErr, subst, sym}
+use Rattle.std.proofs.Common.{◌≡◌, ◌∙◌, ◌≤◌, IfErr, OnOk, false, subst, sym}
 use Rattle.store_writer.specs.Parts.{device_of, has_failed}
 use Rattle.threads_lifetime.specs.Gathered.{AreAllSeats}
 use Rattle.nsf.specs.Serving.{IsLaterPast, LeavesCommits, WhyRestUnwritten}
@@ -29,6 +29,16 @@ returns-clause-why g c =
     let failures = g.D.Device.failures in
     subst (λ f. IfErr c.close-device.result.1 (WhyRestUnwritten (has_failed f.writer) (failures (device_of f.writer)) (failures c.close-device.result.0)))
     c.settle_chairs.ensures.same c.close-device.ensures.why
+
+pub returns-clause-sound : goal.returns-clause-sound
+returns-clause-sound g c =
+    subst (λ f. OnOk c.close-device.result.1 (has_failed f.writer ≡ false)) c.settle_chairs.ensures.same c.close-device.ensures.sound
+
+pub returns-clause-quiet : goal.returns-clause-quiet
+returns-clause-quiet g c =
+    let failures = g.D.Device.failures in
+    subst (λ f. OnOk c.close-device.result.1 (failures c.close-device.result.0 ≡ failures (device_of f.writer))) c.settle_chairs.ensures.same
+    c.close-device.ensures.quiet
 
 pub returns-clause-later : goal.returns-clause-later
 returns-clause-later g c =

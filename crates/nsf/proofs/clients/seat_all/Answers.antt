@@ -10,7 +10,7 @@ use Rattle.threads_lifetime.specs.Closing.{GivesSome}
 use Rattle.nsf.specs.Serving.{HaveWorked, IsLaterPast, TellsBuild}
 use Rattle.nsf.proofs.Orders.{all_left, all_new, all_worked, each_left, new_session, new_unused}
 use Rattle.nsf.proofs.Published.{behind_first, since_first, since_newest}
-use Rattle.nsf.proofs.Refusals.{unwritten_since}
+use Rattle.nsf.proofs.Refusals.{quiet_since, unwritten_since}
 use Rattle.nsf.proofs.clients.seat_all.Goals as goal
 
 pub end-requires-clause-seats : goal.end-requires-clause-seats
@@ -29,6 +29,13 @@ returns-in-Ok-run_all-clause-why g c =
     let going = c.in-Ok-run_all.ensures.going in
     unwritten_since (has_failed old) (has_failed mid) (failures (device_of old)) (failures (device_of mid)) (failures c.end.result.device)
     c.requires.flush.sound going.later going.counted going.quiet c.end.result.written c.end.ensures.why c.end.ensures.later
+
+pub returns-in-Ok-run_all-clause-quiet : goal.returns-in-Ok-run_all-clause-quiet
+returns-in-Ok-run_all-clause-quiet g c =
+    let failures = g.D.Device.failures in
+    let mid = c.in-Ok-run_all.ended.flush.writer in
+    quiet_since (has_failed mid) (failures (device_of c.args.parts.flush.writer)) (failures (device_of mid)) (failures c.end.result.device)
+    c.in-Ok-run_all.ensures.going.quiet c.end.result.written c.end.ensures.sound c.end.ensures.quiet
 
 pub returns-in-Ok-run_all-clause-told : goal.returns-in-Ok-run_all-clause-told
 returns-in-Ok-run_all-clause-told g c = subst (TellsBuild g.B.Group.site.opened) (sym c.end.ensures.built) c.in-Ok-run_all.ensures.told

@@ -1,4 +1,4 @@
-use Rattle.std.proofs.Common.{IfErr, IfOk, subst, ℕ, ◌≤◌}
+use Rattle.std.proofs.Common.{IfErr, IfOk, OnOk, subst, ℕ, ◌≡◌, ◌≤◌}
 use Rattle.std.proofs.lemmas.Result.{IfOk-weaker}
 use Rattle.threads_lifetime.specs.Openings.{IsNotShared}
 use Rattle.nsf.specs.Serving.{WhyUnwritten}
@@ -14,6 +14,11 @@ pub returns-in-Ok-clause-why : goal.returns-in-Ok-clause-why
 returns-in-Ok-clause-why g c =
     let failures = g.D.Device.failures in
     subst (λ (n : ℕ). IfOk c.begin.result (λ r. IfErr r.0.written (WhyUnwritten n (failures r.0.device)))) c.in-Ok.ensures.opened.quiet c.begin.ensures.why
+
+pub returns-in-Ok-clause-quiet : goal.returns-in-Ok-clause-quiet
+returns-in-Ok-clause-quiet g c =
+    let failures = g.D.Device.failures in
+    subst (λ (n : ℕ). IfOk c.begin.result (λ r. OnOk r.0.written (failures r.0.device ≡ n))) c.in-Ok.ensures.opened.quiet c.begin.ensures.quiet
 
 pub returns-in-Ok-clause-refused : goal.returns-in-Ok-clause-refused
 returns-in-Ok-clause-refused g c =

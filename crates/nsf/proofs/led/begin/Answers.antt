@@ -1,4 +1,4 @@
-use Rattle.std.proofs.Common.{◌≡◌, ◌≤◌, IfErr, ap, arith, map, subst}
+use Rattle.std.proofs.Common.{◌≡◌, ◌≤◌, IfErr, OnOk, ap, arith, map, subst}
 use Rattle.shared.specs.Seats.{SeatValue}
 use Rattle.nsf.specs.Serving.{WhyUnwritten, LeavesWork}
 use Rattle.nsf.proofs.led.begin.Goals as goal
@@ -8,6 +8,12 @@ returns-in-Ok-seat_all-clause-why g c =
     let failures = g.D.Device.failures in
     let served = c.in-Ok-seat_all.served in
     subst (λ d. IfErr served.written (WhyUnwritten (failures d) (failures served.device))) c.in-Ok.ensures.device c.in-Ok-seat_all.ensures.why
+
+pub returns-in-Ok-seat_all-clause-quiet : goal.returns-in-Ok-seat_all-clause-quiet
+returns-in-Ok-seat_all-clause-quiet g c =
+    let failures = g.D.Device.failures in
+    let served = c.in-Ok-seat_all.served in
+    subst (λ d. OnOk served.written (failures served.device ≡ failures d)) c.in-Ok.ensures.device c.in-Ok-seat_all.ensures.quiet
 
 pub returns-in-Ok-seat_all-clause-leaves : goal.returns-in-Ok-seat_all-clause-leaves
 returns-in-Ok-seat_all-clause-leaves g c =
