@@ -203,6 +203,7 @@ module _ {D M C : Type 0} (past_of : D → DevicePast) (failures : D → ℕ) (w
       (marks : ℕ → ℕ → Type 0) (work : LeavesWork past_of marks works o day.clients.items answer.clients.items opened after answer.written)
       (built : TellsBuild o answer.built)
       (rises : failures before ≤ failures after) (why : IfErr answer.written (WhyUnwritten (failures before) (failures after)))
+      (quiet : OnOk answer.written (failures after ≡ failures before))
       (count : failures found ≡ failures after) (shown : D → Type 0)
       (ended : HadEnded past_of shown o work.leaves.geometry work.seats work.leaves.popped work.floor opened after)
       (last-read : ℕ) (reads : (k : ℕ) (s : SeatValue) → day.end ≡ Since k → slice_get work.seats k ≡ Some s → s.sight.mark ≢ 0
@@ -223,6 +224,9 @@ module _ {D M C : Type 0} (past_of : D → DevicePast) (failures : D → ℕ) (w
     why_now : IfErr answer.written (WhyUnwritten (failures before) (failures found))
     why_now = subst (λ (n : ℕ). IfErr answer.written (WhyUnwritten (failures before) n)) (sym count) why
 
+    quiet_now : OnOk answer.written (failures found ≡ failures before)
+    quiet_now = subst (λ (n : ℕ). OnOk answer.written (n ≡ failures before)) (sym count) quiet
+
     later_now : failures before ≤ failures found
     later_now = omega (arith, rises, count)
 
@@ -240,6 +244,7 @@ module _ {D M C : Type 0} (past_of : D → DevicePast) (failures : D → ℕ) (w
         served = inr (none_known (known_safe day.end work.seats work.floor) (none day.end refl), refl);
         later = later_now;
         why = why_now;
+        quiet = quiet_now;
       };
       given = gave.given;
       gives = gave.gives;
@@ -403,6 +408,7 @@ module _ {D M C : Type 0} (past_of : D → DevicePast) (failures : D → ℕ) (w
           });
           later = later_now;
           why = why_now;
+          quiet = quiet_now;
         };
         given = last-given;
         gives = some.gives;

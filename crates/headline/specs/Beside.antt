@@ -74,8 +74,8 @@ pub record IsServedBeside {C : Type 0} (geometry : GeometryValue) (old : AtRest)
 -- clients did came later, and never came to the device. (The stop may have undone what the opening had read unsynced.
 -- So the store that was opened may be another that the days could leave.)
 --
--- The device's count of failures hasn't fallen. Where not all was written, there was no memory, and no call of the
--- device failed; or one did.
+-- The device's count of failures hasn't fallen. Where all was written, no call of the device failed. Where not all was
+-- written, there was no memory, and no call of the device failed; or one did.
 pub record HasLivedBeside {D M C : Type 0} (works : C → C → SeatValue → SeatValue → Type 0) (failures : D → ℕ)
     (geometry : GeometryValue) (began : AtRest) (days : List (Day M)) (answers : List (Answer M)) (day : SharedDay C)
     (answer : SharedAnswer C) (new : AtRest) : Type 0 where
@@ -88,9 +88,12 @@ pub record HasLivedBeside {D M C : Type 0} (works : C → C → SeatValue → Se
       ⊎ ((known_safe day.end seats horizon ≡ None) × (new ≡ record before { failed = new.failed }))
   pub later : before.failed ≤ new.failed
   pub why : IfErr answer.written (WhyUnwritten before.failed new.failed)
+  pub quiet : OnOk answer.written (new.failed ≡ before.failed)
 
 -- Why there is no store behind its days and a day of clients. Before the days or behind them the store wasn't opened;
--- or that of the clients wasn't opened behind them. There was no memory, or a call of the device failed.
+-- or that of the clients wasn't opened behind them. There was no memory, or a call of the device failed. No field pins
+-- the count as the store stopped: to which of the two a failure belongs, the work or the opening behind it, nothing
+-- tells.
 abbrev pub IsNotLivedBeside : {D M C : Type 0} → (C → C → SeatValue → SeatValue → Type 0) → (D → ℕ) → GeometryValue
     → AtRest → List (Day M) → List (Answer M) → SharedDay C → Option (SharedAnswer C) → OpenError → (now : ℕ) → Type 0
 IsNotLivedBeside works failures geometry began days answers day None e now =

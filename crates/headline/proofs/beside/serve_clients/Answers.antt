@@ -34,6 +34,6 @@ returns-in-Ok-clause-served g c = λ size began days answers keeps.
     finds past_of failures works size began days answers before keeps images back c.args.day
     (record { clients = served.clients; built = served.built; written = served.written }) is.2 after c.stop_device.new.device is.3 marks work
     (subst (λ (o : Opened). TellsBuild o served.built) same is.6)
-    c.in-Ok.ensures.later c.in-Ok.ensures.why c.stop_device.ensures.failures _ ended read.0 read.4
+    c.in-Ok.ensures.later c.in-Ok.ensures.why c.in-Ok.ensures.quiet c.stop_device.ensures.failures _ ended read.0 read.4
     (c.stop_device.ensures.stopped (past_of before).moment (past_of ended.was).moment read.0 opening worked.2 read.1
     (omega (arith, is.3.images.later, ended.before.later)) ended.since.later read.2 read.3)
