@@ -91,9 +91,9 @@ pub record HasLivedBeside {D M C : Type 0} (works : C → C → SeatValue → Se
   pub quiet : OnOk answer.written (new.failed ≡ before.failed)
 
 -- Why there is no store behind its days and a day of clients. Before the days or behind them the store wasn't opened;
--- or that of the clients wasn't opened behind them. There was no memory, or a call of the device failed. No field pins
--- the count as the store stopped: to which of the two a failure belongs, the work or the opening behind it, nothing
--- tells.
+-- or that of the clients wasn't opened behind them. There was no memory, or a call of the device failed. (No field pins
+-- the count as the store stopped. So where it rose, an answer that tells the failure of the wrong one of the two, the
+-- work or the opening behind it, fits this too.)
 abbrev pub IsNotLivedBeside : {D M C : Type 0} → (C → C → SeatValue → SeatValue → Type 0) → (D → ℕ) → GeometryValue
     → AtRest → List (Day M) → List (Answer M) → SharedDay C → Option (SharedAnswer C) → OpenError → (now : ℕ) → Type 0
 IsNotLivedBeside works failures geometry began days answers day None e now =
