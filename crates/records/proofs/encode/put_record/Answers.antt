@@ -1,6 +1,25 @@
-use Rattle.std.proofs.Common.{arith}
-use Rattle.std.proofs.lemmas.Grind.{common_steps}
+use Rattle.std.proofs.Common.{◌≡◌, ℕ, List, length, take, sym, ap, ◌∙◌, arith, append_assoc, rules}
+use Rattle.std.proofs.lemmas.List.{take-take, length-take}
+use Rattle.std.proofs.lemmas.Result.{err_from_is_err_and, IfOk-equal}
 use Rattle.records.proofs.encode.put_record.Goals as goal
 
-pub returns-clause-ok : goal.returns-clause-ok
-returns-clause-ok g c = grind (arith, common_steps)
+kept_more : (a b c : List ℕ) → take (length a) b ≡ a → take (length b) c ≡ b → take (length a) c ≡ a
+kept_more a b c p q = sym (take-take (length a) (length b) c (omega (arith, ap length p, length-take (length a) b))) ∙ ap (take (length a)) q ∙ p
+
+pub returns : goal.returns
+returns g c =
+    let done = c.put_fields.ensures in
+    record {
+      ok = IfOk-equal c.put_fields.result _ _ _ done.ok (search (rules, append_assoc));
+      kept = kept_more _ _ _ (kept_more _ _ _ c.put_u64.ensures.kept c.put_u64-2.ensures.kept) done.kept;
+    }
+
+pub returns-in_err-put_u64 : goal.returns-in_err-put_u64
+returns-in_err-put_u64 g c =
+    rw (err_from_is_err_and c.from_residual.result c.from_residual.ensures.1).1
+    (record { ok = tt; kept = c.put_u64.ensures.kept })
+
+pub returns-in_err-put_u64-2 : goal.returns-in_err-put_u64-2
+returns-in_err-put_u64-2 g c =
+    rw (err_from_is_err_and c.from_residual-in_err-put_u64-2.result c.from_residual-in_err-put_u64-2.ensures.1).1
+    (record { ok = tt; kept = kept_more _ _ _ c.put_u64.ensures.kept c.put_u64-2.ensures.kept })

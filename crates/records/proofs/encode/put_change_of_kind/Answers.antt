@@ -1,0 +1,20 @@
+use Rattle.std.proofs.Common.{◌≡◌, ℕ, List, length, take, sym, ap, ◌∙◌, arith, append_assoc}
+use Rattle.std.proofs.lemmas.List.{take-take, length-take}
+use Rattle.std.proofs.lemmas.Result.{err_from_is_err_and, IfOk-equal}
+use Rattle.records.proofs.encode.put_change_of_kind.Goals as goal
+
+kept_more : (a b c : List ℕ) → take (length a) b ≡ a → take (length b) c ≡ b → take (length a) c ≡ a
+kept_more a b c p q = sym (take-take (length a) (length b) c (omega (arith, ap length p, length-take (length a) b))) ∙ ap (take (length a)) q ∙ p
+
+pub returns : goal.returns
+returns g c =
+    let done = c.put_change.ensures in
+    record {
+      ok = IfOk-equal c.put_change.result _ _ _ done.ok (simp (c.in_ok-put_byte.ensures.ok, append_assoc));
+      kept = kept_more _ _ _ c.put_byte.ensures.kept done.kept;
+    }
+
+pub returns-in_err-put_byte : goal.returns-in_err-put_byte
+returns-in_err-put_byte g c =
+    rw (err_from_is_err_and c.from_residual.result c.from_residual.ensures.1).1
+    (record { ok = tt; kept = c.put_byte.ensures.kept })

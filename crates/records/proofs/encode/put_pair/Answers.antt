@@ -1,0 +1,20 @@
+use Rattle.std.proofs.Common.{◌≡◌, ℕ, List, length, take, sym, ap, ◌∙◌, arith, append_assoc, rules}
+use Rattle.std.proofs.lemmas.List.{take-take, length-take}
+use Rattle.std.proofs.lemmas.Result.{err_from_is_err_and, IfOk-equal}
+use Rattle.records.proofs.encode.put_pair.Goals as goal
+
+kept_more : (a b c : List ℕ) → take (length a) b ≡ a → take (length b) c ≡ b → take (length a) c ≡ a
+kept_more a b c p q = sym (take-take (length a) (length b) c (omega (arith, ap length p, length-take (length a) b))) ∙ ap (take (length a)) q ∙ p
+
+pub returns : goal.returns
+returns g c =
+    let done = c.put_rid.ensures in
+    record {
+      ok = IfOk-equal c.put_rid.result _ _ _ done.ok (search (rules, append_assoc));
+      kept = kept_more _ _ _ c.put_short.ensures.kept done.kept;
+    }
+
+pub returns-in_err-put_short : goal.returns-in_err-put_short
+returns-in_err-put_short g c =
+    rw (err_from_is_err_and c.from_residual.result c.from_residual.ensures.1).1
+    (record { ok = tt; kept = c.put_short.ensures.kept })
