@@ -1,4 +1,6 @@
-use Rattle.std.proofs.Common.{length, ◌<◌, subst, arith}
+use Rattle.std.proofs.Common.{Bool, length, take, ◌<◌, subst, arith}
+use Rattle.std.proofs.lemmas.List.{length-take}
+use Rattle.std.proofs.lemmas.List.Sums.{count_by-le-length}
 use Rattle.sector_device.specs.Disk.{sector}
 use Rattle.sector_device.specs.Memory.{unsynced_since}
 use Rattle.sector_device.specs.Crash.{HasFate}
@@ -31,3 +33,18 @@ loop-k-preserved c =
 
 pub returns : goal.returns
 returns c = torn_end _ _ _ _ _ (omega arith) c.loop-k.invariant
+
+pub overflow_add-next : goal.overflow_add-next
+overflow_add-next c =
+    let flags = unsynced_since c.args.synced_at c.args.written_at.now in
+    let few = count_by-le-length (λ (is : Bool). is) (take c.loop-k.k flags) in
+    omega (arith, c.loop-k.invariant.count, few, length-take c.loop-k.k flags, c.loop-k-test.true)
+
+pub bounds-written_at-k : goal.bounds-written_at-k
+bounds-written_at-k c = omega (arith, c.loop-k-test.true, c.requires.written)
+
+pub bounds-before-k : goal.bounds-before-k
+bounds-before-k c = omega (arith, c.loop-k-test.true, c.requires.before)
+
+pub bounds-content-k : goal.bounds-content-k
+bounds-content-k c = omega (arith, c.loop-k-test.true, c.loop-k.auto.content)

@@ -1,8 +1,10 @@
-use Rattle.std.proofs.Common.{◌≡◌, ⊎_elim, inl, ◌+◌, ◌*◌, ◌<◌, [], length, sym, ◌∙◌, ap, refl, arith}
+use Rattle.std.proofs.Common.{◌≡◌, ⊎_elim, inl, ◌+◌, ◌*◌, ◌<◌, [], length, ◌∙◌, ap, refl, arith}
 use Rattle.std.proofs.lemmas.Bool.{cases_eq}
 use Rattle.std.proofs.lemmas.Grind.{get_or-set_at}
+use Rattle.std.proofs.lemmas.Result.{err_from_is_err_and}
 use Rattle.sector_device.specs.Disk.{sector}
 use Rattle.sector_device.proofs.KnownSectors.{row_below}
+use Rattle.sector_device.proofs.Counts.{counts_failed}
 use Rattle.sector_device.proofs.Sectors.{sector_other, content_after}
 use Rattle.sector_device.proofs.Within.{within_start_unsynced, within_write}
 use Rattle.sector_device.proofs.values.write_zeros.Goals as goal
@@ -37,18 +39,28 @@ loop-i-preserved g c =
       failures = c.in_ok-write.ensures.counts.none ∙ so_far.failures;
     }
 
-pub returns-in_err-write-clause-within : goal.returns-in_err-write-clause-within
-returns-in_err-write-clause-within g c =
-    within_write _ _ _ _ _ c.loop-i.invariant.within c.write.ensures.time (c.args.first + c.args.step * c.loop-i.i) _ c.write.result
-    (inl (c.loop-i.i, c.loop-i-test.true, refl)) c.write.ensures.ok c.write.ensures.err
+pub returns-in_err-write : goal.returns-in_err-write
+returns-in_err-write g c =
+    let so_far = c.loop-i.invariant in
+    let at = c.args.first + c.args.step * c.loop-i.i in
+    let counts = c.write.ensures.counts in
+    rw (err_from_is_err_and c.from_residual.result c.from_residual.ensures.1).1 (record {
+      zeros = tt;
+      outside = content_after _ _ _ at _ _ c.write.result c.write.ensures.ok c.write.ensures.err (c.loop-i.i, c.loop-i-test.true, refl) so_far.outside;
+      within = within_write _ _ _ _ _ so_far.within c.write.ensures.time at _ c.write.result (inl (c.loop-i.i, c.loop-i-test.true, refl))
+          c.write.ensures.ok c.write.ensures.err;
+      counts = counts_failed _ _ _ _ (omega (arith, so_far.failures)) counts.later c.in_err-write.ensures.counts.failed;
+    })
 
-pub returns-in_err-write-clause-outside : goal.returns-in_err-write-clause-outside
-returns-in_err-write-clause-outside g c =
-    content_after _ _ _ (c.args.first + c.args.step * c.loop-i.i) _ _ c.write.result c.write.ensures.ok c.write.ensures.err (
-      c.loop-i.i,
-      c.loop-i-test.true,
-      refl,
-    ) c.loop-i.invariant.outside
+pub returns : goal.returns
+returns g c =
+    let so_far = c.loop-i.invariant in
+    record {
+      zeros = λ i below. so_far.zeros i (omega (arith, below, c.loop-i-test.false));
+      outside = so_far.outside;
+      within = so_far.within;
+      counts = record { later = omega (arith, so_far.failures); none = so_far.failures; failed = tt };
+    }
 
 pub overflow_mul-step : goal.overflow_mul-step
 overflow_mul-step g c =
@@ -57,3 +69,7 @@ overflow_mul-step g c =
 pub write-requires : goal.write-requires
 write-requires g c =
     omega (arith, row_below c.args.step c.loop-i.i c.args.count c.requires.step c.loop-i-test.true, c.requires.inside, c.loop-i.invariant.outside.sectors)
+
+pub overflow_add-first : goal.overflow_add-first
+overflow_add-first g c =
+    omega (arith, row_below c.args.step c.loop-i.i c.args.count c.requires.step c.loop-i-test.true, c.requires.number)

@@ -1,13 +1,24 @@
-use Rattle.std.proofs.Common.{rules, ◌≡◌, ◌∙◌, ap, sym, subst, arith, ℕ, ◌+◌, ◌≤◌, ◌++◌, List, length, take, drop, replicate, slice_index, vec_len}
+use Rattle.std.proofs.Common.{rules, ◌≡◌, refl, ◌∙◌, ap, sym, subst, arith, ℕ, ◌+◌, ◌≤◌, ◌++◌, List, [], length, take, drop, replicate, slice_index, vec_len}
 use Rattle.std.proofs.Common.{vec_capacity}
+use Rattle.std.proofs.Common.{zero, suc, false, slice_index_or}
 use Rattle.std.proofs.Math.ListN.{length-replicate}
+use Rattle.sector_device.specs.declared.call.Call.{Call}
 use Rattle.sector_device.specs.Disk.{CrashState, IsDiskWhole, IsCrashState}
-use Rattle.sector_device.specs.Memory.{initial_state, state_after, disk_of, unsynced_since}
+use Rattle.sector_device.specs.Memory.{MemoryState, initial_state, state_after, disk_of, unsynced_since}
 use Rattle.sector_device.specs.Crash.{IsCrashed}
 use Rattle.sector_device.proofs.Sectors.{image_is_whole}
 use Rattle.sector_device.proofs.Tear.{crashed_state, crash_image}
 use Rattle.sector_device.proofs.Record.{represents_crashed, written_back, all_zero, synced_count, synced_count_at_most}
 use Rattle.sector_device.proofs.memory.MemDisk.crash.Goals as goal
+
+-- the record begins anew
+anew : (first image : CrashState) (calls : List Call) → first ≡ image → calls ≡ [] → state_after (initial_state first) calls ≡ initial_state image
+anew first image calls is none = ap (state_after (initial_state first)) none ∙ ap initial_state is
+
+no_flag : (n k : ℕ) → slice_index_or (replicate n false) k false ≡ false
+no_flag zero k = refl
+no_flag (suc n) zero = refl
+no_flag (suc n) (suc k) = no_flag n k
 
 pub invariant_of-self : goal.invariant_of-self
 invariant_of-self g c =
@@ -47,4 +58,31 @@ invariant_of-self g c =
       first_whole = subst IsDiskWhole (sym (first ∙ back)) whole;
       size = fits;
       room = room;
+    }
+
+pub returns : goal.returns
+returns g c =
+    let d = c.args.self.now in
+    let s = state_after (initial_state d.first.items) d.calls.items in
+    let image = c.tear.new.content in
+    let crashed_now : IsCrashed c.args.fates.now (record {
+      content = d.content.items;
+      synced = d.before.items;
+      unsynced = unsynced_since d.synced_at d.written_at.items;
+    }) image = search rules in
+    let crashed : IsCrashed c.args.fates.now s image = crashed_state _ _ _ _ _ _ _ _ d.represents crashed_now in
+    let size : length image ≡ length d.content.items = crashed_now.sectors in
+    let back : take d.content.len (image ++ drop (length image) d.content.items) ≡ image =
+    written_back image d.content.items d.content.len size d.content.ok.0 in
+    let is = anew _ image _ (c.copy_from_slice.ensures.items ∙ c.deref-3.ensures.value ∙ back) c.clear.ensures.items in
+    let content = ap (λ (s : MemoryState). s.content) is in
+    record {
+      crash = subst (IsCrashState (disk_of s)) (sym content) (crash_image _ s image d.represents.whole d.represents.synced_whole crashed);
+      fates = subst (IsCrashed c.args.fates.now s) (sym content) crashed;
+      synced = λ k. ap (λ (s : MemoryState). slice_index_or s.unsynced k false) is ∙ no_flag (length image) k;
+      last_synced = ap (λ (s : MemoryState). s.synced) is ∙ sym content;
+      moment = ap length c.clear.ensures.items;
+      failures = refl;
+      room = omega (arith, c.clear.ensures.capacity, ap length back, size);
+      anew = omega (arith, c.clear.ensures.len);
     }

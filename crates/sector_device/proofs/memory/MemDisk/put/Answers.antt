@@ -1,7 +1,8 @@
-use Rattle.std.proofs.Common.{rules, ◌≡◌, ◌∙◌, ⊎_elim, ap, sym, arith, ◌+◌, ◌<◌, ◌≤◌, ◌++◌, [], ◌∷◌, length, vec_len, vec_capacity, slice_set, length-set}
+use Rattle.std.proofs.Common.{rules, ◌≡◌, refl, ◌∙◌, ⊎_elim, ap, sym, arith, ◌+◌, ◌<◌, ◌≤◌, ◌++◌, [], ◌∷◌, length, vec_len, vec_capacity, slice_set, length-set}
 use Rattle.sector_device.specs.declared.call.Call.TheVariants.{Write}
 use Rattle.sector_device.specs.Memory.{MemoryState}
 use Rattle.sector_device.proofs.Record.{represents_write, represents_push, disk_write, disk_push, state_push, synced_count, synced_count_at_most}
+use Rattle.sector_device.proofs.Record.{elapses_push}
 use Rattle.sector_device.proofs.Record.{synced_count-set}
 use Rattle.sector_device.proofs.memory.MemDisk.put.Goals as goal
 
@@ -33,17 +34,19 @@ invariant_of-self g c =
       room = room;
     }
 
-pub returns-clause-disk : goal.returns-clause-disk
-returns-clause-disk g c =
+pub returns : goal.returns
+returns g c =
     let d = c.args.self.now in
     let call = Write c.args.n c.args.bytes.now in
     let pushed : c.push.new.self.items ≡ d.calls.items ++ call ∷ [] = search rules in
+    let longer : vec_len c.push.new.self ≡ vec_len d.calls + 1 = search rules in
     let inside : c.args.n < length d.content.items = omega (arith, c.requires.inside, ap length d.represents.content_is) in
-    disk_push _ _ _ call pushed ∙ disk_write _ _ _ _ _ _ d.represents c.args.n c.args.bytes.now inside
-
-pub returns-clause-last_synced : goal.returns-clause-last_synced
-returns-clause-last_synced g c =
-    let d = c.args.self.now in
-    let call = Write c.args.n c.args.bytes.now in
-    let pushed : c.push.new.self.items ≡ d.calls.items ++ call ∷ [] = search rules in
-    ap (λ (s : MemoryState). s.synced) (state_push _ _ _ call pushed)
+    let size = length-set d.content.items c.args.n c.args.bytes.now in
+    record {
+      disk = disk_push _ _ _ call pushed ∙ disk_write _ _ _ _ _ _ d.represents c.args.n c.args.bytes.now inside;
+      time = elapses_push _ _ _ d.represents.whole _ call pushed;
+      last_synced = ap (λ (s : MemoryState). s.synced) (state_push _ _ _ call pushed);
+      failures = refl;
+      left = omega (arith, longer, c.push.ensures.capacity, size);
+      room = omega (arith, c.push.ensures.capacity, size);
+    }
