@@ -1,4 +1,4 @@
-use Rattle.std.proofs.Common.{rules, ◌≡◌, refl, ◌∙◌, ap, sym, subst, arith, ℕ, ◌+◌, ◌≤◌, ◌++◌, List, [], length, take, drop, replicate, slice_index, vec_len}
+use Rattle.std.proofs.Common.{◌≡◌, refl, ◌∙◌, ap, sym, subst, arith, ℕ, ◌+◌, ◌≤◌, ◌++◌, List, [], length, take, drop, replicate, slice_index, vec_len}
 use Rattle.std.proofs.Common.{vec_capacity}
 use Rattle.std.proofs.Common.{zero, suc, false, slice_index_or}
 use Rattle.std.proofs.Math.ListN.{length-replicate}
@@ -29,7 +29,7 @@ invariant_of-self g c =
       content = d.content.items;
       synced = d.before.items;
       unsynced = unsynced_since d.synced_at d.written_at.items;
-    }) image = search rules in
+    }) image = rw (c.deref_mut.ensures.value, c.deref.ensures.value, c.deref-2.ensures.value) at c.tear.ensures in
     let crashed : IsCrashed c.args.fates.now s image = crashed_state _ _ _ _ _ _ _ _ d.represents crashed_now in
     let crash : IsCrashState (disk_of s) image = crash_image _ s image d.represents.whole d.represents.synced_whole crashed in
     let whole : IsDiskWhole image = image_is_whole (disk_of s) image d.represents.whole crash in
@@ -69,7 +69,7 @@ returns g c =
       content = d.content.items;
       synced = d.before.items;
       unsynced = unsynced_since d.synced_at d.written_at.items;
-    }) image = search rules in
+    }) image = rw (c.deref_mut.ensures.value, c.deref.ensures.value, c.deref-2.ensures.value) at c.tear.ensures in
     let crashed : IsCrashed c.args.fates.now s image = crashed_state _ _ _ _ _ _ _ _ d.represents crashed_now in
     let size : length image ≡ length d.content.items = crashed_now.sectors in
     let back : take d.content.len (image ++ drop (length image) d.content.items) ≡ image =

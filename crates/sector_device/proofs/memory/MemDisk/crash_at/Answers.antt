@@ -1,4 +1,4 @@
-use Rattle.std.proofs.Common.{rules, ◌≡◌, refl, ◌∙◌, ap, sym, subst, arith, ℕ, ◌+◌, ◌≤◌, ◌++◌, List, [], length, take, drop, replicate, slice_index, vec_len}
+use Rattle.std.proofs.Common.{◌≡◌, refl, ◌∙◌, ap, sym, subst, arith, ℕ, ◌+◌, ◌≤◌, ◌++◌, List, [], length, take, drop, replicate, slice_index, vec_len}
 use Rattle.std.proofs.Common.{vec_capacity}
 use Rattle.std.proofs.Common.{zero, suc, false, slice_index_or}
 use Rattle.std.proofs.Math.ListN.{length-replicate}
@@ -22,8 +22,9 @@ pub invariant_of-self : goal.invariant_of-self
 invariant_of-self g c =
     let d = c.args.self.now in
     let image = c.crash_behind.new.content in
-    let size : length image ≡ length d.content.items = search rules in
-    let synced_size : length c.crash_behind.new.synced ≡ length d.before.items = search rules in
+    let size : length image ≡ length d.content.items = c.crash_behind.ensures.sectors ∙ ap length c.deref_mut.ensures.value in
+    let synced_size : length c.crash_behind.new.synced ≡ length d.before.items =
+    c.crash_behind.ensures.synced_sectors ∙ ap length c.deref_mut-2.ensures.value in
     let back : take d.content.len (image ++ drop (length image) d.content.items) ≡ image =
     written_back image d.content.items d.content.len size d.content.ok.0 in
     let synced_back : take d.before.len (c.crash_behind.new.synced ++ drop (length c.crash_behind.new.synced) d.before.items) ≡ c.crash_behind.new.synced =
@@ -56,14 +57,14 @@ pub returns : goal.returns
 returns g c =
     let d = c.args.self.now in
     let image = c.crash_behind.new.content in
-    let size : length image ≡ length d.content.items = search rules in
+    let size : length image ≡ length d.content.items = c.crash_behind.ensures.sectors ∙ ap length c.deref_mut.ensures.value in
     let back : take d.content.len (image ++ drop (length image) d.content.items) ≡ image =
     written_back image d.content.items d.content.len size d.content.ok.0 in
     let is = anew _ image _ (c.copy_from_slice.ensures.items ∙ c.deref-3.ensures.value ∙ back) c.clear.ensures.items in
     let content = ap (λ (s : MemoryState). s.content) is in
     let s = state_after (initial_state d.first.items) (take c.args.moment d.calls.items) in
-    let fates : IsCrashed c.args.fates.now s image = search rules in
-    let crash : IsCrashState (disk_of s) image = search rules in
+    let fates : IsCrashed c.args.fates.now s image = rw (c.deref.ensures.value, c.deref-2.ensures.value) at c.crash_behind.ensures.fates in
+    let crash : IsCrashState (disk_of s) image = rw (c.deref.ensures.value, c.deref-2.ensures.value) at c.crash_behind.ensures.crash in
     record {
       crash = subst (IsCrashState (disk_of s)) (sym content) crash;
       fates = subst (IsCrashed c.args.fates.now s) (sym content) fates;

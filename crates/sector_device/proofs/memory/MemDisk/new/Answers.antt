@@ -1,4 +1,4 @@
-use Rattle.std.proofs.Common.{rules, ◌≡◌, refl, ◌∙◌, ap, sym, subst, arith, ℕ, ◌+◌, ◌≤◌, List, length, replicate, slice_index, vec_len, vec_capacity}
+use Rattle.std.proofs.Common.{◌≡◌, refl, ◌∙◌, ap, sym, subst, arith, ℕ, ◌+◌, ◌≤◌, List, length, replicate, slice_index, vec_len, vec_capacity}
 use Rattle.std.proofs.Common.{zero, suc, false, slice_index_or}
 use Rattle.std.proofs.Math.ListN.{length-replicate}
 use Rattle.sector_device.specs.Disk.{IsDiskWhole}
@@ -23,7 +23,8 @@ invariant_of-result g c =
     let none : (k : ℕ) → slice_index c.in_ok-vec.field-0.items k ≡ 0 = λ k. ap (λ (l : List ℕ). slice_index l k) stamps ∙ all_zero c.args.sectors k in
     let size : length c.in_ok-zeros-2.field-0.items ≡ c.args.sectors = ap length content ∙ length-replicate c.args.sectors zero_sector in
     let stamps_size : length c.in_ok-vec.field-0.items ≡ c.args.sectors = ap length stamps ∙ length-replicate c.args.sectors 0 in
-    let wide : c.args.sectors ≤ vec_capacity c.in_ok-with_capacity.field-0 = search rules in
+    let wide : c.args.sectors ≤ vec_capacity c.in_ok-with_capacity.field-0 =
+    omega (arith, (rw c.in_ok-room.ensures.ok_part at c.checked_add.ensures).1, c.in_ok-with_capacity.ensures.exact) in
     let empty : vec_len c.in_ok-with_capacity.field-0 ≡ 0 = c.in_ok-with_capacity.ensures.len in
     let fewer = synced_count_at_most 0 c.in_ok-vec.field-0.items in
     let fits : length c.in_ok-zeros-2.field-0.items ≤ vec_capacity c.in_ok-with_capacity.field-0 = omega (arith, size, wide) in
@@ -45,7 +46,7 @@ returns g c =
     ap (state_after (initial_state c.in_ok-zeros.field-0.items)) c.in_ok-with_capacity.ensures.items ∙ ap initial_state c.in_ok-zeros.ensures in
     let content = ap (λ (s : MemoryState). s.content) begun in
     let size : length c.in_ok-zeros-2.field-0.items ≡ c.args.sectors = ap length c.in_ok-zeros-2.ensures ∙ length-replicate c.args.sectors zero_sector in
-    let sum : c.in_ok-room.room ≡ c.args.calls + c.args.sectors = search rules in
+    let sum : c.in_ok-room.room ≡ c.args.calls + c.args.sectors = (rw c.in_ok-room.ensures.ok_part at c.checked_add.ensures).1 in
     record {
       zeros = content;
       synced = λ k. ap (λ (s : MemoryState). slice_index_or s.unsynced k false) begun ∙ no_flag (length zeros) k;

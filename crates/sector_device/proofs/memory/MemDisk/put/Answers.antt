@@ -1,4 +1,4 @@
-use Rattle.std.proofs.Common.{rules, ◌≡◌, refl, ◌∙◌, ⊎_elim, ap, sym, arith, ◌+◌, ◌<◌, ◌≤◌, ◌++◌, [], ◌∷◌, length, vec_len, vec_capacity, slice_set, length-set}
+use Rattle.std.proofs.Common.{◌≡◌, refl, ◌∙◌, ⊎_elim, ap, sym, arith, ◌+◌, ◌<◌, ◌≤◌, ◌++◌, [], ◌∷◌, length, vec_len, vec_capacity, slice_set, length-set}
 use Rattle.sector_device.specs.declared.call.Call.TheVariants.{Write}
 use Rattle.sector_device.specs.Memory.{MemoryState}
 use Rattle.sector_device.proofs.Record.{represents_write, represents_push, disk_write, disk_push, state_push, synced_count, synced_count_at_most}
@@ -10,10 +10,10 @@ pub invariant_of-self : goal.invariant_of-self
 invariant_of-self g c =
     let d = c.args.self.now in
     let call = Write c.args.n c.args.bytes.now in
-    let pushed : c.push.new.self.items ≡ d.calls.items ++ call ∷ [] = search rules in
+    let pushed : c.push.new.self.items ≡ d.calls.items ++ call ∷ [] = rw c.unwrap.ensures at c.push.ensures.items in
     let inside : c.args.n < length d.content.items = omega (arith, c.requires.inside, ap length d.represents.content_is) in
     let there : c.args.n < length d.written_at.items = omega (arith, inside, d.represents.written_size) in
-    let longer : vec_len c.push.new.self ≡ vec_len d.calls + 1 = search rules in
+    let longer : vec_len c.push.new.self ≡ vec_len d.calls + 1 = rw c.unwrap.ensures at c.push.ensures.len in
     let now : c.len.result ≡ length d.calls.items + 1 = omega (arith, c.len.ensures, longer, d.calls.ok.0) in
     let roomy : vec_capacity d.calls ≤ vec_capacity c.push.new.self = c.push.ensures.capacity in
     let after : d.synced_at < c.len.result = omega (arith, now, d.represents.last_sync) in
@@ -38,8 +38,8 @@ pub returns : goal.returns
 returns g c =
     let d = c.args.self.now in
     let call = Write c.args.n c.args.bytes.now in
-    let pushed : c.push.new.self.items ≡ d.calls.items ++ call ∷ [] = search rules in
-    let longer : vec_len c.push.new.self ≡ vec_len d.calls + 1 = search rules in
+    let pushed : c.push.new.self.items ≡ d.calls.items ++ call ∷ [] = rw c.unwrap.ensures at c.push.ensures.items in
+    let longer : vec_len c.push.new.self ≡ vec_len d.calls + 1 = rw c.unwrap.ensures at c.push.ensures.len in
     let inside : c.args.n < length d.content.items = omega (arith, c.requires.inside, ap length d.represents.content_is) in
     let size = length-set d.content.items c.args.n c.args.bytes.now in
     record {

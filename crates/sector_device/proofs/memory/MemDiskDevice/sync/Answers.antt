@@ -1,4 +1,4 @@
-use Rattle.std.proofs.Common.{rules, ◌≡◌, refl, ◌∙◌, List, ap, arith, ◌+◌, ◌≤◌, ◌++◌, [], ◌∷◌, length, vec_len, vec_capacity}
+use Rattle.std.proofs.Common.{◌≡◌, refl, ◌∙◌, List, ap, arith, ◌+◌, ◌≤◌, ◌++◌, [], ◌∷◌, length, vec_len, vec_capacity}
 use Rattle.std.proofs.lemmas.Result.{err_from_is_err_and}
 use Rattle.sector_device.specs.declared.call.Call.{Call}
 use Rattle.sector_device.specs.declared.call.Call.TheVariants.{Sync}
@@ -10,10 +10,10 @@ use Rattle.sector_device.proofs.memory.MemDiskDevice.sync.Goals as goal
 pub invariant_of-self-2 : goal.invariant_of-self-2
 invariant_of-self-2 g c =
     let d = c.args.self.now in
-    let pushed : c.push.new.self.items ≡ d.calls.items ++ Sync ∷ [] = search rules in
-    let longer : vec_len c.push.new.self ≡ vec_len d.calls + 1 = search rules in
+    let pushed : c.push.new.self.items ≡ d.calls.items ++ Sync ∷ [] = rw (c.unwrap.ensures, c.make_room.ensures.items) at c.push.ensures.items in
+    let longer : vec_len c.push.new.self ≡ vec_len d.calls + 1 = rw (c.unwrap.ensures, c.make_room.ensures.len) at c.push.ensures.len in
     let now : c.len-calls.result ≡ length d.calls.items + 1 = omega (arith, c.len-calls.ensures, longer, d.calls.ok.0) in
-    let made : vec_len c.make_room.new.calls + c.len-sectors.result + 1 ≤ vec_capacity c.make_room.new.calls = search rules in
+    let made : vec_len c.make_room.new.calls + c.len-sectors.result + 1 ≤ vec_capacity c.make_room.new.calls = c.in_ok-make_room.ensures.ok in
     let same_len : vec_len c.make_room.new.calls ≡ vec_len d.calls = c.make_room.ensures.len in
     let roomy : vec_capacity c.make_room.new.calls ≤ vec_capacity c.push.new.self = c.push.ensures.capacity in
     let grown : vec_capacity d.calls ≤ vec_capacity c.make_room.new.calls = c.make_room.ensures.capacity in
@@ -34,8 +34,8 @@ invariant_of-self-2 g c =
 pub returns : goal.returns
 returns g c =
     let d = c.args.self.now in
-    let pushed : c.push.new.self.items ≡ d.calls.items ++ Sync ∷ [] = search rules in
-    let longer : vec_len c.push.new.self ≡ vec_len d.calls + 1 = search rules in
+    let pushed : c.push.new.self.items ≡ d.calls.items ++ Sync ∷ [] = rw (c.unwrap.ensures, c.make_room.ensures.items) at c.push.ensures.items in
+    let longer : vec_len c.push.new.self ≡ vec_len d.calls + 1 = rw (c.unwrap.ensures, c.make_room.ensures.len) at c.push.ensures.len in
     let wide = c.make_room.ensures.capacity in
     record {
       ok = disk_push _ _ _ Sync pushed ∙ disk_sync _ _ _ _ _ _ d.represents;
