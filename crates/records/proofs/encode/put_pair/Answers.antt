@@ -1,4 +1,4 @@
-use Rattle.std.proofs.Common.{◌≡◌, ℕ, List, length, take, sym, ap, ◌∙◌, arith, append_assoc, rules}
+use Rattle.std.proofs.Common.{◌≡◌, ℕ, List, length, take, sym, ap, ◌∙◌, arith, append_assoc}
 use Rattle.std.proofs.lemmas.List.{take-take, length-take}
 use Rattle.std.proofs.lemmas.Result.{err_from_is_err_and, IfOk-equal}
 use Rattle.records.proofs.encode.put_pair.Goals as goal
@@ -10,7 +10,7 @@ pub returns : goal.returns
 returns g c =
     let done = c.put_rid.ensures in
     record {
-      ok = IfOk-equal c.put_rid.result _ _ _ done.ok (search (rules, append_assoc));
+      ok = IfOk-equal c.put_rid.result _ _ _ done.ok (simp (c.in_ok-put_short.ensures.ok, c.as_slice.ensures.value, append_assoc));
       kept = kept_more _ _ _ c.put_short.ensures.kept done.kept;
     }
 

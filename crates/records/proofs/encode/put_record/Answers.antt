@@ -1,4 +1,4 @@
-use Rattle.std.proofs.Common.{◌≡◌, ℕ, List, length, take, sym, ap, ◌∙◌, arith, append_assoc, rules}
+use Rattle.std.proofs.Common.{◌≡◌, ℕ, List, length, take, sym, ap, ◌∙◌, arith, append_assoc}
 use Rattle.std.proofs.lemmas.List.{take-take, length-take}
 use Rattle.std.proofs.lemmas.Result.{err_from_is_err_and, IfOk-equal}
 use Rattle.records.proofs.encode.put_record.Goals as goal
@@ -10,7 +10,8 @@ pub returns : goal.returns
 returns g c =
     let done = c.put_fields.ensures in
     record {
-      ok = IfOk-equal c.put_fields.result _ _ _ done.ok (search (rules, append_assoc));
+      ok = rw (← c.logged.view_is) (IfOk-equal c.put_fields.result _ _ _ done.ok
+          (simp (c.in_ok-put_u64-2.ensures.ok, c.in_ok-put_u64.ensures.ok, c.get.ensures.value, c.txn_number.ensures, append_assoc)));
       kept = kept_more _ _ _ (kept_more _ _ _ c.put_u64.ensures.kept c.put_u64-2.ensures.kept) done.kept;
     }
 
