@@ -1,4 +1,5 @@
-use Rattle.std.proofs.Common.{◌≡◌, ◌⊎◌, ℕ, ◌+◌, ◌≤◌, List, length, refl, sym, ◌∙◌, ap, subst, arith}
+use Rattle.std.proofs.Common.{◌≡◌, ◌⊎◌, inl, inr, Err, ℕ, ◌+◌, ◌≤◌, List, length, refl, sym, ◌∙◌, ap, subst, arith}
+use Rattle.std.proofs.lemmas.Result.{err_from_is_err_and}
 use Rattle.sector_device.specs.Disk.{CrashState, Disk, sector}
 use Rattle.sector_device.specs.DevicePast.{Rises}
 use Rattle.sector_device.proofs.Within.{reads_none, reads_then}
@@ -70,5 +71,45 @@ loop-n-preserved g c =
       quiet = done.counts.none ∙ so_far.quiet;
     }
 
-pub returns-clause-unread : goal.returns-clause-unread
-returns-clause-unread g c = unread_all _ _ _ _ _ _ _ (omega (arith, c.loop-n.auto.n-end)) c.loop-n.invariant.unread
+pub returns : goal.returns
+returns g c =
+    let so_far = c.loop-n.invariant in
+    record {
+      copied = λ n below. so_far.copied n (omega arith);
+      unread = unread_all _ _ _ _ _ _ _ (omega (arith, c.loop-n.auto.n-end)) so_far.unread;
+      rest = so_far.rest;
+      kept = so_far.reads;
+      refused = tt;
+      quiet = so_far.quiet;
+    }
+
+pub returns-in_err-push : goal.returns-in_err-push
+returns-in_err-push g c =
+    let w = g.N.Device.past_of in
+    let p = err_from_is_err_and c.from_residual.result c.from_residual.ensures.1 in
+    let so_far = c.loop-n.invariant in
+    let done = c.copy_sector.ensures in
+    rw (p.1 ∙ ap Err p.2) (record {
+      copied = tt;
+      unread = tt;
+      rest = rest_more c.loop-n.n c.args.sectors (w c.args.to.now).disk.content (w c.loop-n.to).disk.content (w c.copy_sector.new.to).disk.content
+          c.loop-n-test.true so_far.rest done.others;
+      kept = reads_then _ _ _ so_far.reads done.kept;
+      refused = inl refl;
+      quiet = tt;
+    })
+
+pub returns-in_default : goal.returns-in_default
+returns-in_default g c =
+    let w = g.N.Device.past_of in
+    let so_far = c.loop-n.invariant in
+    let done = c.in_default.ensures in
+    record {
+      copied = tt;
+      unread = tt;
+      rest = rest_more c.loop-n.n c.args.sectors (w c.args.to.now).disk.content (w c.loop-n.to).disk.content (w c.copy_sector.new.to).disk.content
+          c.loop-n-test.true so_far.rest done.others;
+      kept = reads_then _ _ _ so_far.reads done.kept;
+      refused = inr (refl, subst (λ (n : ℕ). Rises n (g.N.Device.failures c.copy_sector.new.to)) so_far.quiet done.counts.failed);
+      quiet = tt;
+    }
