@@ -1,5 +1,5 @@
 use Rattle.std.proofs.Common.{◌≡◌, ◌⊎◌, inl, inr, ⊎_elim, ℕ, List, None, Some, refl, sym, ◌∙◌, ap, subst, arith}
-use Rattle.std.proofs.lemmas.Result.{IfErr-weaker}
+use Rattle.std.proofs.lemmas.Result.{IfErr-weaker, IfOk-weaker}
 use Rattle.sector_device.specs.DevicePast.{Rises}
 use Rattle.block_device.specs.Blocks.{CrashFile, BlockFile}
 use Rattle.block_device.specs.BlocksPast.{BlocksPast, WrittenBack}
@@ -580,3 +580,45 @@ returns-in-Ok-open-clause-written_back_refused g c =
     first both.1.stays.later both.1.stays.kept same)
     left)))
     c.compared.ensures.refused c.compared.ensures.back_refused
+
+-- ---- what the calls need, and what is plain
+
+pub has_room-requires : goal.has_room-requires
+has_room-requires g c = c.in-Ok.ensures.plan
+
+pub open-requires : goal.open-requires
+open-requires g c = record {
+  inside = c.has_room.ensures.room c.if-not-has_room.false;
+  kept = c.in-Ok.ensures.plan.kept;
+  synced = λ n other. ap (λ (f : BlockFile). f.loose n) c.in-Ok.ensures.reads.file ∙ c.requires n;
+}
+
+pub compared-requires : goal.compared-requires
+compared-requires g c =
+    let opened = c.in-Ok-open.ensures in
+    record { plan = c.in-Ok.ensures.plan; shape = opened.shape; blocks = opened.blocks; none = opened.none; good = opened.sound }
+
+pub returns-then-not-has_room-clause-damaged : goal.returns-then-not-has_room-clause-damaged
+returns-then-not-has_room-clause-damaged g c = λ n is. cc
+
+pub returns-then-not-has_room-clause-no_header : goal.returns-then-not-has_room-clause-no_header
+returns-then-not-has_room-clause-no_header g c = λ is. cc
+
+pub returns-then-not-has_room-clause-failed : goal.returns-then-not-has_room-clause-failed
+returns-then-not-has_room-clause-failed g c = λ is. cc
+
+pub returns-then-not-has_room-clause-no_batch : goal.returns-then-not-has_room-clause-no_batch
+returns-then-not-has_room-clause-no_batch g c = λ is. cc
+
+pub returns-in-Ok-open-clause-told : goal.returns-in-Ok-open-clause-told
+returns-in-Ok-open-clause-told g c =
+    IfOk-weaker c.compared.result _ _ (λ d is. c.in-Ok.ensures.told ∙ ap Some (sym is)) c.compared.ensures.plan
+
+pub returns-in-Ok-open-clause-synced : goal.returns-in-Ok-open-clause-synced
+returns-in-Ok-open-clause-synced g c = c.compared.ensures.synced
+
+pub returns-in-Ok-open-clause-no_header : goal.returns-in-Ok-open-clause-no_header
+returns-in-Ok-open-clause-no_header g c = IfErr-weaker c.compared.result _ _ (λ e other is. absurd (other is)) c.compared.ensures.header
+
+pub returns-in-Err-open-clause-no_header : goal.returns-in-Err-open-clause-no_header
+returns-in-Err-open-clause-no_header g c = λ is. absurd (c.error_of.ensures.header is)
