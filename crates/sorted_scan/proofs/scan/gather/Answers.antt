@@ -1,11 +1,35 @@
-use Rattle.std.proofs.Common.{◌≡◌, ◌⊎◌, length, inl, inr, true, false, sym, ◌∙◌, arith, ap, length-append}
+use Rattle.std.proofs.Common.{◌≡◌, ◌+◌, ◌⊎◌, Bool, List, ◌++◌, length, inl, inr, true, false, refl, sym, ◌∙◌, arith, ap, length-append}
+use Rattle.std.specs.List.{count_by}
+use Rattle.std.proofs.lemmas.Result.{err_from_is_err_and}
+use Rattle.record_values.specs.declared.pair.Pair.{Pair}
 use Rattle.sorted_scan.specs.FullRuns.{full_run}
+use Rattle.sorted_scan.proofs.Counts.{count_append}
 use Rattle.sorted_scan.proofs.Cutting.{still_full, one_short, long_run}
 use Rattle.sorted_scan.proofs.scan.gather.Goals.{else-not-is_last-via-then-not-is_last+else-len-room, else-not-is_last-via-else-not-is_last}
 use Rattle.sorted_scan.proofs.scan.gather.Goals as goal
 
-pub returns-then-is_last-clause-one_short : goal.returns-then-is_last-clause-one_short
-returns-then-is_last-clause-one_short g c =
+-- what goes to the merge, and what is left of the pairs behind
+moved : (test : Pair → Bool) (pairs cut behind gathered run others left merged new : List Pair) → pairs ≡ cut ++ behind → run ≡ gathered ++ cut
+    → count_by test ((run ++ others) ++ merged) ≡ count_by test new → count_by test behind ≡ count_by test others + count_by test left
+    → count_by test (pairs ++ (gathered ++ merged)) ≡ count_by test (left ++ new)
+moved test pairs cut behind gathered run others left merged new e d same which =
+    omega (
+      arith,
+      ap (count_by test) e,
+      ap (count_by test) d,
+      same,
+      which,
+      count_append test cut behind,
+      count_append test gathered cut,
+      count_append test pairs (gathered ++ merged),
+      count_append test gathered merged,
+      count_append test (run ++ others) merged,
+      count_append test run others,
+      count_append test left new,
+    )
+
+pub returns-then-is_last : goal.returns-then-is_last
+returns-then-is_last g c =
     let long = long_run c.in_ok-run.run'.items c.deref-2.result.now c.deref-3.result.now c.in_ok-run.ensures in
     let all = ap length c.in_ok-behind.ensures.all in
     let parts = length-append c.cut.new.pairs.items c.in_ok-behind.behind.items in
@@ -13,25 +37,67 @@ returns-then-is_last-clause-one_short g c =
       | inl none ↦ inl none
       | inr room ↦ inr (omega (arith, long, room))
     ] in
-    one_short _ _ _ _ c.requires.full c.in_ok-add.ensures.added c.in_ok-add.ensures.runs (omega (arith, long, c.in_ok-behind.ensures.few)) which
-    (omega (arith, all, parts))
+    record {
+      added = λ test.
+          let none : count_by test c.new.result.items ≡ 0 = ap (count_by test) c.new.ensures.items in
+          moved test c.args.pairs.items c.cut.new.pairs.items c.in_ok-behind.behind.items c.args.gathered.now.items c.in_ok-run.run'.items
+          c.in_ok-behind.behind.items c.new.result.items c.args.merge.now.pairs c.add.new.self.pairs c.in_ok-behind.ensures.all
+          (c.in_ok-run.ensures ∙ (λ i. c.deref-2.ensures.value i ++ c.deref-3.ensures.value i)) (c.in_ok-add.ensures.added test)
+          (omega (arith, none));
+      open_run = let none : length c.new.result.items ≡ 0 = ap length c.new.ensures.items in omega (arith, none);
+      full = λ before. absurd (let e : true ≡ false = sym c.if-is_last.true ∙ before in cc);
+      one_short = one_short _ _ _ _ c.requires.full c.in_ok-add.ensures.added c.in_ok-add.ensures.runs (omega (arith, long, c.in_ok-behind.ensures.few)) which
+          (omega (arith, all, parts));
+      merged_all = λ _. c.new.ensures.items;
+      same_gathered = tt;
+      same_merge = tt;
+    }
 
-pub returns-clause-full : goal.returns-clause-full
-returns-clause-full g c = λ before.
+pub returns : goal.returns
+returns g c =
     let long = long_run c.in_ok-run.run'.items c.deref-2.result.now c.deref-3.result.now c.in_ok-run.ensures in
     let all = ap length c.in_ok-behind.ensures.all in
     let parts = length-append c.cut.new.pairs.items c.in_ok-behind.behind.items in
-    let whole : length c.in_ok-run.run'.items ≡ full_run = elim c.else-not-is_last.branch [
-      | else-not-is_last-via-then-not-is_last+else-len-room w ↦ elim c.in_ok-behind.ensures.full [
-        | inl none ↦ let few = c.in_ok-behind.ensures.few in omega (arith, long, all, parts, none, few, c.args.pairs.ok.0)
-        | inr room ↦ omega (arith, long, room)
-      ]
-      | else-not-is_last-via-else-not-is_last w ↦ absurd (let e : true ≡ false = sym w.if-not-is_last.false ∙ before in cc)
-    ] in
-    still_full _ _ _ _ c.requires.full c.in_ok-add-2.ensures.added c.in_ok-add-2.ensures.runs whole (omega (arith, c.new-2.ensures))
+    record {
+      added = λ test.
+          let none : count_by test c.new-2.result.items ≡ 0 = ap (count_by test) c.new-2.ensures.items in
+          moved test c.args.pairs.items c.cut.new.pairs.items c.in_ok-behind.behind.items c.args.gathered.now.items c.in_ok-run.run'.items
+          c.new-2.result.items c.in_ok-behind.behind.items c.args.merge.now.pairs c.add-2.new.self.pairs c.in_ok-behind.ensures.all
+          (c.in_ok-run.ensures ∙ (λ i. c.deref-2.ensures.value i ++ c.deref-3.ensures.value i)) (c.in_ok-add-2.ensures.added test)
+          (omega (arith, none));
+      open_run = omega (arith, c.requires.few, all, parts);
+      full = λ before.
+          let whole : length c.in_ok-run.run'.items ≡ full_run = elim c.else-not-is_last.branch [
+            | else-not-is_last-via-then-not-is_last+else-len-room w ↦ elim c.in_ok-behind.ensures.full [
+              | inl none ↦ let few = c.in_ok-behind.ensures.few in omega (arith, long, all, parts, none, few, c.args.pairs.ok.0)
+              | inr room ↦ omega (arith, long, room)
+            ]
+            | else-not-is_last-via-else-not-is_last w ↦ absurd (let e : true ≡ false = sym w.if-not-is_last.false ∙ before in cc)
+          ] in
+          still_full _ _ _ _ c.requires.full c.in_ok-add-2.ensures.added c.in_ok-add-2.ensures.runs whole (omega (arith, c.new-2.ensures));
+      one_short = one_short _ _ _ _ c.requires.full c.in_ok-add-2.ensures.added c.in_ok-add-2.ensures.runs (omega (arith, long, c.in_ok-behind.ensures.few))
+          (inl (omega (arith, c.new-2.ensures))) (omega (arith, c.new-2.ensures));
+      merged_all = λ is. absurd (let e : false ≡ true = sym c.if-is_last.false ∙ is in cc);
+      same_gathered = tt;
+      same_merge = tt;
+    }
 
-pub returns-clause-one_short : goal.returns-clause-one_short
-returns-clause-one_short g c =
-    let long = long_run c.in_ok-run.run'.items c.deref-2.result.now c.deref-3.result.now c.in_ok-run.ensures in
-    one_short _ _ _ _ c.requires.full c.in_ok-add-2.ensures.added c.in_ok-add-2.ensures.runs (omega (arith, long, c.in_ok-behind.ensures.few))
-    (inl (omega (arith, c.new-2.ensures))) (omega (arith, c.new-2.ensures))
+pub returns-in_err-behind : goal.returns-in_err-behind
+returns-in_err-behind g c =
+    rw (err_from_is_err_and c.from_residual.result c.from_residual.ensures.1).1
+    (record { added = tt; open_run = tt; full = tt; one_short = tt; merged_all = tt; same_gathered = refl; same_merge = refl })
+
+pub returns-in_err-run : goal.returns-in_err-run
+returns-in_err-run g c =
+    rw (err_from_is_err_and c.from_residual-in_err-run.result c.from_residual-in_err-run.ensures.1).1
+    (record { added = tt; open_run = tt; full = tt; one_short = tt; merged_all = tt; same_gathered = refl; same_merge = refl })
+
+pub returns-in_err-add : goal.returns-in_err-add
+returns-in_err-add g c =
+    rw (err_from_is_err_and c.from_residual-in_err-add.result c.from_residual-in_err-add.ensures.1).1
+    (record { added = tt; open_run = tt; full = tt; one_short = tt; merged_all = tt; same_gathered = refl; same_merge = c.in_err-add.ensures.unchanged })
+
+pub returns-in_err-add-2 : goal.returns-in_err-add-2
+returns-in_err-add-2 g c =
+    rw (err_from_is_err_and c.from_residual-in_err-add-2.result c.from_residual-in_err-add-2.ensures.1).1
+    (record { added = tt; open_run = tt; full = tt; one_short = tt; merged_all = tt; same_gathered = refl; same_merge = c.in_err-add-2.ensures.unchanged })
