@@ -1,13 +1,21 @@
-use Rattle.std.proofs.Common.{◌≡◌, None, is_some, take, sym, ap, ◌∙◌}
+use Rattle.std.proofs.Common.{◌≡◌, Err, Some, None, is_some, take, refl, sym, ap, ◌∙◌}
+use Rattle.std.proofs.lemmas.Result.{err_from_is_err_and}
+use Rattle.record_values.specs.declared.error.Error.{Error}
 use Rattle.records.specs.ChangeValue.{ChangeValue}
 use Rattle.txn_table.specs.Table.{TableValue, with_rid, change_noted, touch_refusal}
 use Rattle.txn_table.proofs.Noted.{held_is_own, unknown_refused, kept_after_note, kept_as_before, after_write, after_same, take_with_rid}
 use Rattle.std.proofs.Common.{subst}
 use Rattle.txn_table.specs.Table.{state_of, holder_of}
-use Rattle.txn_table.specs.Sound.{OneHolder}
+use Rattle.txn_table.specs.Sound.{OneHolder, IsSoundTable}
 use Rattle.txn_table.proofs.TableLaws.{holder_of-noted, holder_of-noted_other}
 use Rattle.txn_table.proofs.Lookups.{found_at, written_at}
 use Rattle.txn_table.proofs.table.TxnTable.note.Goals as goal
+
+same_error : (f e : Error) → Some f ≡ Some e → f ≡ e
+same_error f e is = cc
+
+no_error : (e : Error) → Some e ≡ None → ⊥
+no_error e is = cc
 
 pub invariant_of-self-in-Err : goal.invariant_of-self-in-Err
 invariant_of-self-in-Err g c =
@@ -78,3 +86,54 @@ unreachable-requires g c =
     (ap (λ (v : TableValue). touch_refusal c.args.txn c.args.change.rid v.active) c.self.view_is
     ∙ ap (λ r. touch_refusal c.args.txn r c.args.self.now.active) (sym (ap (λ (x : ChangeValue). x.rid) c.change.view_is))
     ∙ sym c.in_ok-is_held.ensures.refusal)
+
+pub returns-in_err-is_held : goal.returns-in_err-is_held
+returns-in_err-is_held g c =
+    let p = err_from_is_err_and c.from_residual.result c.from_residual.ensures.1 in
+    let row = ap (λ (x : ChangeValue). x.rid) c.change.view_is in
+    let told = c.in_err-is_held.ensures.refusal ∙ ap (λ r. touch_refusal c.args.txn r c.args.self.now.active) row in
+    rw (p.1, p.2) (record {
+      refused = λ e is. ap Err (same_error _ e (told ∙ is));
+      accepted = λ is. absurd (no_error _ (told ∙ is));
+      ok = tt;
+      err = refl;
+      held = tt;
+      sound = subst IsSoundTable c.self.view_is c.self.invariant.sound;
+      others = tt;
+    })
+
+pub returns-in_err-hold : goal.returns-in_err-hold
+returns-in_err-hold g c =
+    let p = err_from_is_err_and c.from_residual-in_err-hold.result c.from_residual-in_err-hold.ensures.1 in
+    let none = ap (λ r. touch_refusal c.args.txn r c.args.self.now.active) (sym (ap (λ (x : ChangeValue). x.rid) c.change.view_is))
+    ∙ sym c.in_ok-is_held.ensures.refusal in
+    rw (p.1, p.2) (record {
+      refused = λ e is. absurd (no_error e (sym is ∙ none));
+      accepted = λ _. c.in_err-hold.ensures.no_memory;
+      ok = tt;
+      err = c.self.view_is;
+      held = tt;
+      sound = subst IsSoundTable c.self.view_is c.self.invariant.sound;
+      others = tt;
+    })
+
+pub returns-in-Err-clause-refused : goal.returns-in-Err-clause-refused
+returns-in-Err-clause-refused g c = λ e is.
+    let none = ap (λ r. touch_refusal c.args.txn r c.args.self.now.active) (sym (ap (λ (x : ChangeValue). x.rid) c.change.view_is))
+    ∙ sym c.in_ok-is_held.ensures.refusal in
+    absurd (no_error e (sym is ∙ none))
+
+pub returns-in-Err-clause-accepted : goal.returns-in-Err-clause-accepted
+returns-in-Err-clause-accepted g c = λ _. c.in-Err.ensures.no_memory
+
+pub returns-in-Err-clause-sound : goal.returns-in-Err-clause-sound
+returns-in-Err-clause-sound g c = subst IsSoundTable c.self.view_is c.self.invariant.sound
+
+pub returns-clause-refused : goal.returns-clause-refused
+returns-clause-refused g c = λ e is.
+    let none = ap (λ r. touch_refusal c.args.txn r c.args.self.now.active) (sym (ap (λ (x : ChangeValue). x.rid) c.change.view_is))
+    ∙ sym c.in_ok-is_held.ensures.refusal in
+    absurd (no_error e (sym is ∙ none))
+
+pub returns-clause-sound : goal.returns-clause-sound
+returns-clause-sound g c = subst IsSoundTable c.self.view_is c.self.invariant.sound
