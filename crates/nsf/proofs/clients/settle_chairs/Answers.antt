@@ -1,4 +1,5 @@
-use Rattle.std.proofs.Common.{◌≡◌, ◌∙◌, ◌≤◌, Some, arith, length-set, subst, sym}
+use Rattle.std.proofs.Common.{◌≡◌, ◌∙◌, ◌≤◌, Some, arith, length-set, refl, subst, sym}
+use Rattle.std.proofs.lemmas.Option.{slice_get_within}
 use Rattle.std.specs.Prelude.{slice_get}
 use Rattle.threads_flusher.specs.Part.{IsSafeSince}
 use Rattle.nsf.specs.Serving.{unnamed}
@@ -28,5 +29,28 @@ loop-k-preserved g c =
           (subst (λ f. IsSafeSince g.D.Device.marks f.publications chair.seat.sight.safe chair.seat.sight.mark) was.same c.settle_chair.ensures.marked);
     }
 
-pub returns-clause-all : goal.returns-clause-all
-returns-clause-all g c = λ count. all_numbered (λ d. d.seat) count c.args.chairs.now.items c.loop-k.chairs.items c.loop-k.invariant.numbers
+pub loop-k-init : goal.loop-k-init
+loop-k-init g c = record {
+  same = refl;
+  counted = refl;
+  clients = refl;
+  numbers = refl;
+  seats = refl;
+  rest = λ j le. refl;
+  seen = λ j d lt at. absurd (omega (arith, lt));
+  marked = λ j d lt at. absurd (omega (arith, lt));
+}
+
+pub returns : goal.returns
+returns g c =
+    let was = c.loop-k.invariant in
+    let first = c.args.chairs.now in
+    record {
+      same = was.same;
+      len = c.loop-k.chairs.ok.0 ∙ (was.counted ∙ sym first.ok.0);
+      clients = was.clients;
+      seats = was.seats;
+      all = λ count. all_numbered (λ d. d.seat) count first.items c.loop-k.chairs.items was.numbers;
+      seen = λ k d at. let within = slice_get_within first.items k d at in was.seen k d (omega arith) at;
+      marked = λ k d at. let within = slice_get_within first.items k d at in was.marked k d (omega arith) at;
+    }
