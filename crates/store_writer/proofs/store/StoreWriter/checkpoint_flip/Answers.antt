@@ -243,3 +243,11 @@ pub invariant_of-self-2 : goal.invariant_of-self-2
 invariant_of-self-2 g c =
     let (run, handed, is) = c.self.invariant in
     (run, handed, (returns g c).writer run handed (rw c.self.view_is at is))
+
+pub overflow_add-handed : goal.overflow_add-handed
+overflow_add-handed g c =
+    let (run, handed, is) = c.self.invariant in
+    omega (arith, c.len.ensures, waits_all g.D.Device.past_of run handed c.self.inside.writer is, is.small)
+
+pub overflow_sub-reached : goal.overflow_sub-reached
+overflow_sub-reached g c = omega (arith, c.max-reached.ensures)

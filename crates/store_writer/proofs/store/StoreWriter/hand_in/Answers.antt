@@ -226,3 +226,19 @@ invariant_of-self-2 g c =
       handed_writer g.D.Device.past_of run handed old is new c.args.records.items refl refl refl (λ sound.
           holds sound run handed is next) c.in-Ok.ensures.items next,
     )
+
+pub slice_bounds-note-count : goal.slice_bounds-note-count
+slice_bounds-note-count g c =
+    let old = c.self.inside.writer in
+    omega (
+      arith,
+      c.len-before.ensures,
+      ap length (c.as_slice.ensures ∙ c.in-Ok.ensures.items),
+      length-append old.waiting c.args.records.items,
+    )
+
+pub slice_bounds-note-start : goal.slice_bounds-note-start
+slice_bounds-note-start g c = omega (arith, slice_bounds-note-count g c)
+
+pub offset_bounds-as_slice-before : goal.offset_bounds-as_slice-before
+offset_bounds-as_slice-before g c = omega (arith, slice_bounds-note-count g c, c.as_slice.type_inv.1)
