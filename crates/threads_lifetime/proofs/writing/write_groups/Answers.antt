@@ -1,6 +1,10 @@
-use Rattle.std.proofs.Common.{◌∙◌, Err, ap, refl}
+use Rattle.std.proofs.Common.{◌+◌, ◌∙◌, Err, List, Ok, ap, arith, length, refl, subst, sym}
 use Rattle.std.proofs.lemmas.Result.{err_from_is_err_and}
 use Rattle.flip_image.specs.Layout.{HalvesValue}
+use Rattle.records.specs.RecordValue.{RecordValue}
+use Rattle.store_writer.specs.Writer.{IsFlushReply}
+use Rattle.store_writer.specs.declared.writer.FlushReply.{FlushReply}
+use Rattle.store_writer.specs.declared.writer.Writer.{Writer}
 use Rattle.threads_flusher.proofs.Going.{counted_by_flush, quiet_by_flush}
 use Rattle.threads_flusher.proofs.Keeping.{flush_rises, flush_sound}
 use Rattle.threads_lifetime.specs.Written.{WritesOn}
@@ -107,3 +111,17 @@ returns-in-LogFull g c =
       sound = written.sound;
       err = written.err;
     }
+
+pub loop-flush-smaller : goal.loop-flush-smaller
+loop-flush-smaller g c =
+    let is = c.in_ok-flush.ensures in
+    let flushed = subst (λ (r : FlushReply). IsFlushReply r c.loop-flush.flush.writer c.flush.new.self.writer) c.in-Flushed.is is.flushed in
+    omega (arith, flushed.0, flushed.1, ap length is.publishes.handed, c.stands-in-Flushed.ensures.writer.reached)
+
+pub returns-in-Nothing-clause-synced : goal.returns-in-Nothing-clause-synced
+returns-in-Nothing-clause-synced g c =
+    let is = c.in_ok-flush.ensures in
+    let flushed = subst (λ (r : FlushReply). IsFlushReply r c.loop-flush.flush.writer c.flush.new.self.writer) c.in-Nothing.is is.flushed in
+    ap (λ (w : Writer _ _). w.synced) flushed.0
+    ∙ (is.nothing (ap Ok c.in-Nothing.is)
+    ∙ ap (λ (l : List RecordValue). g.B.Group.site.opened.given.last + length l) (sym is.publishes.handed))
