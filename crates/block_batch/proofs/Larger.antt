@@ -8,7 +8,7 @@ use Rattle.std.proofs.lemmas.List.{ext_get_or}
 use Rattle.std.proofs.lemmas.List.FromFn.{length-map-range_with_len, get_or-map-range_with_len}
 use Rattle.block_device.specs.Blocks.{CrashFile, block}
 use Rattle.block_digest.specs.Digest.{digest}
-use Rattle.block_words.specs.Words.{word}
+use Rattle.block_device.specs.Words.{word}
 use Rattle.block_batch.specs.declared.head.TheConstants.{TEXT, PLACES_MAX}
 use Rattle.block_batch.specs.Batch.{Entry, count_in, place_in, block_digest, head_digest, do_fit, is_batch, batch_in}
 

@@ -8,8 +8,8 @@ use Rattle.std.specs.List.{flat_map}
 use Rattle.byteorder.specs.Endian.{big_bytes}
 use Rattle.block_device.specs.Blocks.{CrashFile, block}
 use Rattle.block_digest.specs.Digest.{digest}
-use Rattle.block_words.specs.Words.{word}
-use Rattle.block_words.proofs.Spelled.{take_spelled}
+use Rattle.block_device.specs.Words.{word}
+use Rattle.block_device.proofs.Spelled.{take_spelled}
 use Rattle.block_batch.specs.declared.head.TheConstants.{TEXT, PLACES_MAX}
 use Rattle.block_batch.specs.Batch.{count_in, place_in, digest_in, block_digest, head_digest, do_fit, is_batch}
 

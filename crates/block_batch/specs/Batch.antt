@@ -4,7 +4,7 @@ use Rattle.std.specs.Prelude.{length, take, map, slice_set}
 use Rattle.std.specs.List.{range_with_len}
 use Rattle.block_digest.specs.Digest.{digest, digest_from}
 use Rattle.block_device.specs.Blocks.{CrashFile, block}
-use Rattle.block_words.specs.Words.{word}
+use Rattle.block_device.specs.Words.{word}
 use Rattle.block_batch.specs.declared.head.TheConstants.{PLACES_MAX}
 
 -- a block of a batch: its place, and its bytes

@@ -1,12 +1,11 @@
 // The head of a batch.
 ghost use Rattle.std.specs.Prelude.{◌≡◌, ◌+◌, ◌*◌, ◌≤◌, ◌<◌, ℕ, true, length, slice_index};
 ghost use Rattle.block_device.specs.Blocks.{block};
-ghost use Rattle.block_words.specs.Words.{word};
+ghost use Rattle.block_device.specs.Words.{word};
 ghost use Rattle.block_batch.specs.Batch.{is_batch, number_in, count_in, place_in, block_digest};
 
-use block_device::BLOCK_SIZE;
+use block_device::{BLOCK_SIZE, WORDS, spell_words};
 use block_digest::{digest, digest_from};
-use block_words::{WORDS, spell_words};
 
 /// The most blocks that a batch has.
 pub const PLACES_MAX: usize = 254;

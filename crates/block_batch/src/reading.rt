@@ -1,14 +1,13 @@
 // A batch is read.
 ghost use Rattle.std.specs.Prelude.{◌≡◌, ◌<◌, ◌≤◌, ℕ, true, false, length, slice_index, IfSome, IfNone};
 ghost use Rattle.block_device.specs.Blocks.{block};
-ghost use Rattle.block_words.specs.Words.{word};
+ghost use Rattle.block_device.specs.Words.{word};
 ghost use Rattle.block_batch.specs.Batch.{do_fit, is_batch, number_in, count_in, place_in};
 ghost use Rattle.block_batch.specs.Head.{number_of, count_of, place_of};
 
 use crate::head::{DIGEST, FIRST_PLACE, Head, PLACES_MAX, TEXT, block_digest};
-use block_device::BLOCK_SIZE;
+use block_device::{BLOCK_SIZE, WORDS, words_of};
 use block_digest::digest;
-use block_words::{WORDS, words_of};
 
 // Whether so many blocks of an area fit the digests in its head, whose numbers these are.
 fn blocks_fit(words: &[u64; WORDS], area: &[[u8; BLOCK_SIZE]], count: usize) -> bool

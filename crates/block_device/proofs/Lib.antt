@@ -1,5 +1,6 @@
 pub mod CrashFiles
 pub mod Moments
 mod Past
+pub mod Spelled
 mod Tear
 pub mod Within

@@ -3,3 +3,4 @@ pub mod Blocks
 pub mod BlocksPast
 pub mod Crash
 pub mod MemBlocks
+pub mod Words

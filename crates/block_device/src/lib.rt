@@ -6,7 +6,10 @@
 //! written back, and when (`back`). `crash` leaves the crash file that the fates name (`crash`, `fates`), by what the
 //! last sync left (`last_synced`). Neither: that a real file behaves so. That is the premise of all above it.
 //!
-//! Lemmas about its public words that crates above may cite, in `proofs`: `CrashFiles`, `Moments` and `Within`.
+//! A block is also read as 512 numbers of eight bytes, the highest byte first: `words_of` gives the numbers that it
+//! spells, and `spell_words` the block that spells numbers, so that they are read as they were (`spelled`, `again`).
+//!
+//! Lemmas about its public words that crates above may cite, in `proofs`: `CrashFiles`, `Moments`, `Spelled` and `Within`.
 #![tactic(auto)]
 
 mod back;
@@ -16,9 +19,11 @@ mod fate;
 mod held;
 mod memory;
 mod runs;
+mod words;
 
 pub use back::BackRuns;
 pub use blocks::{BLOCK_SIZE, Blocks, few_blocks};
 pub use fate::Fate;
 pub use memory::MemBlocks;
 pub use runs::{put_run, zero_block, zero_blocks};
+pub use words::{WORDS, spell_words, words_of};

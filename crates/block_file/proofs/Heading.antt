@@ -6,7 +6,7 @@ use Rattle.block_device.specs.Blocks.{BlockFile, CrashFile, IsCrashFile, block}
 use Rattle.block_device.specs.BlocksPast.{BlocksPast, LeavesOnly}
 use Rattle.block_device.proofs.CrashFiles.{content_is_image}
 use Rattle.block_device.proofs.Moments.{one_call}
-use Rattle.block_words.specs.Words.{word}
+use Rattle.block_device.specs.Words.{word}
 use Rattle.block_journal.specs.declared.shape.Shape.{Shape}
 use Rattle.block_journal.specs.Journal.{LeavesBefore, OnlyReads}
 use Rattle.block_journal.specs.Value.{JournalValue, Offers}

@@ -8,8 +8,8 @@ use Rattle.std.proofs.lemmas.List.{take-set-le, get_or-replicate, get_or-set_sam
 use Rattle.std.specs.List.{flat_map}
 use Rattle.byteorder.specs.Endian.{big_bytes}
 use Rattle.block_digest.specs.Digest.{digest}
-use Rattle.block_words.specs.Words.{word}
-use Rattle.block_words.proofs.Spelled.{take_spelled}
+use Rattle.block_device.specs.Words.{word}
+use Rattle.block_device.proofs.Spelled.{take_spelled}
 use Rattle.block_file.specs.declared.header.TheConstants.{TEXT, VERSION}
 use Rattle.block_file.specs.declared.plan.Plan.{Plan}
 use Rattle.block_file.specs.Header.{can_be, is_header, plan_for, told_by}

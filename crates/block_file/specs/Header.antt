@@ -3,7 +3,7 @@ use Rattle.std.specs.Prelude.{◌≡◌, ℕ, ◌+◌, ◌/◌, ◌^◌, nat_lt,
 use Rattle.std.specs.Prelude.{Option, Some, None}
 use Rattle.block_digest.specs.Digest.{digest}
 use Rattle.block_device.specs.Blocks.{CrashFile, block}
-use Rattle.block_words.specs.Words.{word}
+use Rattle.block_device.specs.Words.{word}
 use Rattle.block_journal.specs.Layout.{IsInside, found}
 use Rattle.block_table.specs.Table.{kept_count}
 use Rattle.block_file.specs.declared.plan.Plan.{Plan}

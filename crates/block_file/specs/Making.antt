@@ -8,7 +8,7 @@ use Rattle.block_journal.specs.declared.shape.Shape.{Shape}
 use Rattle.block_journal.specs.Journal.{areas_back}
 use Rattle.block_journal.specs.Layout.{area_start, found, recovered}
 use Rattle.block_table.specs.Table.{EachFits, data_of}
-use Rattle.block_words.specs.Words.{word}
+use Rattle.block_device.specs.Words.{word}
 use Rattle.block_file.specs.declared.plan.Plan.{Plan}
 use Rattle.block_file.specs.Header.{plan_told}
 use Rattle.block_file.specs.Plans.{disk_image}

@@ -1,17 +1,16 @@
 // The header of a file of blocks.
 ghost use Rattle.std.specs.Prelude.{◌≡◌, ◌+◌, ◌-◌, ◌*◌, ◌^◌, ◌<◌, ℕ, true, Some, None, if◌then◌else◌, slice_index};
 ghost use Rattle.std.specs.Prelude.{IfSome};
-ghost use Rattle.block_words.specs.Words.{word};
+ghost use Rattle.block_device.specs.Words.{word};
 ghost use Rattle.block_journal.specs.Layout.{kept_start};
 ghost use Rattle.block_file.specs.Header.{CanBeTold, can_be, plan_for, told_by};
 ghost use Rattle.block_file.specs.Plans.{IsPlan};
 
 use crate::Plan;
-use block_device::BLOCK_SIZE;
+use block_device::{BLOCK_SIZE, WORDS, spell_words, words_of};
 use block_digest::digest;
 use block_journal::Shape;
 use block_table::table_count;
-use block_words::{WORDS, spell_words, words_of};
 
 // The text `NSFBLOCK` as a number.
 pub(crate) const TEXT: u64 = 0x4E53_4642_4C4F_434B;

@@ -2,7 +2,7 @@
 ghost use Rattle.std.specs.Prelude.{◌≡◌, ℕ, List, Some, take};
 ghost use Rattle.block_digest.specs.Digest.{digest};
 ghost use Rattle.block_device.specs.Blocks.{CrashFile, block};
-ghost use Rattle.block_words.specs.Words.{word};
+ghost use Rattle.block_device.specs.Words.{word};
 ghost use Rattle.block_batch.specs.Batch.{block_digest};
 ghost use Rattle.block_table.specs.Table.{IsFit, digest_of, place_of};
 ghost use Rattle.block_file.specs.declared.plan.Plan.{Plan};

@@ -12,9 +12,8 @@ ghost use Rattle.block_file.specs.Making.{AreBegun, BecomesZeros, HoldsZeros, Is
 use crate::Plan;
 use crate::header::spell_header;
 use block_batch::{block_digest, seal};
-use block_device::{BLOCK_SIZE, Blocks, few_blocks, zero_block};
+use block_device::{BLOCK_SIZE, Blocks, WORDS, few_blocks, spell_words, zero_block};
 use block_journal::Shape;
-use block_words::{WORDS, spell_words};
 use sector_device::Failed;
 
 // The digests of blocks of zeros, as the k-th block of a table of so many has them.

@@ -6,7 +6,7 @@ use Rattle.std.specs.List.{range_with_len}
 use Rattle.std.proofs.lemmas.Bool.{and_parts, leb-true, ltb-true, ne_eqb}
 use Rattle.std.proofs.lemmas.List.{get_or-take}
 use Rattle.block_device.specs.Blocks.{CrashFile, block}
-use Rattle.block_words.specs.Words.{word}
+use Rattle.block_device.specs.Words.{word}
 use Rattle.block_batch.specs.declared.head.TheConstants.{PLACES_MAX}
 use Rattle.block_batch.specs.Batch.{Entry, Batch, batch_in, count_in, do_fit, head_digest, is_batch, number_in, place_in}
 use Rattle.block_journal.specs.Layout.{found_in}

@@ -5,7 +5,7 @@ use Rattle.std.proofs.lemmas.Bool.{cases_eq}
 use Rattle.std.proofs.lemmas.List.{drop-set-add, drop-set-lt, get_or-set_other, get_or_append_left, get_or_push}
 use Rattle.std.proofs.lemmas.Grind.{get_or-set_at}
 use Rattle.block_device.specs.Blocks.{CrashFile, block}
-use Rattle.block_words.specs.Words.{word}
+use Rattle.block_device.specs.Words.{word}
 use Rattle.block_batch.specs.Batch.{block_digest}
 use Rattle.block_table.specs.Table.{IsFit, data_of, digest_of, kept_count, place_of, table_count}
 use Rattle.block_table.specs.Rows.{AreNumbers}

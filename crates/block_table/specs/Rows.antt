@@ -2,7 +2,7 @@
 use Rattle.std.specs.Prelude.{◌≡◌, ℕ, ◌/◌, ◌%◌, ◌^◌, ◌<◌, ◌≤◌, List, [], false, length, slice_index, slice_index_or}
 use Rattle.block_device.specs.Blocks.{CrashFile, block}
 use Rattle.block_device.specs.BlocksPast.{BlocksPast}
-use Rattle.block_words.specs.Words.{word}
+use Rattle.block_device.specs.Words.{word}
 use Rattle.block_journal.specs.Value.{JournalValue, content_of}
 use Rattle.block_table.specs.Table.{IsFit, kept_count, place_of, table_count}
 

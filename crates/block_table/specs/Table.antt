@@ -1,7 +1,7 @@
 -- A table of the digests of blocks of data.
 use Rattle.std.specs.Prelude.{◌≡◌, ℕ, ◌+◌, ◌/◌, ◌%◌, ◌<◌, ◌≤◌, drop}
 use Rattle.block_device.specs.Blocks.{CrashFile, block}
-use Rattle.block_words.specs.Words.{word}
+use Rattle.block_device.specs.Words.{word}
 use Rattle.block_batch.specs.Batch.{block_digest}
 
 -- how many blocks hold the digests of so many blocks of data, 512 in each

@@ -11,9 +11,8 @@ ghost use Rattle.block_journal.specs.Value.{CanCommit, LeavesEither, Offers, fai
 ghost use Rattle.block_table.specs.Table.{IsFirstUnfit, IsFit, kept_count, place_of};
 
 use crate::rows::{is_at, is_fit, kept_at, known_with, read_rows, set_digest};
-use block_device::{BLOCK_SIZE, Blocks, few_blocks};
+use block_device::{BLOCK_SIZE, Blocks, WORDS, few_blocks};
 use block_journal::{Journal, OpenError, Shape, Unopened};
-use block_words::WORDS;
 use sector_device::Failed;
 use std::alloc::Allocator;
 use std::marker::Model;

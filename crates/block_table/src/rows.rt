@@ -4,16 +4,15 @@ ghost use Rattle.std.specs.Prelude.{slice_index_or, IfErr, IfOk, IfSome, Some};
 ghost use Rattle.sector_device.specs.DevicePast.{CountsFailure, Rises};
 ghost use Rattle.block_device.specs.Blocks.{block};
 ghost use Rattle.block_batch.specs.Batch.{block_digest};
-ghost use Rattle.block_words.specs.Words.{word};
+ghost use Rattle.block_device.specs.Words.{word};
 ghost use Rattle.block_journal.specs.Journal.{OnlyReads};
 ghost use Rattle.block_journal.specs.Value.{content_of};
 ghost use Rattle.block_table.specs.Rows.{AreNumbers, digest_in};
 ghost use Rattle.block_table.specs.Table.{table_count};
 
 use block_batch::block_digest;
-use block_device::{BLOCK_SIZE, Blocks};
+use block_device::{BLOCK_SIZE, Blocks, WORDS, spell_words, words_of};
 use block_journal::{Journal, OpenError};
-use block_words::{WORDS, spell_words, words_of};
 use sector_device::Failed;
 use std::alloc::Allocator;
 

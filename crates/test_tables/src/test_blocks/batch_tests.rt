@@ -1,7 +1,6 @@
 //! Tests of the crate `block_batch`.
 use block_batch::{block_digest, seal};
-use block_device::BLOCK_SIZE;
-use block_words::{WORDS, words_of};
+use block_device::{BLOCK_SIZE, WORDS, words_of};
 
 // The first words of an area with a batch of two blocks: the text `NSFBATCH`, the number of the batch, how many blocks
 // it has, and each one's place and digest. The digests are those of libxxhash 0.8.1 over the same bytes, with the

@@ -1,6 +1,6 @@
 use Rattle.std.proofs.Common.{◌≡◌, ◌+◌, ◌*◌, slice_index, sym, ◌∙◌, ap, arith}
 use Rattle.block_device.specs.Blocks.{block}
-use Rattle.block_words.specs.Words.{word}
+use Rattle.block_device.specs.Words.{word}
 use Rattle.block_batch.specs.Batch.{place_in, digest_in, block_digest}
 use Rattle.block_batch.proofs.Sealing.{fits_more, unfit_stays}
 use Rattle.block_batch.proofs.reading.blocks_fit.Goals as goal

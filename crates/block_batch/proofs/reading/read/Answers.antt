@@ -1,6 +1,6 @@
 use Rattle.std.proofs.Common.{⊎_elim, ◌∙◌, arith, length}
 use Rattle.block_device.specs.Blocks.{block}
-use Rattle.block_words.specs.Words.{word}
+use Rattle.block_device.specs.Words.{word}
 use Rattle.block_batch.specs.declared.head.TheConstants.{TEXT, PLACES_MAX}
 use Rattle.block_batch.specs.Batch.{count_in}
 use Rattle.block_batch.proofs.Sealing.{not_first, not_second, not_third}

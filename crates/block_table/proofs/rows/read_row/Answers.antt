@@ -1,7 +1,7 @@
 use Rattle.std.proofs.Common.{Err, List, ℕ, ⊎_elim, sym, ◌∙◌, ap}
 use Rattle.std.proofs.lemmas.Bool.{false≢true}
 use Rattle.std.proofs.lemmas.Result.{err_from_is_err_and}
-use Rattle.block_words.specs.Words.{word}
+use Rattle.block_device.specs.Words.{word}
 use Rattle.block_journal.specs.Value.{JournalValue}
 use Rattle.block_table.proofs.Contents.{good_counts}
 use Rattle.block_table.proofs.rows.read_row.Goals as goal

@@ -2,7 +2,7 @@ use Rattle.std.proofs.Common.{◌≡◌, ℕ, ◌+◌, length, refl, ◌∙◌, 
 use Rattle.std.proofs.lemmas.List.{length_push}
 use Rattle.sector_device.specs.DevicePast.{Rises}
 use Rattle.block_device.specs.Blocks.{CrashFile}
-use Rattle.block_words.specs.Words.{word}
+use Rattle.block_device.specs.Words.{word}
 use Rattle.block_device.specs.Blocks.{block}
 use Rattle.block_journal.specs.Value.{JournalValue, content_of}
 use Rattle.block_journal.proofs.OnlyReading.{reads_none, reads_then}

@@ -5,7 +5,7 @@ use Rattle.block_device.specs.Blocks.{CrashFile, block}
 use Rattle.block_device.proofs.CrashFiles.{written_back}
 use Rattle.block_batch.specs.Batch.{IsPlace, block_digest}
 use Rattle.block_journal.specs.Value.{JournalValue, content_of}
-use Rattle.block_words.specs.Words.{word}
+use Rattle.block_device.specs.Words.{word}
 use Rattle.block_table.specs.Rows.{AreNumbers, IsSeen}
 use Rattle.block_table.specs.Table.{IsFit, data_of, kept_count, place_of, table_count}
 use Rattle.block_table.proofs.Contents.{content_put, length-content, two_puts}

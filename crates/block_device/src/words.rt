@@ -1,17 +1,9 @@
-//! A block as numbers: 512 of eight bytes, the highest byte first.
-//!
-//! Proved: `words_of` gives the numbers that a block spells, and `spell_words` the block that spells numbers, so that
-//! they are read as they were.
-//!
-//! Lemmas about its public words that crates above may cite, in `proofs`: `Spelled`.
-#![tactic(auto)]
-
 ghost use Rattle.std.specs.Prelude.{◌≡◌, ◌<◌, ℕ, slice_index};
 ghost use Rattle.std.specs.List.{flat_map};
 ghost use Rattle.byteorder.specs.Endian.{big_bytes};
-ghost use Rattle.block_words.specs.Words.{word};
+ghost use Rattle.block_device.specs.Words.{word};
 
-use block_device::BLOCK_SIZE;
+use crate::BLOCK_SIZE;
 use byteorder::{BigEndian, ByteOrder};
 
 /// The numbers of a block.

@@ -1,7 +1,7 @@
 use Rattle.std.proofs.Common.{◌∙◌, ap, List, ℕ, arith}
-use Rattle.block_words.specs.Words.{word}
-use Rattle.block_words.proofs.Spelled.{word_spelled}
-use Rattle.block_words.proofs.spell_words.Goals as goal
+use Rattle.block_device.specs.Words.{word}
+use Rattle.block_device.proofs.Spelled.{word_spelled}
+use Rattle.block_device.proofs.words.spell_words.Goals as goal
 
 pub returns-clause-again : goal.returns-clause-again
 returns-clause-again c = λ i below.
