@@ -9,7 +9,8 @@
 //! A block is also read as 512 numbers of eight bytes, the highest byte first: `words_of` gives the numbers that it
 //! spells, and `spell_words` the block that spells numbers, so that they are read as they were (`spelled`, `again`).
 //!
-//! Lemmas about its public words that crates above may cite, in `proofs`: `CrashFiles`, `Moments`, `Spelled` and `Within`.
+//! Lemmas about its public words that crates above may cite, in `proofs`: `CrashFiles`, `Moments`, `Spelled` and
+//! `Within`.
 #![tactic(auto)]
 
 mod back;

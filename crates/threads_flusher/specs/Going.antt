@@ -28,8 +28,8 @@ LeavesImage copying old new = new ≡ record old { writer = without_image copyin
 -- lost; no horizon went back, what was published before stays noted, and the store is the same. What was published
 -- since was published at no earlier moment. A crash at any moment since leaves what some of the records that the writer
 -- has got now make of what was opened, the first ones, with all that were synced at first. One that had failed stays so
--- (of the failures that the device counts behind that, no field tells). Another has failed if the device did meanwhile,
--- which was counted; and else no failure was.
+-- (of the failures that the device counts behind that, `later` alone tells, and no more than that they are no fewer).
+-- Another has failed if the device did meanwhile, which was counted; and else no failure was.
 pub record GoesOn {D A : Type 0} (past_of : D → DevicePast) (failures : D
     → ℕ) (o : Opened) (old new : FlushValue D A) : Type 0 where
   pub popped : List RecordValue
