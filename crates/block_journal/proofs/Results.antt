@@ -1,6 +1,6 @@
 -- What is known where a call succeeded, or failed.
 use Rattle.std.specs.Prelude.{is_err}
-use Rattle.std.proofs.Common.{Result, Ok, Err, OnOk, OnErr, IfErr, ◌≡◌, ℕ, ◌+◌, ◌-◌, ◌^◌, ◌<◌, min, true, false, arith}
+use Rattle.std.proofs.Common.{None, Some, Result, Ok, Err, OnOk, OnErr, IfErr, ◌≡◌, ℕ, ◌+◌, ◌-◌, ◌^◌, ◌<◌, min, true, false, arith}
 use Rattle.sector_device.specs.DevicePast.{CountsFailure, Rises}
 
 pub on_ok : {T E : Type 0} (P Q : Type 0) (r : Result T E) → (P → Q) → OnOk r P → OnOk r Q
@@ -57,3 +57,7 @@ on_err_always P (Err e) h = h
 pub err_rises : {T E : Type 0} (r : Result T E) (P : E → Type 0) (a b c : ℕ) → b ≡ a → OnErr r (Rises b c) → IfErr r (λ e. P e → Rises a c)
 err_rises (Ok x) P a b c same rises = tt
 err_rises (Err e) P a b c same rises = λ _ below. let up : b < c = rises (omega (arith, same, below)) in omega (arith, same, up)
+
+-- what is there isn't nothing
+pub not_none : {T : Type 0} {x : T} → Some x ≡ None → ⊥
+not_none is = cc

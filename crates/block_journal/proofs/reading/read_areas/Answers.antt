@@ -8,6 +8,7 @@ use Rattle.block_journal.specs.Gathered.{IsBuffer}
 use Rattle.block_journal.specs.Opening.{HasTaken}
 use Rattle.block_journal.proofs.OnlyReading.{reads_then}
 use Rattle.block_journal.proofs.Recovering.{both_taken, either_way}
+use Rattle.block_journal.proofs.Results.{not_none}
 use Rattle.block_journal.proofs.reading.read_areas.Goals as goal
 
 pub read_area-requires : goal.read_area-requires
@@ -105,7 +106,7 @@ returns-in-Some g c =
       taken = both_taken c.args.shape content order c.in_ok-first.first c.in_ok-second.second c.in-Some.ensures
           c.read_area.new.buffer c.read_area-2.new.buffer c.arrange.new.last c.arrange.new.other
           c.in_ok-first.ensures.taken there c.arrange.ensures.second c.arrange.ensures.first;
-      none = λ is. absurd (cc);
+      none = λ is. absurd (not_none is);
       last = whole.0.0;
       last_size = whole.0.1;
       other = whole.1.0;

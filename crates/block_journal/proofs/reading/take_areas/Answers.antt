@@ -6,6 +6,7 @@ use Rattle.block_device.specs.BlocksPast.{BlocksPast}
 use Rattle.block_journal.specs.Layout.{IsInside}
 use Rattle.block_journal.specs.Journal.{OnlyReads, areas_back}
 use Rattle.block_journal.proofs.Recovering.{begins_back, one_back}
+use Rattle.block_journal.proofs.Results.{not_none}
 use Rattle.block_journal.proofs.reading.take_areas.Goals as goal
 
 pub read_areas-requires : goal.read_areas-requires
@@ -73,6 +74,24 @@ returns-in_err-keep_areas-in-Some g c =
       };
     })
 
+pub returns-in-None : goal.returns-in-None
+returns-in-None g c =
+    let read = c.read_areas.ensures in
+    let found = c.in_ok-found.ensures in
+    record {
+      taken = tt;
+      none = λ _. found.none c.in-None.is;
+      last = read.last;
+      last_size = read.last_size;
+      other = read.other;
+      other_size = read.other_size;
+      reads = read.reads;
+      back = tt;
+      back_none = λ _. read.back;
+      back_err = tt;
+      counts = record { later = read.counts.later; none = found.counts.none; failed = tt };
+    }
+
 pub returns-in_ok-keep_areas-in-Some : goal.returns-in_ok-keep_areas-in-Some
 returns-in_ok-keep_areas-in-Some g c =
     let read = c.read_areas.ensures in
@@ -87,14 +106,14 @@ returns-in_ok-keep_areas-in-Some g c =
     λ i. areas_back c.args.shape number (sym past i).moment (before i) in
     record {
       taken = rw c.in-Some.is at c.in_ok-found.ensures.taken;
-      none = λ is. absurd (cc);
+      none = λ is. absurd (not_none is);
       last = read.last;
       last_size = read.last_size;
       other = read.other;
       other_size = read.other_size;
       reads = subst (λ (p : BlocksPast). OnlyReads start p) (sym past) read.reads;
       back = c.in_ok-keep_areas-in-Some.ensures.back ∙ back;
-      back_none = λ is. absurd (cc);
+      back_none = λ is. absurd (not_none is);
       back_err = tt;
       counts = record {
         later = omega (arith, read.counts.later, kept.counts.later);

@@ -1,4 +1,5 @@
-use Rattle.std.proofs.Common.{inl, refl, ap, arith}
+use Rattle.std.proofs.Common.{◌≡◌, inl, refl, ap, arith}
+use Rattle.block_journal.specs.declared.refusal.OpenError.TheVariants.{FileFailed, NoBatch, NoMemory}
 use Rattle.block_journal.specs.Entries.{entries_in}
 use Rattle.block_journal.specs.Journal.{InRunOrKept, pending_in}
 use Rattle.block_journal.proofs.Before.{leaves_before, not_by_replay}
@@ -6,6 +7,12 @@ use Rattle.block_journal.proofs.Keeping.{keeps_areas}
 use Rattle.block_journal.proofs.OnlyReading.{reads_none}
 use Rattle.block_journal.proofs.Recovering.{stays_recovered, within_pending}
 use Rattle.block_journal.proofs.journal.Journal.open.Goals as goal
+
+memory_not_batch : NoMemory ≡ NoBatch → ⊥
+memory_not_batch is = cc
+
+memory_not_file : NoMemory ≡ FileFailed → ⊥
+memory_not_file is = cc
 
 pub returns-in_default : goal.returns-in_default
 returns-in_default g c =
@@ -29,9 +36,9 @@ returns-in_default g c =
           (not_by_replay shape (pending_in shape h.file.content)) (within_pending shape h c.requires.synced);
       batches_refused = keeps_areas shape (pending_in shape h.file.content) h h c.requires.inside (within_pending shape h c.requires.synced);
       written_back_refused = inl (record { reads = reads_none h; back = inl refl });
-      back_none = λ never. absurd (cc);
-      no_batch = λ never. absurd (cc);
-      failed = λ never. absurd (cc);
+      back_none = λ never. absurd (memory_not_batch never);
+      no_batch = λ never. absurd (memory_not_batch never);
+      failed = λ never. absurd (memory_not_file never);
       no_memory = λ _. refl;
     }
 

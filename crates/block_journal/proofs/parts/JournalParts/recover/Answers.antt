@@ -1,20 +1,36 @@
 use Rattle.std.proofs.Common.{◌≡◌, inl, inr, ℕ, false, refl, sym, ◌∙◌, ap, subst}
 use Rattle.std.proofs.lemmas.Result.{IfErr-weaker}
 use Rattle.block_device.specs.Blocks.{BlockFile}
-use Rattle.block_device.specs.BlocksPast.{RunsWithin}
+use Rattle.block_device.specs.BlocksPast.{BlocksPast, RunsWithin}
 use Rattle.block_device.proofs.Within.{within_same}
 use Rattle.block_journal.specs.Layout.{IsHonest, IsInside, recovered}
-use Rattle.block_journal.specs.Journal.{AreInAreas, InRunOrKept, IsPending, WritesBackFirst, pending_in}
+use Rattle.block_journal.specs.Journal.{AreInAreas, InRunOrKept, IsPending, OnlyReads, WritesBackFirst, pending_in}
 use Rattle.block_journal.proofs.Before.{leaves_before, not_by_replay}
 use Rattle.block_journal.proofs.Keeping.{keeps_areas}
 use Rattle.block_journal.specs.declared.refusal.OpenError.{OpenError}
-use Rattle.block_journal.specs.declared.refusal.OpenError.TheVariants.{FileFailed}
+use Rattle.block_journal.specs.declared.refusal.OpenError.TheVariants.{FileFailed, NoBatch, NoMemory}
+use Rattle.block_journal.specs.declared.shape.Shape.{Shape}
 use Rattle.block_journal.specs.Opening.{HasTakenBoth}
 use Rattle.block_journal.specs.JournalParts.{value_of}
 use Rattle.block_journal.proofs.Recovering.{stays_recovered, within_pending, writes_back_first}
 use Rattle.block_journal.proofs.Results.{err_rises, on_err_always, on_ok, on_ok_always}
 use Rattle.block_journal.proofs.WritingBack.{writes_back_later}
 use Rattle.block_journal.proofs.parts.JournalParts.recover.Goals as goal
+
+file_not_batch : FileFailed ≡ NoBatch → ⊥
+file_not_batch is = cc
+
+file_not_memory : FileFailed ≡ NoMemory → ⊥
+file_not_memory is = cc
+
+batch_not_memory : NoBatch ≡ NoMemory → ⊥
+batch_not_memory is = cc
+
+-- where nothing was written
+read_within : (shape : Shape) (old new : BlocksPast) → ((n : ℕ) → ¬ IsPending shape old.file.content n → old.file.loose n ≡ false) → OnlyReads old new
+    → RunsWithin (InRunOrKept shape 0 0 (pending_in shape old.file.content)) old.file.content old new
+read_within shape old new synced reads = within_same (InRunOrKept shape 0 0 (pending_in shape old.file.content)) old.file.content old old new
+    (within_pending shape old synced) reads.time reads.file
 
 pub take_areas-requires : goal.take_areas-requires
 take_areas-requires g c = record {
@@ -43,21 +59,18 @@ returns-in-Err g c =
       shape = refl;
       refused = refl;
       stays = stays_recovered p.shape (h p.below) (h c.take_areas.new.below) c.requires.inside
-          (within_same (InRunOrKept p.shape 0 0 (pending_in p.shape (h p.below).file.content)) (h p.below).file.content (h p.below) (h p.below)
-          (h c.take_areas.new.below) (within_pending p.shape (h p.below) c.requires.synced) reads.time reads.file);
+          (read_within p.shape (h p.below) (h c.take_areas.new.below) c.requires.synced reads);
       before = leaves_before p.shape (InRunOrKept p.shape 0 0 (pending_in p.shape (h p.below).file.content)) (h p.below) (h c.take_areas.new.below)
           (not_by_replay p.shape (pending_in p.shape (h p.below).file.content))
-          (within_same (InRunOrKept p.shape 0 0 (pending_in p.shape (h p.below).file.content)) (h p.below).file.content (h p.below) (h p.below)
-          (h c.take_areas.new.below) (within_pending p.shape (h p.below) c.requires.synced) reads.time reads.file);
+          (read_within p.shape (h p.below) (h c.take_areas.new.below) c.requires.synced reads);
       batches = keeps_areas p.shape (pending_in p.shape (h p.below).file.content) (h p.below) (h c.take_areas.new.below) c.requires.inside
-          (within_same (InRunOrKept p.shape 0 0 (pending_in p.shape (h p.below).file.content)) (h p.below).file.content (h p.below) (h p.below)
-          (h c.take_areas.new.below) (within_pending p.shape (h p.below) c.requires.synced) reads.time reads.file);
+          (read_within p.shape (h p.below) (h c.take_areas.new.below) c.requires.synced reads);
       written_back = tt;
       back_err = inl c.in-Err.ensures.back_err;
-      back_none = λ never. absurd (cc);
+      back_none = λ never. absurd (file_not_batch never);
       quiet = tt;
-      no_memory = λ never. absurd (cc);
-      no_batch = λ never. absurd (cc);
+      no_memory = file_not_memory;
+      no_batch = λ never. absurd (file_not_batch never);
       failed = λ _. c.in-Err.ensures.counts.failed;
     }
 
@@ -76,22 +89,19 @@ returns-in-Ok-None g c =
       shape = refl;
       refused = refl;
       stays = stays_recovered p.shape (h p.below) (h c.take_areas.new.below) c.requires.inside
-          (within_same (InRunOrKept p.shape 0 0 (pending_in p.shape (h p.below).file.content)) (h p.below).file.content (h p.below) (h p.below)
-          (h c.take_areas.new.below) (within_pending p.shape (h p.below) c.requires.synced) reads.time reads.file);
+          (read_within p.shape (h p.below) (h c.take_areas.new.below) c.requires.synced reads);
       before = leaves_before p.shape (InRunOrKept p.shape 0 0 (pending_in p.shape (h p.below).file.content)) (h p.below) (h c.take_areas.new.below)
           (not_by_replay p.shape (pending_in p.shape (h p.below).file.content))
-          (within_same (InRunOrKept p.shape 0 0 (pending_in p.shape (h p.below).file.content)) (h p.below).file.content (h p.below) (h p.below)
-          (h c.take_areas.new.below) (within_pending p.shape (h p.below) c.requires.synced) reads.time reads.file);
+          (read_within p.shape (h p.below) (h c.take_areas.new.below) c.requires.synced reads);
       batches = keeps_areas p.shape (pending_in p.shape (h p.below).file.content) (h p.below) (h c.take_areas.new.below) c.requires.inside
-          (within_same (InRunOrKept p.shape 0 0 (pending_in p.shape (h p.below).file.content)) (h p.below).file.content (h p.below) (h p.below)
-          (h c.take_areas.new.below) (within_pending p.shape (h p.below) c.requires.synced) reads.time reads.file);
+          (read_within p.shape (h p.below) (h c.take_areas.new.below) c.requires.synced reads);
       written_back = tt;
       back_err = inl (record { reads = reads; back = inl (c.in-Ok-None.ensures.back_none c.in-Ok-None.field-0-is) });
       back_none = λ _. c.in-Ok-None.ensures.back_none c.in-Ok-None.field-0-is;
       quiet = tt;
-      no_memory = λ never. absurd (cc);
+      no_memory = batch_not_memory;
       no_batch = λ _. c.in-Ok-None.ensures.none c.in-Ok-None.field-0-is;
-      failed = λ never. absurd (cc);
+      failed = λ never. absurd (file_not_batch (sym never));
     }
 
 pub settle-requires : goal.settle-requires
@@ -154,9 +164,9 @@ returns-in-Ok-Some g c =
       stays = stays_recovered p.shape (h p.below) (h c.settle.new.self.below) c.requires.inside within;
       written_back = on_ok_always _ r wrote;
       back_err = on_err_always _ r (inr wrote);
-      back_none = IfErr-weaker r _ _ (λ e is never. absurd (cc)) done.err;
+      back_none = IfErr-weaker r _ _ (λ e is never. absurd (file_not_batch (sym is ∙ never))) done.err;
       quiet = on_ok _ _ r (λ ok. ok ∙ counted) done.counts.none;
-      no_memory = IfErr-weaker r _ _ (λ e is never. absurd (cc)) done.err;
-      no_batch = IfErr-weaker r _ _ (λ e is never. absurd (cc)) done.err;
+      no_memory = IfErr-weaker r _ _ (λ e is never. file_not_memory (sym is ∙ never)) done.err;
+      no_batch = IfErr-weaker r _ _ (λ e is never. absurd (file_not_batch (sym is ∙ never))) done.err;
       failed = err_rises r (λ (e : OpenError). e ≡ FileFailed) _ _ _ counted done.counts.failed;
     }
