@@ -1,3 +1,4 @@
 pub mod Contents
+mod Errors
 mod Seen
 mod Table

@@ -8,6 +8,7 @@ use Rattle.block_journal.specs.Value.{JournalValue, content_of}
 use Rattle.block_journal.proofs.OnlyReading.{reads_none, reads_then}
 use Rattle.block_journal.proofs.Parting.{as_read}
 use Rattle.block_table.proofs.Contents.{content_read, journal_then}
+use Rattle.block_table.proofs.Errors.{failed_not_batch, memory_not_batch, memory_not_failed}
 use Rattle.block_table.proofs.Table.{numbers_push}
 use Rattle.block_table.proofs.rows.read_rows.Goals as goal
 
@@ -40,7 +41,7 @@ returns-in_default g c =
       back = c.read_row.ensures.back ∙ so_far.back;
       quiet = tt;
       failed = λ _. subst (λ (a : ℕ). Rises a (g.B.Blocks.failures c.read_row.new.journal.below)) so_far.quiet c.in_default.ensures.counts.failed;
-      no_batch = λ never. absurd (cc);
+      no_batch = failed_not_batch;
     }
 
 pub returns-in_default-push : goal.returns-in_default-push
@@ -53,8 +54,8 @@ returns-in_default-push g c =
       reads = reads_then _ _ _ so_far.reads c.read_row.ensures.reads;
       back = c.read_row.ensures.back ∙ so_far.back;
       quiet = tt;
-      failed = λ never. absurd (cc);
-      no_batch = λ never. absurd (cc);
+      failed = λ never. absurd (memory_not_failed never);
+      no_batch = memory_not_batch;
     }
 
 pub loop-t-preserved : goal.loop-t-preserved

@@ -1,4 +1,4 @@
-use Rattle.std.proofs.Common.{◌≡◌, inl, inr, ℕ, Err, Ok, Result, false, ⊎_elim, refl, sym, ◌∙◌, ap, subst, arith}
+use Rattle.std.proofs.Common.{◌≡◌, inl, inr, ℕ, Err, false, ⊎_elim, refl, sym, ◌∙◌, ap, subst, arith}
 use Rattle.std.proofs.lemmas.Bool.{cases_Bool, cases_eq, false≢true}
 use Rattle.sector_device.specs.DevicePast.{Rises}
 use Rattle.block_device.specs.Blocks.{CrashFile}
@@ -7,11 +7,8 @@ use Rattle.block_journal.proofs.OnlyReading.{reads_none, reads_then}
 use Rattle.block_table.specs.Checked.{CheckedValue, kept_table}
 use Rattle.block_table.specs.Table.{IsFit}
 use Rattle.block_table.proofs.Contents.{read_then, table_read}
+use Rattle.block_table.proofs.Errors.{ok_not_err, damaged_not_failed}
 use Rattle.block_table.proofs.checked.CheckedBlocks.check.Goals as goal
-
--- what is answered isn't refused
-never : {T E : Type 0} {x : T} {e : E} → ◌≡◌ {A = Result T E} (Ok x) (Err e) → ⊥
-never is = cc
 
 pub loop-n-init : goal.loop-n-init
 loop-n-init g c = record {
@@ -42,8 +39,8 @@ loop-n-preserved g c =
     let here : IsFit start.blocks (kept_table h start) n =
     subst (λ (k : ℕ). IsFit k (kept_table h start) n) blocks (subst (λ (l : CrashFile). IsFit mid.blocks l n) table c.in-Ok.ensures.fits) in
     let F = g.B.Blocks.failures in
-    let same : failures_of F c.read.new.self.journal ≡ failures_of F mid.journal = c.in-Ok.ensures.counts.quiet (λ is. never is) in
-    let good : mid.journal.has_failed ≡ false = c.in-Ok.ensures.sound (λ is. never is) in
+    let same : failures_of F c.read.new.self.journal ≡ failures_of F mid.journal = c.in-Ok.ensures.counts.quiet (λ is. ok_not_err is) in
+    let good : mid.journal.has_failed ≡ false = c.in-Ok.ensures.sound (λ is. ok_not_err is) in
     let began : start.journal.has_failed ≡ false = sym (ap (λ (x : CheckedValue g.row.B.Denot). x.journal.has_failed) so_far.rest) ∙ good in
     let refused = ap (λ (x : CheckedValue g.row.B.Denot). x.journal.refused) (c.read.ensures.good good) in
     record {
@@ -70,9 +67,11 @@ returns-in-Err-Damaged g c =
     let read = c.read.ensures in
     let blocks : mid.blocks ≡ start.blocks = ap (λ (x : CheckedValue g.row.B.Denot). x.blocks) so_far.rest in
     let table = table_read h start mid so_far.rest so_far.reads in
-    let same = read.counts.quiet (λ is. absurd (cc)) in
+    let damaged = c.in-Err-Damaged.ensures in
+    let other = ap Err c.in-Err-Damaged.field-0-is in
+    let same = damaged.counts.quiet (λ is. damaged_not_failed (sym other ∙ is)) in
     let none = same ∙ so_far.quiet in
-    let good : mid.journal.has_failed ≡ false = read.sound (λ is. absurd (cc)) in
+    let good : mid.journal.has_failed ≡ false = damaged.sound (λ is. damaged_not_failed (sym other ∙ is)) in
     let began : start.journal.has_failed ≡ false = sym (ap (λ (x : CheckedValue g.row.B.Denot). x.journal.has_failed) so_far.rest) ∙ good in
     let refused = ap (λ (x : CheckedValue g.row.B.Denot). x.journal.refused) (read.good good) in
     record {
@@ -80,7 +79,7 @@ returns-in-Err-Damaged g c =
         behind = c.loop-n.auto.n;
         low = omega (arith, c.loop-n-test.true, ap (λ (x : CheckedValue g.row.B.Denot). x.blocks) c.self.view_is);
         unfit = subst (λ (k : ℕ). ¬ IsFit k (kept_table h start) n) blocks
-            (subst (λ (l : CrashFile). ¬ IsFit mid.blocks l n) table (c.in-Err-Damaged.ensures.damaged (ap Err c.in-Err-Damaged.field-0-is)));
+            (subst (λ (l : CrashFile). ¬ IsFit mid.blocks l n) table (damaged.damaged other));
         before = so_far.fits;
       };
       sound = tt;

@@ -1,4 +1,4 @@
-use Rattle.std.proofs.Common.{◌≡◌, inl, inr, ℕ, ◌+◌, ◌/◌, ◌%◌, ◌<◌, List, [], length, refl, sym, ◌∙◌, ap, subst, arith}
+use Rattle.std.proofs.Common.{◌≡◌, inl, inr, ℕ, ◌+◌, ◌/◌, ◌%◌, ◌<◌, List, [], length, refl, sym, ◌∙◌, ap, subst, arith, le_refl}
 use Rattle.std.proofs.lemmas.Bool.{false≢true}
 use Rattle.std.proofs.lemmas.List.{get_or-drop}
 use Rattle.block_device.specs.Blocks.{CrashFile, block}
@@ -9,9 +9,13 @@ use Rattle.block_journal.proofs.Results.{from_err, from_ok}
 use Rattle.block_table.specs.Rows.{IsSeen, digest_in}
 use Rattle.block_table.specs.Table.{IsFit, digest_of, place_of, table_count}
 use Rattle.block_table.proofs.Contents.{content_read, step_same}
+use Rattle.block_table.proofs.Errors.{ok_not_err, failed_not_damaged, damaged_not_failed}
 use Rattle.block_table.proofs.Seen.{at_seen}
 use Rattle.block_table.proofs.Table.{in_table}
 use Rattle.block_table.proofs.checked.CheckedBlocks.read.Goals as goal
+
+in_row : (n : ℕ) → n % 512 < 512
+in_row n = omega arith
 
 pub returns-then-is_at : goal.returns-then-is_at
 returns-then-is_at g c =
@@ -25,16 +29,16 @@ returns-then-is_at g c =
     record {
       ok = seen.same ∙ sym (get_or-drop (table_count blocks) (content_of h v) n []);
       fits = seen.fits;
-      damaged = λ is. absurd (cc);
+      damaged = λ is. absurd (ok_not_err is);
       sound = λ _. seen.good;
       err = tt;
-      failed = λ is. absurd (cc);
+      failed = λ is. absurd (ok_not_err is);
       rest = refl;
       good = λ _. refl;
       refused = λ failed. absurd (false≢true (sym seen.good ∙ failed));
       reads = reads_none (h v.below);
       back = refl;
-      counts = record { later = omega arith; quiet = λ _. refl; rises = λ is. absurd (cc) };
+      counts = record { later = le_refl _; quiet = λ _. refl; rises = λ is. absurd (ok_not_err is) };
     })
 
 pub returns-then-is_err : goal.returns-then-is_err
@@ -45,12 +49,12 @@ returns-then-is_err g c =
     record {
       ok = tt;
       fits = tt;
-      damaged = λ is. absurd (cc);
+      damaged = λ is. absurd (failed_not_damaged is);
       sound = λ other. absurd (other refl);
       err = refl;
       failed = λ _. from_err _ _ failed done.fails;
-      rest = ap (λ (v : JournalValue g.row.B.Denot). record { journal = v; blocks = c.self.inside.blocks }) done.rest;
-      good = λ sound. ap (λ (w : JournalValue g.row.B.Denot). record { journal = w; blocks = c.self.inside.blocks }) (done.good sound);
+      rest = λ i. record { journal = done.rest i; blocks = c.self.inside.blocks };
+      good = λ sound i. record { journal = done.good sound i; blocks = c.self.inside.blocks };
       refused = done.refused;
       reads = done.reads;
       back = done.back;
@@ -73,7 +77,7 @@ is_fit-requires g c =
     let step = c.self.invariant.0 in
     let place : c.len.result + n ≡ place_of blocks n = ap (λ (k : ℕ). k + n) (c.len.ensures ∙ c.self.inside.rows.ok.0 ∙ step.count) in
     let told : digest_in c.deref.result.now n ≡ digest_of (content_of h v) n =
-    ap (λ (l : List (List ℕ)). digest_in l n) c.deref.ensures.value ∙ step.numbers (n / 512) (n % 512) (in_table blocks n low) (omega arith) in
+    ap (λ (l : List (List ℕ)). digest_in l n) c.deref.ensures.value ∙ step.numbers (n / 512) (n % 512) (in_table blocks n low) (in_row n) in
     let found : block_digest (c.len.result + n) c.read.new.bytes ≡ block_digest (place_of blocks n) (block (content_of h v) (place_of blocks n)) =
     ap (block_digest (c.len.result + n)) (from_ok _ _ good done.ok) ∙ ap (λ (k : ℕ). block_digest k (block (content_of h v) k)) place in
     record {
@@ -94,7 +98,7 @@ returns-then-not-is_fit g c =
     let step = c.self.invariant.0 in
     let place : c.len.result + n ≡ place_of blocks n = ap (λ (k : ℕ). k + n) (c.len.ensures ∙ c.self.inside.rows.ok.0 ∙ step.count) in
     let told : digest_in c.deref.result.now n ≡ digest_of (content_of h v) n =
-    ap (λ (l : List (List ℕ)). digest_in l n) c.deref.ensures.value ∙ step.numbers (n / 512) (n % 512) (in_table blocks n low) (omega arith) in
+    ap (λ (l : List (List ℕ)). digest_in l n) c.deref.ensures.value ∙ step.numbers (n / 512) (n % 512) (in_table blocks n low) (in_row n) in
     let found : block_digest (c.len.result + n) c.read.new.bytes ≡ block_digest (place_of blocks n) (block (content_of h v) (place_of blocks n)) =
     ap (block_digest (c.len.result + n)) (from_ok _ _ good done.ok) ∙ ap (λ (k : ℕ). block_digest k (block (content_of h v) k)) place in
     record {
@@ -103,16 +107,16 @@ returns-then-not-is_fit g c =
       damaged = λ _ fits. c.is_fit.ensures.unfit c.if-not-is_fit.true (told ∙ fits ∙ sym found);
       sound = λ _. from_ok _ _ good done.sound;
       err = refl;
-      failed = λ is. absurd (cc);
-      rest = ap (λ (w : JournalValue g.row.B.Denot). record { journal = w; blocks = blocks }) done.rest;
-      good = λ sound. ap (λ (w : JournalValue g.row.B.Denot). record { journal = w; blocks = c.self.inside.blocks }) (done.good sound);
+      failed = λ is. absurd (damaged_not_failed is);
+      rest = λ i. record { journal = done.rest i; blocks = blocks };
+      good = λ sound i. record { journal = done.good sound i; blocks = c.self.inside.blocks };
       refused = done.refused;
       reads = done.reads;
       back = done.back;
       counts = record {
         later = done.counts.later;
         quiet = λ _. from_ok _ _ good done.counts.none;
-        rises = λ is. absurd (cc);
+        rises = λ is. absurd (damaged_not_failed is);
       };
     })
 
@@ -129,25 +133,25 @@ returns g c =
     let step = c.self.invariant.0 in
     let place : c.len.result + n ≡ place_of blocks n = ap (λ (k : ℕ). k + n) (c.len.ensures ∙ c.self.inside.rows.ok.0 ∙ step.count) in
     let told : digest_in c.deref.result.now n ≡ digest_of (content_of h v) n =
-    ap (λ (l : List (List ℕ)). digest_in l n) c.deref.ensures.value ∙ step.numbers (n / 512) (n % 512) (in_table blocks n low) (omega arith) in
+    ap (λ (l : List (List ℕ)). digest_in l n) c.deref.ensures.value ∙ step.numbers (n / 512) (n % 512) (in_table blocks n low) (in_row n) in
     let found : block_digest (c.len.result + n) c.read.new.bytes ≡ block_digest (place_of blocks n) (block (content_of h v) (place_of blocks n)) =
     ap (block_digest (c.len.result + n)) (from_ok _ _ good done.ok) ∙ ap (λ (k : ℕ). block_digest k (block (content_of h v) k)) place in
     record {
       ok = from_ok _ _ good done.ok ∙ ap (block (content_of h v)) place ∙ sym (get_or-drop (table_count blocks) (content_of h v) n []);
       fits = sym told ∙ c.is_fit.ensures.fits c.if-not-is_fit.false ∙ found;
-      damaged = λ is. absurd (cc);
+      damaged = λ is. absurd (ok_not_err is);
       sound = λ _. from_ok _ _ good done.sound;
       err = tt;
-      failed = λ is. absurd (cc);
-      rest = ap (λ (w : JournalValue g.row.B.Denot). record { journal = w; blocks = blocks }) done.rest;
-      good = λ sound. ap (λ (w : JournalValue g.row.B.Denot). record { journal = w; blocks = c.self.inside.blocks }) (done.good sound);
+      failed = λ is. absurd (ok_not_err is);
+      rest = λ i. record { journal = done.rest i; blocks = blocks };
+      good = λ sound i. record { journal = done.good sound i; blocks = c.self.inside.blocks };
       refused = done.refused;
       reads = done.reads;
       back = done.back;
       counts = record {
         later = done.counts.later;
         quiet = λ _. from_ok _ _ good done.counts.none;
-        rises = λ is. absurd (cc);
+        rises = λ is. absurd (ok_not_err is);
       };
     })
 
@@ -173,7 +177,7 @@ invariant_of-self-2 g c =
     let step = c.self.invariant.0 in
     let place : c.len.result + n ≡ place_of blocks n = ap (λ (k : ℕ). k + n) (c.len.ensures ∙ c.self.inside.rows.ok.0 ∙ step.count) in
     let told : digest_in c.deref.result.now n ≡ digest_of (content_of h v) n =
-    ap (λ (l : List (List ℕ)). digest_in l n) c.deref.ensures.value ∙ step.numbers (n / 512) (n % 512) (in_table blocks n low) (omega arith) in
+    ap (λ (l : List (List ℕ)). digest_in l n) c.deref.ensures.value ∙ step.numbers (n / 512) (n % 512) (in_table blocks n low) (in_row n) in
     let found : block_digest (c.len.result + n) c.read.new.bytes ≡ block_digest (place_of blocks n) (block (content_of h v) (place_of blocks n)) =
     ap (block_digest (c.len.result + n)) (from_ok _ _ good done.ok) ∙ ap (λ (k : ℕ). block_digest k (block (content_of h v) k)) place in
     let rows = c.self.inside.rows.items in
