@@ -1,4 +1,6 @@
 use Rattle.std.proofs.Common.{◌≡◌, ◌+◌, ◌⊎◌, Bool, List, ◌++◌, length, inl, inr, true, false, refl, sym, ◌∙◌, arith, ap, length-append}
+use Rattle.std.proofs.Common.{Result, Ok, Err, OnOk, OnErr, cond}
+use Rattle.std.specs.Result.{is_ok}
 use Rattle.std.specs.List.{count_by}
 use Rattle.std.proofs.lemmas.Result.{err_from_is_err_and}
 use Rattle.record_values.specs.declared.pair.Pair.{Pair}
@@ -27,6 +29,77 @@ moved test pairs cut behind gathered run others left merged new e d same which =
       count_append test run others,
       count_append test left new,
     )
+
+on_ok : {A E : Type 0} (r : Result A E) (P : Type 0) → (is_ok r ≡ true → P) → OnOk r P
+on_ok (Ok a) P f = f refl
+on_ok (Err e) P f = tt
+
+on_err : {A E : Type 0} (r : Result A E) (P : Type 0) → (is_ok r ≡ false → P) → OnErr r P
+on_err (Ok a) P f = tt
+on_err (Err e) P f = f refl
+
+-- all pairs are gathered
+gathered_all : (test : Pair → Bool) (pairs gathered merged new : List Pair) → new ≡ gathered ++ pairs
+    → count_by test (pairs ++ (gathered ++ merged)) ≡ count_by test (new ++ merged)
+gathered_all test pairs gathered merged new e =
+    omega (
+      arith,
+      ap (count_by test) e,
+      count_append test pairs (gathered ++ merged),
+      count_append test gathered merged,
+      count_append test gathered pairs,
+      count_append test new merged,
+    )
+
+pub overflow_sub-room : goal.overflow_sub-room
+overflow_sub-room g c = omega (arith, c.len-room.ensures, c.args.gathered.now.ok.0, c.requires.open_run)
+
+pub returns-then-len-room : goal.returns-then-len-room
+returns-then-len-room g c =
+    let r = c.extend_from_slice.result in
+    let pairs = c.args.pairs.items in
+    let gathered = c.args.gathered.now.items in
+    let new = c.extend_from_slice.new.self.items in
+    let grown : is_ok r ≡ true → new ≡ gathered ++ pairs = λ ok.
+        c.extend_from_slice.ensures.items ∙ (λ i. cond (ok i) (gathered ++ c.deref.ensures.value i) gathered) in
+    record {
+      added = on_ok r _ (λ ok test. gathered_all test pairs gathered c.args.merge.now.pairs new (grown ok));
+      open_run = on_ok r _ (λ ok.
+          let long = ap length (grown ok) in
+          let room = c.if-len-room.true in
+          omega (arith, long, length-append gathered pairs, room, c.len.ensures, c.len-room.ensures, c.args.gathered.now.ok.0, c.args.pairs.ok.0));
+      full = on_ok r _ (λ ok before. c.requires.full);
+      one_short = on_ok r _ (λ ok. omega (arith, c.requires.full));
+      merged_all = on_ok r _ (λ ok is. absurd (let e : false ≡ true = sym c.if-not-is_last.true ∙ is in cc));
+      same_gathered = on_err r _ (λ err.
+          c.extend_from_slice.ensures.items ∙ ap (λ b. cond b (gathered ++ c.deref.result.now) gathered) err);
+      same_merge = on_err r _ (λ err. refl);
+    }
+
+pub joined-requires : goal.joined-requires
+joined-requires g c =
+    omega (
+      arith,
+      ap length c.deref-2.ensures.value,
+      ap length c.deref-3.ensures.value,
+      ap length c.in_ok-behind.ensures.all,
+      length-append c.cut.new.pairs.items c.in_ok-behind.behind.items,
+      c.requires.open_run,
+      c.requires.few,
+    )
+
+pub add-requires : goal.add-requires
+add-requires g c =
+    let long = long_run c.in_ok-run.run'.items c.deref-2.result.now c.deref-3.result.now c.in_ok-run.ensures in
+    let all = ap length c.in_ok-behind.ensures.all in
+    let parts = length-append c.cut.new.pairs.items c.in_ok-behind.behind.items in
+    record { short = omega (arith, long, c.in_ok-behind.ensures.few); short_others = omega (arith, all, parts, c.requires.few) }
+
+pub add-requires-2 : goal.add-requires-2
+add-requires-2 g c =
+    let long = long_run c.in_ok-run.run'.items c.deref-2.result.now c.deref-3.result.now c.in_ok-run.ensures in
+    let none = ap length c.new-2.ensures.items in
+    record { short = omega (arith, long, c.in_ok-behind.ensures.few); short_others = omega (arith, none) }
 
 pub returns-then-is_last : goal.returns-then-is_last
 returns-then-is_last g c =
