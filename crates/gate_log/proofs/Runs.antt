@@ -9,7 +9,9 @@ use Rattle.std.proofs.lemmas.List.{take-append-drop, nil_from_length, length-dro
 use Rattle.sector_device.specs.Disk.{CrashState, sector}
 use Rattle.sector_device.specs.DevicePast.{Rises}
 use Rattle.record_values.specs.declared.error.Error.{Error}
-use Rattle.record_values.specs.declared.error.Error.TheVariants.{NoMemory, DeviceFailed}
+use Rattle.record_values.specs.declared.error.Error.TheVariants.{NoMemory, DeviceFailed, Damaged}
+use Rattle.gate_log.specs.declared.area.Appended.{Appended}
+use Rattle.gate_log.specs.declared.area.Appended.TheVariants.{Done, Full}
 use Rattle.gate_log.specs.Area.{Refuses}
 use Rattle.sector_device.proofs.Sectors.{part_is}
 
@@ -72,3 +74,23 @@ pub not_no_memory : {T : Type 0} (r : Result T Error) (before now : ℕ) → r �
 not_no_memory r before now is failed =
     let no : NoMemory ≡ DeviceFailed = (subst (λ x. IfErr x (λ (e : Error). (e ≡ DeviceFailed) × Rises before now)) is failed).0 in
     (cc)
+
+-- ---- one answer of an append is no other
+
+pub full_not_done : ◌≡◌ {A = Result Appended Error} (Ok Full) (Ok Done) → ⊥
+full_not_done is = (cc)
+
+pub done_not_full : ◌≡◌ {A = Result Appended Error} (Ok Done) (Ok Full) → ⊥
+done_not_full is = (cc)
+
+pub refused_not : (e : Error) (x : Appended) → ◌≡◌ {A = Result Appended Error} (Err e) (Ok x) → ⊥
+refused_not e x is = (cc)
+
+-- damage is no want of memory
+pub damaged_not_no_memory : (n : ℕ) → Damaged n ≡ NoMemory → ⊥
+damaged_not_no_memory n is = (cc)
+
+-- ---- numbers of slots
+
+pub same_between : (a b n : ℕ) → n ≡ a → a ≤ b → b ≤ n → a ≡ b
+same_between a b n is le ge = omega (arith, is, le, ge)

@@ -9,7 +9,7 @@ use Rattle.gate_log.specs.Area.{IsOpen, HoldsGroupsIn}
 use Rattle.std.proofs.lemmas.List.{flat_map_more}
 use Rattle.sector_device.proofs.Within.{reads_none, reads_then}
 use Rattle.gate_log.proofs.Areas.{one_closed, one_open, first_open, first_damaged, none_here, some_here}
-use Rattle.gate_log.proofs.Runs.{later_than, not_fewer, refuses_later}
+use Rattle.gate_log.proofs.Runs.{damaged_not_no_memory, later_than, not_fewer, refuses_later, same_between}
 use Rattle.gate_log.proofs.area.read_slots.Goals as goal
 
 pub overflow_mul-gate : goal.overflow_mul-gate
@@ -70,7 +70,7 @@ returns-then-count-slot g c =
       reads = reads_then _ _ _ before.reads c.is_open.ensures.reads;
       quiet = tt;
       told = λ _. quiet;
-      memory = λ never. absurd (cc);
+      memory = λ never. absurd (damaged_not_no_memory _ never);
       later = not_fewer _ _ quiet;
     }
 
@@ -81,7 +81,7 @@ returns-in_err-group g c =
     let read = before.read in
     let is_open = subst (λ (d : Disk). IsOpen d.content (c.args.first + 8 * slot)) before.reads.disk
     (c.in_ok-is_open.ensures.value.0 c.if-not-branch.false) in
-    let all : length read.0 ≡ slot = omega (arith, read.2, read.1.room, c.if-count-slot.false) in
+    let all : length read.0 ≡ slot = same_between _ _ _ read.2 read.1.room c.if-count-slot.false in
     let quiet = c.in_ok-is_open.ensures.quiet ∙ before.quiet in
     let p = err_from_is_err_and c.from_residual-in_err-group.result c.from_residual-in_err-group.ensures.1 in
     rw (p.1 ∙ ap Err p.2) (record {
@@ -112,7 +112,7 @@ returns-in_default g c =
       reads = reads_then _ _ _ before.reads (reads_then _ _ _ c.is_open.ensures.reads c.read_group.ensures.reads);
       quiet = tt;
       told = λ _. quiet;
-      memory = λ never. absurd (cc);
+      memory = λ never. absurd (damaged_not_no_memory _ never);
       later = not_fewer _ _ quiet;
     }
 
@@ -123,7 +123,7 @@ returns-in_err-append g c =
     let read = before.read in
     let is_open = subst (λ (d : Disk). IsOpen d.content (c.args.first + 8 * slot)) before.reads.disk
     (c.in_ok-is_open.ensures.value.0 c.if-not-branch.false) in
-    let all : length read.0 ≡ slot = omega (arith, read.2, read.1.room, c.if-count-slot.false) in
+    let all : length read.0 ≡ slot = same_between _ _ _ read.2 read.1.room c.if-count-slot.false in
     let quiet = c.in_ok-group.ensures.quiet ∙ (c.in_ok-is_open.ensures.quiet ∙ before.quiet) in
     let p = err_from_is_err_and c.from_residual-in_err-append.result c.from_residual-in_err-append.ensures.1 in
     rw p.1 (record {
@@ -159,7 +159,7 @@ loop-slot-preserved g c =
     let is_open = subst (λ (d : Disk). IsOpen d.content gate) c.loop-slot.invariant.reads.disk (c.in_ok-is_open.ensures.value.0 c.if-not-branch.false) in
     let found = subst (λ (d : Disk). IsGroupIn c.args.version group (concat (slice_range d.content (gate + 1) (gate + 8)))) same
     (some_here _ _ _ _ c.in-Some.is c.in_ok-group.ensures.found) in
-    let all : length read.0 ≡ slot = omega (arith, read.2, read.1.room, c.if-count-slot.false) in
+    let all : length read.0 ≡ slot = same_between _ _ _ read.2 read.1.room c.if-count-slot.false in
     record {
       read = (
         read.0 ++ group ∷ [],

@@ -3,7 +3,7 @@ use Rattle.std.proofs.lemmas.Result.{err_from_is_err_and, IfErr-weaker}
 use Rattle.records.specs.RecordValue.{RecordValue}
 use Rattle.gate_log.specs.Group.{IsGroup}
 use Rattle.gate_log.specs.Area.{Log, InArea}
-use Rattle.gate_log.proofs.Runs.{not_no_memory}
+use Rattle.gate_log.proofs.Runs.{full_not_done, not_no_memory, refused_not}
 use Rattle.gate_log.proofs.Slots.{nothing_appended}
 use Rattle.gate_log.proofs.area.LogArea.append.Goals as goal
 
@@ -15,11 +15,11 @@ returns-in_err-body g c =
     let log : Log = record { area = record { first = c.self.inside.first; slots = c.self.inside.slots }; open_slots = c.self.inside.open_slots } in
     let all_synced = subst (λ (l : Log). (n : ℕ) → InArea l.area n → old.disk.unsynced n ≡ false) (sym c.self.view_is) c.requires.synced in
     record {
-      done = λ is. absurd (cc);
-      marked = λ is. absurd (cc);
-      synced = λ is. absurd (cc);
-      survives = λ is. absurd (cc);
-      full = (λ is. absurd (cc), λ all. absurd (omega (arith, all, c.if-self.true)));
+      done = λ is. absurd (refused_not _ _ is);
+      marked = λ is. absurd (refused_not _ _ is);
+      synced = λ is. absurd (refused_not _ _ is);
+      survives = λ is. absurd (refused_not _ _ is);
+      full = (λ is. absurd (refused_not _ _ is), λ all. absurd (omega (arith, all, c.if-self.true)));
       any_moment = nothing_appended log old c.args.records.now all_synced;
       outside = record { sectors = refl; same = λ k out. refl };
       area = refl;
@@ -68,10 +68,10 @@ returns-else-self g c =
     let log : Log = record { area = record { first = c.self.inside.first; slots = c.self.inside.slots }; open_slots = c.self.inside.open_slots } in
     let all_synced = subst (λ (l : Log). (n : ℕ) → InArea l.area n → old.disk.unsynced n ≡ false) (sym c.self.view_is) c.requires.synced in
     record {
-      done = λ is. absurd (cc);
-      marked = λ is. absurd (cc);
-      synced = λ is. absurd (cc);
-      survives = λ is. absurd (cc);
+      done = λ is. absurd (full_not_done is);
+      marked = λ is. absurd (full_not_done is);
+      synced = λ is. absurd (full_not_done is);
+      survives = λ is. absurd (full_not_done is);
       full = (λ _. omega (arith, c.if-self.false, c.self.invariant.1), λ _. refl);
       any_moment = nothing_appended log old c.args.records.now all_synced;
       outside = record { sectors = refl; same = λ k out. refl };

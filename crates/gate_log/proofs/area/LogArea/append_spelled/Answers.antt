@@ -8,7 +8,7 @@ use Rattle.records.specs.RecordValue.{RecordValue}
 use Rattle.gate_log.specs.Group.{IsGroup}
 use Rattle.gate_log.specs.Area.{Log, gate, InArea, IsAreaInside, HoldsGroups, Stands, IsAppended}
 use Rattle.gate_log.specs.Steps.{MayDiffer, IsPartlyWritten}
-use Rattle.gate_log.proofs.Runs.{from_ok, from_err}
+use Rattle.gate_log.proofs.Runs.{done_not_full, from_ok, from_err, full_not_done, refused_not}
 use Rattle.gate_log.proofs.Slots.{length-group, nothing_appended, appended, is_appended}
 use Rattle.gate_log.proofs.area.LogArea.append_spelled.Goals as goal
 
@@ -20,10 +20,10 @@ returns-then-self g c =
     let log : Log = record { area = record { first = c.self.inside.first; slots = c.self.inside.slots }; open_slots = c.self.inside.open_slots } in
     let all_synced = subst (λ (l : Log). (n : ℕ) → InArea l.area n → old.disk.unsynced n ≡ false) (sym c.self.view_is) c.requires.synced in
     record {
-      done = λ is. absurd (cc);
-      marked = λ is. absurd (cc);
-      synced = λ is. absurd (cc);
-      survives = λ is. absurd (cc);
+      done = λ is. absurd (full_not_done is);
+      marked = λ is. absurd (full_not_done is);
+      synced = λ is. absurd (full_not_done is);
+      survives = λ is. absurd (full_not_done is);
       full = (λ _. c.if-self.true, λ _. refl);
       any_moment = λ records group. nothing_appended log old records all_synced;
       outside = record { sectors = refl; same = λ k out. refl };
@@ -67,17 +67,17 @@ returns-then-is_err g c =
     let room : c.self.inside.open_slots < c.self.inside.slots = omega (arith, c.self.invariant.1, c.if-self.false) in
     let done = c.write_group.ensures in
     record {
-      done = λ is. absurd (cc);
-      marked = λ is. absurd (cc);
-      synced = λ is. absurd (cc);
-      survives = λ is. absurd (cc);
-      full = (λ is. absurd (cc), λ all. absurd (omega (arith, room, all)));
+      done = λ is. absurd (refused_not _ _ is);
+      marked = λ is. absurd (refused_not _ _ is);
+      synced = λ is. absurd (refused_not _ _ is);
+      survives = λ is. absurd (refused_not _ _ is);
+      full = (λ is. absurd (refused_not _ _ is), λ all. absurd (omega (arith, room, all)));
       any_moment = λ records group. weaker old new (IsPartlyWritten old.disk (gate log.area log.open_slots) c.args.body.now) (IsAppended log old.disk records)
           (λ i partly. appended log old.disk records all_synced room c.args.body.now i group partly) done.any_moment;
       outside = done.outside;
       area = refl;
       err = refl;
-      unchanged = λ is. absurd (cc);
+      unchanged = λ is. absurd (refused_not _ _ is);
       refused = (refl, from_err _ c.write_group.result (sym c.is_err.ensures.value ∙ c.if-is_err.true) done.counts.failed);
       quiet = tt;
       later = done.counts.later;
@@ -115,13 +115,13 @@ returns g c =
       synced = λ _. from_ok _ _ ok done.synced;
       survives = λ _ records groups image group stood crash. subst (λ (i : CrashState). HoldsGroups log.area i (groups ++ records ∷ []))
           (sym (crash_synced new.disk image (from_ok _ _ ok done.synced) crash)) (held records groups group stood);
-      full = (λ is. absurd (cc), λ all. absurd (omega (arith, room, all)));
+      full = (λ is. absurd (done_not_full is), λ all. absurd (omega (arith, room, all)));
       any_moment = λ records group. weaker old new (IsPartlyWritten old.disk (gate log.area log.open_slots) c.args.body.now) (IsAppended log old.disk records)
           (λ i partly. appended log old.disk records all_synced room c.args.body.now i group partly) done.any_moment;
       outside = done.outside;
       area = refl;
       err = tt;
-      unchanged = λ is. absurd (cc);
+      unchanged = λ is. absurd (done_not_full is);
       refused = tt;
       quiet = from_ok _ _ ok done.counts.none;
       later = done.counts.later;
