@@ -1,9 +1,17 @@
-use Rattle.std.proofs.Common.{◌<◌, inl, inr, length, refl, sym, ◌∙◌, arith}
+use Rattle.std.proofs.Common.{Result, Ok, Err, ◌≡◌, ◌<◌, inl, inr, length, refl, sym, ◌∙◌, arith}
 use Rattle.record_values.specs.GeometryValue.{sectors_of}
 use Rattle.sector_device.specs.Disk.{CrashState}
+use Rattle.record_values.specs.declared.error.Error.{Error}
+use Rattle.record_values.specs.declared.error.Error.TheVariants.{DeviceFailed, DeviceTooSmall}
 use Rattle.flip_image.proofs.Formats.{still}
 use Rattle.flip_image.proofs.Results.{from_ok, from_err}
 use Rattle.flip_image.proofs.halves.Halves.format.Goals as goal
+
+failed_not_small : ◌≡◌ {A = Result Unit Error} (Err DeviceFailed) (Err DeviceTooSmall) → ⊥
+failed_not_small is = (cc)
+
+done_not_small : ◌≡◌ {A = Result Unit Error} (Ok tt) (Err DeviceTooSmall) → ⊥
+done_not_small is = (cc)
 
 pub returns-then-sectors-needed : goal.returns-then-sectors-needed
 returns-then-sectors-needed g c =
@@ -37,10 +45,10 @@ returns-then-is_err g c =
       synced = tt;
       outside = done.outside;
       too_small = (
-        λ is. absurd (cc),
+        λ is. absurd (failed_not_small is),
         λ small. absurd (omega (arith, small, c.if-sectors-needed.false, c.sectors.ensures, c.sectors-needed.ensures)),
       );
-      unchanged = λ is. absurd (cc);
+      unchanged = λ is. absurd (failed_not_small is);
       refused = inr (refl, from_err _ c.write_store.result (sym c.is_err.ensures.value ∙ c.if-is_err.true) done.counts.failed);
       quiet = tt;
       later = done.counts.later;
@@ -58,10 +66,10 @@ returns g c =
       synced = from_ok _ _ ok done.synced;
       outside = done.outside;
       too_small = (
-        λ is. absurd (cc),
+        λ is. absurd (done_not_small is),
         λ small. absurd (omega (arith, small, c.if-sectors-needed.false, c.sectors.ensures, c.sectors-needed.ensures)),
       );
-      unchanged = λ is. absurd (cc);
+      unchanged = λ is. absurd (done_not_small is);
       refused = tt;
       quiet = from_ok _ _ ok done.counts.none;
       later = done.counts.later;
