@@ -1,10 +1,10 @@
-use Rattle.std.proofs.Common.{◌≡◌, ◌⊎◌, inl, inr, ⊎_elim, ℕ, ◌<◌, List, [], Some, None, refl, sym, ◌∙◌, ap, subst, arith}
+use Rattle.std.proofs.Common.{◌≡◌, ◌⊎◌, inl, inr, ⊎_elim, ℕ, ◌<◌, List, [], Option, Some, None, refl, sym, ◌∙◌, ap, subst, arith}
 use Rattle.sector_device.specs.DevicePast.{Rises}
 use Rattle.block_device.specs.Blocks.{CrashFile, block}
 use Rattle.block_device.specs.BlocksPast.{BlocksPast, WrittenBack}
 use Rattle.block_device.proofs.CrashFiles.{content_is_image, crash_synced}
 use Rattle.block_device.proofs.Moments.{at_end, joined, started}
-use Rattle.block_batch.specs.Batch.{Entry, replayed}
+use Rattle.block_batch.specs.Batch.{Batch, Entry, replayed}
 use Rattle.block_journal.specs.Layout.{found, recovered}
 use Rattle.block_journal.specs.Journal.{BeginsBack, StaysRecovered}
 use Rattle.block_journal.specs.Value.{JournalValue, content_of, settled_of}
@@ -12,6 +12,8 @@ use Rattle.block_journal.proofs.Placing.{inside_same}
 use Rattle.block_journal.proofs.Results.{from_err, from_ok}
 use Rattle.block_table.specs.Checked.{CheckedValue}
 use Rattle.block_table.specs.Table.{EachFits, data_of}
+use Rattle.block_file.specs.declared.opening.FileError.{FileError}
+use Rattle.block_file.specs.declared.opening.FileError.TheVariants.{Damaged, FileFailed, NoBatch, NoHeader, TooShort}
 use Rattle.block_file.specs.declared.plan.Plan.{Plan}
 use Rattle.block_file.specs.Header.{TellTwice, plan_told}
 use Rattle.block_file.specs.Making.{AreBegun, BecomesZeros, BeginsNewBack, HoldsZeros, WritesNewBack}
@@ -28,6 +30,21 @@ goes_on : (p : Plan) (old mid new : BlocksPast) → BecomesZeros p old mid → H
 goes_on p old mid new first held stays = joined old mid new (λ c. (plan_told c ≡ plan_told old.file.content) ⊎ HoldsZeros p c) first
     (leaves_weaker mid new (λ c. recovered p.shape c ≡ recovered p.shape mid.file.content)
     (λ c. (plan_told c ≡ plan_told old.file.content) ⊎ HoldsZeros p c) (λ c same. inr (same_zeros p mid.file.content c same held)) stays)
+
+not_short : Path FileError FileFailed TooShort → ⊥
+not_short is = cc
+
+not_header : Path FileError FileFailed NoHeader → ⊥
+not_header is = cc
+
+not_batch : Path FileError FileFailed NoBatch → ⊥
+not_batch is = cc
+
+not_damaged : (n : ℕ) → Path FileError FileFailed (Damaged n) → ⊥
+not_damaged n is = cc
+
+never : (o : Option Batch) (b : Batch) → o ≡ Some b → o ≡ None → ⊥
+never o b some none = cc
 
 pub has_room-requires : goal.has_room-requires
 has_room-requires g c = told_is_plan c.args.plan c.requires.told
@@ -78,12 +95,12 @@ returns-then-is_err g c =
       written_back = tt;
       refused = c.lay_out.ensures.any_moment;
       written_back_refused = inl c.lay_out.ensures.back;
-      left_alone = λ is. absurd (cc);
-      too_short = λ is. absurd (cc);
+      left_alone = λ is. absurd (not_short is);
+      too_short = λ is. absurd (not_short is);
       failed = λ is. from_err _ _ failed c.lay_out.ensures.counts.failed;
-      header = λ is. absurd (cc);
-      batch = λ is. absurd (cc);
-      undamaged = λ n is. absurd (cc);
+      header = not_header;
+      batch = not_batch;
+      undamaged = not_damaged;
     }
 
 pub returns-in-Ok : goal.returns-in-Ok
@@ -172,6 +189,6 @@ returns-in-Err g c =
       too_short = λ is. absurd (kind.short is);
       failed = λ is. subst (λ (a : ℕ). Rises a (F c.in-Err.refused.file)) (from_ok _ _ good c.lay_out.ensures.counts.none) (refused.failed (kind.failed is));
       header = kind.header;
-      batch = λ is. let none : found plan.shape mid.file.content 0 ≡ None = (refused.no_batch (kind.batch is)).0 in absurd (cc);
+      batch = λ is. never _ _ begun (refused.no_batch (kind.batch is)).0;
       undamaged = kind.undamaged;
     }
