@@ -12,6 +12,8 @@ use Rattle.block_journal.proofs.WritingBack.{begins_back_behind, writes_back_beh
 use Rattle.block_journal.specs.Value.{JournalValue}
 use Rattle.block_table.specs.Checked.{CheckedValue, kept_table, settled_table}
 use Rattle.block_table.specs.Table.{data_of}
+use Rattle.block_file.specs.declared.opening.FileError.{FileError}
+use Rattle.block_file.specs.declared.opening.FileError.TheVariants.{Damaged, FileFailed, NoBatch, NoHeader, TooShort}
 use Rattle.block_file.specs.declared.plan.Plan.{Plan}
 use Rattle.block_file.specs.Plans.{disk_image}
 use Rattle.block_file.specs.Disks.{disk_past, first_content, journal_in}
@@ -20,6 +22,18 @@ use Rattle.block_file.proofs.Heading.{still_told}
 use Rattle.block_file.specs.Sectors.{sectors_of}
 use Rattle.block_file.proofs.Openings.{before_then, reads_before, reads_recovered, same_plan, stays_then}
 use Rattle.block_file.proofs.uncompared.open_uncompared.Goals as goal
+
+not_header : Path FileError TooShort NoHeader → ⊥
+not_header is = cc
+
+not_failed : Path FileError TooShort FileFailed → ⊥
+not_failed is = cc
+
+not_batch : Path FileError TooShort NoBatch → ⊥
+not_batch is = cc
+
+not_damaged : (n : ℕ) → Path FileError TooShort (Damaged n) → ⊥
+not_damaged n is = cc
 
 -- ---- it is opened
 
@@ -267,3 +281,44 @@ returns-in-Ok-open-clause-written_back g c =
     (back (journal_in (c.over.result).now).below)) (sym c.over.ensures.plan)
     (subst (λ (v : JournalValue g.row.B.Denot). WritesBackFirst plan.shape old (h v.below) (back c.args.below) (back v.below))
     (sym c.over.ensures.journal) first)
+
+-- ---- what the calls need, and what is plain
+
+pub has_room-requires : goal.has_room-requires
+has_room-requires g c = c.in-Ok.ensures.plan
+
+pub open-requires : goal.open-requires
+open-requires g c = record {
+  inside = c.has_room.ensures.room c.if-not-has_room.false;
+  kept = c.in-Ok.ensures.plan.kept;
+  synced = λ n other. ap (λ (f : BlockFile). f.loose n) c.in-Ok.ensures.reads.file ∙ c.requires n;
+}
+
+pub over-requires : goal.over-requires
+over-requires g c =
+    let opened = c.in-Ok-open.ensures in
+    record { plan = c.in-Ok.ensures.plan; shape = opened.shape; blocks = opened.blocks; none = opened.none; good = opened.sound }
+
+pub returns-in-Ok-open-clause-told : goal.returns-in-Ok-open-clause-told
+returns-in-Ok-open-clause-told g c = c.in-Ok.ensures.told ∙ ap Some (sym c.over.ensures.plan)
+
+pub returns-in-Ok-open-clause-synced : goal.returns-in-Ok-open-clause-synced
+returns-in-Ok-open-clause-synced g c = c.over.ensures.synced
+
+pub returns-then-not-has_room-clause-undamaged : goal.returns-then-not-has_room-clause-undamaged
+returns-then-not-has_room-clause-undamaged g c = not_damaged
+
+pub returns-then-not-has_room-clause-no_header : goal.returns-then-not-has_room-clause-no_header
+returns-then-not-has_room-clause-no_header g c = λ is. absurd (not_header is)
+
+pub returns-then-not-has_room-clause-failed : goal.returns-then-not-has_room-clause-failed
+returns-then-not-has_room-clause-failed g c = λ is. absurd (not_failed is)
+
+pub returns-then-not-has_room-clause-no_batch : goal.returns-then-not-has_room-clause-no_batch
+returns-then-not-has_room-clause-no_batch g c = λ is. absurd (not_batch is)
+
+pub returns-in-Err-open-clause-undamaged : goal.returns-in-Err-open-clause-undamaged
+returns-in-Err-open-clause-undamaged g c = c.error_of.ensures.undamaged
+
+pub returns-in-Err-open-clause-no_header : goal.returns-in-Err-open-clause-no_header
+returns-in-Err-open-clause-no_header g c = λ is. absurd (c.error_of.ensures.header is)
