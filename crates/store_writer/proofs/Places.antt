@@ -1,8 +1,9 @@
 -- Where the copying of an image goes on.
-use Rattle.std.proofs.Common.{◌≡◌, inl, inr, ⊎_elim, ℕ, ◌+◌, ◌<◌, true, false, Bool, Option, Some, None, refl, ap, ◌∙◌, arith}
+use Rattle.std.proofs.Common.{◌≡◌, inl, inr, ⊎_elim, ℕ, ◌+◌, ◌<◌, true, false, Bool, Option, Some, None, refl, sym, ap, ◌∙◌, arith}
 use Rattle.std.specs.Prelude.{nat_lt, if◌then◌else◌}
 use Rattle.std.specs.Option.{option_map, option_map_or}
 use Rattle.std.proofs.lemmas.Bool.{ltb-true, ltb-false}
+use Rattle.std.proofs.lemmas.Option.{same_Some}
 use Rattle.record_values.specs.declared.pair.Pair.{Pair}
 use Rattle.record_values.specs.declared.pair.Mark.{Mark}
 use Rattle.model.specs.declared.life.Life.{Life}
@@ -12,9 +13,20 @@ use Rattle.store_writer.specs.Copying.{IsCopying, next_place}
 use Rattle.store_writer.specs.declared.copying.Copying.{Copying}
 use Rattle.store_writer.specs.declared.copying.Copying.TheVariants.{Idle, Steps, GivenUp}
 use Rattle.store_writer.specs.declared.image.NewImage.{NewImage}
+use Rattle.store_writer.specs.declared.image.Stage.{Stage}
 use Rattle.store_writer.specs.declared.image.Stage.TheVariants as stage
 use Rattle.store_writer.specs.Places.{IsAtPlace}
 use Rattle.store_writer.specs.Image.{StaysAtStage}
+
+-- what is told of the image is of one stage, and of one place in it
+pub one_stage : (o : Option NewImage) (i j : NewImage) (s t : Stage) → o ≡ Some i → o ≡ Some j → i.stage ≡ s → j.stage ≡ t → s ≡ t
+one_stage o i j s t one other is at = sym is ∙ ap (λ (x : NewImage). x.stage) (same_Some i j (sym one ∙ other)) ∙ at
+
+pub one_place : (p q n m : ℕ) (h k : Option Pair) (l t : Life) → stage.Partly p n h l ≡ stage.Partly q m k t → (p ≡ q) × (n ≡ m) × (l ≡ t)
+one_place p q n m h k l t same = (cc same, cc same, cc same)
+
+pub not_partly : (p n : ℕ) (h : Option Pair) (l : Life) → stage.Whole ≡ stage.Partly p n h l → ⊥
+not_partly p n h l never = (cc)
 
 module _ (pages : ℕ) (there : Option NewImage) (image : NewImage) (there_is : there ≡ Some image) where
   -- behind a page comes the next one, and behind the last page the first entries

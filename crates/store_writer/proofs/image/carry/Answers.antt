@@ -1,5 +1,6 @@
-use Rattle.std.proofs.Common.{◌≡◌, ◌/◌, ◌+◌, ◌<◌, length, Option, IfSome, Ok, inl, inr, ⊎_elim, refl, sym, ap, subst, arith}
+use Rattle.std.proofs.Common.{◌≡◌, ◌/◌, ◌+◌, ◌<◌, length, Option, IfSome, Ok, inl, inr, ⊎_elim, refl, sym, ap, subst, ◌∙◌, arith}
 use Rattle.std.proofs.lemmas.Bool.{cases_lt}
+use Rattle.std.proofs.lemmas.Option.{none-some, same_Some}
 use Rattle.gate_log.specs.Area.{Area}
 use Rattle.gate_log.specs.declared.area.Appended.TheVariants.{Done, Full}
 use Rattle.store_writer.specs.declared.image.NewImage.{NewImage}
@@ -41,7 +42,7 @@ returns-in-GiveUp g c =
           let (i, there, more, late) = subst (IsPlan c.args.image slots synced group) c.in-GiveUp.is planned in
           gives_up slots synced (length group) c.args.image i there more late;
       none = λ none. refl;
-      stage = λ n is. absurd (cc is);
+      stage = λ n is. absurd (none-some n is);
       synced = all;
       outside = outside;
       any_moment = leaves;
@@ -58,7 +59,7 @@ returns-in_default g c =
       carried = λ slots synced group planned run half is slots_is opened made group_is. tt;
       becomes = λ slots synced group planned run half is slots_is some. becomes_none slots synced (length group) c.args.image c.in_default.is;
       none = λ none. refl;
-      stage = λ n is. absurd (cc is);
+      stage = λ n is. absurd (none-some n is);
       synced = all;
       outside = outside;
       any_moment = leaves;
@@ -87,7 +88,7 @@ returns-in-Ok-Done g c =
     let new : NewImage = c.in-Some.image in
     let log = c.append_spelled.new.self in
     let taken : NewImage = record { base = new.base; number = new.number; stage = new.stage; log = log } in
-    let done : c.append_spelled.result ≡ Ok Done = cc (c.in-Ok-Done.is, c.in-Ok-Done.field-0-is) in
+    let done : c.append_spelled.result ≡ Ok Done = c.in-Ok-Done.is ∙ ap Ok c.in-Ok-Done.field-0-is in
     let room : new.log.open_slots < new.log.area.slots =
     room_where_done c.append_spelled.result _ _ (c.requires.room new c.in-Some.is) c.append_spelled.ensures.full done in
     let (any_slots, any_synced, any_group, any_plan) = c.requires.planned in
@@ -112,9 +113,9 @@ returns-in-Ok-Done g c =
           subst (λ (t : Option NewImage). IfSome t (IsUnderway run half h.disk.content synced)) c.in-Some.is is in
           becomes_more slots synced (length group) c.args.image new taken c.in-Some.is planned.0 planned.1 refl refl refl
           (one_more_open there.groups _ _ _ there.stands.counted (c.append_spelled.ensures.done done _ there.groups planned.2 there.stands).counted);
-      none = λ none. absurd (cc (none, c.in-Some.is));
+      none = λ none. absurd (none-some _ (sym none ∙ c.in-Some.is));
       stage = λ n is.
-          let same : taken ≡ n = cc is in
+          let same : taken ≡ n = same_Some _ _ is in
           (new, c.in-Some.is, ap (λ (x : NewImage). x.stage) (sym same));
       synced = c.append_spelled.ensures.synced done;
       outside = outside;
@@ -129,7 +130,7 @@ returns-in-Ok-Full g c =
     let past_of = g.D.Device.past_of in
     let device = c.args.device.now in
     let new : NewImage = c.in-Some.image in
-    let full : c.append_spelled.result ≡ Ok Full = cc (c.in-Ok-Full.is, c.in-Ok-Full.field-0-is) in
+    let full : c.append_spelled.result ≡ Ok Full = c.in-Ok-Full.is ∙ ap Ok c.in-Ok-Full.field-0-is in
     let (all, (outside, leaves, slot)) =
     untouched past_of c.args.image device c.append_spelled.new.device c.requires.synced (c.append_spelled.ensures.unchanged full).1 in
     record {
@@ -141,7 +142,7 @@ returns-in-Ok-Full g c =
           subst (λ (t : Option NewImage). IfSome t (IsUnderway run half (past_of device).disk.content synced)) c.in-Some.is is in
           absurd (omega (arith, planned.1, c.append_spelled.ensures.full.0 full, ap (λ (a : Area). a.slots) there.area-is, slots_is));
       none = λ none. refl;
-      stage = λ n is. absurd (cc is);
+      stage = λ n is. absurd (none-some n is);
       synced = all;
       outside = outside;
       any_moment = leaves;
@@ -170,5 +171,5 @@ returns g c =
       any_moment = leaves;
       slot = slot;
       counts = record { later = c.append_spelled.ensures.later; none = tt; failed = c.in-Err.ensures.refused.1 };
-      keeps = λ none. cc (none, c.in-Some.is);
+      keeps = λ none. absurd (none-some _ (sym none ∙ c.in-Some.is));
     }

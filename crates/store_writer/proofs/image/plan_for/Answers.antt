@@ -1,4 +1,5 @@
 use Rattle.std.proofs.Common.{◌≡◌, ℕ, List, drop, Err, sym, ap, subst, ◌∙◌, arith}
+use Rattle.std.proofs.lemmas.Option.{none-some, same_Some}
 use Rattle.std.proofs.lemmas.Result.{err_from_is_err_and}
 use Rattle.records.specs.RecordValue.{RecordValue}
 use Rattle.record_values.specs.GeometryValue.{GeometryValue}
@@ -8,12 +9,12 @@ use Rattle.store_writer.proofs.Underway.{last_fit, rest_is}
 use Rattle.store_writer.proofs.image.plan_for.Goals as goal
 
 pub returns-in_default : goal.returns-in_default
-returns-in_default g c = record { planned = λ i it. absurd (cc (c.in_default.is, it)); no_memory = tt }
+returns-in_default g c = record { planned = λ i it. absurd (none-some i (sym c.in_default.is ∙ it)); no_memory = tt }
 
 pub returns-then-group-below : goal.returns-then-group-below
 returns-then-group-below g c = record {
   planned = λ i it.
-      let same : c.in-Some.image ≡ i = cc (c.in-Some.is, it) in
+      let same : c.in-Some.image ≡ i = same_Some _ _ (sym c.in-Some.is ∙ it) in
       omega (arith, c.if-group-below.true, c.saturating_sub-below.ensures, ap (λ (x : NewImage). x.base) same);
   no_memory = tt;
 }

@@ -1,11 +1,15 @@
-use Rattle.std.proofs.Common.{true, ◌≡◌, ◌≤◌, ◌-◌, drop, ℕ, Vec, None, Some, refl, sym, ap, subst, ◌∙◌, arith}
+use Rattle.std.proofs.Common.{true, Result, Ok, Err, ◌≡◌, ◌≤◌, ◌-◌, drop, ℕ, Vec, None, Some, refl, sym, ap, subst, ◌∙◌, arith}
 use Rattle.std.proofs.lemmas.Bool.{false≢true}
+use Rattle.std.proofs.lemmas.Option.{same_Some}
+use Rattle.record_values.specs.declared.error.Error.{Error}
 use Rattle.sector_device.specs.Disk.{sector}
 use Rattle.sector_device.proofs.Moments.{started}
 use Rattle.flip_image.specs.Layout.{HalvesValue, other}
 use Rattle.flip_image.specs.Store.{Names}
 use Rattle.store_writer.specs.declared.copying.Copying.TheVariants.{Idle}
 use Rattle.store_writer.specs.declared.writer.Writer.{Writer}
+use Rattle.store_writer.specs.declared.writer.FlipReply.{FlipReply}
+use Rattle.store_writer.specs.declared.writer.FlipReply.TheVariants.{Flipped, Behind}
 use Rattle.store_writer.specs.declared.image.NewImage.{NewImage}
 use Rattle.store_writer.specs.declared.image.Stage.TheVariants.{Whole}
 use Rattle.store_writer.specs.Contents.{LeftBy}
@@ -21,6 +25,12 @@ use Rattle.store_writer.proofs.Alone.{none_alone, flipped_alone}
 use Rattle.store_writer.proofs.store.StoreWriter.checkpoint_flip.Goals as goal
 use Rattle.store_writer.proofs.store.StoreWriter.checkpoint_flip.Goals.{then-handed-image-via-then-handed-image}
 use Rattle.store_writer.proofs.store.StoreWriter.checkpoint_flip.Goals.{then-handed-image-via-else-handed-image+then-reached-image}
+
+behind_not : (n : ℕ) → ◌≡◌ {A = Result FlipReply Error} (Ok Behind) (Ok (Flipped n)) → ⊥
+behind_not n is = (cc)
+
+refused_not : (e : Error) (r : FlipReply) → ◌≡◌ {A = Result FlipReply Error} (Err e) (Ok r) → ⊥
+refused_not e r is = (cc)
 
 pub returns-then-self : goal.returns-then-self
 returns-then-self g c =
@@ -38,7 +48,7 @@ returns-then-self g c =
       kept = refl;
       around = none_alone g.D.Device.past_of (λ n. n ≡ 1) old.device;
       left = refl;
-      turns = λ n never. absurd (cc never);
+      turns = λ n never. absurd (refused_not _ _ never);
     })
 
 pub returns-in_default : goal.returns-in_default
@@ -57,7 +67,7 @@ returns-in_default g c =
       kept = tt;
       around = none_alone g.D.Device.past_of (λ n. n ≡ 1) old.device;
       left = tt;
-      turns = λ n never. absurd (cc never);
+      turns = λ n never. absurd (behind_not _ never);
     })
 
 pub returns-in_default-stage : goal.returns-in_default-stage
@@ -76,7 +86,7 @@ returns-in_default-stage g c =
       kept = tt;
       around = none_alone g.D.Device.past_of (λ n. n ≡ 1) old.device;
       left = tt;
-      turns = λ n never. absurd (cc never);
+      turns = λ n never. absurd (behind_not _ never);
     })
 
 pub returns-then-handed-image : goal.returns-then-handed-image
@@ -90,7 +100,7 @@ returns-then-handed-image g c =
         refl,
         λ can.
             let (image, there, whole, most, reaches) = can in
-            let same : c.in-Some.image ≡ image = cc (c.in-Some.is, there) in
+            let same : c.in-Some.image ≡ image = same_Some _ _ (sym c.in-Some.is ∙ there) in
             let number : c.in-Some.image.number ≡ image.number = ap (λ (x : NewImage). x.number) same in
             let base : c.in-Some.image.base ≡ image.base = ap (λ (x : NewImage). x.base) same in
             let count = waits_all g.D.Device.past_of run handed old is in
@@ -109,7 +119,7 @@ returns-then-handed-image g c =
       kept = tt;
       around = none_alone g.D.Device.past_of (λ n. n ≡ 1) old.device;
       left = tt;
-      turns = λ n never. absurd (cc never);
+      turns = λ n never. absurd (behind_not _ never);
     })
 
 pub returns-then-is_err : goal.returns-then-is_err
@@ -162,7 +172,7 @@ returns-then-is_err g c =
         known = old.known;
         failed = true;
       }) same;
-      turns = λ n never. absurd (cc never);
+      turns = λ n never. absurd (refused_not _ _ never);
     })
 
 pub returns : goal.returns
@@ -204,11 +214,11 @@ returns g c =
         refl,
         omega (arith, c.max-reached.ensures),
         (image, c.in-Some.is, whole, within run handed is, reaches),
-        (λ t it. let same : image ≡ t = cc (c.in-Some.is, it) in c.max-reached.ensures ∙ ap (λ (x : NewImage). reach x old.synced) same),
+        (λ t it. let same : image ≡ t = same_Some _ _ (sym c.in-Some.is ∙ it) in c.max-reached.ensures ∙ ap (λ (x : NewImage). reach x old.synced) same),
         refl,
         record {
           halves-are = halves_is;
-          log-is = λ t it. let same : image ≡ t = cc (c.in-Some.is, it) in ap (λ (x : NewImage). x.log) same;
+          log-is = λ t it. let same : image ≡ t = same_Some _ _ (sym c.in-Some.is ∙ it) in ap (λ (x : NewImage). x.log) same;
           waiting-are = waits;
           copying-is = refl;
         },
@@ -224,7 +234,7 @@ returns g c =
       turns = λ n _. (
         ap (λ (v : Vec ℕ g.row.A.Denot). v.items) c.turn.ensures.changed,
         c.turn.ensures.other,
-        λ t it. let same : image ≡ t = cc (c.in-Some.is, it) in c.turn.ensures.current ∙ ap (λ (x : NewImage). Some x.base) same,
+        λ t it. let same : image ≡ t = same_Some _ _ (sym c.in-Some.is ∙ it) in c.turn.ensures.current ∙ ap (λ (x : NewImage). Some x.base) same,
       );
     })
 

@@ -1,13 +1,17 @@
-use Rattle.std.proofs.Common.{Err, refl, sym, ap, ◌∙◌, arith}
+use Rattle.std.proofs.Common.{Err, ◌≡◌, refl, sym, ap, ◌∙◌, arith}
 use Rattle.std.proofs.lemmas.Bool.{false≢true}
 use Rattle.std.proofs.lemmas.Result.{err_from_is_err_and}
 use Rattle.sector_device.proofs.Moments.{started}
 use Rattle.flip_image.specs.Layout.{other, InHalf}
 use Rattle.store_writer.specs.Contents.{LeftBy}
 use Rattle.store_writer.specs.declared.copying.Copying.TheVariants.{GivenUp}
+use Rattle.store_writer.specs.declared.writer.StepReply.TheVariants.{Taken, StartAgain}
 use Rattle.store_writer.proofs.Alone.{none_alone}
 use Rattle.store_writer.proofs.Opening.{without}
 use Rattle.store_writer.proofs.store.StoreWriter.checkpoint_step.Goals as goal
+
+again_not_taken : StartAgain ≡ Taken → ⊥
+again_not_taken taken = (cc)
 
 pub take-requires-clause-chunk : goal.take-requires-clause-chunk
 take-requires-clause-chunk g c = (rw (← c.self.view_is) at c.requires)
@@ -47,7 +51,7 @@ returns-then-must_start_again g c =
       kept = refl;
       around = none_alone g.D.Device.past_of (InHalf old.halves.geometry (other old.halves.current)) old.device;
       left = tt;
-      knows = λ taken. absurd (cc taken);
+      knows = λ taken. absurd (again_not_taken taken);
     })
 
 pub returns-in_err-take : goal.returns-in_err-take

@@ -1,5 +1,6 @@
-use Rattle.std.proofs.Common.{◌≡◌, IsTrue, ℕ, ◌+◌, ◌<◌, Option, Some, subst, arith}
+use Rattle.std.proofs.Common.{◌≡◌, IsTrue, ℕ, ◌+◌, ◌<◌, Option, Some, sym, subst, ◌∙◌, arith}
 use Rattle.std.proofs.lemmas.Bool.{false≢true}
+use Rattle.std.proofs.lemmas.Option.{none-some}
 use Rattle.record_values.specs.GeometryValue.{GeometryValue}
 use Rattle.record_values.specs.declared.pair.Pair.{Pair}
 use Rattle.model.specs.declared.life.Life.{Life}
@@ -23,7 +24,7 @@ not_whole w more image is whole (i, pages, count, highest, life, there, at, past
     cc never
 
 pub returns-in_default : goal.returns-in_default
-returns-in_default g c = (λ found. absurd (false≢true found), λ past. absurd (let there = past.5 in cc (c.in_default.is, there)))
+returns-in_default g c = (λ found. absurd (false≢true found), λ past. absurd (none-some _ (sym c.in_default.is ∙ past.5)))
 
 pub returns-in_default-stage : goal.returns-in_default-stage
 returns-in_default-stage g c = (

@@ -1,5 +1,6 @@
 use Rattle.std.proofs.Common.{◌≡◌, refl, ℕ, ◌+◌, ◌<◌, ◌≤◌, Some, sym, ap, subst, ◌∙◌, arith}
 use Rattle.std.proofs.lemmas.Bool.{false≢true}
+use Rattle.std.proofs.lemmas.Option.{none-some, same_Some}
 use Rattle.record_values.specs.GeometryValue.{GeometryValue}
 use Rattle.store_writer.specs.Known.{IsKnown}
 use Rattle.store_writer.specs.Parts.{handed_of}
@@ -10,6 +11,7 @@ use Rattle.store_writer.specs.declared.image.NewImage.{NewImage}
 use Rattle.store_writer.specs.declared.image.Stage.TheVariants.{Partly, Whole}
 use Rattle.store_writer.specs.declared.writer.Writer.{Writer}
 use Rattle.store_writer.proofs.KnownPages.{as_taken, below, next, passed}
+use Rattle.store_writer.proofs.Places.{not_partly, one_place, one_stage}
 use Rattle.store_writer.proofs.writer.Writer.pass.Goals as goal
 use Rattle.store_writer.proofs.writer.Writer.pass.Goals.{then-self-via-then-self, then-self-via-else-self+then-is_full}
 use Rattle.store_writer.proofs.writer.Writer.pass.Goals.{then-self-via-else-self+else-is_full+then-not-has}
@@ -23,7 +25,7 @@ returns-in_default g c = record {
     λ no. absurd (false≢true no),
     λ may.
         let (sound, room, (image, page, count, highest, life, there, at, up, known)) = may in
-        absurd (cc (c.in_default.is, there)),
+        absurd (none-some image (sym c.in_default.is ∙ there)),
   );
   taken = λ no. absurd (false≢true no);
 }
@@ -37,8 +39,8 @@ returns-in_default-stage g c = record {
     λ no. absurd (false≢true no),
     λ may.
         let (sound, room, (image, page, count, highest, life, there, at, up, known)) = may in
-        let never : Whole ≡ Partly page count highest life = cc (c.in-Some.is, there, c.in_default-stage.is, at) in
-        absurd (cc never),
+        let never : Whole ≡ Partly page count highest life = one_stage _ c.in-Some.image image _ _ c.in-Some.is there c.in_default-stage.is at in
+        absurd (not_partly page count highest life never),
   );
   taken = λ no. absurd (false≢true no);
 }
@@ -53,8 +55,8 @@ returns-then-self g c = record {
     λ may.
         let (sound, room, (image, page, count, highest, life, there, at, up, known)) = may in
         let same : Partly c.in-Partly.page c.in-Partly.entries c.in-Partly.highest c.in-Partly.life ≡ Partly page count highest life =
-        cc (there, c.in-Some.is, at, c.in-Partly.is) in
-        let here : page ≡ c.in-Partly.page = cc same in
+        one_stage _ c.in-Some.image image _ _ c.in-Some.is there c.in-Partly.is at in
+        let here : page ≡ c.in-Partly.page = sym (one_place _ _ _ _ _ _ _ _ same).0 in
         let old = c.args.self.now in
         elim c.then-self.branch [
           | then-self-via-then-self w ↦ absurd (false≢true (sym sound ∙ w.if-self.true))
@@ -75,7 +77,7 @@ returns-then-handed-image g c = record {
     λ no. absurd (false≢true no),
     λ may.
         let (sound, room, (image, page, count, highest, life, there, at, up, known)) = may in
-        let same : c.in-Some.image ≡ image = cc (c.in-Some.is, there) in
+        let same : c.in-Some.image ≡ image = same_Some _ _ (sym c.in-Some.is ∙ there) in
         absurd (omega (arith, c.if-handed-image.true, c.handed-handed.ensures, ap (λ (i : NewImage). i.number) same, up)),
   );
   taken = λ no. absurd (false≢true no);

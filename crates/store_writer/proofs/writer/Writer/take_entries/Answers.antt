@@ -21,7 +21,7 @@ use Rattle.store_writer.specs.declared.image.Stage.{Stage}
 use Rattle.store_writer.specs.declared.image.Stage.TheVariants.{Whole, Partly}
 use Rattle.store_writer.specs.Image.{IsPart, IsContent, IsUnderway}
 use Rattle.store_writer.proofs.Idle.{from_err, from_ok, writing, written_outside, written_loose, written_log}
-use Rattle.store_writer.proofs.Places.{behind_entries}
+use Rattle.store_writer.proofs.Places.{behind_entries, not_partly, one_place}
 use Rattle.store_writer.proofs.Stepwise.{at_stage, with_entries}
 use Rattle.store_writer.proofs.Writing.{stood, carried_on}
 use Rattle.store_writer.proofs.Taking.{known_dropped, leaves_kept, may_write, stands_with}
@@ -35,7 +35,7 @@ pub unreachable-requires-in_default-stage : goal.unreachable-requires-in_default
 unreachable-requires-in_default-stage g c =
     let (run, handed, is, asked) = c.requires.entries in
     let no : Whole ≡ _ = sym c.in_default-stage.is ∙ (asked c.in-Some.image c.in-Some.is).next in
-    cc no
+    absurd (not_partly _ _ _ _ no)
 
 pub write_next-requires : goal.write_next-requires
 write_next-requires g c =
@@ -53,8 +53,8 @@ write_next-requires g c =
     run.geometry.pages chunk.count
     chunk.above chunk.life =
     subst (IsContent run (other old.halves.current) (past_of old.device).disk.content c.in-Some.image.base c.in-Some.image.number) chunk.next there.content in
-    let counted : chunk.count ≡ c.in-Partly.count = cc at in
-    let began : chunk.life ≡ c.in-Partly.life = cc at in
+    let counted : chunk.count ≡ c.in-Partly.count = (one_place _ _ _ _ _ _ _ _ at).1 in
+    let began : chunk.life ≡ c.in-Partly.life = (one_place _ _ _ _ _ _ _ _ at).2 in
     record {
       inside = room;
       current = current;
@@ -183,7 +183,7 @@ returns g c =
           c.in-Partly.pages c.in-Partly.count c.in-Partly.highest c.in-Partly.life at
           (from_ok _ _ good c.write_next.ensures.part) (from_ok _ _ good c.write_next.ensures.whole) c.stage_behind-stage.result c.stage_behind-stage.ensures in
           let taken : NewImage = record { base = image.base; number = c.args.number; stage = c.stage_behind-stage.result; log = image.log } in
-          let pages : c.in-Partly.pages ≡ run.geometry.pages = cc at in
+          let pages : c.in-Partly.pages ≡ run.geometry.pages = sym (one_place _ _ _ _ _ _ _ _ at).0 in
           let further : taken.stage ≡ stage_behind run.geometry.pages c.in-Partly.count c.in-Partly.life c.args.entries.now =
           subst (λ (k : ℕ). taken.stage ≡ stage_behind k c.in-Partly.count c.in-Partly.life c.args.entries.now) pages c.stage_behind-stage.ensures in
           let copied : IsCopying run.geometry.pages (Steps c.args.behind) (Some taken) =

@@ -1,5 +1,6 @@
 use Rattle.std.proofs.Common.{true, ◌≡◌, ◌⊎◌, inr, ℕ, ◌+◌, ◌<◌, ◌≤◌, Vec, Option, Some, None, IfSome, refl, sym, ap, subst, ◌∙◌, arith}
 use Rattle.std.specs.Prelude.{nat_lt}
+use Rattle.std.proofs.lemmas.Option.{same_Some}
 use Rattle.std.proofs.lemmas.Bool.{false≢true}
 use Rattle.sector_device.specs.Disk.{SameOutside}
 use Rattle.sector_device.specs.DevicePast.{LeavesOnly, RunsWithin}
@@ -139,7 +140,8 @@ returns g c =
           let (below, (j, began, came, from)) = at_page run.geometry.pages old.copying old.image stand.copying image c.in-Some.is c.args.page count
           highest life at
           chunk.below in
-          let here : image.stage ≡ Partly c.args.page 0 None began = cc (came, c.in-Some.is, from) in
+          let here : image.stage ≡ Partly c.args.page 0 None began =
+          ap (λ (x : NewImage). x.stage) (same_Some image j (sym c.in-Some.is ∙ came)) ∙ from in
           let further : taken.stage ≡ Partly (c.args.page + 1) 0 None began =
           ap (λ (x : NewImage). x.stage) {y = record image { number = c.args.number; stage = Partly (c.args.page + 1) 0 None began }}
           (c.with_page.ensures c.args.page 0 None began here) in
