@@ -7,3 +7,4 @@ mod Scripts
 mod Writing
 mod Scanning
 mod ShellLines
+mod Verbs
