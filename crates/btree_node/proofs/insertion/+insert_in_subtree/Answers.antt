@@ -26,7 +26,7 @@ here g t c =
 -- the child with the entry in it, where it was not split
 put_alone : (g : Over) (t : ℕ) (c : In_err-upper g t) → 16 ≤ count c.deref_mut.result.now
     → IsPut c.deref_mut.result.now c.index_mut-child.result.now
-      (record { least = c.lower.new.least; node = with_value c.index_mut-child.result.now.node c.insert_in_subtree.new.node }) c.args.entry []
+    (record { least = c.lower.new.least; node = with_value c.index_mut-child.result.now.node c.insert_in_subtree.new.node }) c.args.entry []
 put_alone g t c low =
     let e = c.in_err-upper.ensures in
     let kept : count c.deref_mut.result.now ≤ count c.insert_in_subtree.new.node = e.count in
@@ -35,8 +35,8 @@ put_alone g t c low =
 -- the child with the entry in it, without its upper half
 put_split : (g : Over) (t : ℕ) (c : In_ok-upper g t)
     → IsPut c.deref_mut.result.now c.index_mut-child.result.now
-      (record { least = c.lower.new.least; node = with_value c.index_mut-child.result.now.node c.insert_in_subtree.new.node }) c.args.entry
-      (entries c.in_ok-upper.upper.node.value)
+    (record { least = c.lower.new.least; node = with_value c.index_mut-child.result.now.node c.insert_in_subtree.new.node }) c.args.entry
+    (entries c.in_ok-upper.upper.node.value)
 put_split g t c =
     let e = c.in_ok-upper.ensures in
     record { entries_are = e.entries; least_is = c.lower.ensures; level = e.tree; low = e.count }

@@ -25,7 +25,7 @@ here g t c =
 -- the child without the pair, under its own label
 less : (g : Over) (t : ℕ) (c : After-least-child g t)
     → IsLess c.deref_mut.result.now (record { least = c.least-child.result; node = with_value c.index_mut-child.result.now.node c.remove_below.new.node })
-      c.args.pair.now
+    c.args.pair.now
 less g t c =
     let e = c.remove_below.ensures in
     record { entries_are = e.entries; label = rw c.deref.ensures at c.least-child.ensures.least; level = e.tree; count_is = e.count }

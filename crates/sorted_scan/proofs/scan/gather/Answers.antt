@@ -61,7 +61,7 @@ returns-then-len-room g c =
     let gathered = c.args.gathered.now.items in
     let new = c.extend_from_slice.new.self.items in
     let grown : is_ok r ≡ true → new ≡ gathered ++ pairs = λ ok.
-        c.extend_from_slice.ensures.items ∙ (λ i. cond (ok i) (gathered ++ c.deref.ensures.value i) gathered) in
+    c.extend_from_slice.ensures.items ∙ (λ i. cond (ok i) (gathered ++ c.deref.ensures.value i) gathered) in
     record {
       added = on_ok r _ (λ ok test. gathered_all test pairs gathered c.args.merge.now.pairs new (grown ok));
       open_run = on_ok r _ (λ ok.
