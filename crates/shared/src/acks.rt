@@ -20,8 +20,13 @@ const LOOKS: u32 = 16;
 
 const LOOKS_ALONE: u32 = 128;
 
-// Where it is the only one, it looks so often for a ring before that.
+// Where it is the only one, it looks so often for a ring before that, and so many times over as long as no other seat
+// sleeps: else a lone seat and the flusher would wake each other for each commit.
 const RING_LOOKS: u32 = 400;
+
+const TURNS_ALONE: u32 = 9;
+
+const LAST_ALONE: u32 = LOOKS_ALONE + TURNS_ALONE;
 
 const LONGEST_SLEEP: u64 = 1_000;
 
@@ -131,16 +136,17 @@ impl<B: Group, A: Memory> Shared<B, A> {
     // Goes on at once where there were few looks for the horizon, and else sleeps until the flusher has published.
     fn look_or_sleep<R: Wait>(&self, rt: &R, looks: u32, rings: u64) {
         let published = &self.board.waits().published;
-        let most = if published.has_sleepers() {
-            LOOKS
+        let (most, last) = if published.has_sleepers() {
+            (LOOKS, LOOKS)
         } else {
-            LOOKS_ALONE
+            (LOOKS_ALONE, LAST_ALONE)
         };
         if looks < most {
             hint::spin_loop();
             return;
         }
-        if !published.look(rings, RING_LOOKS) {
+        let has_rung = published.look(rings, RING_LOOKS);
+        if !has_rung && looks >= last {
             published.sleep(rt, rings, Duration::from_micros(LONGEST_SLEEP));
         }
     }
