@@ -207,8 +207,8 @@ static inline void nsf_roll_back_left(nsf_shared *shared)
     }
 }
 
-/* Makes some steps of the builder. One that is refused ends the building, until nsf_seat_build_on, or until somebody asks for an index to
- * be created or dropped, also where that is refused (nsf_seat_progress tells the life of the index). */
+/* Makes some steps of the builder. One that is refused ends the building, until nsf_seat_build_on, or until a dropping is refused; a new
+ * index is built anyhow (nsf_seat_progress tells the life of the index). */
 static inline void nsf_build_on(nsf_shared *shared)
 {
     bool is_complete = false;
