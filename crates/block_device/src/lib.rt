@@ -6,8 +6,9 @@
 //! written back, and when (`back`). `crash` leaves the crash file that the fates name (`crash`, `fates`), by what the
 //! last sync left (`last_synced`). Neither: that a real file behaves so. That is the premise of all above it.
 //!
-//! A block is also read as 512 numbers of eight bytes, the highest byte first: `words_of` gives the numbers that it
-//! spells, and `spell_words` the block that spells numbers, so that they are read as they were (`spelled`, `again`).
+//! A block is also read as 512 numbers of eight bytes, the highest byte first. Proved: `words_of` gives the numbers
+//! that it spells, and `spell_words` the block that spells numbers, so that they are read as they were (`spelled`,
+//! `again`).
 //!
 //! Lemmas about its public words that crates above may cite, in `proofs`: `CrashFiles`, `Moments`, `Spelled` and
 //! `Within`.

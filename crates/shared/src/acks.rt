@@ -14,14 +14,14 @@ use std::sync::Wait;
 use std::time::Duration;
 use threads_sessions::Keeping;
 
-// A seat looks so often for the horizon before it sleeps: more often where no other seat sleeps for it. No sleep is
+// A seat looks so often for the horizon before it sleeps: more often where nobody else sleeps for it. No sleep is
 // longer than so many microseconds.
 const LOOKS: u32 = 16;
 
 const LOOKS_ALONE: u32 = 128;
 
-// Where it is the only one, it looks so often for a ring before that, and so many times over as long as no other seat
-// sleeps: else a lone seat and the flusher would wake each other for each commit.
+// Where it is the only one that looks for a ring, it looks so often before that, and so many times more as long as
+// nobody else sleeps for it: else a lone seat and the flusher would often wake each other.
 const RING_LOOKS: u32 = 400;
 
 const TURNS_ALONE: u32 = 9;
@@ -100,7 +100,7 @@ impl<B: Group, A: Memory> Shared<B, A> {
         None
     }
 
-    /// Waits until the record of the ticket is safe on the device: it looks a few times, and then sleeps until the
+    /// Waits until the record of the ticket is safe on the device: it looks for a while, and then sleeps until the
     /// flusher has published, or for a short while.
     ///
     /// `DeviceFailed` where the flusher says that its device failed, and else `Stopped` where the threads are asked to
@@ -133,7 +133,8 @@ impl<B: Group, A: Memory> Shared<B, A> {
         unreachable!()
     }
 
-    // Goes on at once where there were few looks for the horizon, and else sleeps until the flusher has published.
+    // Goes on at once where there were few looks for the horizon. Else it looks for a ring, and where it has looked for
+    // long enough it sleeps until there is one, or for a short while.
     fn look_or_sleep<R: Wait>(&self, rt: &R, looks: u32, rings: u64) {
         let published = &self.board.waits().published;
         let (most, last) = if published.has_sleepers() {

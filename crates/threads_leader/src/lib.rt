@@ -2,8 +2,7 @@
 //!
 //! The flusher's part of a run lies on a [`Desk`], under a lock of its own. A seat that waits for its commit and finds
 //! that nobody writes makes a round of the flusher with it: it writes what waits, some steps of an image too,
-//! publishes, and so wakes the others. The flusher's thread makes rounds beside them, which nobody waits for. (Where
-//! that thread writes, two changes of thread are two thirds of a lone writer's commit.)
+//! publishes, and so wakes the others. The flusher's thread makes rounds beside them, which nobody waits for.
 //!
 //! Proved: `run_led` says of the flusher's part what `run_beside` says, clause for clause, whoever made the rounds:
 //! over all of them no record is lost and no horizon falls (`goes_on`), and a crash within a call of the writer leaves
