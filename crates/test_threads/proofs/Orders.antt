@@ -1,5 +1,5 @@
 -- Seats in their order.
-use Rattle.std.proofs.Common.{◌≡◌, ◌∙◌, ◌++◌, ◌∷◌, ℕ, List, [], Some, length, map, refl, subst}
+use Rattle.std.proofs.Common.{◌≡◌, ◌∙◌, ◌++◌, ◌∷◌, ℕ, List, [], Some, ap, length, map, refl, subst, sym}
 use Rattle.std.proofs.lemmas.List.{length-map}
 use Rattle.std.specs.Prelude.{slice_get}
 use Rattle.atomic_table.specs.Seated.{TableId}
@@ -16,3 +16,17 @@ pub next_is : {C : Type 0} (seat : C → SeatValue) (board : TableId) (count : �
 next_is seat board count before s after all new e =
     (new.each (length (map seat before)) s (subst (λ (xs : List SeatValue). slice_get xs (length (map seat before)) ≡ Some s) e
     (get_next (map seat before) s after))).0 ∙ length-map before seat
+
+-- the seats of a list, and those behind it: as the list is empty, and with one more of them in it
+pub none_seated : {C : Type 0} (seat : C → SeatValue) (now : List C) (rest all : List SeatValue) → now ≡ [] → rest ≡ all → map seat now ++ rest ≡ all
+none_seated seat now rest all none is = ap (λ cs. map seat cs ++ rest) none ∙ is
+
+one_behind : {C : Type 0} (seat : C → SeatValue) (before : List C) (c : C) (rest : List SeatValue)
+    → map seat (before ++ c ∷ []) ++ rest ≡ map seat before ++ seat c ∷ rest
+one_behind seat [] c rest = refl
+one_behind seat (b ∷ bs) c rest = ap (λ (xs : List SeatValue). seat b ∷ xs) (one_behind seat bs c rest)
+
+pub one_seated : {C : Type 0} (seat : C → SeatValue) (before now : List C) (c : C) (first rest all : List SeatValue) → now ≡ before ++ c ∷ []
+    → first ≡ seat c ∷ rest → map seat before ++ first ≡ all → map seat now ++ rest ≡ all
+one_seated seat before now c first rest all one next so_far =
+    ap (λ cs. map seat cs ++ rest) one ∙ (one_behind seat before c rest ∙ (ap (λ xs. map seat before ++ xs) (sym next) ∙ so_far))

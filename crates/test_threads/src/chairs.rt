@@ -1,10 +1,12 @@
 //! Seats, and who plays at them.
+ghost use Rattle.std.specs.Prelude.{◌≡◌, []};
 ghost use Rattle.shared.specs.Seats.{AreNewSeats};
 
 use crate::at_seat::Numbered;
 use crate::calls::Calls;
 use shared::{Group, Kept, Seat};
 use std::alloc::{AllocError, Global};
+use std::vec::IntoIter;
 
 /// No more than so many are there side by side.
 pub(crate) const THREADS_MAX: usize = 64;
@@ -22,16 +24,15 @@ pub(crate) struct Chair<B: Group, P> {
     pub(crate) player: P,
 }
 
-/// Gives each of them a seat, both in their order. `AllocError` also where there are fewer players than seats.
-pub(crate) fn chairs_of<B: Group, P: Drop>(
-    alloc: Global,
+// Gives each seat to the next of those that wait, and puts them into a list that is empty.
+fn seat_all<B: Group, P: Drop>(
+    chairs: &mut Vec<Chair<B, P>>,
     seats: Vec<Seat<B, Global, Kept>>,
-    players: Vec<P>,
-) -> Result<Vec<Chair<B, P>>, AllocError>
-    requires { AreNewSeats B.site.board B.site.seats seats.items }
+    waiting: &mut IntoIter<P, Global>,
+) -> Result<(), AllocError>
+    requires none { chairs.old.items ≡ [] }
+    requires new { AreNewSeats B.site.board B.site.seats seats.items }
 {
-    let mut chairs = Vec::with_capacity(alloc, seats.len())?;
-    let mut waiting = players.into_iter();
     for seat in seats {
         let Some(player) = waiting.next() else {
             return Err(AllocError);
@@ -40,5 +41,24 @@ pub(crate) fn chairs_of<B: Group, P: Drop>(
         let at = Numbered { seat, number };
         chairs.push(Chair { at, player })?;
     }
-    Ok(chairs)
+    Ok(())
+}
+
+/// Gives each of them a seat, both in their order. `AllocError` also where there are fewer players than seats.
+pub(crate) fn chairs_of<B: Group, P: Drop>(
+    alloc: Global,
+    seats: Vec<Seat<B, Global, Kept>>,
+    players: Vec<P>,
+) -> Result<Vec<Chair<B, P>>, AllocError>
+    requires { AreNewSeats B.site.board B.site.seats seats.items }
+{
+    let mut chairs = Vec::new(alloc);
+    let mut waiting = players.into_iter();
+    match seat_all(&mut chairs, seats, &mut waiting) {
+        Ok(()) => Ok(chairs),
+        Err(error) => {
+            drop(chairs);
+            Err(error)
+        }
+    }
 }
