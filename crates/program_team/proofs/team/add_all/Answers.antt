@@ -68,4 +68,5 @@ returns-clause-acks g c =
 pub returns-clause-acknowledged : goal.returns-clause-acknowledged
 returns-clause-acknowledged g c =
     let rest = c.loop-writer.writer-iterator.rest in
-    flat_all (λ w. w.acknowledged.items) _ rest.items _ (nil_from_length rest.items (sym rest.ok.0 ∙ c.in-None.ensures.steps.0)) c.loop-writer.invariant.acknowledged
+    flat_all (λ w. w.acknowledged.items) _ rest.items _ (nil_from_length rest.items (sym rest.ok.0 ∙ c.in-None.ensures.steps.0))
+    c.loop-writer.invariant.acknowledged
