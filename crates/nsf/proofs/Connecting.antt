@@ -1,10 +1,13 @@
 -- A seat that waits for its commit.
-use Rattle.std.proofs.Common.{◌≡◌, ◌≤◌, ◌∙◌, ℕ, ap, arith, subst, sym}
+use Rattle.std.proofs.Common.{◌≡◌, ◌≤◌, ◌∙◌, ℕ, ap, arith, refl, subst, sym}
+use Rattle.core_model.specs.Histories.{Opened}
 use Rattle.core_parts.specs.declared.parts.Ticket.{Ticket}
 use Rattle.threads_sessions.specs.Values.{SessionValue}
 use Rattle.shared.specs.Seats.{AckValue, SeatValue}
 use Rattle.shared.specs.Waits.{IsAcked}
-use Rattle.nsf.specs.Connected.{with_commit_of}
+use Rattle.record_values.specs.declared.row.Row.{Row}
+use Rattle.shared.specs.declared.one_change.Placed.{Placed}
+use Rattle.nsf.specs.Connected.{IsSafelyPut, WasPut, with_commit_of, with_row}
 
 -- it has another session, and then sees more of the board
 pub seat_then : (old mid new : SeatValue) (s : SessionValue) → mid ≡ record old { session = s } → new ≡ record mid { sight = new.sight }
@@ -26,3 +29,15 @@ acked_commit old mid new txn ticket ack made is =
 -- the horizon that it has read reaches the record
 pub acked_safe : (ticket : Ticket) (before after : SeatValue) (ack : AckValue) → IsAcked ticket before after ack → ticket.record ≤ after.sight.horizon
 acked_safe ticket before after ack is = omega (arith, is.1, ap (λ (s : SeatValue). s.sight.horizon) is.3)
+
+-- ---- a row in a transaction of its own
+
+pub safely_put : (o : Opened) (old mid new : SeatValue) (row : Row) (placed : Placed) (ack : AckValue) → mid ≡ with_row old row placed
+    → WasPut o old row placed → IsAcked placed.ticket mid new ack → new ≡ record mid { sight = new.sight } → IsSafelyPut o old row placed.rid new
+safely_put o old mid new row placed ack made was acked sees = record {
+  put = placed;
+  place = refl;
+  was = was;
+  seat = sees ∙ ap (λ (m : SeatValue). record m { sight = new.sight }) made;
+  safe = acked_safe placed.ticket mid new ack acked;
+}

@@ -50,3 +50,14 @@ pub quiet_since : {U : Type 0} (mid : Bool) (a b c : ℕ) → (mid ≡ false →
     → OnOk written (c ≡ b) → OnOk written (c ≡ a)
 quiet_since mid a b c quiet (Ok x) sound same = same ∙ quiet sound
 quiet_since mid a b c quiet (Err e) sound same = tt
+
+-- one result isn't both
+pub never_both : {T E : Type 0} (r : Result T E) (x : T) (e : E) → r ≡ Ok x → r ≡ Err e → ⊥
+never_both r x e ok err = cc
+
+-- and a refusal is one, whatever is answered else
+same_error : {T E : Type 0} (r : Result T E) (e f : E) → r ≡ Err e → r ≡ Err f → e ≡ f
+same_error r e f is also = cc
+
+pub same_refusal : {T U E : Type 0} (r : Result T E) (e f : E) → r ≡ Err e → r ≡ Err f → (λ (s : Result U E). s ≡ Err f) (Err e)
+same_refusal r e f is also = ap Err (same_error r e f is also)

@@ -1,8 +1,8 @@
-use Rattle.std.proofs.Common.{IfErr, IfOk, OnOk, subst, ℕ, ◌≡◌, ◌≤◌}
+use Rattle.std.proofs.Common.{IfErr, IfOk, OnOk, subst, sym, ℕ, ◌≡◌, ◌<◌, ◌≤◌}
 use Rattle.std.proofs.lemmas.Result.{IfOk-weaker}
 use Rattle.threads_lifetime.specs.Openings.{IsNotShared}
 use Rattle.nsf.specs.Serving.{WhyUnwritten}
-use Rattle.nsf.proofs.Refusals.{both, none_began}
+use Rattle.nsf.proofs.Refusals.{both, never_both, none_began, same_refusal}
 use Rattle.nsf.proofs.clients.serve_and_see.Goals as goal
 
 pub returns-in-Ok-clause-leaves : goal.returns-in-Ok-clause-leaves
@@ -31,3 +31,24 @@ pub returns-in-Ok-clause-later : goal.returns-in-Ok-clause-later
 returns-in-Ok-clause-later g c =
     let failures = g.D.Device.failures in
     subst (λ (n : ℕ). IfOk c.begin.result (λ r. n ≤ failures r.0.device)) c.in-Ok.ensures.opened.quiet c.begin.ensures.later
+
+pub returns-in-Ok-clause-clients : goal.returns-in-Ok-clause-clients
+returns-in-Ok-clause-clients g c = c.begin.ensures.clients
+
+pub returns-in-Ok-clause-many : goal.returns-in-Ok-clause-many
+returns-in-Ok-clause-many g c more =
+    absurd (never_both c.open_store.result _ _ c.in-Ok.is (c.open_store.ensures.many (subst (λ (n : ℕ). 16 < n) (sym c.len.ensures) more)))
+
+pub returns-in-Err : goal.returns-in-Err
+returns-in-Err g c =
+    let refused = c.in-Err.refused in
+    record {
+      leaves = tt;
+      why = tt;
+      quiet = tt;
+      later = tt;
+      clients = tt;
+      refused =
+          subst (λ (n : ℕ). IsNotShared g.D.Device.past_of g.D.Device.failures c.args.device n refused.1 refused.0) c.len.ensures c.in-Err.ensures.refused;
+      many = λ more. same_refusal c.open_store.result _ _ c.in-Err.is (c.open_store.ensures.many (subst (λ (n : ℕ). 16 < n) (sym c.len.ensures) more));
+    }
