@@ -11,3 +11,4 @@ mod Moving
 mod Opened
 mod Commits
 mod Shared
+mod Apart

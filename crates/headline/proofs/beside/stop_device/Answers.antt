@@ -1,6 +1,25 @@
-use Rattle.std.proofs.Common.{arith, refl, subst, sym}
+use Rattle.std.proofs.Common.{◌≡◌, ◌∙◌, ℕ, arith, refl, subst, sym}
+use Rattle.headline.specs.declared.shared_day.End.TheVariants.{Behind, Closing, Opening, Since}
 use Rattle.headline.specs.Stops.{IsFoundAs}
 use Rattle.headline.proofs.beside.stop_device.Goals as goal
+
+opening_or_closing : Opening ≡ Closing → ⊥
+opening_or_closing e = cc
+
+opening_or_since : (k : ℕ) → Opening ≡ Since k → ⊥
+opening_or_since k e = cc
+
+opening_or_behind : Opening ≡ Behind → ⊥
+opening_or_behind e = cc
+
+closing_or_since : (k : ℕ) → Closing ≡ Since k → ⊥
+closing_or_since k e = cc
+
+closing_or_behind : Closing ≡ Behind → ⊥
+closing_or_behind e = cc
+
+behind_or_since : (k : ℕ) → Behind ≡ Since k → ⊥
+behind_or_since k e = cc
 
 pub returns-in-Behind-clause-stopped : goal.returns-in-Behind-clause-stopped
 returns-in-Behind-clause-stopped g c = λ first mid read marked-first marked-mid marked-read low high from until.
@@ -23,16 +42,16 @@ returns-in-Closing-clause-stopped g c = λ first mid read marked-first marked-mi
     record {
       stop = record { moment = stop.moment; from = omega (arith, low, stop.from); until = stop.until; found-as = stop.found-as };
       closing = λ closing. stop.from;
-      since = λ k since. let is = c.in-Closing.is in absurd cc;
-      at-end = λ behind. let is = c.in-Closing.is in absurd cc;
+      since = λ k since. absurd (closing_or_since k (sym c.in-Closing.is ∙ since));
+      at-end = λ behind. absurd (closing_or_behind (sym c.in-Closing.is ∙ behind));
     }
 
 pub returns-in-Opening-clause-stopped : goal.returns-in-Opening-clause-stopped
 returns-in-Opening-clause-stopped g c = λ first mid read marked-first marked-mid marked-read low high from until. record {
   stop = c.stop-in-Opening.ensures.stopped first marked-first (omega (arith, low, high));
-  closing = λ closing. let is = c.in-Opening.is in absurd cc;
-  since = λ k since. let is = c.in-Opening.is in absurd cc;
-  at-end = λ behind. let is = c.in-Opening.is in absurd cc;
+  closing = λ closing. absurd (opening_or_closing (sym c.in-Opening.is ∙ closing));
+  since = λ k since. absurd (opening_or_since k (sym c.in-Opening.is ∙ since));
+  at-end = λ behind. absurd (opening_or_behind (sym c.in-Opening.is ∙ behind));
 }
 
 pub returns-in-Since-clause-stopped : goal.returns-in-Since-clause-stopped
@@ -40,7 +59,7 @@ returns-in-Since-clause-stopped g c = λ first mid read marked-first marked-mid 
     let stop = c.stop-in-Since.ensures.stopped read marked-read until in
     record {
       stop = record { moment = stop.moment; from = omega (arith, from, stop.from); until = stop.until; found-as = stop.found-as };
-      closing = λ closing. let is = c.in-Since.is in absurd cc;
+      closing = λ closing. absurd (closing_or_since _ (sym closing ∙ c.in-Since.is));
       since = λ k since. stop.from;
-      at-end = λ behind. let is = c.in-Since.is in absurd cc;
+      at-end = λ behind. absurd (behind_or_since _ (sym behind ∙ c.in-Since.is));
     }

@@ -1,9 +1,11 @@
-use Rattle.std.proofs.Common.{⊎_elim, inl, inr, length, ◌∙◌, sym, subst}
+use Rattle.std.proofs.Common.{Err, ap, ⊎_elim, inl, inr, length, ◌∙◌, sym, subst}
 use Rattle.record_values.specs.GeometryValue.{sectors_of}
+use Rattle.record_values.specs.declared.error.Error.TheVariants.{DeviceTooSmall}
 use Rattle.model.specs.Given.{nothing}
 use Rattle.sector_device.specs.DevicePast.{Rises}
 use Rattle.headline.specs.AtRest.{resting}
-use Rattle.headline.proofs.Holding.{at_once, begun, err_at, neither, not_small, ok_at}
+use Rattle.headline.proofs.Apart.{on_ok, same_error}
+use Rattle.headline.proofs.Holding.{at_once, begun, enough, err_at, neither, not_small, ok_at}
 use Rattle.headline.proofs.lives.live_through.Goals as goal
 
 pub returns-in-Err-clause-refused : goal.returns-in-Err-clause-refused
@@ -84,3 +86,22 @@ returns-clause-unchanged g c =
     err_at _ _ c.live_behind.result
     (λ r is small. absurd (not_small failures size first c.args.days.now r.answers.items r.error (failures r.device) (is size first kept) small))
     c.live_behind.ensures.refused
+
+pub returns-in-Err-clause-too_small : goal.returns-in-Err-clause-too_small
+returns-in-Err-clause-too_small g c =
+    let error = c.unopened.ensures.error in
+    let told = c.format.ensures.too_small in (
+      λ small. told.0 (c.in-Err.is ∙ ap Err (sym error ∙ small)),
+      λ less. error ∙ same_error c.format.result c.in-Err.error DeviceTooSmall c.in-Err.is (told.1 less),
+    )
+
+pub returns-in-Err-clause-unchanged : goal.returns-in-Err-clause-unchanged
+returns-in-Err-clause-unchanged g c = λ small. (
+  c.unopened.ensures.none,
+  c.unopened.ensures.device ∙ c.format.ensures.unchanged (c.in-Err.is ∙ ap Err (sym c.unopened.ensures.error ∙ small)),
+)
+
+pub returns-clause-room : goal.returns-clause-room
+returns-clause-room g c = on_ok c.live_behind.result
+    (enough (length (g.D.Device.past_of c.args.device).disk.content) (sectors_of c.args.geometry) c.format.result c.format.ensures.too_small
+    c.in_default.field-0 c.in_default.is)

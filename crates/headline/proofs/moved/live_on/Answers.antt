@@ -2,6 +2,7 @@ use Rattle.std.proofs.Common.{[], sym, subst, ap, ◌∙◌}
 use Rattle.core_model.specs.Histories.{CanOpen}
 use Rattle.sector_device.specs.Disk.{IsSynced}
 use Rattle.store_reader.specs.Contents.{Gives}
+use Rattle.restart.specs.Migrating.{IsSmallAnswer}
 use Rattle.restart.specs.Store.{over}
 use Rattle.headline.specs.AtRest.{resting}
 use Rattle.headline.specs.Kept.{KeepsDays}
@@ -58,3 +59,30 @@ returns-in-Err-live_behind-clause-refused g c =
 
 pub returns-in-Err-live_behind-clause-too_small : goal.returns-in-Err-live_behind-clause-too_small
 returns-in-Err-live_behind-clause-too_small g c = λ small. absurd (c.in-Ok.ensures.room small)
+
+pub returns-in-Err-clause-too_small : goal.returns-in-Err-clause-too_small
+returns-in-Err-clause-too_small g c small = subst IsSmallAnswer (sym c.unopened.ensures.error) (c.in-Err.ensures.too_small small)
+
+pub returns-in-Err-clause-told : goal.returns-in-Err-clause-told
+returns-in-Err-clause-told g c = λ other. c.in-Err.ensures.told (λ is. other (c.unopened.ensures.error ∙ is))
+
+pub returns-in-Err-clause-kept : goal.returns-in-Err-clause-kept
+returns-in-Err-clause-kept g c = c.migrate.ensures.kept
+
+pub returns-in-Ok-live_behind-clause-kept : goal.returns-in-Ok-live_behind-clause-kept
+returns-in-Ok-live_behind-clause-kept g c = c.migrate.ensures.kept
+
+pub returns-in-Ok-live_behind-clause-room : goal.returns-in-Ok-live_behind-clause-room
+returns-in-Ok-live_behind-clause-room g c = c.in-Ok.ensures.room
+
+pub returns-in-Ok-live_behind-clause-quiet : goal.returns-in-Ok-live_behind-clause-quiet
+returns-in-Ok-live_behind-clause-quiet g c = c.in-Ok.ensures.quiet.0
+
+pub returns-in-Ok-live_behind-clause-too_small : goal.returns-in-Ok-live_behind-clause-too_small
+returns-in-Ok-live_behind-clause-too_small g c = λ small. tt
+
+pub returns-in-Err-live_behind-clause-kept : goal.returns-in-Err-live_behind-clause-kept
+returns-in-Err-live_behind-clause-kept g c = c.migrate.ensures.kept
+
+pub returns-in-Err-live_behind-clause-told : goal.returns-in-Err-live_behind-clause-told
+returns-in-Err-live_behind-clause-told g c = λ other. c.in-Ok.ensures.quiet.0
