@@ -41,7 +41,10 @@ impl<C: Course<D, A>, B: Group, D: Device, A: Memory> Desk<C, B, D, A> {
         let Some(mut guard) = self.turn.try_lock() else {
             return Led::Busy;
         };
-        let led = lead_at(rt, shared, &mut *guard, gate);
+        let led = match &mut *guard {
+            Some(turn) => turn.lead(rt, shared, gate),
+            None => Led::Over,
+        };
         MutexGuard::unlock(guard);
         led
     }
@@ -124,19 +127,6 @@ impl<C: Course<D, A>, B: Group, D: Device, A: Memory> Desk<C, B, D, A> {
         let turn = guard.take();
         MutexGuard::unlock(guard);
         part_of(rt, turn)
-    }
-}
-
-// Makes a round, if one is to be made.
-fn lead_at<C: Course<D, A>, B: Group, D: Device, R: Wait, G: Gate, A: Memory>(
-    rt: &R,
-    shared: &Shared<B, A>,
-    turn: &mut Option<Turn<C, B, D, A>>,
-    gate: &G,
-) -> Led {
-    match turn {
-        Some(turn) => turn.lead(rt, shared, gate),
-        None => Led::Over,
     }
 }
 

@@ -63,22 +63,6 @@ impl<C: Course<D, A>, B: Group, D: Device, A: Memory> Turn<C, B, D, A> {
         }
     }
 
-    // Whether all threads are asked to stop.
-    fn stops(&mut self, shared: &Shared<B, A>) -> bool {
-        self.part.stopped(shared.board())
-    }
-
-    // Whether the device has failed.
-    fn has_failed(&self) -> bool {
-        self.part.has_failed()
-    }
-
-    // Makes a round.
-    fn go_on<R: Wait, G: Gate>(&mut self, rt: &R, shared: &Shared<B, A>, gate: &G) -> Found {
-        let rings = shared.board().waits().pushed.rings();
-        flush_round(rt, shared, &mut self.part, &mut self.rounds, rings, gate)
-    }
-
     /// Makes a round, if one is to be made.
     pub(crate) fn lead<R: Wait, G: Gate>(
         &mut self,
@@ -86,10 +70,11 @@ impl<C: Course<D, A>, B: Group, D: Device, A: Memory> Turn<C, B, D, A> {
         shared: &Shared<B, A>,
         gate: &G,
     ) -> Led {
-        if self.stops(shared) || self.has_failed() {
+        if self.part.stopped(shared.board()) || self.part.has_failed() {
             return Led::Over;
         }
-        Led::Round(self.go_on(rt, shared, gate))
+        let rings = shared.board().waits().pushed.rings();
+        Led::Round(flush_round(rt, shared, &mut self.part, &mut self.rounds, rings, gate))
     }
 
     /// The part as it is now.
