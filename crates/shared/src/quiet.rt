@@ -178,12 +178,14 @@ impl<B: Group, A: Memory> Shared<B, A> {
         let mut patience = Patience::new(millis);
         for _ in rt.forever() {
             let changes = self.quiet.changes();
-            match self.create_index(rt, seat) {
-                Err(Error::TxnsActive) if !patience.is_over() => {
-                    patience.count(self.quiet.sleep(rt, changes));
-                }
-                created => return created,
+            let created = self.create_index(rt, seat);
+            let Err(Error::TxnsActive) = created else {
+                return created;
+            };
+            if patience.is_over() {
+                return created;
             }
+            patience.count(self.quiet.sleep(rt, changes));
         }
         unreachable!()
     }
@@ -226,12 +228,14 @@ impl<B: Group, A: Memory> Shared<B, A> {
         let mut patience = Patience::new(millis);
         for _ in rt.forever() {
             let changes = self.quiet.changes();
-            match self.drop_index(rt, seat) {
-                Err(Error::TxnsActive) if !patience.is_over() => {
-                    patience.count(self.quiet.sleep(rt, changes));
-                }
-                dropped => return dropped,
+            let dropped = self.drop_index(rt, seat);
+            let Err(Error::TxnsActive) = dropped else {
+                return dropped;
+            };
+            if patience.is_over() {
+                return dropped;
             }
+            patience.count(self.quiet.sleep(rt, changes));
         }
         unreachable!()
     }
