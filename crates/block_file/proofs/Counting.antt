@@ -6,6 +6,10 @@ use Rattle.block_table.specs.declared.checked.ReadError.{ReadError}
 use Rattle.block_table.specs.declared.checked.ReadError.TheVariants.{Damaged, FileFailed}
 use Rattle.block_table.specs.Checked.{CountsRead}
 
+-- what is answered isn't refused
+pub ok_not_err : {T E : Type 0} {x : T} {e : E} → ◌≡◌ {A = Result T E} (Ok x) (Err e) → ⊥
+ok_not_err is = cc
+
 module _ (done : Result Unit ReadError) where
   pub is_ok_done : (x : Unit) → done ≡ Ok x → is_ok done ≡ true
   is_ok_done x is = ap is_ok is

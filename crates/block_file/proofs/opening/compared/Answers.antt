@@ -12,9 +12,39 @@ use Rattle.block_table.proofs.Contents.{settled_read}
 use Rattle.block_file.specs.Sectors.{sectors_of}
 use Rattle.block_file.specs.Disks.{journal_in}
 use Rattle.block_file.specs.Settling.{handed_on}
+use Rattle.block_file.specs.declared.opening.FileError.{FileError}
+use Rattle.block_file.specs.declared.opening.FileError.TheVariants.{Damaged, FileFailed, NoBatch, NoHeader, TooShort}
 use Rattle.block_file.proofs.Openings.{if_err2}
 use Rattle.block_file.proofs.HandingOn.{hands_read}
 use Rattle.block_file.proofs.opening.compared.Goals as goal
+
+-- which errors are apart
+failed_not_damaged : (n : ℕ) → Path FileError FileFailed (Damaged n) → ⊥
+failed_not_damaged n is = cc
+
+failed_not_header : Path FileError FileFailed NoHeader → ⊥
+failed_not_header is = cc
+
+failed_not_short : Path FileError FileFailed TooShort → ⊥
+failed_not_short is = cc
+
+failed_not_batch : Path FileError FileFailed NoBatch → ⊥
+failed_not_batch is = cc
+
+damaged_not_header : (n : ℕ) → Path FileError (Damaged n) NoHeader → ⊥
+damaged_not_header n is = cc
+
+damaged_not_short : (n : ℕ) → Path FileError (Damaged n) TooShort → ⊥
+damaged_not_short n is = cc
+
+damaged_not_batch : (n : ℕ) → Path FileError (Damaged n) NoBatch → ⊥
+damaged_not_batch n is = cc
+
+damaged_not_failed : (n : ℕ) → Path FileError (Damaged n) FileFailed → ⊥
+damaged_not_failed n is = cc
+
+same_damaged : (m n : ℕ) → Path FileError (Damaged m) (Damaged n) → m ≡ n
+same_damaged m n is = cc
 
 pub settled-requires : goal.settled-requires
 settled-requires g c =
@@ -64,10 +94,10 @@ returns-in-Ok-None g c =
       back = IfOk-weaker r _ _ (λ d is. is ∙ done.back) made.back;
       back_refused = IfErr-weaker r _ _ (λ e is. is ∙ done.back) made.back_refused;
       refused = if_err2 r _ _ _ (λ e why hands. inr (why, hands_read h old.journal new.journal (h e.file) journal done.reads hands)) made.why made.refused;
-      damaged = IfErr-weaker r _ _ (λ e why n is. absurd (cc)) made.why;
-      header = IfErr-weaker r _ _ (λ e why is. absurd (cc)) made.why;
-      short = IfErr-weaker r _ _ (λ e why is. absurd (cc)) made.why;
-      batch = IfErr-weaker r _ _ (λ e why is. absurd (cc)) made.why;
+      damaged = IfErr-weaker r _ _ (λ e why n is. absurd (failed_not_damaged n (sym why ∙ is))) made.why;
+      header = IfErr-weaker r _ _ (λ e why is. absurd (failed_not_header (sym why ∙ is))) made.why;
+      short = IfErr-weaker r _ _ (λ e why is. absurd (failed_not_short (sym why ∙ is))) made.why;
+      batch = IfErr-weaker r _ _ (λ e why is. absurd (failed_not_batch (sym why ∙ is))) made.why;
       failed = IfErr-weaker r _ _ (λ e failed _. ⊎_elim (λ most. inl (omega (arith, most, number)))
           (λ up. inr (subst (λ (a : ℕ). Rises a (F e.file)) quiet up)) failed) made.failed;
     }
@@ -98,14 +128,13 @@ returns-in-Ok-Some g c =
       back_refused = ap g.B.Blocks.written_back c.into_file.ensures ∙ done.back;
       refused = inl (subst (λ (b : g.row.B.Denot). OnlyReads (h old.journal.below) (h b)) (sym c.into_file.ensures) done.reads);
       damaged = λ n is.
-          let same : c.in-Ok-Some.n ≡ n = cc in
-          subst (IsFirstUnfit plan.blocks (settled_table h old) 0) same
+          subst (IsFirstUnfit plan.blocks (settled_table h old) 0) (same_damaged c.in-Ok-Some.n n is)
           (subst (λ (l : CrashFile). IsFirstUnfit plan.blocks l 0 c.in-Ok-Some.n) table
           (subst (λ (b : ℕ). IsFirstUnfit b (kept_table h old) 0 c.in-Ok-Some.n) c.requires.blocks unfit));
-      header = λ is. absurd (cc);
-      short = λ is. absurd (cc);
-      batch = λ is. absurd (cc);
-      failed = λ is. absurd (cc);
+      header = damaged_not_header c.in-Ok-Some.n;
+      short = damaged_not_short c.in-Ok-Some.n;
+      batch = damaged_not_batch c.in-Ok-Some.n;
+      failed = λ is. absurd (damaged_not_failed c.in-Ok-Some.n is);
     }
 
 pub returns-in-Err : goal.returns-in-Err
@@ -129,10 +158,10 @@ returns-in-Err g c =
       back_refused = ap g.B.Blocks.written_back c.into_file-in-Err.ensures ∙ c.check.ensures.back;
       refused = inl (subst (λ (b : g.row.B.Denot). OnlyReads (h c.args.checked.journal.below) (h b)) (sym c.into_file-in-Err.ensures)
           c.check.ensures.reads);
-      damaged = λ n is. absurd (cc);
-      header = λ is. absurd (cc);
-      short = λ is. absurd (cc);
-      batch = λ is. absurd (cc);
+      damaged = λ n is. absurd (failed_not_damaged n is);
+      header = failed_not_header;
+      short = failed_not_short;
+      batch = failed_not_batch;
       failed = λ _. inr (subst (λ (b : g.row.B.Denot). Rises (g.B.Blocks.failures c.args.checked.journal.below) (g.B.Blocks.failures b))
           (sym c.into_file-in-Err.ensures)
           (⊎_elim (λ was. absurd (false≢true (sym c.requires.good ∙ was))) (λ up. up) c.in-Err.ensures.failed));

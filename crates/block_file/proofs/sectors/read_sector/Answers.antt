@@ -4,7 +4,7 @@ use Rattle.block_journal.specs.Value.{JournalValue}
 use Rattle.block_table.specs.Checked.{CheckedValue, data_now, kept_table}
 use Rattle.block_table.specs.Table.{IsFit}
 use Rattle.block_file.specs.Sectors.{part}
-use Rattle.block_file.proofs.Counting.{why_unread}
+use Rattle.block_file.proofs.Counting.{ok_not_err, why_unread}
 use Rattle.block_file.proofs.Patching.{sector_at}
 use Rattle.block_file.proofs.sectors.read_sector.Goals as goal
 
@@ -38,8 +38,8 @@ returns g c =
     let plan = c.args.plan in
     let n = c.args.n in
     let done = c.in_ok-read.ensures in
-    let good = done.sound (λ is. absurd (cc)) in
-    let same = done.counts.quiet (λ is. absurd (cc)) in
+    let good = done.sound ok_not_err in
+    let same = done.counts.quiet ok_not_err in
     let refused = ap (λ (x : CheckedValue g.row.B.Denot). x.journal.refused) (done.good good) in
     record {
       ok = c.sector_of.ensures

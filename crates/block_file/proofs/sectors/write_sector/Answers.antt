@@ -13,7 +13,7 @@ use Rattle.block_table.specs.Checked.{CheckedValue, data_now, kept_table}
 use Rattle.block_table.specs.Table.{IsFit, data_of}
 use Rattle.block_table.proofs.Contents.{length-data, settled_read, table_read}
 use Rattle.block_file.specs.Sectors.{part, sectors_of}
-use Rattle.block_file.proofs.Counting.{why_unread}
+use Rattle.block_file.proofs.Counting.{ok_not_err, why_unread}
 use Rattle.block_file.proofs.Damage.{fits_put, fits_same}
 use Rattle.block_file.proofs.Moving.{moves_then, read_later}
 use Rattle.block_file.proofs.Patching.{sector_put}
@@ -79,7 +79,7 @@ returns-in_err-read g c =
       room = λ more. omega (arith, room.room_stays more, ap (λ (v : JournalValue g.row.B.Denot). room_of v) journal);
       moves = moves_then h old mid new room.moves (ap (λ (v : JournalValue g.row.B.Denot). v.shape) journal) blocks
           (ap (λ (v : JournalValue g.row.B.Denot). v.offered) journal) (settled_read h mid.journal new.journal journal done.reads) done.reads;
-      counts = read_later _ _ _ _ (room.counts.quiet (λ is. absurd (cc))) done.counts;
+      counts = read_later _ _ _ _ (room.counts.quiet ok_not_err) done.counts;
     })
 
 pub put-requires : goal.put-requires
@@ -117,13 +117,13 @@ returns g c =
     omega (arith, length-data h old c.stands.ensures.inside c.stands.ensures.kept, c.requires.plan.room, c.requires.inside, c.requires.blocks) in
     let below : OnlyReads (h mid.journal.below) (h new.journal.below) =
     subst (λ (x : BlocksPast). OnlyReads (h mid.journal.below) x) (sym (ap (λ (v : JournalValue g.row.B.Denot). h v.below) behind)) done.reads in
-    let good : mid.journal.has_failed ≡ false = done.sound (λ is. absurd (cc)) in
-    let same = done.counts.quiet (λ is. absurd (cc)) in
+    let good : mid.journal.has_failed ≡ false = done.sound ok_not_err in
+    let same = done.counts.quiet ok_not_err in
     let refused = ap (λ (x : CheckedValue g.row.B.Denot). x.journal.refused) (done.good good) in
     let at : ℕ = (n + plan.lead) / 8 in
     let has : read.blocks ≡ plan.blocks = to_read ∙ c.requires.blocks in
     let counted : failures_of F new.journal ≡ failures_of F old.journal =
-    ap (λ (v : JournalValue g.row.B.Denot). failures_of F v) behind ∙ done.counts.quiet (λ is. absurd (cc)) ∙ room.counts.quiet (λ is. absurd (cc)) in
+    ap (λ (v : JournalValue g.row.B.Denot). failures_of F v) behind ∙ done.counts.quiet ok_not_err ∙ room.counts.quiet ok_not_err in
     record {
       ok = ap (sectors_of plan.lead plan.sectors) (put.put ∙ ap (λ (l : CrashFile). slice_set l ((n + plan.lead) / 8) blk) same_data)
           ∙ sector_put plan.lead plan.sectors (data_now h old) n c.args.bytes.now blk c.requires.inside size c.put_sector.ensures.here
@@ -159,5 +159,5 @@ returns g c =
           (ap (λ (x : CheckedValue g.row.B.Denot). x.blocks) put.rest ∙ blocks)
           (ap (λ (v : JournalValue g.row.B.Denot). v.offered) behind ∙ ap (λ (v : JournalValue g.row.B.Denot). v.offered) journal)
           (ap (λ (v : JournalValue g.row.B.Denot). settled_of h v) behind ∙ settled_read h mid.journal read.journal journal done.reads) below;
-      counts = record { later = omega (arith, counted); quiet = λ _. counted; rises = λ is. absurd (cc) };
+      counts = record { later = omega (arith, counted); quiet = λ _. counted; rises = λ is. absurd (ok_not_err is) };
     }
