@@ -25,10 +25,13 @@ not_formatted : (g : GeometryValue) (sectors size before now : ℕ) (e : Error) 
     → IsNoStart sectors g e
 not_formatted g sectors size before now e same too_small (inl small) =
     inl (small, subst (λ n. n < sectors_of g) same (too_small.0 (ap Err small)))
-not_formatted g sectors size before now e same too_small (inr failed) = inr (inl (failed.0, subst (λ n. sectors_of g ≤ n) same (⊎_elim
-    (λ less. absurd (not_both e (too_small.1 less) failed.0))
-    (λ room. room)
-    (cases_lt size (sectors_of g)))))
+not_formatted g sectors size before now e same too_small (inr failed) = inr (inl (
+  failed.0,
+  subst (λ n. sectors_of g ≤ n) same (⊎_elim
+      (λ less. absurd (not_both e (too_small.1 less) failed.0))
+      (λ room. room)
+      (cases_lt size (sectors_of g))),
+))
 
 pub returns-in_err-memory : goal.returns-in_err-memory
 returns-in_err-memory c =
