@@ -99,3 +99,13 @@ module _ {B : Type 0} (past_of : B → BlocksPast) where
 -- the count of failures, behind calls that succeeded
 pub read_later : {T : Type 0} (a b c : ℕ) (r : Result T ReadError) → b ≡ a → CountsRead b c r → CountsRead a c r
 read_later a b c r same counts = subst (λ (k : ℕ). CountsRead k c r) same counts
+
+-- what a read, and a block that is put, leave
+module _ {B T : Type 0} (old new : CheckedValue B) (f : CheckedValue B → T) where
+  pub read_same : new ≡ record old { journal = record old.journal { below = new.journal.below; refused = new.journal.refused } }
+      → f new ≡ f (record old { journal = record old.journal { below = new.journal.below; refused = new.journal.refused } })
+  read_same is = ap f is
+
+  pub put_same : new ≡ record old { journal = record old.journal { next = new.journal.next } }
+      → f new ≡ f (record old { journal = record old.journal { next = new.journal.next } })
+  put_same is = ap f is

@@ -15,7 +15,7 @@ use Rattle.block_table.proofs.Contents.{length-data, settled_read, table_read}
 use Rattle.block_file.specs.Sectors.{part, sectors_of}
 use Rattle.block_file.proofs.Counting.{ok_not_err, why_unread}
 use Rattle.block_file.proofs.Damage.{fits_put, fits_same}
-use Rattle.block_file.proofs.Moving.{moves_then, read_later}
+use Rattle.block_file.proofs.Moving.{moves_then, put_same, read_later, read_same}
 use Rattle.block_file.proofs.Patching.{sector_put}
 use Rattle.block_file.proofs.sectors.write_sector.Goals as goal
 
@@ -55,8 +55,8 @@ returns-in_err-read g c =
     let new : CheckedValue g.row.B.Denot = c.read.new.self in
     let room = c.in_ok-make_room.ensures in
     let done = c.in_err-read.ensures in
-    let journal = ap (λ (x : CheckedValue g.row.B.Denot). x.journal) done.rest in
-    let blocks = ap (λ (x : CheckedValue g.row.B.Denot). x.blocks) done.rest in
+    let journal = read_same mid new (λ x. x.journal) done.rest in
+    let blocks = read_same mid new (λ x. x.blocks) done.rest in
     let all : new.blocks ≡ old.blocks = blocks ∙ room.moves.blocks in
     let at : ℕ = (c.args.n + c.args.plan.lead) / 8 in
     let table : kept_table h new ≡ kept_table h old = table_read h mid new done.rest done.reads ∙ room.same in
@@ -71,25 +71,24 @@ returns-in_err-read g c =
       sound = tt;
       quiet = tt;
       fits = fits_same c.args.plan _ _ table;
-      broken = λ now. inl (sym room.good ∙ sym (ap (λ (v : JournalValue g.row.B.Denot). v.has_failed) journal) ∙ now);
-      number = omega (arith, room.number, ap (λ (v : JournalValue g.row.B.Denot). v.last.number) journal);
+      broken = λ now. inl (sym room.good ∙ sym (read_same mid new (λ x. x.journal.has_failed) done.rest) ∙ now);
+      number = omega (arith, room.number, read_same mid new (λ x. x.journal.last.number) done.rest);
       alone = λ was. ap (λ (v : JournalValue g.row.B.Denot). v.below) (done.refused (room.good ∙ was)) ∙ room.alone was;
       back = done.back ∙ room.back;
       gathers = λ more. reads_then _ _ _ (room.gathers more) done.reads;
-      room = λ more. omega (arith, room.room_stays more, ap (λ (v : JournalValue g.row.B.Denot). room_of v) journal);
-      moves = moves_then h old mid new room.moves (ap (λ (v : JournalValue g.row.B.Denot). v.shape) journal) blocks
-          (ap (λ (v : JournalValue g.row.B.Denot). v.offered) journal) (settled_read h mid.journal new.journal journal done.reads) done.reads;
+      room = λ more. omega (arith, room.room_stays more, read_same mid new (λ x. room_of x.journal) done.rest);
+      moves = moves_then h old mid new room.moves (read_same mid new (λ x. x.journal.shape) done.rest) blocks
+          (read_same mid new (λ x. x.journal.offered) done.rest) (settled_read h mid.journal new.journal journal done.reads) done.reads;
       counts = read_later _ _ _ _ (room.counts.quiet ok_not_err) done.counts;
     })
 
 pub put-requires : goal.put-requires
 put-requires g c =
     let rest = c.in_ok-read.ensures.rest in
-    let journal = ap (λ (x : CheckedValue g.row.B.Denot). x.journal) rest in
-    let blocks = ap (λ (x : CheckedValue g.row.B.Denot). x.blocks) rest in
+    let blocks = read_same c.make_room.new.checked c.read.new.self (λ x. x.blocks) rest in
     record {
       inside = omega (arith, c.requires.plan.room, c.requires.inside, c.requires.blocks, c.in_ok-make_room.ensures.moves.blocks, blocks);
-      room = subst (λ (k : ℕ). 1 < k) (sym (ap (λ (v : JournalValue g.row.B.Denot). room_of v) journal)) c.in_ok-make_room.ensures.room;
+      room = subst (λ (k : ℕ). 1 < k) (sym (read_same c.make_room.new.checked c.read.new.self (λ x. room_of x.journal) rest)) c.in_ok-make_room.ensures.room;
     }
 
 pub returns : goal.returns
@@ -106,9 +105,8 @@ returns g c =
     let done = c.in_ok-read.ensures in
     let put = c.put.ensures in
     let blk : List ℕ = c.put_sector.new.block in
-    let journal = ap (λ (x : CheckedValue g.row.B.Denot). x.journal) done.rest in
-    let behind = ap (λ (x : CheckedValue g.row.B.Denot). x.journal) put.rest in
-    let blocks = ap (λ (x : CheckedValue g.row.B.Denot). x.blocks) done.rest in
+    let journal = read_same mid read (λ x. x.journal) done.rest in
+    let blocks = read_same mid read (λ x. x.blocks) done.rest in
     let to_read : read.blocks ≡ old.blocks = blocks ∙ room.moves.blocks in
     let mid_data : data_now h mid ≡ data_now h old = λ i. data_of (room.moves.blocks i) (room.same i) in
     let table : kept_table h read ≡ kept_table h old = table_read h mid read done.rest done.reads ∙ room.same in
@@ -116,14 +114,14 @@ returns g c =
     let size : (n + plan.lead) / 8 < length (data_now h old) =
     omega (arith, length-data h old c.stands.ensures.inside c.stands.ensures.kept, c.requires.plan.room, c.requires.inside, c.requires.blocks) in
     let below : OnlyReads (h mid.journal.below) (h new.journal.below) =
-    subst (λ (x : BlocksPast). OnlyReads (h mid.journal.below) x) (sym (ap (λ (v : JournalValue g.row.B.Denot). h v.below) behind)) done.reads in
+    subst (λ (x : BlocksPast). OnlyReads (h mid.journal.below) x) (sym (put_same read new (λ x. h x.journal.below) put.rest)) done.reads in
     let good : mid.journal.has_failed ≡ false = done.sound ok_not_err in
     let same = done.counts.quiet ok_not_err in
-    let refused = ap (λ (x : CheckedValue g.row.B.Denot). x.journal.refused) (done.good good) in
+    let refused : read.journal.refused ≡ mid.journal.refused = ap (λ (x : CheckedValue g.row.B.Denot). x.journal.refused) (done.good good) in
     let at : ℕ = (n + plan.lead) / 8 in
     let has : read.blocks ≡ plan.blocks = to_read ∙ c.requires.blocks in
     let counted : failures_of F new.journal ≡ failures_of F old.journal =
-    ap (λ (v : JournalValue g.row.B.Denot). failures_of F v) behind ∙ done.counts.quiet ok_not_err ∙ room.counts.quiet ok_not_err in
+    put_same read new (λ x. failures_of F x.journal) put.rest ∙ done.counts.quiet ok_not_err ∙ room.counts.quiet ok_not_err in
     record {
       ok = ap (sectors_of plan.lead plan.sectors) (put.put ∙ ap (λ (l : CrashFile). slice_set l ((n + plan.lead) / 8) blk) same_data)
           ∙ sector_put plan.lead plan.sectors (data_now h old) n c.args.bytes.now blk c.requires.inside size c.put_sector.ensures.here
@@ -133,31 +131,31 @@ returns g c =
       failed = tt;
       sound = (
         sym room.good ∙ good,
-        ap (λ (v : JournalValue g.row.B.Denot). v.has_failed) behind ∙ ap (λ (v : JournalValue g.row.B.Denot). v.has_failed) journal ∙ good,
+        put_same read new (λ x. x.journal.has_failed) put.rest ∙ read_same mid read (λ x. x.journal.has_failed) done.rest ∙ good,
       );
-      quiet = ap (λ (v : JournalValue g.row.B.Denot). F v.below) behind ∙ omega (arith, same, refused) ∙ room.quiet;
+      quiet = put_same read new (λ x. F x.journal.below) put.rest ∙ omega (arith, same, refused) ∙ room.quiet;
       fits = fits_put plan (kept_table h old) (kept_table h new) at
           (subst (λ (l : CrashFile). IsFit plan.blocks l at) room.same
           (subst (λ (b : ℕ). IsFit b (kept_table h mid) at) (room.moves.blocks ∙ c.requires.blocks) done.fits))
           (subst (λ (b : ℕ). IsFit b (kept_table h new) at) has put.fits)
           (λ m low apart. subst (λ (l : CrashFile). IsFit plan.blocks (kept_table h new) m ↔ IsFit plan.blocks l m) table
           (subst (λ (b : ℕ). IsFit b (kept_table h new) m ↔ IsFit b (kept_table h read) m) has (put.others m (omega (arith, low, has)) apart)));
-      broken = λ now. absurd (false≢true (sym (ap (λ (v : JournalValue g.row.B.Denot). v.has_failed) behind
-          ∙ ap (λ (v : JournalValue g.row.B.Denot). v.has_failed) journal ∙ good) ∙ now));
+      broken = λ now. absurd (false≢true (sym (put_same read new (λ x. x.journal.has_failed) put.rest
+          ∙ read_same mid read (λ x. x.journal.has_failed) done.rest ∙ good) ∙ now));
       number = omega (
         arith,
         room.number,
-        ap (λ (v : JournalValue g.row.B.Denot). v.last.number) journal,
-        ap (λ (v : JournalValue g.row.B.Denot). v.last.number) behind,
+        read_same mid read (λ x. x.journal.last.number) done.rest,
+        put_same read new (λ x. x.journal.last.number) put.rest,
       );
       alone = λ was. absurd (false≢true (sym (sym room.good ∙ good) ∙ was));
-      back = ap (λ (v : JournalValue g.row.B.Denot). g.B.Blocks.written_back v.below) behind ∙ done.back ∙ room.back;
+      back = put_same read new (λ x. g.B.Blocks.written_back x.journal.below) put.rest ∙ done.back ∙ room.back;
       gathers = λ more. reads_then _ _ _ (room.gathers more) below;
-      room = λ more. omega (arith, room.room_stays more, ap (λ (v : JournalValue g.row.B.Denot). room_of v) journal, put.room);
+      room = λ more. omega (arith, room.room_stays more, read_same mid read (λ x. room_of x.journal) done.rest, put.room);
       moves = moves_then h old mid new room.moves
-          (ap (λ (v : JournalValue g.row.B.Denot). v.shape) behind ∙ ap (λ (v : JournalValue g.row.B.Denot). v.shape) journal)
-          (ap (λ (x : CheckedValue g.row.B.Denot). x.blocks) put.rest ∙ blocks)
-          (ap (λ (v : JournalValue g.row.B.Denot). v.offered) behind ∙ ap (λ (v : JournalValue g.row.B.Denot). v.offered) journal)
-          (ap (λ (v : JournalValue g.row.B.Denot). settled_of h v) behind ∙ settled_read h mid.journal read.journal journal done.reads) below;
+          (put_same read new (λ x. x.journal.shape) put.rest ∙ read_same mid read (λ x. x.journal.shape) done.rest)
+          (put_same read new (λ x. x.blocks) put.rest ∙ blocks)
+          (put_same read new (λ x. x.journal.offered) put.rest ∙ read_same mid read (λ x. x.journal.offered) done.rest)
+          (put_same read new (λ x. settled_of h x.journal) put.rest ∙ settled_read h mid.journal read.journal journal done.reads) below;
       counts = record { later = omega (arith, counted); quiet = λ _. counted; rises = λ is. absurd (ok_not_err is) };
     }
