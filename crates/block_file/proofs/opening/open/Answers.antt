@@ -13,8 +13,6 @@ use Rattle.block_journal.proofs.WritingBack.{begins_back_behind, writes_back_beh
 use Rattle.block_table.specs.Checked.{CheckedValue, settled_table}
 use Rattle.block_table.specs.Table.{EachFits, IsFirstUnfit, data_of}
 use Rattle.block_table.proofs.Contents.{stays_read}
-use Rattle.block_file.specs.declared.opening.FileError.{FileError}
-use Rattle.block_file.specs.declared.opening.FileError.TheVariants.{Damaged, FileFailed, NoBatch, NoHeader, TooShort}
 use Rattle.block_file.specs.declared.plan.Plan.{Plan}
 use Rattle.block_file.specs.Closing.{StandsAlone}
 use Rattle.block_file.specs.Damage.{CanBeOpened}
@@ -583,18 +581,6 @@ returns-in-Ok-open-clause-written_back_refused g c =
     left)))
     c.compared.ensures.refused c.compared.ensures.back_refused
 
-not_header : Path FileError TooShort NoHeader → ⊥
-not_header is = cc
-
-not_failed : Path FileError TooShort FileFailed → ⊥
-not_failed is = cc
-
-not_batch : Path FileError TooShort NoBatch → ⊥
-not_batch is = cc
-
-not_damaged : (n : ℕ) → Path FileError TooShort (Damaged n) → ⊥
-not_damaged n is = cc
-
 -- ---- what the calls need, and what is plain
 
 pub has_room-requires : goal.has_room-requires
@@ -613,16 +599,16 @@ compared-requires g c =
     record { plan = c.in-Ok.ensures.plan; shape = opened.shape; blocks = opened.blocks; none = opened.none; good = opened.sound }
 
 pub returns-then-not-has_room-clause-damaged : goal.returns-then-not-has_room-clause-damaged
-returns-then-not-has_room-clause-damaged g c = λ n is. absurd (not_damaged n is)
+returns-then-not-has_room-clause-damaged g c = λ n is. cc
 
 pub returns-then-not-has_room-clause-no_header : goal.returns-then-not-has_room-clause-no_header
-returns-then-not-has_room-clause-no_header g c = λ is. absurd (not_header is)
+returns-then-not-has_room-clause-no_header g c = λ is. cc
 
 pub returns-then-not-has_room-clause-failed : goal.returns-then-not-has_room-clause-failed
-returns-then-not-has_room-clause-failed g c = λ is. absurd (not_failed is)
+returns-then-not-has_room-clause-failed g c = λ is. cc
 
 pub returns-then-not-has_room-clause-no_batch : goal.returns-then-not-has_room-clause-no_batch
-returns-then-not-has_room-clause-no_batch g c = λ is. absurd (not_batch is)
+returns-then-not-has_room-clause-no_batch g c = λ is. cc
 
 pub returns-in-Ok-open-clause-told : goal.returns-in-Ok-open-clause-told
 returns-in-Ok-open-clause-told g c =

@@ -3,7 +3,6 @@ use Rattle.block_batch.specs.Batch.{Batch, Entry}
 use Rattle.block_journal.specs.declared.shape.Shape.{Shape}
 use Rattle.block_journal.specs.Value.{JournalValue}
 use Rattle.block_journal.proofs.OnlyReading.{reads_none}
-use Rattle.block_file.proofs.Counting.{ok_not_err}
 use Rattle.block_file.proofs.Moving.{kept_commit, moves_commit, moves_none}
 use Rattle.block_file.proofs.sectors.make_room.Goals as goal
 
@@ -20,7 +19,7 @@ returns-then-room-gt0 g c = record {
   fails = tt;
   same = refl;
   moves = moves_none g.B.Blocks.past_of c.args.checked.now c.stands.ensures.survives c.stands.ensures.synced c.stands.ensures.inside c.stands.ensures.here;
-  counts = record { later = omega arith; quiet = λ _. refl; rises = λ is. absurd (ok_not_err is) };
+  counts = record { later = omega arith; quiet = λ _. refl; rises = λ is. absurd (cc) };
 }
 
 pub returns-in-Ok : goal.returns-in-Ok
@@ -42,7 +41,7 @@ returns-in-Ok g c =
       same = kept_commit h old new c.commit.result done.ok done.none done.err done.kept;
       moves = moves_commit h old new c.commit.result done.shape done.blocks done.ok done.err done.any_moment done.offered done.before
           done.holds done.refused;
-      counts = record { later = done.counts.later; quiet = λ _. c.in-Ok.ensures.counts.none; rises = λ is. absurd (ok_not_err is) };
+      counts = record { later = done.counts.later; quiet = λ _. c.in-Ok.ensures.counts.none; rises = λ is. absurd (cc) };
     }
 
 pub returns-in-Err : goal.returns-in-Err
