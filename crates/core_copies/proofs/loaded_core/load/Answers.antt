@@ -1,5 +1,8 @@
-use Rattle.std.proofs.Common.{ap, arith, subst, sym, ◌∙◌, ◌≡◌, ◌≤◌}
+use Rattle.std.proofs.Common.{ap, arith, subst, sym, Ok, Err, Result, inl, inr, refl, ℕ, ◌∙◌, ◌≡◌, ◌<◌, ◌≤◌, ◌↔◌}
+use Rattle.std.proofs.lemmas.Result.{err_from_is_err_and}
 use Rattle.std.specs.FinMap as map
+use Rattle.record_values.specs.declared.error.Error.{Error}
+use Rattle.record_values.specs.declared.error.Error.TheVariants.{IndexFull, NoMemory}
 use Rattle.record_values.specs.GeometryValue.{GeometryValue}
 use Rattle.model.specs.Following.{IsWithin}
 use Rattle.store_reader.specs.Restored.{given_in}
@@ -12,6 +15,13 @@ use Rattle.core_parts.specs.View.{CoreValue, IsState}
 use Rattle.core_copies.specs.Loaded.{store_of, with_entries, with_rows}
 use Rattle.core_copies.proofs.Loading.{stands_for}
 use Rattle.core_copies.proofs.loaded_core.load.Goals as goal
+
+-- where there is room, no memory is not a full index
+has_room : {T : Type 0} (e : Error) (most len n : ℕ) → e ≡ NoMemory → len ≡ n → len ≤ most → ◌≡◌ {A = Result T Error} (Err e) (Err IndexFull) ↔ (most < n)
+has_room e most len n is counted room = (λ full. absurd (cc), λ more. absurd (omega arith))
+
+is_made : {T : Type 0} (x : T) (most len n : ℕ) → len ≡ n → len ≤ most → ◌≡◌ {A = Result T Error} (Ok x) (Err IndexFull) ↔ (most < n)
+is_made x most len n counted room = (λ full. absurd (cc), λ more. absurd (omega arith))
 
 pub load_rows-requires-clause-within : goal.load_rows-requires-clause-within
 load_rows-requires-clause-within g c = subst (λ (v : CoreValue). IsWithin v.heap.pages c.args.found.now.rows)
@@ -42,3 +52,49 @@ returns-clause-opened g c =
     let room : map.len f.entries ≤ f.geometry.entries = omega (arith, c.len.ensures, most, c.if-len-geometry.false) in
     subst (λ (v : CoreValue). IsState v (opened (store_of f)) (standing_at f.last)) (sym (returns-clause-made g c))
     (stands_for f.geometry (given_in f) f.inside room f.numbered)
+
+pub returns-clause-full : goal.returns-clause-full
+returns-clause-full g c = rw (← ap (λ (x : GeometryValue). x.entries) c.geometry.view_is) (is_made _ _ _ _ c.len.ensures c.if-len-geometry.false)
+
+pub returns-in_err-core : goal.returns-in_err-core
+returns-in_err-core g c =
+    let p = err_from_is_err_and c.from_residual.result c.from_residual.ensures.1 in
+    let is = p.2 ∙ c.in_err-core.ensures.no_memory in
+    rw p.1 (record {
+      made = tt;
+      opened = tt;
+      full = rw (← ap (λ (x : GeometryValue). x.entries) c.geometry.view_is) (has_room _ _ _ _ is c.len.ensures c.if-len-geometry.false);
+      refused = inr is;
+    })
+
+pub returns-in_err-load_rows : goal.returns-in_err-load_rows
+returns-in_err-load_rows g c =
+    let p = err_from_is_err_and c.from_residual-in_err-load_rows.result c.from_residual-in_err-load_rows.ensures.1 in
+    let is = p.2 ∙ c.in_err-load_rows.ensures.no_memory in
+    rw p.1 (record {
+      made = tt;
+      opened = tt;
+      full = rw (← ap (λ (x : GeometryValue). x.entries) c.geometry.view_is) (has_room _ _ _ _ is c.len.ensures c.if-len-geometry.false);
+      refused = inr is;
+    })
+
+pub returns-in_err-load_entries : goal.returns-in_err-load_entries
+returns-in_err-load_entries g c =
+    let p = err_from_is_err_and c.from_residual-in_err-load_entries.result c.from_residual-in_err-load_entries.ensures.1 in
+    let is = p.2 ∙ c.in_err-load_entries.ensures.no_memory in
+    rw p.1 (record {
+      made = tt;
+      opened = tt;
+      full = rw (← ap (λ (x : GeometryValue). x.entries) c.geometry.view_is) (has_room _ _ _ _ is c.len.ensures c.if-len-geometry.false);
+      refused = inr is;
+    })
+
+pub returns-then-len-geometry : goal.returns-then-len-geometry
+returns-then-len-geometry g c =
+    let most = ap (λ (x : GeometryValue). x.entries) c.geometry.view_is in
+    record {
+      made = tt;
+      opened = tt;
+      full = (λ _. omega (arith, most, c.len.ensures, c.if-len-geometry.true), λ _. refl);
+      refused = inl refl;
+    }
