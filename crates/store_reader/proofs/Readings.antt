@@ -4,10 +4,10 @@ use Rattle.std.proofs.Common.{subst, ◌∙◌, arith, length-append}
 use Rattle.std.proofs.lemmas.Bool.{cases_lt}
 use Rattle.std.proofs.lemmas.List.{take-append-drop}
 use Rattle.std.proofs.lemmas.Grind.{flat_map-append}
-use Rattle.sector_device.specs.Disk.{CrashState, SameOutside}
+use Rattle.sector_device.specs.Disk.{CrashState}
 use Rattle.records.specs.RecordValue.{RecordValue}
 use Rattle.record_values.specs.declared.version.Version.{Version}
-use Rattle.record_values.specs.declared.version.Version.TheVariants.{One, Two}
+use Rattle.record_values.specs.declared.version.Version.TheVariants.{One}
 use Rattle.record_values.specs.GeometryValue.{GeometryValue}
 use Rattle.record_values.specs.Orders.{pair_cmp}
 use Rattle.record_values.specs.declared.pair.Mark.{Mark}
@@ -17,20 +17,19 @@ use Rattle.std.specs.FinMap as map
 use Rattle.std.specs.FinMap.{len}
 use Rattle.model.specs.Cells.{Cells}
 use Rattle.model.specs.Following.{AreFollowing, IsFirstUnfit}
-use Rattle.model.specs.Given.{Given, given_after, nothing, recovered}
-use Rattle.store_reader.specs.Store.{StoreValue, after_records}
+use Rattle.model.specs.Given.{Given, given_after, nothing}
+use Rattle.store_reader.specs.Store.{StoreValue}
 use Rattle.model.proofs.FollowingLaws.{not_following, one_unfit}
-use Rattle.gate_log.specs.Area.{Area, InArea, Log, HoldsGroups, HoldsGroupsIn, StandsIn, records_of, IsGateOf, Refuses}
+use Rattle.gate_log.specs.Area.{Area, Log, HoldsGroupsIn, StandsIn, records_of, IsGateOf, Refuses}
 use Rattle.gate_log.proofs.Readings as log
 use Rattle.store_image_half.specs.Image.{no_cells}
 use Rattle.store_image_half.proofs.Readings as images
 use Rattle.flip_image.specs.declared.half.Half.{Half}
 use Rattle.flip_image.specs.declared.half.Half.TheVariants.{A}
-use Rattle.flip_image.specs.Layout.{header_sector, header_sector_in}
-use Rattle.flip_image.specs.Store.{AreGatesClosed, HoldsImage, HoldsImageIn, IsFormatted, IsStore, IsStoreIn}
-use Rattle.flip_image.proofs.Sides as sides
+use Rattle.flip_image.specs.Layout.{header_sector_in}
+use Rattle.flip_image.specs.Store.{AreGatesClosed, HoldsImage, HoldsImageIn, IsFormatted, IsStoreIn}
 use Rattle.flip_image.proofs.Stores as stores
-use Rattle.store_reader.specs.Contents.{log_area, log_area_in, given_over, Gives, GivesIn, HoldsStoreIn, IsFoundIn, IsUntouched, IsUntouchedIn, IsMisplacedAtIn}
+use Rattle.store_reader.specs.Contents.{log_area_in, given_over, GivesIn, HoldsStoreIn, IsFoundIn, IsUntouched, IsUntouchedIn, IsMisplacedAtIn}
 use Rattle.store_reader.specs.Contents.{IsOverfullIn, IsLogDamagedIn, IsHalfDamagedIn, IsStoreDamagedAtIn, IsUnreadable, IsUnreadableIn}
 
 -- one image, and one list of records behind it
@@ -39,16 +38,10 @@ pub record AreOne (m n : ℕ) (x y : Cells) (rs ss : List RecordValue) : Type 0 
   pub cells : x ≡ y
   pub records : rs ≡ ss
 
--- what is restored of records that were redone over an image's cells, and for which store
-pub restored : (geometry : GeometryValue) (records : List RecordValue) (begun mid : StoreValue) (given : Given) → begun.geometry ≡ geometry
-    → AreFollowing begun.geometry.pages begun.last begun.cells records
-    → mid ≡ after_records begun records → given ≡ recovered mid.cells mid.last
-    → AreFollowing geometry.pages begun.last begun.cells records × (given ≡ given_over begun.last begun.cells records) × (mid.geometry ≡ geometry)
-restored geometry records begun mid given is following redone given_is = (
-  subst (λ (x : GeometryValue). AreFollowing x.pages begun.last begun.cells records) is following,
-  given_is ∙ ap (λ (v : StoreValue). recovered v.cells v.last) redone,
-  ap (λ (v : StoreValue). v.geometry) redone ∙ is,
-)
+-- records that were redone over an image's cells, and for which store
+pub follows : (geometry : GeometryValue) (records : List RecordValue) (begun : StoreValue) → begun.geometry ≡ geometry
+    → AreFollowing begun.geometry.pages begun.last begun.cells records → AreFollowing geometry.pages begun.last begun.cells records
+follows geometry records begun is = subst (λ (x : GeometryValue). AreFollowing x.pages begun.last begun.cells records) is
 
 -- the first record that could not be redone over them
 pub first_unfit : (geometry : GeometryValue) (records read : List RecordValue) (begun : StoreValue) (index : ℕ) → begun.geometry ≡ geometry → records ≡ read

@@ -4,6 +4,7 @@ ghost use Rattle.sector_device.specs.DevicePast.{OnlyReads};
 ghost use Rattle.records.specs.RecordValue.{RecordValue};
 ghost use Rattle.record_values.specs.GeometryValue.{GeometryValue};
 ghost use Rattle.record_values.specs.declared.number.TheConstants.{LAST_NUMBER};
+ghost use Rattle.model.specs.Following.{AreFollowing, IsFirstUnfit};
 ghost use Rattle.model.specs.Given.{Given};
 ghost use Rattle.store_reader.specs.Restored.{given_in};
 ghost use Rattle.gate_log.specs.Area.{IsAreaInside, StandsIn, records_of, IsGateOf, Refuses};
@@ -12,9 +13,9 @@ ghost use Rattle.store_image_half.specs.Damage.{SaysSomethingIn, TheHeader, IsUn
 ghost use Rattle.flip_image.specs.Layout.{header_sector_in};
 ghost use Rattle.flip_image.specs.Store.{IsStore, IsStoreIn, HoldsImageIn};
 ghost use Rattle.store_reader.specs.Contents.{Gives, GivesIn, HasHeader, HasHeaderIn, IsFound, IsFoundIn, IsUnreadable};
-ghost use Rattle.store_reader.specs.Contents.{IsUnreadableIn, IsUntouched, IsUntouchedIn};
+ghost use Rattle.store_reader.specs.Contents.{IsUnreadableIn, IsUntouched, IsUntouchedIn, given_over};
 
-use crate::{ImageCells, Refusal, Restored, StoreCells};
+use crate::{ImageCells, Refusal, Restored, Stopped, StoreCells};
 use flip_image::Halves;
 use gate_log::LogArea;
 use records::{Error, Record, Version};
@@ -95,6 +96,31 @@ fn is_untouched(bare: bool, records: &[Record]) -> bool
     bare && records.is_empty()
 }
 
+// What is restored of the cells, once the records are redone over them. Where one is not redone, it is named by its
+// index; the index behind them all stands for the taking back, which only no memory stops.
+fn redone<A: Allocator + Copy>(
+    mut cells: StoreCells<A>,
+    records: &[Record],
+) -> Result<Restored<A>, Stopped>
+    ensures following { OnOk result (AreFollowing cells.geometry.pages cells.last cells.cells records.now) }
+    ensures given { IfOk result (λ found. given_in found ≡ given_over cells.last cells.cells records.now) }
+    ensures geometry { IfOk result (λ found. found.geometry ≡ cells.geometry) }
+    ensures unfit { IfErr result (λ s. s.why ≡ Refusal.Unfit → (s.index < length records.now)
+        × IsFirstUnfit cells.geometry.pages cells.last cells.cells records.now s.index) }
+{
+    if let Err(stopped) = cells.redo_all(records) {
+        drop(cells);
+        return Err(stopped);
+    }
+    match cells.restore() {
+        Ok(restored) => Ok(restored),
+        Err(_) => Err(Stopped {
+            index: records.len(),
+            why: Refusal::NoMemory,
+        }),
+    }
+}
+
 // Names the gate of the group of a record that is misplaced.
 fn misplaced<D: Device, A: Allocator + Copy>(
     alloc: A,
@@ -158,14 +184,21 @@ pub fn read_store_in<D: Device, A: Allocator + Copy>(
     ensures told { IfErr result (λ e. e ≢ Error.DeviceFailed → D.failures device.new ≡ D.failures device.old) }
     ensures later { D.failures device.old ≤ D.failures device.new }
 {
-    let (halves, mut cells, bare) = open_store(alloc, version, device)?;
+    let (halves, cells, bare) = open_store(alloc, version, device)?;
     let geometry = halves.geometry();
     let mut log = LogArea::new(halves.log_first_in(version), u64::from(geometry.slots));
-    let records = log.read_all(alloc, version, device)?;
-    match cells.redo_all(&records) {
-        Ok(()) => {
-            let restored = cells.restore()?;
+    let records = match log.read_all(alloc, version, device) {
+        Ok(records) => records,
+        Err(error) => {
+            // by a call, which proves how cells are let go once for all exits
+            drop(cells);
+            return Err(error);
+        }
+    };
+    match redone(cells, &records) {
+        Ok(restored) => {
             if restored.entries.len() > geometry.entries as usize {
+                drop(restored);
                 return Err(Error::Damaged {
                     sector: halves.header_sector_in(version),
                 });
