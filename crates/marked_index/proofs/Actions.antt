@@ -13,7 +13,7 @@ use Rattle.model.specs.declared.key_action.KeyAction.TheVariants.{BuildPut, Clea
 use Rattle.model.specs.KeyActions.{after_action}
 use Rattle.model.specs.Table.{Index}
 use Rattle.btree_node.specs.Placed.{outcome}
-use Rattle.btree_node.specs.declared.placing.InLeaf.TheVariants.{Added, Found}
+use Rattle.btree_node.specs.declared.placing.InLeaf.TheVariants.{Added, Found, NoRoom}
 use Rattle.record_values.specs.declared.geometry.TheConstants.{LARGE_ENTRIES_MAX}
 use Rattle.record_values.specs.declared.error.Error.{Error}
 use Rattle.marked_index.specs.Index.{IndexValue, IsFull, IsWithinCapacity, entries_after}
@@ -128,3 +128,20 @@ added_is None (suc n) e = cc
 pub there_of : (o : Option Mark) (added : Bool) → (IsTrue added ↔ o ≡ None) → added ≡ false → is_some o ≡ true
 there_of None added is e = let yes : added ≡ true = is.1 refl in absurd (cc (yes, e))
 there_of (Some x) added is e = refl
+
+-- what had no room was not there
+pub no_room_is : (o : Option Mark) (n : ℕ) → NoRoom ≡ outcome o n → o ≡ None
+no_room_is (Some x) n e = cc
+no_room_is None n e = refl
+
+pub no_room_not_added : NoRoom ≡ Added → ⊥
+no_room_not_added e = cc
+
+pub found_not_added : (m : Mark) → Found m ≡ Added → ⊥
+found_not_added m e = cc
+
+pub none_added : (o : Option Mark) (m : Mark) → o ≡ Some m → IsTrue false ↔ (o ≡ None)
+none_added o m there = (λ no. absurd (cc), λ none. absurd (cc))
+
+pub build_new : (m n : Index) (p : Pair) → map.get m p ≡ None → n ≡ map.insert m p Live → n ≡ entries_after m BuildPut p
+build_new m n p none put = put ∙ sym (ap (λ o. set_at m p (after_action BuildPut o)) none)
