@@ -1,4 +1,4 @@
-use Rattle.std.proofs.Common.{◌≡◌, ◌<◌, arith, inr, refl, sym, ap, subst, ◌∙◌}
+use Rattle.std.proofs.Common.{◌≡◌, ◌<◌, arith, inl, inr, refl, sym, ap, subst, ◌∙◌}
 use Rattle.sector_device.specs.DevicePast.{Rises}
 use Rattle.sector_device.proofs.Moments.{content_at_end}
 use Rattle.sector_device.proofs.Sectors.{same_outside_then, same_outside_wider}
@@ -67,3 +67,32 @@ returns-in-Ok-write_over-clause-around g c =
 pub returns-in-Err-clause-refused : goal.returns-in-Err-clause-refused
 returns-in-Err-clause-refused g c =
     inr (c.in-Err.ensures.refused.0, omega (arith, c.sectors.ensures, c.sectors-2.ensures, c.if-sectors.false), c.in-Err.ensures.refused.1)
+
+pub returns-then-sectors : goal.returns-then-sectors
+returns-then-sectors g c = record {
+  filled = tt;
+  empty = tt;
+  room = tt;
+  around = tt;
+  refused = inl (refl, omega (arith, c.sectors.ensures, c.sectors-2.ensures, c.if-sectors.true), refl);
+  quiet = tt;
+}
+
+pub returns-in_default : goal.returns-in_default
+returns-in_default g c = record {
+  filled = tt;
+  empty = tt;
+  room = tt;
+  around = tt;
+  refused = (omega (arith, c.sectors.ensures, c.sectors-2.ensures, c.if-sectors.false), refl);
+  quiet = tt;
+}
+
+pub returns-in-Ok-write_over-clause-empty : goal.returns-in-Ok-write_over-clause-empty
+returns-in-Ok-write_over-clause-empty g c = c.in-Ok-write_over.ensures.empty
+
+pub returns-in-Ok-write_over-clause-room : goal.returns-in-Ok-write_over-clause-room
+returns-in-Ok-write_over-clause-room g c = omega (arith, c.sectors.ensures, c.sectors-2.ensures, c.if-sectors.false)
+
+pub format-requires : goal.format-requires
+format-requires g c = omega (arith, c.sectors.ensures, c.sectors-2.ensures, c.if-sectors.false)
