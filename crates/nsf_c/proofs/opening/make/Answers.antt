@@ -1,4 +1,8 @@
-use Rattle.std.proofs.Common.{rules, ◌≡◌, ◌⊎◌, inl, inr, refl, ap, ◌∙◌}
+use Rattle.std.proofs.Common.{rules, arith, Result, Err, ◌≡◌, ◌<◌, ◌⊎◌, ◌↔◌, ⊎_elim, inl, inr, refl, ap, ◌∙◌}
+use Rattle.std.proofs.lemmas.Result.{err_from_is_err_and}
+use Rattle.flip_image.specs.Store.{IsDeviceFailure}
+use Rattle.record_values.specs.declared.error.Error.{Error}
+use Rattle.record_values.specs.declared.error.Error.TheVariants.{DeviceFailed, DeviceTooSmall}
 use Rattle.record_values.specs.GeometryValue.{IsGeometry}
 use Rattle.record_values.specs.Refusals.{number_of}
 use Rattle.std.proofs.lemmas.List.{length-replicate}
@@ -34,3 +38,22 @@ returns-clause-err c =
         | inr refused ↦ inr (inr (record { disk = c.format.new.device; error = e; is_disk = made c; refused = refused; status_is = refl }))
       ],
     )) c.open_on.ensures.err
+
+pub returns-in_err-disk : goal.returns-in_err-disk
+returns-in_err-disk c =
+    let within : IsGeometry c.args.geometry = search rules in
+    let p = err_from_is_err_and c.from_residual.result c.from_residual.ensures.1 in
+    rw p.1 (record { ok = tt; err = inr (within, inl (ap number_of p.2)) })
+
+-- where there is room, the device failed
+device_failed : {T : Type 0} (e : Error) (before now len size : ℕ) → (◌≡◌ {A = Result T Error} (Err e) (Err DeviceTooSmall) ↔ (len < size)) → len ≡ size
+    → (e ≡ DeviceTooSmall) ⊎ IsDeviceFailure before now e → e ≡ DeviceFailed
+device_failed e before now len size small room = ⊎_elim (λ is. absurd (omega (arith, small.0 (ap Err is)))) (λ failed. failed.0)
+
+pub returns-in_err-format : goal.returns-in_err-format
+returns-in_err-format c =
+    let within : IsGeometry c.args.geometry = search rules in
+    let room = ap (λ (image : List (List ℕ)). length image) c.in_ok-disk.ensures.zeros ∙ length-replicate {A = List ℕ} _ zero_sector ∙ c.sectors.ensures in
+    let failed = device_failed _ _ _ _ _ c.in_err-format.ensures.too_small room c.in_err-format.ensures.refused in
+    let p = err_from_is_err_and c.from_residual-in_err-format.result c.from_residual-in_err-format.ensures.1 in
+    rw p.1 (record { ok = tt; err = inr (within, inr (inl (ap number_of (p.2 ∙ failed)))) })
