@@ -60,3 +60,23 @@ returns-in-Ok-clause-around g c =
 pub returns-in-Ok-clause-quiet : goal.returns-in-Ok-clause-quiet
 returns-in-Ok-clause-quiet g c =
     (c.in-Ok.ensures.quiet.0, ap g.N.Device.failures c.over-parts.ensures.begins.device-is ∙ c.in-Ok.ensures.quiet.1)
+
+pub returns-in-Ok-clause-kept : goal.returns-in-Ok-clause-kept
+returns-in-Ok-clause-kept g c = c.move_store.ensures.kept
+
+pub returns-in-Ok-clause-room : goal.returns-in-Ok-clause-room
+returns-in-Ok-clause-room g c = c.in-Ok.ensures.room
+
+pub returns-in-Err : goal.returns-in-Err
+returns-in-Err g c = record {
+  migrated = tt;
+  emptied = tt;
+  around = tt;
+  kept = c.move_store.ensures.kept;
+  refused = c.in-Err.ensures.refused;
+  memory = c.in-Err.ensures.memory;
+  room = tt;
+  too_small = c.in-Err.ensures.too_small;
+  told = c.in-Err.ensures.told;
+  quiet = tt;
+}

@@ -101,3 +101,12 @@ returns-in-Ok-clause-around g c =
     SameOutside (λ n. n < sectors_of x) (h c.args.new.now).disk.content (h c.fill.new.device).disk.content)
     (sym (c.one_old_answer.ensures.geometry old geometry restored.geometry given (given_in restored) gives c.in-Ok.ensures.found.gives)) same)
     c.fill.ensures.around
+
+pub returns-in-Ok-clause-empty : goal.returns-in-Ok-clause-empty
+returns-in-Ok-clause-empty g c = c.fill.ensures.empty
+
+pub returns-in-Ok-clause-quiet : goal.returns-in-Ok-clause-quiet
+returns-in-Ok-clause-quiet g c = on_ok_weaker _ _ c.fill.result (λ same. (c.in-Ok.ensures.quiet, same)) c.fill.ensures.quiet
+
+pub returns-in-Err-clause-kept : goal.returns-in-Err-clause-kept
+returns-in-Err-clause-kept g c = c.read_store_in.ensures.reads
