@@ -1,11 +1,11 @@
-use Rattle.std.proofs.Common.{◌≡◌, ◌↔◌, ◌<◌, ◌≤◌, ◌∙◌, IsTrue, List, [], Err, inl, refl, arith, sym, ap, subst}
+use Rattle.std.proofs.Common.{◌≡◌, ◌↔◌, ◌<◌, ◌≤◌, ◌∙◌, IsTrue, List, [], length, Err, inl, refl, arith, sym, ap, subst}
 use Rattle.std.proofs.lemmas.Result.{err_from_is_err_and}
 use Rattle.std.specs.FinMap.{len}
 use Rattle.sector_device.specs.Disk.{Disk, CrashState}
 use Rattle.sector_device.proofs.Within.{reads_then}
 use Rattle.record_values.specs.GeometryValue.{GeometryValue}
 use Rattle.records.specs.RecordValue.{RecordValue}
-use Rattle.gate_log.specs.Area.{StandsIn, records_of}
+use Rattle.gate_log.specs.Area.{IsAreaInside, StandsIn, records_of}
 use Rattle.model.specs.Given.{Given}
 use Rattle.store_reader.specs.Restored.{given_in}
 use Rattle.store_reader.specs.Contents.{log_area_in, IsFoundIn, IsUntouchedIn}
@@ -201,4 +201,40 @@ returns g c =
       quiet = tt;
       told = λ _. quiet;
       later = not_fewer _ _ quiet;
+    }
+
+pub read_all-requires : goal.read_all-requires
+read_all-requires g c =
+    let at = c.in_ok-halves in
+    let area : c.new-log.result.area ≡ log_area_in c.args.version at.halves.geometry at.halves.current =
+    c.new-log.ensures.area
+    ∙ area_is c.args.version c.log_first_in.result c.from.result _ _ c.log_first_in.ensures.value (c.from.ensures
+    ∙ ap (λ (x : GeometryValue). x.slots) (c.geometry.view_is ∙ c.geometry-geometry.ensures)) in
+    record {
+      inside =
+          subst (λ (d : Disk). IsAreaInside c.new-log.result.area d.content) (sym c.open_store.ensures.reads.disk)
+          (area_inside c.args.version c.log_first_in.result _ _ c.new-log.result.area (g.D.Device.past_of c.args.device.now).disk.content area
+          c.log_first_in.ensures.value c.log_first_in.ensures.inside at.ensures.opened);
+    }
+
+pub misplaced-requires : goal.misplaced-requires
+misplaced-requires g c =
+    let at = c.in_ok-halves in
+    let log = c.read_all.new.self in
+    let area : log.area ≡ log_area_in c.args.version at.halves.geometry at.halves.current =
+    c.read_all.ensures.area ∙ c.new-log.ensures.area
+    ∙ area_is c.args.version c.log_first_in.result c.from.result _ _ c.log_first_in.ensures.value (c.from.ensures
+    ∙ ap (λ (x : GeometryValue). x.slots) (c.geometry.view_is ∙ c.geometry-geometry.ensures)) in
+    let read = c.in-Ok.ensures.read in
+    record {
+      inside =
+          subst (λ (d : Disk). IsAreaInside log.area d.content) (sym (c.in-Ok.ensures.reads.disk ∙ at.ensures.reads.disk))
+          (area_inside c.args.version c.log_first_in.result _ _ log.area (g.D.Device.past_of c.args.device.now).disk.content area
+          c.log_first_in.ensures.value c.log_first_in.ensures.inside at.ensures.opened);
+      stands = (
+        read.0,
+        subst (λ (d : Disk). StandsIn c.args.version log d.content read.0) (sym c.in-Ok.ensures.reads.disk) read.1,
+        subst (λ (l : List RecordValue). c.in-Err-redone.stopped.index < length l) (c.deref.ensures.value ∙ read.2)
+            (c.in-Err-redone.ensures.unfit c.in-Unfit.is).0,
+      );
     }
