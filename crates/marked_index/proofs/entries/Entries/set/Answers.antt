@@ -36,7 +36,8 @@ pub invariant_of-self-in-Found : goal.invariant_of-self-in-Found
 invariant_of-self-in-Found g c =
     let m = contents c.self.inside.tree in
     let p = c.args.pair.now in
-    counted_insert m _ p (Some c.in-Found.before) _ _ c.self.invariant (found_is _ _ _ c.in-Found.ensures.outcome) c.args.mark (λ none. absurd (some_not_none _ none))
+    counted_insert m _ p (Some c.in-Found.before) _ _ c.self.invariant (found_is _ _ _ c.in-Found.ensures.outcome) c.args.mark
+    (λ none. absurd (some_not_none _ none))
     (c.set_mark.ensures ∙ ap (λ (t : Tree). map.insert (contents t) p c.args.mark) (c.in-Found.ensures.unchanged (found_not_added _)))
     c.recount-self-inside-in-Found.ensures
 
@@ -69,7 +70,8 @@ returns-in-Found g c =
     let there : map.get c.args.self.now p ≡ Some c.in-Found.before =
     subst (λ (i : Index). map.get i p ≡ Some c.in-Found.before) c.self.view_is (found_is _ _ _ c.in-Found.ensures.outcome) in
     record {
-      set = c.set_mark.ensures ∙ ap (λ (i : Index). map.insert i p c.args.mark) (ap contents (c.in-Found.ensures.unchanged (found_not_added _)) ∙ c.self.view_is);
+      set = c.set_mark.ensures ∙ ap (λ (i : Index). map.insert i p c.args.mark)
+          (ap contents (c.in-Found.ensures.unchanged (found_not_added _)) ∙ c.self.view_is);
       added = none_added _ _ there;
       no_memory = tt;
       unchanged = tt;
