@@ -1,6 +1,7 @@
 mod Counting
 mod Damage
 mod Ending
+mod Errors
 mod HandingOn
 mod Heading
 mod Keeping

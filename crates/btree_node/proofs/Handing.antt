@@ -7,7 +7,6 @@ use Rattle.std.proofs.Math.ListN.{set, length-set}
 use Rattle.std.specs.List.{insert, remove}
 use Rattle.record_values.specs.declared.pair.Pair.{Pair}
 use Rattle.node_parts.specs.declared.Child.{Child}
-use Rattle.node_parts.specs.declared.Entry.{Entry}
 use Rattle.node_parts.specs.Balance.{IsTree, AreTrees}
 use Rattle.node_parts.specs.Order.{is_below, IsAscending}
 use Rattle.node_parts.specs.Place.{begins_after}
@@ -23,7 +22,7 @@ use Rattle.btree_node.specs.Mended.{AreTreesBut}
 use Rattle.btree_node.specs.Splits.{splits, forest_splits, is_before_all}
 use Rattle.btree_node.specs.Top.{nodes_for}
 use Rattle.btree_node.specs.Contents.{contents}
-use Rattle.btree_node.proofs.Insert.{child_tree, trees-set, splits_child}
+use Rattle.btree_node.proofs.Insert.{begins, child_tree, trees-set, splits_child}
 use Rattle.btree_node.proofs.Marks.{whole}
 use Rattle.btree_node.proofs.Placed.{no_split, no_top, trees-same}
 use Rattle.btree_node.proofs.Splice as splice
@@ -190,13 +189,6 @@ handed_tree {cs = cs} {rest = rest} {l = l} {k = k} {b = b} {w = w} t a n =
     (t.0, omega (arith, rows.length-trees (insert (set rest l b) k w), row, rows.length-trees cs, t.1), handed_trees a n)
 
 -- ---- where a pair belongs then
-pub begins : {A : Type 0} (c : Child A) (p : Pair) → least_of (entries c.node.value) ≡ Some c.least → begins_after (entries c.node.value) p ≡ is_below p c.least
-begins c p l = of_entries (entries c.node.value) l
-  where
-    of_entries : (es : List Entry) → least_of es ≡ Some c.least → begins_after es p ≡ is_below p c.least
-    of_entries [] l = cc
-    of_entries (e ∷ es) l = let same : e.pair ≡ c.least = cc in rw same
-
 pub before_rest : {A : Type 0} (cs : List (Child A)) (p : Pair) → AreLabelled cs → place_of p cs ≡ 0 → is_before_all p (forest_of (trees cs)) ≡ true
 before_rest [] p a e = refl
 before_rest (c ∷ cs) p a e = begins c p a.0 ∙ zero_true (is_below p c.least) (place_of p cs) e

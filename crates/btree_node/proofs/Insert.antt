@@ -101,7 +101,7 @@ least-insert (x ∷ es) e q h = let same : x.pair ≡ q = cc in rw (← same) (p
     pick false = refl
 
 -- ---- how many nodes are split
-begins : {A : Type 0} (c : Child A) (p : Pair) → least_of (entries c.node.value) ≡ Some c.least → begins_after (entries c.node.value) p ≡ is_below p c.least
+pub begins : {A : Type 0} (c : Child A) (p : Pair) → least_of (entries c.node.value) ≡ Some c.least → begins_after (entries c.node.value) p ≡ is_below p c.least
 begins c p l = of_entries (entries c.node.value) l
   where
     of_entries : (es : List Entry) → least_of es ≡ Some c.least → begins_after es p ≡ is_below p c.least
@@ -122,7 +122,7 @@ splits_after (c ∷ b ∷ cs) p (suc k) d l e =
     let h : begins_after (entries b.node.value) p ≡ false = begins b p l.1.0 ∙ suc_false (is_below p b.least) (place_of p cs) k e' in
     rw h (splits_after (b ∷ cs) p k d l.1 e')
 
-before_next : (es ys : List Entry) (p q : Pair) → least_of es ≡ Some q → AllAbove p (es ++ ys) → begins_after es p ≡ true
+pub before_next : (es ys : List Entry) (p q : Pair) → least_of es ≡ Some q → AllAbove p (es ++ ys) → begins_after es p ≡ true
 before_next [] ys p q e h = cc
 before_next (x ∷ es) ys p q e h = h.0
 

@@ -1,11 +1,10 @@
 -- The way of a pair through a row of children.
-use Rattle.std.proofs.Common.{◌≡◌, ℕ, ◌-◌, ◌<◌, ◌≤◌, true, false, List, [], ◌∷◌, ◌++◌, length, take, drop, get_or, Some, refl, sym, ap, ◌∙◌, arith, zero, suc}
+use Rattle.std.proofs.Common.{◌≡◌, ℕ, ◌-◌, ◌<◌, ◌≤◌, true, false, List, [], ◌∷◌, length, take, drop, get_or, refl, sym, ap, ◌∙◌, arith, zero, suc}
 use Rattle.record_values.specs.declared.pair.Pair.{Pair}
-use Rattle.node_parts.specs.declared.Entry.{Entry}
 use Rattle.node_parts.specs.declared.Child.{Child}
 use Rattle.node_parts.specs.Order.{is_below, AllAbove, IsAscending}
 use Rattle.node_parts.specs.Tree.{Tree, leaf, branch, entries, forest_of}
-use Rattle.node_parts.specs.Seen.{least_of, AreLabelled}
+use Rattle.node_parts.specs.Seen.{AreLabelled}
 use Rattle.node_parts.specs.Rows.{trees}
 use Rattle.node_parts.proofs.Order.{AllAbove-right}
 use Rattle.node_parts.proofs.Children.{all_entries, place_of, one_zero, zero_true, suc_false}
@@ -14,13 +13,7 @@ use Rattle.node_parts.specs.Place.{begins_after, place_in}
 use Rattle.btree_node.specs.Path.{path_of, forest_path}
 use Rattle.node_parts.proofs.Places.{place_in-row}
 use Rattle.btree_node.proofs.At.{IsAt}
-
-begins : {A : Type 0} (c : Child A) (p : Pair) → least_of (entries c.node.value) ≡ Some c.least → begins_after (entries c.node.value) p ≡ is_below p c.least
-begins c p l = of_entries (entries c.node.value) l
-  where
-    of_entries : (es : List Entry) → least_of es ≡ Some c.least → begins_after es p ≡ is_below p c.least
-    of_entries [] l = cc
-    of_entries (e ∷ es) l = let same : e.pair ≡ c.least = cc in rw same
+use Rattle.btree_node.proofs.Insert.{begins, before_next}
 
 path_after : {A : Type 0} (cs : List (Child A)) (p : Pair) (k : ℕ) (d : Child A) → AreLabelled cs → place_of p cs ≡ suc k
     → forest_path (forest_of (trees cs)) p ≡ path_of (get_or cs k d).node.value p
@@ -35,10 +28,6 @@ path_after (c ∷ b ∷ cs) p (suc k) d l e =
     let e' : place_of p (b ∷ cs) ≡ suc k = one_zero (is_below p c.least) (place_of p (b ∷ cs)) (suc k) e in
     let h : begins_after (entries b.node.value) p ≡ false = begins b p l.1.0 ∙ suc_false (is_below p b.least) (place_of p cs) k e' in
     rw h (path_after (b ∷ cs) p k d l.1 e')
-
-before_next : (es ys : List Entry) (p q : Pair) → least_of es ≡ Some q → AllAbove p (es ++ ys) → begins_after es p ≡ true
-before_next [] ys p q e h = cc
-before_next (x ∷ es) ys p q e h = h.0
 
 path_first : {A : Type 0} (cs : List (Child A)) (p : Pair) (d : Child A) → AreLabelled cs → 0 < length cs → AllAbove p (all_entries cs)
     → forest_path (forest_of (trees cs)) p ≡ path_of (get_or cs 0 d).node.value p

@@ -1,22 +1,22 @@
 -- Whether room can be made for a pair.
-use Rattle.std.proofs.Common.{◌≡◌, ℕ, ◌-◌, ◌<◌, ◌≤◌, ◌==◌, ◌&&◌, ◌||◌, Bool, true, false, cond, List, [], ◌∷◌, ◌++◌, length, get_or, Some, refl, sym}
+use Rattle.std.proofs.Common.{◌≡◌, ℕ, ◌-◌, ◌<◌, ◌≤◌, ◌==◌, ◌&&◌, ◌||◌, Bool, true, false, cond, List, [], ◌∷◌, length, get_or, refl, sym}
 use Rattle.std.proofs.Common.{ap, ◌∙◌, arith, zero, suc}
 use Rattle.std.specs.Prelude.{nat_le}
 use Rattle.std.proofs.lemmas.Bool.Decides.{nat_tests}
 use Rattle.record_values.specs.declared.pair.Pair.{Pair}
 use Rattle.node_parts.specs.declared.Child.{Child}
-use Rattle.node_parts.specs.declared.Entry.{Entry}
-use Rattle.node_parts.specs.Order.{is_below, AllAbove, IsAscending}
+use Rattle.node_parts.specs.Order.{is_below, IsAscending}
 use Rattle.node_parts.specs.Place.{begins_after}
 use Rattle.node_parts.specs.Rows.{trees}
-use Rattle.node_parts.specs.Seen.{least_of, AreLabelled}
+use Rattle.node_parts.specs.Seen.{AreLabelled}
 use Rattle.node_parts.specs.Tree.{Tree, leaf, branch, entries, forest_of, count, IsLeaf}
 use Rattle.node_parts.proofs.Order.{AllAbove-right}
 use Rattle.node_parts.proofs.Children.{all_entries, place_of, one_zero, suc_false}
 use Rattle.node_parts.proofs.Local.{above_all}
 use Rattle.btree_node.specs.Handed.{can_hand, can_hand_in, can_hand_at, can_make_room, can_below, parent}
 use Rattle.btree_node.specs.Splits.{is_before_all}
-use Rattle.btree_node.proofs.Handing.{begins, before_rest}
+use Rattle.btree_node.proofs.Insert.{begins, before_next}
+use Rattle.btree_node.proofs.Handing.{before_rest}
 use Rattle.btree_node.proofs.At.{IsAt}
 
 -- ---- two neighbours
@@ -73,10 +73,6 @@ looked_at cs k n x y some h m e f =
 after_rest : {A : Type 0} (cs : List (Child A)) (p : Pair) (k : ℕ) → AreLabelled cs → place_of p cs ≡ suc k → is_before_all p (forest_of (trees cs)) ≡ false
 after_rest [] p k a e = cc
 after_rest (c ∷ cs) p k a e = begins c p a.0 ∙ suc_false (is_below p c.least) (place_of p cs) k e
-
-before_next : (es ys : List Entry) (p q : Pair) → least_of es ≡ Some q → AllAbove p (es ++ ys) → begins_after es p ≡ true
-before_next [] ys p q e h = cc
-before_next (x ∷ es) ys p q e h = h.0
 
 -- a pair before all is before the second child too
 before_second : {A : Type 0} (c d : Child A) (cs : List (Child A)) (p : Pair) → AreLabelled (c ∷ d ∷ cs) → IsAscending (all_entries (c ∷ d ∷ cs))

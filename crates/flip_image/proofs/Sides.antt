@@ -62,7 +62,7 @@ either_store g half image changed same store = ⊎_elim (λ named. inl (of half 
 
 -- ---- the three calls of a flip
 
-not_true : (b : Bool) → ¬ (b ≡ true) → b ≡ false
+pub not_true : (b : Bool) → ¬ (b ≡ true) → b ≡ false
 not_true true not = absurd (not refl)
 not_true false not = refl
 

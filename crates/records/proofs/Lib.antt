@@ -5,4 +5,5 @@ pub mod Fields
 mod Records
 mod Sizes
 mod Lengths
+mod Kept
 pub mod Wide

@@ -87,7 +87,7 @@ none_unsynced synced_at (at ∷ written_at) before =
     ap (λ (b : Bool). b ∷ unsynced_since synced_at written_at) (let le : at ≤ synced_at = before 0 in grind (arith, nat_tests, le))
     ∙ ap (λ (l : List Bool). false ∷ l) (none_unsynced synced_at written_at (λ k. before (suc k)))
 
-no_flag : (n k : ℕ) → slice_index_or (replicate n false) k false ≡ false
+pub no_flag : (n k : ℕ) → slice_index_or (replicate n false) k false ≡ false
 no_flag zero k = refl
 no_flag (suc n) zero = refl
 no_flag (suc n) (suc k) = no_flag n k
@@ -220,6 +220,9 @@ pub disk_push : (first : CrashState) (calls later : List Call) (call : Call) →
 disk_push first calls later call is = ap disk_of (state_push first calls later call is)
 
 -- the record begins anew
+pub anew : (first image : CrashState) (calls : List Call) → first ≡ image → calls ≡ [] → state_after (initial_state first) calls ≡ initial_state image
+anew first image calls is none = ap (state_after (initial_state first)) none ∙ ap initial_state is
+
 pub represents_initial : (image before : CrashState) (written_at : List ℕ) → IsDiskWhole image → length before ≡ length image → length written_at ≡ length image
     → ((k : ℕ) → slice_index written_at k ≡ 0) → Represents (initial_state image) 0 image before written_at 0
 represents_initial image before written_at whole before_size written_size zeros = record {

@@ -1,5 +1,5 @@
 -- What a write or a sync makes of a mirror.
-use Rattle.std.proofs.Common.{◌≡◌, inl, inr, ⊎_elim, ℕ, zero, suc, ◌+◌, ◌<◌, ◌≤◌, Bool, true, false, ◌||◌, ◌==◌, List, [], ◌∷◌, ◌++◌, length, map, replicate}
+use Rattle.std.proofs.Common.{◌≡◌, inl, inr, ℕ, ◌+◌, ◌<◌, Bool, true, false, ◌||◌, ◌==◌, List, [], ◌∷◌, ◌++◌, length, replicate}
 use Rattle.std.proofs.Common.{slice_set, slice_index_or, refl, sym, ◌∙◌, ap, subst, arith, length-set}
 use Rattle.std.proofs.Math.Path.{fun_ext}
 use Rattle.std.proofs.lemmas.Bool.{cases_eq}
@@ -9,10 +9,10 @@ use Rattle.std.proofs.lemmas.Grind.{get_or-set_at}
 use Rattle.std.proofs.Math.ListN.{length-replicate}
 use Rattle.sector_device.specs.declared.call.Call.{Call}
 use Rattle.sector_device.specs.declared.call.Call.TheVariants.{Write, Sync}
-use Rattle.sector_device.specs.Disk.{CrashState, sector, IsSector, IsDiskWhole, Disk, after_write, after_sync, IsSynced}
-use Rattle.sector_device.specs.Memory.{MemoryState, initial_state, step, state_after, disk_of}
+use Rattle.sector_device.specs.Disk.{CrashState, IsSector, IsDiskWhole, after_write, after_sync}
+use Rattle.sector_device.specs.Memory.{MemoryState, step, disk_of}
 use Rattle.sector_device.specs.Values.{zero_sector}
-use Rattle.sector_device.proofs.Record.{state_push, disk_push, zeros_are_whole}
+use Rattle.sector_device.proofs.Record.{state_push, zeros_are_whole, no_flag}
 use Rattle.store_file.specs.Done.{Done, call_of}
 use Rattle.store_file.specs.Mirror.{IsMirror, blank, calls_of, state_of}
 
@@ -22,11 +22,6 @@ calls-push (e ∷ done) d = ap (λ (l : List Call). call_of e ∷ l) (calls-push
 
 pub calls_pushed : (done later : List Done) (d : Done) → later ≡ done ++ d ∷ [] → calls_of later ≡ calls_of done ++ call_of d ∷ []
 calls_pushed done later d is = ap calls_of is ∙ calls-push done d
-
-no_flag : (n k : ℕ) → slice_index_or (replicate n false) k false ≡ false
-no_flag zero k = refl
-no_flag (suc n) zero = refl
-no_flag (suc n) (suc k) = no_flag n k
 
 flag_set : (flags : List Bool) (n k : ℕ) → n < length flags → slice_index_or (slice_set flags n true) k false ≡ ((k == n) || slice_index_or flags k false)
 flag_set flags n k below = elim (cases_eq k n) [

@@ -53,7 +53,7 @@ zeros_more : (n : ℕ) → zeros (suc n) ≡ 0 ∷ zeros n
 unfolding zeros
 zeros_more n = refl
 
-zeros_cons : (n : ℕ) → 1 ≤ n → zeros n ≡ 0 ∷ zeros (n - 1)
+pub zeros_cons : (n : ℕ) → 1 ≤ n → zeros n ≡ 0 ∷ zeros (n - 1)
 zeros_cons n some = ap zeros (let e : n ≡ suc (n - 1) = omega (arith, some) in e) ∙ zeros_more (n - 1)
 
 no_row : (v : Version) (rest : List ℕ) → row_at v (0 ∷ (zeros (row_size v - 1) ++ rest)) ≡ Some (None, rest)

@@ -30,6 +30,7 @@ use Rattle.records.proofs.Steps.{Takes-cons}
 use Rattle.records.proofs.Fields.{rid_takes, u32_takes, u64_takes}
 use Rattle.store_image_parts.specs.Spelling.{zeros, padded, row_size, pair_size, item_size, entry_size, row_in, pair_in, mark, entry_in, RowFitsInIfSome}
 use Rattle.store_image_parts.specs.Reading.{are_zeros, skipped, padded_at, row_at, pair_at, entry_at}
+use Rattle.store_image_parts.proofs.Again.{zeros_cons}
 use Rattle.store_image_parts.proofs.Bytes.{length-zeros}
 use Rattle.store_image_parts.proofs.Zeros.{zeros_found}
 
@@ -92,13 +93,6 @@ present_takes v bytes o rest fits e =
       Takes-cons 1 bytes _ _ (Takes-then bytes (padded (key_max v) k.0.0) k.0.1 (padded (body_max v) b.0.0) b.0.1 first.0 second.0),
       record { key = first.1; body = second.1 },
     )
-
-zeros_more : (n : ℕ) → zeros (suc n) ≡ 0 ∷ zeros n
-unfolding zeros
-zeros_more n = refl
-
-zeros_cons : (n : ℕ) → 1 ≤ n → zeros n ≡ 0 ∷ zeros (n - 1)
-zeros_cons n some = ap zeros (let e : n ≡ suc (n - 1) = omega (arith, some) in e) ∙ zeros_more (n - 1)
 
 abbrev no_row : Version → List ℕ → Option (Option Row × List ℕ)
 no_row v bytes = skipped (row_size v - 1) bytes >>= λ behind. Some (None, behind)

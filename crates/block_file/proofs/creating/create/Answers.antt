@@ -12,13 +12,12 @@ use Rattle.block_journal.proofs.Placing.{inside_same}
 use Rattle.block_journal.proofs.Results.{from_err, from_ok}
 use Rattle.block_table.specs.Checked.{CheckedValue}
 use Rattle.block_table.specs.Table.{EachFits, data_of}
-use Rattle.block_file.specs.declared.opening.FileError.{FileError}
-use Rattle.block_file.specs.declared.opening.FileError.TheVariants.{Damaged, FileFailed, NoBatch, NoHeader, TooShort}
 use Rattle.block_file.specs.declared.plan.Plan.{Plan}
 use Rattle.block_file.specs.Header.{TellTwice, plan_told}
 use Rattle.block_file.specs.Making.{AreBegun, BecomesZeros, BeginsNewBack, HoldsZeros, WritesNewBack}
 use Rattle.block_file.specs.Sectors.{sectors_of}
 use Rattle.block_file.specs.Disks.{journal_in}
+use Rattle.block_file.proofs.Errors.{failed_not_damaged, failed_not_header, failed_not_short, failed_not_batch}
 use Rattle.block_file.proofs.Heading.{still_told, twice_still}
 use Rattle.block_file.proofs.NewFile.{begins_new_back, leaves_weaker, new_back, same_zeros, told_is_plan, told_small}
 use Rattle.block_file.proofs.Reopening.{good_opened}
@@ -30,18 +29,6 @@ goes_on : (p : Plan) (old mid new : BlocksPast) → BecomesZeros p old mid → H
 goes_on p old mid new first held stays = joined old mid new (λ c. (plan_told c ≡ plan_told old.file.content) ⊎ HoldsZeros p c) first
     (leaves_weaker mid new (λ c. recovered p.shape c ≡ recovered p.shape mid.file.content)
     (λ c. (plan_told c ≡ plan_told old.file.content) ⊎ HoldsZeros p c) (λ c same. inr (same_zeros p mid.file.content c same held)) stays)
-
-not_short : Path FileError FileFailed TooShort → ⊥
-not_short is = cc
-
-not_header : Path FileError FileFailed NoHeader → ⊥
-not_header is = cc
-
-not_batch : Path FileError FileFailed NoBatch → ⊥
-not_batch is = cc
-
-not_damaged : (n : ℕ) → Path FileError FileFailed (Damaged n) → ⊥
-not_damaged n is = cc
 
 never : (o : Option Batch) (b : Batch) → o ≡ Some b → o ≡ None → ⊥
 never o b some none = cc
@@ -95,12 +82,12 @@ returns-then-is_err g c =
       written_back = tt;
       refused = c.lay_out.ensures.any_moment;
       written_back_refused = inl c.lay_out.ensures.back;
-      left_alone = λ is. absurd (not_short is);
-      too_short = λ is. absurd (not_short is);
+      left_alone = λ is. absurd (failed_not_short is);
+      too_short = λ is. absurd (failed_not_short is);
       failed = λ is. from_err _ _ failed c.lay_out.ensures.counts.failed;
-      header = not_header;
-      batch = not_batch;
-      undamaged = not_damaged;
+      header = failed_not_header;
+      batch = failed_not_batch;
+      undamaged = failed_not_damaged;
     }
 
 pub returns-in-Ok : goal.returns-in-Ok

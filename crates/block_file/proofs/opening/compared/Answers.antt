@@ -12,39 +12,11 @@ use Rattle.block_table.proofs.Contents.{settled_read}
 use Rattle.block_file.specs.Sectors.{sectors_of}
 use Rattle.block_file.specs.Disks.{journal_in}
 use Rattle.block_file.specs.Settling.{handed_on}
-use Rattle.block_file.specs.declared.opening.FileError.{FileError}
-use Rattle.block_file.specs.declared.opening.FileError.TheVariants.{Damaged, FileFailed, NoBatch, NoHeader, TooShort}
+use Rattle.block_file.proofs.Errors.{failed_not_damaged, failed_not_header, failed_not_short, failed_not_batch, damaged_not_header, damaged_not_short}
+use Rattle.block_file.proofs.Errors.{damaged_not_batch, damaged_not_failed, same_damaged}
 use Rattle.block_file.proofs.Openings.{if_err2}
 use Rattle.block_file.proofs.HandingOn.{hands_read}
 use Rattle.block_file.proofs.opening.compared.Goals as goal
-
--- which errors are apart
-failed_not_damaged : (n : ℕ) → Path FileError FileFailed (Damaged n) → ⊥
-failed_not_damaged n is = cc
-
-failed_not_header : Path FileError FileFailed NoHeader → ⊥
-failed_not_header is = cc
-
-failed_not_short : Path FileError FileFailed TooShort → ⊥
-failed_not_short is = cc
-
-failed_not_batch : Path FileError FileFailed NoBatch → ⊥
-failed_not_batch is = cc
-
-damaged_not_header : (n : ℕ) → Path FileError (Damaged n) NoHeader → ⊥
-damaged_not_header n is = cc
-
-damaged_not_short : (n : ℕ) → Path FileError (Damaged n) TooShort → ⊥
-damaged_not_short n is = cc
-
-damaged_not_batch : (n : ℕ) → Path FileError (Damaged n) NoBatch → ⊥
-damaged_not_batch n is = cc
-
-damaged_not_failed : (n : ℕ) → Path FileError (Damaged n) FileFailed → ⊥
-damaged_not_failed n is = cc
-
-same_damaged : (m n : ℕ) → Path FileError (Damaged m) (Damaged n) → m ≡ n
-same_damaged m n is = cc
 
 pub settled-requires : goal.settled-requires
 settled-requires g c =

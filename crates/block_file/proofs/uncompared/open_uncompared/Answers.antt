@@ -12,28 +12,15 @@ use Rattle.block_journal.proofs.WritingBack.{begins_back_behind, writes_back_beh
 use Rattle.block_journal.specs.Value.{JournalValue}
 use Rattle.block_table.specs.Checked.{CheckedValue, kept_table, settled_table}
 use Rattle.block_table.specs.Table.{data_of}
-use Rattle.block_file.specs.declared.opening.FileError.{FileError}
-use Rattle.block_file.specs.declared.opening.FileError.TheVariants.{Damaged, FileFailed, NoBatch, NoHeader, TooShort}
 use Rattle.block_file.specs.declared.plan.Plan.{Plan}
 use Rattle.block_file.specs.Plans.{disk_image}
 use Rattle.block_file.specs.Disks.{disk_past, first_content, journal_in}
 use Rattle.block_file.specs.Header.{plan_told}
+use Rattle.block_file.proofs.Errors.{short_not_header, short_not_failed, short_not_batch, short_not_damaged}
 use Rattle.block_file.proofs.Heading.{still_told}
 use Rattle.block_file.specs.Sectors.{sectors_of}
 use Rattle.block_file.proofs.Openings.{before_then, reads_before, reads_recovered, same_plan, stays_then}
 use Rattle.block_file.proofs.uncompared.open_uncompared.Goals as goal
-
-not_header : Path FileError TooShort NoHeader → ⊥
-not_header is = cc
-
-not_failed : Path FileError TooShort FileFailed → ⊥
-not_failed is = cc
-
-not_batch : Path FileError TooShort NoBatch → ⊥
-not_batch is = cc
-
-not_damaged : (n : ℕ) → Path FileError TooShort (Damaged n) → ⊥
-not_damaged n is = cc
 
 -- ---- it is opened
 
@@ -306,16 +293,16 @@ pub returns-in-Ok-open-clause-synced : goal.returns-in-Ok-open-clause-synced
 returns-in-Ok-open-clause-synced g c = c.over.ensures.synced
 
 pub returns-then-not-has_room-clause-undamaged : goal.returns-then-not-has_room-clause-undamaged
-returns-then-not-has_room-clause-undamaged g c = not_damaged
+returns-then-not-has_room-clause-undamaged g c = short_not_damaged
 
 pub returns-then-not-has_room-clause-no_header : goal.returns-then-not-has_room-clause-no_header
-returns-then-not-has_room-clause-no_header g c = λ is. absurd (not_header is)
+returns-then-not-has_room-clause-no_header g c = λ is. absurd (short_not_header is)
 
 pub returns-then-not-has_room-clause-failed : goal.returns-then-not-has_room-clause-failed
-returns-then-not-has_room-clause-failed g c = λ is. absurd (not_failed is)
+returns-then-not-has_room-clause-failed g c = λ is. absurd (short_not_failed is)
 
 pub returns-then-not-has_room-clause-no_batch : goal.returns-then-not-has_room-clause-no_batch
-returns-then-not-has_room-clause-no_batch g c = λ is. absurd (not_batch is)
+returns-then-not-has_room-clause-no_batch g c = λ is. absurd (short_not_batch is)
 
 pub returns-in-Err-open-clause-undamaged : goal.returns-in-Err-open-clause-undamaged
 returns-in-Err-open-clause-undamaged g c = c.error_of.ensures.undamaged

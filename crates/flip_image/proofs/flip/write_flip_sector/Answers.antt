@@ -1,4 +1,4 @@
-use Rattle.std.proofs.Common.{Result, Err, OnOk, OnErr, ◌≡◌, ◌<◌, ◌≤◌, ◌∙◌, inl, Bool, true, false, ℕ, List, length, refl, sym, ap, subst, arith}
+use Rattle.std.proofs.Common.{Result, Err, OnOk, OnErr, ◌≡◌, ◌<◌, ◌≤◌, ◌∙◌, inl, ℕ, List, length, refl, sym, ap, subst, arith}
 use Rattle.std.proofs.lemmas.Result.{err_from_is_err_and, on_ok_weaker}
 use Rattle.sector_device.specs.declared.device.Failed.{Failed}
 use Rattle.sector_device.specs.Disk.{CrashState, Disk, sector, after_write, after_sync, IsFailedWrite, IsCrashState, SameOutside}
@@ -6,12 +6,8 @@ use Rattle.sector_device.proofs.Counts.{counts_failed, counts_later}
 use Rattle.sector_device.proofs.Sectors.{content_after, holds_after_sync, sector_written}
 use Rattle.sector_device.proofs.Within.{reads_leave, reads_none}
 use Rattle.flip_image.specs.Store.{IsFlipping, Names}
-use Rattle.flip_image.proofs.Sides.{flipping_end}
+use Rattle.flip_image.proofs.Sides.{flipping_end, not_true}
 use Rattle.flip_image.proofs.flip.write_flip_sector.Goals as goal
-
-not_true : (b : Bool) → ¬ (b ≡ true) → b ≡ false
-not_true true not = absurd (not refl)
-not_true false not = refl
 
 -- before the first call has done anything
 unflipped : (d : Disk) (c : CrashState) → IsCrashState d c → IsFlipping d c

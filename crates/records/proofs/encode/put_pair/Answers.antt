@@ -1,10 +1,7 @@
-use Rattle.std.proofs.Common.{◌≡◌, ℕ, List, length, take, sym, ap, ◌∙◌, arith, append_assoc}
-use Rattle.std.proofs.lemmas.List.{take-take, length-take}
+use Rattle.std.proofs.Common.{append_assoc}
 use Rattle.std.proofs.lemmas.Result.{err_from_is_err_and, IfOk-equal}
+use Rattle.records.proofs.Kept.{kept_more}
 use Rattle.records.proofs.encode.put_pair.Goals as goal
-
-kept_more : (a b c : List ℕ) → take (length a) b ≡ a → take (length b) c ≡ b → take (length a) c ≡ a
-kept_more a b c p q = sym (take-take (length a) (length b) c (omega (arith, ap length p, length-take (length a) b))) ∙ ap (take (length a)) q ∙ p
 
 pub returns : goal.returns
 returns g c =

@@ -40,9 +40,11 @@ returns-in_err-whole g c =
 pub returns-in_err-commit_if_ready : goal.returns-in_err-commit_if_ready
 returns-in_err-commit_if_ready g c =
     let n = λ (s : SeatValue). s.number in
-    ap n c.in_err-commit_if_ready.ensures.seat ∙ ap n c.in_ok-delete_if_ready.ensures.seat ∙ ap n c.in_ok-insert_if_ready.ensures.seat ∙ ap n c.in_ok-txn.ensures.ok
+    ap n c.in_err-commit_if_ready.ensures.seat ∙ ap n c.in_ok-delete_if_ready.ensures.seat ∙ ap n c.in_ok-insert_if_ready.ensures.seat
+    ∙ ap n c.in_ok-txn.ensures.ok
 
 pub returns : goal.returns
 returns g c =
     let n = λ (s : SeatValue). s.number in
-    ap n c.in_ok-commit_if_ready.ensures.seat ∙ ap n c.in_ok-delete_if_ready.ensures.seat ∙ ap n c.in_ok-insert_if_ready.ensures.seat ∙ ap n c.in_ok-txn.ensures.ok
+    ap n c.in_ok-commit_if_ready.ensures.seat ∙ ap n c.in_ok-delete_if_ready.ensures.seat ∙ ap n c.in_ok-insert_if_ready.ensures.seat
+    ∙ ap n c.in_ok-txn.ensures.ok

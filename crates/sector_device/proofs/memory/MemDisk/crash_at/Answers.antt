@@ -1,22 +1,12 @@
-use Rattle.std.proofs.Common.{◌≡◌, refl, ◌∙◌, ap, sym, subst, arith, ℕ, ◌+◌, ◌≤◌, ◌++◌, List, [], length, take, drop, replicate, slice_index, vec_len}
+use Rattle.std.proofs.Common.{◌≡◌, refl, ◌∙◌, ap, sym, subst, arith, ℕ, ◌+◌, ◌≤◌, ◌++◌, List, length, take, drop, replicate, slice_index, vec_len}
 use Rattle.std.proofs.Common.{vec_capacity}
-use Rattle.std.proofs.Common.{zero, suc, false, slice_index_or}
+use Rattle.std.proofs.Common.{false, slice_index_or}
 use Rattle.std.proofs.Math.ListN.{length-replicate}
-use Rattle.sector_device.specs.declared.call.Call.{Call}
 use Rattle.sector_device.specs.Disk.{CrashState, IsDiskWhole, IsCrashState}
 use Rattle.sector_device.specs.Memory.{MemoryState, initial_state, state_after, disk_of}
 use Rattle.sector_device.specs.Crash.{IsCrashed}
-use Rattle.sector_device.proofs.Record.{represents_crashed, written_back, all_zero, synced_count, synced_count_at_most}
+use Rattle.sector_device.proofs.Record.{represents_crashed, written_back, all_zero, synced_count, synced_count_at_most, anew, no_flag}
 use Rattle.sector_device.proofs.memory.MemDisk.crash_at.Goals as goal
-
--- the record begins anew
-anew : (first image : CrashState) (calls : List Call) → first ≡ image → calls ≡ [] → state_after (initial_state first) calls ≡ initial_state image
-anew first image calls is none = ap (state_after (initial_state first)) none ∙ ap initial_state is
-
-no_flag : (n k : ℕ) → slice_index_or (replicate n false) k false ≡ false
-no_flag zero k = refl
-no_flag (suc n) zero = refl
-no_flag (suc n) (suc k) = no_flag n k
 
 pub invariant_of-self : goal.invariant_of-self
 invariant_of-self g c =

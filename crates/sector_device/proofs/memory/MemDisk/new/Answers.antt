@@ -1,17 +1,12 @@
 use Rattle.std.proofs.Common.{◌≡◌, refl, ◌∙◌, ap, sym, subst, arith, ℕ, ◌+◌, ◌≤◌, List, length, replicate, slice_index, vec_len, vec_capacity}
-use Rattle.std.proofs.Common.{zero, suc, false, slice_index_or}
+use Rattle.std.proofs.Common.{false, slice_index_or}
 use Rattle.std.proofs.Math.ListN.{length-replicate}
 use Rattle.sector_device.specs.Disk.{IsDiskWhole}
 use Rattle.sector_device.specs.Values.{zero_sector}
-use Rattle.sector_device.proofs.Record.{represents_crashed, zeros_are_whole, all_zero, synced_count, synced_count_at_most}
+use Rattle.sector_device.proofs.Record.{represents_crashed, zeros_are_whole, all_zero, synced_count, synced_count_at_most, no_flag}
 use Rattle.std.proofs.lemmas.Result.{err_from_is_err_and}
 use Rattle.sector_device.specs.Memory.{MemoryState, initial_state, state_after}
 use Rattle.sector_device.proofs.memory.MemDisk.new.Goals as goal
-
-no_flag : (n k : ℕ) → slice_index_or (replicate n false) k false ≡ false
-no_flag zero k = refl
-no_flag (suc n) zero = refl
-no_flag (suc n) (suc k) = no_flag n k
 
 pub invariant_of-result : goal.invariant_of-result
 invariant_of-result g c =
