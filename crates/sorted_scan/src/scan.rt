@@ -1,11 +1,11 @@
 //! The scan.
 ghost use Rattle.std.specs.Prelude.{◌≡◌, ℕ, ◌+◌, ◌<◌, ◌≤◌, ◌∷◌, ◌++◌, Some, None, length, map, filter, All, OnOk, IfOk};
 ghost use Rattle.std.specs.Prelude.{OnErr, IfErr, IfSome, IfNone, IsTrue, false, ◌⊎◌, ◌^◌, []};
-ghost use Rattle.std.specs.List.Sorted.{IsStrictlyIncreasing};
+ghost use Rattle.std.specs.List.Sorted.{IsSorted, IsStrictlyIncreasing};
 ghost use Rattle.record_values.specs.declared.pair.Pair.{Pair};
 ghost use Rattle.sorted_scan.specs.FullRuns.{full_run, AreFull, AreFullButOne};
 ghost use Rattle.sorted_scan.specs.Pairs.{AreSame};
-ghost use Rattle.record_values.specs.Orders.{is_above};
+ghost use Rattle.record_values.specs.Orders.{is_above, pair_cmp};
 ghost use Rattle.sorted_scan.specs.Runs.{ScanRun, Took, HandedOut, with_step, MayHandOut, IsAtEnd};
 ghost use Rattle.sorted_scan.specs.Scans.{begun, begun_run, page_from, next_of, HasRun};
 
@@ -16,6 +16,9 @@ use std::marker::Model;
 
 /// How many pairs a run has; the last one may have fewer.
 const RUN_PAIRS: usize = 4096;
+
+/// So many pairs of a run that isn't full yet are sorted together. The sort of the whole run merges such pieces.
+const PIECE_PAIRS: usize = 256;
 
 /// Whether the pair comes after this one: every pair does where there is none.
 fn is_above(low: &Option<Pair>, pair: &Pair) -> bool
@@ -45,18 +48,35 @@ fn those_above<A: Allocator>(
     Ok(above)
 }
 
-/// The pairs, and then those others.
+/// Appends the others, and sorts the last piece of all these pairs where it is full. (No clause says what is sorted: it
+/// makes the sort of the whole run short.)
+fn append<A: Allocator>(pairs: &mut Vec<Pair, A>, others: &[Pair]) -> Result<(), AllocError>
+    ensures added { OnOk result (AreSame (pairs.old.items ++ others.now) pairs.new.items) }
+    ensures unchanged { OnErr result (pairs.new.items ≡ pairs.old.items) }
+{
+    let sorted = pairs.len() - pairs.len() % PIECE_PAIRS;
+    pairs.extend_from_slice(others)?;
+    if pairs.len() - sorted >= PIECE_PAIRS {
+        let (_, piece) = pairs.split_at_mut(sorted);
+        piece.sort_unstable();
+    }
+    Ok(())
+}
+
+/// The pairs and those others, in their order.
 fn joined<A: Allocator>(
     alloc: A,
     pairs: &[Pair],
     others: &[Pair],
 ) -> Result<Vec<Pair, A>, AllocError>
     requires { length pairs.now + length others.now < 2 ^ 64 }
-    ensures { IfOk result (λ all. all.items ≡ pairs.now ++ others.now) }
+    ensures same { IfOk result (λ all. AreSame (pairs.now ++ others.now) all.items) }
+    ensures sorted { IfOk result (λ all. IsSorted pair_cmp all.items) }
 {
     let mut all = Vec::with_capacity(alloc, pairs.len() + others.len())?;
     all.extend_from_slice(pairs)?;
     all.extend_from_slice(others)?;
+    all.sort()?;
     Ok(all)
 }
 
@@ -100,7 +120,7 @@ fn gather<A: Allocator + Copy>(
 {
     let room = RUN_PAIRS - gathered.len();
     if !is_last && pairs.len() < room {
-        return gathered.extend_from_slice(&pairs);
+        return append(gathered, &pairs);
     }
     let behind = cut(alloc, &mut pairs, room)?;
     let run = joined(alloc, gathered, &pairs)?;

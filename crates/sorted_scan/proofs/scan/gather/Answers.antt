@@ -1,24 +1,26 @@
-use Rattle.std.proofs.Common.{◌≡◌, ◌+◌, ◌⊎◌, Bool, List, ◌++◌, length, inl, inr, true, false, refl, sym, ◌∙◌, arith, ap, length-append}
-use Rattle.std.proofs.Common.{Result, Ok, Err, OnOk, OnErr, cond}
+use Rattle.std.proofs.Common.{◌≡◌, ◌+◌, ◌⊎◌, Bool, List, ◌++◌, length, inl, inr, true, false, refl, sym, subst, ◌∙◌, arith, ap, length-append}
+use Rattle.std.proofs.Common.{Result, Ok, Err, OnOk, OnErr}
 use Rattle.std.specs.Result.{is_ok}
 use Rattle.std.specs.List.{count_by}
-use Rattle.std.proofs.lemmas.Result.{err_from_is_err_and}
+use Rattle.std.proofs.lemmas.Result.{err_from_is_err_and, on_ok_weaker}
 use Rattle.record_values.specs.declared.pair.Pair.{Pair}
 use Rattle.sorted_scan.specs.FullRuns.{full_run}
+use Rattle.sorted_scan.specs.Pairs.{AreSame}
 use Rattle.sorted_scan.proofs.Counts.{count_append}
 use Rattle.sorted_scan.proofs.Cutting.{still_full, one_short, long_run}
 use Rattle.sorted_scan.proofs.scan.gather.Goals.{else-not-is_last-via-then-not-is_last+else-len-room, else-not-is_last-via-else-not-is_last}
 use Rattle.sorted_scan.proofs.scan.gather.Goals as goal
 
 -- what goes to the merge, and what is left of the pairs behind
-moved : (test : Pair → Bool) (pairs cut behind gathered run others left merged new : List Pair) → pairs ≡ cut ++ behind → run ≡ gathered ++ cut
-    → count_by test ((run ++ others) ++ merged) ≡ count_by test new → count_by test behind ≡ count_by test others + count_by test left
+moved : (test : Pair → Bool) (pairs cut behind gathered run others left merged new : List Pair) → pairs ≡ cut ++ behind
+    → count_by test (gathered ++ cut) ≡ count_by test run → count_by test ((run ++ others) ++ merged) ≡ count_by test new
+    → count_by test behind ≡ count_by test others + count_by test left
     → count_by test (pairs ++ (gathered ++ merged)) ≡ count_by test (left ++ new)
 moved test pairs cut behind gathered run others left merged new e d same which =
     omega (
       arith,
       ap (count_by test) e,
-      ap (count_by test) d,
+      d,
       same,
       which,
       count_append test cut behind,
@@ -39,12 +41,11 @@ on_err (Ok a) P f = tt
 on_err (Err e) P f = f refl
 
 -- all pairs are gathered
-gathered_all : (test : Pair → Bool) (pairs gathered merged new : List Pair) → new ≡ gathered ++ pairs
-    → count_by test (pairs ++ (gathered ++ merged)) ≡ count_by test (new ++ merged)
-gathered_all test pairs gathered merged new e =
+gathered_all : (pairs gathered merged new : List Pair) → AreSame (gathered ++ pairs) new → AreSame (pairs ++ (gathered ++ merged)) (new ++ merged)
+gathered_all pairs gathered merged new same test =
     omega (
       arith,
-      ap (count_by test) e,
+      same test,
       count_append test pairs (gathered ++ merged),
       count_append test gathered merged,
       count_append test gathered pairs,
@@ -56,23 +57,22 @@ overflow_sub-room g c = omega (arith, c.len-room.ensures, c.args.gathered.now.ok
 
 pub returns-then-len-room : goal.returns-then-len-room
 returns-then-len-room g c =
-    let r = c.extend_from_slice.result in
+    let r = c.append.result in
     let pairs = c.args.pairs.items in
     let gathered = c.args.gathered.now.items in
-    let new = c.extend_from_slice.new.self.items in
-    let grown : is_ok r ≡ true → new ≡ gathered ++ pairs = λ ok.
-    c.extend_from_slice.ensures.items ∙ (λ i. cond (ok i) (gathered ++ c.deref.ensures.value i) gathered) in
+    let new = c.append.new.pairs.items in
+    let grown = λ (same : AreSame (gathered ++ c.deref.result.now) new).
+    subst (λ (l : List Pair). AreSame (gathered ++ l) new) c.deref.ensures.value same in
     record {
-      added = on_ok r _ (λ ok test. gathered_all test pairs gathered c.args.merge.now.pairs new (grown ok));
-      open_run = on_ok r _ (λ ok.
-          let long = ap length (grown ok) in
+      added = on_ok_weaker r (λ same. gathered_all pairs gathered c.args.merge.now.pairs new (grown same)) c.append.ensures.added;
+      open_run = on_ok_weaker r (λ same.
+          let long = long_run new gathered pairs (grown same) in
           let room = c.if-len-room.true in
-          omega (arith, long, length-append gathered pairs, room, c.len.ensures, c.len-room.ensures, c.args.gathered.now.ok.0, c.args.pairs.ok.0));
+          omega (arith, long, room, c.len.ensures, c.len-room.ensures, c.args.gathered.now.ok.0, c.args.pairs.ok.0)) c.append.ensures.added;
       full = on_ok r _ (λ ok before. c.requires.full);
       one_short = on_ok r _ (λ ok. omega (arith, c.requires.full));
       merged_all = on_ok r _ (λ ok is. absurd (let e : false ≡ true = sym c.if-not-is_last.true ∙ is in cc));
-      same_gathered = on_err r _ (λ err.
-          c.extend_from_slice.ensures.items ∙ ap (λ b. cond b (gathered ++ c.deref.result.now) gathered) err);
+      same_gathered = c.append.ensures.unchanged;
       same_merge = on_err r _ (λ err. refl);
     }
 
@@ -90,20 +90,20 @@ joined-requires g c =
 
 pub add-requires : goal.add-requires
 add-requires g c =
-    let long = long_run c.in_ok-run.run'.items c.deref-2.result.now c.deref-3.result.now c.in_ok-run.ensures in
+    let long = long_run c.in_ok-run.run'.items c.deref-2.result.now c.deref-3.result.now c.in_ok-run.ensures.same in
     let all = ap length c.in_ok-behind.ensures.all in
     let parts = length-append c.cut.new.pairs.items c.in_ok-behind.behind.items in
     record { short = omega (arith, long, c.in_ok-behind.ensures.few); short_others = omega (arith, all, parts, c.requires.few) }
 
 pub add-requires-2 : goal.add-requires-2
 add-requires-2 g c =
-    let long = long_run c.in_ok-run.run'.items c.deref-2.result.now c.deref-3.result.now c.in_ok-run.ensures in
+    let long = long_run c.in_ok-run.run'.items c.deref-2.result.now c.deref-3.result.now c.in_ok-run.ensures.same in
     let none = ap length c.new-2.ensures.items in
     record { short = omega (arith, long, c.in_ok-behind.ensures.few); short_others = omega (arith, none) }
 
 pub returns-then-is_last : goal.returns-then-is_last
 returns-then-is_last g c =
-    let long = long_run c.in_ok-run.run'.items c.deref-2.result.now c.deref-3.result.now c.in_ok-run.ensures in
+    let long = long_run c.in_ok-run.run'.items c.deref-2.result.now c.deref-3.result.now c.in_ok-run.ensures.same in
     let all = ap length c.in_ok-behind.ensures.all in
     let parts = length-append c.cut.new.pairs.items c.in_ok-behind.behind.items in
     let which : (length c.in_ok-behind.behind.items ≡ 0) ⊎ (length c.in_ok-run.run'.items ≡ full_run) = elim c.in_ok-behind.ensures.full [
@@ -115,7 +115,8 @@ returns-then-is_last g c =
           let none : count_by test c.new.result.items ≡ 0 = ap (count_by test) c.new.ensures.items in
           moved test c.args.pairs.items c.cut.new.pairs.items c.in_ok-behind.behind.items c.args.gathered.now.items c.in_ok-run.run'.items
           c.in_ok-behind.behind.items c.new.result.items c.args.merge.now.pairs c.add.new.self.pairs c.in_ok-behind.ensures.all
-          (c.in_ok-run.ensures ∙ (λ i. c.deref-2.ensures.value i ++ c.deref-3.ensures.value i)) (c.in_ok-add.ensures.added test)
+          (sym (ap (count_by test) (λ i. c.deref-2.ensures.value i ++ c.deref-3.ensures.value i)) ∙ c.in_ok-run.ensures.same test)
+          (c.in_ok-add.ensures.added test)
           (omega (arith, none));
       open_run = let none : length c.new.result.items ≡ 0 = ap length c.new.ensures.items in omega (arith, none);
       full = λ before. absurd (let e : true ≡ false = sym c.if-is_last.true ∙ before in cc);
@@ -128,7 +129,7 @@ returns-then-is_last g c =
 
 pub returns : goal.returns
 returns g c =
-    let long = long_run c.in_ok-run.run'.items c.deref-2.result.now c.deref-3.result.now c.in_ok-run.ensures in
+    let long = long_run c.in_ok-run.run'.items c.deref-2.result.now c.deref-3.result.now c.in_ok-run.ensures.same in
     let all = ap length c.in_ok-behind.ensures.all in
     let parts = length-append c.cut.new.pairs.items c.in_ok-behind.behind.items in
     record {
@@ -136,7 +137,8 @@ returns g c =
           let none : count_by test c.new-2.result.items ≡ 0 = ap (count_by test) c.new-2.ensures.items in
           moved test c.args.pairs.items c.cut.new.pairs.items c.in_ok-behind.behind.items c.args.gathered.now.items c.in_ok-run.run'.items
           c.new-2.result.items c.in_ok-behind.behind.items c.args.merge.now.pairs c.add-2.new.self.pairs c.in_ok-behind.ensures.all
-          (c.in_ok-run.ensures ∙ (λ i. c.deref-2.ensures.value i ++ c.deref-3.ensures.value i)) (c.in_ok-add-2.ensures.added test)
+          (sym (ap (count_by test) (λ i. c.deref-2.ensures.value i ++ c.deref-3.ensures.value i)) ∙ c.in_ok-run.ensures.same test)
+          (c.in_ok-add-2.ensures.added test)
           (omega (arith, none));
       open_run = omega (arith, c.requires.few, all, parts);
       full = λ before.
