@@ -17,7 +17,7 @@ use std::marker::Model;
 /// How many pairs a run has; the last one may have fewer.
 const RUN_PAIRS: usize = 4096;
 
-/// So many pairs of a run that isn't full yet are sorted together. The sort of the whole run merges such pieces.
+/// At least so many pairs of a run that isn't full yet are sorted together. The whole run's sort merges such pieces.
 const PIECE_PAIRS: usize = 256;
 
 /// Whether the pair comes after this one: every pair does where there is none.
@@ -48,8 +48,8 @@ fn those_above<A: Allocator>(
     Ok(above)
 }
 
-/// Appends the others, and sorts the last piece of all these pairs where it is full. (No clause says what is sorted: it
-/// makes the sort of the whole run short.)
+/// Appends the others, and sorts all behind the full pieces that stood there, where they fill one. (No clause says what
+/// is sorted.)
 fn append<A: Allocator>(pairs: &mut Vec<Pair, A>, others: &[Pair]) -> Result<(), AllocError>
     ensures added { OnOk result (AreSame (pairs.old.items ++ others.now) pairs.new.items) }
     ensures unchanged { OnErr result (pairs.new.items ≡ pairs.old.items) }
@@ -63,7 +63,7 @@ fn append<A: Allocator>(pairs: &mut Vec<Pair, A>, others: &[Pair]) -> Result<(),
     Ok(())
 }
 
-/// The pairs and those others, in their order.
+/// The pairs and those others, sorted.
 fn joined<A: Allocator>(
     alloc: A,
     pairs: &[Pair],
