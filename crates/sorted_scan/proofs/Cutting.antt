@@ -1,11 +1,11 @@
 -- Runs that are cut off what was gathered.
-use Rattle.std.proofs.Common.{◌≡◌, ◌<◌, ◌≤◌, ◌+◌, ◌⊎◌, ◌∙◌, ℕ, List, ◌++◌, length, take, drop, arith, length-append, ap, subst, sym}
-use Rattle.std.specs.List.Sorted.{IsPermutation}
-use Rattle.std.proofs.lemmas.List.{take_all, drop_all, append-nil}
+use Rattle.std.proofs.Common.{◌≡◌, ◌<◌, ◌≤◌, ◌+◌, ◌⊎◌, List, [], ◌++◌, length, arith, length-append, ap}
+use Rattle.std.proofs.Common.{Result, Ok, Err, OnOk}
+use Rattle.std.specs.List.{count_by}
 use Rattle.record_values.specs.declared.pair.Pair.{Pair}
 use Rattle.sorted_scan.specs.FullRuns.{AreFull, AreFullButOne, MergeValue, full_run, runs_of}
 use Rattle.sorted_scan.specs.Pairs.{AreSame}
-use Rattle.sorted_scan.proofs.Counts.{from_permutation, same_append, same_length, same_refl}
+use Rattle.sorted_scan.proofs.Counts.{count_append, same_length}
 
 module _ (run others : List Pair) (old new : MergeValue) (full : AreFull old) (added : AreSame ((run ++ others) ++ old.pairs) new.pairs)
     (runs : new.runs ≡ runs_of run + (runs_of others + old.runs)) where
@@ -21,21 +21,46 @@ module _ (run others : List Pair) (old new : MergeValue) (full : AreFull old) (a
   pub one_short : length run ≤ full_run → (length others ≡ 0) ⊎ (length run ≡ full_run) → length others < full_run → AreFullButOne new
   one_short short which few = let long = longer in omega arith
 
--- how many pairs two lists make together
-pub long_run : (run gathered pairs : List Pair) → AreSame (gathered ++ pairs) run → length run ≡ length gathered + length pairs
-long_run run gathered pairs same = sym (same_length (gathered ++ pairs) run same) ∙ length-append gathered pairs
+-- all pairs are gathered
+pub gathered_all : (pairs gathered merged new : List Pair) → new ≡ gathered ++ pairs → AreSame (pairs ++ (gathered ++ merged)) (new ++ merged)
+gathered_all pairs gathered merged new is test =
+    omega (
+      arith,
+      ap (count_by test) is,
+      count_append test pairs (gathered ++ merged),
+      count_append test gathered merged,
+      count_append test gathered pairs,
+      count_append test new merged,
+    )
 
--- what is written back to its place is all that stands there
-written_back : (new old : List Pair) (n : ℕ) → length new ≡ length old → n ≡ length old → take n (new ++ drop (length new) old) ≡ new
-written_back new old n same size =
-    ap (λ (l : List Pair). take n (new ++ l)) (drop_all (length new) old (omega (arith, same)))
-    ∙ ap (λ (l : List Pair). take n l) (append-nil new)
-    ∙ take_all n new (omega (arith, same, size))
+module _ (pairs last behind gathered others next left : List Pair) (old new : MergeValue) (parts : pairs ≡ last ++ behind)
+    (split : AreSame behind (others ++ next)) where
+  -- the last pairs of a run go to the merge with what was gathered, and of those behind them others too
+  pub moved : AreSame (((gathered ++ last) ++ others) ++ old.pairs) new.pairs → left ≡ next → AreSame (pairs ++ (gathered ++ old.pairs)) (left ++ new.pairs)
+  moved same is test =
+      omega (
+        arith,
+        ap (count_by test) parts,
+        same test,
+        ap (count_by test) is,
+        split test,
+        count_append test pairs (gathered ++ old.pairs),
+        count_append test gathered old.pairs,
+        count_append test last behind,
+        count_append test ((gathered ++ last) ++ others) old.pairs,
+        count_append test (gathered ++ last) others,
+        count_append test gathered last,
+        count_append test others next,
+        count_append test left new.pairs,
+      )
 
--- the last pairs are sorted where they stand
-pub piece_sorted : (front piece sorted old : List Pair) (n : ℕ) → old ≡ front ++ piece → IsPermutation piece sorted → n ≡ length old
-    → AreSame old (take n ((front ++ sorted) ++ drop (length (front ++ sorted)) old))
-piece_sorted front piece sorted old n is moved size =
-    let same : AreSame old (front ++ sorted) = subst (λ (l : List Pair). AreSame l (front ++ sorted)) (sym is)
-    (same_append front front piece sorted (same_refl front) (from_permutation piece sorted moved)) in
-    subst (AreSame old) (sym (written_back (front ++ sorted) old n (sym (same_length old (front ++ sorted) same)) size)) same
+pub all_others : (behind next : List Pair) → next ≡ [] → AreSame behind (behind ++ next)
+all_others behind next none test = omega (arith, ap (count_by test) none, count_append test behind next)
+
+pub all_next : (behind others : List Pair) → others ≡ [] → AreSame behind (others ++ behind)
+all_next behind others none test = omega (arith, ap (count_by test) none, count_append test others behind)
+
+-- what follows from two facts of an answer
+pub on_both : {A E : Type 0} (r : Result A E) (P Q S : Type 0) → (P → Q → S) → OnOk r P → OnOk r Q → OnOk r S
+on_both (Ok a) P Q S f p q = f p q
+on_both (Err e) P Q S f p q = tt

@@ -12,6 +12,7 @@ ghost use Rattle.sorted_scan.specs.FullRuns.{full_run, runs_of};
 ghost use Rattle.sorted_scan.specs.Pairs.{least, AreSame};
 ghost use Rattle.sorted_scan.specs.Merges.{run_cmp, run_cmp_total, run_pairs, pairs_in, AreSortedRuns};
 
+use crate::abbreviated::sort;
 use records::{Pair, compare_pairs};
 use std::alloc::{AllocError, Allocator};
 use std::cmp::Ordering;
@@ -65,18 +66,21 @@ impl<A: Allocator> Ord for SortedRun<A> {
     }
 }
 
-impl<A: Allocator> SortedRun<A> {
+impl<A: Allocator + Copy> SortedRun<A> {
     /// The run of these pairs; none of no pair.
     fn new(mut pairs: Vec<Pair, A>) -> Option<SortedRun<A>>
+        requires { length pairs.items ≤ full_run }
         ensures pairs { MatchOption result (pairs.items ≡ []) (λ run. IsPermutation pairs.items (run_pairs run)) }
         ensures sorted { IfSome result (λ run. IsSorted pair_cmp (run_pairs run)) }
     {
-        pairs.sort_unstable();
+        sort(&mut pairs);
         let mut rest = pairs.into_iter();
         let first = rest.next()?;
         Some(SortedRun { first, rest })
     }
+}
 
+impl<A: Allocator> SortedRun<A> {
     /// The run behind its first pair, if there is more of it.
     fn behind(mut self) -> Option<SortedRun<A>>
         ensures { MatchOption result (run_pairs self ≡ self.first ∷ []) (λ run.
@@ -105,7 +109,7 @@ fn push_run<A: Allocator>(runs: &mut BinaryHeap<SortedRun<A>, A>, run: SortedRun
 }
 
 /// Adds the run of these pairs, if there are any, to a heap that has room for it.
-fn push_pairs<A: Allocator>(runs: &mut BinaryHeap<SortedRun<A>, A>, pairs: Vec<Pair, A>)
+fn push_pairs<A: Allocator + Copy>(runs: &mut BinaryHeap<SortedRun<A>, A>, pairs: Vec<Pair, A>)
     requires room { heap_len runs.old < heap_capacity runs.old }
     requires sound { AreSortedRuns (heap_items runs.old) }
     requires short { length pairs.items ≤ full_run }
@@ -159,7 +163,7 @@ impl<A: Allocator> Model for Merge<A> {
     ghost invariant = { λ m. AreSortedRuns (heap_items m.runs) };
 }
 
-impl<A: Allocator> Merge<A> {
+impl<A: Allocator + Copy> Merge<A> {
     pub(crate) fn new(alloc: A) -> Self
         ensures { result ≡ record { pairs = []; runs = 0 } }
     {
@@ -168,21 +172,28 @@ impl<A: Allocator> Merge<A> {
         }
     }
 
-    /// Adds two runs, of these pairs and of those, each where there are any; where memory is refused,
-    /// neither.
+    /// Adds two runs, each where it has pairs: what was gathered with the last pairs of its run behind it, and those
+    /// others. What is gathered next takes its place. Where memory is refused, nothing changes.
     pub(crate) fn add(
         &mut self,
-        pairs: Vec<Pair, A>,
+        gathered: &mut Vec<Pair, A>,
+        last: &[Pair],
         others: Vec<Pair, A>,
+        next: Vec<Pair, A>,
     ) -> Result<(), AllocError>
-        requires short { length pairs.items ≤ full_run }
+        requires short { length gathered.old.items + length last.now ≤ full_run }
         requires short_others { length others.items ≤ full_run }
-        ensures added { OnOk result (AreSame ((pairs.items ++ others.items) ++ self.old.pairs) self.new.pairs) }
-        ensures runs { OnOk result (self.new.runs ≡ runs_of pairs.items + (runs_of others.items + self.old.runs)) }
+        ensures added { OnOk result (AreSame (((gathered.old.items ++ last.now) ++ others.items) ++ self.old.pairs)
+            self.new.pairs) }
+        ensures runs { OnOk result (self.new.runs
+            ≡ runs_of (gathered.old.items ++ last.now) + (runs_of others.items + self.old.runs)) }
+        ensures next { OnOk result (gathered.new.items ≡ next.items) }
         ensures unchanged { OnErr result (self.new ≡ self.old) }
+        ensures same_gathered { OnErr result (gathered.new.items ≡ gathered.old.items) }
     {
         self.runs.reserve(2)?;
-        push_pairs(&mut self.runs, pairs);
+        gathered.extend_from_slice(last)?;
+        push_pairs(&mut self.runs, std::mem::replace(gathered, next));
         push_pairs(&mut self.runs, others);
         Ok(())
     }

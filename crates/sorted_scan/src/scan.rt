@@ -1,11 +1,11 @@
 //! The scan.
 ghost use Rattle.std.specs.Prelude.{◌≡◌, ℕ, ◌+◌, ◌<◌, ◌≤◌, ◌∷◌, ◌++◌, Some, None, length, map, filter, All, OnOk, IfOk};
-ghost use Rattle.std.specs.Prelude.{OnErr, IfErr, IfSome, IfNone, IsTrue, false, ◌⊎◌, ◌^◌, []};
-ghost use Rattle.std.specs.List.Sorted.{IsSorted, IsStrictlyIncreasing};
+ghost use Rattle.std.specs.Prelude.{OnErr, IfErr, IfSome, IfNone, IsTrue, false, ◌⊎◌, []};
+ghost use Rattle.std.specs.List.Sorted.{IsStrictlyIncreasing};
 ghost use Rattle.record_values.specs.declared.pair.Pair.{Pair};
 ghost use Rattle.sorted_scan.specs.FullRuns.{full_run, AreFull, AreFullButOne};
 ghost use Rattle.sorted_scan.specs.Pairs.{AreSame};
-ghost use Rattle.record_values.specs.Orders.{is_above, pair_cmp};
+ghost use Rattle.record_values.specs.Orders.{is_above};
 ghost use Rattle.sorted_scan.specs.Runs.{ScanRun, Took, HandedOut, with_step, MayHandOut, IsAtEnd};
 ghost use Rattle.sorted_scan.specs.Scans.{begun, begun_run, page_from, next_of, HasRun};
 
@@ -16,9 +16,6 @@ use std::marker::Model;
 
 /// How many pairs a run has; the last one may have fewer.
 const RUN_PAIRS: usize = 4096;
-
-/// At least so many pairs of a run that isn't full yet are sorted together. The whole run's sort merges such pieces.
-const PIECE_PAIRS: usize = 256;
 
 /// Whether the pair comes after this one: every pair does where there is none.
 fn is_above(low: &Option<Pair>, pair: &Pair) -> bool
@@ -48,38 +45,6 @@ fn those_above<A: Allocator>(
     Ok(above)
 }
 
-/// Appends the others, and sorts all behind the full pieces that stood there, where they fill one. (No clause says what
-/// is sorted.)
-fn append<A: Allocator>(pairs: &mut Vec<Pair, A>, others: &[Pair]) -> Result<(), AllocError>
-    ensures added { OnOk result (AreSame (pairs.old.items ++ others.now) pairs.new.items) }
-    ensures unchanged { OnErr result (pairs.new.items ≡ pairs.old.items) }
-{
-    let sorted = pairs.len() - pairs.len() % PIECE_PAIRS;
-    pairs.extend_from_slice(others)?;
-    if pairs.len() - sorted >= PIECE_PAIRS {
-        let (_, piece) = pairs.split_at_mut(sorted);
-        piece.sort_unstable();
-    }
-    Ok(())
-}
-
-/// The pairs and those others, sorted.
-fn joined<A: Allocator>(
-    alloc: A,
-    pairs: &[Pair],
-    others: &[Pair],
-) -> Result<Vec<Pair, A>, AllocError>
-    requires { length pairs.now + length others.now < 2 ^ 64 }
-    ensures same { IfOk result (λ all. AreSame (pairs.now ++ others.now) all.items) }
-    ensures sorted { IfOk result (λ all. IsSorted pair_cmp all.items) }
-{
-    let mut all = Vec::with_capacity(alloc, pairs.len() + others.len())?;
-    all.extend_from_slice(pairs)?;
-    all.extend_from_slice(others)?;
-    all.sort()?;
-    Ok(all)
-}
-
 /// Takes those of the pairs that are past the first so many out.
 fn cut<A: Allocator + Copy>(
     alloc: A,
@@ -97,8 +62,8 @@ fn cut<A: Allocator + Copy>(
     }
 }
 
-/// Gathers the pairs as well. A run that is full goes to the merge, and with the last pairs also one
-/// that is not: till then each run is full, and at the end each but that one.
+/// Gathers the pairs as well, in room for a whole run. One that is full goes to the merge as it lies there, and with
+/// the last pairs also one that is not: till then each run is full, and at the end each but that one.
 fn gather<A: Allocator + Copy>(
     alloc: A,
     gathered: &mut Vec<Pair, A>,
@@ -120,18 +85,15 @@ fn gather<A: Allocator + Copy>(
 {
     let room = RUN_PAIRS - gathered.len();
     if !is_last && pairs.len() < room {
-        return append(gathered, &pairs);
+        gathered.reserve(room)?;
+        return gathered.extend_from_slice(&pairs);
     }
     let behind = cut(alloc, &mut pairs, room)?;
-    let run = joined(alloc, gathered, &pairs)?;
     if is_last {
-        merge.add(run, behind)?;
-        *gathered = Vec::new(alloc);
-        return Ok(());
+        merge.add(gathered, &pairs, behind, Vec::new(alloc))
+    } else {
+        merge.add(gathered, &pairs, Vec::new(alloc), behind)
     }
-    merge.add(run, Vec::new(alloc))?;
-    *gathered = behind;
-    Ok(())
 }
 
 /// The pairs of the table's rows above a start, in their order, as the pages give them.

@@ -181,14 +181,14 @@ fn round<B: Group, D: Device, R: Wait, G: Gate, A: Memory>(
     copy_some(rt, shared, part, is_full, gate)
 }
 
-// How many steps of an image are made a round: so many that an image, also of a full index, is whole before as many
-// slots as half the log has are written behind its beginning; and no more.
+// How many steps of an image are made a round: so many that an image, also of a full index, is whole before a quarter
+// of the log's slots are written behind its beginning; and no more.
 fn steps_a_round(geometry: Geometry) -> u32
-    ensures in_time { steps_of_image geometry < geometry.slots / 2 * result }
-    ensures no_more { geometry.slots / 2 * (result - 1) ≤ steps_of_image geometry }
+    ensures in_time { steps_of_image geometry < geometry.slots / 4 * result }
+    ensures no_more { geometry.slots / 4 * (result - 1) ≤ steps_of_image geometry }
 {
     let steps = geometry.pages + geometry.entries / CHUNK_ENTRIES as u32 + 3;
-    steps / (geometry.slots / 2) + 1
+    steps / (geometry.slots / 4) + 1
 }
 
 // Whether no image is copied.
