@@ -1,4 +1,4 @@
--- Refusals and ends that are not one another.
+-- Refusals that are not one another.
 use Rattle.std.proofs.Common.{◌≡◌, ◌⊎◌, ◌∙◌, inl, inr, Result, Ok, Err, OnOk, sym}
 use Rattle.record_values.specs.declared.error.Error.{Error}
 use Rattle.record_values.specs.declared.error.Error.TheVariants.{DeviceFailed, DeviceTooSmall, NoMemory, TooManyTxns}

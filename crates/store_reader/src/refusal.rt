@@ -24,10 +24,10 @@ impl From<AllocError> for Refusal {
     }
 }
 
-/// The first of some records that was not redone. Those before it were.
+/// Where the redoing of some records stopped. Those before it were redone.
 #[derive(Clone, Copy, Debug, PartialEq, Eq)]
 pub struct Stopped {
-    /// Its index among them, from 0.
+    /// Its index among them, from 0; how many they are, where memory was wanting behind the last.
     pub index: usize,
     /// Why it was not.
     pub why: Refusal,
