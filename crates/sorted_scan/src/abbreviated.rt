@@ -3,7 +3,6 @@
 ghost use Rattle.std.specs.Prelude.{◌≡◌, ◌<◌, ◌≤◌, ◌%◌, All, IfOk, length};
 ghost use Rattle.std.specs.List.Sorted.{IsPermutation, IsSorted};
 ghost use Rattle.record_values.specs.Orders.{pair_cmp};
-ghost use Rattle.sorted_scan.specs.FullRuns.{full_run};
 
 use records::Pair;
 use std::alloc::{AllocError, Allocator};
@@ -45,7 +44,7 @@ fn number(pair: &Pair, shared: usize, place: u16) -> u64
 
 /// The numbers of the pairs, each with its own place, sorted.
 fn numbers<A: Allocator>(alloc: A, pairs: &[Pair]) -> Result<Vec<u64, A>, AllocError>
-    requires { length pairs.now ≤ full_run }
+    requires { length pairs.now < PLACES }
     ensures length { IfOk result (λ numbers. length numbers.items ≡ length pairs.now) }
     ensures places { IfOk result (λ numbers. All (λ n. n % PLACES < length pairs.now) numbers.items) }
 {
@@ -76,7 +75,7 @@ fn settle(pairs: &mut [Pair], numbers: &[u64], places: &mut [u16], standing: &mu
     requires inside { All (λ n. n % PLACES < length pairs.old) numbers.now }
     requires places { (length places.old ≡ length pairs.old) × All (λ p. p < length pairs.old) places.old }
     requires standing { (length standing.old ≡ length pairs.old) × All (λ p. p < length pairs.old) standing.old }
-    requires short { length pairs.old ≤ full_run }
+    requires short { length pairs.old < PLACES }
     ensures { IsPermutation pairs.old pairs.new }
 {
     for i in 0..pairs.len() {
@@ -88,14 +87,15 @@ fn settle(pairs: &mut [Pair], numbers: &[u64], places: &mut [u16], standing: &mu
     }
 }
 
-/// Brings the pairs near their order: into that of their numbers. Where memory for it is refused they stay. (No clause
-/// says in what order they are: it saves time alone.)
+/// Brings the pairs near their order: into that of their numbers. They stay where there are more than a number can tell
+/// apart, and where memory is refused. (No clause says in what order they are: it saves time alone.)
 fn arrange<A: Allocator + Copy>(pairs: &mut Vec<Pair, A>)
-    requires { length pairs.old.items ≤ full_run }
     ensures { IsPermutation pairs.old.items pairs.new.items }
 {
     let alloc = *pairs.allocator();
-    let count = pairs.len() as u16;
+    let Ok(count) = u16::try_from(pairs.len()) else {
+        return;
+    };
     if let Ok(numbers) = numbers(alloc, pairs)
         && let Ok(mut places) = all_below(alloc, count)
         && let Ok(mut standing) = all_below(alloc, count)
@@ -104,9 +104,8 @@ fn arrange<A: Allocator + Copy>(pairs: &mut Vec<Pair, A>)
     }
 }
 
-/// Sorts the pairs of a run.
+/// Sorts the pairs.
 pub(crate) fn sort<A: Allocator + Copy>(pairs: &mut Vec<Pair, A>)
-    requires { length pairs.old.items ≤ full_run }
     ensures permutation { IsPermutation pairs.old.items pairs.new.items }
     ensures len { length pairs.new.items ≡ length pairs.old.items }
     ensures sorted { IsSorted pair_cmp pairs.new.items }

@@ -69,7 +69,6 @@ impl<A: Allocator> Ord for SortedRun<A> {
 impl<A: Allocator + Copy> SortedRun<A> {
     /// The run of these pairs; none of no pair.
     fn new(mut pairs: Vec<Pair, A>) -> Option<SortedRun<A>>
-        requires { length pairs.items ≤ full_run }
         ensures pairs { MatchOption result (pairs.items ≡ []) (λ run. IsPermutation pairs.items (run_pairs run)) }
         ensures sorted { IfSome result (λ run. IsSorted pair_cmp (run_pairs run)) }
     {
@@ -163,7 +162,7 @@ impl<A: Allocator> Model for Merge<A> {
     ghost invariant = { λ m. AreSortedRuns (heap_items m.runs) };
 }
 
-impl<A: Allocator + Copy> Merge<A> {
+impl<A: Allocator> Merge<A> {
     pub(crate) fn new(alloc: A) -> Self
         ensures { result ≡ record { pairs = []; runs = 0 } }
     {
@@ -172,6 +171,31 @@ impl<A: Allocator + Copy> Merge<A> {
         }
     }
 
+    /// The least of the pairs.
+    pub(crate) fn first(&self) -> Option<Pair>
+        ensures { result ≡ least self.now.pairs }
+    {
+        match self.runs.peek() {
+            Some(run) => Some(run.first),
+            None => None,
+        }
+    }
+
+    /// Hands the least of the pairs out. It takes no memory.
+    pub(crate) fn take_first(&mut self) -> Option<Pair>
+        ensures first { result ≡ least self.old.pairs }
+        ensures others { IfSome result (λ p. AreSame self.old.pairs (p ∷ self.new.pairs)) }
+        ensures runs { self.new.runs ≤ self.old.runs }
+        ensures unchanged { IfNone result (self.new ≡ self.old) }
+    {
+        let run = self.runs.pop()?;
+        let first = run.first;
+        push_behind(&mut self.runs, run);
+        Some(first)
+    }
+}
+
+impl<A: Allocator + Copy> Merge<A> {
     /// Adds two runs, each where it has pairs: what was gathered with the last pairs of its run behind it, and those
     /// others. What is gathered next takes its place. Where memory is refused, nothing changes.
     pub(crate) fn add(
@@ -196,28 +220,5 @@ impl<A: Allocator + Copy> Merge<A> {
         push_pairs(&mut self.runs, std::mem::replace(gathered, next));
         push_pairs(&mut self.runs, others);
         Ok(())
-    }
-
-    /// The least of the pairs.
-    pub(crate) fn first(&self) -> Option<Pair>
-        ensures { result ≡ least self.now.pairs }
-    {
-        match self.runs.peek() {
-            Some(run) => Some(run.first),
-            None => None,
-        }
-    }
-
-    /// Hands the least of the pairs out. It takes no memory.
-    pub(crate) fn take_first(&mut self) -> Option<Pair>
-        ensures first { result ≡ least self.old.pairs }
-        ensures others { IfSome result (λ p. AreSame self.old.pairs (p ∷ self.new.pairs)) }
-        ensures runs { self.new.runs ≤ self.old.runs }
-        ensures unchanged { IfNone result (self.new ≡ self.old) }
-    {
-        let run = self.runs.pop()?;
-        let first = run.first;
-        push_behind(&mut self.runs, run);
-        Some(first)
     }
 }
