@@ -64,3 +64,18 @@ all_next behind others none test = omega (arith, ap (count_by test) none, count_
 pub on_both : {A E : Type 0} (r : Result A E) (P Q S : Type 0) → (P → Q → S) → OnOk r P → OnOk r Q → OnOk r S
 on_both (Ok a) P Q S f p q = f p q
 on_both (Err e) P Q S f p q = tt
+
+-- two runs go to the merge, the first of them in another order
+pub two_added : (all run others old between new : List Pair) → AreSame all run → AreSame (run ++ old) between → AreSame (others ++ between) new
+    → AreSame ((all ++ others) ++ old) new
+two_added all run others old between new same first second test =
+    omega (
+      arith,
+      same test,
+      first test,
+      second test,
+      count_append test (all ++ others) old,
+      count_append test all others,
+      count_append test run old,
+      count_append test others between,
+    )

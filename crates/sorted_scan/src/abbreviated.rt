@@ -1,8 +1,7 @@
-//! The sort of a run. Numbers that abbreviate keys are sorted first, which moves fewer bytes than pairs have; the pairs
-//! are swapped into the order of these, and then sorted.
-ghost use Rattle.std.specs.Prelude.{◌≡◌, ◌<◌, ◌≤◌, ◌%◌, All, IfOk, length};
-ghost use Rattle.std.specs.List.Sorted.{IsPermutation, IsSorted};
-ghost use Rattle.record_values.specs.Orders.{pair_cmp};
+//! Pairs brought near their order before they are sorted. What is sorted here are numbers that abbreviate keys, which
+//! moves fewer bytes than pairs have; the pairs are swapped into the order of these.
+ghost use Rattle.std.specs.Prelude.{◌≡◌, ◌<◌, ◌%◌, All, IfOk, OnErr, length};
+ghost use Rattle.std.specs.List.Sorted.{IsPermutation};
 
 use records::Pair;
 use std::alloc::{AllocError, Allocator};
@@ -89,27 +88,17 @@ fn settle(pairs: &mut [Pair], numbers: &[u64], places: &mut [u16], standing: &mu
 
 /// Brings the pairs near their order: into that of their numbers. They stay where there are more than a number can tell
 /// apart, and where memory is refused. (No clause says in what order they are: it saves time alone.)
-fn arrange<A: Allocator + Copy>(pairs: &mut Vec<Pair, A>)
-    ensures { IsPermutation pairs.old.items pairs.new.items }
+pub(crate) fn arrange<A: Allocator + Copy>(pairs: &mut Vec<Pair, A>) -> Result<(), AllocError>
+    ensures permutation { IsPermutation pairs.old.items pairs.new.items }
+    ensures unchanged { OnErr result (pairs.new.items ≡ pairs.old.items) }
 {
     let alloc = *pairs.allocator();
     let Ok(count) = u16::try_from(pairs.len()) else {
-        return;
+        return Ok(());
     };
-    if let Ok(numbers) = numbers(alloc, pairs)
-        && let Ok(mut places) = all_below(alloc, count)
-        && let Ok(mut standing) = all_below(alloc, count)
-    {
-        settle(pairs, &numbers, &mut places, &mut standing);
-    }
-}
-
-/// Sorts the pairs.
-pub(crate) fn sort<A: Allocator + Copy>(pairs: &mut Vec<Pair, A>)
-    ensures permutation { IsPermutation pairs.old.items pairs.new.items }
-    ensures len { length pairs.new.items ≡ length pairs.old.items }
-    ensures sorted { IsSorted pair_cmp pairs.new.items }
-{
-    arrange(pairs);
-    pairs.sort_unstable();
+    let numbers = numbers(alloc, pairs)?;
+    let mut places = all_below(alloc, count)?;
+    let mut standing = all_below(alloc, count)?;
+    settle(pairs, &numbers, &mut places, &mut standing);
+    Ok(())
 }

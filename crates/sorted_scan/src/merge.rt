@@ -12,7 +12,7 @@ ghost use Rattle.sorted_scan.specs.FullRuns.{full_run, runs_of};
 ghost use Rattle.sorted_scan.specs.Pairs.{least, AreSame};
 ghost use Rattle.sorted_scan.specs.Merges.{run_cmp, run_cmp_total, run_pairs, pairs_in, AreSortedRuns};
 
-use crate::abbreviated::sort;
+use crate::abbreviated::arrange;
 use records::{Pair, compare_pairs};
 use std::alloc::{AllocError, Allocator};
 use std::cmp::Ordering;
@@ -66,20 +66,18 @@ impl<A: Allocator> Ord for SortedRun<A> {
     }
 }
 
-impl<A: Allocator + Copy> SortedRun<A> {
+impl<A: Allocator> SortedRun<A> {
     /// The run of these pairs; none of no pair.
     fn new(mut pairs: Vec<Pair, A>) -> Option<SortedRun<A>>
         ensures pairs { MatchOption result (pairs.items ≡ []) (λ run. IsPermutation pairs.items (run_pairs run)) }
         ensures sorted { IfSome result (λ run. IsSorted pair_cmp (run_pairs run)) }
     {
-        sort(&mut pairs);
+        pairs.sort_unstable();
         let mut rest = pairs.into_iter();
         let first = rest.next()?;
         Some(SortedRun { first, rest })
     }
-}
 
-impl<A: Allocator> SortedRun<A> {
     /// The run behind its first pair, if there is more of it.
     fn behind(mut self) -> Option<SortedRun<A>>
         ensures { MatchOption result (run_pairs self ≡ self.first ∷ []) (λ run.
@@ -108,7 +106,7 @@ fn push_run<A: Allocator>(runs: &mut BinaryHeap<SortedRun<A>, A>, run: SortedRun
 }
 
 /// Adds the run of these pairs, if there are any, to a heap that has room for it.
-fn push_pairs<A: Allocator + Copy>(runs: &mut BinaryHeap<SortedRun<A>, A>, pairs: Vec<Pair, A>)
+fn push_pairs<A: Allocator>(runs: &mut BinaryHeap<SortedRun<A>, A>, pairs: Vec<Pair, A>)
     requires room { heap_len runs.old < heap_capacity runs.old }
     requires sound { AreSortedRuns (heap_items runs.old) }
     requires short { length pairs.items ≤ full_run }
@@ -216,7 +214,12 @@ impl<A: Allocator + Copy> Merge<A> {
         ensures same_gathered { OnErr result (gathered.new.items ≡ gathered.old.items) }
     {
         self.runs.reserve(2)?;
+        let len = gathered.len();
         gathered.extend_from_slice(last)?;
+        if let Err(error) = arrange(gathered) {
+            gathered.truncate(len);
+            return Err(error);
+        }
         push_pairs(&mut self.runs, std::mem::replace(gathered, next));
         push_pairs(&mut self.runs, others);
         Ok(())
