@@ -41,7 +41,7 @@ fn number(pair: &Pair, shared: usize, place: u16) -> u64
     number - number % PLACES + u64::from(place)
 }
 
-/// The numbers of the pairs, each with its own place, sorted.
+/// The numbers of the pairs, each with its own place, sorted. (Of order no clause speaks: it saves time alone.)
 fn numbers<A: Allocator>(alloc: A, pairs: &[Pair]) -> Result<Vec<u64, A>, AllocError>
     requires { length pairs.now < PLACES }
     ensures length { IfOk result (λ numbers. length numbers.items ≡ length pairs.now) }
@@ -56,7 +56,7 @@ fn numbers<A: Allocator>(alloc: A, pairs: &[Pair]) -> Result<Vec<u64, A>, AllocE
     Ok(numbers)
 }
 
-/// The numbers below so many, each at its own place.
+/// The numbers below so many, rising. (No clause says that they rise.)
 fn all_below<A: Allocator>(alloc: A, count: u16) -> Result<Vec<u16, A>, AllocError>
     ensures length { IfOk result (λ all. length all.items ≡ count) }
     ensures below { IfOk result (λ all. All (λ n. n < count) all.items) }
@@ -68,7 +68,8 @@ fn all_below<A: Allocator>(alloc: A, count: u16) -> Result<Vec<u16, A>, AllocErr
     Ok(all)
 }
 
-/// Swaps the pairs until each stands where its number does. It is lent where each pair stands, and which stand where.
+/// Swaps the pairs until each stands where its number does. It is lent where each pair stands, and which stands where.
+/// (No clause says where they come to stand.)
 fn settle(pairs: &mut [Pair], numbers: &[u64], places: &mut [u16], standing: &mut [u16])
     requires numbers { length numbers.now ≡ length pairs.old }
     requires inside { All (λ n. n % PLACES < length pairs.old) numbers.now }

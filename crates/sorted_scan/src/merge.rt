@@ -195,7 +195,7 @@ impl<A: Allocator> Merge<A> {
 
 impl<A: Allocator + Copy> Merge<A> {
     /// Adds two runs, each where it has pairs: what was gathered with the last pairs of its run behind it, and those
-    /// others. What is gathered next takes its place. Where memory is refused, nothing changes.
+    /// others. What is gathered next then stands in `gathered`. Where memory is refused, nothing changes.
     pub(crate) fn add(
         &mut self,
         gathered: &mut Vec<Pair, A>,

@@ -62,8 +62,8 @@ fn cut<A: Allocator + Copy>(
     }
 }
 
-/// Gathers the pairs as well, in room for a whole run. One that is full goes to the merge as it lies there, and with
-/// the last pairs also one that is not: till then each run is full, and at the end each but that one.
+/// Gathers the pairs as well, while pages follow in room for a whole run. One that is full goes to the merge as it lies
+/// there, and with the last pairs also one that is not: till then each run is full, and at the end each but that one.
 fn gather<A: Allocator + Copy>(
     alloc: A,
     gathered: &mut Vec<Pair, A>,
